@@ -14,11 +14,11 @@ use Rattle.gfs_types.specs.declared.answer.Answer.TheVariants as answer
 use Rattle.gfs_types.specs.declared.refusal.Refusal.{Refusal}
 use Rattle.gfs_types.specs.declared.refusal.Refusal.TheVariants.{Busy, NamesFull}
 use Rattle.gfs_types.specs.declared.config.Config.{Config}
-use Rattle.gfs_types.specs.Paths.{Path, hidden_name}
-use Rattle.relaxed_file.specs.Names.{Node, Dir, File, Names, node_at, copied_entries, with_copies, id_after, id_after_all, copy_of_node, listing}
+use Rattle.gfs_types.specs.Paths.{Path, root, trash, hidden_name}
+use Rattle.relaxed_file.specs.Names.{Node, Dir, File, Names, first_names, node_at, copied_entries, with_copies, id_after, id_after_all, copy_of_node, listing}
 use Rattle.gfs_types.specs.Image.{image_length}
 use Rattle.relaxed_file.specs.Order.{CallId, mutations_of}
-use Rattle.relaxed_file.specs.Machine.{Machine, FileState, Chunk, new_file, new_machine, Client, Asked, OpenCall, Outcome, Replies, Opens, chunk_at, chunk_count, chunk_size, put, with_file, with_client, with_step, IsOpen}
+use Rattle.relaxed_file.specs.Machine.{Machine, FileState, Chunk, new_chunk, new_file, new_machine, Client, Asked, OpenCall, Outcome, Replies, Opens, chunk_at, chunk_count, chunk_size, put, with_file, with_chunk, with_client, with_step, IsOpen}
 use Rattle.relaxed_file.specs.NameStep.{performed, is_refused, stepped, with_outcome, with_node, hidden, opened, done_outcome, outcome_by, outcome_of, refusal_of, with_copied_file, with_copied_files}
 use Rattle.relaxed_file.specs.Chunks.{chunk_added, placed, begun, begun_call}
 use Rattle.relaxed_file.specs.Reads.{looked, offer_of, read_slice}
@@ -143,10 +143,15 @@ client_more next later state l h = record {
   current = current_more next later state.calls state.open_call l h.current;
 }
 
+-- past the file's chunks there is nothing
+abbrev pub FileKnown : FileState → Type 0
+FileKnown file = (index : ℕ) → file.chunk_count ≤ index → file.chunks index ≡ new_chunk
+
 pub record Known (m : Machine) : Type 0 where
   pub names : AreNamesBelow (suc m.file_count) m.names
   pub clients : (client : ℕ) → ClientKnown (suc m.file_count) (m.clients client)
   pub fresh : (file : ℕ) → m.file_count < file → m.files file ≡ new_file
+  pub files : (file : ℕ) → FileKnown (m.files file)
 
 -- a client's state changes
 client_changed : (m : Machine) (client : ℕ) (state : Client) → Known m → ClientKnown (suc m.file_count) state → Known (with_client m client state)
@@ -154,15 +159,24 @@ client_changed m client state h new = record {
   names = h.names;
   clients = put_keeps (ClientKnown (suc m.file_count)) client state m.clients new h.clients;
   fresh = h.fresh;
+  files = h.files;
 }
 
 -- a file that was made changes
-file_changed : (m : Machine) (file : ℕ) (state : FileState) → Known m → file ≤ m.file_count → Known (with_file m file state)
-file_changed m file state h l = record {
+file_changed : (m : Machine) (file : ℕ) (state : FileState) → Known m → file ≤ m.file_count → FileKnown state → Known (with_file m file state)
+file_changed m file state h l new = record {
   names = h.names;
   clients = h.clients;
   fresh = λ k late. put_other file state m.files k (λ same. absurd (omega arith)) ∙ h.fresh k late;
+  files = put_keeps FileKnown file state m.files new h.files;
 }
+
+-- one of its chunks changes
+chunk_known : (file : FileState) (index : ℕ) (chunk : Chunk) → FileKnown file → index < file.chunk_count → FileKnown (record file { chunks = put index chunk file.chunks })
+chunk_known file index chunk h l k late = put_other index chunk file.chunks k (λ same. absurd (omega arith)) ∙ h k late
+
+chunk_changed : (m : Machine) (file index : ℕ) (chunk : Chunk) → Known m → file ≤ m.file_count → index < chunk_count m file → Known (with_chunk m file index chunk)
+chunk_changed m file index chunk h l there = file_changed m file _ h l (chunk_known (m.files file) index chunk (h.files file) there)
 
 -- a file with a chunk was made
 made_by_count : (m : Machine) (file index : ℕ) → Known m → index < chunk_count m file → file ≤ m.file_count
@@ -174,6 +188,11 @@ made_by_round : (m : Machine) (file index : ℕ) → Known m → IsTrue (chunk_a
 made_by_round m file index h is = ⊎_elim
     (λ late. absurd (false≢true (sym (ap (λ (f : FileState). (f.chunks index).is_open) (h.fresh file late)) ∙ is)))
     (λ made. made) (cases_lt m.file_count file)
+
+there_by_round : (m : Machine) (file index : ℕ) → Known m → IsTrue (chunk_at m file index).is_open → index < chunk_count m file
+there_by_round m file index h is = ⊎_elim
+    (λ there. there)
+    (λ past. absurd (false≢true (sym (ap (λ (c : Chunk). c.is_open) (h.files file index past)) ∙ is))) (cases_lt index (chunk_count m file))
 
 -- the open call changes, and is still of the same number and call
 abbrev KeepsCall : ℕ → (OpenCall → OpenCall) → Type 0
@@ -199,15 +218,23 @@ outcome_known m client outcome h below = step_taken m client (λ current. record
 
 -- what a name call does
 names_changed : (m : Machine) (names : Names) → Known m → AreNamesBelow (suc m.file_count) names → Known (record m { names = names })
-names_changed m names h new = record { names = new; clients = h.clients; fresh = h.fresh }
+names_changed m names h new = record { names = new; clients = h.clients; fresh = h.fresh; files = h.files }
 
-copied_file_fresh : (files : ℕ → FileState) (next : ℕ) (node : Node) → ((k : ℕ) → next ≤ k → files k ≡ new_file) → (k : ℕ) → id_after next node ≤ k → with_copied_file files next node k ≡ new_file
+pub copied_file_fresh : (files : ℕ → FileState) (next : ℕ) (node : Node) → ((k : ℕ) → next ≤ k → files k ≡ new_file) → (k : ℕ) → id_after next node ≤ k → with_copied_file files next node k ≡ new_file
 copied_file_fresh files next Dir h k l = h k l
 copied_file_fresh files next (File id) h k l = put_other next (files id) files k (λ same. absurd (omega arith)) ∙ h k (omega arith)
 
 copied_files_fresh : (entries : List (Path × Node)) (files : ℕ → FileState) (next : ℕ) → ((k : ℕ) → next ≤ k → files k ≡ new_file) → (k : ℕ) → id_after_all next entries ≤ k → with_copied_files files next entries k ≡ new_file
 copied_files_fresh [] files next h k l = h k l
 copied_files_fresh (e ∷ rest) files next h k l = copied_files_fresh rest (with_copied_file files next e.1) (id_after next e.1) (copied_file_fresh files next e.1 h) k l
+
+copied_file_known : (files : ℕ → FileState) (next : ℕ) (node : Node) → ((k : ℕ) → FileKnown (files k)) → (k : ℕ) → FileKnown (with_copied_file files next node k)
+copied_file_known files next Dir h k = h k
+copied_file_known files next (File id) h k = put_keeps FileKnown next (files id) files (h id) h k
+
+copied_files_known : (entries : List (Path × Node)) (files : ℕ → FileState) (next : ℕ) → ((k : ℕ) → FileKnown (files k)) → (k : ℕ) → FileKnown (with_copied_files files next entries k)
+copied_files_known [] files next h k = h k
+copied_files_known (e ∷ rest) files next h k = copied_files_known rest (with_copied_file files next e.1) (id_after next e.1) (copied_file_known files next e.1 h) k
 
 snapshot_known : (m : Machine) (entries : List (Path × Node)) → Known m → Known (Rattle.relaxed_file.specs.NameStep.snapshot_taken m entries)
 snapshot_known m entries h =
@@ -217,6 +244,7 @@ snapshot_known m entries h =
       names = subst (λ next. AreNamesBelow next (with_copies m.names (suc m.file_count) entries)) same (copies_below m.names (suc m.file_count) entries h.names);
       clients = λ client. client_more (suc m.file_count) _ (m.clients client) (omega arith) (h.clients client);
       fresh = λ file late. copied_files_fresh entries m.files (suc m.file_count) (λ k l. h.fresh k (omega arith)) file (omega arith);
+      files = copied_files_known entries m.files (suc m.file_count) h.files;
     }
 
 created : (m : Machine) (p : Path) (moment : ℕ) → Known m → Known (performed m (call.Create p) moment)
@@ -224,6 +252,7 @@ created m p moment h = record {
   names = inserted (suc (suc m.file_count)) m.names p (File (suc m.file_count)) (omega arith) (λ q. node_more (suc m.file_count) (suc (suc m.file_count)) (node_at m.names q) (omega arith) (h.names q));
   clients = λ client. client_more (suc m.file_count) (suc (suc m.file_count)) (m.clients client) (omega arith) (h.clients client);
   fresh = λ file late. put_other (suc m.file_count) new_file m.files file (λ same. absurd (omega arith)) ∙ h.fresh file (omega arith);
+  files = put_keeps FileKnown (suc m.file_count) new_file m.files (λ index l. refl) h.files;
 }
 
 performed_known : (m : Machine) (c : Call) (moment : ℕ) → Known m → Known (performed m c moment)
@@ -236,7 +265,7 @@ performed_known m (call.Snapshot p q) moment h = snapshot_known m (copied_entrie
 performed_known m other moment h = h
 
 -- no fewer files
-files_rise : (m : Machine) (c : Call) (moment : ℕ) → m.file_count ≤ (performed m c moment).file_count
+pub files_rise : (m : Machine) (c : Call) (moment : ℕ) → m.file_count ≤ (performed m c moment).file_count
 files_rise m (call.Create p) moment = omega arith
 files_rise m (call.Snapshot p q) moment =
     let rises : suc m.file_count ≤ id_after_all (suc m.file_count) (copied_entries m.names p q) = ids_rise (suc m.file_count) (copied_entries m.names p q) in omega arith
@@ -300,9 +329,9 @@ added_known m id file h l =
       calls = (h.clients id.client).calls; no_more_calls = (h.clients id.client).no_more_calls;
       current = begun_known _ (m.clients id.client).calls id.number (m.clients id.client).open_call (h.clients id.client).current;
     }) in
-    file_changed (begun m id) file _ started l
+    file_changed (begun m id) file _ started l (λ k late. put_other (chunk_count m file) new_chunk (m.files file).chunks k (λ same. absurd (omega arith)) ∙ h.files file k (omega arith))
 
-asked_is : (m : Machine) (id : CallId) (asked : Asked) (file : ℕ) → (m.clients id.client).calls id.number ≡ Some asked → asked.file ≡ Some file → asked_file m id ≡ Some file
+pub asked_is : (m : Machine) (id : CallId) (asked : Asked) (file : ℕ) → (m.clients id.client).calls id.number ≡ Some asked → asked.file ≡ Some file → asked_file m id ≡ Some file
 asked_is m id asked file is on = ap (option_and_then (λ (a : Asked). a.file)) is ∙ on
 
 pub asked_made : (m : Machine) (client number : ℕ) (asked : Asked) (file : ℕ) → Known m → (m.clients client).calls number ≡ Some asked → asked.file ≡ Some file → file ≤ m.file_count
@@ -330,14 +359,14 @@ known_step m (FindFull client) a h = outcome_known m client _ h tt
 known_step m (Lock client) a h = step_taken m client (λ current. record current { has_locks = true }) h (λ c. (refl, refl, λ all. all))
 known_step m (Expire file moment) a h =
     let below : file < suc m.file_count = subst (NodeBelow (suc m.file_count)) a.0 (h.names (hidden_name moment file)) in
-    file_changed (record m { names = map.remove m.names (hidden_name moment file) }) file _ (names_changed m _ h (removed _ m.names (hidden_name moment file) h.names)) (omega arith)
+    file_changed (record m { names = map.remove m.names (hidden_name moment file) }) file _ (names_changed m _ h (removed _ m.names (hidden_name moment file) h.names)) (omega arith) (h.files file)
 known_step m (Add id) a h = at_some Known (chunk_added m id) m (asked_file m id) a.1 (asked_is m id a.0 a.1 a.2.0 a.2.1)
     (added_known m id a.1 h (asked_made m id.client id.number a.0 a.1 h a.2.0 a.2.1))
-known_step m (OpenRound file index round) a h = file_changed m file _ h (made_by_count m file index h a.0)
-known_step m (CloseRound file index) a h = file_changed m file _ h (made_by_round m file index h a)
+known_step m (OpenRound file index round) a h = chunk_changed m file index _ h (made_by_count m file index h a.0) a.0
+known_step m (CloseRound file index) a h = chunk_changed m file index _ h (made_by_round m file index h a) (there_by_round m file index h a)
 known_step m (Place client file index mutation) a h = at_some Known (λ current. placed m client current file index mutation) m _ a.0 a.1
-    (step_taken _ client (λ c. c) (file_changed m file _ h (made_by_count m file index h a.2.1)) (λ c. (refl, refl, λ all. all)))
-known_step m (Settle file index place) a h = file_changed m file _ h (made_by_round m file index h a.0)
+    (step_taken _ client (λ c. c) (chunk_changed m file index _ h (made_by_count m file index h a.2.1) a.2.1) (λ c. (refl, refl, λ all. all)))
+known_step m (Settle file index place) a h = chunk_changed m file index _ h (made_by_round m file index h a.0) (there_by_round m file index h a.0)
 known_step m (Tell client file index) a h = step_taken m client (λ c. record c { offers = offer_of m file index ∷ c.offers }) h (λ c. (refl, refl, λ all. all))
 known_step m (Note client file index round count) a h =
     step_taken (with_client m client (record (m.clients client) { notes = put file (put index (Some round) ((m.clients client).notes file)) (m.clients client).notes })) client (λ c. c)
@@ -350,4 +379,8 @@ known_step m (Look client file index least last chosen) a h = at_some Known (λ 
 known_step m (LookPast client index) a h = step_taken m client (λ c. record c { pieces = record { index = index; bytes = []; round = None } ∷ c.pieces }) h (λ c. (refl, refl, λ all. all))
 known_step m (Measure client file index told least last chosen) a h = step_taken m client (λ c. record c { lengths = (index * chunk_size m file + image_length (chunk_size m file) (mutations_of chosen)) ∷ c.lengths }) h (λ c. (refl, refl, λ all. all))
 known_step m (MeasureNone client) a h = step_taken m client (λ c. record c { lengths = 0 ∷ c.lengths }) h (λ c. (refl, refl, λ all. all))
-known_step m (Pass moment) a h = record { names = h.names; clients = h.clients; fresh = h.fresh }
+known_step m (Pass moment) a h = record { names = h.names; clients = h.clients; fresh = h.fresh; files = h.files }
+
+-- the first names are directories
+pub first_below : AreNamesBelow 1 first_names
+first_below = inserted 1 _ root Dir tt (inserted 1 _ trash Dir tt (λ q. subst (NodeBelow 1) (sym (map.get-empty (slice_cmp nat_cmp) q)) tt))
