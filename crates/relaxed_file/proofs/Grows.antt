@@ -1,5 +1,5 @@
 -- What a machine keeps while it goes on: orders only get entries at their end, and entries only become settled; rounds, counts and the clock never fall; calls and descriptors keep their meaning.
-use Rattle.std.proofs.Common.{◌≡◌, ℕ, zero, suc, ◌+◌, ◌*◌, ◌<◌, ◌≤◌, Bool, true, false, cond, List, [], ◌∷◌, ◌++◌, Option, Some, None, refl, sym, ◌∙◌, ap, subst, arith}
+use Rattle.std.proofs.Common.{◌≡◌, ℕ, zero, suc, ◌+◌, ◌*◌, ◌<◌, ◌≤◌, Bool, true, false, cond, List, [], ◌∷◌, ◌++◌, Option, Some, None, refl, sym, ◌∙◌, ap, subst, inl, inr, arith, ◌⊎◌}
 use Rattle.std.specs.Prelude.{option_map, unwrap_or, IsTrue, slice_get, ◌==◌}
 use Rattle.std.specs.FinMap as map
 use Rattle.std.proofs.lemmas.Bool.{false≢true}
@@ -68,11 +68,21 @@ pub record FileGrows (old new : FileState) : Type 0 where
   pub chunks : (index : ℕ) → ChunkGrows (old.chunks index) (new.chunks index)
   pub collected : IsTrue old.is_collected → IsTrue new.is_collected
 
+-- the call that is open now is one made since, or the one that was open before
+abbrev pub IsSameCall : Option OpenCall → OpenCall → Type 0
+IsSameCall None c = ⊥
+IsSameCall (Some b) c = (b.number ≡ c.number) × (b.asked ≡ c.asked)
+
+abbrev pub OpenGrows : ℕ → Option OpenCall → Option OpenCall → Type 0
+OpenGrows count old None = Unit {0}
+OpenGrows count old (Some c) = (count < c.number) ⊎ IsSameCall old c
+
 pub record ClientGrows (old new : Client) : Type 0 where
   pub call_count : old.call_count ≤ new.call_count
   pub calls : (number : ℕ) (asked : Asked) → old.calls number ≡ Some asked → new.calls number ≡ Some asked
   pub fd_count : old.fd_count ≤ new.fd_count
   pub descriptors : (fd file : ℕ) → fd ≤ old.fd_count → new.descriptors fd ≡ Some file → old.descriptors fd ≡ Some file
+  pub open_call : OpenGrows old.call_count old.open_call new.open_call
 
 pub record Grows (m n : Machine) : Type 0 where
   pub config : n.config ≡ m.config
@@ -97,8 +107,38 @@ file_on a b c h g = record {
   collected = λ is. g.collected (h.collected is);
 }
 
+same_open : (count : ℕ) (o : Option OpenCall) → OpenGrows count o o
+same_open count None = tt
+same_open count (Some c) = inr (refl, refl)
+
+-- a step of the open call keeps its number and what was asked
+abbrev KeepsCall : (OpenCall → OpenCall) → Type 0
+KeepsCall change = (c : OpenCall) → (c.number ≡ (change c).number) × (c.asked ≡ (change c).asked)
+
+open_step : (count : ℕ) (change : OpenCall → OpenCall) (o : Option OpenCall) → KeepsCall change → OpenGrows count o (option_map (λ current. record (change current) { has_begun = true }) o)
+open_step count change None keeps = tt
+open_step count change (Some c) keeps = inr (keeps c)
+
+open_begun : (count number : ℕ) (o : Option OpenCall) → OpenGrows count o (begun_call number o)
+open_begun count number None = tt
+open_begun count number (Some c) = cond_keeps (λ d. OpenGrows count (Some c) (Some d)) (c.number == number) (record c { has_begun = true }) c (inr (refl, refl)) (inr (refl, refl))
+
+same_call_on : (a : Option OpenCall) (b c : OpenCall) → IsSameCall a b → IsSameCall (Some b) c → IsSameCall a c
+same_call_on None b c h g = absurd h
+same_call_on (Some x) b c h g = (h.0 ∙ g.0, h.1 ∙ g.1)
+
+later_open_on : (a_count : ℕ) (a : Option OpenCall) (b c : OpenCall) → OpenGrows a_count a (Some b) → IsSameCall (Some b) c → OpenGrows a_count a (Some c)
+later_open_on a_count a b c (inl late) same = inl (let e : b.number ≡ c.number = same.0 in omega arith)
+later_open_on a_count a b c (inr h) same = inr (same_call_on a b c h same)
+
+open_on : (a_count b_count : ℕ) (a b c : Option OpenCall) → a_count ≤ b_count → OpenGrows a_count a b → OpenGrows b_count b c → OpenGrows a_count a c
+open_on a_count b_count a b None l h g = tt
+open_on a_count b_count a b (Some c) l h (inl late) = inl (omega arith)
+open_on a_count b_count a None (Some c) l h (inr same) = absurd same
+open_on a_count b_count a (Some b) (Some c) l h (inr same) = later_open_on a_count a b c h same
+
 pub same_client : (c : Client) → ClientGrows c c
-same_client c = record { call_count = omega arith; calls = λ number asked is. is; fd_count = omega arith; descriptors = λ fd file l is. is }
+same_client c = record { call_count = omega arith; calls = λ number asked is. is; fd_count = omega arith; descriptors = λ fd file l is. is; open_call = same_open c.call_count c.open_call }
 
 pub client_on : (a b c : Client) → ClientGrows a b → ClientGrows b c → ClientGrows a c
 client_on a b c h g = record {
@@ -106,6 +146,7 @@ client_on a b c h g = record {
   calls = λ number asked is. g.calls number asked (h.calls number asked is);
   fd_count = omega (arith, h.fd_count, g.fd_count);
   descriptors = λ fd file l is. h.descriptors fd file l (g.descriptors fd file (omega (arith, l, h.fd_count)) is);
+  open_call = open_on a.call_count b.call_count a.open_call b.open_call c.open_call h.call_count h.open_call g.open_call;
 }
 
 pub same_machine : (m : Machine) → Grows m m
@@ -150,9 +191,10 @@ chunk_changed m file index chunk new = file_changed m file _ (record {
 })
 
 -- a step that changes what came of an open call
-step_taken : (m : Machine) (client : ℕ) (change : OpenCall → OpenCall) → Grows m (with_step m client change)
-step_taken m client change = client_changed m client _ (record {
+step_taken : (m : Machine) (client : ℕ) (change : OpenCall → OpenCall) → KeepsCall change → Grows m (with_step m client change)
+step_taken m client change keeps = client_changed m client _ (record {
   call_count = omega arith; calls = λ number asked is. is; fd_count = omega arith; descriptors = λ fd file l is. is;
+  open_call = open_step (m.clients client).call_count change (m.clients client).open_call keeps;
 })
 
 copied_file_grows : (files : ℕ → FileState) (next : ℕ) (node : Node) → ((k : ℕ) → next ≤ k → files k ≡ new_file) → (k : ℕ) → FileGrows (files k) (with_copied_file files next node k)
@@ -181,7 +223,7 @@ performed_grows m other moment h = record {
 }
 
 outcome_grows : (m n : Machine) (client : ℕ) (outcome : Outcome) → Grows m n → Grows m (with_outcome n client outcome)
-outcome_grows m n client outcome h = machine_on m n _ h (step_taken n client (λ current. record current { outcomes = outcome ∷ current.outcomes }))
+outcome_grows m n client outcome h = machine_on m n _ h (step_taken n client (λ current. record current { outcomes = outcome ∷ current.outcomes }) (λ c. (refl, refl)))
 
 stepped_grows : (m : Machine) (client moment : ℕ) (outcome : Outcome) (current : OpenCall) → Known m → Grows m (stepped m client moment outcome current)
 stepped_grows m client moment outcome current h =
@@ -190,14 +232,15 @@ stepped_grows m client moment outcome current h =
       | false ↦ outcome_grows m (performed m current.asked.call moment) client outcome (performed_grows m current.asked.call moment h)
     ]
 
-invoked_grows : (next : ℕ) (state : Client) (asked : Asked) (open_call : Option OpenCall) → ((number : ℕ) → state.call_count < number → state.calls number ≡ None)
+invoked_grows : (state : Client) (asked : Asked) (open_call : Option OpenCall) → OpenGrows state.call_count state.open_call open_call → ((number : ℕ) → state.call_count < number → state.calls number ≡ None)
     → ClientGrows state (record state { call_count = suc state.call_count; calls = put (suc state.call_count) (Some asked) state.calls; open_call = open_call })
-invoked_grows next state asked open_call unused = record {
+invoked_grows state asked open_call newer unused = record {
   call_count = omega arith;
   calls = λ number before is. put_other (suc state.call_count) (Some asked) state.calls number
     (λ same. absurd (none-some before (sym (unused number (omega arith)) ∙ is))) ∙ is;
   fd_count = omega arith;
   descriptors = λ fd file l is. is;
+  open_call = newer;
 }
 
 descriptors_grow : (descriptors : ℕ → Option ℕ) (c : Call) (reply : Answer) (fd file : ℕ) → descriptors_after descriptors c reply fd ≡ Some file → descriptors fd ≡ Some file
@@ -208,6 +251,7 @@ returned_grows : (m : Machine) (client : ℕ) (current : OpenCall) (reply : Answ
 returned_grows m client current reply = client_changed m client _ (record {
   call_count = omega arith; calls = λ number asked is. is; fd_count = omega arith;
   descriptors = λ fd file l is. descriptors_grow (m.clients client).descriptors current.asked.call reply fd file is;
+  open_call = tt;
 })
 
 fd_grows : (state : Client) (fd file : ℕ) (notes : ℕ → ℕ → Option ℕ) → fd ≡ suc state.fd_count
@@ -215,6 +259,7 @@ fd_grows : (state : Client) (fd file : ℕ) (notes : ℕ → ℕ → Option ℕ)
 fd_grows state fd file notes is = record {
   call_count = omega arith; calls = λ number asked there. there; fd_count = omega arith;
   descriptors = λ k f l there. sym (put_other fd (Some file) state.descriptors k (λ same. absurd (omega arith))) ∙ there;
+  open_call = tt;
 }
 
 -- all that a new chunk can become
@@ -223,7 +268,7 @@ new_chunk_grows old new is = subst (λ c. ChunkGrows c new) (sym is) (record { o
 
 added_grows : (m : Machine) (id : CallId) (file : ℕ) → Known m → Grows m (chunk_added m id file)
 added_grows m id file h = machine_on m (begun m id) _
-    (client_changed m id.client _ (record { call_count = omega arith; calls = λ number asked is. is; fd_count = omega arith; descriptors = λ fd f l is. is }))
+    (client_changed m id.client _ (record { call_count = omega arith; calls = λ number asked is. is; fd_count = omega arith; descriptors = λ fd f l is. is; open_call = open_begun (m.clients id.client).call_count id.number (m.clients id.client).open_call }))
     (file_changed (begun m id) file _ (record {
       count = omega arith;
       chunks = put_at (λ k c. ChunkGrows ((m.files file).chunks k) c) (chunk_count m file) new_chunk (m.files file).chunks
@@ -232,13 +277,13 @@ added_grows m id file h = machine_on m (begun m id) _
     }))
 
 pub grows_step : (m : Machine) (action : Action) → Allows m action → Known m → Grows m (after m action)
-grows_step m (Invoke client asked) a h = client_changed m client _ (invoked_grows 0 (m.clients client) _ _ (h.clients client).no_more_calls)
+grows_step m (Invoke client asked) a h = client_changed m client _ (invoked_grows (m.clients client) _ _ (inl (omega arith)) (h.clients client).no_more_calls)
 grows_step m (Return client reply) a h = at_some (Grows m) (λ current. returned m client current reply) m _ a.0 a.1 (returned_grows m client a.0 reply)
 grows_step m (ReturnFd client fd file) a h = client_changed m client _ (fd_grows (m.clients client) fd file _ a.2.1)
 grows_step m (Step client moment outcome) a h = at_some (Grows m) (λ current. stepped m client moment outcome current) m _ a.0 a.1 (stepped_grows m client moment outcome a.0 h)
 grows_step m (FindBusy client holder) a h = outcome_grows m m client _ (same_machine m)
 grows_step m (FindFull client) a h = outcome_grows m m client _ (same_machine m)
-grows_step m (Lock client) a h = step_taken m client (λ current. record current { has_locks = true })
+grows_step m (Lock client) a h = step_taken m client (λ current. record current { has_locks = true }) (λ c. (refl, refl))
 grows_step m (Expire file moment) a h = record {
   config = refl; clock = omega arith; file_count = omega arith;
   files = put_at (λ k f. FileGrows (m.files k) f) file (record (m.files file) { is_collected = true }) m.files
@@ -251,17 +296,17 @@ grows_step m (CloseRound file index) a h = chunk_changed m file index _ (record 
 grows_step m (Place client file index mutation) a h = at_some (Grows m) (λ current. placed m client current file index mutation) m _ a.0 a.1
     (machine_on m (with_chunk m file index (with_entry (chunk_at m file index) (record { client = client; number = (a.0).number }) mutation)) _
       (chunk_changed m file index _ (record { order = order_longer (chunk_at m file index).order _; round = omega arith }))
-      (step_taken _ client (λ c. c)))
+      (step_taken _ client (λ c. c) (λ c. (refl, refl))))
 grows_step m (Settle file index place) a h = chunk_changed m file index _ (record { order = order_settled place (chunk_at m file index).order; round = omega arith })
-grows_step m (Tell client file index) a h = step_taken m client (λ c. record c { offers = offer_of m file index ∷ c.offers })
+grows_step m (Tell client file index) a h = step_taken m client (λ c. record c { offers = offer_of m file index ∷ c.offers }) (λ c. (refl, refl))
 grows_step m (Note client file index round count) a h = machine_on m (with_client m client (record (m.clients client) { notes = put file (put index (Some round) ((m.clients client).notes file)) (m.clients client).notes })) _
-    (client_changed m client _ (record { call_count = omega arith; calls = λ number asked is. is; fd_count = omega arith; descriptors = λ fd f l is. is }))
-    (step_taken _ client (λ c. c))
+    (client_changed m client _ (record { call_count = omega arith; calls = λ number asked is. is; fd_count = omega arith; descriptors = λ fd f l is. is; open_call = same_open (m.clients client).call_count (m.clients client).open_call }))
+    (step_taken _ client (λ c. c) (λ c. (refl, refl)))
 grows_step m (Look client file index least last chosen) a h = at_some (Grows m) (λ current. looked m client current file index least chosen) m _ a.0 a.1
-    (step_taken m client (λ c. record c { pieces = record { index = index; bytes = read_slice (chunk_size m file) index (a.0).asked.call chosen; round = Some least } ∷ c.pieces }))
-grows_step m (LookPast client index) a h = step_taken m client (λ c. record c { pieces = record { index = index; bytes = []; round = None } ∷ c.pieces })
-grows_step m (Measure client file index told least last chosen) a h = step_taken m client (λ c. record c { lengths = (index * chunk_size m file + image_length (chunk_size m file) (mutations_of chosen)) ∷ c.lengths })
-grows_step m (MeasureNone client) a h = step_taken m client (λ c. record c { lengths = 0 ∷ c.lengths })
+    (step_taken m client (λ c. record c { pieces = record { index = index; bytes = read_slice (chunk_size m file) index (a.0).asked.call chosen; round = Some least } ∷ c.pieces }) (λ c. (refl, refl)))
+grows_step m (LookPast client index) a h = step_taken m client (λ c. record c { pieces = record { index = index; bytes = []; round = None } ∷ c.pieces }) (λ c. (refl, refl))
+grows_step m (Measure client file index told least last chosen) a h = step_taken m client (λ c. record c { lengths = (index * chunk_size m file + image_length (chunk_size m file) (mutations_of chosen)) ∷ c.lengths }) (λ c. (refl, refl))
+grows_step m (MeasureNone client) a h = step_taken m client (λ c. record c { lengths = 0 ∷ c.lengths }) (λ c. (refl, refl))
 grows_step m (Pass moment) a h = record {
   config = refl; clock = a; file_count = omega arith; files = λ file. same_file (m.files file); clients = λ client. same_client (m.clients client);
 }

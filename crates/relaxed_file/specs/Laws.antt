@@ -7,8 +7,8 @@ use Rattle.gfs_types.specs.Mutations.{start_of, end_of, is_placed_by_system, byt
 use Rattle.gfs_types.specs.Image.{byte_at, image_length, image_slice}
 use Rattle.relaxed_file.specs.Order.{Entry, mutations_of, IsSelection, last_cover, order_length, AreRoundsRising}
 use Rattle.relaxed_file.specs.Regions.{AreRegions, regions_of}
-use Rattle.relaxed_file.specs.Machine.{Machine, new_machine, chunk_at}
-use Rattle.relaxed_file.specs.Run.{Action, Visible, visible, Allows, after, IsLawful, after_all, IsRunTo}
+use Rattle.relaxed_file.specs.Machine.{Machine, chunk_at}
+use Rattle.relaxed_file.specs.Run.{Action, Visible, visible, Allows, after, IsRunTo, IsReached}
 
 -- Where the last entry that covers a place is settled, all selections up to its round or later have one byte there (section 2.7.1).
 abbrev pub DeterminedBytesAgree : Type 0
@@ -42,8 +42,7 @@ RecordsStand =
 -- In every run, the rounds of each chunk's order never fall (section 3.1).
 abbrev pub RoundsNeverFall : Type 0
 RoundsNeverFall =
-    (config : Config) (actions : List Action) → IsLawful (new_machine config) actions
-    → (file index : ℕ) → AreRoundsRising 0 (chunk_at (after_all (new_machine config) actions) file index).order
+    (config : Config) (m : Machine) → IsReached config m → (file index : ℕ) → AreRoundsRising 0 (chunk_at m file index).order
 
 -- each append or pad lies past each settled mutation that stands before it
 abbrev pub LiePastSettled : ℕ → List Entry → Type 0
@@ -55,8 +54,7 @@ LiePastSettled size (e ∷ rest) =
 -- In every run no record that was appended shares a place with a mutation that succeeded before it (section 3.3).
 abbrev pub AppendsLieApart : Type 0
 AppendsLieApart =
-    (config : Config) (actions : List Action) → IsLawful (new_machine config) actions
-    → (file index : ℕ) → LiePastSettled config.chunk (chunk_at (after_all (new_machine config) actions) file index).order
+    (config : Config) (m : Machine) → IsReached config m → (file index : ℕ) → LiePastSettled config.chunk (chunk_at m file index).order
 
 -- A run goes on by an action that its machine allows.
 abbrev pub RunsGoOn : Type 0
