@@ -1,14 +1,10 @@
--- Laws of the relaxed-file machine that public functions of this crate state.
-use Rattle.std.specs.Prelude.{◌≡◌, ℕ, ◌+◌, ◌<◌, ◌≤◌, List, [], ◌∷◌, ◌++◌, length, Some, None, IsTrue}
-use Rattle.std.specs.List.{AllByRecursion}
+-- Laws of orders and their selections: what is determined, and what stands (sections 2.7.1 and 3.3).
+use Rattle.std.specs.Prelude.{◌≡◌, ℕ, ◌+◌, ◌<◌, ◌≤◌, List, [], ◌∷◌, ◌++◌, length, Some, None, IsTrue, IsFalse}
 use Rattle.gfs_types.specs.declared.mutation.Mutation.TheVariants.{Append}
-use Rattle.gfs_types.specs.declared.config.Config.{Config}
-use Rattle.gfs_types.specs.Mutations.{start_of, end_of, is_placed_by_system, byte_of}
+use Rattle.gfs_types.specs.Mutations.{byte_of}
 use Rattle.gfs_types.specs.Image.{byte_at, image_length, image_slice}
-use Rattle.relaxed_file.specs.Order.{Entry, mutations_of, IsSelection, last_cover, order_length, AreRoundsRising}
+use Rattle.relaxed_file.specs.Order.{Entry, mutations_of, IsSelection, last_cover, order_length, is_undetermined}
 use Rattle.relaxed_file.specs.Regions.{AreRegions, regions_of}
-use Rattle.relaxed_file.specs.Machine.{Machine, chunk_at}
-use Rattle.relaxed_file.specs.Run.{Action, Visible, visible, Allows, after, IsRunTo, IsReached}
 
 -- Where the last entry that covers a place is settled, all selections up to its round or later have one byte there (section 2.7.1).
 abbrev pub DeterminedBytesAgree : Type 0
@@ -22,6 +18,12 @@ abbrev pub HolesAreZero : Type 0
 HolesAreZero =
     (size place last : ℕ) (order chosen : List Entry)
     → last_cover size order place ≡ None → IsSelection last order chosen → byte_at size (mutations_of chosen) place ≡ 0
+
+-- A place is undetermined only where an entry that isn't settled is the last that covers it.
+abbrev pub OnlyUnsettledIsUndetermined : Type 0
+OnlyUnsettledIsUndetermined =
+    (size place : ℕ) (order : List Entry) → IsTrue (is_undetermined size order place)
+    → (e : Entry) × (last_cover size order place ≡ Some e) × IsFalse e.settled
 
 -- The regions of an order are its maximal ranges of one kind, from its beginning to its greatest end.
 abbrev pub RegionsAreMaximal : Type 0
@@ -38,26 +40,3 @@ RecordsStand =
     → e.mutation ≡ Append offset record_bytes → IsTrue e.settled → e.round ≤ last → LeaveAlone size offset (length record_bytes) later
     → IsSelection last (before ++ e ∷ later) chosen
     → image_slice size (mutations_of chosen) offset (length record_bytes) ≡ record_bytes
-
--- In every run, the rounds of each chunk's order never fall (section 3.1).
-abbrev pub RoundsNeverFall : Type 0
-RoundsNeverFall =
-    (config : Config) (m : Machine) → IsReached config m → (file index : ℕ) → AreRoundsRising 0 (chunk_at m file index).order
-
--- each append or pad lies past each settled mutation that stands before it
-abbrev pub LiePastSettled : ℕ → List Entry → Type 0
-LiePastSettled size [] = Unit {0}
-LiePastSettled size (e ∷ rest) =
-    (IsTrue e.settled → AllByRecursion (λ f. IsTrue (is_placed_by_system f.mutation) → end_of size e.mutation ≤ start_of f.mutation) rest)
-    × LiePastSettled size rest
-
--- In every run no record that was appended shares a place with a mutation that succeeded before it (section 3.3).
-abbrev pub AppendsLieApart : Type 0
-AppendsLieApart =
-    (config : Config) (m : Machine) → IsReached config m → (file index : ℕ) → LiePastSettled config.chunk (chunk_at m file index).order
-
--- A run goes on by an action that its machine allows.
-abbrev pub RunsGoOn : Type 0
-RunsGoOn =
-    (config : Config) (trace : List Visible) (m : Machine) (action : Action)
-    → IsRunTo config trace m → Allows m action → IsRunTo config (trace ++ visible (action ∷ [])) (after m action)

@@ -11,3 +11,4 @@ pub mod Answers
 pub mod Run
 pub mod Traces
 pub mod Laws
+pub mod RunLaws

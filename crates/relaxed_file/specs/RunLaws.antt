@@ -1,0 +1,113 @@
+-- What holds in every run of the relaxed-file machine (sections 2.7 and 3).
+use Rattle.std.specs.Prelude.{◌≡◌, ℕ, ◌+◌, ◌*◌, ◌<◌, ◌≤◌, ◌⊎◌, List, [], ◌∷◌, ◌++◌, length, Option, Some, None, IsTrue, IsSomeAnd, Contains, slice_get}
+use Rattle.std.specs.List.{AllByRecursion}
+use Rattle.gfs_types.specs.declared.call.Call.{Call}
+use Rattle.gfs_types.specs.declared.call.Call.TheVariants as call
+use Rattle.gfs_types.specs.declared.answer.Answer.{Answer}
+use Rattle.gfs_types.specs.declared.answer.Answer.TheVariants as answer
+use Rattle.gfs_types.specs.declared.ids.Fd.{Fd}
+use Rattle.gfs_types.specs.declared.mutation.Mutation.{Mutation}
+use Rattle.gfs_types.specs.declared.mutation.Mutation.TheVariants.{Write, Append, Pad}
+use Rattle.gfs_types.specs.declared.config.Config.{Config}
+use Rattle.gfs_types.specs.Mutations.{start_of, end_of, is_placed_by_system}
+use Rattle.relaxed_file.specs.Names.{IsTree}
+use Rattle.relaxed_file.specs.Order.{Entry, AreRoundsRising}
+use Rattle.relaxed_file.specs.Parts.{has_part, part_start, part_bytes}
+use Rattle.relaxed_file.specs.Machine.{Machine, Asked, OpenCall, IsOpen, chunk_at}
+use Rattle.relaxed_file.specs.Reads.{IsLook}
+use Rattle.relaxed_file.specs.Answers.{IsSuccess, MayReturn}
+use Rattle.relaxed_file.specs.Run.{Action, Return, Visible, visible, Allows, after, IsRunTo, LeadsTo, IsReached}
+
+-- A run goes on by an action that its machine allows.
+abbrev pub RunsGoOn : Type 0
+RunsGoOn =
+    (config : Config) (trace : List Visible) (m : Machine) (action : Action)
+    → IsRunTo config trace m → Allows m action → IsRunTo config (trace ++ visible (action ∷ [])) (after m action)
+
+-- In every run, each name stands in a directory (section 4.1).
+abbrev pub NamesStayATree : Type 0
+NamesStayATree = (config : Config) (m : Machine) → IsReached config m → IsTree m.names
+
+-- In every run, the rounds of each chunk's order never fall (section 3.1).
+abbrev pub RoundsNeverFall : Type 0
+RoundsNeverFall = (config : Config) (m : Machine) → IsReached config m → (file index : ℕ) → AreRoundsRising 0 (chunk_at m file index).order
+
+-- each append or pad lies past each settled mutation that stands before it
+abbrev pub LiePastSettled : ℕ → List Entry → Type 0
+LiePastSettled size [] = Unit {0}
+LiePastSettled size (e ∷ rest) =
+    (IsTrue e.settled → AllByRecursion (λ f. IsTrue (is_placed_by_system f.mutation) → end_of size e.mutation ≤ start_of f.mutation) rest)
+    × LiePastSettled size rest
+
+-- In every run no record that was appended shares a place with a mutation that succeeded before it (section 3.3).
+abbrev pub AppendsLieApart : Type 0
+AppendsLieApart = (config : Config) (m : Machine) → IsReached config m → (file index : ℕ) → LiePastSettled config.chunk (chunk_at m file index).order
+
+-- what a call asks of a chunk
+abbrev pub IsAskedOf : ℕ → ℕ → Call → Mutation → Type 0
+IsAskedOf size index (call.Write fd offset bytes) (Write at content) = (at ≡ part_start size offset index) × (content ≡ part_bytes size offset bytes index)
+IsAskedOf size index (call.Append fd bytes) (Append at content) = (content ≡ bytes) × (at + length bytes ≤ size)
+IsAskedOf size index (call.Append fd bytes) (Pad at) = at < size
+IsAskedOf size index other mutation = ⊥
+
+-- a call that was made asked for the entry
+abbrev pub WasAskedFor : Machine → ℕ → Entry → Type 0
+WasAskedFor m index e = (asked : Asked) × ((m.clients e.call.client).calls e.call.number ≡ Some asked) × IsAskedOf m.config.chunk index asked.call e.mutation
+
+-- In every run each mutation in an order is one that a call asked for.
+abbrev pub EntriesWereAskedFor : Type 0
+EntriesWereAskedFor = (config : Config) (m : Machine) → IsReached config m → (file index : ℕ) → AllByRecursion (WasAskedFor m index) (chunk_at m file index).order
+
+-- A settled entry stays at its place in every later state.
+abbrev pub SettledEntriesStay : Type 0
+SettledEntriesStay =
+    (config : Config) (m n : Machine) → IsReached config m → LeadsTo m n
+    → (file index place : ℕ) (e : Entry) → slice_get (chunk_at m file index).order place ≡ Some e → IsTrue e.settled
+    → slice_get (chunk_at n file index).order place ≡ Some e
+
+-- the mutation stands settled at this place of the chunk's order
+abbrev pub StandsAt : Machine → ℕ → ℕ → ℕ → Mutation → Type 0
+StandsAt m file index place mutation = IsSomeAnd (slice_get (chunk_at m file index).order place) (λ e. IsTrue e.settled × (e.mutation ≡ mutation))
+
+-- the client's open call on the file is this one, and may be answered so
+abbrev pub MayAnswer : Machine → ℕ → ℕ → Call → Answer → Type 0
+MayAnswer m client file asked reply =
+    (current : OpenCall) × IsOpen m client current × (current.asked.file ≡ Some file) × (current.asked.call ≡ asked) × MayReturn m client current reply
+
+-- A record whose append was answered an offset stands there, at one place of its chunk's order, in every later state (section 3.3).
+abbrev pub AnsweredAppendsStay : Type 0
+AnsweredAppendsStay =
+    (config : Config) (m : Machine) (client file : ℕ) (fd : Fd) (bytes : List ℕ) (x : ℕ)
+    → IsReached config m → MayAnswer m client file (call.Append fd bytes) (answer.At x)
+    → (index : ℕ) × (offset : ℕ) × (place : ℕ) × (x ≡ index * config.chunk + offset) × (offset + length bytes ≤ config.chunk)
+    × ((n : Machine) → LeadsTo (after m (Return client (answer.At x))) n → StandsAt n file index place (Append offset bytes))
+
+-- Each part of a write that was answered stands at one place of its chunk's order in every later state (section 3.1).
+abbrev pub AnsweredWritesStay : Type 0
+AnsweredWritesStay =
+    (config : Config) (m : Machine) (client file : ℕ) (fd : Fd) (offset : ℕ) (bytes : List ℕ) (index : ℕ)
+    → IsReached config m → MayAnswer m client file (call.Write fd offset bytes) answer.Done → IsTrue (has_part config.chunk offset (length bytes) index)
+    → (place : ℕ)
+    × ((n : Machine) → LeadsTo (after m (Return client answer.Done)) n
+    → StandsAt n file index place (Write (part_start config.chunk offset index) (part_bytes config.chunk offset bytes index)))
+
+-- Two records whose appends to one file were answered share no place of it, so that their offsets differ where both have a byte (section 3.3).
+abbrev pub AnsweredOffsetsDiffer : Type 0
+AnsweredOffsetsDiffer =
+    (config : Config) (m n : Machine) (client other file : ℕ) (fd fe : Fd) (one two : List ℕ) (x y : ℕ)
+    → IsReached config m → MayAnswer m client file (call.Append fd one) (answer.At x)
+    → LeadsTo (after m (Return client (answer.At x))) n → MayAnswer n other file (call.Append fe two) (answer.At y)
+    → (x + length one ≤ y) ⊎ (y + length two ≤ x)
+
+-- a settled entry of the client's open call on the file, of a round that the client knows of
+abbrev pub IsOwnSuccess : Machine → ℕ → ℕ → ℕ → Entry → Type 0
+IsOwnSuccess m client file index e =
+    (current : OpenCall) × IsOpen m client current × Contains (chunk_at m file index).order e
+    × (noted : ℕ) × ((m.clients client).notes file index ≡ Some noted) × IsSuccess (record { client = client; number = current.number }) noted e
+
+-- Once its call is answered, no later look of the same client leaves out its own success (section 2.7.1).
+abbrev pub OwnSuccessesAreRead : Type 0
+OwnSuccessesAreRead =
+    (config : Config) (m n : Machine) (client file index : ℕ) (e : Entry) (reply : Answer) (least last : ℕ) (chosen : List Entry)
+    → IsReached config m → IsOwnSuccess m client file index e → Allows m (Return client reply)
+    → LeadsTo (after m (Return client reply)) n → IsLook n client file index least last chosen → Contains chosen e
