@@ -3,6 +3,7 @@ use Rattle.std.proofs.Common.{◌≡◌, ℕ, zero, suc, ◌<◌, ◌≤◌, Boo
 use Rattle.std.specs.Prelude.{option_map, unwrap_or, option_and_then, Contains, ◌==◌}
 use Rattle.std.specs.List.{AllByRecursion, slice_index_or}
 use Rattle.std.proofs.lemmas.Bool.{eq-eqb, ne_eqb, eqb-true}
+use Rattle.std.proofs.lemmas.Option.{same_Some}
 use Rattle.relaxed_file.specs.Machine.{put}
 
 pub cond_keeps : {A : Type 0} (P : A → Type 0) (b : Bool) (x y : A) → P x → P y → P (cond b x y)
@@ -41,3 +42,6 @@ contained P xs x all at = all_at P xs at.0 x all at.1 at.2
 pub all_more : {A : Type 0} {P Q : A → Type 0} (xs : List A) → ((x : A) → P x → Q x) → AllByRecursion P xs → AllByRecursion Q xs
 all_more [] h all = tt
 all_more (x ∷ rest) h all = (h x all.0, all_more rest h all.1)
+
+pub from_some : {A : Type 0} {x y : A} → Some x ≡ Some y → x ≡ y
+from_some {x = x} {y = y} h = same_Some x y h
