@@ -45,3 +45,10 @@ all_more (x ∷ rest) h all = (h x all.0, all_more rest h all.1)
 
 pub from_some : {A : Type 0} {x y : A} → Some x ≡ Some y → x ≡ y
 from_some {x = x} {y = y} h = same_Some x y h
+
+-- a table at one number, after another value was put somewhere
+pub put_look : {A : Type 0} (P : A → Type 0) (key : ℕ) (value : A) (table : ℕ → A) (k : ℕ) → (k ≡ key → P value) → P (table k) → P (put key value table k)
+put_look P key value table k new old = elim (k == key) as (λ b. (k == key) ≡ b → P (cond b value (table k))) [
+    | true ↦ λ e. new (eqb-true k key e)
+    | false ↦ λ e. old
+  ] refl
