@@ -7,11 +7,11 @@ use Rattle.std.specs.FinMap as map
 use Rattle.std.specs.Cmp.Lexicographic.{slice_cmp, nat_list_cmp_total}
 use Rattle.gfs_types.specs.declared.call.Call.TheVariants as call
 use Rattle.gfs_types.specs.declared.answer.Answer.TheVariants as answer
-use Rattle.gfs_types.specs.declared.refusal.Refusal.TheVariants.{Collected}
+use Rattle.gfs_types.specs.declared.refusal.Refusal.TheVariants.{NotFound, Collected}
 use Rattle.gfs_types.specs.Paths.{Path, hidden_name}
 use Rattle.relaxed_file.specs.Names.{Node, File, Names, first_names, node_at}
 use Rattle.relaxed_file.specs.Machine.{new_machine, Outcome, Replies, Opens}
-use Rattle.relaxed_file.specs.NameStep.{outcome_of, hidden}
+use Rattle.relaxed_file.specs.NameStep.{outcome_of, hidden, with_node}
 use Rattle.relaxed_file.proofs.RowRuns.{◌▸◌}
 use Rattle.relaxed_file.specs.Run.{Action, IsLawful, Invoke, Return, ReturnFd, Step, Expire, Pass}
 use Rattle.relaxed_file.specs.Traces.{small_chunks, fd, deletion_trace, IsRunOfSmall}
@@ -73,6 +73,43 @@ open_after = simp (map.gets) refl
 there_after : node_at names_after (hidden_name 5000 1) ≡ Some (File 1)
 there_after = simp (map.gets) refl
 
+-- brought back by another name, and deleted again
+abbrev renamed : Names → Names
+renamed names = with_node (map.remove names hidden_f) (codes "/g") (node_at names hidden_f)
+
+abbrev names_g : Names
+names_g = map.insert (map.remove names_after hidden_f) (codes "/g") (File 1)
+
+back : renamed names_deleted ≡ names_g
+back = ap renamed gone ∙ ap (with_node (map.remove names_after hidden_f) (codes "/g")) there_after
+
+rename_g : Replies answer.Done ≡ outcome_of names_after (call.Rename hidden_f (codes "/g"))
+rename_g = simp (map.gets) refl
+
+delete_g : Replies answer.Done ≡ outcome_of names_g (call.Delete (codes "/g"))
+delete_g = simp (map.gets) refl
+
+g_is_there : node_at names_g (codes "/g") ≡ Some (File 1)
+g_is_there = simp (map.gets) refl
+
+abbrev deleted_again : Names → Names
+deleted_again names = hidden names (codes "/g") 5000 (node_at names (codes "/g"))
+
+abbrev names_again : Names
+names_again = map.insert (map.remove names_g (codes "/g")) hidden_f (File 1)
+
+again : deleted_again (renamed names_deleted) ≡ names_again
+again = ap deleted_again back ∙ ap (hidden names_g (codes "/g") 5000) g_is_there
+
+there_again : node_at names_again (hidden_name 5000 1) ≡ Some (File 1)
+there_again = simp (map.gets) refl
+
+abbrev not_found : Outcome
+not_found = Replies (answer.Refused NotFound)
+
+open_gone : not_found ≡ outcome_of (map.remove names_again hidden_f) (call.Open hidden_f)
+open_gone = simp (map.gets) refl
+
 abbrev actions : List Action
 actions =
     Pass 5000
@@ -80,7 +117,11 @@ actions =
     ∷ Invoke 1 (call.Delete (codes "/f")) ∷ Step 1 5000 (Replies answer.Done) ∷ Return 1 answer.Done
     ∷ Invoke 1 (call.List (codes "/.gone")) ∷ Step 1 0 listed ∷ Return 1 (answer.Names (codes "00000000000000005000-0000000000000001" ∷ []))
     ∷ Invoke 1 (call.Open hidden_f) ∷ Step 1 0 (Opens 1) ∷ ReturnFd 1 1 1
-    ∷ Pass 259_205_000 ∷ Expire 1 5000 ∷ Invoke 1 (call.Length (fd 1)) ∷ Return 1 (answer.Refused Collected) ∷ []
+    ∷ Invoke 1 (call.Rename hidden_f (codes "/g")) ∷ Step 1 5000 (Replies answer.Done) ∷ Return 1 answer.Done
+    ∷ Invoke 1 (call.Delete (codes "/g")) ∷ Step 1 5000 (Replies answer.Done) ∷ Return 1 answer.Done
+    ∷ Pass 259_205_000 ∷ Expire 1 5000
+    ∷ Invoke 1 (call.Open hidden_f) ∷ Step 1 0 not_found ∷ Return 1 (answer.Refused NotFound)
+    ∷ Invoke 1 (call.Length (fd 1)) ∷ Return 1 (answer.Refused Collected) ∷ []
 
 pub deletion_run : IsRunOfSmall deletion_trace
 deletion_run =
@@ -98,8 +139,17 @@ deletion_run =
     ▸ refl
     ▸ (_, refl, (refl, inl refl, subst (λ names. Opens 1 ≡ outcome_of names (call.Open hidden_f)) (sym gone) open_after, λ h. tt))
     ▸ (_, refl, ((0, omega arith, refl), refl))
+    ▸ refl
+    ▸ (_, refl, (refl, inr refl, subst (λ names. Replies answer.Done ≡ outcome_of names (call.Rename hidden_f (codes "/g"))) (sym gone) rename_g, λ h. tt))
+    ▸ (_, refl, (0, omega arith, refl))
+    ▸ refl
+    ▸ (_, refl, (refl, inr refl, subst (λ names. Replies answer.Done ≡ outcome_of names (call.Delete (codes "/g"))) (sym back) delete_g, λ h. (omega arith, omega arith)))
+    ▸ (_, refl, (0, omega arith, refl))
     ▸ omega arith
-    ▸ (subst (λ names. node_at names (hidden_name 5000 1) ≡ Some (File 1)) (sym gone) there_after, omega arith)
+    ▸ (subst (λ names. node_at names (hidden_name 5000 1) ≡ Some (File 1)) (sym again) there_again, omega arith)
+    ▸ refl
+    ▸ (_, refl, (refl, inl refl, subst (λ names. not_found ≡ outcome_of (map.remove names hidden_f) (call.Open hidden_f)) (sym again) open_gone, λ h. tt))
+    ▸ (_, refl, inl (0, omega arith, refl))
     ▸ refl
     ▸ (_, refl, inr (inr (1, refl, refl, refl)))
     ▸ tt

@@ -49,7 +49,7 @@ record Reaches (client file index r : ℕ) (m : Machine) : Type 0 where
   round : r ≤ (chunk_at m file index).round
   state : StateReaches file index r (m.clients client)
 
-performed_clients : (m : Machine) (c : Call) (moment : ℕ) → (performed m c moment).clients ≡ m.clients
+pub performed_clients : (m : Machine) (c : Call) (moment : ℕ) → (performed m c moment).clients ≡ m.clients
 performed_clients m (call.Create p) moment = refl
 performed_clients m (call.Snapshot p q) moment = refl
 performed_clients m other moment = refl

@@ -52,3 +52,6 @@ put_look P key value table k new old = elim (k == key) as (λ b. (k == key) ≡ 
     | true ↦ λ e. new (eqb-true k key e)
     | false ↦ λ e. old
   ] refl
+
+pub put_is : {A : Type 0} (key : ℕ) (value : A) (table : ℕ → A) (k : ℕ) → k ≡ key → put key value table k ≡ value
+put_is key value table k e = ap (λ b. cond b value (table k)) (eq-eqb k key e)

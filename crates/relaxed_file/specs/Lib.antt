@@ -12,3 +12,4 @@ pub mod Run
 pub mod Traces
 pub mod Laws
 pub mod RunLaws
+pub mod NotRuns

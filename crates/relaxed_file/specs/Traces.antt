@@ -1,11 +1,14 @@
 -- Worked traces, as checks of the definitions.
-use Rattle.std.specs.Prelude.{ℕ, List, [], ◌∷◌, ◌++◌, replicate, codes}
+use Rattle.std.specs.Prelude.{◌≡◌, ℕ, Bool, List, [], ◌∷◌, ◌++◌, replicate, codes}
 use Rattle.gfs_types.specs.declared.call.Call.TheVariants as call
 use Rattle.gfs_types.specs.declared.answer.Answer.TheVariants as answer
-use Rattle.gfs_types.specs.declared.refusal.Refusal.TheVariants.{TooLong, Busy, Collected}
+use Rattle.gfs_types.specs.declared.refusal.Refusal.TheVariants.{NotFound, TooLong, Busy, Collected}
 use Rattle.gfs_types.specs.declared.ids.Fd.{Fd}
 use Rattle.gfs_types.specs.declared.config.Config.{Config}
-use Rattle.relaxed_file.specs.Run.{Visible, Called, Answered, Passed, IsRun}
+use Rattle.relaxed_file.specs.declared.region.Region.{Region}
+use Rattle.relaxed_file.specs.Regions.{regions_of}
+use Rattle.relaxed_file.specs.Machine.{Machine, chunk_at}
+use Rattle.relaxed_file.specs.Run.{Visible, Called, Answered, Passed, IsRunTo, IsRun}
 
 -- chunks of 64 bytes, the rest by default
 abbrev pub small_chunks : Config
@@ -70,7 +73,7 @@ snapshot_trace =
     ∷ Called 1 (call.Open (codes "/e/f")) ∷ Answered 1 (answer.Fd (fd 2))
     ∷ Called 1 (call.Read (fd 2) 0 64) ∷ Answered 1 (answer.Bytes record_a (1 ∷ [])) ∷ []
 
--- A deleted file is found under its hidden name, and its descriptors live on until it is collected.
+-- A deleted file is found under its hidden name and can be brought back; its descriptors live on until it is collected.
 abbrev pub deletion_trace : List Visible
 deletion_trace =
     Passed 5000
@@ -78,4 +81,50 @@ deletion_trace =
     ∷ Called 1 (call.Delete (codes "/f")) ∷ Answered 1 answer.Done
     ∷ Called 1 (call.List (codes "/.gone")) ∷ Answered 1 (answer.Names (codes "00000000000000005000-0000000000000001" ∷ []))
     ∷ Called 1 (call.Open (codes "/.gone/00000000000000005000-0000000000000001")) ∷ Answered 1 (answer.Fd (fd 1))
-    ∷ Passed 259_205_000 ∷ Called 1 (call.Length (fd 1)) ∷ Answered 1 (answer.Refused Collected) ∷ []
+    ∷ Called 1 (call.Rename (codes "/.gone/00000000000000005000-0000000000000001") (codes "/g")) ∷ Answered 1 answer.Done
+    ∷ Called 1 (call.Delete (codes "/g")) ∷ Answered 1 answer.Done
+    ∷ Passed 259_205_000
+    ∷ Called 1 (call.Open (codes "/.gone/00000000000000005000-0000000000000001")) ∷ Answered 1 (answer.Refused NotFound)
+    ∷ Called 1 (call.Length (fd 1)) ∷ Answered 1 (answer.Refused Collected) ∷ []
+
+-- the file's chunk has these regions at the end
+abbrev pub HasRegions : ℕ → ℕ → List Region → Machine → Type 0
+HasRegions file index regions m = regions_of m.config.chunk (chunk_at m file index).order ≡ regions
+
+-- a run with this trace ends in a state of which this holds
+abbrev pub IsRunWith : List Visible → (Machine → Type 0) → Type 0
+IsRunWith trace P = (m : Machine) × IsRunTo small_chunks trace m × P m
+
+abbrev pub region : ℕ → ℕ → Bool → Region
+region from to determined = record { from = from; to = to; determined = determined }
+
+-- a file that has no chunk
+abbrev pub empty_file_trace : List Visible
+empty_file_trace = after_open (
+    Called 1 (call.Read (fd 1) 0 10) ∷ Answered 1 (answer.Bytes [] [])
+    ∷ Called 1 (call.Length (fd 1)) ∷ Answered 1 (answer.Length 0) ∷ [])
+
+-- a record of a quarter of a chunk
+abbrev pub quarter_record_trace : List Visible
+quarter_record_trace = after_open (Called 1 (call.Append (fd 1) (replicate 16 97)) ∷ Answered 1 (answer.At 0) ∷ [])
+
+-- The fifth record doesn't fit into the first chunk: the rest of it is padded with zeros, and the record begins the next one.
+abbrev pub padding_trace : List Visible
+padding_trace = after_open (
+    Called 1 (call.Append (fd 1) record_a) ∷ Answered 1 (answer.At 0)
+    ∷ Called 1 (call.Append (fd 1) record_a) ∷ Answered 1 (answer.At 13)
+    ∷ Called 1 (call.Append (fd 1) record_a) ∷ Answered 1 (answer.At 26)
+    ∷ Called 1 (call.Append (fd 1) record_a) ∷ Answered 1 (answer.At 39)
+    ∷ Called 1 (call.Append (fd 1) record_a) ∷ Answered 1 (answer.At 64)
+    ∷ Called 1 (call.Read (fd 1) 52 12) ∷ Answered 1 (answer.Bytes (replicate 12 0) (1 ∷ [])) ∷ [])
+
+-- a write over the boundary of two chunks
+abbrev pub two_chunks_trace : List Visible
+two_chunks_trace = after_open (
+    Called 1 (call.Write (fd 1) 60 (replicate 20 122)) ∷ Answered 1 answer.Done
+    ∷ Called 1 (call.Length (fd 1)) ∷ Answered 1 (answer.Length 80)
+    ∷ Called 1 (call.Read (fd 1) 60 20) ∷ Answered 1 (answer.Bytes (replicate 20 122) (1 ∷ 1 ∷ [])) ∷ [])
+
+-- A record that one replica didn't get is tried again, and stands twice: the first time undetermined.
+abbrev pub second_try_trace : List Visible
+second_try_trace = after_open (Called 1 (call.Append (fd 1) record_a) ∷ Answered 1 (answer.At 13) ∷ [])

@@ -3,5 +3,6 @@
 #![tactic(auto)]
 
 pub mod laws;
+pub mod not_runs;
 pub mod region;
 pub mod traces;

@@ -1,0 +1,13 @@
+//! Traces that are not runs of the machine: without these nobody knows that its definitions are strong enough.
+
+ghost use Rattle.relaxed_file.specs.NotRuns.{NoAnswerWithoutCall, NoSharedOffset};
+
+/// No client is answered a call that it did not make.
+pub fn no_answer_without_call()
+    ensures { NoAnswerWithoutCall }
+{}
+
+/// No two records that a client appended by one descriptor are answered places that overlap.
+pub fn no_shared_offset()
+    ensures { NoSharedOffset }
+{}
