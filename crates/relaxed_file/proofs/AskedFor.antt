@@ -26,7 +26,7 @@ asked_settled m index place [] all = tt
 asked_settled m index zero (e ∷ rest) all = all
 asked_settled m index (suc place) (e ∷ rest) all = (all.0, asked_settled m index place rest all.1)
 
-asked_here : (m : Machine) (id : CallId) (file index : ℕ) (c : Call) (mutation : Mutation) → AsksFor m id file index c mutation → IsAskedOf m.config.chunk index c mutation
+pub asked_here : (m : Machine) (id : CallId) (file index : ℕ) (c : Call) (mutation : Mutation) → AsksFor m id file index c mutation → IsAskedOf m.config.chunk index c mutation
 asked_here m id file index (call.Write fd offset bytes) (Write at content) asks = (asks.2, asks.3)
 asked_here m id file index (call.Append fd bytes) (Append at content) asks =
     (asks.0, let l : at + length content ≤ m.config.chunk = asks.4.1 in subst (λ k. at + length k ≤ m.config.chunk) asks.0 l)

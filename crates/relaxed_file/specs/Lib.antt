@@ -9,6 +9,7 @@ pub mod Chunks
 pub mod Reads
 pub mod Answers
 pub mod Run
+pub mod Sources
 pub mod Traces
 pub mod Laws
 pub mod RunLaws

@@ -9,14 +9,16 @@ use Rattle.gfs_types.specs.declared.ids.Fd.{Fd}
 use Rattle.gfs_types.specs.declared.mutation.Mutation.{Mutation}
 use Rattle.gfs_types.specs.declared.mutation.Mutation.TheVariants.{Write, Append, Pad}
 use Rattle.gfs_types.specs.declared.config.Config.{Config}
-use Rattle.gfs_types.specs.Mutations.{start_of, end_of, is_placed_by_system}
+use Rattle.gfs_types.specs.Mutations.{start_of, end_of, is_placed_by_system, byte_of}
+use Rattle.gfs_types.specs.Image.{byte_at}
 use Rattle.relaxed_file.specs.Names.{IsTree}
-use Rattle.relaxed_file.specs.Order.{Entry, AreRoundsRising}
+use Rattle.relaxed_file.specs.Order.{Entry, AreRoundsRising, IsSelection, last_cover, mutations_of}
+use Rattle.relaxed_file.specs.Sources.{sources_of}
 use Rattle.relaxed_file.specs.Parts.{has_part, part_start, part_bytes}
-use Rattle.relaxed_file.specs.Machine.{Machine, Asked, OpenCall, IsOpen, chunk_at}
+use Rattle.relaxed_file.specs.Machine.{Machine, new_machine, Asked, OpenCall, IsOpen, chunk_at}
 use Rattle.relaxed_file.specs.Reads.{IsLook}
 use Rattle.relaxed_file.specs.Answers.{IsSuccess, MayReturn}
-use Rattle.relaxed_file.specs.Run.{Action, Return, Visible, visible, Allows, after, IsRunTo, LeadsTo, IsReached}
+use Rattle.relaxed_file.specs.Run.{Action, Return, Visible, visible, Allows, after, after_all, IsLawful, IsRunTo, LeadsTo, IsReached}
 
 -- A run goes on by an action that its machine allows.
 abbrev pub RunsGoOn : Type 0
@@ -111,3 +113,22 @@ OwnSuccessesAreRead =
     (config : Config) (m n : Machine) (client file index : ℕ) (e : Entry) (reply : Answer) (least last : ℕ) (chosen : List Entry)
     → IsReached config m → IsOwnSuccess m client file index e → Allows m (Return client reply)
     → LeadsTo (after m (Return client reply)) n → IsLook n client file index least last chosen → Contains chosen e
+
+-- a call on one of these files asked for the entry
+abbrev pub WasPutBy : Machine → List ℕ → ℕ → Entry → Type 0
+WasPutBy m sources index e =
+    (asked : Asked) × ((m.clients e.call.client).calls e.call.number ≡ Some asked)
+    × (from : ℕ) × (asked.file ≡ Some from) × Contains sources from × IsAskedOf m.config.chunk index asked.call e.mutation
+
+-- what a selection has at a place: nothing, which reads as zero, or the byte of one of its entries, put there by a call on the file or on one that it goes back to
+abbrev pub ComesFrom : Machine → List ℕ → ℕ → List Entry → List Entry → ℕ → Type 0
+ComesFrom m sources index order chosen place =
+    ((last_cover m.config.chunk chosen place ≡ None) × (byte_at m.config.chunk (mutations_of chosen) place ≡ 0))
+    ⊎ ((e : Entry) × Contains order e × (last_cover m.config.chunk chosen place ≡ Some e) × (byte_at m.config.chunk (mutations_of chosen) place ≡ byte_of place e.mutation) × WasPutBy m sources index e)
+
+-- No look gives a byte that no mutation of the file, or of a file that it goes back to by snapshots, put there, but zeros in holes (sections 2.7.1 and 3.4).
+abbrev pub NoOtherByte : Type 0
+NoOtherByte =
+    (config : Config) (actions : List Action) (m : Machine) → IsLawful (new_machine config) actions → after_all (new_machine config) actions ≡ m
+    → (file index last : ℕ) (chosen : List Entry) → IsSelection last (chunk_at m file index).order chosen
+    → (place : ℕ) → ComesFrom m (sources_of config actions file) index (chunk_at m file index).order chosen place
