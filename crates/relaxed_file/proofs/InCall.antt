@@ -8,17 +8,19 @@ use Rattle.gfs_types.specs.declared.answer.Answer.TheVariants as answer
 use Rattle.relaxed_file.specs.Machine.{Machine, Asked, OpenCall, IsOpen, Offer, Piece}
 use Rattle.relaxed_file.specs.Reads.{offer_of, MayOffer}
 use Rattle.relaxed_file.specs.Answers.{MayReturn}
-use Rattle.relaxed_file.specs.Run.{Action, Invoke, Return, ReturnFd, Pass, Visible, Called, Answered, Passed, shown, visible, Allows, after, after_all, IsLawful, asked_now}
+use Rattle.relaxed_file.specs.Run.{Action, Invoke, Return, ReturnFd, Pass, Visible, Called, Answered, Passed, shown, visible, Allows, after, after_all, IsLawful, LeadsTo, asked_now}
+use Rattle.relaxed_file.proofs.Reached.{leads_on, leads_by}
 use Rattle.relaxed_file.proofs.Tables.{from_some, all_more}
 use Rattle.relaxed_file.proofs.CallSteps.{IsPieceOf, GetsPiece, GetsOffer, Goes, IsOthers, IsMade, IsEnded, IsGoing, CallStep, call_step, fresh_call}
-use Rattle.relaxed_file.proofs.Moments.{Shows, nothing, unseen_first, join_shows, First, first_seen, who_of, said_of, asked_of, called_not, passed_not, no_cons}
+use Rattle.relaxed_file.proofs.Moments.{Shows, leads, nothing, unseen_first, join_shows, First, first_seen, who_of, said_of, asked_of, called_not, passed_not, no_cons}
 
 -- a piece that was read, and an offer that was made, since a state, by a call of this kind
-abbrev pub WasRead : Machine → ℕ → Asked → Piece → Type 0
-WasRead m client asked piece = (k : Machine) × Shows m k [] × (c : OpenCall) × IsOpen k client c × (c.asked ≡ asked) × IsPieceOf k client c piece
-
 abbrev pub WasTold : Machine → ℕ → Asked → Offer → Type 0
 WasTold m client asked offer = (k : Machine) × Shows m k [] × (c : OpenCall) × (c.asked ≡ asked) × (file : ℕ) × (index : ℕ) × MayOffer k c file × (offer ≡ offer_of k file index)
+
+abbrev pub WasRead : Machine → ℕ → Asked → Piece → Type 0
+WasRead m client asked piece =
+    (k : Machine) × Shows m k [] × (c : OpenCall) × IsOpen k client c × (c.asked ≡ asked) × IsPieceOf k client c piece × AllByRecursion (WasTold m client asked) c.offers
 
 pub record InCall (m : Machine) (client number : ℕ) (asked : Asked) (k : Machine) : Type 0 where
   pub since : Shows m k []
@@ -34,9 +36,9 @@ unseen_last m k action s a is = join_shows m k (after k action) [] [] s (unseen_
 
 module _ (m : Machine) (client number : ℕ) (asked : Asked) where
   pieces_go : (k : Machine) (c d : OpenCall) → Shows m k [] → IsOpen k client c → c.asked ≡ asked → GetsPiece k client c d
-      → AllByRecursion (WasRead m client asked) c.pieces → AllByRecursion (WasRead m client asked) d.pieces
-  pieces_go k c d s is same (inl kept) all = subst (AllByRecursion (WasRead m client asked)) (sym kept) all
-  pieces_go k c d s is same (inr more) all = subst (AllByRecursion (WasRead m client asked)) (sym more.2) ((k, s, c, is, same, more.1), all)
+      → AllByRecursion (WasTold m client asked) c.offers → AllByRecursion (WasRead m client asked) c.pieces → AllByRecursion (WasRead m client asked) d.pieces
+  pieces_go k c d s is same (inl kept) told all = subst (AllByRecursion (WasRead m client asked)) (sym kept) all
+  pieces_go k c d s is same (inr more) told all = subst (AllByRecursion (WasRead m client asked)) (sym more.2) ((k, s, c, is, same, more.1, told), all)
 
   offers_go : (k : Machine) (c d : OpenCall) → Shows m k [] → c.asked ≡ asked → GetsOffer k c d
       → AllByRecursion (WasTold m client asked) c.offers → AllByRecursion (WasTold m client asked) d.offers
@@ -53,7 +55,7 @@ module _ (m : Machine) (client number : ℕ) (asked : Asked) where
       record {
         since = unseen_last m k action h.since a is; call = going.1; open_now = going.3;
         number_is = sym on.0 ∙ h.number_is; asked_is = sym on.1 ∙ h.asked_is;
-        pieces = pieces_go k h.call going.1 h.since h.open_now h.asked_is on.2 h.pieces;
+        pieces = pieces_go k h.call going.1 h.since h.open_now h.asked_is on.2 h.offers h.pieces;
         offers = offers_go k h.call going.1 h.since h.asked_is on.3 h.offers;
       }
   goes k action a is h (inr (inr (others, inr none))) = absurd (none-some _ (sym none.0 ∙ h.open_now))
@@ -124,3 +126,12 @@ exchange m n client asked reply rest plain s =
       may = subst (λ c. MayReturn two.at client c reply) (from_some (sym allowed.1 ∙ inside.open_now)) allowed.2;
       then = subst (λ a. Shows (after two.at a) n rest) is two.then;
     }
+
+-- up to the answer, and past it
+pub answered_way : (m n : Machine) (client : ℕ) (asked : Call) (reply : Answer) (rest : List Visible) (a : Exchange m n client asked reply rest) → LeadsTo m a.answered
+answered_way m n client asked reply rest a =
+    leads_on m a.at a.answered (leads m a.at [] a.before)
+    (leads_on a.at (after a.at a.action) a.answered (leads_by a.at a.action a.allowed) (leads _ a.answered [] (a.inside).since))
+
+pub answers_now : (m n : Machine) (client : ℕ) (asked : Call) (reply : Answer) (rest : List Visible) (a : Exchange m n client asked reply rest) → Allows a.answered (Return client reply)
+answers_now m n client asked reply rest a = ((a.inside).call, (a.inside).open_now, a.may)

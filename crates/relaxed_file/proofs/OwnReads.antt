@@ -166,11 +166,11 @@ within_top least most [] h = tt
 within_top least most (e ∷ rest) h = (below_top e.round most rest h.1, within_top e.round most rest h.1)
 
 -- a settled entry is in each selection up to its round or later
-abbrev Has : List Entry → Entry → Type 0
+abbrev pub Has : List Entry → Entry → Type 0
 Has [] e = ⊥
 Has (x ∷ rest) e = (x ≡ e) ⊎ Has rest e
 
-selected : (last : ℕ) {order chosen : List Entry} → IsSelection last order chosen → (k : ℕ) (e : Entry) → slice_get order k ≡ Some e → IsTrue e.settled → e.round ≤ last → Has chosen e
+pub selected : (last : ℕ) {order chosen : List Entry} → IsSelection last order chosen → (k : ℕ) (e : Entry) → slice_get order k ≡ Some e → IsTrue e.settled → e.round ≤ last → Has chosen e
 selected last empty k e is s l = absurd (none-some e is)
 selected last (takes {e = x} r rest) zero e is s l = inl (from_some is)
 selected last (takes {e = x} r rest) (suc k) e is s l = inr (selected last rest k e is s l)
@@ -179,7 +179,7 @@ selected last (leaves {e = x} late rest) zero e is s l =
     let later : last < e.round = subst (λ (w : Entry). IsTrue w.settled → last < w.round) same late s in absurd (omega arith)
 selected last (leaves {e = x} late rest) (suc k) e is s l = selected last rest k e is s l
 
-has_place : (chosen : List Entry) (e : Entry) → Has chosen e → Contains chosen e
+pub has_place : (chosen : List Entry) (e : Entry) → Has chosen e → Contains chosen e
 has_place [] e h = absurd h
 has_place (x ∷ rest) e (inl same) = (0, omega arith, same)
 has_place (x ∷ rest) e (inr h) = let there : Contains rest e = has_place rest e h in (suc there.0, omega (arith, there.1), there.2)

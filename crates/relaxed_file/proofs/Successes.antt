@@ -84,21 +84,25 @@ stands_later config m n file index place e mutation reached way is s what =
     subst (λ (o : Option Entry). IsSomeAnd o (λ f. IsTrue f.settled × (f.mutation ≡ mutation))) (sym (settled_entries_stay config m n reached way file index place e is s)) (s, what)
 
 -- an answered append, by its entry
-pub record Answered (config : Config) (m : Machine) (client file : ℕ) (bytes : List ℕ) (x : ℕ) : Type 0 where
-  current : OpenCall
-  open_now : IsOpen m client current
-  index : ℕ
-  offset : ℕ
-  is : x ≡ index * config.chunk + offset
-  entry : Entry
-  there : Contains (chunk_at m file index).order entry
-  call_is : entry.call ≡ record { client = client; number = current.number }
-  settled : IsTrue entry.settled
-  what : entry.mutation ≡ Append offset bytes
-  room : offset + length bytes ≤ config.chunk
+pub record AnsweredAppend (config : Config) (m : Machine) (client file : ℕ) (bytes : List ℕ) (x : ℕ) : Type 0 where
+  pub current : OpenCall
+  pub open_now : IsOpen m client current
+  pub index : ℕ
+  pub offset : ℕ
+  pub is : x ≡ index * config.chunk + offset
+  pub entry : Entry
+  pub there : Contains (chunk_at m file index).order entry
+  pub call_is : entry.call ≡ record { client = client; number = current.number }
+  pub settled : IsTrue entry.settled
+  pub what : entry.mutation ≡ Append offset bytes
+  pub room : offset + length bytes ≤ config.chunk
+  pub has_chunk : index < chunk_count m file
+  pub noted : ℕ
+  pub note_is : (m.clients client).notes file index ≡ Some noted
+  pub success : IsSuccess (record { client = client; number = current.number }) noted entry
 
 pub answered : (config : Config) (m : Machine) (client file : ℕ) (fd : Fd) (bytes : List ℕ) (x : ℕ) → IsReached config m
-    → MayAnswer m client file (call.Append fd bytes) (answer.At x) → Answered config m client file bytes x
+    → MayAnswer m client file (call.Append fd bytes) (answer.At x) → AnsweredAppend config m client file bytes x
 answered config m client file fd bytes x reached a =
     let current : OpenCall = a.0 in
     let done : IsDone m client current (call.Append fd bytes) (answer.At x) = subst (λ c. IsDone m client current c (answer.At x)) a.3 a.4 in
@@ -112,11 +116,12 @@ answered config m client file fd bytes x reached a =
     record {
       current = current; open_now = a.1; index = done.2; offset = done.3; is = subst (λ (c : Config). x ≡ done.2 * c.chunk + done.3) settings done.4;
       entry = found.2; there = found.3; call_is = sym (same_id _ _ (found.4).0); settled = (found.4).1; what = both.0; room = both.1;
+      has_chunk = subst (λ f. done.2 < chunk_count m f) same done.5; noted = found.0; note_is = found.1; success = found.4;
     }
 
 pub answered_appends_stay : AnsweredAppendsStay
 answered_appends_stay config m client file fd bytes x reached a =
-    let it : Answered config m client file bytes x = answered config m client file fd bytes x reached a in
+    let it : AnsweredAppend config m client file bytes x = answered config m client file fd bytes x reached a in
     (it.index, it.offset, it.there.0, it.is, it.room, λ n way.
     stands_later config m n file it.index it.there.0 it.entry (Append it.offset bytes) reached
       (leads_on m _ n (leads_by m (Return client (answer.At x)) (it.current, it.open_now, subst (λ c. MayReturn m client c (answer.At x)) (from_some (sym a.1 ∙ it.open_now)) a.4)) way)
@@ -199,7 +204,7 @@ later_number m n client c d reply known open_c allowed way open_d =
 module _ (config : Config) (m n : Machine) (client other file : ℕ) (fd fe : Fd) (one two : List ℕ) (x y : ℕ)
     (reached : IsReached config m) (a : MayAnswer m client file (call.Append fd one) (answer.At x))
     (way : LeadsTo (after m (Return client (answer.At x))) n) (b : MayAnswer n other file (call.Append fe two) (answer.At y)) where
-  first : Answered config m client file one x
+  first : AnsweredAppend config m client file one x
   first = answered config m client file fd one x reached a
 
   returns : Allows m (Return client (answer.At x))
@@ -211,7 +216,7 @@ module _ (config : Config) (m n : Machine) (client other file : ℕ) (fd fe : Fd
   reached_later : IsReached config n
   reached_later = leads_on (new_machine config) m n reached whole
 
-  second : Answered config n other file two y
+  second : AnsweredAppend config n other file two y
   second = answered config n other file fe two y reached_later b
 
   first_there : slice_get (chunk_at n file first.index).order first.there.0 ≡ Some first.entry

@@ -18,7 +18,7 @@ use Rattle.relaxed_file.specs.Parts.{has_part, part_start, part_bytes}
 use Rattle.relaxed_file.specs.Machine.{Machine, new_machine, Asked, OpenCall, IsOpen, chunk_at}
 use Rattle.relaxed_file.specs.Reads.{IsLook}
 use Rattle.relaxed_file.specs.Answers.{IsSuccess, MayReturn}
-use Rattle.relaxed_file.specs.Run.{Action, Return, Visible, visible, Allows, after, after_all, IsLawful, IsRunTo, LeadsTo, IsReached}
+use Rattle.relaxed_file.specs.Run.{Action, Return, Add, OpenRound, CloseRound, Place, Settle, Look, asked_file, Visible, visible, Allows, after, after_all, IsLawful, IsRunTo, LeadsTo, IsReached}
 
 -- A run goes on by an action that its machine allows.
 abbrev pub RunsGoOn : Type 0
@@ -132,3 +132,36 @@ NoOtherByte =
     (config : Config) (actions : List Action) (m : Machine) → IsLawful (new_machine config) actions → after_all (new_machine config) actions ≡ m
     → (file index last : ℕ) (chosen : List Entry) → IsSelection last (chunk_at m file index).order chosen
     → (place : ℕ) → ComesFrom m (sources_of config actions file) index (chunk_at m file index).order chosen place
+
+-- the file whose chunks an action changes
+abbrev pub file_changed_by : Machine → Action → Option ℕ
+file_changed_by m (Add id) = asked_file m id
+file_changed_by m (OpenRound file index round) = Some file
+file_changed_by m (CloseRound file index) = Some file
+file_changed_by m (Place client file index mutation) = Some file
+file_changed_by m (Settle file index place) = Some file
+file_changed_by m other = None
+
+-- none of the actions changes the file's chunks
+abbrev pub NoneChanges : ℕ → Machine → List Action → Type 0
+NoneChanges file m [] = Unit {0}
+NoneChanges file m (action ∷ rest) = (file_changed_by m action ≡ Some file → ⊥) × NoneChanges file (after m action) rest
+
+-- A file's chunks stay as they are while nothing is done on that very file: a write to a snapshot changes no byte of the file that it was taken of, nor the other way round (section 3.4).
+abbrev pub FilesStayApart : Type 0
+FilesStayApart =
+    (config : Config) (m : Machine) (actions : List Action) (file index : ℕ)
+    → IsReached config m → IsLawful m actions → file ≤ m.file_count → NoneChanges file m actions
+    → chunk_at (after_all m actions) file index ≡ chunk_at m file index
+
+-- A mutation is placed only for a call on its own file.
+abbrev pub PlacesAreOwn : Type 0
+PlacesAreOwn =
+    (m : Machine) (client file index : ℕ) (mutation : Mutation) → Allows m (Place client file index mutation)
+    → (current : OpenCall) × IsOpen m client current × (current.asked.file ≡ Some file)
+
+-- No read leaves out a settled entry of a round up to the one that it names (section 2.7.1).
+abbrev pub ReadsSkipNothing : Type 0
+ReadsSkipNothing =
+    (m : Machine) (client file index named last : ℕ) (chosen : List Entry) (e : Entry) → Allows m (Look client file index named last chosen)
+    → Contains (chunk_at m file index).order e → IsTrue e.settled → e.round ≤ named → Contains chosen e
