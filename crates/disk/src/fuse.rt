@@ -108,7 +108,8 @@ impl<A: Allocator + Clone> Disk for FuseDisk<A> {
         ensures cause { HasCause self.old.failures self.new.failures result }
         ensures no_memory_needed { IsErrOf result NoMemory → ⊥ }
     {
-        if self.burns() {
+        let fails = self.burns();
+        if fails {
             return Err(DiskFault::Device);
         }
         self.disk.read(at, out)
