@@ -1,0 +1,3 @@
+mod Ranges
+mod Calls
+mod Stops

@@ -1,0 +1,5 @@
+pub mod Device
+pub mod Bytes
+pub mod Writes
+pub mod Failing
+pub mod Laws

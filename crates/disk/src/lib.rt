@@ -1,0 +1,15 @@
+//! A disk as its users see it, and disks in memory that stop, tear and fail.
+#![tactic(auto)]
+
+mod device;
+mod fault;
+mod fuse;
+mod memory;
+mod past_write;
+#[cfg(test)]
+mod tests;
+
+pub use device::{Disk, DiskFault};
+pub use fault::FaultDisk;
+pub use fuse::FuseDisk;
+pub use memory::MemDisk;
