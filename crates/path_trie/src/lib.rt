@@ -1,0 +1,4 @@
+//! The namespace: a finite map from full paths to values, whose memory lies in one allocator.
+#![tactic(auto)]
+
+pub mod trie;
