@@ -1,12 +1,12 @@
 -- The entries of a map from texts, as the finite map of their bytes.
-use Rattle.std.proofs.Common.{◌≡◌, ℕ, suc, Bool, true, false, cond, ◌&&◌, T, List, [], ◌∷◌, map, length, refl, sym, ap, subst, ◌∙◌, Option, Some, None, String, string_bytes}
+use Rattle.std.proofs.Common.{◌≡◌, ℕ, suc, Bool, true, false, cond, ◌&&◌, ◌||◌, T, List, [], ◌∷◌, map, length, refl, sym, ap, subst, ◌∙◌, Option, Some, None, String, string_bytes}
 use Rattle.std.specs.declared.cmp.Ordering.{Ordering}
 use Rattle.std.specs.declared.cmp.Ordering.TheVariants.{Less}
 use Rattle.std.specs.Ordering.{nat_cmp, is_lt, eq_by_cmp}
 use Rattle.std.specs.Cmp.{IsTotalOrder, eq_by_cmp_equiv}
 use Rattle.std.specs.Cmp.Lexicographic.{slice_cmp, nat_list_cmp_total}
 use Rattle.std.specs.String.{string_cmp}
-use Rattle.std.specs.List.{AllByRecursion}
+use Rattle.std.specs.List.{AllByRecursion, list_any}
 use Rattle.std.specs.List.Sorted.{IsStrictlySortedBy}
 use Rattle.std.specs.Map.{lookup, keys_of}
 use Rattle.std.specs.BTreeMap.{BTreeMap, UpdatesBy, is_at}
@@ -72,3 +72,8 @@ module _ {Y X : Type 0} where
 
     pub removed : UpdatesBy string_cmp (λ k. slice_cmp nat_cmp bs (string_bytes k)) m n None → names_of n.entries ≡ remove (names_of m.entries) bs
     removed h = same_map nat_list_cmp_total bytes_exact _ _ (λ q. get_updated None h q ∙ sym (get-remove nat_list_cmp_total (names_of m.entries) bs q))
+
+  -- a test of some key
+  pub any_by_bytes : (p : List ℕ → Bool) (es : List (String Y × X)) → list_any (λ k. p (string_bytes k)) (keys_of es) ≡ list_any (λ e. p e.0) (by_bytes es)
+  any_by_bytes p [] = refl
+  any_by_bytes p (e ∷ es) = ap (λ b. p (string_bytes e.0) || b) (any_by_bytes p es)

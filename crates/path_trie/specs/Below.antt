@@ -6,13 +6,17 @@ use Rattle.gfs_types.specs.Paths.{Path, last_part, is_child, is_below, is_at_or_
 use Rattle.path_trie.specs.Texts.{Names}
 
 module _ {X : Type 0} where
+  -- those of these entries that stand right below a directory, each under the last part of its path
+  abbrev pub child_entries : Path → List (Path × X) → List (List ℕ × X)
+  child_entries directory es = map (λ e. (last_part e.0, e.1)) (filter (λ e. is_child directory e.0) es)
+
   -- what stands right below a directory, in the order of the paths
   abbrev pub children : Names X → Path → List (Path × X)
   children names directory = filter (λ e. is_child directory e.0) (entries names)
 
   -- the same, each under the last part of its path
   abbrev pub children_by_part : Names X → Path → List (List ℕ × X)
-  children_by_part names directory = map (λ e. (last_part e.0, e.1)) (children names directory)
+  children_by_part names directory = child_entries directory (entries names)
 
   -- whether a name lies below a directory, at any depth
   abbrev pub has_below : Names X → Path → Bool

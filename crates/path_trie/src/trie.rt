@@ -1,13 +1,22 @@
 //! The map itself.
 
-ghost use Rattle.std.specs.Prelude.{◌≡◌, Option, Some, None, IsSome, IfSome, IfOk, IfErr, OnOk, OnErr, option_copied, string_bytes};
+ghost use Rattle.std.specs.Prelude.{◌≡◌, Option, Some, None, IsSome, IfSome, IsOk, IfOk, IfErr, OnOk, OnErr, option_copied, string_bytes};
 ghost use Rattle.std.specs.Option.{option_copied_mut};
 ghost use Rattle.std.specs.Borrow.{sem};
 ghost use Rattle.std.specs.FinMap as map;
+ghost use Rattle.std.specs.BTreeMap.{IsOrdered, keys};
+ghost use Rattle.std.specs.List.{list_any};
+ghost use Rattle.std.specs.String.{string_cmp};
+ghost use Rattle.gfs_types.specs.Paths.{last_part, is_below};
+ghost use Rattle.path_trie.specs.Below.{children_by_part, child_entries, has_below};
+ghost use Rattle.path_trie.specs.Texts.{by_bytes};
 
+use crate::child::Child;
+use crate::parts::{is_below, is_child, last_part};
+use gfs_types::lists::Text;
 use gfs_types::no_memory::NoMemory;
 use gfs_types::path::Path;
-use std::alloc::{AllocFailed, Allocator};
+use std::alloc::{AllocFailed, Allocator, Global};
 use std::collections::BTreeMap;
 use std::marker::Model;
 
@@ -91,6 +100,32 @@ impl<V: Drop, A: Allocator + Clone> Trie<V, A> {
         }
     }
 
+    /// Takes what stands at the path. It needs no memory.
+    pub fn remove(&mut self, path: &Path) -> Option<V>
+        ensures value { result ≡ map.get self.old path.now }
+        ensures rest { self.new ≡ map.remove self.old path.now }
+    {
+        self.names.remove(path.as_str())
+    }
+
+    /// What stands right below a directory, in the order of the last parts' bytes. NoMemory: the list found no room in `alloc`.
+    pub fn children(
+        &self,
+        alloc: Global,
+        directory: &Path,
+    ) -> Result<Vec<Child<'_, V>>, NoMemory>
+        ensures { IfOk result (λ c. c.items ≡ children_by_part self.now directory.now) }
+    {
+        children_of(alloc, &self.names, directory.as_str())
+    }
+
+    /// Whether a name lies below the directory, at any depth. It needs no memory.
+    pub fn has_below(&self, directory: &Path) -> bool
+        ensures { result ≡ has_below self.now directory.now }
+    {
+        any_below(&self.names, directory.as_str())
+    }
+
     // The path's text in the map's own memory, or None where it is refused.
     fn name_of(&self, path: &Path) -> Option<String<A>>
         ensures { IfSome result (λ name. string_bytes name ≡ path.now) }
@@ -98,4 +133,36 @@ impl<V: Drop, A: Allocator + Clone> Trie<V, A> {
         let alloc = self.alloc.clone().ok()?;
         String::from_str(alloc, path.as_str()).ok()
     }
+}
+
+fn children_of<'a, V, A: Allocator>(
+    alloc: Global,
+    names: &'a BTreeMap<String<A>, V, A>,
+    directory: &str,
+) -> Result<Vec<Child<'a, V>>, NoMemory>
+    ensures all { IfOk result (λ c. c.items ≡ child_entries directory.now (by_bytes names.now.entries)) }
+    ensures ordered { IsOk result → IsOrdered string_cmp names.now }
+{
+    let mut found = Vec::new(alloc);
+    for (name, value) in names {
+        if is_child(directory, name.as_str()) {
+            let child = child_at(alloc, name.as_str(), value)?;
+            found.push(child).map_err(|_| NoMemory)?;
+        }
+    }
+    Ok(found)
+}
+
+fn any_below<V, A: Allocator>(names: &BTreeMap<String<A>, V, A>, directory: &str) -> bool
+    ensures any { result ≡ list_any (λ k. is_below directory.now (string_bytes k)) (keys names.now) }
+    ensures ordered { IsOrdered string_cmp names.now }
+{
+    names.keys().any(|name| is_below(directory, name.as_str()))
+}
+
+fn child_at<'a, V>(alloc: Global, path: &str, value: &'a V) -> Result<Child<'a, V>, NoMemory>
+    ensures { IfOk result (λ c. c ≡ (last_part path.now, value.now)) }
+{
+    let part = String::from_str(alloc, last_part(path)).map_err(|_| NoMemory)?;
+    Ok(Child::new(Text::new(part), value))
 }
