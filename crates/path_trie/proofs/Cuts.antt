@@ -65,7 +65,7 @@ and_assoc true b c = refl
 and_assoc false b c = refl
 
 -- to begin with two lists after one another
-begins_append : (p d n : List ℕ) → starts_with nat_eq p (d ++ n) ≡ (starts_with nat_eq p d && starts_with nat_eq (drop (length d) p) n)
+pub begins_append : (p d n : List ℕ) → starts_with nat_eq p (d ++ n) ≡ (starts_with nat_eq p d && starts_with nat_eq (drop (length d) p) n)
 begins_append p [] n = refl
 begins_append [] (x ∷ d) n = refl
 begins_append (y ∷ p) (x ∷ d) n = ap (λ b. nat_eq x y && b) (begins_append p d n) ∙ and_assoc (nat_eq x y) (starts_with nat_eq p d) (starts_with nat_eq (drop (length d) p) n)

@@ -1,4 +1,6 @@
+pub mod Cuts
 pub mod Entries
 pub mod Lent
-pub mod Cuts
 pub mod Outcomes
+pub mod Rests
+pub mod Retained

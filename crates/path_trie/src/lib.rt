@@ -2,5 +2,6 @@
 #![tactic(auto)]
 
 pub mod child;
+pub mod copy;
 mod parts;
 pub mod trie;

@@ -1,8 +1,10 @@
 //! Where one path lies from another, by their texts.
 
-ghost use Rattle.std.specs.Prelude.{◌≡◌, nat_eq};
+ghost use Rattle.std.specs.Prelude.{◌≡◌, true, false, not, ◌&&◌, nat_eq, MatchOption};
 ghost use Rattle.std.specs.List.{starts_with};
-ghost use Rattle.gfs_types.specs.Paths.{parent, last_part, front_below, is_below, is_at_or_below, is_child};
+ghost use Rattle.std.specs.Str.{bytes_eq};
+ghost use Rattle.path_trie.specs.Below.{rest_below};
+ghost use Rattle.gfs_types.specs.Paths.{root, parent, last_part, front_below, is_below, is_at_or_below, is_child};
 
 // What stands after a path's last slash.
 pub(crate) fn last_part(path: &str) -> &str
@@ -52,4 +54,23 @@ pub(crate) fn is_child(directory: &str, path: &str) -> bool
     ensures { result ≡ is_child directory.now path.now }
 {
     is_below(directory, path) && parent(path) == directory
+}
+
+// What a path has behind a name that it lies at or below, or None where it doesn't.
+pub(crate) fn rest_below<'a>(top: &str, path: &'a str) -> Option<&'a str>
+    ensures { MatchOption result (is_at_or_below top.now path.now ≡ false) (λ rest. (is_at_or_below top.now path.now ≡ true) × (rest.now ≡ rest_below top.now path.now)) }
+{
+    if !is_at_or_below(top, path) {
+        return None;
+    }
+    if is_below_root(top, path) {
+        return Some(path);
+    }
+    path.strip_prefix(top)
+}
+
+fn is_below_root(top: &str, path: &str) -> bool
+    ensures { result ≡ (bytes_eq top.now root && not (bytes_eq path.now root)) }
+{
+    top == "/" && path != "/"
 }

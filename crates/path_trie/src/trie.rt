@@ -23,8 +23,8 @@ use std::marker::Model;
 /// A finite map from full paths to values, seen in the order of the paths' bytes. Its memory, the paths' text too, lies in `A`.
 #[derive(Drop)]
 pub struct Trie<V, A: Allocator> {
-    names: BTreeMap<String<A>, V, A>,
-    alloc: A,
+    pub(crate) names: BTreeMap<String<A>, V, A>,
+    pub(crate) alloc: A,
 }
 
 impl<V, A: Allocator> Model for Trie<V, A> {
@@ -46,7 +46,7 @@ impl<V: Drop, A: Allocator + Clone> Trie<V, A> {
     pub fn new(alloc: A) -> Result<Self, NoMemory>
         ensures { IfOk result (λ t. t ≡ map.empty) }
     {
-        let names = BTreeMap::new(alloc.clone().map_err(|_| NoMemory)?);
+        let names = BTreeMap::new(alloc.clone()?);
         Ok(Trie { names, alloc })
     }
 
@@ -89,7 +89,7 @@ impl<V: Drop, A: Allocator + Clone> Trie<V, A> {
         self.add(name, value)
     }
 
-    fn add(&mut self, name: String<A>, value: V) -> Result<(), (V, NoMemory)>
+    pub(crate) fn add(&mut self, name: String<A>, value: V) -> Result<(), (V, NoMemory)>
         ensures ok { OnOk result (self.new ≡ map.insert self.old (string_bytes name) value) }
         ensures err { OnErr result (self.new ≡ self.old) }
         ensures back { IfErr result (λ e. e.0 ≡ value) }
@@ -147,7 +147,7 @@ fn children_of<'a, V, A: Allocator>(
     for (name, value) in names {
         if is_child(directory, name.as_str()) {
             let child = child_at(alloc, name.as_str(), value)?;
-            found.push(child).map_err(|_| NoMemory)?;
+            found.push(child)?;
         }
     }
     Ok(found)
@@ -163,6 +163,6 @@ fn any_below<V, A: Allocator>(names: &BTreeMap<String<A>, V, A>, directory: &str
 fn child_at<'a, V>(alloc: Global, path: &str, value: &'a V) -> Result<Child<'a, V>, NoMemory>
     ensures { IfOk result (λ c. c ≡ (last_part path.now, value.now)) }
 {
-    let part = String::from_str(alloc, last_part(path)).map_err(|_| NoMemory)?;
-    Ok(Child::new(Text::new(part), value))
+    let part = Text::from_str(last_part(path), alloc)?;
+    Ok(Child::new(part, value))
 }
