@@ -3,18 +3,18 @@ use Rattle.std.proofs.Common.{◌≡◌, ◌≢◌, ◌⊎◌, ℕ, ◌+◌, Boo
 use mathlib.Core.Bool.{false≢true}
 use Rattle.std.specs.List.{starts_with, list_all}
 use Rattle.std.specs.Str.{bytes_eq}
-use Rattle.std.proofs.Math.Seq.{take-length, take-append_seam}
+use Rattle.std.proofs.Math.Seq.{take-length, take-append_seam, drop-length, drop-append_seam}
 use Rattle.std.proofs.lemmas.List.{take-append-drop}
 use Rattle.std.proofs.lemmas.Slice.Eq.{bytes_eq-Decides}
 use Rattle.gfs_types.specs.Paths.{root, front_below, is_below, is_at_or_below}
 use Rattle.path_trie.specs.Below.{rest_below, copies_of}
 use Rattle.path_trie.proofs.Cuts.{begins_append, begins_front}
 
-and_first : (a b : Bool) → (a && b) ≡ true → a ≡ true
+pub and_first : (a b : Bool) → (a && b) ≡ true → a ≡ true
 and_first true b h = refl
 and_first false b h = h
 
-and_second : (a b : Bool) → (a && b) ≡ true → b ≡ true
+pub and_second : (a b : Bool) → (a && b) ≡ true → b ≡ true
 and_second true b h = h
 and_second false b h = absurd (false≢true h)
 
@@ -33,14 +33,6 @@ starts_self d = bytes_same d (take (length d) d) (sym (take-length d))
 
 starts_append : (d rest : List ℕ) → starts_with nat_eq (d ++ rest) d ≡ true
 starts_append d rest = bytes_same d (take (length d) (d ++ rest)) (sym (take-append_seam d rest))
-
-drop_self : (d : List ℕ) → drop (length d) d ≡ []
-drop_self [] = refl
-drop_self (x ∷ d) = drop_self d
-
-drop_front : (d rest : List ℕ) → drop (length d) (d ++ rest) ≡ rest
-drop_front [] rest = refl
-drop_front (x ∷ d) rest = drop_front d rest
 
 append_none : (d : List ℕ) → d ++ [] ≡ d
 append_none [] = refl
@@ -66,8 +58,8 @@ abbrev pub IsRest : List ℕ → Type 0
 IsRest rest = (rest ≡ []) ⊎ (starts_with nat_eq rest root ≡ true)
 
 rest_of_other : (top path : List ℕ) (at at_root : Bool) → bytes_eq path top ≡ at → bytes_eq top root ≡ at_root → (at || is_below top path) ≡ true → (at_root && not (bytes_eq path root)) ≡ false → IsRest (drop (length top) path)
-rest_of_other top path true at_root e r h c = inl (ap (drop (length top)) (same_bytes path top e) ∙ drop_self top)
-rest_of_other top path false true e r h c = inl (ap (drop (length top)) (path_is_top (bytes_eq path root) refl c) ∙ drop_self top)
+rest_of_other top path true at_root e r h c = inl (ap (drop (length top)) (same_bytes path top e) ∙ drop-length top)
+rest_of_other top path false true e r h c = inl (ap (drop (length top)) (path_is_top (bytes_eq path root) refl c) ∙ drop-length top)
   where
     path_is_top : (b : Bool) → bytes_eq path root ≡ b → not b ≡ false → path ≡ top
     path_is_top true p c = same_bytes path root p ∙ sym (same_bytes top root r)
@@ -86,7 +78,7 @@ front_begins to rest true r h = subst (λ d. starts_with nat_eq (d ++ rest) root
 front_begins to rest false r h =
     begins_append (to ++ rest) to root
     ∙ ap (λ b. b && starts_with nat_eq (drop (length to) (to ++ rest)) root) (starts_append to rest)
-    ∙ ap (λ xs. starts_with nat_eq xs root) (drop_front to rest) ∙ h
+    ∙ ap (λ xs. starts_with nat_eq xs root) (drop-append_seam to rest) ∙ h
 
 joined_by : (to rest : List ℕ) (at : Bool) → starts_with nat_eq rest root ≡ true → (at || (starts_with nat_eq (to ++ rest) (front_below to) && not at)) ≡ true
 joined_by to rest true h = refl
@@ -98,12 +90,17 @@ joined_below to rest (inl e) = ap (λ b. b || is_below to (to ++ rest)) (bytes_s
 joined_below to rest (inr h) = joined_by to rest (bytes_eq (to ++ rest) to) h
 
 module _ {X : Type 0} (from to : List ℕ) where
-  copies_there_by : (e : List ℕ × X) (es : List (List ℕ × X)) (b : Bool) → is_at_or_below from e.0 ≡ b → list_all (λ e. is_at_or_below to e.0) (copies_of from to es) ≡ true
-      → list_all (λ e. is_at_or_below to e.0) (map (λ e. (to ++ rest_below from e.0, e.1)) (cond b (e ∷ filter (λ e. is_at_or_below from e.0) es) (filter (λ e. is_at_or_below from e.0) es))) ≡ true
-  copies_there_by e es true h rest = ap (λ b. b && list_all (λ e. is_at_or_below to e.0) (copies_of from to es)) (joined_below to (rest_below from e.0) (rest_below-IsRest from e.0 h)) ∙ rest
+  abbrev is_there : List ℕ × X → Bool
+  is_there e = is_at_or_below to e.0
+
+  abbrev moved : List ℕ × X → List ℕ × X
+  moved e = (to ++ rest_below from e.0, e.1)
+
+  copies_there_by : (e : List ℕ × X) (es : List (List ℕ × X)) (b : Bool) → is_at_or_below from e.0 ≡ b → list_all is_there (map moved es) ≡ true → list_all is_there (map moved (cond b (e ∷ es) es)) ≡ true
+  copies_there_by e es true h rest = ap (λ b. b && list_all is_there (map moved es)) (joined_below to (rest_below from e.0) (rest_below-IsRest from e.0 h)) ∙ rest
   copies_there_by e es false h rest = rest
 
   -- what a copy adds lies where it is copied to, or below
-  pub copies_there : (es : List (List ℕ × X)) → list_all (λ e. is_at_or_below to e.0) (copies_of from to es) ≡ true
+  pub copies_there : (es : List (List ℕ × X)) → list_all (λ (e : List ℕ × X). is_at_or_below to e.0) (copies_of from to es) ≡ true
   copies_there [] = refl
-  copies_there (e ∷ es) = copies_there_by e es (is_at_or_below from e.0) refl (copies_there es)
+  copies_there (e ∷ es) = copies_there_by e (filter (λ (e : List ℕ × X). is_at_or_below from e.0) es) (is_at_or_below from e.0) refl (copies_there es)

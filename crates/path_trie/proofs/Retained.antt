@@ -39,14 +39,14 @@ module _ {X : Type 0} (p : List ℕ → Bool) where
       ∙ inserted_out k q v (get m q) out (p q) refl ∙ sym (get_retained m q))
 
 module _ {X : Type 0} (out : List ℕ → Bool) where
+  find_by : (e : List ℕ × X) (rest : Option X) (any : Bool) (q : List ℕ) → out q ≡ true → (t : Bool) → eq_by_cmp (slice_cmp nat_cmp) q e.0 ≡ t → (b : Bool) → out e.0 ≡ b → (b || any) ≡ false → (any ≡ false → rest ≡ None) → cond t (Some e.1) rest ≡ None
+  find_by e rest any q at t tie true b none more = absurd (false≢true (sym none))
+  find_by e rest any q at true tie false b none more = absurd (false≢true (sym b ∙ ap out (sym (tied_same q e.0 tie)) ∙ at))
+  find_by e rest any q at false tie false b none more = more none
+
   find_none : (es : List (List ℕ × X)) (q : List ℕ) → list_any (λ e. out e.0) es ≡ false → out q ≡ true → find (slice_cmp nat_cmp) q es ≡ None
   find_none [] q none at = refl
-  find_none (e ∷ es) q none at = by_tie (eq_by_cmp (slice_cmp nat_cmp) q e.0) refl (out e.0) refl none
-    where
-      by_tie : (t : Bool) → eq_by_cmp (slice_cmp nat_cmp) q e.0 ≡ t → (b : Bool) → out e.0 ≡ b → (b || list_any (λ e. out e.0) es) ≡ false → cond t (Some e.1) (find (slice_cmp nat_cmp) q es) ≡ None
-      by_tie t tie true b none = absurd (false≢true (sym none))
-      by_tie true tie false b none = absurd (false≢true (sym b ∙ ap out (sym (tied_same q e.0 tie)) ∙ at))
-      by_tie false tie false b none = find_none es q none at
+  find_none (e ∷ es) q none at = find_by e (find (slice_cmp nat_cmp) q es) (list_any (λ e. out e.0) es) q at (eq_by_cmp (slice_cmp nat_cmp) q e.0) refl (out e.0) refl none (λ rest. find_none es q rest at)
 
   kept_by : (m : Names X) (q : List ℕ) → list_any (λ e. out e.0) (entries m) ≡ false → (b : Bool) → out q ≡ b → cond (not b) (get m q) None ≡ get m q
   kept_by m q none true at = sym (get-entries m q ∙ find_none (entries m) q none at)
@@ -57,13 +57,13 @@ module _ {X : Type 0} (out : List ℕ → Bool) where
   retain_all m none = same_map nat_list_cmp_total bytes_exact _ _ (λ q. get_retained (λ k. not (out k)) m q ∙ kept_by m q none (out q) refl)
 
 module _ {Y X : Type 0} (p : List ℕ → Bool) where
+  cond_by_bytes : (b : Bool) (e : String Y × X) (es : List (String Y × X)) → by_bytes (cond b (e ∷ es) es) ≡ cond b ((string_bytes e.0, e.1) ∷ by_bytes es) (by_bytes es)
+  cond_by_bytes true e es = refl
+  cond_by_bytes false e es = refl
+
   filter_by_bytes : (es : List (String Y × X)) → by_bytes (filter (λ e. p (string_bytes e.0)) es) ≡ where_key (slice_cmp nat_cmp) p (by_bytes es)
   filter_by_bytes [] = refl
-  filter_by_bytes (e ∷ es) = by_test (p (string_bytes e.0))
-    where
-      by_test : (b : Bool) → by_bytes (cond b (e ∷ filter (λ e. p (string_bytes e.0)) es) (filter (λ e. p (string_bytes e.0)) es)) ≡ cond b ((string_bytes e.0, e.1) ∷ where_key (slice_cmp nat_cmp) p (by_bytes es)) (where_key (slice_cmp nat_cmp) p (by_bytes es))
-      by_test true = ap (λ xs. (string_bytes e.0, e.1) ∷ xs) (filter_by_bytes es)
-      by_test false = filter_by_bytes es
+  filter_by_bytes (e ∷ es) = cond_by_bytes (p (string_bytes e.0)) e (filter (λ e. p (string_bytes e.0)) es) ∙ ap (λ xs. cond (p (string_bytes e.0)) ((string_bytes e.0, e.1) ∷ xs) xs) (filter_by_bytes es)
 
   -- `retain` of a map from texts
   pub retained : (es : List (String Y × X)) → names_of (filter (λ e. p (string_bytes e.0)) es) ≡ retain_keys (names_of es) p

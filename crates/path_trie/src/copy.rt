@@ -32,8 +32,9 @@ impl<V: TryCopy + Drop, A: Allocator + Clone> Trie<V, A> {
         ensures ok { OnOk result (self.new ≡ with_entries self.old (copied_entries self.old from.now to.now)) }
         ensures err { OnErr result (self.new ≡ self.old) }
     {
-        let copies = self.copies(from.as_str(), to.as_str())?;
-        self.add_all(to.as_str(), copies)
+        let top = to.as_str();
+        let copies = self.copies(from.as_str(), top)?;
+        self.add_all(top, copies)
     }
 
     fn copies(&self, from: &str, to: &str) -> Result<Vec<(String<A>, V), A>, NoMemory>

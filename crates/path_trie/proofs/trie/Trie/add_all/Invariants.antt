@@ -1,6 +1,6 @@
 use Rattle.std.proofs.Common.{◌≡◌, not, true}
 use Rattle.std.specs.List.{list_all}
-use Rattle.std.specs.Vec.{into_iter_items}
+use Rattle.std.specs.Vec.Iter.{into_iter_items}
 use Rattle.std.specs.FinMap.{retain_keys}
 use Rattle.gfs_types.specs.Paths.{is_at_or_below}
 use Rattle.path_trie.specs.Below.{with_entries}
