@@ -32,14 +32,14 @@ cut_at_last s (Some x) h =
     let ends : j ≡ i + 1 = h.2.1.ends in
     let at_i : get_or s i 0 ≡ 47 = h.2.1.byte (lit< tt) in
     let rest : suffix_len not_slash s ≡ length s - j = suffix_len_is not_slash s j 0 (omega arith)
-        (λ k above within. let at : get_or (drop j s) (k - j) 0 ≡ get_or s k 0 = get_or-drop j s (k - j) 0 ∙ ap (λ n. get_or s n 0) (omega arith) in
-          no_slash (get_or s k 0) (λ same. NoCharPasses-char 47 (drop j s) (k - j) h.2.0 (lit< tt) (omega (arith, length-drop j s)) (at ∙ same)))
-        (λ positive. a_slash (get_or s (j - 1) 0) (ap (λ n. get_or s n 0) (omega arith) ∙ at_i)) in
+    (λ k above within. let at : get_or (drop j s) (k - j) 0 ≡ get_or s k 0 = get_or-drop j s (k - j) 0 ∙ ap (λ n. get_or s n 0) (omega arith) in
+    no_slash (get_or s k 0) (λ same. NoCharPasses-char 47 (drop j s) (k - j) h.2.0 (lit< tt) (omega (arith, length-drop j s)) (at ∙ same)))
+    (λ positive. a_slash (get_or s (j - 1) 0) (ap (λ n. get_or s n 0) (omega arith) ∙ at_i)) in
     (h.3 ∙ ap (λ n. take n s) (omega arith), h.4 ∙ ap (λ n. drop n s) (omega arith))
 cut_at_last s None h =
     let all : suffix_len not_slash s ≡ length s - 0 = suffix_len_is not_slash s 0 0 (omega arith)
-        (λ k above within. no_slash (get_or s k 0) (NoCharPasses-char 47 s k h (lit< tt) within))
-        (λ positive. absurd (omega arith)) in
+    (λ k above within. no_slash (get_or s k 0) (NoCharPasses-char 47 s k h (lit< tt) within))
+    (λ positive. absurd (omega arith)) in
     let before : length s - suffix_len not_slash s - 1 ≡ 0 = omega arith in
     let after : length s - suffix_len not_slash s ≡ 0 = omega arith in
     (ap (λ n. take n s) before, ap (λ n. drop n s) after)

@@ -4,4 +4,6 @@
 pub mod child;
 pub mod copy;
 mod parts;
+#[cfg(test)]
+mod tests;
 pub mod trie;

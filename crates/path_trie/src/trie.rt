@@ -7,12 +7,12 @@ ghost use Rattle.std.specs.FinMap as map;
 ghost use Rattle.std.specs.BTreeMap.{IsOrdered, keys};
 ghost use Rattle.std.specs.List.{list_any};
 ghost use Rattle.std.specs.String.{string_cmp};
-ghost use Rattle.gfs_types.specs.Paths.{last_part, is_below};
-ghost use Rattle.path_trie.specs.Below.{children_by_part, child_entries, has_below};
+ghost use Rattle.gfs_types.specs.Paths.{last_part, is_below, is_at_or_below};
+ghost use Rattle.path_trie.specs.Below.{children_by_part, child_entries, has_below, has_at_or_below};
 ghost use Rattle.path_trie.specs.Texts.{by_bytes};
 
 use crate::child::Child;
-use crate::parts::{is_below, is_child, last_part};
+use crate::parts::{is_at_or_below, is_below, is_child, last_part};
 use gfs_types::lists::Text;
 use gfs_types::no_memory::NoMemory;
 use gfs_types::path::Path;
@@ -109,11 +109,7 @@ impl<V: Drop, A: Allocator + Clone> Trie<V, A> {
     }
 
     /// What stands right below a directory, in the order of the last parts' bytes. NoMemory: the list found no room in `alloc`.
-    pub fn children(
-        &self,
-        alloc: Global,
-        directory: &Path,
-    ) -> Result<Vec<Child<'_, V>>, NoMemory>
+    pub fn children(&self, alloc: Global, directory: &Path) -> Result<Vec<Child<'_, V>>, NoMemory>
         ensures { IfOk result (λ c. c.items ≡ children_by_part self.now directory.now) }
     {
         children_of(alloc, &self.names, directory.as_str())
@@ -124,6 +120,13 @@ impl<V: Drop, A: Allocator + Clone> Trie<V, A> {
         ensures { result ≡ has_below self.now directory.now }
     {
         any_below(&self.names, directory.as_str())
+    }
+
+    /// Whether a name lies at the path or below it, at any depth. It needs no memory.
+    pub fn has_at_or_below(&self, path: &Path) -> bool
+        ensures { result ≡ has_at_or_below self.now path.now }
+    {
+        any_at_or_below(&self.names, path.as_str())
     }
 
     // The path's text in the map's own memory, or None where it is refused.
@@ -158,6 +161,13 @@ fn any_below<V, A: Allocator>(names: &BTreeMap<String<A>, V, A>, directory: &str
     ensures ordered { IsOrdered string_cmp names.now }
 {
     names.keys().any(|name| is_below(directory, name.as_str()))
+}
+
+fn any_at_or_below<V, A: Allocator>(names: &BTreeMap<String<A>, V, A>, top: &str) -> bool
+    ensures any { result ≡ list_any (λ k. is_at_or_below top.now (string_bytes k)) (keys names.now) }
+    ensures ordered { IsOrdered string_cmp names.now }
+{
+    names.keys().any(|name| is_at_or_below(top, name.as_str()))
 }
 
 fn child_at<'a, V>(alloc: Global, path: &str, value: &'a V) -> Result<Child<'a, V>, NoMemory>

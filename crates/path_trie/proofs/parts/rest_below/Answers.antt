@@ -16,5 +16,5 @@ returns c =
     let top = c.args.top.now in
     let path = c.args.path.now in
     stripped top path c.strip_prefix.result c.strip_prefix.ensures.cases
-      (sym c.is_at_or_below.ensures ∙ c.if-not-is_at_or_below.false)
-      (ap (λ b. cond b path (drop (length top) path)) (sym c.is_below_root.ensures ∙ c.if-is_below_root.false))
+    (sym c.is_at_or_below.ensures ∙ c.if-not-is_at_or_below.false)
+    (ap (λ b. cond b path (drop (length top) path)) (sym c.is_below_root.ensures ∙ c.if-is_below_root.false))

@@ -38,7 +38,7 @@ loop-name-preserved g c =
     let more : into_iter_items c.loop-name.name-iterator ≡ (c.in-Some.name, value) ∷ rest = search rules in
     let added : c.add.new.self ≡ insert names name value = ok_given c.add.result (c.add.new.self ≡ insert names name value) (sym c.is_err.ensures.value ∙ c.if-is_err.false) c.add.ensures.ok in
     let there : (is_at_or_below top name && list_all (λ e. is_at_or_below top e.0) (by_bytes rest)) ≡ true =
-      sym (ap (λ xs. list_all (λ e. is_at_or_below top e.0) (by_bytes xs)) more) ∙ c.loop-name.invariant.rest_there in
+    sym (ap (λ xs. list_all (λ e. is_at_or_below top e.0) (by_bytes xs)) more) ∙ c.loop-name.invariant.rest_there in
     record {
       rest_to_add = ap (λ m. with_entries m (by_bytes rest)) added ∙ sym (ap (λ xs. with_entries names (by_bytes xs)) more) ∙ c.loop-name.invariant.rest_to_add;
       others_kept = ap (λ m. retain_keys m (λ path. not (is_at_or_below top path))) added ∙ retain_insert (λ path. not (is_at_or_below top path)) names name value (ap not (and_first _ _ there)) ∙ c.loop-name.invariant.others_kept;

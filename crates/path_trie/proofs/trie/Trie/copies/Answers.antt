@@ -12,5 +12,5 @@ returns g c =
     let from = c.args.from.now in
     let to = c.args.to.now in
     if_ok_along c.copies_of.result (λ v. by_bytes v.items ≡ copies_of from to (by_bytes es)) (λ v. by_bytes v.items ≡ copied_entries c.args.self.now from to)
-      (λ v ok all. all ∙ ap (copies_of from to) (sym (entries_by_bytes es (c.copies_of.ensures.ordered ok))) ∙ ap (λ m. copies_of from to (entries m)) c.self.view_is)
-      c.copies_of.ensures.all
+    (λ v ok all. all ∙ ap (copies_of from to) (sym (entries_by_bytes es (c.copies_of.ensures.ordered ok))) ∙ ap (λ m. copies_of from to (entries m)) c.self.view_is)
+    c.copies_of.ensures.all
