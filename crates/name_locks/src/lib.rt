@@ -3,3 +3,5 @@
 
 pub mod lock_set;
 pub mod table;
+#[cfg(test)]
+mod tests;

@@ -50,10 +50,18 @@ fn listed<A: Allocator + Clone>(
 
 fn tree(alloc: Global) -> Result<Trie<u64, Global>, Fail> {
     let mut trie = Trie::new(alloc)?;
-    let mut value = 0;
-    for text in ["/", "/d", "/d/b", "/d/b/x", "/d/a", "/d-e", "/dd", "/.gone"] {
+    let rows = [
+        ("/", 0),
+        ("/d", 1),
+        ("/d/b", 2),
+        ("/d/b/x", 3),
+        ("/d/a", 4),
+        ("/d-e", 5),
+        ("/dd", 6),
+        ("/.gone", 7),
+    ];
+    for (text, value) in rows {
         put(alloc, &mut trie, text, value)?;
-        value += 1;
     }
     Ok(trie)
 }
@@ -152,16 +160,14 @@ fn a_full_heap_leaves_the_map(rt: HostRuntime) -> Result<(), Fail> {
     for size in [64, 256, 1_024, 4_096] {
         let heap = LocalHeap::new(alloc, size)?;
         let mut trie = Trie::new(&heap)?;
-        let mut done = 0;
         for i in 0..200u64 {
             let text = format!(in alloc; "/f{i}")?;
-            if put(alloc, &mut trie, text.as_str(), i)? {
-                done += 1;
-            } else {
-                assert_eq!(rt; at(alloc, &trie, text.as_str())?, None);
-            }
-            assert_eq!(rt; trie.len(), done);
+            let before = trie.len();
+            let added = put(alloc, &mut trie, text.as_str(), i)?;
+            assert_eq!(rt; at(alloc, &trie, text.as_str())?.is_some(), added);
+            assert_eq!(rt; trie.len() > before, added);
         }
+        let done = trie.len();
         assert!(rt; done < 200);
         let from = Path::parse("/f0", alloc)?;
         let to = Path::parse("/g", alloc)?;
