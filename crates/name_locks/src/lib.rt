@@ -1,0 +1,7 @@
+//! Read and write locks on full names (section 4.1).
+#![tactic(auto)]
+
+pub mod lock_set;
+pub mod table;
+#[cfg(test)]
+mod tests;

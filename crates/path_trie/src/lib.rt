@@ -1,0 +1,9 @@
+//! The namespace: a finite map from full paths to values, whose memory lies in one allocator.
+#![tactic(auto)]
+
+pub mod child;
+pub mod copy;
+mod parts;
+#[cfg(test)]
+mod tests;
+pub mod trie;
