@@ -1,5 +1,5 @@
 -- A `BTreeMap` as the finite map of its entries.
-use Rattle.std.proofs.Common.{◌≡◌, ℕ, Bool, true, false, cond, List, [], ◌∷◌, refl, sym, ap, ◌∙◌, Some, None, Option, IsSome, OnSome, MutBor}
+use Rattle.std.proofs.Common.{◌≡◌, ℕ, Bool, true, false, cond, List, [], ◌∷◌, refl, sym, ap, ◌∙◌, Some, None, Option, IsSome, IfNone, OnSome, MutBor}
 use Rattle.std.specs.Option.{option_copied_mut}
 use Rattle.std.specs.declared.cmp.Ordering.{Ordering}
 use Rattle.std.specs.Ordering.{eq_by_cmp}
@@ -34,3 +34,7 @@ pub on_lent : {A : Type 0} {P : Type 0} (r : Option (MutBor A)) (found : Option 
 on_lent None found e h = tt
 on_lent (Some x) None e h = cc
 on_lent (Some x) (Some y) e h = h refl
+
+pub on_none : {A : Type 0} {P Q : Type 0} (r : Option A) → IfNone r P → (P → Q) → IfNone r Q
+on_none None h f = f h
+on_none (Some x) h f = tt

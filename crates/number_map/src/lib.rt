@@ -1,7 +1,7 @@
 //! A finite map from numbers, looked up in logarithmic time. Contracts see it as the map alone.
 #![tactic(auto)]
 
-ghost use Rattle.std.specs.Prelude.{◌≡◌, false, IfOk, IfErr, OnOk, OnErr, IsSome, is_some};
+ghost use Rattle.std.specs.Prelude.{◌≡◌, false, IfNone, OnOk, OnErr};
 ghost use Rattle.std.specs.Option.{option_copied, option_copied_mut};
 ghost use Rattle.std.specs.Ordering.{nat_cmp};
 ghost use Rattle.std.specs.FinMap as map;
@@ -71,6 +71,7 @@ impl<V: Drop> NumberMap<V> {
     pub fn remove(&mut self, key: u64) -> Option<V>
         ensures value { result ≡ map.get self.old key }
         ensures rest { self.new ≡ map.remove self.old key }
+        ensures none { IfNone result (self.new ≡ self.old) }
     {
         self.kept.remove(&key)
     }

@@ -1,7 +1,6 @@
 use Rattle.std.proofs.Common.{ap, sym, ◌∙◌}
 use Rattle.std.proofs.lemmas.Result.{err_from_is_err_and}
 use Rattle.std.specs.Option.{is_some}
-use Rattle.std.specs.Ordering.{nat_cmp}
 use Rattle.std.specs.Cmp.{nat_cmp_total}
 use Rattle.std.specs.FinMap.{nat_cmp-IsAntisymmetric}
 use Rattle.std.specs.FinMap as map
