@@ -37,7 +37,7 @@ pub references_shared : (m : NumberTable ChunkRow) (k q : ℕ) → is_some (get 
 references_shared m k q h =
     ap references_in (get_changed m k row_shared q)
     ∙ at_key (λ x o. references_in o ≡ references_at m x + one_at k x) q k (option_map row_shared (get m k)) (get m q) (shared_here k (get m k) h)
-      (λ apart. let z : one_at k q ≡ 0 = one_there k q apart in omega arith)
+    (λ apart. let z : one_at k q ≡ 0 = one_there k q apart in omega arith)
 
 shared_up : (o : Option ChunkRow) → references_in (option_map row_shared o) ≤ references_in o + 1
 shared_up None = omega arith
@@ -62,7 +62,7 @@ pub references_left : (m : NumberTable ChunkRow) (k q : ℕ) → references_at (
 references_left m k q =
     ap references_in (get_left m k q)
     ∙ at_key (λ x o. references_in o ≡ references_at m x - one_at k x) q k (row_after (get m k)) (get m q) (left_here k (get m k))
-      (λ apart. let z : one_at k q ≡ 0 = one_there k q apart in omega arith)
+    (λ apart. let z : one_at k q ≡ 0 = one_there k q apart in omega arith)
 
 -- each of them has an owner
 abbrev pub AllOwned : NumberTable ChunkRow → List ℕ → Type 0
@@ -74,10 +74,10 @@ references_all_shared (k ∷ rest) m q owned =
     let owned_here : 0 < references_at m k = owned k (let t = times_more k k rest in let o = one_here k in omega arith) in
     let here = owned_stands (get m k) owned_here in
     let still : AllOwned (share_one m k) rest = λ x h. (
-        let r = references_shared m k x here in
-        let t = times_more x k rest in
-        let o : 0 < references_at m x = owned x (omega arith) in
-        omega arith) in
+    let r = references_shared m k x here in
+    let t = times_more x k rest in
+    let o : 0 < references_at m x = owned x (omega arith) in
+    omega arith) in
     let ih = references_all_shared rest (share_one m k) q still in
     let r = references_shared m k q here in
     let t = times_more q k rest in

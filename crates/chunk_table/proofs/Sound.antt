@@ -27,16 +27,19 @@ total_empty : (g : List ℕ → ℕ) → total g empty ≡ 0
 total_empty g = ap (sum_by (λ e. g e.1)) (nothing_in (entries (empty {X = List ℕ} {R = nat_cmp})) (sym (len-entries empty) ∙ len-empty nat_cmp (List ℕ)))
 
 pub holds_empty : (files : NumberTable (List ℕ)) (chunks : NumberTable ChunkRow) → files ≡ empty → chunks ≡ empty → Holds files chunks 1 1 0
-holds_empty files chunks ef ec = (record {
-  files = λ f. subst (λ o. OnSome o (IsSoundFile 1 f)) (sym (ap (λ m. get m f) ef ∙ get-empty nat_cmp f)) tt;
-  chunks = λ h. subst (λ o. IfSome o (IsSoundRow 1 h)) (sym (ap (λ m. get m h) ec ∙ get-empty nat_cmp h)) tt;
-  references = λ h. ap references_in (ap (λ m. get m h) ec ∙ get-empty nat_cmp h) ∙ sym (ap (total (times h)) ef ∙ total_empty (times h));
-  next_file_from_one = omega arith;
-  next_file_within_limit = omega arith;
-  next_handle_from_one = omega arith;
-  next_handle_within_limit = omega arith;
-  owners_within_limit = (let e = ap (total (λ handles. length handles)) ef ∙ total_empty (λ handles. length handles) in omega arith);
-}, sym (ap (total (λ handles. length handles)) ef ∙ total_empty (λ handles. length handles)))
+holds_empty files chunks ef ec = (
+  record {
+    files = λ f. subst (λ o. OnSome o (IsSoundFile 1 f)) (sym (ap (λ m. get m f) ef ∙ get-empty nat_cmp f)) tt;
+    chunks = λ h. subst (λ o. IfSome o (IsSoundRow 1 h)) (sym (ap (λ m. get m h) ec ∙ get-empty nat_cmp h)) tt;
+    references = λ h. ap references_in (ap (λ m. get m h) ec ∙ get-empty nat_cmp h) ∙ sym (ap (total (times h)) ef ∙ total_empty (times h));
+    next_file_from_one = omega arith;
+    next_file_within_limit = omega arith;
+    next_handle_from_one = omega arith;
+    next_handle_within_limit = omega arith;
+    owners_within_limit = (let e = ap (total (λ handles. length handles)) ef ∙ total_empty (λ handles. length handles) in omega arith);
+  },
+  sym (ap (total (λ handles. length handles)) ef ∙ total_empty (λ handles. length handles)),
+)
 
 no_file : (next : ℕ) (o : Option (List ℕ)) → OnSome o (IsSoundFile next next) → o ≡ None
 no_file next None h = refl
@@ -71,7 +74,7 @@ pub same_state : {files files' : NumberTable (List ℕ)} {chunks chunks' : Numbe
     → record { table = record { files = files'; chunks = chunks' }; next_file = nf; next_handle = nh } ≡ s
 same_state {files} {files'} {chunks} {chunks'} nf nh s a b e =
     let change : ◌≡◌ {A = TableState} (record { table = record { files = files'; chunks = chunks' }; next_file = nf; next_handle = nh }) (record { table = record { files = files; chunks = chunks }; next_file = nf; next_handle = nh })
-        = λ i. record { table = record { files = a i; chunks = b i }; next_file = nf; next_handle = nh } in
+    = λ i. record { table = record { files = a i; chunks = b i }; next_file = nf; next_handle = nh } in
     change ∙ e
 
 pub some_or_nil : (o : Option (List ℕ)) → is_some o ≡ true → o ≡ Some (unwrap_or o [])
@@ -95,36 +98,38 @@ module _ (files : NumberTable (List ℕ)) (chunks : NumberTable ChunkRow) (nf nh
   files_added handles f =
       subst (λ o. OnSome o (IsSoundFile (nf + 1) f)) (sym (get-insert nat_cmp_total files nf handles f))
       (at_key (λ x o. OnSome o (IsSoundFile (nf + 1) x)) f nf (Some handles) (get files f)
-          (record { from_one = h.0.next_file_from_one; given = omega arith }) (λ _. later_file nf f (get files f) (h.0.files f)))
+      (record { from_one = h.0.next_file_from_one; given = omega arith }) (λ _. later_file nf f (get files f) (h.0.files f)))
 
   -- another list for a file
   files_replaced : (file : ℕ) (old handles : List ℕ) → get files file ≡ Some old → (f : ℕ) → OnSome (get (insert files file handles) f) (IsSoundFile nf f)
   files_replaced file old handles e f =
       subst (λ o. OnSome o (IsSoundFile nf f)) (sym (get-insert nat_cmp_total files file handles f))
       (at_key (λ x o. OnSome o (IsSoundFile nf x)) f file (Some handles) (get files f)
-          (some_file nf file (get files file) old e (h.0.files file)) (λ _. h.0.files f))
+      (some_file nf file (get files file) old e (h.0.files file)) (λ _. h.0.files f))
 
   -- a chunk under the next handle
   rows_added : (row : ChunkRow) → row.granted ≤ row.issued → row.issued ≤ counter_limit → AllRows (nh + 1) (insert chunks nh row)
   rows_added row g i q =
       subst (λ o. IfSome o (IsSoundRow (nh + 1) q)) (sym (get-insert nat_cmp_total chunks nh row q))
       (at_key (λ x o. IfSome o (IsSoundRow (nh + 1) x)) q nh (Some row) (get chunks q)
-          (record { from_one = h.0.next_handle_from_one; given = omega arith; granted_was_issued = g; within_limit = i })
-          (λ _. later_row nh q (get chunks q) (h.0.chunks q)))
+      (record { from_one = h.0.next_handle_from_one; given = omega arith; granted_was_issued = g; within_limit = i })
+      (λ _. later_row nh q (get chunks q) (h.0.chunks q)))
 
   pub holds_file_added : nf < counter_limit → Holds (insert files nf []) chunks (nf + 1) nh n
   holds_file_added lt =
-      let sizes = total_added (λ handles. length handles) files nf [] fresh_file in
-      (record {
-        files = files_added [];
-        chunks = h.0.chunks;
-        references = λ q. h.0.references q ∙ sym (total_added (times q) files nf [] fresh_file ∙ omega arith);
-        next_file_from_one = omega arith;
-        next_file_within_limit = omega arith;
-        next_handle_from_one = h.0.next_handle_from_one;
-        next_handle_within_limit = h.0.next_handle_within_limit;
-        owners_within_limit = (let w = h.0.owners_within_limit in omega arith);
-      }, (let e = h.1 in omega arith))
+      let sizes = total_added (λ handles. length handles) files nf [] fresh_file in (
+        record {
+          files = files_added [];
+          chunks = h.0.chunks;
+          references = λ q. h.0.references q ∙ sym (total_added (times q) files nf [] fresh_file ∙ omega arith);
+          next_file_from_one = omega arith;
+          next_file_within_limit = omega arith;
+          next_handle_from_one = h.0.next_handle_from_one;
+          next_handle_within_limit = h.0.next_handle_within_limit;
+          owners_within_limit = (let w = h.0.owners_within_limit in omega arith);
+        },
+        (let e = h.1 in omega arith),
+      )
 
   times_pushed : (q : ℕ) (handles : List ℕ) (k : ℕ) → times q (handles ++ k ∷ []) ≡ times q handles + one_at k q
   times_pushed q handles k = sum_by-append (λ x. cond (eqb x q) 1 0) handles (k ∷ []) ∙ ap (λ x. times q handles + x) (times_more q k [] ∙ omega arith)
@@ -133,41 +138,46 @@ module _ (files : NumberTable (List ℕ)) (chunks : NumberTable ChunkRow) (nf nh
       → Holds (insert files file (handles ++ nh ∷ [])) (insert chunks nh (record new_row { references = 1 })) nf (nh + 1) (n + 1)
   holds_chunk_added file handles e lt room =
       let sizes = total_replaced (λ x. length x) files file handles (handles ++ nh ∷ []) e in
-      let longer = length-append handles (nh ∷ []) in
-      (record {
-        files = files_replaced file handles (handles ++ nh ∷ []) e;
-        chunks = rows_added (record new_row { references = 1 }) (omega arith) (omega arith);
-        references = λ q. (
-            let there = total_replaced (times q) files file handles (handles ++ nh ∷ []) e in
-            let pushed = times_pushed q handles nh in
-            let was = h.0.references q in
-            ap references_in (get-insert nat_cmp_total chunks nh (record new_row { references = 1 }) q)
-            ∙ at_key (λ x o. references_in o ≡ references_at chunks x + one_at nh x) q nh (Some (record new_row { references = 1 })) (get chunks q)
-                (let none = ap references_in fresh_chunk in let one = one_here nh in omega arith)
-                (λ apart. let zero : one_at nh q ≡ 0 = one_there nh q apart in omega arith)
-            ∙ omega arith);
-        next_file_from_one = h.0.next_file_from_one;
-        next_file_within_limit = h.0.next_file_within_limit;
-        next_handle_from_one = omega arith;
-        next_handle_within_limit = omega arith;
-        owners_within_limit = (let same = h.1 in omega arith);
-      }, (let same = h.1 in omega arith))
+      let longer = length-append handles (nh ∷ []) in (
+        record {
+          files = files_replaced file handles (handles ++ nh ∷ []) e;
+          chunks = rows_added (record new_row { references = 1 }) (omega arith) (omega arith);
+          references = λ q. (
+              let there = total_replaced (times q) files file handles (handles ++ nh ∷ []) e in
+              let pushed = times_pushed q handles nh in
+              let was = h.0.references q in
+              ap references_in (get-insert nat_cmp_total chunks nh (record new_row { references = 1 }) q)
+              ∙ at_key (λ x o. references_in o ≡ references_at chunks x + one_at nh x) q nh (Some (record new_row { references = 1 })) (get chunks q)
+              (let none = ap references_in fresh_chunk in let one = one_here nh in omega arith)
+              (λ apart. let zero : one_at nh q ≡ 0 = one_there nh q apart in omega arith)
+              ∙ omega arith);
+          next_file_from_one = h.0.next_file_from_one;
+          next_file_within_limit = h.0.next_file_within_limit;
+          next_handle_from_one = omega arith;
+          next_handle_within_limit = omega arith;
+          owners_within_limit = (let same = h.1 in omega arith);
+        },
+        (let same = h.1 in omega arith),
+      )
 
   pub holds_changed : (k : ℕ) (f : ChunkRow → ChunkRow) → ((row : ChunkRow) → (f row).references ≡ row.references)
       → ((row : ChunkRow) → get chunks k ≡ Some row → IsSoundRow nh k row → IsSoundRow nh k (f row)) → Holds files (changed_at chunks k f) nf nh n
-  holds_changed k f same keeps = (record {
-    files = h.0.files;
-    chunks = rows_changed nh chunks k f keeps h.0.chunks;
-    references = λ q. (
-        ap references_in (get_changed chunks k f q)
-        ∙ at_key (λ x o. references_in o ≡ references_at chunks x) q k (option_map f (get chunks k)) (get chunks q) (same_references f same (get chunks k)) (λ _. refl)
-        ∙ h.0.references q);
-    next_file_from_one = h.0.next_file_from_one;
-    next_file_within_limit = h.0.next_file_within_limit;
-    next_handle_from_one = h.0.next_handle_from_one;
-    next_handle_within_limit = h.0.next_handle_within_limit;
-    owners_within_limit = h.0.owners_within_limit;
-  }, h.1)
+  holds_changed k f same keeps = (
+    record {
+      files = h.0.files;
+      chunks = rows_changed nh chunks k f keeps h.0.chunks;
+      references = λ q. (
+          ap references_in (get_changed chunks k f q)
+          ∙ at_key (λ x o. references_in o ≡ references_at chunks x) q k (option_map f (get chunks k)) (get chunks q) (same_references f same (get chunks k)) (λ _. refl)
+          ∙ h.0.references q);
+      next_file_from_one = h.0.next_file_from_one;
+      next_file_within_limit = h.0.next_file_within_limit;
+      next_handle_from_one = h.0.next_handle_from_one;
+      next_handle_within_limit = h.0.next_handle_within_limit;
+      owners_within_limit = h.0.owners_within_limit;
+    },
+    h.1,
+  )
 
   owners_le : (q : ℕ) → owners files q ≤ all_owners files
   owners_le q = sum_by-le-sum_by (λ e. times q e.1) (λ e. length e.1) (entries files) (λ e. count_by-le-length (λ x. x == q) e.1)
@@ -189,21 +199,23 @@ module _ (files : NumberTable (List ℕ)) (chunks : NumberTable ChunkRow) (nf nh
   pub holds_shared : (file : ℕ) (handles : List ℕ) → get files file ≡ Some handles → nf < counter_limit → n + length handles ≤ counter_limit
       → Holds (insert files nf handles) (share_all chunks handles) (nf + 1) nh (n + length handles)
   holds_shared file handles e lt room =
-      let sizes = total_added (λ x. length x) files nf handles fresh_file in
-      (record {
-        files = files_added handles;
-        chunks = rows_all_shared nh handles chunks h.0.chunks;
-        references = λ q. (
-            let there = total_added (times q) files nf handles fresh_file in
-            let here = references_all_shared handles chunks q (listed file handles e) in
-            let was = h.0.references q in
-            omega arith);
-        next_file_from_one = omega arith;
-        next_file_within_limit = omega arith;
-        next_handle_from_one = h.0.next_handle_from_one;
-        next_handle_within_limit = h.0.next_handle_within_limit;
-        owners_within_limit = (let same = h.1 in omega arith);
-      }, (let same = h.1 in omega arith))
+      let sizes = total_added (λ x. length x) files nf handles fresh_file in (
+        record {
+          files = files_added handles;
+          chunks = rows_all_shared nh handles chunks h.0.chunks;
+          references = λ q. (
+              let there = total_added (times q) files nf handles fresh_file in
+              let here = references_all_shared handles chunks q (listed file handles e) in
+              let was = h.0.references q in
+              omega arith);
+          next_file_from_one = omega arith;
+          next_file_within_limit = omega arith;
+          next_handle_from_one = h.0.next_handle_from_one;
+          next_handle_within_limit = h.0.next_handle_within_limit;
+          owners_within_limit = (let same = h.1 in omega arith);
+        },
+        (let same = h.1 in omega arith),
+      )
 
   pub holds_swapped : (file : ℕ) (handles : List ℕ) (index copy : ℕ) (row : ChunkRow)
       → get files file ≡ Some handles → index < length handles → get chunks copy ≡ Some row
@@ -211,23 +223,25 @@ module _ (files : NumberTable (List ℕ)) (chunks : NumberTable ChunkRow) (nf nh
   holds_swapped file handles index copy row e lt stands =
       let old = get_or handles index 0 in
       let sizes = total_replaced (λ x. length x) files file handles (set handles index copy) e in
-      let long : length (set handles index copy) ≡ length handles = length-set handles index copy in
-      (record {
-        files = files_replaced file handles (set handles index copy) e;
-        chunks = rows_one_left nh (share_one chunks copy) old (rows_one_shared nh chunks copy h.0.chunks);
-        references = λ q. (
-            let there = total_replaced (times q) files file handles (set handles index copy) e in
-            let changed : times q (set handles index copy) + one_at old q ≡ times q handles + one_at copy q = sum_by-set (λ x. cond (eqb x q) 1 0) handles index copy 0 lt in
-            let left = references_left (share_one chunks copy) old q in
-            let shared = references_shared chunks copy q (ap is_some stands) in
-            let was = h.0.references q in
-            omega arith);
-        next_file_from_one = h.0.next_file_from_one;
-        next_file_within_limit = h.0.next_file_within_limit;
-        next_handle_from_one = h.0.next_handle_from_one;
-        next_handle_within_limit = h.0.next_handle_within_limit;
-        owners_within_limit = (let same = h.1 in let w = h.0.owners_within_limit in omega arith);
-      }, (let same = h.1 in omega arith))
+      let long : length (set handles index copy) ≡ length handles = length-set handles index copy in (
+        record {
+          files = files_replaced file handles (set handles index copy) e;
+          chunks = rows_one_left nh (share_one chunks copy) old (rows_one_shared nh chunks copy h.0.chunks);
+          references = λ q. (
+              let there = total_replaced (times q) files file handles (set handles index copy) e in
+              let changed : times q (set handles index copy) + one_at old q ≡ times q handles + one_at copy q = sum_by-set (λ x. cond (eqb x q) 1 0) handles index copy 0 lt in
+              let left = references_left (share_one chunks copy) old q in
+              let shared = references_shared chunks copy q (ap is_some stands) in
+              let was = h.0.references q in
+              omega arith);
+          next_file_from_one = h.0.next_file_from_one;
+          next_file_within_limit = h.0.next_file_within_limit;
+          next_handle_from_one = h.0.next_handle_from_one;
+          next_handle_within_limit = h.0.next_handle_within_limit;
+          owners_within_limit = (let same = h.1 in let w = h.0.owners_within_limit in omega arith);
+        },
+        (let same = h.1 in omega arith),
+      )
 
   files_removed : (file f : ℕ) → OnSome (get (remove files file) f) (IsSoundFile nf f)
   files_removed file f =
@@ -242,53 +256,61 @@ module _ (files : NumberTable (List ℕ)) (chunks : NumberTable ChunkRow) (nf nh
 
   pub holds_dropped : (file : ℕ) (handles : List ℕ) → get files file ≡ Some handles → Holds (remove files file) (leave_all chunks handles) nf nh (n - length handles)
   holds_dropped file handles e =
-      let sizes = total_removed (λ x. length x) files file handles e in
-      (record {
-        files = files_removed file;
-        chunks = rows_all_left nh handles chunks h.0.chunks;
-        references = λ q. (
-            let there = total_removed (times q) files file handles e in
-            let left = references_all_left handles chunks q in
-            let was = h.0.references q in
-            omega arith);
-        next_file_from_one = h.0.next_file_from_one;
-        next_file_within_limit = h.0.next_file_within_limit;
-        next_handle_from_one = h.0.next_handle_from_one;
-        next_handle_within_limit = h.0.next_handle_within_limit;
-        owners_within_limit = (let same = h.1 in let w = h.0.owners_within_limit in omega arith);
-      }, (let same = h.1 in omega arith))
+      let sizes = total_removed (λ x. length x) files file handles e in (
+        record {
+          files = files_removed file;
+          chunks = rows_all_left nh handles chunks h.0.chunks;
+          references = λ q. (
+              let there = total_removed (times q) files file handles e in
+              let left = references_all_left handles chunks q in
+              let was = h.0.references q in
+              omega arith);
+          next_file_from_one = h.0.next_file_from_one;
+          next_file_within_limit = h.0.next_file_within_limit;
+          next_handle_from_one = h.0.next_handle_from_one;
+          next_handle_within_limit = h.0.next_handle_within_limit;
+          owners_within_limit = (let same = h.1 in let w = h.0.owners_within_limit in omega arith);
+        },
+        (let same = h.1 in omega arith),
+      )
 
   pub holds_copy_added : (v : ℕ) → v ≤ counter_limit → nh < counter_limit → Holds files (insert chunks nh (record new_row { issued = v })) nf (nh + 1) n
-  holds_copy_added v le lt = (record {
-    files = h.0.files;
-    chunks = rows_added (record new_row { issued = v }) (omega arith) le;
-    references = λ q. (
-        ap references_in (get-insert nat_cmp_total chunks nh (record new_row { issued = v }) q)
-        ∙ at_key (λ x o. references_in o ≡ references_at chunks x) q nh (Some (record new_row { issued = v })) (get chunks q) (sym (ap references_in fresh_chunk)) (λ _. refl)
-        ∙ h.0.references q);
-    next_file_from_one = h.0.next_file_from_one;
-    next_file_within_limit = h.0.next_file_within_limit;
-    next_handle_from_one = omega arith;
-    next_handle_within_limit = omega arith;
-    owners_within_limit = h.0.owners_within_limit;
-  }, h.1)
+  holds_copy_added v le lt = (
+    record {
+      files = h.0.files;
+      chunks = rows_added (record new_row { issued = v }) (omega arith) le;
+      references = λ q. (
+          ap references_in (get-insert nat_cmp_total chunks nh (record new_row { issued = v }) q)
+          ∙ at_key (λ x o. references_in o ≡ references_at chunks x) q nh (Some (record new_row { issued = v })) (get chunks q) (sym (ap references_in fresh_chunk)) (λ _. refl)
+          ∙ h.0.references q);
+      next_file_from_one = h.0.next_file_from_one;
+      next_file_within_limit = h.0.next_file_within_limit;
+      next_handle_from_one = omega arith;
+      next_handle_within_limit = omega arith;
+      owners_within_limit = h.0.owners_within_limit;
+    },
+    h.1,
+  )
 
   pub holds_copy_removed : (k : ℕ) (row : ChunkRow) → get chunks k ≡ Some row → row.references ≡ 0 → Holds files (remove chunks k) nf nh n
-  holds_copy_removed k row e none = (record {
-    files = h.0.files;
-    chunks = λ q. (
-        subst (λ o. IfSome o (IsSoundRow nh q)) (sym (get-remove nat_cmp_total chunks k q))
-        (at_key (λ x o. IfSome o (IsSoundRow nh x)) q k None (get chunks q) tt (λ _. h.0.chunks q)));
-    references = λ q. (
-        ap references_in (get-remove nat_cmp_total chunks k q)
-        ∙ at_key (λ x o. references_in o ≡ references_at chunks x) q k None (get chunks q) (sym (ap references_in e ∙ none)) (λ _. refl)
-        ∙ h.0.references q);
-    next_file_from_one = h.0.next_file_from_one;
-    next_file_within_limit = h.0.next_file_within_limit;
-    next_handle_from_one = h.0.next_handle_from_one;
-    next_handle_within_limit = h.0.next_handle_within_limit;
-    owners_within_limit = h.0.owners_within_limit;
-  }, h.1)
+  holds_copy_removed k row e none = (
+    record {
+      files = h.0.files;
+      chunks = λ q. (
+          subst (λ o. IfSome o (IsSoundRow nh q)) (sym (get-remove nat_cmp_total chunks k q))
+          (at_key (λ x o. IfSome o (IsSoundRow nh x)) q k None (get chunks q) tt (λ _. h.0.chunks q)));
+      references = λ q. (
+          ap references_in (get-remove nat_cmp_total chunks k q)
+          ∙ at_key (λ x o. references_in o ≡ references_at chunks x) q k None (get chunks q) (sym (ap references_in e ∙ none)) (λ _. refl)
+          ∙ h.0.references q);
+      next_file_from_one = h.0.next_file_from_one;
+      next_file_within_limit = h.0.next_file_within_limit;
+      next_handle_from_one = h.0.next_handle_from_one;
+      next_handle_within_limit = h.0.next_handle_within_limit;
+      owners_within_limit = h.0.owners_within_limit;
+    },
+    h.1,
+  )
 
   pub holds_issued : (k : ℕ) (seen : ChunkRow) → Some seen ≡ get chunks k → seen.issued < counter_limit → Holds files (changed_at chunks k row_issued) nf nh n
   holds_issued k seen e lt = holds_changed k row_issued (λ _. refl) (λ row is sound. record {

@@ -22,12 +22,12 @@ total_put : (g : List ℕ → ℕ) (k : ℕ) (v : List ℕ) (es : List (ℕ × L
 total_put g k v [] n = sum_by-cons (measured g) (k, v) []
 total_put g k v (e ∷ es) n =
     elim (nat_cmp k e.0) as (λ r. cond (is_eq r) (Some e.1) (find nat_cmp k es) ≡ None
-        → sum_by (measured g) (by_order r ((k, v) ∷ e ∷ es) ((e.0, v) ∷ es) (e ∷ put nat_cmp k v es)) ≡ g v + sum_by (measured g) (e ∷ es)) [
+    → sum_by (measured g) (by_order r ((k, v) ∷ e ∷ es) ((e.0, v) ∷ es) (e ∷ put nat_cmp k v es)) ≡ g v + sum_by (measured g) (e ∷ es)) [
       | Less ↦ λ m. sum_by-cons (measured g) (k, v) (e ∷ es)
       | Equal ↦ λ m. absurd (let bad : Some e.1 ≡ None = m in cc)
       | Greater ↦ λ m.
-            later _ _ _ _ _ (sum_by-cons (measured g) e (put nat_cmp k v es)) (total_put g k v es m)
-            ∙ ap (λ n. g v + n) (sym (sum_by-cons (measured g) e es))
+          later _ _ _ _ _ (sum_by-cons (measured g) e (put nat_cmp k v es)) (total_put g k v es m)
+          ∙ ap (λ n. g v + n) (sym (sum_by-cons (measured g) e es))
     ] n
 
 pub total_added : (g : List ℕ → ℕ) (m : NumberTable (List ℕ)) (k : ℕ) (v : List ℕ) → get m k ≡ None → total g (insert m k v) ≡ g v + total g m

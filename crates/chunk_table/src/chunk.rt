@@ -26,16 +26,14 @@ impl Model for Chunk {
 
     ghost coded = { coded_row };
 
-    ghost view = {
-        λ c. record {
-            granted = c.granted.0;
-            issued = c.issued.0;
-            references = c.references;
-            primary = c.primary.0;
-            members = c.members;
-            lease_end = c.lease_end.0;
-        }
-    };
+    ghost view = { λ c. record {
+      granted = c.granted.0;
+      issued = c.issued.0;
+      references = c.references;
+      primary = c.primary.0;
+      members = c.members;
+      lease_end = c.lease_end.0;
+    } };
 }
 
 impl Chunk {

@@ -19,7 +19,12 @@ pub(crate) fn issue_at(chunks: &mut NumberMap<Chunk>, handle: u64)
     }
 }
 
-pub(crate) fn grant_at(chunks: &mut NumberMap<Chunk>, handle: u64, primary: ServerId, members: ServerList)
+pub(crate) fn grant_at(
+    chunks: &mut NumberMap<Chunk>,
+    handle: u64,
+    primary: ServerId,
+    members: ServerList,
+)
     ensures { chunks.new ≡ changed_at chunks.old handle (row_granted primary.0 members) }
 {
     if let Some(chunk) = chunks.get_mut(handle) {

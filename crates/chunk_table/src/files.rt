@@ -13,7 +13,11 @@ use number_map::NumberMap;
 use std::alloc::Global;
 use std::mem;
 
-pub(crate) fn push_at(files: &mut NumberMap<HandleList>, file: u64, handle: u64) -> Result<(), NoMemory>
+pub(crate) fn push_at(
+    files: &mut NumberMap<HandleList>,
+    file: u64,
+    handle: u64,
+) -> Result<(), NoMemory>
     requires { IsSome (map.get files.old file) }
     ensures ok { OnOk result (files.new ≡ map.insert files.old file (unwrap_or (map.get files.old file) [] ++ handle ∷ [])) }
     ensures err { OnErr result (files.new ≡ files.old) }
@@ -34,7 +38,13 @@ pub(crate) fn share_file(files: &NumberMap<HandleList>, chunks: &mut NumberMap<C
     }
 }
 
-pub(crate) fn set_at(alloc: Global, files: &mut NumberMap<HandleList>, file: u64, index: usize, handle: u64)
+pub(crate) fn set_at(
+    alloc: Global,
+    files: &mut NumberMap<HandleList>,
+    file: u64,
+    index: usize,
+    handle: u64,
+)
     requires some { IsSome (map.get files.old file) }
     requires within { index < length (unwrap_or (map.get files.old file) []) }
     ensures { files.new ≡ map.insert files.old file (slice_set (unwrap_or (map.get files.old file) []) index handle) }

@@ -6,11 +6,11 @@ ghost use Rattle.chunk_table.specs.ChunkTable.{new_table, file_of, chunk_of, row
 ghost use Rattle.chunk_table.specs.Owners.{IsSound};
 ghost use Rattle.chunk_table.specs.Refusals.{RefusedFor, RefusedExactly, add_file_refusal, add_chunk_refusal, issue_refusal, grant_refusal, share_refusal, swap_refusal, drop_refusal, start_copy_refusal, give_up_copy_refusal, version_after};
 
+use crate::COUNTER_LIMIT;
 use crate::chunk::Chunk;
 use crate::chunks::{end_at, grant_at, issue_at, leave_at, leave_each, share_at};
 use crate::fault::TableFault;
 use crate::files::{push_at, set_at, share_file};
-use crate::COUNTER_LIMIT;
 use gfs_types::ids::{FileId, Handle, Moment, ServerId, Version};
 use gfs_types::lists::{HandleList, ServerList};
 use number_map::NumberMap;
@@ -38,23 +38,19 @@ impl Model for Table {
 
     ghost coded = { coded_table };
 
-    ghost view = {
-        λ t. record {
-            table = record { files = t.files; chunks = t.chunks };
-            next_file = t.next_file;
-            next_handle = t.next_handle;
-        }
-    };
+    ghost view = { λ t. record {
+      table = record { files = t.files; chunks = t.chunks };
+      next_file = t.next_file;
+      next_handle = t.next_handle;
+    } };
 
-    ghost invariant = {
-        λ t. IsSound
-            (record {
-                table = record { files = t.files; chunks = t.chunks };
-                next_file = t.next_file;
-                next_handle = t.next_handle;
-            })
-        × (t.owners ≡ all_owners t.files)
-    };
+    ghost invariant = { λ t. IsSound
+        (record {
+          table = record { files = t.files; chunks = t.chunks };
+          next_file = t.next_file;
+          next_handle = t.next_handle;
+        })
+        × (t.owners ≡ all_owners t.files) };
 }
 
 impl Table {
@@ -173,7 +169,13 @@ impl Table {
 
     /// Grants the version that was issued last to a primary and its members. The lease's end is 0 until it is set.
     /// Refused: NoChunk; NotIssued. Takes no memory.
-    pub fn grant(&mut self, handle: Handle, version: Version, primary: ServerId, members: ServerList) -> Result<(), TableFault>
+    pub fn grant(
+        &mut self,
+        handle: Handle,
+        version: Version,
+        primary: ServerId,
+        members: ServerList,
+    ) -> Result<(), TableFault>
         ensures refusal { RefusedExactly result (grant_refusal self.old handle.0 version.0) }
         ensures ok { OnOk result (self.new ≡ with_row_changed self.old handle.0 (row_granted primary.0 members)) }
         ensures err { OnErr result (self.new ≡ self.old) }

@@ -24,13 +24,11 @@ impl Model for Held {
 
     ghost Value = { HeldState };
 
-    ghost view = {
-        λ h. record {
-            lease = record { version = h.version.0; until = h.until.0; members = h.members };
-            skew = h.skew_ms;
-            latest = h.latest;
-        }
-    };
+    ghost view = { λ h. record {
+      lease = record { version = h.version.0; until = h.until.0; members = h.members };
+      skew = h.skew_ms;
+      latest = h.latest;
+    } };
 }
 
 impl Held {

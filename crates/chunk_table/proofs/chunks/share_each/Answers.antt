@@ -13,8 +13,8 @@ loop-handle-preserved c =
     record {
       shared = ap (λ m. share_all m (drop (i + 1) hs)) c.share_at.ensures ∙ sym (at_drop_more (share_all c.loop-handle.chunks) hs i 0 lt) ∙ c.loop-handle.invariant.shared;
       room = λ q. (
-        let e = ap (λ m. references_at m q) c.share_at.ensures in
-        let up = references_shared_le c.loop-handle.chunks (get_or hs i 0) q in
-        let r = c.loop-handle.invariant.room q in
-        omega arith);
+          let e = ap (λ m. references_at m q) c.share_at.ensures in
+          let up = references_shared_le c.loop-handle.chunks (get_or hs i 0) q in
+          let r = c.loop-handle.invariant.room q in
+          omega arith);
     }

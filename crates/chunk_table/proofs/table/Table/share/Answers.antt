@@ -14,8 +14,8 @@ share_file-requires c =
     let within = sound.0.owners_within_limit in
     let room : t.owners + length handles ≤ counter_limit = omega (arith, c.len-count.ensures, sound.1) in
     λ q. (
-      let P : List ℕ → Type 0 = λ l. references_at t.chunks q + length l ≤ counter_limit in
-      subst P (sym got) (room_to_share t.files t.chunks t.next_file t.next_handle t.owners sound handles room q))
+    let P : List ℕ → Type 0 = λ l. references_at t.chunks q + length l ≤ counter_limit in
+    subst P (sym got) (room_to_share t.files t.chunks t.next_file t.next_handle t.owners sound handles room q))
 
 pub invariant_of-self-2 : goal.invariant_of-self-2
 invariant_of-self-2 c =
