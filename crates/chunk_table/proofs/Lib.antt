@@ -1,0 +1,5 @@
+pub mod Lookups
+pub mod Sums
+pub mod Counts
+pub mod FileLists
+pub mod Sound

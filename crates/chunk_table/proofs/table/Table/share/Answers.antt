@@ -1,0 +1,42 @@
+use Rattle.std.proofs.Common.{◌≡◌, ℕ, ◌<◌, ◌≤◌, ◌+◌, List, [], ap, sym, ◌∙◌, refl, subst, Some, IsSome, unwrap_or, get_or, length, arith}
+use Rattle.std.specs.FinMap as map
+use Rattle.chunk_table.specs.ChunkTable.{counter_limit, share_all, with_shared}
+use Rattle.chunk_table.specs.Owners.{references_at}
+use Rattle.chunk_table.proofs.Sound.{along, same_state, got_back, room_to_share, holds_shared}
+use Rattle.chunk_table.proofs.table.Table.share.Goals as goal
+
+pub share_file-requires : goal.share_file-requires
+share_file-requires c =
+    let t = c.self.inside in
+    let handles = c.in-Some.handles.now in
+    let got = ap (λ m. unwrap_or (map.get m t.next_file) []) (c.in-Ok-insert.ensures.ok ∙ ap (map.insert t.files t.next_file) c.in-Ok.ensures) ∙ got_back t.files t.next_file handles in
+    let sound = c.self.invariant in
+    let within = sound.0.owners_within_limit in
+    let room : t.owners + length handles ≤ counter_limit = omega (arith, c.len-count.ensures, sound.1) in
+    λ q. (
+    let P : List ℕ → Type 0 = λ l. references_at t.chunks q + length l ≤ counter_limit in
+    subst P (sym got) (room_to_share t.files t.chunks t.next_file t.next_handle t.owners sound handles room q))
+
+pub invariant_of-self-2 : goal.invariant_of-self-2
+invariant_of-self-2 c =
+    let t = c.self.inside in
+    let handles = c.in-Some.handles.now in
+    let put = c.in-Ok-insert.ensures.ok ∙ ap (map.insert t.files t.next_file) c.in-Ok.ensures in
+    let got = ap (λ m. unwrap_or (map.get m t.next_file) []) put ∙ got_back t.files t.next_file handles in
+    let sound = c.self.invariant in
+    let within = sound.0.owners_within_limit in
+    let room : t.owners + length handles ≤ counter_limit = omega (arith, c.len-count.ensures, sound.1) in
+    along put (c.share_file.ensures ∙ ap (share_all t.chunks) got) (ap (λ x. t.owners + x) c.len-count.ensures)
+    (holds_shared t.files t.chunks t.next_file t.next_handle t.owners sound c.args.file.0 handles (sym c.in-Some.ensures) (omega arith) room)
+
+pub returns-clause-ok : goal.returns-clause-ok
+returns-clause-ok c =
+    let t = c.self.inside in
+    let handles = c.in-Some.handles.now in
+    let put = c.in-Ok-insert.ensures.ok ∙ ap (map.insert t.files t.next_file) c.in-Ok.ensures in
+    let got = ap (λ m. unwrap_or (map.get m t.next_file) []) put ∙ got_back t.files t.next_file handles in
+    let list = ap (λ o. unwrap_or o []) c.in-Some.ensures in
+    same_state (t.next_file + 1) t.next_handle (with_shared c.args.self.now c.args.file.0)
+    (put ∙ ap (map.insert t.files t.next_file) list)
+    (c.share_file.ensures ∙ ap (share_all t.chunks) (got ∙ list))
+    (ap (λ s. with_shared s c.args.file.0) c.self.view_is)

@@ -1,0 +1,169 @@
+-- The master's files as lists of chunks, and what it keeps of each chunk (sections 2.6.1, 3.1 and 3.4).
+use Rattle.std.specs.Prelude.{ℕ, ◌+◌, ◌-◌, nat_le, if◌then◌else◌, List, [], ◌∷◌, ◌++◌, Option, Some, None, unwrap_or, slice_set, slice_index, refl}
+use Rattle.std.specs.Ordering.{nat_cmp}
+use Rattle.std.specs.FinMap as map
+use Rattle.std.specs.Coded.{Coded, code_by, coded×, coded_ℕ, coded_list}
+
+-- a finite map from numbers, which stand for files or handles
+abbrev pub NumberTable : Type 0 → Type 0
+NumberTable X = map.FinMap nat_cmp X
+
+-- the greatest number that a counter takes
+abbrev pub counter_limit : ℕ
+counter_limit = 4_611_686_018_427_387_903
+
+-- A chunk: the granted version (0 if none), the issued version, how many files own it, and its last lease, which ends at that moment.
+pub record ChunkRow : Type 0 where
+  pub granted : ℕ
+  pub issued : ℕ
+  pub references : ℕ
+  pub primary : ℕ
+  pub members : List ℕ
+  pub lease_end : ℕ
+
+abbrev pub coded_row : Coded ChunkRow
+coded_row =
+    code_by (ℕ × (ℕ × (ℕ × (ℕ × (List ℕ × ℕ))))) (coded× coded_ℕ (coded× coded_ℕ (coded× coded_ℕ (coded× coded_ℕ (coded× (coded_list coded_ℕ) coded_ℕ)))))
+    (λ r. (r.granted, (r.issued, (r.references, (r.primary, (r.members, r.lease_end))))))
+    (λ p. record { granted = p.0; issued = p.1.0; references = p.1.1.0; primary = p.1.1.1.0; members = p.1.1.1.1.0; lease_end = p.1.1.1.1.1 })
+    (λ _. refl)
+
+abbrev pub new_row : ChunkRow
+new_row = record { granted = 0; issued = 0; references = 0; primary = 0; members = []; lease_end = 0 }
+
+-- The handles of each file's chunks, and the chunks by handle.
+pub record ChunkTable : Type 0 where
+  pub files : NumberTable (List ℕ)
+  pub chunks : NumberTable ChunkRow
+
+-- The table with the id that the next file takes and the handle that the next chunk takes.
+pub record TableState : Type 0 where
+  pub table : ChunkTable
+  pub next_file : ℕ
+  pub next_handle : ℕ
+
+abbrev pub coded_table : Coded TableState
+coded_table =
+    code_by (NumberTable (List ℕ) × (NumberTable ChunkRow × (ℕ × ℕ)))
+    (coded× (map.code coded_ℕ (coded_list coded_ℕ)) (coded× (map.code coded_ℕ coded_row) (coded× coded_ℕ coded_ℕ)))
+    (λ s. (s.table.files, (s.table.chunks, (s.next_file, s.next_handle))))
+    (λ p. record { table = record { files = p.0; chunks = p.1.0 }; next_file = p.1.1.0; next_handle = p.1.1.1 })
+    (λ _. refl)
+
+abbrev pub new_chunk_table : ChunkTable
+new_chunk_table = record { files = map.empty; chunks = map.empty }
+
+-- ids and handles count from 1
+abbrev pub new_table : TableState
+new_table = record { table = new_chunk_table; next_file = 1; next_handle = 1 }
+
+abbrev pub file_of : ChunkTable → ℕ → Option (List ℕ)
+file_of t file = map.get t.files file
+
+abbrev pub handles_of : ChunkTable → ℕ → List ℕ
+handles_of t file = unwrap_or (file_of t file) []
+
+abbrev pub chunk_of : ChunkTable → ℕ → Option ChunkRow
+chunk_of t handle = map.get t.chunks handle
+
+abbrev pub changed_by : NumberTable ChunkRow → ℕ → (ChunkRow → ChunkRow) → Option ChunkRow → NumberTable ChunkRow
+changed_by chunks handle change None = chunks
+changed_by chunks handle change (Some row) = map.insert chunks handle (change row)
+
+-- one chunk changes, where there is one
+abbrev pub changed_at : NumberTable ChunkRow → ℕ → (ChunkRow → ChunkRow) → NumberTable ChunkRow
+changed_at chunks handle change = changed_by chunks handle change (map.get chunks handle)
+
+abbrev pub change_row : ChunkTable → ℕ → (ChunkRow → ChunkRow) → ChunkTable
+change_row t handle change = record t { chunks = changed_at t.chunks handle change }
+
+-- one owner more
+abbrev pub row_shared : ChunkRow → ChunkRow
+row_shared row = record row { references = row.references + 1 }
+
+abbrev pub share_one : NumberTable ChunkRow → ℕ → NumberTable ChunkRow
+share_one chunks handle = changed_at chunks handle row_shared
+
+abbrev pub share_all : NumberTable ChunkRow → List ℕ → NumberTable ChunkRow
+share_all chunks [] = chunks
+share_all chunks (handle ∷ rest) = share_all (share_one chunks handle) rest
+
+abbrev pub row_left : ChunkRow → ChunkRow
+row_left row = record row { references = row.references - 1 }
+
+abbrev pub left_by : NumberTable ChunkRow → ℕ → Option ChunkRow → NumberTable ChunkRow
+left_by chunks handle None = chunks
+left_by chunks handle (Some row) = if nat_le row.references 1 then map.remove chunks handle else map.insert chunks handle (row_left row)
+
+-- one owner less; a chunk that nobody owns goes
+abbrev pub leave_one : NumberTable ChunkRow → ℕ → NumberTable ChunkRow
+leave_one chunks handle = left_by chunks handle (map.get chunks handle)
+
+abbrev pub leave_all : NumberTable ChunkRow → List ℕ → NumberTable ChunkRow
+leave_all chunks [] = chunks
+leave_all chunks (handle ∷ rest) = leave_all (leave_one chunks handle) rest
+
+-- a file without chunks
+abbrev pub add_file : ChunkTable → ℕ → ChunkTable
+add_file t file = record t { files = map.insert t.files file [] }
+
+-- an empty chunk at the file's end
+abbrev pub add_chunk : ChunkTable → ℕ → ℕ → ChunkTable
+add_chunk t file handle =
+    record { files = map.insert t.files file (handles_of t file ++ handle ∷ []); chunks = map.insert t.chunks handle (record new_row { references = 1 }) }
+
+-- a chunk without owner, whose version number was issued
+abbrev pub add_copy : ChunkTable → ℕ → ℕ → ChunkTable
+add_copy t handle version = record t { chunks = map.insert t.chunks handle (record new_row { issued = version }) }
+
+-- the next version number
+abbrev pub row_issued : ChunkRow → ChunkRow
+row_issued row = record row { issued = row.issued + 1 }
+
+-- the issued version gets a primary and its members; the lease's end is set apart
+abbrev pub row_granted : ℕ → List ℕ → ChunkRow → ChunkRow
+row_granted primary members row = record row { granted = row.issued; primary = primary; members = members; lease_end = 0 }
+
+abbrev pub row_ended : ℕ → ChunkRow → ChunkRow
+row_ended moment row = record row { lease_end = moment }
+
+-- a file of the same chunks
+abbrev pub copy_file : ChunkTable → ℕ → ℕ → ChunkTable
+copy_file t from to = record { files = map.insert t.files to (handles_of t from); chunks = share_all t.chunks (handles_of t from) }
+
+-- a file's chunk of this index becomes another one
+abbrev pub swap : ChunkTable → ℕ → ℕ → ℕ → ChunkTable
+swap t file index to =
+    record {
+      files = map.insert t.files file (slice_set (handles_of t file) index to);
+      chunks = leave_one (share_one t.chunks to) (slice_index (handles_of t file) index);
+    }
+
+-- the file goes, and with it each chunk that no other file owns
+abbrev pub drop_file : ChunkTable → ℕ → ChunkTable
+drop_file t file = record { files = map.remove t.files file; chunks = leave_all t.chunks (handles_of t file) }
+
+-- The state after each call.
+abbrev pub with_file : TableState → TableState
+with_file s = record { table = add_file s.table s.next_file; next_file = s.next_file + 1; next_handle = s.next_handle }
+
+abbrev pub with_chunk : TableState → ℕ → TableState
+with_chunk s file = record { table = add_chunk s.table file s.next_handle; next_file = s.next_file; next_handle = s.next_handle + 1 }
+
+abbrev pub with_row_changed : TableState → ℕ → (ChunkRow → ChunkRow) → TableState
+with_row_changed s handle change = record s { table = change_row s.table handle change }
+
+abbrev pub with_shared : TableState → ℕ → TableState
+with_shared s file = record { table = copy_file s.table file s.next_file; next_file = s.next_file + 1; next_handle = s.next_handle }
+
+abbrev pub with_swapped : TableState → ℕ → ℕ → ℕ → TableState
+with_swapped s file index to = record s { table = swap s.table file index to }
+
+abbrev pub without_file : TableState → ℕ → TableState
+without_file s file = record s { table = drop_file s.table file }
+
+abbrev pub with_copy : TableState → ℕ → TableState
+with_copy s version = record { table = add_copy s.table s.next_handle version; next_file = s.next_file; next_handle = s.next_handle + 1 }
+
+abbrev pub without_copy : TableState → ℕ → TableState
+without_copy s handle = record s { table = record s.table { chunks = map.remove s.table.chunks handle } }

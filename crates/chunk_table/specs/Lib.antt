@@ -1,0 +1,3 @@
+pub mod ChunkTable
+pub mod Owners
+pub mod Refusals

@@ -1,0 +1,82 @@
+//! Changes of single chunks in the map by handle. None of them takes memory.
+
+ghost use Rattle.std.specs.Prelude.{◌≡◌, ℕ, ◌+◌, ◌<◌, ◌≤◌, length, IfSome, OnSome};
+ghost use Rattle.std.specs.FinMap as map;
+ghost use Rattle.chunk_table.specs.ChunkTable.{counter_limit, changed_at, row_issued, row_granted, row_ended, share_one, share_all, leave_one, leave_all};
+ghost use Rattle.chunk_table.specs.Owners.{references_at};
+
+use crate::chunk::Chunk;
+use gfs_types::ids::{Moment, ServerId};
+use gfs_types::lists::ServerList;
+use number_map::NumberMap;
+
+pub(crate) fn issue_at(chunks: &mut NumberMap<Chunk>, handle: u64)
+    requires { IfSome (map.get chunks.old handle) (λ row. row.issued < counter_limit) }
+    ensures { chunks.new ≡ changed_at chunks.old handle row_issued }
+{
+    if let Some(chunk) = chunks.get_mut(handle) {
+        chunk.issue();
+    }
+}
+
+pub(crate) fn grant_at(
+    chunks: &mut NumberMap<Chunk>,
+    handle: u64,
+    primary: ServerId,
+    members: ServerList,
+)
+    ensures { chunks.new ≡ changed_at chunks.old handle (row_granted primary.0 members) }
+{
+    if let Some(chunk) = chunks.get_mut(handle) {
+        chunk.grant(primary, members);
+    }
+}
+
+pub(crate) fn end_at(chunks: &mut NumberMap<Chunk>, handle: u64, moment: Moment)
+    ensures { chunks.new ≡ changed_at chunks.old handle (row_ended moment.0) }
+{
+    if let Some(chunk) = chunks.get_mut(handle) {
+        chunk.set_end(moment);
+    }
+}
+
+pub(crate) fn share_at(chunks: &mut NumberMap<Chunk>, handle: u64)
+    requires { references_at chunks.old handle < counter_limit }
+    ensures { chunks.new ≡ share_one chunks.old handle }
+{
+    if let Some(chunk) = chunks.get_mut(handle) {
+        chunk.share();
+    }
+}
+
+pub(crate) fn leave_at(chunks: &mut NumberMap<Chunk>, handle: u64)
+    ensures { chunks.new ≡ leave_one chunks.old handle }
+{
+    let Some(chunk) = chunks.get(handle) else {
+        return;
+    };
+    if chunk.references() <= 1 {
+        chunks.remove(handle);
+        return;
+    }
+    if let Some(chunk) = chunks.get_mut(handle) {
+        chunk.leave();
+    }
+}
+
+pub(crate) fn share_each(chunks: &mut NumberMap<Chunk>, handles: &[u64])
+    requires { (handle : ℕ) → references_at chunks.old handle + length handles.now ≤ counter_limit }
+    ensures { chunks.new ≡ share_all chunks.old handles.now }
+{
+    for handle in handles {
+        share_at(chunks, *handle);
+    }
+}
+
+pub(crate) fn leave_each(chunks: &mut NumberMap<Chunk>, handles: &[u64])
+    ensures { chunks.new ≡ leave_all chunks.old handles.now }
+{
+    for handle in handles {
+        leave_at(chunks, *handle);
+    }
+}

@@ -1,0 +1,20 @@
+//! Why a change of the table was refused.
+
+/// A change that was refused has changed nothing.
+#[derive(Clone, Copy, Debug, PartialEq, Eq)]
+pub enum TableFault {
+    /// The table has no such file.
+    NoFile,
+    /// The table has no such chunk.
+    NoChunk,
+    /// The file has no chunk of that index.
+    NoIndex,
+    /// That version is not the one that was issued last, or it is granted already.
+    NotIssued,
+    /// The chunk has an owner.
+    Owned,
+    /// A counter would pass [`crate::COUNTER_LIMIT`].
+    Limit,
+    /// The allocator refused a growth. No other cause held.
+    NoMemory,
+}

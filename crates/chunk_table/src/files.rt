@@ -1,0 +1,64 @@
+//! Changes of single files in the map by id.
+
+ghost use Rattle.std.specs.Prelude.{◌≡◌, ℕ, ◌+◌, ◌≤◌, ◌∷◌, [], ◌++◌, ◌<◌, length, slice_set, unwrap_or, IsSome, OnOk, OnErr};
+ghost use Rattle.std.specs.FinMap as map;
+ghost use Rattle.chunk_table.specs.ChunkTable.{counter_limit, share_all};
+ghost use Rattle.chunk_table.specs.Owners.{references_at};
+
+use crate::chunk::Chunk;
+use crate::chunks::share_each;
+use gfs_types::lists::HandleList;
+use gfs_types::no_memory::NoMemory;
+use number_map::NumberMap;
+use std::alloc::Global;
+use std::mem;
+
+pub(crate) fn push_at(
+    files: &mut NumberMap<HandleList>,
+    file: u64,
+    handle: u64,
+) -> Result<(), NoMemory>
+    requires { IsSome (map.get files.old file) }
+    ensures ok { OnOk result (files.new ≡ map.insert files.old file (unwrap_or (map.get files.old file) [] ++ handle ∷ [])) }
+    ensures err { OnErr result (files.new ≡ files.old) }
+{
+    match files.get_mut(file) {
+        Some(handles) => handles.push(handle),
+        None => Ok(()),
+    }
+}
+
+// Each chunk of a file gets one owner more.
+pub(crate) fn share_file(files: &NumberMap<HandleList>, chunks: &mut NumberMap<Chunk>, file: u64)
+    requires { (handle : ℕ) → references_at chunks.old handle + length (unwrap_or (map.get files.now file) []) ≤ counter_limit }
+    ensures { chunks.new ≡ share_all chunks.old (unwrap_or (map.get files.now file) []) }
+{
+    if let Some(handles) = files.get(file) {
+        share_each(chunks, handles.as_slice());
+    }
+}
+
+pub(crate) fn set_at(
+    alloc: Global,
+    files: &mut NumberMap<HandleList>,
+    file: u64,
+    index: usize,
+    handle: u64,
+)
+    requires some { IsSome (map.get files.old file) }
+    requires within { index < length (unwrap_or (map.get files.old file) []) }
+    ensures { files.new ≡ map.insert files.old file (slice_set (unwrap_or (map.get files.old file) []) index handle) }
+{
+    if let Some(handles) = files.get_mut(file) {
+        set(alloc, handles, index, handle);
+    }
+}
+
+fn set(alloc: Global, handles: &mut HandleList, index: usize, handle: u64)
+    requires { index < length handles.old }
+    ensures { handles.new ≡ slice_set handles.old index handle }
+{
+    let mut items = mem::replace(handles, HandleList::empty(alloc)).into_vec();
+    items[index] = handle;
+    *handles = HandleList::new(items);
+}

@@ -1,0 +1,11 @@
+//! The master's table of files and chunks: each file's list of handles, and each chunk's versions, owners and lease.
+#![tactic(auto)]
+
+pub mod chunk;
+mod chunks;
+pub mod fault;
+mod files;
+pub mod table;
+
+/// The greatest number that a counter takes.
+pub const COUNTER_LIMIT: u64 = 4_611_686_018_427_387_903;

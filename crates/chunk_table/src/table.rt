@@ -1,0 +1,307 @@
+//! The table of files and chunks.
+
+ghost use Rattle.std.specs.Prelude.{◌≡◌, ℕ, Some, None, IfOk, OnOk, OnErr};
+ghost use Rattle.std.specs.Option.{option_copied};
+ghost use Rattle.chunk_table.specs.ChunkTable.{new_table, file_of, chunk_of, row_issued, row_granted, row_ended, with_file, with_chunk, with_row_changed, with_shared, with_swapped, without_file, with_copy, without_copy};
+ghost use Rattle.chunk_table.specs.Owners.{IsSound};
+ghost use Rattle.chunk_table.specs.Refusals.{RefusedFor, RefusedExactly, add_file_refusal, add_chunk_refusal, issue_refusal, grant_refusal, share_refusal, swap_refusal, drop_refusal, start_copy_refusal, give_up_copy_refusal, version_after};
+
+use crate::COUNTER_LIMIT;
+use crate::chunk::Chunk;
+use crate::chunks::{end_at, grant_at, issue_at, leave_at, leave_each, share_at};
+use crate::fault::TableFault;
+use crate::files::{push_at, set_at, share_file};
+use gfs_types::ids::{FileId, Handle, Moment, ServerId, Version};
+use gfs_types::lists::{HandleList, ServerList};
+use number_map::NumberMap;
+use std::alloc::Global;
+use std::marker::Model;
+
+/// The files' lists of handles and the chunks by handle, with the next file id and the next handle.
+#[derive(Drop)]
+pub struct Table {
+    alloc: Global,
+    files: NumberMap<HandleList>,
+    chunks: NumberMap<Chunk>,
+    next_file: u64,
+    next_handle: u64,
+    // the owners of all chunks together
+    owners: u64,
+}
+
+impl Model for Table {
+    ghost use Rattle.std.specs.Prelude.{◌≡◌};
+    ghost use Rattle.chunk_table.specs.ChunkTable.{TableState, coded_table};
+    ghost use Rattle.chunk_table.specs.Owners.{IsSound, all_owners};
+
+    ghost Value = { TableState };
+
+    ghost coded = { coded_table };
+
+    ghost view = { λ t. record {
+      table = record { files = t.files; chunks = t.chunks };
+      next_file = t.next_file;
+      next_handle = t.next_handle;
+    } };
+
+    ghost invariant = { λ t. IsSound
+        (record {
+          table = record { files = t.files; chunks = t.chunks };
+          next_file = t.next_file;
+          next_handle = t.next_handle;
+        })
+        × (t.owners ≡ all_owners t.files) };
+}
+
+impl Table {
+    /// A table without files. Takes no memory.
+    pub fn new(alloc: Global) -> Table
+        ensures { result ≡ new_table }
+    {
+        Table {
+            alloc,
+            files: NumberMap::new(alloc),
+            chunks: NumberMap::new(alloc),
+            next_file: 1,
+            next_handle: 1,
+            owners: 0,
+        }
+    }
+
+    /// The id that the next file takes.
+    pub fn next_file(&self) -> FileId
+        ensures { result.0 ≡ self.now.next_file }
+    {
+        FileId(self.next_file)
+    }
+
+    /// The handle that the next chunk takes.
+    pub fn next_handle(&self) -> Handle
+        ensures { result.0 ≡ self.now.next_handle }
+    {
+        Handle(self.next_handle)
+    }
+
+    /// The handles of a file's chunks, in the order of their index.
+    pub fn file(&self, file: FileId) -> Option<&HandleList>
+        ensures { option_copied result ≡ file_of self.now.table file.0 }
+    {
+        self.files.get(file.0)
+    }
+
+    /// What is kept of a chunk.
+    pub fn chunk(&self, handle: Handle) -> Option<&Chunk>
+        ensures { option_copied result ≡ chunk_of self.now.table handle.0 }
+    {
+        self.chunks.get(handle.0)
+    }
+
+    /// Does nothing. Its clause says what holds of every table: among others that a chunk's granted version is at most its
+    /// issued one, and that its reference count is the number of its owners.
+    pub fn is_sound(&self)
+        ensures { IsSound self.now }
+    {
+        let _next = &self.next_file;
+    }
+
+    /// A new file without chunks, under the next id. Refused: Limit; NoMemory.
+    pub fn add_file(&mut self) -> Result<FileId, TableFault>
+        ensures refusal { RefusedFor result (add_file_refusal self.old) }
+        ensures file { IfOk result (λ file. file.0 ≡ self.old.next_file) }
+        ensures ok { OnOk result (self.new ≡ with_file self.old) }
+        ensures err { OnErr result (self.new ≡ self.old) }
+    {
+        let file = self.next_file;
+        if file >= COUNTER_LIMIT {
+            return Err(TableFault::Limit);
+        }
+        let Ok(()) = self.files.insert(file, HandleList::empty(self.alloc)) else {
+            return Err(TableFault::NoMemory);
+        };
+        self.next_file = file + 1;
+        Ok(FileId(file))
+    }
+
+    /// A new chunk at a file's end, under the next handle. It has one owner and no version. Refused: NoFile; Limit; NoMemory.
+    pub fn add_chunk(&mut self, file: FileId) -> Result<Handle, TableFault>
+        ensures refusal { RefusedFor result (add_chunk_refusal self.old file.0) }
+        ensures handle { IfOk result (λ handle. handle.0 ≡ self.old.next_handle) }
+        ensures ok { OnOk result (self.new ≡ with_chunk self.old file.0) }
+        ensures err { OnErr result (self.new ≡ self.old) }
+    {
+        if self.files.get(file.0).is_none() {
+            return Err(TableFault::NoFile);
+        }
+        let handle = self.next_handle;
+        if handle >= COUNTER_LIMIT || self.owners >= COUNTER_LIMIT {
+            return Err(TableFault::Limit);
+        }
+        let chunk = Chunk::new(self.alloc, Version(0), 1);
+        let Ok(()) = self.chunks.insert(handle, chunk) else {
+            return Err(TableFault::NoMemory);
+        };
+        let Ok(()) = push_at(&mut self.files, file.0, handle) else {
+            self.chunks.remove(handle);
+            return Err(TableFault::NoMemory);
+        };
+        self.next_handle = handle + 1;
+        self.owners += 1;
+        Ok(Handle(handle))
+    }
+
+    /// Issues the chunk's next version number, which is one more than the last. Refused: NoChunk; Limit. Takes no memory.
+    pub fn issue(&mut self, handle: Handle) -> Result<Version, TableFault>
+        ensures refusal { RefusedExactly result (issue_refusal self.old handle.0) }
+        ensures version { IfOk result (λ version. version.0 ≡ version_after (chunk_of self.old.table handle.0)) }
+        ensures ok { OnOk result (self.new ≡ with_row_changed self.old handle.0 row_issued) }
+        ensures err { OnErr result (self.new ≡ self.old) }
+    {
+        let Some(chunk) = self.chunks.get(handle.0) else {
+            return Err(TableFault::NoChunk);
+        };
+        let Version(issued) = chunk.issued();
+        if issued >= COUNTER_LIMIT {
+            return Err(TableFault::Limit);
+        }
+        issue_at(&mut self.chunks, handle.0);
+        Ok(Version(issued + 1))
+    }
+
+    /// Grants the version that was issued last to a primary and its members. The lease's end is 0 until it is set.
+    /// Refused: NoChunk; NotIssued. Takes no memory.
+    pub fn grant(
+        &mut self,
+        handle: Handle,
+        version: Version,
+        primary: ServerId,
+        members: ServerList,
+    ) -> Result<(), TableFault>
+        ensures refusal { RefusedExactly result (grant_refusal self.old handle.0 version.0) }
+        ensures ok { OnOk result (self.new ≡ with_row_changed self.old handle.0 (row_granted primary.0 members)) }
+        ensures err { OnErr result (self.new ≡ self.old) }
+    {
+        let Some(chunk) = self.chunks.get(handle.0) else {
+            return Err(TableFault::NoChunk);
+        };
+        if chunk.issued() != version || chunk.granted() >= version {
+            return Err(TableFault::NotIssued);
+        }
+        grant_at(&mut self.chunks, handle.0, primary, members);
+        Ok(())
+    }
+
+    /// Sets the moment at which a chunk's lease ends; 0 ends it. Nothing changes where there is no such chunk. Takes no memory.
+    pub fn set_end(&mut self, handle: Handle, moment: Moment)
+        ensures { self.new ≡ with_row_changed self.old handle.0 (row_ended moment.0) }
+    {
+        end_at(&mut self.chunks, handle.0, moment);
+    }
+
+    /// A new file, under the next id, of the same chunks, each of which gets one owner more. Refused: NoFile; Limit; NoMemory.
+    pub fn share(&mut self, file: FileId) -> Result<FileId, TableFault>
+        ensures refusal { RefusedFor result (share_refusal self.old file.0) }
+        ensures file { IfOk result (λ file. file.0 ≡ self.old.next_file) }
+        ensures ok { OnOk result (self.new ≡ with_shared self.old file.0) }
+        ensures err { OnErr result (self.new ≡ self.old) }
+    {
+        let Some(handles) = self.files.get(file.0) else {
+            return Err(TableFault::NoFile);
+        };
+        let copy = self.next_file;
+        let count = handles.len() as u64;
+        if copy >= COUNTER_LIMIT || count > COUNTER_LIMIT - self.owners {
+            return Err(TableFault::Limit);
+        }
+        let Ok(list) = handles.copy(self.alloc) else {
+            return Err(TableFault::NoMemory);
+        };
+        let Ok(()) = self.files.insert(copy, list) else {
+            return Err(TableFault::NoMemory);
+        };
+        share_file(&self.files, &mut self.chunks, copy);
+        self.next_file = copy + 1;
+        self.owners += count;
+        Ok(FileId(copy))
+    }
+
+    /// Puts a chunk without owner in the place of a file's chunk, which loses an owner and goes where that was its last.
+    /// Refused: NoFile; NoIndex; NoChunk; Owned (the new chunk is a file's). Takes no memory.
+    pub fn swap(&mut self, file: FileId, index: usize, copy: Handle) -> Result<(), TableFault>
+        ensures refusal { RefusedExactly result (swap_refusal self.old file.0 index copy.0) }
+        ensures ok { OnOk result (self.new ≡ with_swapped self.old file.0 index copy.0) }
+        ensures err { OnErr result (self.new ≡ self.old) }
+    {
+        let Some(handles) = self.files.get(file.0) else {
+            return Err(TableFault::NoFile);
+        };
+        let handles = handles.as_slice();
+        if index >= handles.len() {
+            return Err(TableFault::NoIndex);
+        }
+        let shared = handles[index];
+        let Some(chunk) = self.chunks.get(copy.0) else {
+            return Err(TableFault::NoChunk);
+        };
+        if chunk.references() != 0 {
+            return Err(TableFault::Owned);
+        }
+        share_at(&mut self.chunks, copy.0);
+        leave_at(&mut self.chunks, shared);
+        set_at(self.alloc, &mut self.files, file.0, index, copy.0);
+        Ok(())
+    }
+
+    /// Takes a file out. Each of its chunks loses an owner, and goes where that was its last. Refused: NoFile. Takes no memory.
+    pub fn drop_file(&mut self, file: FileId) -> Result<(), TableFault>
+        ensures refusal { RefusedExactly result (drop_refusal self.old file.0) }
+        ensures ok { OnOk result (self.new ≡ without_file self.old file.0) }
+        ensures err { OnErr result (self.new ≡ self.old) }
+    {
+        let Some(handles) = self.files.remove(file.0) else {
+            return Err(TableFault::NoFile);
+        };
+        leave_each(&mut self.chunks, handles.as_slice());
+        self.owners -= handles.len() as u64;
+        Ok(())
+    }
+
+    /// A new chunk without owner, under the next handle, for a copy of a chunk. Its first version number is issued: one more than
+    /// the last that was issued for that chunk. Refused: NoChunk; Limit; NoMemory.
+    pub fn start_copy(&mut self, source: Handle) -> Result<Handle, TableFault>
+        ensures refusal { RefusedFor result (start_copy_refusal self.old source.0) }
+        ensures handle { IfOk result (λ handle. handle.0 ≡ self.old.next_handle) }
+        ensures ok { OnOk result (self.new ≡ with_copy self.old (version_after (chunk_of self.old.table source.0))) }
+        ensures err { OnErr result (self.new ≡ self.old) }
+    {
+        let Some(chunk) = self.chunks.get(source.0) else {
+            return Err(TableFault::NoChunk);
+        };
+        let Version(issued) = chunk.issued();
+        let handle = self.next_handle;
+        if issued >= COUNTER_LIMIT || handle >= COUNTER_LIMIT {
+            return Err(TableFault::Limit);
+        }
+        let copy = Chunk::new(self.alloc, Version(issued + 1), 0);
+        let Ok(()) = self.chunks.insert(handle, copy) else {
+            return Err(TableFault::NoMemory);
+        };
+        self.next_handle = handle + 1;
+        Ok(Handle(handle))
+    }
+
+    /// Takes out a chunk without owner. Refused: NoChunk; Owned. Takes no memory.
+    pub fn give_up_copy(&mut self, copy: Handle) -> Result<(), TableFault>
+        ensures refusal { RefusedExactly result (give_up_copy_refusal self.old copy.0) }
+        ensures ok { OnOk result (self.new ≡ without_copy self.old copy.0) }
+        ensures err { OnErr result (self.new ≡ self.old) }
+    {
+        let Some(chunk) = self.chunks.get(copy.0) else {
+            return Err(TableFault::NoChunk);
+        };
+        if chunk.references() != 0 {
+            return Err(TableFault::Owned);
+        }
+        self.chunks.remove(copy.0);
+        Ok(())
+    }
+}

@@ -1,0 +1,3 @@
+pub mod LeaseHeld
+pub mod LeaseEnds
+pub mod Laws
