@@ -7,8 +7,8 @@ use Rattle.gfs_types.specs.declared.record.Record.TheVariants as log
 use Rattle.gfs_types.specs.Paths.{Path}
 use Rattle.relaxed_file.specs.Names.{Names, Node, Dir, File, first_names, node_at, copied_entries, with_copies, id_after, id_after_all}
 use Rattle.relaxed_file.specs.NameStep.{with_node, hidden}
-use Rattle.protocol.specs.Tables.{Table}
-use Rattle.protocol.specs.ChunkTable.{ChunkRow, ChunkTable, new_row, new_chunk_table, chunk_of, handles_of, add_file, add_chunk, issue, grant, copy_file, drop_file, swap, change_row, with_row}
+use Rattle.protocol.specs.Tables.{Table, removed_all}
+use Rattle.protocol.specs.ChunkTable.{ChunkRow, ChunkTable, new_row, new_chunk_table, with_owner, chunk_of, handles_of, add_file, add_chunk, issue, grant, copy_file, drop_file, swap, change_row, with_row}
 use Rattle.protocol.specs.Sending.{client_id, file_id, handle_of, version_of, server_id}
 
 -- A client's last changing name call, and its answer: Done where there is no refusal.
@@ -39,13 +39,9 @@ first_logged = record { names = first_names; table = new_chunk_table; next_file 
 abbrev pub with_answer : Logged → ℕ → ℕ → Option Refusal → Logged
 with_answer l client number refusal = record l { kept = table.insert l.kept client (record { number = number; refusal = refusal }) }
 
--- a copy is given up; its chunk was never a file's
-abbrev pub copy_given_up : Logged → ℕ → Logged
-copy_given_up l handle = record l { copies = table.remove l.copies handle; table = record l.table { chunks = table.remove l.table.chunks handle } }
-
+-- copies are given up; their chunks were never a file's
 abbrev pub copies_given_up : Logged → List ℕ → Logged
-copies_given_up l [] = l
-copies_given_up l (handle ∷ rest) = copies_given_up (copy_given_up l handle) rest
+copies_given_up l handles = record l { copies = removed_all l.copies handles; table = record l.table { chunks = removed_all l.table.chunks handles } }
 
 -- each copy under way is given up
 abbrev pub all_copies_given_up : Logged → Logged
@@ -91,13 +87,13 @@ swapped_in l handle None = l
 swapped_in l handle (Some c) = record l { table = swap l.table c.file c.index c.source handle; copies = table.remove l.copies handle }
 
 -- a chunk of a file item, with one owner more
-abbrev pub owned_row : ChunkTable → ℕ → Option ChunkRow → ChunkTable
-owned_row t handle None = with_row t handle (record new_row { references = 1 })
-owned_row t handle (Some row) = with_row t handle (record row { references = row.references + 1 })
+abbrev pub owned_row : Option ChunkRow → ChunkRow
+owned_row None = record new_row { references = 1 }
+owned_row (Some row) = with_owner row
 
-abbrev pub with_owned : ChunkTable → List ℕ → ChunkTable
-with_owned t [] = t
-with_owned t (handle ∷ rest) = with_owned (owned_row t handle (chunk_of t handle)) rest
+abbrev pub with_owned : Table ChunkRow → List ℕ → Table ChunkRow
+with_owned rows [] = rows
+with_owned rows (handle ∷ rest) = with_owned (table.insert rows handle (owned_row (table.get rows handle))) rest
 
 -- the state after a record or an item
 abbrev pub after_record : Logged → Record → Logged
@@ -126,8 +122,10 @@ after_record l (log.CopyStart file index handle copy copy_version) =
 after_record l (log.Counters next_file next_handle epoch) = record l { next_file = next_file.0; next_handle = next_handle.0; epoch = epoch }
 after_record l (log.DirItem path) = record l { names = table.insert l.names path Dir }
 after_record l (log.FileItem path file handles) =
-    let owned : ChunkTable = with_owned l.table handles in
-    record l { names = table.insert l.names path (File file.0); table = record owned { files = table.insert owned.files file.0 handles } }
+    record l {
+      names = table.insert l.names path (File file.0);
+      table = record { files = table.insert l.table.files file.0 handles; chunks = with_owned l.table.chunks handles };
+    }
 after_record l (log.ChunkItem handle granted issued primary members) =
     record l { table = change_row l.table handle.0 (λ row. record row { granted = granted.0; issued = issued.0; primary = primary.0; members = members }) }
 after_record l (log.ClientItem client n refusal) = with_answer l client.0 n refusal

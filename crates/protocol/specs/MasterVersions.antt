@@ -146,9 +146,13 @@ wants_own d a handle row =
     if nat_lt 1 row.references then begins_copy d a handle row
     else (if is_copied d.master.logged handle then tells_to_wait d a else issues_own d a handle row (is_attempted d.master handle))
 
+abbrev pub wants_own_of : MasterDoing → Asker → ℕ → Option ChunkRow → MasterDoing
+wants_own_of d a handle None = d
+wants_own_of d a handle (Some row) = wants_own d a handle row
+
 -- A copy whose number was given up: the next number goes to those that recorded it. Where none did, the copy is given up.
 abbrev pub issues_copy : MasterDoing → Asker → ℕ → ChunkRow → ℕ → ChunkRow → List HeldAt → MasterDoing
-issues_copy d a handle row copy copy_row [] = wants_own (gives_up_copy d copy) a handle row
+issues_copy d a handle row copy copy_row [] = let given_up : MasterDoing = gives_up_copy d copy in wants_own_of given_up a handle (chunk_of given_up.master.logged.table handle)
 issues_copy d a handle row copy copy_row holders = issues_to d a handle row copy copy_row (map holder_target holders)
 
 abbrev pub wants_copy : MasterDoing → Asker → ℕ → ChunkRow → ℕ → Option ChunkRow → MasterDoing
