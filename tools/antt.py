@@ -243,7 +243,7 @@ class Parser:
         elif token == 'record':
             atom = self.record()
         elif re.match(r'^[A-Za-z_]', token):
-            atom = ('name', token)
+            atom = ('name', tuple(token.split('.')))
         else:
             raise SyntaxError(f'{token} begins no term')
         while self.place < len(self.tokens) and self.is_field():
@@ -530,8 +530,7 @@ def record_value(program, module, term, names):
     return fields
 
 
-def named_value(program, module, name, names):
-    parts = name.split('.')
+def named_value(program, module, parts, names):
     if parts[0] in names:
         value = names[parts[0]]
         rest = parts[1:]

@@ -39,20 +39,25 @@ def orders_of(cell):
     return cell.world['observer']['orders'].items
 
 
-def check_replicas(cell):
+def check_replicas(cell, before):
     """Each replica on a disk is the image of a selection of its chunk's order up to its version."""
     chunk = cell.settings['chunk']
-    for server in cell.world['servers']:
+    are_orders_same = cell.world['observer']['orders'] is before['observer']['orders']
+    for server, old in zip(cell.world['servers'], before['servers']):
+        if are_orders_same and server['disk'] is old['disk']:
+            continue
         for handle, replica in server['disk']['replicas'].items.items():
             choices = selections(orders_of(cell).get(handle, []), replica['version'])
             if choices is not None and not any(image(chosen, chunk) == replica['bytes'] for chosen in choices):
                 raise Broken(f'server {server["id"]}: the replica of chunk {handle} at version {replica["version"]} is no selection')
 
 
-def check_orders(cell):
+def check_orders(cell, before):
     """Rounds never fall, and appends and pads begin at or past each settled end and each end of their own round."""
     chunk = cell.settings['chunk']
     for handle, order in orders_of(cell).items():
+        if order is before['observer']['orders'].items.get(handle):
+            continue
         entries = [placed['entry'] for placed in order]
         for place, entry in enumerate(entries):
             for before in entries[:place]:
@@ -68,10 +73,10 @@ def without_lease_ends(logged):
     return {handle: {k: v for k, v in row.items() if k != 'lease_end'} for handle, row in logged['table']['chunks'].items.items()}
 
 
-def check_log(cell):
+def check_log(cell, before):
     """The log replayed is the logged state, but for lease ends and copies under way."""
     master = cell.world['master']
-    if not master['up']:
+    if not master['up'] or (master['logged'] is before['master']['logged'] and master['disk'] is before['master']['disk']):
         return
     kept = apply(cell.definition('Logged', 'all_copies_given_up'), master['logged'])
     replayed = apply(cell.definition('Logged', 'replayed'), master['disk'])
@@ -96,14 +101,42 @@ def check_chunks(cell):
 def check_leases(cell):
     """While clocks are kept, a lease that counts for its primary has not ended at a master that is up and has the chunk."""
     master = cell.world['master']
-    skew = cell.settings['skew_ms']
     greatest = cell.world['observer']['greatest']
     for server in cell.world['servers']:
         for handle, primary in server['leases'].items.items():
             row = master['logged']['table']['chunks'].items.get(handle)
             if master['up'] and row and greatest < primary['held']['until']:
                 if row['granted'] != primary['held']['version'] or row['lease_end'] < primary['held']['until']:
-                    raise Broken(f'chunk {handle}: a lease that may count ended at the master (skew {skew})')
+                    raise Broken(f'chunk {handle}: a lease that may count ended at the master')
+                if row['references'] > 1:
+                    raise Broken(f'chunk {handle}: shared, and a lease of it may count')
+
+
+def check_lapsed(cell, before, used):
+    """A lease that no longer counts for its primary never counts again, nor is one extended that ended at the master."""
+    for server in cell.world['servers']:
+        for handle, primary in server['leases'].items.items():
+            lease = (server['id'], handle, primary['held']['version'])
+            if server['now'] + cell.settings['skew_ms'] >= primary['held']['until']:
+                used.setdefault('lapsed', set()).add(lease)
+            elif lease in used.get('lapsed', ()):
+                raise Broken(f'chunk {handle}: a lease that lapsed counts again at server {server["id"]}')
+    old, new = before['master'], cell.world['master']
+    if not (old['up'] and new['up'] and old['logged']['epoch'] == new['logged']['epoch']):
+        return
+    for handle, row in new['logged']['table']['chunks'].items.items():
+        was = old['logged']['table']['chunks'].items.get(handle)
+        if was and was['granted'] == row['granted'] and was['lease_end'] < row['lease_end'] and was['lease_end'] <= new['now']:
+            raise Broken(f'chunk {handle}: a lease that ended at the master is extended')
+
+
+def check_serials(cell, before):
+    """The last serial of a replica never falls under one version."""
+    for server, old in zip(cell.world['servers'], before['servers']):
+        for handle, replica in server['disk']['replicas'].items.items():
+            was = old['disk']['replicas'].items.get(handle)
+            if was and was['version'] == replica['version'] and replica['serial'] < was['serial']:
+                raise Broken(f'server {server["id"]}: the last serial of chunk {handle} falls')
 
 
 ORDERS = ('Create', 'SetVersion', 'Grant', 'Revoke', 'Drop', 'Clone', 'CopyLocal')
@@ -184,12 +217,14 @@ def check_part(order, round_, part, begin, end, chunk):
 
 def check_all(cell, before, used):
     """All facts that need no answer."""
-    check_replicas(cell)
-    check_orders(cell)
-    check_log(cell)
+    check_replicas(cell, before)
+    check_orders(cell, before)
+    check_log(cell, before)
     check_chunks(cell)
     check_messages(cell, used)
     check_new_entries(cell, before)
     check_leases(cell)
+    check_lapsed(cell, before, used)
+    check_serials(cell, before)
     if not cell.world['observer']['are_clocks_kept']:
         raise Broken('clocks were not kept')
