@@ -1,0 +1,6 @@
+pub mod Steps
+pub mod MasterMoves
+pub mod MasterNamesMoves
+pub mod MasterChunksMoves
+pub mod MasterSteps
+pub mod ServerMoves
