@@ -60,11 +60,11 @@ def check_orders(cell, before):
             continue
         entries = [placed['entry'] for placed in order]
         for place, entry in enumerate(entries):
-            for before in entries[:place]:
-                if entry['round'] < before['round']:
+            for earlier in entries[:place]:
+                if entry['round'] < earlier['round']:
                     raise Broken(f'chunk {handle}: a round falls')
-                if entry['mutation'][0] != 'Write' and (before['settled'] or before['round'] == entry['round']):
-                    offset, content = covered(before['mutation'], chunk)
+                if entry['mutation'][0] != 'Write' and (earlier['settled'] or earlier['round'] == entry['round']):
+                    offset, content = covered(earlier['mutation'], chunk)
                     if offset + len(content) > entry['mutation'][1]:
                         raise Broken(f'chunk {handle}: an append begins below an end')
 

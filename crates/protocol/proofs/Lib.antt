@@ -4,3 +4,4 @@ pub mod MasterNamesMoves
 pub mod MasterChunksMoves
 pub mod MasterSteps
 pub mod ServerMoves
+pub mod RisingOrders

@@ -1,0 +1,8 @@
+//! Laws of every lawful list of events from a new cell: calls, deliveries, losses, repeats, ticks, restarts, stops in a step, refused memory and rot.
+
+ghost use Rattle.protocol.specs.Laws.{OrderNumbersNeverFall};
+
+/// The number of the last order that a server took never falls, over restarts and stops too.
+pub fn order_numbers_never_fall()
+    ensures { OrderNumbersNeverFall }
+{}
