@@ -5,3 +5,6 @@ pub mod MasterChunksMoves
 pub mod MasterSteps
 pub mod ServerMoves
 pub mod RisingOrders
+pub mod ClientMoves
+pub mod OrderNumbers
+pub mod OrdersOnce

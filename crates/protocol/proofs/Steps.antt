@@ -37,6 +37,10 @@ pub removed_cases : {X : Type 0} (t : Table X) (ns : List ℕ) (q : ℕ) (x : X)
 removed_cases t [] q x h = h
 removed_cases t (n ∷ ns) q x h = kept_cases t n q x (removed_cases (table.remove t n) ns q x h)
 
+-- 1 for true, else 0
+abbrev pub tally : Bool → ℕ
+tally b = cond b 1 0
+
 pub count-cons : {X : Type 0} (f : X → Bool) (x : X) (xs : List X) → count_by f (x ∷ xs) ≡ cond (f x) 1 0 + count_by f xs
 count-cons f x xs = let h = sum_by-append (λ y. cond (f y) 1 0) (x ∷ []) xs in omega (arith, h)
 

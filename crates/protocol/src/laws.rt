@@ -1,6 +1,11 @@
 //! Laws of every lawful list of events from a new cell: calls, deliveries, losses, repeats, ticks, restarts, stops in a step, refused memory and rot.
 
-ghost use Rattle.protocol.specs.Laws.{OrderNumbersNeverFall};
+ghost use Rattle.protocol.specs.Laws.{OrderNumbersNeverFall, OrdersAreNumberedOnce};
+
+/// No two orders of the master have one number, over its restarts and stops too.
+pub fn orders_are_numbered_once()
+    ensures { OrdersAreNumberedOnce }
+{}
 
 /// The number of the last order that a server took never falls, over restarts and stops too.
 pub fn order_numbers_never_fall()
