@@ -8,3 +8,6 @@ pub mod RisingOrders
 pub mod ClientMoves
 pub mod OrderNumbers
 pub mod OrdersOnce
+pub mod MasterReached
+pub mod ChunkRows
+pub mod GrantedIssued

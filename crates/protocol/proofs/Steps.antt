@@ -25,6 +25,14 @@ put_cases {X} t k v q x h = split (q == k) refl (sym (table.get-insert nat_cmp_t
     split true e g = inl (eqb-true q k e, cc)
     split false e g = inr g
 
+-- what stands in a table after one number was put in
+pub put_split : {X : Type 0} (t : Table X) (k : ℕ) (v : X) (q : ℕ) (x : X) → table.get (table.insert t k v) q ≡ Some x → ((q ≡ k) × (v ≡ x)) ⊎ ((q ≢ k) × (table.get t q ≡ Some x))
+put_split {X} t k v q x h = split (q == k) refl (sym (table.get-insert nat_cmp_total t k v q ∙ ap (λ b. cond b (Some v) (table.get t q)) (unsigned_tied q k)) ∙ h)
+  where
+    split : (b : Bool) → (q == k) ≡ b → cond b (Some v) (table.get t q) ≡ Some x → ((q ≡ k) × (v ≡ x)) ⊎ ((q ≢ k) × (table.get t q ≡ Some x))
+    split true e g = inl (eqb-true q k e, cc)
+    split false e g = inr (eqb-false q k e, g)
+
 pub kept_cases : {X : Type 0} (t : Table X) (k q : ℕ) (x : X) → table.get (table.remove t k) q ≡ Some x → table.get t q ≡ Some x
 kept_cases {X} t k q x h = split (q == k) refl (sym (table.get-remove nat_cmp_total t k q ∙ ap (λ b. cond b None (table.get t q)) (unsigned_tied q k)) ∙ h)
   where
