@@ -1,0 +1,167 @@
+-- What holds in every run of the relaxed-file machine (sections 2.7 and 3).
+use Rattle.std.specs.Prelude.{◌≡◌, ℕ, ◌+◌, ◌*◌, ◌<◌, ◌≤◌, ◌⊎◌, List, [], ◌∷◌, ◌++◌, length, Option, Some, None, IsTrue, IsSomeAnd, Contains, slice_get}
+use Rattle.std.specs.List.{AllByRecursion}
+use Rattle.gfs_types.specs.declared.call.Call.{Call}
+use Rattle.gfs_types.specs.declared.call.Call.TheVariants as call
+use Rattle.gfs_types.specs.declared.answer.Answer.{Answer}
+use Rattle.gfs_types.specs.declared.answer.Answer.TheVariants as answer
+use Rattle.gfs_types.specs.declared.ids.Fd.{Fd}
+use Rattle.gfs_types.specs.declared.mutation.Mutation.{Mutation}
+use Rattle.gfs_types.specs.declared.mutation.Mutation.TheVariants.{Write, Append, Pad}
+use Rattle.gfs_types.specs.declared.config.Config.{Config}
+use Rattle.gfs_types.specs.Mutations.{start_of, end_of, is_placed_by_system, byte_of}
+use Rattle.gfs_types.specs.Image.{byte_at}
+use Rattle.relaxed_file.specs.Names.{IsTree}
+use Rattle.relaxed_file.specs.Order.{Entry, AreRoundsRising, IsSelection, last_cover, mutations_of}
+use Rattle.relaxed_file.specs.Sources.{sources_of}
+use Rattle.relaxed_file.specs.Parts.{has_part, part_start, part_bytes}
+use Rattle.relaxed_file.specs.Machine.{Machine, new_machine, Asked, OpenCall, IsOpen, chunk_at}
+use Rattle.relaxed_file.specs.Reads.{IsLook}
+use Rattle.relaxed_file.specs.Answers.{IsSuccess, MayReturn}
+use Rattle.relaxed_file.specs.Run.{Action, Return, Add, OpenRound, CloseRound, Place, Settle, Look, asked_file, Visible, visible, Allows, after, after_all, IsLawful, IsRunTo, LeadsTo, IsReached}
+
+-- A run goes on by an action that its machine allows.
+abbrev pub RunsGoOn : Type 0
+RunsGoOn =
+    (config : Config) (trace : List Visible) (m : Machine) (action : Action)
+    → IsRunTo config trace m → Allows m action → IsRunTo config (trace ++ visible (action ∷ [])) (after m action)
+
+-- In every run, each name stands in a directory (section 4.1).
+abbrev pub NamesStayATree : Type 0
+NamesStayATree = (config : Config) (m : Machine) → IsReached config m → IsTree m.names
+
+-- In every run, the rounds of each chunk's order never fall (section 3.1).
+abbrev pub RoundsNeverFall : Type 0
+RoundsNeverFall = (config : Config) (m : Machine) → IsReached config m → (file index : ℕ) → AreRoundsRising 0 (chunk_at m file index).order
+
+-- each append or pad lies past each settled mutation that stands before it
+abbrev pub LiePastSettled : ℕ → List Entry → Type 0
+LiePastSettled size [] = Unit {0}
+LiePastSettled size (e ∷ rest) =
+    (IsTrue e.settled → AllByRecursion (λ f. IsTrue (is_placed_by_system f.mutation) → end_of size e.mutation ≤ start_of f.mutation) rest)
+    × LiePastSettled size rest
+
+-- In every run no record that was appended shares a place with a mutation that succeeded before it (section 3.3).
+abbrev pub AppendsLieApart : Type 0
+AppendsLieApart = (config : Config) (m : Machine) → IsReached config m → (file index : ℕ) → LiePastSettled config.chunk (chunk_at m file index).order
+
+-- what a call asks of a chunk
+abbrev pub IsAskedOf : ℕ → ℕ → Call → Mutation → Type 0
+IsAskedOf size index (call.Write fd offset bytes) (Write at content) = (at ≡ part_start size offset index) × (content ≡ part_bytes size offset bytes index)
+IsAskedOf size index (call.Append fd bytes) (Append at content) = (content ≡ bytes) × (at + length bytes ≤ size)
+IsAskedOf size index (call.Append fd bytes) (Pad at) = at < size
+IsAskedOf size index other mutation = ⊥
+
+-- a call that was made asked for the entry
+abbrev pub WasAskedFor : Machine → ℕ → Entry → Type 0
+WasAskedFor m index e = (asked : Asked) × ((m.clients e.call.client).calls e.call.number ≡ Some asked) × IsAskedOf m.config.chunk index asked.call e.mutation
+
+-- In every run each mutation in an order is one that a call asked for.
+abbrev pub EntriesWereAskedFor : Type 0
+EntriesWereAskedFor = (config : Config) (m : Machine) → IsReached config m → (file index : ℕ) → AllByRecursion (WasAskedFor m index) (chunk_at m file index).order
+
+-- A settled entry stays at its place in every later state.
+abbrev pub SettledEntriesStay : Type 0
+SettledEntriesStay =
+    (config : Config) (m n : Machine) → IsReached config m → LeadsTo m n
+    → (file index place : ℕ) (e : Entry) → slice_get (chunk_at m file index).order place ≡ Some e → IsTrue e.settled
+    → slice_get (chunk_at n file index).order place ≡ Some e
+
+-- the mutation stands settled at this place of the chunk's order
+abbrev pub StandsAt : Machine → ℕ → ℕ → ℕ → Mutation → Type 0
+StandsAt m file index place mutation = IsSomeAnd (slice_get (chunk_at m file index).order place) (λ e. IsTrue e.settled × (e.mutation ≡ mutation))
+
+-- the client's open call on the file is this one, and may be answered so
+abbrev pub MayAnswer : Machine → ℕ → ℕ → Call → Answer → Type 0
+MayAnswer m client file asked reply =
+    (current : OpenCall) × IsOpen m client current × (current.asked.file ≡ Some file) × (current.asked.call ≡ asked) × MayReturn m client current reply
+
+-- A record whose append was answered an offset stands there, at one place of its chunk's order, in every later state (section 3.3).
+abbrev pub AnsweredAppendsStay : Type 0
+AnsweredAppendsStay =
+    (config : Config) (m : Machine) (client file : ℕ) (fd : Fd) (bytes : List ℕ) (x : ℕ)
+    → IsReached config m → MayAnswer m client file (call.Append fd bytes) (answer.At x)
+    → (index : ℕ) × (offset : ℕ) × (place : ℕ) × (x ≡ index * config.chunk + offset) × (offset + length bytes ≤ config.chunk)
+    × ((n : Machine) → LeadsTo (after m (Return client (answer.At x))) n → StandsAt n file index place (Append offset bytes))
+
+-- Each part of a write that was answered stands at one place of its chunk's order in every later state (section 3.1).
+abbrev pub AnsweredWritesStay : Type 0
+AnsweredWritesStay =
+    (config : Config) (m : Machine) (client file : ℕ) (fd : Fd) (offset : ℕ) (bytes : List ℕ) (index : ℕ)
+    → IsReached config m → MayAnswer m client file (call.Write fd offset bytes) answer.Done → IsTrue (has_part config.chunk offset (length bytes) index)
+    → (place : ℕ)
+    × ((n : Machine) → LeadsTo (after m (Return client answer.Done)) n
+    → StandsAt n file index place (Write (part_start config.chunk offset index) (part_bytes config.chunk offset bytes index)))
+
+-- Two records whose appends to one file were answered share no place of it, so that their offsets differ where both have a byte (section 3.3).
+abbrev pub AnsweredOffsetsDiffer : Type 0
+AnsweredOffsetsDiffer =
+    (config : Config) (m n : Machine) (client other file : ℕ) (fd fe : Fd) (one two : List ℕ) (x y : ℕ)
+    → IsReached config m → MayAnswer m client file (call.Append fd one) (answer.At x)
+    → LeadsTo (after m (Return client (answer.At x))) n → MayAnswer n other file (call.Append fe two) (answer.At y)
+    → (x + length one ≤ y) ⊎ (y + length two ≤ x)
+
+-- a settled entry of the client's open call on the file, of a round that the client knows of
+abbrev pub IsOwnSuccess : Machine → ℕ → ℕ → ℕ → Entry → Type 0
+IsOwnSuccess m client file index e =
+    (current : OpenCall) × IsOpen m client current × Contains (chunk_at m file index).order e
+    × (noted : ℕ) × ((m.clients client).notes file index ≡ Some noted) × IsSuccess (record { client = client; number = current.number }) noted e
+
+-- Once its call is answered, no later look of the same client leaves out its own success (section 2.7.1).
+abbrev pub OwnSuccessesAreRead : Type 0
+OwnSuccessesAreRead =
+    (config : Config) (m n : Machine) (client file index : ℕ) (e : Entry) (reply : Answer) (least last : ℕ) (chosen : List Entry)
+    → IsReached config m → IsOwnSuccess m client file index e → Allows m (Return client reply)
+    → LeadsTo (after m (Return client reply)) n → IsLook n client file index least last chosen → Contains chosen e
+
+-- a call on one of these files asked for the entry
+abbrev pub WasPutBy : Machine → List ℕ → ℕ → Entry → Type 0
+WasPutBy m sources index e =
+    (asked : Asked) × ((m.clients e.call.client).calls e.call.number ≡ Some asked)
+    × (from : ℕ) × (asked.file ≡ Some from) × Contains sources from × IsAskedOf m.config.chunk index asked.call e.mutation
+
+-- what a selection has at a place: nothing, which reads as zero, or the byte of one of its entries, put there by a call on the file or on one that it goes back to
+abbrev pub ComesFrom : Machine → List ℕ → ℕ → List Entry → List Entry → ℕ → Type 0
+ComesFrom m sources index order chosen place =
+    ((last_cover m.config.chunk chosen place ≡ None) × (byte_at m.config.chunk (mutations_of chosen) place ≡ 0))
+    ⊎ ((e : Entry) × Contains order e × (last_cover m.config.chunk chosen place ≡ Some e) × (byte_at m.config.chunk (mutations_of chosen) place ≡ byte_of place e.mutation) × WasPutBy m sources index e)
+
+-- No look gives a byte that no mutation of the file, or of a file that it goes back to by snapshots, put there, but zeros in holes (sections 2.7.1 and 3.4).
+abbrev pub NoOtherByte : Type 0
+NoOtherByte =
+    (config : Config) (actions : List Action) (m : Machine) → IsLawful (new_machine config) actions → after_all (new_machine config) actions ≡ m
+    → (file index last : ℕ) (chosen : List Entry) → IsSelection last (chunk_at m file index).order chosen
+    → (place : ℕ) → ComesFrom m (sources_of config actions file) index (chunk_at m file index).order chosen place
+
+-- the file whose chunks an action changes
+abbrev pub file_changed_by : Machine → Action → Option ℕ
+file_changed_by m (Add id) = asked_file m id
+file_changed_by m (OpenRound file index round) = Some file
+file_changed_by m (CloseRound file index) = Some file
+file_changed_by m (Place client file index mutation) = Some file
+file_changed_by m (Settle file index place) = Some file
+file_changed_by m other = None
+
+-- none of the actions changes the file's chunks
+abbrev pub NoneChanges : ℕ → Machine → List Action → Type 0
+NoneChanges file m [] = Unit {0}
+NoneChanges file m (action ∷ rest) = (file_changed_by m action ≡ Some file → ⊥) × NoneChanges file (after m action) rest
+
+-- A file's chunks stay as they are while nothing is done on that very file: a write to a snapshot changes no byte of the file that it was taken of, nor the other way round (section 3.4).
+abbrev pub FilesStayApart : Type 0
+FilesStayApart =
+    (config : Config) (m : Machine) (actions : List Action) (file index : ℕ)
+    → IsReached config m → IsLawful m actions → file ≤ m.file_count → NoneChanges file m actions
+    → chunk_at (after_all m actions) file index ≡ chunk_at m file index
+
+-- A mutation is placed only for a call on its own file.
+abbrev pub PlacesAreOwn : Type 0
+PlacesAreOwn =
+    (m : Machine) (client file index : ℕ) (mutation : Mutation) → Allows m (Place client file index mutation)
+    → (current : OpenCall) × IsOpen m client current × (current.asked.file ≡ Some file)
+
+-- No read leaves out a settled entry of a round up to the one that it names (section 2.7.1).
+abbrev pub ReadsSkipNothing : Type 0
+ReadsSkipNothing =
+    (m : Machine) (client file index named last : ℕ) (chosen : List Entry) (e : Entry) → Allows m (Look client file index named last chosen)
+    → Contains (chunk_at m file index).order e → IsTrue e.settled → e.round ≤ named → Contains chosen e

@@ -1,0 +1,8 @@
+//! The relaxed-file machine: what the clients of a Google File System cell may be answered. The definitions stand in
+//! `specs/`, and the functions here state laws about them and worked traces.
+#![tactic(auto)]
+
+pub mod laws;
+pub mod not_runs;
+pub mod region;
+pub mod traces;
