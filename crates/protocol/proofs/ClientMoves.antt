@@ -1,0 +1,295 @@
+-- A step of a client sends no order of the master.
+use Rattle.std.proofs.Common.{◌≡◌, ℕ, suc, ◌+◌, ◌*◌, Bool, true, false, cond, List, [], ◌∷◌, ◌++◌, length, Option, Some, None, refl, sym, ◌∙◌, arith}
+use Rattle.std.specs.Prelude.{nat_le, nat_lt, ◌==◌, ◌&&◌, ◌||◌, not, ◌/◌, is_some}
+use Rattle.std.specs.Option.{option_to_list}
+use Rattle.std.specs.FinMap as table
+use Rattle.gfs_types.specs.declared.ids.Fd.{Fd}
+use Rattle.gfs_types.specs.declared.ids.Node.{Node}
+use Rattle.gfs_types.specs.declared.ids.Node.TheVariants.{Master}
+use Rattle.gfs_types.specs.declared.ids.DataId.{DataId}
+use Rattle.gfs_types.specs.declared.ids.OrderNo.{OrderNo}
+use Rattle.gfs_types.specs.declared.call.Call.{Call}
+use Rattle.gfs_types.specs.declared.call.Call.TheVariants as call
+use Rattle.gfs_types.specs.declared.answer.Answer.{Answer}
+use Rattle.gfs_types.specs.declared.answer.Answer.TheVariants as answer
+use Rattle.gfs_types.specs.declared.refusal.Refusal.{Refusal}
+use Rattle.gfs_types.specs.declared.refusal.Refusal.TheVariants.{TooLong, Unknown, Collected, NoChunk, NoLease, ChunkFull}
+use Rattle.gfs_types.specs.declared.message.NameReply.{NameReply}
+use Rattle.gfs_types.specs.declared.message.NameReply.TheVariants.{Opened, Answered}
+use Rattle.gfs_types.specs.declared.message.Body.{Body}
+use Rattle.gfs_types.specs.declared.message.Body.TheVariants as body
+use Rattle.gfs_types.specs.declared.message.Message.{Message}
+use Rattle.gfs_types.specs.declared.message.Location.{Location}
+use Rattle.gfs_types.specs.declared.message.Holder.{Holder}
+use Rattle.gfs_types.specs.declared.message.Group.{Group}
+use Rattle.gfs_types.specs.declared.event.Input.{Input}
+use Rattle.gfs_types.specs.declared.event.Input.TheVariants as input
+use Rattle.relaxed_file.specs.NameStep.{is_look, is_name_call}
+use Rattle.relaxed_file.specs.Parts.{is_range_too_long}
+use Rattle.protocol.specs.Tables.{is_empty_list}
+use Rattle.protocol.specs.Sending.{message, the_client, the_server, file_id, moment_of, data_id}
+use Rattle.protocol.specs.PushBuffer.{next_hop, hops_after}
+use Rattle.protocol.specs.Client.{file_chunk, ClientState, ClientDoing, CurrentCall, LiveAttempt, Cached, Stage, AskedNames, AskedWhere, MustAskAgain, SentData, SentMutate, SentRead, IsOver, HasAnswer, client_begins, sends, with_current, answers, next_number, counted}
+use Rattle.protocol.specs.ClientCache.{cached, cache_after_look, with_cached}
+use Rattle.protocol.specs.ClientAttempts.{is_mutation, is_length, is_append, bytes_to_send, target_of, read_start, read_count, wanted_by, has_next_part, live_at, answers_if, completes, last_refusal, gives_up, ends_refused, asks, sends_read, reads_next, pushes_to, pushes, goes_on_at, will_do, begins_with, begins_at, chunk_to_find, attempts, attempts_names, begins_next_part, forgets}
+use Rattle.protocol.specs.ClientTakes.{opens, takes_reply, takes_named, takes_wait, gets, told_none, told_location, told, takes_told, is_own_data, mutate_to, takes_pushed, less_live, succeeds, takes_done, takes_bytes, takes_len_is, master_refuses, stays_live, looks_past, primary_refuses, takes_refused, client_takes}
+use Rattle.protocol.specs.ClientStep.{new_call, calls_names, calls_file, calls_on, fd_of, calls, ticks_names, ends_unanswered, ticks_unanswered, ticks_at, takes_at, client_does, client_at, client_goes, client_call_goes}
+use Rattle.protocol.specs.Laws.{order_number, orders_under, is_number}
+use Rattle.protocol.proofs.Steps.{on_cond, tally, count-append}
+
+-- no order under any number
+abbrev pub HasNoOrder : List Message → Type 0
+HasNoOrder sent = (epoch count : ℕ) → orders_under epoch count sent ≡ 0
+
+not_counted : (epoch count : ℕ) (o : Option OrderNo) → o ≡ None → tally (is_number epoch count o) ≡ 0
+not_counted epoch count None e = refl
+not_counted epoch count (Some order) e = absurd (cc)
+
+pub one_more : (sent : List Message) (sender receiver : Node) (b : Body) → order_number b ≡ None → (epoch count : ℕ)
+    → orders_under epoch count (sent ++ message sender receiver b ∷ []) ≡ orders_under epoch count sent
+one_more sent sender receiver b none epoch count =
+    let whole = count-append (λ (m : Message). is_number epoch count (order_number m.body)) sent (message sender receiver b ∷ []) in
+    let last = not_counted epoch count (order_number b) none in
+    omega (arith, whole, last)
+
+abbrev Quiet : ClientDoing → Type 0
+Quiet d = HasNoOrder d.sent
+
+sends_quiet : (d : ClientDoing) (receiver : Node) (b : Body) → order_number b ≡ None → Quiet d → Quiet (sends d receiver b)
+sends_quiet d receiver b none h epoch count = one_more d.sent (the_client d.client.id) receiver b none epoch count ∙ h epoch count
+
+-- attempts
+
+answers_if_quiet : (b : Bool) (d : ClientDoing) (c : CurrentCall) (reply : Answer) → Quiet d → Quiet (answers_if b d c reply)
+answers_if_quiet false d c reply h = h
+answers_if_quiet true d c reply h = h
+
+completes_quiet : (d : ClientDoing) (c : CurrentCall) (reply : Answer) → Quiet d → Quiet (completes d c reply)
+completes_quiet d c reply h =
+    let live : List LiveAttempt = live_at d.client.now c.live in
+    answers_if_quiet (nat_le (length live) 0 || not (is_mutation c.asked)) d (record c { stage = HasAnswer reply; live = live }) reply h
+
+gives_up_quiet : (d : ClientDoing) (c : CurrentCall) → Quiet d → Quiet (gives_up d c)
+gives_up_quiet d c h = completes_quiet d c (answer.Refused (last_refusal c)) h
+
+refused_quiet : (d : ClientDoing) (c : CurrentCall) → Quiet d → Quiet (ends_refused d c)
+refused_quiet d c h =
+    on_cond Quiet (nat_le d.client.config.attempts c.used) (gives_up d (record c { stage = IsOver })) _ (λ _. gives_up_quiet d (record c { stage = IsOver }) h) (λ _. h)
+
+asks_quiet : (d : ClientDoing) (c : CurrentCall) → Quiet d → Quiet (asks d c)
+asks_quiet d c h = sends_quiet (counted d) Master (body.Ask (next_number d) (file_id c.file) (wanted_by c.index c.asked) (moment_of c.deadline) c.lost_lease) refl h
+
+read_quiet : (d : ClientDoing) (c : CurrentCall) (l : Location) (s : Holder) (number : ℕ) → Quiet d → Quiet (sends_read d c l s number)
+read_quiet d c l s number h =
+    on_cond Quiet (is_length c.asked) (sends d (the_server s.server.0) (body.Len number l.handle s.version)) _
+    (λ _. sends_quiet d (the_server s.server.0) (body.Len number l.handle s.version) refl h)
+    (λ _. sends_quiet d (the_server s.server.0)
+      (body.Read number l.handle s.version (read_start (file_chunk d.client c.file) c.index c.asked) (read_count (file_chunk d.client c.file) c.index c.asked)) refl h)
+
+reads_quiet : (d : ClientDoing) (c : CurrentCall) (l : Location) (left : List Holder) → Quiet d → Quiet (reads_next d c l left)
+reads_quiet d c l [] h = refused_quiet d (record c { is_nobody_serving = true }) h
+reads_quiet d c l (s ∷ rest) h = read_quiet (counted d) c l s (next_number d) h
+
+pushes_to_quiet : (d : ClientDoing) (c : CurrentCall) (l : Location) (members : List ℕ) (o : Option ℕ) → Quiet d → Quiet (pushes_to d c l members o)
+pushes_to_quiet d c l members None h = h
+pushes_to_quiet d c l members (Some first) h =
+    sends_quiet (counted d) (the_server first)
+    (body.Push (data_id d.client.id (next_number d)) (bytes_to_send (file_chunk d.client c.file) c.index c.asked) (hops_after members first)) refl h
+
+pushes_quiet : (d : ClientDoing) (c : CurrentCall) (l : Location) (o : Option Group) → Quiet d → Quiet (pushes d c l o)
+pushes_quiet d c l None h = h
+pushes_quiet d c l (Some g) h = pushes_to_quiet d c l g.members (next_hop g.members 0) h
+
+goes_on_quiet : (d : ClientDoing) (c : CurrentCall) (l : Location) → Quiet d → Quiet (goes_on_at d c l)
+goes_on_quiet d c l h = on_cond Quiet (is_mutation c.asked) (pushes d c l l.group) (reads_next d c l l.holders) (λ _. pushes_quiet d c l l.group h) (λ _. reads_quiet d c l l.holders h)
+
+begins_with_quiet : (d : ClientDoing) (c : CurrentCall) (o : Option Cached) → Quiet d → Quiet (begins_with d c o)
+begins_with_quiet d c None h = asks_quiet d c h
+begins_with_quiet d c (Some e) h = on_cond Quiet (will_do c (Some e)) (goes_on_at d c e.location) (asks d c) (λ _. goes_on_quiet d c e.location h) (λ _. asks_quiet d c h)
+
+begins_at_quiet : (d : ClientDoing) (c : CurrentCall) (o : Option ℕ) → Quiet d → Quiet (begins_at d c o)
+begins_at_quiet d c None h = asks_quiet d c h
+begins_at_quiet d c (Some index) h =
+    begins_with_quiet (record d { client = record d.client { cache = cache_after_look d.client c.file index } }) c (cached d.client c.file index) h
+
+attempts_quiet : (d : ClientDoing) (c : CurrentCall) → Quiet d → Quiet (attempts d c)
+attempts_quiet d c h =
+    begins_at_quiet d (record c { used = suc c.used; deadline = d.client.now + d.client.config.attempt_ms; is_nobody_serving = false; last_chunk = None; stage = IsOver })
+    (chunk_to_find c c.asked) h
+
+names_quiet : (d : ClientDoing) (c : CurrentCall) → Quiet d → Quiet (attempts_names d c)
+names_quiet d c h =
+    let deadline : ℕ = d.client.now + d.client.config.attempt_ms in
+    on_cond (λ (b : Body). Quiet (sends d Master b)) (is_look c.asked) (body.Look c.number c.asked) (body.Name c.number (moment_of deadline) c.asked)
+    (λ _. sends_quiet d Master (body.Look c.number c.asked) refl h)
+    (λ _. sends_quiet d Master (body.Name c.number (moment_of deadline) c.asked) refl h)
+
+next_quiet : (d : ClientDoing) (c : CurrentCall) → Quiet d → Quiet (begins_next_part d c)
+next_quiet d c h = attempts_quiet d (record c { index = suc c.index; used = 0; lost_lease = false }) h
+
+-- messages
+
+reply_quiet : (d : ClientDoing) (r : NameReply) → Quiet d → Quiet (takes_reply d r)
+reply_quiet d (Opened file) h = h
+reply_quiet d (Answered reply) h = h
+
+named_quiet : (d : ClientDoing) (c : CurrentCall) (s : Stage) (number : ℕ) (r : NameReply) → Quiet d → Quiet (takes_named d c s number r)
+named_quiet d c AskedNames number r h = on_cond Quiet (c.number == number) (takes_reply d r) d (λ _. reply_quiet d r h) (λ _. h)
+named_quiet d c other number r h = h
+
+wait_quiet : (d : ClientDoing) (c : CurrentCall) (s : Stage) (number : ℕ) → Quiet d → Quiet (takes_wait d c s number)
+wait_quiet d c (AskedWhere asked) number h = on_cond Quiet (asked == number) _ d (λ _. h) (λ _. h)
+wait_quiet d c other number h = h
+
+gets_quiet : (d : ClientDoing) (c : CurrentCall) (found : List ℕ) (round : Option ℕ) → Quiet d → Quiet (gets d c found round)
+gets_quiet d c found round h =
+    let got : CurrentCall = record c { bytes = c.bytes ++ found; rounds = c.rounds ++ option_to_list round } in
+    on_cond Quiet (nat_lt (length found) (read_count (file_chunk d.client c.file) c.index c.asked) || not (has_next_part (file_chunk d.client c.file) c.index c.asked))
+    (completes d got (answer.Bytes got.bytes got.rounds)) (begins_next_part d got)
+    (λ _. completes_quiet d got (answer.Bytes got.bytes got.rounds) h) (λ _. next_quiet d got h)
+
+told_none_quiet : (d : ClientDoing) (c : CurrentCall) (asked : Call) → Quiet d → Quiet (told_none d c asked)
+told_none_quiet d c (call.Read fd offset count) h = gets_quiet d (record c { is_nobody_told = false }) [] None h
+told_none_quiet d c (call.Length fd) h = completes_quiet d c (answer.Length 0) h
+told_none_quiet d c other h = h
+
+told_location_quiet : (d : ClientDoing) (c : CurrentCall) (l : Location) → Quiet d → Quiet (told_location d c l)
+told_location_quiet d c l h =
+    let kept : ClientDoing = record d { client = record d.client { cache = with_cached d.client.config.cache_entries d.client.cache (record { file = c.file; location = l; told = d.client.now }) } } in
+    let there : CurrentCall = record c { is_nobody_told = false; is_nobody_serving = false } in
+    on_cond Quiet (is_empty_list l.holders) _ (goes_on_at kept there l) (λ _. h) (λ _. goes_on_quiet kept there l h)
+
+told_quiet : (d : ClientDoing) (c : CurrentCall) (o : Option Location) → Quiet d → Quiet (told d c o)
+told_quiet d c None h = told_none_quiet d c c.asked h
+told_quiet d c (Some l) h = told_location_quiet d c l h
+
+takes_told_quiet : (d : ClientDoing) (c : CurrentCall) (s : Stage) (number : ℕ) (o : Option Location) → Quiet d → Quiet (takes_told d c s number o)
+takes_told_quiet d c (AskedWhere asked) number o h = on_cond Quiet (asked == number) (told d c o) d (λ _. told_quiet d c o h) (λ _. h)
+takes_told_quiet d c other number o h = h
+
+mutate_quiet : (d : ClientDoing) (c : CurrentCall) (l : Location) (number : ℕ) (id : DataId) (o : Option Group) → Quiet d → Quiet (mutate_to d c l number id o)
+mutate_quiet d c l number id None h = h
+mutate_quiet d c l number id (Some g) h =
+    sends_quiet d (the_server g.primary.0) (body.Mutate id l.handle l.round (target_of (file_chunk d.client c.file) c.index c.asked) (moment_of c.deadline)) refl h
+
+pushed_quiet : (d : ClientDoing) (c : CurrentCall) (s : Stage) (id : DataId) → Quiet d → Quiet (takes_pushed d c s id)
+pushed_quiet d c (SentData l number) id h = on_cond Quiet (is_own_data d id number) (mutate_to d c l number id l.group) d (λ _. mutate_quiet d c l number id l.group h) (λ _. h)
+pushed_quiet d c other id h = h
+
+succeeds_quiet : (d : ClientDoing) (c : CurrentCall) (l : Location) (place : ℕ) → Quiet d → Quiet (succeeds d c l place)
+succeeds_quiet d c l place h =
+    let last : ClientDoing = record d { client = record d.client { last_appends = table.insert d.client.last_appends c.file l.index } } in
+    on_cond Quiet (is_append c.asked) (completes last c (answer.At (l.index * file_chunk d.client c.file + place))) _
+    (λ _. completes_quiet last c (answer.At (l.index * file_chunk d.client c.file + place)) h)
+    (λ _. on_cond Quiet (has_next_part (file_chunk d.client c.file) c.index c.asked) (begins_next_part d c) (completes d c answer.Done) (λ _. next_quiet d c h) (λ _. completes_quiet d c answer.Done h))
+
+done_quiet : (d : ClientDoing) (c : CurrentCall) (s : Stage) (id : DataId) (place : ℕ) → Quiet d → Quiet (takes_done d c s id place)
+done_quiet d c (SentMutate l number) id place h = on_cond Quiet (is_own_data d id number) (succeeds d (less_live c l) l place) d (λ _. succeeds_quiet d (less_live c l) l place h) (λ _. h)
+done_quiet d c other id place h = h
+
+bytes_quiet : (d : ClientDoing) (c : CurrentCall) (s : Stage) (number : ℕ) (bytes : List ℕ) → Quiet d → Quiet (takes_bytes d c s number bytes)
+bytes_quiet d c (SentRead l left asked) number bytes h =
+    on_cond Quiet ((asked == number) && not (is_length c.asked)) (gets d c bytes (Some l.round.0)) d (λ _. gets_quiet d c bytes (Some l.round.0) h) (λ _. h)
+bytes_quiet d c other number bytes h = h
+
+len_quiet : (d : ClientDoing) (c : CurrentCall) (s : Stage) (number count : ℕ) → Quiet d → Quiet (takes_len_is d c s number count)
+len_quiet d c (SentRead l left asked) number count h =
+    on_cond Quiet ((asked == number) && is_length c.asked) (completes d c (answer.Length (l.index * file_chunk d.client c.file + count))) d
+    (λ _. completes_quiet d c (answer.Length (l.index * file_chunk d.client c.file + count)) h) (λ _. h)
+len_quiet d c other number count h = h
+
+master_refuses_quiet : (d : ClientDoing) (c : CurrentCall) (r : Refusal) → Quiet d → Quiet (master_refuses d c r)
+master_refuses_quiet d c TooLong h = completes_quiet d c (answer.Refused TooLong) h
+master_refuses_quiet d c Collected h = completes_quiet d c (answer.Refused Collected) h
+master_refuses_quiet d c other h = h
+
+primary_refuses_quiet : (d : ClientDoing) (c : CurrentCall) (l : Location) (r : Refusal) → Quiet d → Quiet (primary_refuses d c l r)
+primary_refuses_quiet d c l NoChunk h = refused_quiet d (stays_live d c l) h
+primary_refuses_quiet d c l NoLease h = refused_quiet d (stays_live d c l) h
+primary_refuses_quiet d c l ChunkFull h = refused_quiet d (looks_past (less_live c l) l) h
+primary_refuses_quiet d c l other h = refused_quiet d (less_live c l) h
+
+takes_refused_quiet : (d : ClientDoing) (c : CurrentCall) (s : Stage) (number : ℕ) (r : Refusal) → Quiet d → Quiet (takes_refused d c s number r)
+takes_refused_quiet d c (AskedWhere asked) number r h = on_cond Quiet (asked == number) (master_refuses d c r) d (λ _. master_refuses_quiet d c r h) (λ _. h)
+takes_refused_quiet d c (SentMutate l asked) number r h = on_cond Quiet (asked == number) (primary_refuses (forgets d c l) c l r) d (λ _. primary_refuses_quiet (forgets d c l) c l r h) (λ _. h)
+takes_refused_quiet d c (SentRead l left asked) number r h = on_cond Quiet (asked == number) (reads_next (forgets d c l) c l left) d (λ _. reads_quiet (forgets d c l) c l left h) (λ _. h)
+takes_refused_quiet d c other number r h = h
+
+takes_quiet : (d : ClientDoing) (c : CurrentCall) (b : Body) → Quiet d → Quiet (client_takes d c b)
+takes_quiet d c (body.Named number reply) h = named_quiet d c c.stage number reply h
+takes_quiet d c (body.Told number location) h = takes_told_quiet d c c.stage number location h
+takes_quiet d c (body.Wait number) h = wait_quiet d c c.stage number h
+takes_quiet d c (body.Refused number refusal) h = takes_refused_quiet d c c.stage number refusal h
+takes_quiet d c (body.Pushed id) h = pushed_quiet d c c.stage id h
+takes_quiet d c (body.Done id place) h = done_quiet d c c.stage id place h
+takes_quiet d c (body.Bytes number bytes) h = bytes_quiet d c c.stage number bytes h
+takes_quiet d c (body.LenIs number count) h = len_quiet d c c.stage number count h
+takes_quiet d c other h = h
+
+-- calls and ticks
+
+file_quiet : (d : ClientDoing) (c : Call) (file : ℕ) → Quiet d → Quiet (calls_file d c file)
+file_quiet d (call.Close fd) file h = h
+file_quiet d (call.Length fd) file h = attempts_quiet d (new_call 0 (call.Length fd) file 0 None) h
+file_quiet d (call.Write fd offset bytes) file h =
+    let c : CurrentCall = new_call 0 (call.Write fd offset bytes) file (offset / file_chunk d.client file) None in
+    on_cond Quiet (is_range_too_long offset (length bytes)) _ _ (λ _. h) (λ _. on_cond Quiet (length bytes == 0) _ (attempts d c) (λ _. h) (λ _. attempts_quiet d c h))
+file_quiet d (call.Append fd bytes) file h =
+    let last : ClientDoing = record d { client = record d.client { last_appends = table.remove d.client.last_appends file } } in
+    let c : CurrentCall = new_call 0 (call.Append fd bytes) file 0 (table.get d.client.last_appends file) in
+    on_cond Quiet (nat_lt (file_chunk d.client file / 4) (length bytes)) _ (attempts last c) (λ _. h) (λ _. attempts_quiet last c h)
+file_quiet d (call.Read fd offset count) file h =
+    let c : CurrentCall = new_call 0 (call.Read fd offset count) file (offset / file_chunk d.client file) None in
+    on_cond Quiet (is_range_too_long offset count) _ _ (λ _. h) (λ _. on_cond Quiet (count == 0) _ (attempts d c) (λ _. h) (λ _. attempts_quiet d c h))
+file_quiet d other file h = h
+
+calls_on_quiet : (d : ClientDoing) (c : Call) (o : Option ℕ) → Quiet d → Quiet (calls_on d c o)
+calls_on_quiet d c None h = h
+calls_on_quiet d c (Some file) h = file_quiet d c file h
+
+calls_quiet : (d : ClientDoing) (c : Call) → Quiet d → Quiet (calls d c)
+calls_quiet d c h =
+    let more : ClientDoing = record d { client = record d.client { call_count = suc d.client.call_count } } in
+    on_cond Quiet (is_name_call c) (calls_names d c) (calls_on d c (table.get d.client.descriptors (fd_of c)))
+    (λ _. names_quiet more (new_call (suc d.client.call_count) c 0 0 None) h)
+    (λ _. calls_on_quiet d c (table.get d.client.descriptors (fd_of c)) h)
+
+ticks_names_quiet : (d : ClientDoing) (c : CurrentCall) → Quiet d → Quiet (ticks_names d c)
+ticks_names_quiet d c h =
+    on_cond Quiet (nat_lt d.client.now (c.deadline + d.client.config.skew_ms)) d _ (λ _. h)
+    (λ _. on_cond Quiet (nat_le d.client.config.attempts c.used) (answers d (answer.Refused Unknown)) (attempts_names d c) (λ _. h) (λ _. names_quiet d c h))
+
+unanswered_quiet : (d : ClientDoing) (c : CurrentCall) → Quiet d → Quiet (ends_unanswered d c)
+unanswered_quiet d c h =
+    let over : CurrentCall = record c { lost_lease = false; stage = IsOver } in
+    on_cond Quiet (nat_le d.client.config.attempts c.used) (gives_up d over) (attempts d over) (λ _. gives_up_quiet d over h) (λ _. attempts_quiet d over h)
+
+ticks_unanswered_quiet : (d : ClientDoing) (c : CurrentCall) (forget : ClientDoing → ClientDoing) → Quiet d → Quiet (forget d) → Quiet (ticks_unanswered d c forget)
+ticks_unanswered_quiet d c forget h g =
+    on_cond Quiet (nat_lt d.client.now (c.deadline + d.client.config.skew_ms)) d (ends_unanswered (forget d) c) (λ _. h) (λ _. unanswered_quiet (forget d) c g)
+
+ticks_quiet : (d : ClientDoing) (c : CurrentCall) (s : Stage) → Quiet d → Quiet (ticks_at d c s)
+ticks_quiet d c AskedNames h = ticks_names_quiet d c h
+ticks_quiet d c (HasAnswer reply) h = completes_quiet d c reply h
+ticks_quiet d c IsOver h = attempts_quiet d c h
+ticks_quiet d c MustAskAgain h =
+    on_cond Quiet (nat_lt d.client.now c.deadline) (asks d c) (ticks_unanswered d c (λ e. e)) (λ _. asks_quiet d c h) (λ _. ticks_unanswered_quiet d c (λ e. e) h h)
+ticks_quiet d c (AskedWhere number) h = ticks_unanswered_quiet d c (λ e. e) h h
+ticks_quiet d c (SentData l number) h = ticks_unanswered_quiet d c (λ e. forgets e c l) h h
+ticks_quiet d c (SentMutate l number) h = ticks_unanswered_quiet d c (λ e. forgets e c l) h h
+ticks_quiet d c (SentRead l left number) h = ticks_unanswered_quiet d c (λ e. forgets e c l) h h
+
+takes_at_quiet : (d : ClientDoing) (c : CurrentCall) (m : Message) (s : Stage) → Quiet d → Quiet (takes_at d c m s)
+takes_at_quiet d c m (HasAnswer reply) h = completes_quiet d c reply h
+takes_at_quiet d c m other h = takes_quiet d c m.body h
+
+does_quiet : (d : ClientDoing) (i : Input) (o : Option CurrentCall) → Quiet d → Quiet (client_does d i o)
+does_quiet d i None h = h
+does_quiet d (input.Deliver m) (Some c) h = takes_at_quiet d c m c.stage h
+does_quiet d input.Tick (Some c) h = ticks_quiet d c c.stage h
+
+pub client_goes_quiet : (s : ClientState) (moment : ℕ) (i : Input) → HasNoOrder (client_goes s moment i).sent
+client_goes_quiet s moment i = does_quiet (client_begins (client_at s moment)) i s.current (λ epoch count. refl)
+
+pub client_call_quiet : (s : ClientState) (moment : ℕ) (c : Call) → HasNoOrder (client_call_goes s moment c).sent
+client_call_quiet s moment c = calls_quiet (client_begins (client_at s moment)) c (λ epoch count. refl)

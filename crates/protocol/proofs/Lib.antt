@@ -1,0 +1,13 @@
+pub mod Steps
+pub mod MasterMoves
+pub mod MasterNamesMoves
+pub mod MasterChunksMoves
+pub mod MasterSteps
+pub mod ServerMoves
+pub mod RisingOrders
+pub mod ClientMoves
+pub mod OrderNumbers
+pub mod OrdersOnce
+pub mod MasterReached
+pub mod ChunkRows
+pub mod GrantedIssued

@@ -1,0 +1,252 @@
+-- What an ask of a client and a word of a server lead to at the master.
+use Rattle.std.proofs.Common.{◌≡◌, ℕ, zero, suc, ◌+◌, Bool, true, false, cond, List, [], ◌∷◌, ◌++◌, length, map, Option, Some, None, refl, sym}
+use Rattle.std.specs.Prelude.{nat_le, nat_lt, ◌==◌, ◌&&◌, not}
+use Rattle.std.specs.FinMap as table
+use Rattle.gfs_types.specs.declared.ids.Node.{Node}
+use Rattle.gfs_types.specs.declared.ids.OrderNo.{OrderNo}
+use Rattle.gfs_types.specs.declared.refusal.Refusal.TheVariants.{TooLong, Collected}
+use Rattle.gfs_types.specs.declared.message.Body.{Body}
+use Rattle.gfs_types.specs.declared.message.Body.TheVariants as body
+use Rattle.gfs_types.specs.declared.message.Holder.{Holder}
+use Rattle.gfs_types.specs.declared.message.Wanted.{Wanted}
+use Rattle.gfs_types.specs.declared.message.Wanted.TheVariants as wanted
+use Rattle.gfs_types.specs.declared.message.ReplicaLine.{ReplicaLine}
+use Rattle.gfs_types.specs.declared.message.LeaseLine.{LeaseLine}
+use Rattle.gfs_types.specs.declared.record.Record.TheVariants as log
+use Rattle.protocol.specs.Tables.{element_at, rising, has_number, with_number}
+use Rattle.protocol.specs.Sending.{the_server, server_id, file_id, handle_of, version_of, moment_of}
+use Rattle.protocol.specs.ChunkTable.{ChunkRow, chunk_of, file_of, has_ended}
+use Rattle.protocol.specs.Master.{MasterState, MasterDoing, VersionAttempt, HeldAt, tells, orders, ends_at, with_attempt, without_attempt, gives_up_copy, holders_where, current_holders}
+use Rattle.protocol.specs.MasterSnapshots.{revokes, waits_for}
+use Rattle.protocol.specs.MasterVersions.{Asker, VersionTarget, holder_line, group_of, tells_location, tells_holders, tells_none, tells_to_wait, version_order, sends_versions, new_attempt, sends_issued, issues_to, targets_by, recorded_holders, issues_own, is_attempted, copy_order, sends_copies, copy_targets, sends_copy_started, copies_to, begins_copy, copy_for, is_copied, wants_own, wants_own_of, issues_copy, wants_copy, wants_by, wants_primary, holder_target, sends_grant, grants, grants_to, is_complete, with_recorded, learns_attempt, learns}
+use Rattle.protocol.specs.MasterAsks.{looks_at_row, looks_at, mutates_row, mutates_at, adds_chunk, with_index, asks_to_write, asks_to_append, asks_for_last, asks_for, asks_of, takes_ask}
+use Rattle.protocol.specs.MasterReports.{holds_now, takes_recorded, takes_cloned, revoked_row, takes_revoked, is_useless, drops_useless, learns_all, may_extend, extends_row, extends_all, hears, takes_report}
+use Rattle.protocol.specs.Laws.{order_number}
+use Rattle.protocol.specs.Seen.{CopyStarted}
+use Rattle.protocol.proofs.Steps.{on_cond}
+use Rattle.protocol.proofs.MasterMoves.{Core, core_of, IsDue, Keeps, At, logs_keeps}
+use Rattle.protocol.proofs.MasterNamesMoves.{tells_keeps, orders_keeps, copies_keeps, revokes_keeps}
+
+numbered_version : (handle version : ℕ) (base : Option ℕ) (o : OrderNo) → order_number (version_order handle version base o) ≡ Some o
+numbered_version handle version None o = refl
+numbered_version handle version (Some base) o = refl
+
+numbered_copy : (handle copy version : ℕ) (base : Option ℕ) (o : OrderNo) → order_number (copy_order handle copy version base o) ≡ Some o
+numbered_copy handle copy version None o = refl
+numbered_copy handle copy version (Some base) o = refl
+
+module _ (P : Core → Type 0) (k : Keeps P) where
+  location_keeps : (d : MasterDoing) (a : Asker) (handle : ℕ) (row : ChunkRow) (holders : List Holder) → At P k d → At P k (tells_location d a handle row holders)
+  location_keeps d a handle row holders h =
+      tells_keeps P k d a.client (body.Told a.number (Some (record { index = a.index; handle = handle_of handle; round = version_of row.granted; holders = holders; group = group_of d.master row }))) refl h
+
+  holders_keeps : (d : MasterDoing) (a : Asker) (handle : ℕ) (row : ChunkRow) → At P k d → At P k (tells_holders d a handle row)
+  holders_keeps d a handle row h = location_keeps d a handle row (map holder_line (current_holders d.master handle row)) h
+
+  none_keeps : (d : MasterDoing) (a : Asker) → At P k d → At P k (tells_none d a)
+  none_keeps d a h = tells_keeps P k d a.client (body.Told a.number None) refl h
+
+  wait_keeps : (d : MasterDoing) (a : Asker) → At P k d → At P k (tells_to_wait d a)
+  wait_keeps d a h = tells_keeps P k d a.client (body.Wait a.number) refl h
+
+  versions_keeps : (d : MasterDoing) (handle version : ℕ) (targets : List VersionTarget) → At P k d → At P k (sends_versions d handle version targets)
+  versions_keeps d handle version [] h = h
+  versions_keeps d handle version (t ∷ rest) h =
+      versions_keeps (orders d t.server (version_order handle version t.base)) handle version rest
+      (orders_keeps P k d t.server (version_order handle version t.base) (numbered_version handle version t.base) h)
+
+  issued_keeps : (a : Asker) (handle version : ℕ) (targets : List VersionTarget) (d : MasterDoing) → At P k d → At P k (sends_issued d a handle version targets)
+  issued_keeps a handle version targets d h =
+      let tried : MasterDoing = with_attempt d handle (new_attempt d.master version targets) in
+      wait_keeps (sends_versions tried handle version targets) a (versions_keeps tried handle version targets h)
+
+  issues_keeps : (d : MasterDoing) (a : Asker) (own : ℕ) (own_row : ChunkRow) (handle : ℕ) (row : ChunkRow) (targets : List VersionTarget)
+      → chunk_of d.master.logged.table handle ≡ Some row → At P k d → At P k (issues_to d a own own_row handle row targets)
+  issues_keeps d a own own_row handle row [] is h = location_keeps d a own own_row [] h
+  issues_keeps d a own own_row handle row (t ∷ rest) is h =
+      logs_keeps P k d (log.Issue (handle_of handle) (version_of (suc row.issued))) (λ e. sends_issued e a handle (suc row.issued) (t ∷ rest)) (row, is, refl)
+      (issued_keeps a handle (suc row.issued) (t ∷ rest)) h
+
+  own_keeps : (d : MasterDoing) (a : Asker) (handle : ℕ) (row : ChunkRow) (b : Bool) → chunk_of d.master.logged.table handle ≡ Some row → At P k d → At P k (issues_own d a handle row b)
+  own_keeps d a handle row true is h = wait_keeps d a h
+  own_keeps d a handle row false is h = issues_keeps d a handle row handle row (targets_by d.master handle row (recorded_holders d.master handle row)) is h
+
+  sends_copies_keeps : (d : MasterDoing) (handle copy version : ℕ) (targets : List VersionTarget) → At P k d → At P k (sends_copies d handle copy version targets)
+  sends_copies_keeps d handle copy version [] h = h
+  sends_copies_keeps d handle copy version (t ∷ rest) h =
+      sends_copies_keeps (orders d t.server (copy_order handle copy version t.base)) handle copy version rest
+      (orders_keeps P k d t.server (copy_order handle copy version t.base) (numbered_copy handle copy version t.base) h)
+
+  started_keeps : (a : Asker) (handle copy version : ℕ) (targets : List VersionTarget) (d : MasterDoing) → At P k d → At P k (sends_copy_started d a handle copy version targets)
+  started_keeps a handle copy version targets d h =
+      let seen : MasterDoing = record d { seen = d.seen ++ CopyStarted handle copy ∷ [] } in
+      let tried : MasterDoing = with_attempt seen copy (new_attempt d.master version targets) in
+      wait_keeps (sends_copies tried handle copy version targets) a (sends_copies_keeps tried handle copy version targets h)
+
+  copies_to_keeps : (d : MasterDoing) (a : Asker) (handle : ℕ) (row : ChunkRow) (targets : List VersionTarget) → At P k d → At P k (copies_to d a handle row targets)
+  copies_to_keeps d a handle row [] h = location_keeps d a handle row [] h
+  copies_to_keeps d a handle row (t ∷ rest) h =
+      let copy : ℕ = d.master.logged.next_handle in
+      logs_keeps P k d (log.CopyStart (file_id a.file) a.index (handle_of handle) (handle_of copy) (version_of (suc row.issued)))
+      (λ e. sends_copy_started e a handle copy (suc row.issued) (t ∷ rest)) refl (started_keeps a handle copy (suc row.issued) (t ∷ rest)) h
+
+  wants_own_keeps : (d : MasterDoing) (a : Asker) (handle : ℕ) (row : ChunkRow) → chunk_of d.master.logged.table handle ≡ Some row → At P k d → At P k (wants_own d a handle row)
+  wants_own_keeps d a handle row is h =
+      on_cond (At P k) (nat_lt 1 row.references) (begins_copy d a handle row) _ (λ _. copies_to_keeps d a handle row (copy_targets d.master handle row) h)
+      (λ _. on_cond (At P k) (is_copied d.master.logged handle) (tells_to_wait d a) (issues_own d a handle row (is_attempted d.master handle)) (λ _. wait_keeps d a h)
+        (λ _. own_keeps d a handle row (is_attempted d.master handle) is h))
+
+  wants_own_of_keeps : (d : MasterDoing) (a : Asker) (handle : ℕ) (o : Option ChunkRow) → chunk_of d.master.logged.table handle ≡ o → At P k d → At P k (wants_own_of d a handle o)
+  wants_own_of_keeps d a handle None is h = h
+  wants_own_of_keeps d a handle (Some row) is h = wants_own_keeps d a handle row is h
+
+  issues_copy_keeps : (d : MasterDoing) (a : Asker) (handle : ℕ) (row : ChunkRow) (copy : ℕ) (copy_row : ChunkRow) (holders : List HeldAt)
+      → chunk_of d.master.logged.table copy ≡ Some copy_row → At P k d → At P k (issues_copy d a handle row copy copy_row holders)
+  issues_copy_keeps d a handle row copy copy_row [] is h =
+      let given_up : MasterDoing = gives_up_copy d copy in
+      wants_own_of_keeps given_up a handle (chunk_of given_up.master.logged.table handle) refl (copies_keeps P k d (copy ∷ []) h)
+  issues_copy_keeps d a handle row copy copy_row (t ∷ rest) is h = issues_keeps d a handle row copy copy_row (map holder_target (t ∷ rest)) is h
+
+  wants_copy_keeps : (d : MasterDoing) (a : Asker) (handle : ℕ) (row : ChunkRow) (copy : ℕ) (o : Option ChunkRow)
+      → chunk_of d.master.logged.table handle ≡ Some row → chunk_of d.master.logged.table copy ≡ o → At P k d → At P k (wants_copy d a handle row copy o)
+  wants_copy_keeps d a handle row copy None is copy_is h = wants_own_keeps d a handle row is h
+  wants_copy_keeps d a handle row copy (Some copy_row) is copy_is h =
+      on_cond (At P k) (is_attempted d.master copy) (tells_to_wait d a) (issues_copy d a handle row copy copy_row (holders_where d.master copy (λ v. v == copy_row.issued))) (λ _. wait_keeps d a h)
+      (λ _. issues_copy_keeps d a handle row copy copy_row (holders_where d.master copy (λ v. v == copy_row.issued)) copy_is h)
+
+  wants_by_keeps : (d : MasterDoing) (a : Asker) (handle : ℕ) (row : ChunkRow) (o : Option ℕ) → chunk_of d.master.logged.table handle ≡ Some row → At P k d → At P k (wants_by d a handle row o)
+  wants_by_keeps d a handle row None is h = wants_own_keeps d a handle row is h
+  wants_by_keeps d a handle row (Some copy) is h = wants_copy_keeps d a handle row copy (chunk_of d.master.logged.table copy) is refl h
+
+  wants_primary_keeps : (d : MasterDoing) (a : Asker) (handle : ℕ) (row : ChunkRow) → chunk_of d.master.logged.table handle ≡ Some row → At P k d → At P k (wants_primary d a handle row)
+  wants_primary_keeps d a handle row is h =
+      on_cond (At P k) (waits_for d.master handle) (tells_to_wait d a) (wants_by d a handle row (copy_for d.master.logged a.file a.index)) (λ _. wait_keeps d a h)
+      (λ _. wants_by_keeps d a handle row (copy_for d.master.logged a.file a.index) is h)
+
+  mutates_row_keeps : (d : MasterDoing) (a : Asker) (lost : Bool) (handle : ℕ) (o : Option ChunkRow) → chunk_of d.master.logged.table handle ≡ o → At P k d → At P k (mutates_row d a lost handle o)
+  mutates_row_keeps d a lost handle None is h = h
+  mutates_row_keeps d a lost handle (Some row) is h =
+      on_cond (At P k) (has_ended row d.master.now) (wants_primary d a handle row) (tells_holders (cond lost (revokes d handle) d) a handle row)
+      (λ _. wants_primary_keeps d a handle row is h)
+      (λ _. holders_keeps (cond lost (revokes d handle) d) a handle row (on_cond (At P k) lost (revokes d handle) d (λ _. revokes_keeps P k d handle h) (λ _. h)))
+
+  mutates_at_keeps : (d : MasterDoing) (a : Asker) (lost : Bool) (o : Option ℕ) → At P k d → At P k (mutates_at d a lost o)
+  mutates_at_keeps d a lost None h = h
+  mutates_at_keeps d a lost (Some handle) h = mutates_row_keeps d a lost handle (chunk_of d.master.logged.table handle) refl h
+
+  adds_keeps : (d : MasterDoing) (a : Asker) (lost : Bool) → At P k d → At P k (adds_chunk d a lost)
+  adds_keeps d a lost h =
+      let handle : ℕ = d.master.logged.next_handle in
+      logs_keeps P k d (log.AddChunk (file_id a.file) (handle_of handle)) (λ e. mutates_at e a lost (Some handle)) refl (λ e. mutates_at_keeps e a lost (Some handle)) h
+
+  looks_row_keeps : (d : MasterDoing) (a : Asker) (handle : ℕ) (o : Option ChunkRow) → At P k d → At P k (looks_at_row d a handle o)
+  looks_row_keeps d a handle None h = h
+  looks_row_keeps d a handle (Some row) h = holders_keeps d a handle row h
+
+  looks_keeps : (d : MasterDoing) (a : Asker) (o : Option ℕ) → At P k d → At P k (looks_at d a o)
+  looks_keeps d a None h = none_keeps d a h
+  looks_keeps d a (Some handle) h = looks_row_keeps d a handle (chunk_of d.master.logged.table handle) h
+
+  write_keeps : (d : MasterDoing) (a : Asker) (lost : Bool) (handles : List ℕ) (index : ℕ) → At P k d → At P k (asks_to_write d a lost handles index)
+  write_keeps d a lost handles index h =
+      on_cond (At P k) (nat_lt (length handles) index) (tells d a.client (body.Refused a.number TooLong)) _ (λ _. tells_keeps P k d a.client (body.Refused a.number TooLong) refl h)
+      (λ _. on_cond (At P k) (index == length handles) (adds_chunk d (with_index a index) lost) (mutates_at d (with_index a index) lost (element_at handles index))
+        (λ _. adds_keeps d (with_index a index) lost h) (λ _. mutates_at_keeps d (with_index a index) lost (element_at handles index) h))
+
+  append_keeps : (d : MasterDoing) (a : Asker) (lost : Bool) (handles : List ℕ) (after count : ℕ) → At P k d → At P k (asks_to_append d a lost handles after count)
+  append_keeps d a lost handles after zero h = adds_keeps d (with_index a 0) lost h
+  append_keeps d a lost handles after (suc last) h =
+      on_cond (At P k) (nat_lt last after) (adds_chunk d (with_index a (suc last)) lost) (mutates_at d (with_index a last) lost (element_at handles last))
+      (λ _. adds_keeps d (with_index a (suc last)) lost h) (λ _. mutates_at_keeps d (with_index a last) lost (element_at handles last) h)
+
+  last_keeps : (d : MasterDoing) (a : Asker) (handles : List ℕ) (count : ℕ) → At P k d → At P k (asks_for_last d a handles count)
+  last_keeps d a handles zero h = none_keeps d a h
+  last_keeps d a handles (suc last) h = looks_keeps d (with_index a last) (element_at handles last) h
+
+  asks_for_keeps : (d : MasterDoing) (a : Asker) (lost : Bool) (w : Wanted) (handles : List ℕ) → At P k d → At P k (asks_for d a lost w handles)
+  asks_for_keeps d a lost (wanted.Read index) handles h = looks_keeps d (with_index a index) (element_at handles index) h
+  asks_for_keeps d a lost (wanted.Write index) handles h = write_keeps d a lost handles index h
+  asks_for_keeps d a lost (wanted.Append after) handles h = append_keeps d a lost handles after (length handles) h
+  asks_for_keeps d a lost wanted.Last handles h = last_keeps d a handles (length handles) h
+
+  asks_of_keeps : (d : MasterDoing) (a : Asker) (lost : Bool) (w : Wanted) (o : Option (List ℕ)) → At P k d → At P k (asks_of d a lost w o)
+  asks_of_keeps d a lost w None h = tells_keeps P k d a.client (body.Refused a.number Collected) refl h
+  asks_of_keeps d a lost w (Some handles) h = asks_for_keeps d a lost w handles h
+
+  pub ask_keeps : (d : MasterDoing) (client : Node) (number file : ℕ) (w : Wanted) (deadline : ℕ) (lost : Bool) → At P k d → At P k (takes_ask d client number file w deadline lost)
+  ask_keeps d client number file w deadline lost h =
+      let a : Asker = record { client = client; number = number; file = file; index = 0 } in
+      on_cond (At P k) (nat_le deadline d.master.now) d (asks_of d a lost w (file_of d.master.logged.table file)) (λ _. h)
+      (λ _. asks_of_keeps d a lost w (file_of d.master.logged.table file) h)
+
+  -- grants
+
+  grant_keeps : (handle version primary : ℕ) (members : List ℕ) (d : MasterDoing) → At P k d → At P k (sends_grant d handle version primary members)
+  grant_keeps handle version primary members d h =
+      let until : ℕ = d.master.now + d.master.config.lease_ms in
+      orders_keeps P k (ends_at (without_attempt d handle) handle until) primary (λ order. body.Grant order (handle_of handle) (version_of version) (moment_of until) members) (λ o. refl)
+      (k.ends (core_of d) handle until h)
+
+  grants_to_keeps : (d : MasterDoing) (handle : ℕ) (a : VersionAttempt) (servers : List ℕ) → At P k d → At P k (grants_to d handle a servers)
+  grants_to_keeps d handle a [] h = h
+  grants_to_keeps d handle a (primary ∷ rest) h =
+      logs_keeps P k d (log.Grant (handle_of handle) (version_of a.version) (server_id primary) (primary ∷ rest)) (λ e. sends_grant e handle a.version primary (primary ∷ rest)) tt
+      (grant_keeps handle a.version primary (primary ∷ rest)) h
+
+  recorded_keeps : (d : MasterDoing) (handle : ℕ) (a : VersionAttempt) → At P k d → At P k (with_recorded d handle a)
+  recorded_keeps d handle a h =
+      on_cond (At P k) (is_complete d.master a) (grants_to (with_attempt d handle a) handle a (rising a.servers)) (with_attempt d handle a)
+      (λ _. grants_to_keeps (with_attempt d handle a) handle a (rising a.servers) h) (λ _. h)
+
+  learns_attempt_keeps : (d : MasterDoing) (server handle version : ℕ) (o : Option ChunkRow) (p : Option VersionAttempt) → At P k d → At P k (learns_attempt d server handle version o p)
+  learns_attempt_keeps d server handle version None p h = h
+  learns_attempt_keeps d server handle version (Some row) None h = h
+  learns_attempt_keeps d server handle version (Some row) (Some a) h =
+      let more : VersionAttempt = record a { recorded = with_number a.recorded server } in
+      on_cond (At P k) ((a.version == version) && has_number a.servers server) (with_recorded d handle more) d (λ _. recorded_keeps d handle more h) (λ _. h)
+
+  learns_keeps : (d : MasterDoing) (server handle version : ℕ) → At P k d → At P k (learns d server handle version)
+  learns_keeps d server handle version h = learns_attempt_keeps d server handle version (chunk_of d.master.logged.table handle) (table.get d.master.attempts handle) h
+
+  pub takes_recorded_keeps : (d : MasterDoing) (server handle version : ℕ) → At P k d → At P k (takes_recorded d server handle version)
+  takes_recorded_keeps d server handle version h = learns_keeps (holds_now d server handle version) server handle version h
+
+  revoked_row_keeps : (d : MasterDoing) (server handle version : ℕ) (o : Option ChunkRow) → At P k d → At P k (revoked_row d server handle version o)
+  revoked_row_keeps d server handle version None h = h
+  revoked_row_keeps d server handle version (Some row) h =
+      on_cond (At P k) ((row.granted == version) && (row.primary == server)) (ends_at d handle 0) d (λ _. k.ends (core_of d) handle 0 h) (λ _. h)
+
+  pub takes_revoked_keeps : (d : MasterDoing) (server handle version : ℕ) → At P k d → At P k (takes_revoked d server handle version)
+  takes_revoked_keeps d server handle version h = revoked_row_keeps d server handle version (chunk_of d.master.logged.table handle) h
+
+  drops_keeps : (d : MasterDoing) (server : ℕ) (lines : List ReplicaLine) → At P k d → At P k (drops_useless d server lines)
+  drops_keeps d server [] h = h
+  drops_keeps d server (line ∷ rest) h =
+      let dropped : MasterDoing = orders d server (λ order. body.Drop order line.handle line.version) in
+      on_cond (λ (e : MasterDoing). At P k (drops_useless e server rest)) (is_useless line.version.0 (chunk_of d.master.logged.table line.handle.0)) dropped d
+      (λ _. drops_keeps dropped server rest (orders_keeps P k d server (λ order. body.Drop order line.handle line.version) (λ o. refl) h))
+      (λ _. drops_keeps d server rest h)
+
+  learns_all_keeps : (d : MasterDoing) (server : ℕ) (lines : List ReplicaLine) → At P k d → At P k (learns_all d server lines)
+  learns_all_keeps d server [] h = h
+  learns_all_keeps d server (line ∷ rest) h = learns_all_keeps (learns d server line.handle.0 line.version.0) server rest (learns_keeps d server line.handle.0 line.version.0 h)
+
+  extends_keeps : (d : MasterDoing) (server : ℕ) (line : LeaseLine) (o : Option ChunkRow) → At P k d → At P k (extends_row d server line o)
+  extends_keeps d server line None h = h
+  extends_keeps d server line (Some row) h =
+      let until : ℕ = d.master.now + d.master.config.lease_ms in
+      on_cond (At P k) (may_extend d.master server line row && nat_lt row.lease_end until)
+      (tells (ends_at d line.handle.0 until) (the_server server) (body.Extend line.handle line.version (moment_of until))) d
+      (λ _. tells_keeps P k (ends_at d line.handle.0 until) (the_server server) (body.Extend line.handle line.version (moment_of until)) refl (k.ends (core_of d) line.handle.0 until h))
+      (λ _. h)
+
+  extends_all_keeps : (d : MasterDoing) (server : ℕ) (lines : List LeaseLine) → At P k d → At P k (extends_all d server lines)
+  extends_all_keeps d server [] h = h
+  extends_all_keeps d server (line ∷ rest) h =
+      extends_all_keeps (extends_row d server line (chunk_of d.master.logged.table line.handle.0)) server rest (extends_keeps d server line (chunk_of d.master.logged.table line.handle.0) h)
+
+  pub report_keeps : (d : MasterDoing) (server : ℕ) (replicas : List ReplicaLine) (leases : List LeaseLine) → At P k d → At P k (takes_report d server replicas leases)
+  report_keeps d server replicas leases h =
+      let heard : MasterDoing = hears d server replicas in
+      let dropped : MasterDoing = drops_useless heard server replicas in
+      extends_all_keeps (learns_all dropped server replicas) server leases (learns_all_keeps dropped server replicas (drops_keeps heard server replicas h))

@@ -1,0 +1,361 @@
+-- What a step of a chunkserver is made of. Whatever each of these moves keeps is kept by every step.
+use Rattle.std.proofs.Common.{◌≡◌, ℕ, suc, ◌+◌, ◌-◌, Bool, true, false, cond, List, [], ◌∷◌, ◌++◌, length, map, Option, Some, None, refl}
+use Rattle.std.specs.Prelude.{nat_le, nat_lt, ◌==◌, ◌&&◌, is_some, replicate}
+use Rattle.std.specs.FinMap as table
+use Rattle.gfs_types.specs.declared.ids.Node.{Node}
+use Rattle.gfs_types.specs.declared.ids.Node.TheVariants.{Master}
+use Rattle.gfs_types.specs.declared.ids.DataId.{DataId}
+use Rattle.gfs_types.specs.declared.ids.OrderNo.{OrderNo}
+use Rattle.gfs_types.specs.declared.refusal.Refusal.{Refusal}
+use Rattle.gfs_types.specs.declared.refusal.Refusal.TheVariants.{NoChunk, Version, NoLease, NoData, OldSerial, OldRequest, Late, Corrupt, ChunkFull, ServerTooLong}
+use Rattle.gfs_types.specs.declared.message.Body.{Body}
+use Rattle.gfs_types.specs.declared.message.Body.TheVariants as body
+use Rattle.gfs_types.specs.declared.message.Message.{Message}
+use Rattle.gfs_types.specs.declared.message.Target.{Target}
+use Rattle.gfs_types.specs.declared.message.Target.TheVariants as target
+use Rattle.gfs_types.specs.declared.message.Change.{Change}
+use Rattle.gfs_types.specs.declared.message.Change.TheVariants as change
+use Rattle.gfs_types.specs.declared.mutation.Mutation.{Mutation}
+use Rattle.gfs_types.specs.declared.mutation.Mutation.TheVariants as mutation
+use Rattle.gfs_types.specs.declared.event.Input.{Input}
+use Rattle.gfs_types.specs.declared.event.Input.TheVariants as input
+use Rattle.gfs_types.specs.Mutations.{start_of}
+use Rattle.protocol.specs.Tables.{counter_limit, without}
+use Rattle.protocol.specs.Sending.{message, the_server, the_client, handle_of, version_of, serial_of, server_number}
+use Rattle.protocol.specs.Replicas.{Replica, ServerDisk, StoreChange, SetOrder, PutReplica, DropReplica, disk_changed, is_new_order, replica_of, is_readable, read_bytes, is_copyable, is_writable, written_replica, stored_replica, raised_replica}
+use Rattle.protocol.specs.PushBuffer.{next_hop, hops_after, with_data, data_of}
+use Rattle.protocol.specs.PrimaryOrder.{Primary, Standing, IsPending, IsSettled, IsRefused, Attempted, IsNew, IsRepeat, IsOld, Waiting, attempted, denied, numbered, acknowledged, is_last_acknowledgement, refused_by_member}
+use Rattle.protocol.specs.RecordAppend.{Placing, PlacedAt, PaddedFrom, IsFull, IsTooLong, placing}
+use Rattle.protocol.specs.Seen.{Numbered, BecameSettled}
+use Rattle.protocol.specs.Server.{ServerState, ServerDoing, server_begins, chunk_limit, says, refuses, stores, shows, with_primary, without_lease, takes_data, drops_corrupt, primary_of}
+use Rattle.protocol.specs.ServerReads.{reads_from, takes_read, measures, takes_len, copies_out, takes_copy_ask}
+use Rattle.protocol.specs.ServerWrites.{passes_on, takes_push, refuses_attempt, answers_settled, denies, forwards, settles_if, acknowledges, change_of, place_of, bytes_of, primary_applies, places, appends_as, mutates_with, mutates_new, mutates_as, mutates_under, takes_mutate, nacks, member_applies, applies_data, applies_change, forwarded_to, takes_forward, acked_waiting, acked_under, takes_acked, nacked_waiting, nacked_under, takes_nacked}
+use Rattle.protocol.specs.ServerOrders.{on_order, records, can_take, takes_create, raises, takes_set_version, holds_version, takes_grant, extends_held, takes_extend, ends_held, takes_revoke, drops_old, takes_drop, takes_clone, is_pending_clone, takes_image, copies_locally, takes_copy_local}
+use Rattle.protocol.specs.ServerStep.{replica_line, lease_line, counting_leases, server_ticks, server_takes, server_does, server_at, server_goes}
+use Rattle.protocol.specs.Laws.{order_number}
+use Rattle.protocol.proofs.Steps.{on_cond}
+
+-- the part of a step of a server that the laws speak of
+pub record ServerCore : Type 0 where
+  pub up : Bool
+  pub under_way : List StoreChange
+  pub disk : ServerDisk
+  pub changes : List StoreChange
+  pub sent : List Message
+
+abbrev pub server_core : ServerDoing → ServerCore
+server_core d = record { up = d.server.up; under_way = d.server.under_way; disk = d.server.disk; changes = d.changes; sent = d.sent }
+
+-- a change that sets no order's number
+abbrev pub IsOfReplica : StoreChange → Type 0
+IsOfReplica (SetOrder epoch count) = ⊥
+IsOfReplica (PutReplica handle replica) = Unit {0}
+IsOfReplica (DropReplica handle) = Unit {0}
+
+abbrev pub store_changed : ServerCore → StoreChange → ServerCore
+store_changed c x = record c { disk = disk_changed c.disk x; changes = c.changes ++ x ∷ [] }
+
+-- What each move keeps.
+pub record KeepsServer (P : ServerCore → Type 0) : Type 0 where
+  -- a message, which is no order of the master
+  pub says : (c : ServerCore) (sender receiver : Node) (b : Body) → order_number b ≡ None → P c → P (record c { sent = c.sent ++ message sender receiver b ∷ [] })
+  -- a change of a replica
+  pub stores : (c : ServerCore) (x : StoreChange) → IsOfReplica x → P c → P (store_changed c x)
+  -- an order's number, which is a new one
+  pub takes : (c : ServerCore) (epoch count : ℕ) → is_new_order c.disk epoch count ≡ true → P c → P (store_changed c (SetOrder epoch count))
+
+module _ (P : ServerCore → Type 0) (k : KeepsServer P) where
+  abbrev pub Holds : ServerDoing → Type 0
+  Holds d = P (server_core d)
+
+  says_holds : (d : ServerDoing) (receiver : Node) (b : Body) → order_number b ≡ None → Holds d → Holds (says d receiver b)
+  says_holds d receiver b e h = k.says (server_core d) (the_server d.server.id) receiver b e h
+
+  refuses_holds : (d : ServerDoing) (receiver : Node) (number : ℕ) (refusal : Refusal) → Holds d → Holds (refuses d receiver number refusal)
+  refuses_holds d receiver number refusal h = says_holds d receiver (body.Refused number refusal) refl h
+
+  puts_holds : (d : ServerDoing) (handle : ℕ) (r : Replica) → Holds d → Holds (stores d (PutReplica handle r))
+  puts_holds d handle r h = k.stores (server_core d) (PutReplica handle r) tt h
+
+  corrupt_holds : (d : ServerDoing) (handle : ℕ) → Holds d → Holds (drops_corrupt d handle)
+  corrupt_holds d handle h = k.stores (server_core d) (DropReplica handle) tt h
+
+  -- reads
+
+  read_holds : (d : ServerDoing) (client : Node) (number handle version offset count : ℕ) (o : Option Replica) → Holds d → Holds (reads_from d client number handle version offset count o)
+  read_holds d client number handle version offset count None h = refuses_holds d client number NoChunk h
+  read_holds d client number handle version offset count (Some r) h =
+      on_cond Holds (r.version == version) _ (refuses d client number Version)
+      (λ _. on_cond Holds (is_readable d.server.config.block r offset count) (says d client (body.Bytes number (read_bytes r offset count))) (refuses (drops_corrupt d handle) client number Corrupt)
+        (λ _. says_holds d client (body.Bytes number (read_bytes r offset count)) refl h)
+        (λ _. refuses_holds (drops_corrupt d handle) client number Corrupt (corrupt_holds d handle h)))
+      (λ _. refuses_holds d client number Version h)
+
+  measure_holds : (d : ServerDoing) (client : Node) (number version : ℕ) (o : Option Replica) → Holds d → Holds (measures d client number version o)
+  measure_holds d client number version None h = refuses_holds d client number NoChunk h
+  measure_holds d client number version (Some r) h =
+      on_cond Holds (r.version == version) (says d client (body.LenIs number (length r.bytes))) (refuses d client number Version)
+      (λ _. says_holds d client (body.LenIs number (length r.bytes)) refl h) (λ _. refuses_holds d client number Version h)
+
+  copy_out_holds : (d : ServerDoing) (receiver : Node) (handle version : ℕ) (o : Option Replica) → Holds d → Holds (copies_out d receiver handle version o)
+  copy_out_holds d receiver handle version None h = h
+  copy_out_holds d receiver handle version (Some r) h =
+      on_cond Holds (r.version == version) _ d
+      (λ _. on_cond Holds (is_copyable d.server.config.block r) (says d receiver (body.Image (handle_of handle) (version_of version) (serial_of r.serial) r.bytes)) (drops_corrupt d handle)
+        (λ _. says_holds d receiver (body.Image (handle_of handle) (version_of version) (serial_of r.serial) r.bytes) refl h)
+        (λ _. corrupt_holds d handle h))
+      (λ _. h)
+
+  -- mutations
+
+  pass_holds : (d : ServerDoing) (id : DataId) (bytes rest : List ℕ) (o : Option ℕ) → Holds d → Holds (passes_on d id bytes rest o)
+  pass_holds d id bytes rest None h = says_holds d (the_client id.client.0) (body.Pushed id) refl h
+  pass_holds d id bytes rest (Some next) h = says_holds d (the_server next) (body.Push id bytes (hops_after rest next)) refl h
+
+  attempt_holds : (d : ServerDoing) (id : DataId) (refusal : Refusal) → Holds d → Holds (refuses_attempt d id refusal)
+  attempt_holds d id refusal h = refuses_holds d (the_client id.client.0) id.seq refusal h
+
+  settled_holds : (d : ServerDoing) (id : DataId) (o : Option ℕ) → Holds d → Holds (answers_settled d id o)
+  settled_holds d id None h = attempt_holds d id ChunkFull h
+  settled_holds d id (Some place) h = says_holds d (the_client id.client.0) (body.Done id place) refl h
+
+  denies_holds : (d : ServerDoing) (handle : ℕ) (p : Primary) (id : DataId) (refusal : Refusal) → Holds d → Holds (denies d handle p id refusal)
+  denies_holds d handle p id refusal h = attempt_holds (takes_data (with_primary d handle (denied p id.client.0 id.seq refusal)) id) id refusal h
+
+  forwards_holds : (d : ServerDoing) (members : List ℕ) (handle version serial : ℕ) (id : DataId) (c : Change) → Holds d → Holds (forwards d members handle version serial id c)
+  forwards_holds d [] handle version serial id c h = h
+  forwards_holds d (m ∷ rest) handle version serial id c h =
+      forwards_holds (says d (the_server m) (body.Forward (handle_of handle) (version_of version) (serial_of serial) id c)) rest handle version serial id c
+      (says_holds d (the_server m) (body.Forward (handle_of handle) (version_of version) (serial_of serial) id c) refl h)
+
+  settles_holds : (b : Bool) (d : ServerDoing) (handle version serial : ℕ) (w : Waiting) → Holds d → Holds (settles_if b d handle version serial w)
+  settles_holds false d handle version serial w h = h
+  settles_holds true d handle version serial w h = settled_holds (shows d (BecameSettled handle version serial)) (record { client = record { 0 = w.client }; seq = w.seq }) w.place h
+
+  acks_holds : (d : ServerDoing) (handle : ℕ) (p : Primary) (server serial : ℕ) (w : Waiting) → Holds d → Holds (acknowledges d handle p server serial w)
+  acks_holds d handle p server serial w h = settles_holds (is_last_acknowledgement w server) (with_primary d handle (acknowledged p server serial w)) handle p.held.version serial w h
+
+  primary_holds : (d : ServerDoing) (handle : ℕ) (p : Primary) (r : Replica) (id : DataId) (m : Mutation) → Holds d → Holds (primary_applies d handle p r id m)
+  primary_holds d handle p r id m h =
+      let serial : ℕ = p.serial + 1 in
+      let w : Waiting = record { client = id.client.0; seq = id.seq; members = p.held.members; place = place_of m } in
+      let new : Replica = written_replica r serial (start_of m) (bytes_of (chunk_limit d.server handle) m) in
+      let stored : ServerDoing = stores d (PutReplica handle new) in
+      acks_holds (forwards stored (without p.held.members d.server.id) handle p.held.version serial id (change_of m)) handle (numbered p id.client.0 id.seq (place_of m)) d.server.id serial w
+      (forwards_holds stored (without p.held.members d.server.id) handle p.held.version serial id (change_of m) (puts_holds d handle new h))
+
+  places_holds : (d : ServerDoing) (handle : ℕ) (p : Primary) (r : Replica) (id : DataId) (m : Mutation) → Holds d → Holds (places d handle p r id m)
+  places_holds d handle p r id m h =
+      let serial : ℕ = p.serial + 1 in
+      let taken : ServerDoing = shows (takes_data (with_primary d handle (numbered p id.client.0 id.seq (place_of m))) id) (Numbered handle p.held.version serial id m) in
+      on_cond Holds (nat_le counter_limit p.serial) d _ (λ _. h)
+      (λ _. on_cond Holds (is_writable d.server.config.block r (start_of m) (start_of m + length (bytes_of (chunk_limit d.server handle) m))) (primary_applies taken handle p r id m)
+        (refuses_attempt (drops_corrupt taken handle) id Corrupt)
+        (λ _. primary_holds taken handle p r id m h)
+        (λ _. attempt_holds (drops_corrupt taken handle) id Corrupt (corrupt_holds taken handle h)))
+
+  appends_holds : (d : ServerDoing) (handle : ℕ) (p : Primary) (r : Replica) (id : DataId) (bytes : List ℕ) (where_ : Placing) → Holds d → Holds (appends_as d handle p r id bytes where_)
+  appends_holds d handle p r id bytes IsTooLong h = denies_holds d handle p id ServerTooLong h
+  appends_holds d handle p r id bytes IsFull h = denies_holds d handle p id ChunkFull h
+  appends_holds d handle p r id bytes (PaddedFrom offset) h = places_holds d handle p r id (mutation.Pad offset) h
+  appends_holds d handle p r id bytes (PlacedAt offset) h = places_holds d handle p r id (mutation.Append offset bytes) h
+
+  with_holds : (d : ServerDoing) (handle : ℕ) (p : Primary) (r : Replica) (id : DataId) (t : Target) (bytes : List ℕ) → Holds d → Holds (mutates_with d handle p r id t bytes)
+  with_holds d handle p r id (target.Write offset) bytes h =
+      on_cond Holds (nat_lt (chunk_limit d.server handle) (offset + length bytes)) d (places d handle p r id (mutation.Write offset bytes)) (λ _. h)
+      (λ _. places_holds d handle p r id (mutation.Write offset bytes) h)
+  with_holds d handle p r id target.Append bytes h = appends_holds d handle p r id bytes (placing (length r.bytes) (length bytes) (chunk_limit d.server handle)) h
+
+  new_holds : (d : ServerDoing) (handle : ℕ) (p : Primary) (id : DataId) (t : Target) (o : Option Replica) (bytes : Option (List ℕ)) → Holds d → Holds (mutates_new d handle p id t o bytes)
+  new_holds d handle p id t None bytes h = h
+  new_holds d handle p id t (Some r) None h = denies_holds d handle p id NoData h
+  new_holds d handle p id t (Some r) (Some bytes) h = with_holds d handle p r id t bytes h
+
+  as_holds : (d : ServerDoing) (handle : ℕ) (p : Primary) (id : DataId) (t : Target) (a : Attempted) → Holds d → Holds (mutates_as d handle p id t a)
+  as_holds d handle p id t IsOld h = attempt_holds d id OldRequest h
+  as_holds d handle p id t (IsRepeat IsPending) h = h
+  as_holds d handle p id t (IsRepeat (IsSettled place)) h = settled_holds d id place h
+  as_holds d handle p id t (IsRepeat (IsRefused refusal)) h = attempt_holds d id refusal h
+  as_holds d handle p id t IsNew h = new_holds d handle p id t (replica_of d.server.disk handle) (data_of d.server.pushed id) h
+
+  under_holds : (d : ServerDoing) (handle : ℕ) (id : DataId) (t : Target) (deadline : ℕ) (o : Option Primary) → Holds d → Holds (mutates_under d handle id t deadline o)
+  under_holds d handle id t deadline None h = attempt_holds d id NoLease h
+  under_holds d handle id t deadline (Some p) h =
+      on_cond Holds (nat_le deadline d.server.now) (refuses_attempt d id Late) (mutates_as d handle p id t (attempted p id.client.0 id.seq)) (λ _. attempt_holds d id Late h)
+      (λ _. as_holds d handle p id t (attempted p id.client.0 id.seq) h)
+
+  nacks_holds : (d : ServerDoing) (primary : Node) (handle version serial : ℕ) (refusal : Refusal) → Holds d → Holds (nacks d primary handle version serial refusal)
+  nacks_holds d primary handle version serial refusal h = says_holds d primary (body.Nacked (handle_of handle) (version_of version) (serial_of serial) refusal) refl h
+
+  member_holds : (d : ServerDoing) (primary : Node) (handle : ℕ) (r : Replica) (serial : ℕ) (id : DataId) (offset : ℕ) (bytes : List ℕ) → Holds d
+      → Holds (member_applies d primary handle r serial id offset bytes)
+  member_holds d primary handle r serial id offset bytes h =
+      let new : Replica = written_replica r serial offset bytes in
+      let stored : ServerDoing = stores (takes_data d id) (PutReplica handle new) in
+      on_cond Holds (nat_lt (chunk_limit d.server handle) (offset + length bytes)) d _ (λ _. h)
+      (λ _. on_cond Holds (is_writable d.server.config.block r offset (offset + length bytes))
+        (says stored primary (body.Acked (handle_of handle) (version_of r.version) (serial_of serial)))
+        (nacks (drops_corrupt (takes_data d id) handle) primary handle r.version serial Corrupt)
+        (λ _. says_holds stored primary (body.Acked (handle_of handle) (version_of r.version) (serial_of serial)) refl (puts_holds (takes_data d id) handle new h))
+        (λ _. nacks_holds (drops_corrupt (takes_data d id) handle) primary handle r.version serial Corrupt (corrupt_holds (takes_data d id) handle h)))
+
+  data_holds : (d : ServerDoing) (primary : Node) (handle : ℕ) (r : Replica) (serial : ℕ) (id : DataId) (offset : ℕ) (o : Option (List ℕ)) → Holds d
+      → Holds (applies_data d primary handle r serial id offset o)
+  data_holds d primary handle r serial id offset None h = nacks_holds d primary handle r.version serial NoData h
+  data_holds d primary handle r serial id offset (Some bytes) h = member_holds d primary handle r serial id offset bytes h
+
+  change_holds : (d : ServerDoing) (primary : Node) (handle : ℕ) (r : Replica) (serial : ℕ) (id : DataId) (c : Change) → Holds d → Holds (applies_change d primary handle r serial id c)
+  change_holds d primary handle r serial id (change.Write offset) h = data_holds d primary handle r serial id offset (data_of d.server.pushed id) h
+  change_holds d primary handle r serial id (change.Append offset) h = data_holds d primary handle r serial id offset (data_of d.server.pushed id) h
+  change_holds d primary handle r serial id (change.Pad offset) h = member_holds d primary handle r serial id offset (replicate (chunk_limit d.server handle - offset) 0) h
+
+  forwarded_holds : (d : ServerDoing) (primary : Node) (handle version serial : ℕ) (id : DataId) (c : Change) (o : Option Replica) → Holds d
+      → Holds (forwarded_to d primary handle version serial id c o)
+  forwarded_holds d primary handle version serial id c None h = nacks_holds d primary handle version serial NoChunk h
+  forwarded_holds d primary handle version serial id c (Some r) h =
+      on_cond Holds (r.version == version) _ (nacks d primary handle version serial Version)
+      (λ _. on_cond Holds (nat_lt r.serial serial) (applies_change d primary handle r serial id c) (nacks d primary handle version serial OldSerial)
+        (λ _. change_holds d primary handle r serial id c h) (λ _. nacks_holds d primary handle version serial OldSerial h))
+      (λ _. nacks_holds d primary handle version serial Version h)
+
+  acked_waiting_holds : (d : ServerDoing) (handle : ℕ) (p : Primary) (server serial : ℕ) (o : Option Waiting) → Holds d → Holds (acked_waiting d handle p server serial o)
+  acked_waiting_holds d handle p server serial None h = h
+  acked_waiting_holds d handle p server serial (Some w) h = acks_holds d handle p server serial w h
+
+  acked_holds : (d : ServerDoing) (handle server serial : ℕ) (o : Option Primary) → Holds d → Holds (acked_under d handle server serial o)
+  acked_holds d handle server serial None h = h
+  acked_holds d handle server serial (Some p) h = acked_waiting_holds d handle p server serial (table.get p.waiting serial) h
+
+  nacked_waiting_holds : (d : ServerDoing) (handle : ℕ) (p : Primary) (refusal : Refusal) (o : Option Waiting) → Holds d → Holds (nacked_waiting d handle p refusal o)
+  nacked_waiting_holds d handle p refusal None h = h
+  nacked_waiting_holds d handle p refusal (Some w) h = refuses_holds (with_primary d handle (refused_by_member p w refusal)) (the_client w.client) w.seq refusal h
+
+  nacked_holds : (d : ServerDoing) (handle serial : ℕ) (refusal : Refusal) (o : Option Primary) → Holds d → Holds (nacked_under d handle serial refusal o)
+  nacked_holds d handle serial refusal None h = h
+  nacked_holds d handle serial refusal (Some p) h = nacked_waiting_holds d handle p refusal (table.get p.waiting serial) h
+
+  -- orders
+
+  order_holds : (d : ServerDoing) (order : OrderNo) (f : ServerDoing → ServerDoing) → ((e : ServerDoing) → Holds e → Holds (f e)) → Holds d → Holds (on_order d order f)
+  order_holds d order f go h =
+      let taken : ServerDoing = stores d (SetOrder order.epoch order.count) in
+      on_cond Holds (is_new_order d.server.disk order.epoch order.count) (f taken) d
+      (λ new. go taken (k.takes (server_core d) order.epoch order.count new h)) (λ _. h)
+
+  records_holds : (d : ServerDoing) (handle version : ℕ) → Holds d → Holds (records d handle version)
+  records_holds d handle version h = says_holds d Master (body.Recorded (handle_of handle) (version_of version)) refl h
+
+  create_holds : (handle version : ℕ) (d : ServerDoing) → Holds d → Holds (takes_create d handle version)
+  create_holds handle version d h =
+      let new : Replica = stored_replica version 0 [] in
+      on_cond Holds (can_take d handle) (records (stores d (PutReplica handle new)) handle version) d
+      (λ _. records_holds (stores d (PutReplica handle new)) handle version (puts_holds d handle new h)) (λ _. h)
+
+  raises_holds : (d : ServerDoing) (handle version base : ℕ) (o : Option Replica) → Holds d → Holds (raises d handle version base o)
+  raises_holds d handle version base None h = h
+  raises_holds d handle version base (Some r) h =
+      let raised : ServerDoing = without_lease (stores d (PutReplica handle (raised_replica r version))) handle in
+      on_cond Holds (r.version == base) (records raised handle version) d (λ _. records_holds raised handle version (puts_holds d handle (raised_replica r version) h)) (λ _. h)
+
+  set_version_holds : (handle version base : ℕ) (d : ServerDoing) → Holds d → Holds (takes_set_version d handle version base)
+  set_version_holds handle version base d h = raises_holds d handle version base (replica_of d.server.disk handle) h
+
+  grant_holds : (handle version end_moment : ℕ) (members : List ℕ) (d : ServerDoing) → Holds d → Holds (takes_grant d handle version end_moment members)
+  grant_holds handle version end_moment members d h = on_cond Holds (holds_version version (replica_of d.server.disk handle)) _ d (λ _. h) (λ _. h)
+
+  extend_holds : (d : ServerDoing) (handle version end_moment : ℕ) (o : Option Primary) → Holds d → Holds (extends_held d handle version end_moment o)
+  extend_holds d handle version end_moment None h = h
+  extend_holds d handle version end_moment (Some p) h = on_cond Holds (p.held.version == version) _ d (λ _. h) (λ _. h)
+
+  ends_holds : (d : ServerDoing) (handle version : ℕ) (o : Option Primary) → Holds d → Holds (ends_held d handle version o)
+  ends_holds d handle version None h = h
+  ends_holds d handle version (Some p) h = on_cond Holds (p.held.version == version) (without_lease d handle) d (λ _. h) (λ _. h)
+
+  revoke_holds : (handle version : ℕ) (d : ServerDoing) → Holds d → Holds (takes_revoke d handle version)
+  revoke_holds handle version d h =
+      let held : Option Primary = table.get d.server.leases handle in
+      says_holds (ends_held d handle version held) Master (body.Revoked (handle_of handle) (version_of version)) refl (ends_holds d handle version held h)
+
+  drops_holds : (d : ServerDoing) (handle version : ℕ) (o : Option Replica) → Holds d → Holds (drops_old d handle version o)
+  drops_holds d handle version None h = h
+  drops_holds d handle version (Some r) h =
+      on_cond Holds (nat_le r.version version) (without_lease (stores d (DropReplica handle)) handle) d (λ _. k.stores (server_core d) (DropReplica handle) tt h) (λ _. h)
+
+  drop_holds : (handle version : ℕ) (d : ServerDoing) → Holds d → Holds (takes_drop d handle version)
+  drop_holds handle version d h = drops_holds d handle version (replica_of d.server.disk handle) h
+
+  clone_holds : (handle version source : ℕ) (d : ServerDoing) → Holds d → Holds (takes_clone d handle version source)
+  clone_holds handle version source d h =
+      says_holds (record d { server = record d.server { clones = table.insert d.server.clones handle version } }) (the_server source) (body.CopyAsk (handle_of handle) (version_of version)) refl h
+
+  image_holds : (d : ServerDoing) (handle version serial : ℕ) (bytes : List ℕ) → Holds d → Holds (takes_image d handle version serial bytes)
+  image_holds d handle version serial bytes h =
+      let stored : ServerDoing = stores d (PutReplica handle (stored_replica version serial bytes)) in
+      let cleared : ServerDoing = record stored { server = record stored.server { clones = table.remove stored.server.clones handle } } in
+      on_cond Holds _ (says cleared Master (body.Cloned (handle_of handle) (version_of version))) d
+      (λ _. says_holds cleared Master (body.Cloned (handle_of handle) (version_of version)) refl (puts_holds d handle (stored_replica version serial bytes) h)) (λ _. h)
+
+  locally_holds : (d : ServerDoing) (handle version copy copy_version : ℕ) (o : Option Replica) → Holds d → Holds (copies_locally d handle version copy copy_version o)
+  locally_holds d handle version copy copy_version None h = h
+  locally_holds d handle version copy copy_version (Some r) h =
+      let new : Replica = stored_replica copy_version 0 r.bytes in
+      on_cond Holds (r.version == version) _ d
+      (λ _. on_cond Holds (is_copyable d.server.config.block r) _ (drops_corrupt d handle)
+        (λ _. on_cond Holds (can_take d copy) (records (stores d (PutReplica copy new)) copy copy_version) d
+          (λ _. records_holds (stores d (PutReplica copy new)) copy copy_version (puts_holds d copy new h)) (λ _. h))
+        (λ _. corrupt_holds d handle h))
+      (λ _. h)
+
+  copy_local_holds : (handle version copy copy_version : ℕ) (d : ServerDoing) → Holds d → Holds (takes_copy_local d handle version copy copy_version)
+  copy_local_holds handle version copy copy_version d h = locally_holds d handle version copy copy_version (replica_of d.server.disk handle) h
+
+  -- the step
+
+  tick_holds : (d : ServerDoing) → Holds d → Holds (server_ticks d)
+  tick_holds d h =
+      says_holds d Master (body.Report (map replica_line (table.entries d.server.disk.replicas)) (map lease_line (table.entries (counting_leases d.server)))) refl h
+
+  takes_holds : (d : ServerDoing) (m : Message) (b : Body) → Holds d → Holds (server_takes d m b)
+  takes_holds d m (body.Push id bytes rest) h =
+      pass_holds (record d { server = record d.server { pushed = with_data d.server.config.push_entries d.server.pushed id bytes } }) id bytes rest (next_hop rest d.server.id) h
+  takes_holds d m (body.Mutate id handle version t deadline) h = under_holds d handle.0 id t deadline.0 (primary_of d.server handle.0 version.0) h
+  takes_holds d m (body.Read number handle version offset count) h = read_holds d m.sender number handle.0 version.0 offset count (replica_of d.server.disk handle.0) h
+  takes_holds d m (body.Len number handle version) h = measure_holds d m.sender number version.0 (replica_of d.server.disk handle.0) h
+  takes_holds d m (body.Forward handle version serial id c) h = forwarded_holds d m.sender handle.0 version.0 serial.0 id c (replica_of d.server.disk handle.0) h
+  takes_holds d m (body.Acked handle version serial) h = acked_holds d handle.0 (server_number m.sender) serial.0 (primary_of d.server handle.0 version.0) h
+  takes_holds d m (body.Nacked handle version serial refusal) h = nacked_holds d handle.0 serial.0 refusal (primary_of d.server handle.0 version.0) h
+  takes_holds d m (body.Create order handle version) h = order_holds d order (λ e. takes_create e handle.0 version.0) (create_holds handle.0 version.0) h
+  takes_holds d m (body.SetVersion order handle version base) h = order_holds d order (λ e. takes_set_version e handle.0 version.0 base.0) (set_version_holds handle.0 version.0 base.0) h
+  takes_holds d m (body.Grant order handle version end_moment members) h =
+      order_holds d order (λ e. takes_grant e handle.0 version.0 end_moment.0 members) (grant_holds handle.0 version.0 end_moment.0 members) h
+  takes_holds d m (body.Revoke order handle version) h = order_holds d order (λ e. takes_revoke e handle.0 version.0) (revoke_holds handle.0 version.0) h
+  takes_holds d m (body.Drop order handle version) h = order_holds d order (λ e. takes_drop e handle.0 version.0) (drop_holds handle.0 version.0) h
+  takes_holds d m (body.Clone order handle version source) h = order_holds d order (λ e. takes_clone e handle.0 version.0 source.0) (clone_holds handle.0 version.0 source.0) h
+  takes_holds d m (body.CopyLocal order handle version copy copy_version) h =
+      order_holds d order (λ e. takes_copy_local e handle.0 version.0 copy.0 copy_version.0) (copy_local_holds handle.0 version.0 copy.0 copy_version.0) h
+  takes_holds d m (body.Extend handle version end_moment) h = extend_holds d handle.0 version.0 end_moment.0 (table.get d.server.leases handle.0) h
+  takes_holds d m (body.CopyAsk handle version) h = copy_out_holds d m.sender handle.0 version.0 (replica_of d.server.disk handle.0) h
+  takes_holds d m (body.Image handle version serial bytes) h = image_holds d handle.0 version.0 serial.0 bytes h
+  takes_holds d m (body.Name number deadline c) h = h
+  takes_holds d m (body.Look number c) h = h
+  takes_holds d m (body.Ask number file wanted deadline lost) h = h
+  takes_holds d m (body.Named number reply) h = h
+  takes_holds d m (body.Told number location) h = h
+  takes_holds d m (body.Wait number) h = h
+  takes_holds d m (body.Refused number refusal) h = h
+  takes_holds d m (body.Pushed id) h = h
+  takes_holds d m (body.Done id place) h = h
+  takes_holds d m (body.Bytes number bytes) h = h
+  takes_holds d m (body.LenIs number count) h = h
+  takes_holds d m (body.Recorded handle version) h = h
+  takes_holds d m (body.Revoked handle version) h = h
+  takes_holds d m (body.Cloned handle version) h = h
+  takes_holds d m (body.Report replicas leases) h = h
+
+  does_holds : (d : ServerDoing) (i : Input) → Holds d → Holds (server_does d i)
+  does_holds d (input.Deliver m) h = takes_holds d m m.body h
+  does_holds d input.Tick h = tick_holds d h
+
+  -- the step of a server that is up, where nothing hinders it
+  pub server_goes_holds : (s : ServerState) (moment : ℕ) (i : Input) → Holds (server_begins (server_at s moment)) → Holds (server_goes s moment i)
+  server_goes_holds s moment i h = does_holds (server_begins (server_at s moment)) i h
