@@ -1,0 +1,4 @@
+mod NumberLemmas
+mod WordLemmas
+mod LineLemmas
+mod AnswerLemmas

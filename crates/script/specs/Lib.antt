@@ -1,0 +1,5 @@
+pub mod Numbers
+pub mod Nodes
+pub mod Words
+pub mod Lines
+pub mod Answers

@@ -1,0 +1,63 @@
+-- What a line of a script asks for.
+use Rattle.std.specs.Prelude.{ℕ, ◌^◌, ◌-◌, Bool, true, ◌==◌, nat_lt, if◌then◌else◌, List, [], ◌∷◌, length, Option, Some, None, option_map, option_and_then, codes}
+use Rattle.std.specs.List.{slice_split}
+use Rattle.std.specs.Str.{byte, bytes_eq}
+use Rattle.gfs_types.specs.declared.ids.Fd.{Fd}
+use Rattle.gfs_types.specs.declared.call.Call.{Call}
+use Rattle.gfs_types.specs.declared.call.Call.TheVariants as calls
+use Rattle.script.specs.declared.words.Data.{Data}
+use Rattle.script.specs.declared.words.Data.TheVariants.{Bytes, TooLong}
+use Rattle.script.specs.declared.lines.Line.{Line}
+use Rattle.script.specs.declared.lines.Line.TheVariants as lines
+use Rattle.script.specs.Numbers.{number_of}
+use Rattle.script.specs.Nodes.{client_of}
+use Rattle.script.specs.Words.{path_of, data_of}
+
+abbrev pub name_call_for : List ℕ → List ℕ → Option Call
+name_call_for name path =
+    if bytes_eq name (codes "mkdir") then Some (calls.Mkdir path)
+    else if bytes_eq name (codes "create") then Some (calls.Create path)
+    else if bytes_eq name (codes "open") then Some (calls.Open path)
+    else if bytes_eq name (codes "list") then Some (calls.List path)
+    else None
+
+-- a call on a name
+abbrev pub name_call_of : List ℕ → List ℕ → Option Call
+name_call_of name word = option_and_then (name_call_for name) (path_of word)
+
+-- data that are too long to be built become an empty write that ends past each file
+abbrev pub write_call : Fd → ℕ → Data → Call
+write_call fd offset (Bytes bytes) = calls.Write fd offset bytes
+write_call fd offset TooLong = calls.Write fd (2 ^ 64 - 1) []
+
+abbrev pub range_call_for : List ℕ → Fd → ℕ → List ℕ → Option Call
+range_call_for name fd offset last =
+    if bytes_eq name (codes "write") then option_map (write_call fd offset) (data_of last)
+    else if bytes_eq name (codes "read") then option_map (calls.Read fd offset) (number_of last)
+    else None
+
+-- a call on a range of an open file
+abbrev pub range_call_of : List ℕ → List ℕ → List ℕ → List ℕ → Option Call
+range_call_of name fd offset last =
+    option_and_then (λ f. option_and_then (λ o. range_call_for name (record { 0 = f }) o last) (number_of offset)) (number_of fd)
+
+abbrev pub call_of : List (List ℕ) → Option Call
+call_of (name ∷ word ∷ []) = name_call_of name word
+call_of (name ∷ fd ∷ offset ∷ last ∷ []) = range_call_of name fd offset last
+call_of _ = None
+
+abbrev pub line_for : List (List ℕ) → Option Line
+line_for [] = None
+line_for (first ∷ rest) = option_and_then (λ client. option_map (λ call. lines.Call client call) (call_of rest)) (client_of first)
+
+-- what stands between spaces
+abbrev pub words_of : List ℕ → List (List ℕ)
+words_of line = slice_split (λ c. c == byte " ") line
+
+-- an empty line or a comment
+abbrev pub is_skipped : List ℕ → Bool
+is_skipped [] = true
+is_skipped (c ∷ cs) = c == byte "#"
+
+abbrev pub line_of : List ℕ → Option Line
+line_of line = if nat_lt 8192 (length line) then None else if is_skipped line then Some lines.Nothing else line_for (words_of line)

@@ -1,0 +1,114 @@
+//! The lines of a script.
+
+ghost use Rattle.std.specs.Prelude.{◌≡◌, IfOk, map};
+ghost use Rattle.script.specs.Words.{Reads};
+ghost use Rattle.script.specs.Lines.{words_of, write_call, name_call_of, range_call_of, call_of, line_of};
+
+use crate::fault::LineFault;
+use crate::nodes::client;
+use crate::numbers::number;
+use crate::words::{Data, read_data, read_path};
+use bytes::Bytes;
+use gfs_types::call::Call;
+use gfs_types::ids::{ClientId, Fd};
+use std::alloc::{AllocError, Global};
+
+/// The bytes of a line before its line feed, at most.
+pub const MAX_LINE: usize = 8_192;
+
+/// What a line asks for.
+#[derive(Drop)]
+pub enum Line {
+    /// An empty line or a comment.
+    Nothing,
+    Call { client: ClientId, call: Call },
+}
+
+/// A call on a name.
+fn name_call(alloc: Global, name: &[u8], word: &[u8]) -> Result<Call, LineFault>
+    ensures { Reads result (name_call_of name.now word.now) }
+{
+    let path = read_path(alloc, word)?;
+    if name == b"mkdir".as_slice() {
+        Ok(Call::Mkdir(path))
+    } else if name == b"create".as_slice() {
+        Ok(Call::Create(path))
+    } else if name == b"open".as_slice() {
+        Ok(Call::Open(path))
+    } else if name == b"list".as_slice() {
+        Ok(Call::List(path))
+    } else {
+        Err(LineFault::Bad)
+    }
+}
+
+/// Data that are too long to be built become an empty write at the greatest offset, which the cell refuses for the same
+/// causes in the same order.
+fn write_call(fd: Fd, offset: u64, data: Data) -> Call
+    ensures { result ≡ write_call fd offset «data» }
+{
+    match data {
+        Data::Bytes(bytes) => Call::Write(fd, offset, bytes),
+        Data::TooLong => Call::Write(fd, u64::MAX, Bytes::new()),
+    }
+}
+
+/// A call on a range of an open file.
+fn range_call(
+    alloc: Global,
+    name: &[u8],
+    fd: &[u8],
+    offset: &[u8],
+    last: &[u8],
+) -> Result<Call, LineFault>
+    ensures { Reads result (range_call_of name.now fd.now offset.now last.now) }
+{
+    let fd = Fd(number(fd).ok_or(LineFault::Bad)?);
+    let offset = number(offset).ok_or(LineFault::Bad)?;
+    if name == b"write".as_slice() {
+        Ok(write_call(fd, offset, read_data(alloc, last)?))
+    } else if name == b"read".as_slice() {
+        Ok(Call::Read(fd, offset, number(last).ok_or(LineFault::Bad)?))
+    } else {
+        Err(LineFault::Bad)
+    }
+}
+
+fn call(alloc: Global, words: &[&[u8]]) -> Result<Call, LineFault>
+    ensures { Reads result (call_of (map (λ w. w.now) words.now)) }
+{
+    match words {
+        [name, word] => name_call(alloc, name, word),
+        [name, fd, offset, last] => range_call(alloc, name, fd, offset, last),
+        _ => Err(LineFault::Bad),
+    }
+}
+
+/// The words of a line, which one space separates.
+fn split_words(alloc: Global, line: &[u8]) -> Result<Vec<&[u8]>, AllocError>
+    ensures { IfOk result (λ v. map (λ w. w.now) v.items ≡ words_of line.now) }
+{
+    line.split(|byte| *byte == b' ').collect(alloc)
+}
+
+/// What a line asks for, without its line feed.
+///
+/// - `Bad`: the line isn't in the language, or has more than [`MAX_LINE`] bytes.
+/// - `NoMemory`: memory for the words, the path or the data was refused.
+pub fn parse(alloc: Global, line: &[u8]) -> Result<Line, LineFault>
+    ensures { Reads result (line_of line.now) }
+{
+    if line.len() > MAX_LINE {
+        return Err(LineFault::Bad);
+    }
+    if line.is_empty() || line[0] == b'#' {
+        return Ok(Line::Nothing);
+    }
+    let words = split_words(alloc, line)?;
+    let Some((first, rest)) = words.as_slice().split_first() else {
+        return Err(LineFault::Bad);
+    };
+    let client = client(first).ok_or(LineFault::Bad)?;
+    let call = call(alloc, rest)?;
+    Ok(Line::Call { client, call })
+}
