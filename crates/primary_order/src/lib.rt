@@ -4,6 +4,7 @@
 
 pub mod answer;
 pub mod kept;
+pub mod laws;
 pub mod primary;
 pub mod waiting;
 

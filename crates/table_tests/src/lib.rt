@@ -1,0 +1,7 @@
+//! Tests of the table of files and chunks, of leases and of the primary's order.
+#![tactic(auto)]
+
+#[cfg(test)]
+mod order;
+#[cfg(test)]
+mod table;
