@@ -28,7 +28,7 @@ abbrev pub IsUsed : WorldState → Ghost → ℕ → ℕ → ℕ → ℕ → ℕ
 IsUsed w g handle version server client seq =
     IsOver w g handle version server
     ⊎ (s : ServerState) × (p : Primary) × (k : Kept) × IsServer w (server - 1) s × (table.get s.leases handle ≡ Some p) × (p.held.version ≡ version)
-      × (table.get p.kept client ≡ Some k) × (seq ≤ k.seq)
+    × (table.get p.kept client ≡ Some k) × (seq ≤ k.seq)
 
 -- It places nothing more: too late for each primary, or its number is used at the primary of its version, the only one there can be.
 abbrev pub IsDead : WorldState → Ghost → ℕ → ℕ → Attempt → Type 0

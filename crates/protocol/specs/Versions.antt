@@ -1,10 +1,9 @@
 -- Versions and orders: granted is at most issued, a version without a Grant has no entry, and each order has its own number.
-use Rattle.std.specs.Prelude.{◌≡◌, ◌⊎◌, ℕ, suc, ◌≤◌, ◌<◌, List, Option, Some, None, IsTrue, Contains}
+use Rattle.std.specs.Prelude.{◌≡◌, ◌⊎◌, ℕ, suc, ◌≤◌, ◌<◌, List, Some, None, IsTrue, Contains}
 use Rattle.std.specs.FinMap as table
 use Rattle.gfs_types.specs.declared.ids.OrderNo.{OrderNo}
 use Rattle.gfs_types.specs.declared.ids.Moment.{Moment}
 use Rattle.gfs_types.specs.declared.message.Message.{Message}
-use Rattle.gfs_types.specs.declared.message.Body.{Body}
 use Rattle.gfs_types.specs.declared.message.Body.TheVariants as body
 use Rattle.relaxed_file.specs.Order.{AreRoundsRising}
 use Rattle.protocol.specs.Sending.{handle_of, version_of}
@@ -53,8 +52,8 @@ pub record AreVersions (w : WorldState) (g : Ghost) : Type 0 where
   pub entries : (handle : ℕ) (p : Placed) → Contains (order_of w.observer handle) p
       → (p.entry.round < g.first handle)
       ⊎ (r : Round) × (g.rounds handle ≡ Some r) × (p.entry.round ≤ r.version)
-        × (x : Message) × Contains w.sent x × (order : OrderNo) × (end_moment : Moment) × (members : List ℕ)
-        × (x.body ≡ body.Grant order (handle_of handle) (version_of p.entry.round) end_moment members)
+      × (x : Message) × Contains w.sent x × (order : OrderNo) × (end_moment : Moment) × (members : List ℕ)
+      × (x.body ≡ body.Grant order (handle_of handle) (version_of p.entry.round) end_moment members)
   pub rising : (handle : ℕ) → AreRoundsRising 0 (entries_of w.observer handle)
   -- an order is known by its number, also among those that were sent again
   pub numbers : (x : Message) (order : OrderNo) → Contains w.sent x → order_number x.body ≡ Some order → IsUsedNumber w order.epoch order.count
