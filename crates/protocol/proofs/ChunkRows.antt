@@ -1,6 +1,6 @@
 -- Rows of the table of chunks after each record: their granted and issued versions.
-use Rattle.std.proofs.Common.{◌≡◌, ◌⊎◌, ℕ, zero, suc, ◌+◌, ◌-◌, ◌≤◌, Bool, true, false, cond, List, [], ◌∷◌, ◌++◌, map, Option, Some, None, refl, sym, ap, subst, ◌∙◌, inl, inr, arith}
-use Rattle.std.specs.Prelude.{nat_lt, nat_le, ◌==◌, ◌&&◌, max, filter, T}
+use Rattle.std.proofs.Common.{◌≡◌, ℕ, suc, ◌-◌, ◌≤◌, Bool, true, false, cond, List, [], ◌∷◌, ◌++◌, map, Option, Some, None, refl, sym, ap, subst, ◌∙◌, inl, inr, arith}
+use Rattle.std.specs.Prelude.{nat_lt, nat_le, ◌==◌, ◌&&◌, filter, T}
 use Rattle.std.specs.Ordering.{nat_cmp, eq_by_cmp, is_lt, is_eq}
 use Rattle.std.specs.Cmp.{nat_cmp_total, eq_by_cmp_equiv, unsigned_tied}
 use Rattle.std.proofs.lemmas.Bool.{eqb-false}
@@ -8,13 +8,13 @@ use Rattle.std.specs.FinMap as table
 use Rattle.std.specs.FinMap.Entries.{find, is_sorted, below_all}
 use Rattle.std.specs.declared.cmp.Ordering.{Ordering}
 use Rattle.std.specs.declared.cmp.Ordering.TheVariants.{Less, Equal, Greater}
-use Rattle.std.proofs.Math.Nat.{le-max_left, le-max_right}
+use Rattle.std.proofs.Math.Nat.{le-max_right}
 use Rattle.gfs_types.specs.declared.record.Record.{Record}
 use Rattle.gfs_types.specs.declared.record.Record.TheVariants as log
 use Rattle.gfs_types.specs.Paths.{Path}
 use Rattle.relaxed_file.specs.Names.{Node, Dir, File, id_after, copied_entries}
 use Rattle.protocol.specs.Tables.{Table, removed_all, map_values}
-use Rattle.protocol.specs.Sending.{file_id, handle_of, version_of}
+use Rattle.protocol.specs.Sending.{file_id, handle_of}
 use Rattle.protocol.specs.ChunkTable.{ChunkRow, ChunkTable, new_row, with_owner, changed_row, granted_row, shared, all_shared, left_by, left, all_left, handles_of}
 use Rattle.protocol.specs.Logged.{Logged, KeptCall, Copy, first_logged, after_record, after_records, copies_for_file, swapped_in, owned_row, with_owned, with_copied_node, with_copied_nodes, checkpoint_of, name_item, node_item, chunk_item, client_item}
 use Rattle.protocol.proofs.Steps.{on_cond, none_some, same_some, put_cases, put_split, kept_cases, removed_cases}
@@ -75,11 +75,11 @@ put_from : (t : Rows) (handle : ℕ) (old new : ChunkRow) → table.get t handle
 put_from t handle old new is a b other row h =
     elim (put_cases t handle new other row h) [
       | inl same ↦ record {
-          old = old;
-          at = ap (λ (q : ℕ). table.get t q) same.0 ∙ is;
-          granted = a ∙ ap (λ (r : ChunkRow). r.granted) same.1;
-          issued = b ∙ ap (λ (r : ChunkRow). r.issued) same.1;
-        }
+        old = old;
+        at = ap (λ (q : ℕ). table.get t q) same.0 ∙ is;
+        granted = a ∙ ap (λ (r : ChunkRow). r.granted) same.1;
+        issued = b ∙ ap (λ (r : ChunkRow). r.issued) same.1;
+      }
       | inr before ↦ record { old = row; at = before; granted = refl; issued = refl }
     ]
 
@@ -147,10 +147,10 @@ put_right l k handle new a c h =
       state = h.state;
       disk = put_issued k handle new a h.disk;
       below = λ q r s is other_is.
-        elim (put_split k handle new q s other_is) [
-          | inl same ↦ subst (λ (x : ChunkRow). x.granted ≤ r.issued) same.1 (c r (subst (λ (n : ℕ). table.get l n ≡ Some r) same.0 is))
-          | inr apart ↦ h.below q r s is apart.1
-        ];
+          elim (put_split k handle new q s other_is) [
+            | inl same ↦ subst (λ (x : ChunkRow). x.granted ≤ r.issued) same.1 (c r (subst (λ (n : ℕ). table.get l n ≡ Some r) same.0 is))
+            | inr apart ↦ h.below q r s is apart.1
+          ];
     }
 
 -- a row is put into the first
@@ -161,10 +161,10 @@ put_left l k handle new a c h =
       state = put_issued l handle new a h.state;
       disk = h.disk;
       below = λ q r s is other_is.
-        elim (put_split l handle new q r is) [
-          | inl same ↦ subst (λ (x : ChunkRow). s.granted ≤ x.issued) same.1 (c s (subst (λ (n : ℕ). table.get k n ≡ Some s) same.0 other_is))
-          | inr apart ↦ h.below q r s apart.1 other_is
-        ];
+          elim (put_split l handle new q r is) [
+            | inl same ↦ subst (λ (x : ChunkRow). s.granted ≤ x.issued) same.1 (c s (subst (λ (n : ℕ). table.get k n ≡ Some s) same.0 other_is))
+            | inr apart ↦ h.below q r s apart.1 other_is
+          ];
     }
 
 -- a row is put into both
@@ -175,16 +175,16 @@ put_both l k handle new other a b c h =
       state = put_issued l handle new a h.state;
       disk = put_issued k handle other b h.disk;
       below = λ q r s is other_is.
-        elim (put_split l handle new q r is) [
-          | inl same ↦ elim (put_split k handle other q s other_is) [
+          elim (put_split l handle new q r is) [
+            | inl same ↦ elim (put_split k handle other q s other_is) [
               | inl both ↦ let x = ap (λ (z : ChunkRow). z.issued) same.1 in let y = ap (λ (z : ChunkRow). z.granted) both.1 in omega (arith, x, y, c)
               | inr apart ↦ absurd (apart.0 same.0)
             ]
-          | inr apart ↦ elim (put_split k handle other q s other_is) [
+            | inr apart ↦ elim (put_split k handle other q s other_is) [
               | inl both ↦ absurd (apart.0 both.0)
               | inr there ↦ h.below q r s apart.1 there.1
             ]
-        ];
+          ];
     }
 
 -- one row is changed in both, where it is there
@@ -274,6 +274,7 @@ chunks_right l (e ∷ es) k all h = chunks_right l es (after_record k (chunk_ite
   where
     change : ChunkRow → ChunkRow
     change row = record row { granted = e.1.granted; issued = e.1.issued; primary = e.1.primary; members = e.1.members }
+
     one : (o : Option ChunkRow) → table.get (rows_of k) e.0 ≡ o → Both l (changed_row (rows_of k) e.0 change o)
     one None is = h
     one (Some row) is =
@@ -339,9 +340,9 @@ checkpoint_both l h =
     let one : Logged = after_records first names in
     let two : Logged = after_records one (map chunk_item rows) in
     let there : AllOf (IsIn (rows_of l)) rows =
-        in_table (rows_of l) rows (filtered (IsFound (table.entries (rows_of l))) (λ e. nat_lt 0 e.1.references) (table.entries (rows_of l)) (all_found (table.entries (rows_of l)) (table.entries_sorted (rows_of l)))) in
+    in_table (rows_of l) rows (filtered (IsFound (table.entries (rows_of l))) (λ e. nat_lt 0 e.1.references) (table.entries (rows_of l)) (all_found (table.entries (rows_of l)) (table.entries_sorted (rows_of l)))) in
     let read : Both (rows_of l) (rows_of (after_records two (map client_item clients))) =
-        clients_right (rows_of l) clients two (chunks_right (rows_of l) rows one there (names_right (rows_of l) l.table (table.entries l.names) first (no_row (rows_of l) h))) in
+    clients_right (rows_of l) clients two (chunks_right (rows_of l) rows one there (names_right (rows_of l) l.table (table.entries l.names) first (no_row (rows_of l) h))) in
     subst (λ (k : Logged). Both (rows_of l) (rows_of k)) (sym (after-append first (names ++ map chunk_item rows) (map client_item clients) ∙ ap (λ (k : Logged). after_records k (map client_item clients)) (after-append first names (map chunk_item rows)))) read
 
 -- values that are changed under their numbers

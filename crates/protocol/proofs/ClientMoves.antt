@@ -1,9 +1,8 @@
 -- A step of a client sends no order of the master.
-use Rattle.std.proofs.Common.{◌≡◌, ℕ, suc, ◌+◌, ◌*◌, Bool, true, false, cond, List, [], ◌∷◌, ◌++◌, length, Option, Some, None, refl, sym, ◌∙◌, arith}
-use Rattle.std.specs.Prelude.{nat_le, nat_lt, ◌==◌, ◌&&◌, ◌||◌, not, ◌/◌, is_some}
+use Rattle.std.proofs.Common.{◌≡◌, ℕ, suc, ◌+◌, ◌*◌, Bool, true, false, List, [], ◌∷◌, ◌++◌, length, Option, Some, None, refl, ◌∙◌, arith}
+use Rattle.std.specs.Prelude.{nat_le, nat_lt, ◌==◌, ◌&&◌, ◌||◌, not, ◌/◌}
 use Rattle.std.specs.Option.{option_to_list}
 use Rattle.std.specs.FinMap as table
-use Rattle.gfs_types.specs.declared.ids.Fd.{Fd}
 use Rattle.gfs_types.specs.declared.ids.Node.{Node}
 use Rattle.gfs_types.specs.declared.ids.Node.TheVariants.{Master}
 use Rattle.gfs_types.specs.declared.ids.DataId.{DataId}
@@ -29,10 +28,10 @@ use Rattle.relaxed_file.specs.Parts.{is_range_too_long}
 use Rattle.protocol.specs.Tables.{is_empty_list}
 use Rattle.protocol.specs.Sending.{message, the_client, the_server, file_id, moment_of, data_id}
 use Rattle.protocol.specs.PushBuffer.{next_hop, hops_after}
-use Rattle.protocol.specs.Client.{file_chunk, ClientState, ClientDoing, CurrentCall, LiveAttempt, Cached, Stage, AskedNames, AskedWhere, MustAskAgain, SentData, SentMutate, SentRead, IsOver, HasAnswer, client_begins, sends, with_current, answers, next_number, counted}
+use Rattle.protocol.specs.Client.{file_chunk, ClientState, ClientDoing, CurrentCall, LiveAttempt, Cached, Stage, AskedNames, AskedWhere, MustAskAgain, SentData, SentMutate, SentRead, IsOver, HasAnswer, client_begins, sends, answers, next_number, counted}
 use Rattle.protocol.specs.ClientCache.{cached, cache_after_look, with_cached}
 use Rattle.protocol.specs.ClientAttempts.{is_mutation, is_length, is_append, bytes_to_send, target_of, read_start, read_count, wanted_by, has_next_part, live_at, answers_if, completes, last_refusal, gives_up, ends_refused, asks, sends_read, reads_next, pushes_to, pushes, goes_on_at, will_do, begins_with, begins_at, chunk_to_find, attempts, attempts_names, begins_next_part, forgets}
-use Rattle.protocol.specs.ClientTakes.{opens, takes_reply, takes_named, takes_wait, gets, told_none, told_location, told, takes_told, is_own_data, mutate_to, takes_pushed, less_live, succeeds, takes_done, takes_bytes, takes_len_is, master_refuses, stays_live, looks_past, primary_refuses, takes_refused, client_takes}
+use Rattle.protocol.specs.ClientTakes.{takes_reply, takes_named, takes_wait, gets, told_none, told_location, told, takes_told, is_own_data, mutate_to, takes_pushed, less_live, succeeds, takes_done, takes_bytes, takes_len_is, master_refuses, stays_live, looks_past, primary_refuses, takes_refused, client_takes}
 use Rattle.protocol.specs.ClientStep.{new_call, calls_names, calls_file, calls_on, fd_of, calls, ticks_names, ends_unanswered, ticks_unanswered, ticks_at, takes_at, client_does, client_at, client_goes, client_call_goes}
 use Rattle.protocol.specs.Laws.{order_number, orders_under, is_number}
 use Rattle.protocol.proofs.Steps.{on_cond, tally, count-append}
@@ -84,7 +83,7 @@ read_quiet d c l s number h =
     on_cond Quiet (is_length c.asked) (sends d (the_server s.server.0) (body.Len number l.handle s.version)) _
     (λ _. sends_quiet d (the_server s.server.0) (body.Len number l.handle s.version) refl h)
     (λ _. sends_quiet d (the_server s.server.0)
-      (body.Read number l.handle s.version (read_start (file_chunk d.client c.file) c.index c.asked) (read_count (file_chunk d.client c.file) c.index c.asked)) refl h)
+    (body.Read number l.handle s.version (read_start (file_chunk d.client c.file) c.index c.asked) (read_count (file_chunk d.client c.file) c.index c.asked)) refl h)
 
 reads_quiet : (d : ClientDoing) (c : CurrentCall) (l : Location) (left : List Holder) → Quiet d → Quiet (reads_next d c l left)
 reads_quiet d c l [] h = refused_quiet d (record c { is_nobody_serving = true }) h

@@ -1,5 +1,5 @@
 -- The granted version of a chunk is at most the issued one.
-use Rattle.std.proofs.Common.{◌≡◌, ℕ, suc, ◌≤◌, Bool, true, false, cond, List, [], ◌∷◌, ◌++◌, take, drop, Option, Some, None, refl, sym, ap, subst, ◌∙◌, arith}
+use Rattle.std.proofs.Common.{◌≡◌, ℕ, suc, ◌≤◌, true, false, List, [], take, drop, Some, refl, sym, ap, subst, ◌∙◌, arith}
 use Rattle.std.specs.Prelude.{nat_lt, ◌+◌, ◌&&◌, not, IsTrue}
 use Rattle.std.specs.Ordering.{nat_cmp}
 use Rattle.std.specs.FinMap as table
@@ -7,20 +7,20 @@ use Rattle.gfs_types.specs.declared.config.Config.{Config}
 use Rattle.gfs_types.specs.declared.event.Input.{Input}
 use Rattle.gfs_types.specs.declared.record.Record.{Record}
 use Rattle.gfs_types.specs.declared.record.Record.TheVariants as log
-use Rattle.protocol.specs.Choice.{Choice, Ending, Goes, Lost, Stops, decided_changes}
+use Rattle.protocol.specs.Choice.{Choice, Ending, Goes, Lost, Stops}
 use Rattle.protocol.specs.Seen.{Taken, no_step}
 use Rattle.protocol.specs.ChunkTable.{ChunkRow, changed_row}
 use Rattle.protocol.specs.LogSizes.{checkpoint_fits}
 use Rattle.protocol.specs.Logged.{Logged, LogDisk, LogChange, AppendRecord, WriteCheckpoint, log_changed, log_changed_by_all, after_record, checkpoint_of, replayed, all_copies_given_up}
 use Rattle.protocol.specs.Master.{MasterState, MasterDoing, stopped_master, master_begins, fits, appends, writes_checkpoint, logs_after_checkpoint, is_of_copy}
-use Rattle.protocol.specs.MasterStep.{master_at, master_goes, master_ends, master_bounded, master_step, is_within_limits, found_log, lease_after_restart, started_master, opening, has_opened, opens_as, master_restart, new_master, first_log}
+use Rattle.protocol.specs.MasterStep.{master_goes, master_ends, master_bounded, master_step, is_within_limits, found_log, lease_after_restart, started_master, opening, has_opened, opens_as, new_master, first_log}
 use Rattle.protocol.specs.Laws.{GrantedIsAtMostIssued}
 use Rattle.protocol.proofs.Steps.{on_cond, none_some}
-use Rattle.protocol.proofs.MasterMoves.{Core, core_of, IsDue, Keeps, core_changed}
+use Rattle.protocol.proofs.MasterMoves.{Core, core_of, Keeps, core_changed}
 use Rattle.protocol.proofs.MasterSteps.{goes_keeps}
 use Rattle.protocol.proofs.OrderNumbers.{state_of, state-appended, AllStops, stops_push, changed-push, AllFound, found_same, found_stopped}
-use Rattle.protocol.proofs.ChunkRows.{Rows, rows_of, AreIssued, From, same_from, then_from, issued_from, Both, both_from, both_record, removed_from, changed_from, checkpoint_both, mapped_from}
-use Rattle.protocol.proofs.MasterReached.{IsKeptByMaster, reached_here}
+use Rattle.protocol.proofs.ChunkRows.{Rows, rows_of, AreIssued, From, same_from, then_from, Both, both_from, both_record, removed_from, changed_from, checkpoint_both, mapped_from}
+use Rattle.protocol.proofs.MasterReached.{reached_here}
 
 abbrev IsGood : LogDisk → Type 0
 IsGood d = AreIssued (rows_of (state_of d))
@@ -54,7 +54,7 @@ checkpointed start c h =
     let less : Rows = rows_of (all_copies_given_up c.logged) in
     changed start c (WriteCheckpoint (checkpoint_of c.logged)) (all_copies_given_up c.logged)
     (both_from (rows_of c.logged) (rows_of (state_of (log_changed c.disk (WriteCheckpoint (checkpoint_of c.logged))))) less (rows_of (state_of (log_changed c.disk (WriteCheckpoint (checkpoint_of c.logged)))))
-      (removed_from (rows_of c.logged) (table.keys c.logged.copies)) (same_from (rows_of (state_of (log_changed c.disk (WriteCheckpoint (checkpoint_of c.logged)))))) read) h
+    (removed_from (rows_of c.logged) (table.keys c.logged.copies)) (same_from (rows_of (state_of (log_changed c.disk (WriteCheckpoint (checkpoint_of c.logged)))))) read) h
 
 -- the state's rows alone change, and no version
 quieter : (start : LogDisk) (c : Core) (l : Logged) → From (rows_of c.logged) (rows_of l) → IsIssuing start c → IsIssuing start (record c { logged = l })
@@ -70,8 +70,8 @@ issuing_keeps start =
       checkpoint = λ c h. checkpointed start c h;
       less = λ c handles h. quieter start c (record c.logged { copies = _; table = _ }) (removed_from (rows_of c.logged) handles) h;
       ends = λ c handle moment h.
-        quieter start c (record c.logged { table = record c.logged.table { chunks = changed_row (rows_of c.logged) handle (λ row. record row { lease_end = moment }) (table.get (rows_of c.logged) handle) } })
-        (changed_from (rows_of c.logged) handle (λ row. record row { lease_end = moment }) (table.get (rows_of c.logged) handle) refl (λ r. (refl, refl))) h;
+          quieter start c (record c.logged { table = record c.logged.table { chunks = changed_row (rows_of c.logged) handle (λ row. record row { lease_end = moment }) (table.get (rows_of c.logged) handle) } })
+          (changed_from (rows_of c.logged) handle (λ row. record row { lease_end = moment }) (table.get (rows_of c.logged) handle) refl (λ r. (refl, refl))) h;
     }
 
 -- of a master between its steps
@@ -109,9 +109,9 @@ step_issued m moment i choice h =
     let good : Taken MasterState → Type 0 = λ t. IsIssued t.state in
     on_cond good m.up (master_bounded m d choice) (no_step m)
     (λ up. on_cond good (is_within_limits d.master) (master_ends m d choice choice.ending) (no_step m)
-      (λ _. ends_issued m d choice choice.ending h
-        (goes_keeps (IsIssuing m.disk) (issuing_keeps m.disk) m moment i choice.refused (record { none = h.idle up; disk = refl; rows = h.rows up; stops = h.found [] })))
-      (λ _. h))
+    (λ _. ends_issued m d choice choice.ending h
+    (goes_keeps (IsIssuing m.disk) (issuing_keeps m.disk) m moment i choice.refused (record { none = h.idle up; disk = refl; rows = h.rows up; stops = h.found [] })))
+    (λ _. h))
     (λ _. h)
 
 later_ends : (config : Config) (moment : ℕ) (r : ChunkRow) → (r.granted ≡ (lease_after_restart config moment r).granted) × (r.issued ≡ (lease_after_restart config moment r).issued)
@@ -126,16 +126,16 @@ opening_issuing config count found moment good =
     let r : Record = log.Epoch (suc d.master.logged.epoch) in
     let all : Rows = rows_of (state_of found) in
     let kept : From all (rows_of started.logged) =
-        then_from all (rows_of (replayed found)) (rows_of started.logged) (removed_from all (table.keys (state_of found).copies)) (mapped_from (rows_of (replayed found)) (lease_after_restart config moment) (later_ends config moment)) in
+    then_from all (rows_of (replayed found)) (rows_of started.logged) (removed_from all (table.keys (state_of found).copies)) (mapped_from (rows_of (replayed found)) (lease_after_restart config moment) (later_ends config moment)) in
     let first : IsIssuing found (core_of d) =
-        record { none = refl; disk = refl; stops = good; rows = both_from all all (rows_of started.logged) all kept (same_from all) (record { state = good; disk = good; below = same_below all good }) } in
+    record { none = refl; disk = refl; stops = good; rows = both_from all all (rows_of started.logged) all kept (same_from all) (record { state = good; disk = good; below = same_below all good }) } in
     let begins : (e : MasterDoing) → IsIssuing found (core_of e) → IsIssuing found (core_of (appends e r)) =
-        λ e h. changed found (core_of e) (AppendRecord r) (after_record e.master.logged r) (both_appended e.master.logged e.master.disk r h.rows) h in
+    λ e h. changed found (core_of e) (AppendRecord r) (after_record e.master.logged r) (both_appended e.master.logged e.master.disk r h.rows) h in
     on_cond (λ (e : MasterDoing). IsIssuing found (core_of e)) (fits d r) (appends d r) _ (λ _. begins d first)
     (λ _. on_cond (λ (e : MasterDoing). IsIssuing found (core_of e)) (checkpoint_fits d.master.config.log_bytes (checkpoint_of d.master.logged)) (logs_after_checkpoint (writes_checkpoint d) r (is_of_copy d.master.logged r) (λ e. e)) d
-      (λ _. on_cond (λ (e : MasterDoing). IsIssuing found (core_of e)) (fits (writes_checkpoint d) r && not (is_of_copy d.master.logged r)) (appends (writes_checkpoint d) r) (writes_checkpoint d)
-        (λ _. begins (writes_checkpoint d) (checkpointed found (core_of d) first)) (λ _. checkpointed found (core_of d) first))
-      (λ _. first))
+    (λ _. on_cond (λ (e : MasterDoing). IsIssuing found (core_of e)) (fits (writes_checkpoint d) r && not (is_of_copy d.master.logged r)) (appends (writes_checkpoint d) r) (writes_checkpoint d)
+    (λ _. begins (writes_checkpoint d) (checkpointed found (core_of d) first)) (λ _. checkpointed found (core_of d) first))
+    (λ _. first))
   where
     same_below : (t : Rows) → AreIssued t → (handle : ℕ) (row other : ChunkRow) → table.get t handle ≡ Some row → table.get t handle ≡ Some other → other.granted ≤ row.issued
     same_below t h handle row other is other_is = let same : Some row ≡ Some other = sym is ∙ other_is in let bound = h handle other other_is in let issued = issued_same same in omega (arith, bound, issued)

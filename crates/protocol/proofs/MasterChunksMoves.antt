@@ -1,11 +1,10 @@
 -- What an ask of a client and a word of a server lead to at the master.
-use Rattle.std.proofs.Common.{◌≡◌, ℕ, zero, suc, ◌+◌, Bool, true, false, cond, List, [], ◌∷◌, ◌++◌, length, map, Option, Some, None, refl, sym}
-use Rattle.std.specs.Prelude.{nat_le, nat_lt, ◌==◌, ◌&&◌, not}
+use Rattle.std.proofs.Common.{◌≡◌, ℕ, zero, suc, ◌+◌, Bool, true, false, cond, List, [], ◌∷◌, ◌++◌, length, map, Option, Some, None, refl}
+use Rattle.std.specs.Prelude.{nat_le, nat_lt, ◌==◌, ◌&&◌}
 use Rattle.std.specs.FinMap as table
 use Rattle.gfs_types.specs.declared.ids.Node.{Node}
 use Rattle.gfs_types.specs.declared.ids.OrderNo.{OrderNo}
 use Rattle.gfs_types.specs.declared.refusal.Refusal.TheVariants.{TooLong, Collected}
-use Rattle.gfs_types.specs.declared.message.Body.{Body}
 use Rattle.gfs_types.specs.declared.message.Body.TheVariants as body
 use Rattle.gfs_types.specs.declared.message.Holder.{Holder}
 use Rattle.gfs_types.specs.declared.message.Wanted.{Wanted}
@@ -16,15 +15,15 @@ use Rattle.gfs_types.specs.declared.record.Record.TheVariants as log
 use Rattle.protocol.specs.Tables.{element_at, rising, has_number, with_number}
 use Rattle.protocol.specs.Sending.{the_server, server_id, file_id, handle_of, version_of, moment_of}
 use Rattle.protocol.specs.ChunkTable.{ChunkRow, chunk_of, file_of, has_ended}
-use Rattle.protocol.specs.Master.{MasterState, MasterDoing, VersionAttempt, HeldAt, tells, orders, ends_at, with_attempt, without_attempt, gives_up_copy, holders_where, current_holders}
+use Rattle.protocol.specs.Master.{MasterDoing, VersionAttempt, HeldAt, tells, orders, ends_at, with_attempt, without_attempt, gives_up_copy, holders_where, current_holders}
 use Rattle.protocol.specs.MasterSnapshots.{revokes, waits_for}
-use Rattle.protocol.specs.MasterVersions.{Asker, VersionTarget, holder_line, group_of, tells_location, tells_holders, tells_none, tells_to_wait, version_order, sends_versions, new_attempt, sends_issued, issues_to, targets_by, recorded_holders, issues_own, is_attempted, copy_order, sends_copies, copy_targets, sends_copy_started, copies_to, begins_copy, copy_for, is_copied, wants_own, wants_own_of, issues_copy, wants_copy, wants_by, wants_primary, holder_target, sends_grant, grants, grants_to, is_complete, with_recorded, learns_attempt, learns}
+use Rattle.protocol.specs.MasterVersions.{Asker, VersionTarget, holder_line, group_of, tells_location, tells_holders, tells_none, tells_to_wait, version_order, sends_versions, new_attempt, sends_issued, issues_to, targets_by, recorded_holders, issues_own, is_attempted, copy_order, sends_copies, copy_targets, sends_copy_started, copies_to, begins_copy, copy_for, is_copied, wants_own, wants_own_of, issues_copy, wants_copy, wants_by, wants_primary, holder_target, sends_grant, grants_to, is_complete, with_recorded, learns_attempt, learns}
 use Rattle.protocol.specs.MasterAsks.{looks_at_row, looks_at, mutates_row, mutates_at, adds_chunk, with_index, asks_to_write, asks_to_append, asks_for_last, asks_for, asks_of, takes_ask}
-use Rattle.protocol.specs.MasterReports.{holds_now, takes_recorded, takes_cloned, revoked_row, takes_revoked, is_useless, drops_useless, learns_all, may_extend, extends_row, extends_all, hears, takes_report}
+use Rattle.protocol.specs.MasterReports.{holds_now, takes_recorded, revoked_row, takes_revoked, is_useless, drops_useless, learns_all, may_extend, extends_row, extends_all, hears, takes_report}
 use Rattle.protocol.specs.Laws.{order_number}
 use Rattle.protocol.specs.Seen.{CopyStarted}
 use Rattle.protocol.proofs.Steps.{on_cond}
-use Rattle.protocol.proofs.MasterMoves.{Core, core_of, IsDue, Keeps, At, logs_keeps}
+use Rattle.protocol.proofs.MasterMoves.{Core, core_of, Keeps, At, logs_keeps}
 use Rattle.protocol.proofs.MasterNamesMoves.{tells_keeps, orders_keeps, copies_keeps, revokes_keeps}
 
 numbered_version : (handle version : ℕ) (base : Option ℕ) (o : OrderNo) → order_number (version_order handle version base o) ≡ Some o
@@ -94,7 +93,7 @@ module _ (P : Core → Type 0) (k : Keeps P) where
   wants_own_keeps d a handle row is h =
       on_cond (At P k) (nat_lt 1 row.references) (begins_copy d a handle row) _ (λ _. copies_to_keeps d a handle row (copy_targets d.master handle row) h)
       (λ _. on_cond (At P k) (is_copied d.master.logged handle) (tells_to_wait d a) (issues_own d a handle row (is_attempted d.master handle)) (λ _. wait_keeps d a h)
-        (λ _. own_keeps d a handle row (is_attempted d.master handle) is h))
+      (λ _. own_keeps d a handle row (is_attempted d.master handle) is h))
 
   wants_own_of_keeps : (d : MasterDoing) (a : Asker) (handle : ℕ) (o : Option ChunkRow) → chunk_of d.master.logged.table handle ≡ o → At P k d → At P k (wants_own_of d a handle o)
   wants_own_of_keeps d a handle None is h = h
@@ -151,7 +150,7 @@ module _ (P : Core → Type 0) (k : Keeps P) where
   write_keeps d a lost handles index h =
       on_cond (At P k) (nat_lt (length handles) index) (tells d a.client (body.Refused a.number TooLong)) _ (λ _. tells_keeps P k d a.client (body.Refused a.number TooLong) refl h)
       (λ _. on_cond (At P k) (index == length handles) (adds_chunk d (with_index a index) lost) (mutates_at d (with_index a index) lost (element_at handles index))
-        (λ _. adds_keeps d (with_index a index) lost h) (λ _. mutates_at_keeps d (with_index a index) lost (element_at handles index) h))
+      (λ _. adds_keeps d (with_index a index) lost h) (λ _. mutates_at_keeps d (with_index a index) lost (element_at handles index) h))
 
   append_keeps : (d : MasterDoing) (a : Asker) (lost : Bool) (handles : List ℕ) (after count : ℕ) → At P k d → At P k (asks_to_append d a lost handles after count)
   append_keeps d a lost handles after zero h = adds_keeps d (with_index a 0) lost h

@@ -1,11 +1,10 @@
 -- What a step of the master is made of. Whatever each of these moves keeps is kept by every step.
-use Rattle.std.proofs.Common.{◌≡◌, ◌⊎◌, ℕ, suc, Bool, true, false, cond, List, [], ◌∷◌, ◌++◌, Option, Some, None, refl, sym, ap, subst, ◌∙◌}
+use Rattle.std.proofs.Common.{◌≡◌, ℕ, suc, Bool, true, false, cond, List, [], ◌∷◌, ◌++◌, Some, None, refl, sym, ap, ◌∙◌}
 use Rattle.std.specs.Prelude.{◌&&◌, ◌||◌, not}
 use Rattle.std.specs.List.{list_any}
 use Rattle.std.specs.Ordering.{nat_cmp, eq_by_cmp}
 use Rattle.std.specs.Cmp.{nat_cmp_total}
 use Rattle.std.specs.FinMap as table
-use Rattle.gfs_types.specs.declared.config.Config.{Config}
 use Rattle.gfs_types.specs.declared.ids.Node.{Node}
 use Rattle.gfs_types.specs.declared.ids.Node.TheVariants as node
 use Rattle.gfs_types.specs.declared.ids.OrderNo.{OrderNo}
@@ -128,8 +127,8 @@ module _ (P : Core → Type 0) (k : Keeps P) where
       let was : Bool = is_of_copy d.master.logged r in
       on_cond At (fits d r) (then_ (appends d r)) _ (λ _. go (appends d r) (k.appends (core_of d) r due h))
       (λ _. on_cond At (checkpoint_fits d.master.config.log_bytes (checkpoint_of d.master.logged)) (logs_after_checkpoint (writes_checkpoint d) r was then_) d
-        (λ _. on_cond At (fits (writes_checkpoint d) r && not was) (then_ (appends (writes_checkpoint d) r)) (writes_checkpoint d)
-          (λ t. go (appends (writes_checkpoint d) r)
-            (k.appends (core_of (writes_checkpoint d)) r (due_later d.master.logged r (neither (fits (writes_checkpoint d) r) was t) due) (checkpoint_keeps d h)))
-          (λ _. checkpoint_keeps d h))
-        (λ _. h))
+      (λ _. on_cond At (fits (writes_checkpoint d) r && not was) (then_ (appends (writes_checkpoint d) r)) (writes_checkpoint d)
+      (λ t. go (appends (writes_checkpoint d) r)
+      (k.appends (core_of (writes_checkpoint d)) r (due_later d.master.logged r (neither (fits (writes_checkpoint d) r) was t) due) (checkpoint_keeps d h)))
+      (λ _. checkpoint_keeps d h))
+      (λ _. h))

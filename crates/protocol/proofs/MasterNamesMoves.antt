@@ -1,5 +1,5 @@
 -- What a name call, a snapshot and an order of the master are made of.
-use Rattle.std.proofs.Common.{◌≡◌, ℕ, suc, Bool, true, false, cond, List, [], ◌∷◌, Option, Some, None, refl, sym}
+use Rattle.std.proofs.Common.{◌≡◌, ℕ, List, [], ◌∷◌, Option, Some, None, refl}
 use Rattle.std.specs.Prelude.{nat_le, nat_lt, ◌==◌}
 use Rattle.std.specs.FinMap as table
 use Rattle.gfs_types.specs.declared.ids.Node.{Node}
@@ -69,8 +69,8 @@ module _ (P : Core → Type 0) (k : Keeps P) where
       let tried : MasterDoing = record d { refused = all_but_first d.refused } in
       on_cond (At P k) (needs_room c) _ (settles_name d client number r None)
       (λ _. on_cond (At P k) (first_is_true d.refused) (refuses_name tried client number NamesFull) (settles_name tried client number r None)
-        (λ _. refuses_keeps tried client number NamesFull h)
-        (λ _. settles_keeps tried client number r None due h))
+      (λ _. refuses_keeps tried client number NamesFull h)
+      (λ _. settles_keeps tried client number r None due h))
       (λ _. settles_keeps d client number r None due h)
 
   snapshot_keeps : (d : MasterDoing) (s : PendingSnapshot) → At P k d → At P k (takes_snapshot d s)
@@ -110,7 +110,7 @@ module _ (P : Core → Type 0) (k : Keeps P) where
   anew_keeps d client number deadline c h =
       on_cond (At P k) (nat_le deadline d.master.now) d _ (λ _. h)
       (λ _. on_cond (At P k) (is_waiting_call d.master client number) d (names_by d client number deadline c (master_refusal d.master c)) (λ _. h)
-        (λ _. by_keeps d client number deadline c (master_refusal d.master c) h))
+      (λ _. by_keeps d client number deadline c (master_refusal d.master c) h))
 
   kept_keeps : (d : MasterDoing) (client number deadline : ℕ) (c : Call) (o : Option KeptCall) → At P k d → At P k (names_kept d client number deadline c o)
   kept_keeps d client number deadline c None h = anew_keeps d client number deadline c h

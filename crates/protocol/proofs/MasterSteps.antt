@@ -1,7 +1,6 @@
 -- Every step of the master, and its opening, keeps what each move keeps.
-use Rattle.std.proofs.Common.{◌≡◌, ℕ, suc, Bool, true, false, cond, List, [], ◌∷◌, ◌++◌, Option, Some, None, refl}
+use Rattle.std.proofs.Common.{ℕ, Bool, List, [], ◌∷◌, Option, Some, None, refl}
 use Rattle.std.specs.FinMap as table
-use Rattle.gfs_types.specs.declared.ids.OrderNo.{OrderNo}
 use Rattle.gfs_types.specs.declared.event.Input.{Input}
 use Rattle.gfs_types.specs.declared.event.Input.TheVariants as input
 use Rattle.gfs_types.specs.declared.message.Message.{Message}
@@ -11,8 +10,8 @@ use Rattle.gfs_types.specs.declared.record.Record.TheVariants as log
 use Rattle.protocol.specs.Sending.{client_number, server_number, server_id, file_id, handle_of, version_of}
 use Rattle.protocol.specs.Master.{MasterState, MasterDoing, master_begins, logs}
 use Rattle.protocol.specs.MasterClones.{CloneOrder, orders_clone, best_clone}
-use Rattle.protocol.specs.MasterStep.{master_ticks, gives_up_attempts, gives_up_lost_copies, lost_copies, expires_all, expires_old, expired_files, master_takes, master_does, master_at, finishes, master_goes}
-use Rattle.protocol.proofs.MasterMoves.{Core, core_of, Keeps, At, logs_keeps}
+use Rattle.protocol.specs.MasterStep.{master_ticks, gives_up_attempts, gives_up_lost_copies, lost_copies, expires_all, expires_old, expired_files, master_takes, master_does, master_at, master_goes}
+use Rattle.protocol.proofs.MasterMoves.{Core, Keeps, At, logs_keeps}
 use Rattle.protocol.proofs.MasterNamesMoves.{orders_keeps, copies_keeps, ready_keeps, look_keeps, name_keeps}
 use Rattle.protocol.proofs.MasterChunksMoves.{ask_keeps, takes_recorded_keeps, takes_revoked_keeps, report_keeps}
 

@@ -1,10 +1,8 @@
 -- No two orders of the master have one number.
-use Rattle.std.proofs.Common.{◌≡◌, ◌⊎◌, ℕ, zero, suc, ◌+◌, ◌-◌, ◌≤◌, ◌<◌, Bool, true, false, cond, List, [], ◌∷◌, ◌++◌, length, map, take, drop, Option, Some, None, refl, sym, ap, subst, ◌∙◌, inl, inr, arith}
-use Rattle.std.specs.Prelude.{nat_lt, nat_le, ◌==◌, ◌&&◌, IsTrue, filter, count_by}
+use Rattle.std.proofs.Common.{◌≡◌, ◌⊎◌, ℕ, zero, suc, ◌≤◌, ◌<◌, Bool, true, false, List, [], ◌∷◌, ◌++◌, map, take, drop, Option, Some, None, refl, sym, ap, subst, ◌∙◌, inl, inr, arith}
+use Rattle.std.specs.Prelude.{nat_lt, ◌==◌, ◌&&◌, filter}
 use Rattle.std.specs.FinMap as table
 use Rattle.std.proofs.lemmas.Bool.{eqb-true, cases_lt}
-use Rattle.gfs_types.specs.declared.config.Config.{Config}
-use Rattle.gfs_types.specs.declared.ids.Node.{Node}
 use Rattle.gfs_types.specs.declared.ids.Node.TheVariants as node
 use Rattle.gfs_types.specs.declared.ids.OrderNo.{OrderNo}
 use Rattle.gfs_types.specs.declared.message.Body.{Body}
@@ -13,15 +11,14 @@ use Rattle.gfs_types.specs.declared.record.Record.{Record}
 use Rattle.gfs_types.specs.declared.record.Record.TheVariants as log
 use Rattle.gfs_types.specs.Paths.{Path}
 use Rattle.relaxed_file.specs.Names.{Node as NameNode, Dir, File}
-use Rattle.protocol.specs.Choice.{Choice, Ending, Goes, Lost, Stops, decided_changes, in_order}
-use Rattle.protocol.specs.Seen.{Taken}
-use Rattle.protocol.specs.Sending.{message, the_server, client_id, file_id, handle_of}
+use Rattle.protocol.specs.Choice.{decided_changes}
+use Rattle.protocol.specs.Sending.{message, the_server, file_id, handle_of}
 use Rattle.protocol.specs.ChunkTable.{ChunkRow, ChunkTable}
-use Rattle.protocol.specs.Logged.{Logged, KeptCall, Copy, copies_given_up, LogDisk, LogChange, AppendRecord, WriteCheckpoint, first_logged, log_changed, log_changed_by_all, after_record, after_records, checkpoint_of, name_item, node_item, chunk_item, client_item, swapped_in, replayed}
+use Rattle.protocol.specs.Logged.{Logged, KeptCall, Copy, copies_given_up, LogDisk, LogChange, AppendRecord, WriteCheckpoint, first_logged, log_changed, log_changed_by_all, after_record, after_records, checkpoint_of, name_item, node_item, chunk_item, client_item, swapped_in}
 use Rattle.protocol.specs.Laws.{order_number, is_number, orders_under}
-use Rattle.protocol.proofs.Steps.{on_cond, tally, count-append}
-use Rattle.protocol.proofs.MasterMoves.{Core, core_of, IsDue, Keeps, core_changed}
-use Rattle.protocol.proofs.ClientMoves.{HasNoOrder, one_more}
+use Rattle.protocol.proofs.Steps.{tally, count-append}
+use Rattle.protocol.proofs.MasterMoves.{Core, IsDue, Keeps, core_changed}
+use Rattle.protocol.proofs.ClientMoves.{one_more}
 
 -- the state that a log leads to, before copies are given up
 abbrev pub state_of : LogDisk → Logged
@@ -148,6 +145,7 @@ new_number e n epoch count (Some order) is = split (order.epoch == e) (order.cou
   where
     same : order ≡ record { epoch = epoch; count = count }
     same = cc
+
     split : (a b : Bool) → (order.epoch == e) ≡ a → (order.count == n) ≡ b
         → ((e ≡ epoch) × (n ≡ count) × (tally (a && b) ≡ 1)) ⊎ (tally (a && b) ≡ 0)
     split true true p q =
@@ -168,62 +166,81 @@ pub numbers_keep : (start : LogDisk) (epoch before : ℕ) → Keeps (Numbers sta
 numbers_keep start epoch before =
     record {
       tells = λ c receiver b none h.
-        record {
-          up = h.up; none = h.none; logged = h.logged; disk = h.disk; on_disk = h.on_disk; stops = h.stops; rising = h.rising;
-          once = λ e n. let same = one_more c.sent node.Master receiver b none e n in let old = h.once e n in omega arith;
-          used = λ e n more. let same = one_more c.sent node.Master receiver b none e n in h.used e n (omega arith);
-        };
+          record {
+            up = h.up;
+            none = h.none;
+            logged = h.logged;
+            disk = h.disk;
+            on_disk = h.on_disk;
+            stops = h.stops;
+            rising = h.rising;
+            once = λ e n. let same = one_more c.sent node.Master receiver b none e n in let old = h.once e n in omega arith;
+            used = λ e n more. let same = one_more c.sent node.Master receiver b none e n in h.used e n (omega arith);
+          };
       orders = λ c server b is h. ordered c server b is h;
       appends = λ c r due h. appended c r due h;
       checkpoint = λ c h. checkpointed c h;
       less = λ c handles h.
-        record { up = h.up; none = h.none; logged = h.logged; disk = h.disk; on_disk = h.on_disk; stops = h.stops; rising = h.rising; once = h.once; used = h.used };
+          record { up = h.up; none = h.none; logged = h.logged; disk = h.disk; on_disk = h.on_disk; stops = h.stops; rising = h.rising; once = h.once; used = h.used };
       ends = λ c handle moment h.
-        record { up = h.up; none = h.none; logged = h.logged; disk = h.disk; on_disk = h.on_disk; stops = h.stops; rising = h.rising; once = h.once; used = h.used };
+          record { up = h.up; none = h.none; logged = h.logged; disk = h.disk; on_disk = h.on_disk; stops = h.stops; rising = h.rising; once = h.once; used = h.used };
     }
   where
     changed : (c : Core) (x : LogChange) (l : Logged) → l.epoch ≡ epoch → epoch_of (log_changed c.disk x) ≡ epoch → Numbers start epoch before c
         → Numbers start epoch before (record (core_changed c x) { logged = l })
     changed c x l same there h =
         record {
-          up = h.up; none = h.none; logged = same; rising = h.rising; once = h.once; used = h.used;
+          up = h.up;
+          none = h.none;
+          logged = same;
+          rising = h.rising;
+          once = h.once;
+          used = h.used;
           disk = changed-push start c.changes x ∙ ap (λ (d : LogDisk). log_changed d x) h.disk;
           on_disk = there;
           stops = stops_push (λ d. epoch_of d ≡ epoch) start c.changes x h.stops (subst (λ (d : LogDisk). epoch_of (log_changed d x) ≡ epoch) (sym h.disk) there);
         }
+
     appended : (c : Core) (r : Record) → IsDue c.logged r → Numbers start epoch before c
         → Numbers start epoch before (record (core_changed c (AppendRecord r)) { logged = after_record c.logged r })
     appended c r due h =
         let plain = due_plain c.logged r due in
         changed c (AppendRecord r) (after_record c.logged r) (plain_epoch c.logged r plain ∙ h.logged)
         (ap (λ (l : Logged). l.epoch) (state-appended c.disk r) ∙ plain_epoch (state_of c.disk) r plain ∙ h.on_disk) h
+
     checkpointed : (c : Core) → Numbers start epoch before c
         → Numbers start epoch before (record (core_changed c (WriteCheckpoint (checkpoint_of c.logged))) { logged = copies_given_up c.logged (table.keys c.logged.copies) })
     checkpointed c h =
         changed c (WriteCheckpoint (checkpoint_of c.logged)) (copies_given_up c.logged (table.keys c.logged.copies)) h.logged (checkpoint_epoch c.logged first_logged ∙ h.logged) h
+
     ordered : (c : Core) (server : ℕ) (b : OrderNo → Body) → ((o : OrderNo) → order_number (b o) ≡ Some o) → Numbers start epoch before c
         → Numbers start epoch before (record c { sent = c.sent ++ message node.Master (the_server server) (b (record { epoch = c.logged.epoch; count = suc c.order_count })) ∷ []; order_count = suc c.order_count })
     ordered c server b is h =
         let order : OrderNo = record { epoch = c.logged.epoch; count = suc c.order_count } in
         let m : Message = message node.Master (the_server server) (b order) in
         record {
-          up = h.up; none = h.none; logged = h.logged; disk = h.disk; on_disk = h.on_disk; stops = h.stops;
+          up = h.up;
+          none = h.none;
+          logged = h.logged;
+          disk = h.disk;
+          on_disk = h.on_disk;
+          stops = h.stops;
           rising = let r = h.rising in omega arith;
           once = λ e n.
-            let whole = count-append (λ (x : Message). is_number e n (order_number x.body)) c.sent (m ∷ []) in
-            let old = h.once e n in
-            elim (new_number e n c.logged.epoch (suc c.order_count) (order_number (b order)) (is order)) [
-              | inl now ↦ let zero_before = none_of c h e n now.1 in let one = now.2 in omega (arith, whole, one, zero_before)
-              | inr other ↦ omega (arith, whole, other, old)
-            ];
+              let whole = count-append (λ (x : Message). is_number e n (order_number x.body)) c.sent (m ∷ []) in
+              let old = h.once e n in
+              elim (new_number e n c.logged.epoch (suc c.order_count) (order_number (b order)) (is order)) [
+                | inl now ↦ let zero_before = none_of c h e n now.1 in let one = now.2 in omega (arith, whole, one, zero_before)
+                | inr other ↦ omega (arith, whole, other, old)
+              ];
           used = λ e n more.
-            let whole = count-append (λ (x : Message). is_number e n (order_number x.body)) c.sent (m ∷ []) in
-            let r = h.rising in
-            elim (new_number e n c.logged.epoch (suc c.order_count) (order_number (b order)) (is order)) [
-              | inl now ↦ (now.0 ∙ h.logged, let is_next = now.1 in omega arith, let is_next = now.1 in omega arith)
-              | inr other ↦
-                let there : 1 ≤ orders_under e n c.sent = omega (arith, whole, other, more) in
-                let was = h.used e n there in
-                (was.0, was.1, let bound = was.2 in omega arith)
-            ];
+              let whole = count-append (λ (x : Message). is_number e n (order_number x.body)) c.sent (m ∷ []) in
+              let r = h.rising in
+              elim (new_number e n c.logged.epoch (suc c.order_count) (order_number (b order)) (is order)) [
+                | inl now ↦ (now.0 ∙ h.logged, let is_next = now.1 in omega arith, let is_next = now.1 in omega arith)
+                | inr other ↦
+                    let there : 1 ≤ orders_under e n c.sent = omega (arith, whole, other, more) in
+                    let was = h.used e n there in
+                    (was.0, was.1, let bound = was.2 in omega arith)
+              ];
         }

@@ -1,6 +1,6 @@
 -- No two orders of the master have one number: by steps, openings and events.
-use Rattle.std.proofs.Common.{◌≡◌, ◌⊎◌, ℕ, zero, suc, ◌+◌, ◌-◌, ◌≤◌, ◌<◌, Bool, true, false, cond, List, [], ◌∷◌, ◌++◌, length, take, drop, Option, Some, None, refl, sym, ap, subst, ◌∙◌, inl, inr, arith}
-use Rattle.std.specs.Prelude.{nat_lt, nat_le, ◌==◌, ◌&&◌, not, IsTrue, count_by}
+use Rattle.std.proofs.Common.{◌≡◌, ◌⊎◌, ℕ, suc, ◌+◌, ◌-◌, ◌≤◌, Bool, true, false, List, [], ◌∷◌, ◌++◌, length, take, drop, Option, Some, None, refl, sym, ap, subst, ◌∙◌, inl, inr, arith}
+use Rattle.std.specs.Prelude.{nat_lt, nat_le, ◌&&◌, not, IsTrue}
 use Rattle.std.proofs.lemmas.Bool.{eqb-true, cases_lt}
 use Rattle.gfs_types.specs.declared.config.Config.{Config}
 use Rattle.gfs_types.specs.declared.ids.Node.{Node}
@@ -14,24 +14,24 @@ use Rattle.gfs_types.specs.declared.event.Event.TheVariants as event
 use Rattle.gfs_types.specs.declared.event.Input.{Input}
 use Rattle.gfs_types.specs.declared.event.Input.TheVariants as input
 use Rattle.protocol.specs.Tables.{moment_limit}
-use Rattle.protocol.specs.Choice.{Choice, Ending, Goes, Lost, Stops, in_order, decided_changes}
+use Rattle.protocol.specs.Choice.{Choice, Ending, Goes, Lost, Stops, in_order}
 use Rattle.protocol.specs.Seen.{Taken, no_step}
 use Rattle.protocol.specs.LogSizes.{checkpoint_fits}
 use Rattle.protocol.specs.Logged.{Logged, LogDisk, LogChange, AppendRecord, WriteCheckpoint, first_logged, log_changed, log_changed_by_all, checkpoint_of}
-use Rattle.protocol.specs.Master.{MasterState, MasterDoing, stopped_master, master_begins, fits, appends, writes_checkpoint, logs, logs_after_checkpoint, is_of_copy}
-use Rattle.protocol.specs.MasterStep.{master_at, master_goes, master_ends, master_bounded, master_step, is_within_limits, found_log, started_master, opening, has_opened, opens_as, master_restart, new_master}
+use Rattle.protocol.specs.Master.{MasterState, MasterDoing, stopped_master, master_begins, fits, appends, writes_checkpoint, logs_after_checkpoint, is_of_copy}
+use Rattle.protocol.specs.MasterStep.{master_at, master_goes, master_ends, master_bounded, master_step, is_within_limits, found_log, started_master, opening, has_opened, opens_as, master_restart}
 use Rattle.protocol.specs.MasterSnapshots.{first_is_true}
 use Rattle.protocol.specs.Replicas.{Replica, replica_of}
-use Rattle.protocol.specs.Server.{ServerState, ServerDoing, server_begins}
-use Rattle.protocol.specs.ServerStep.{server_at, server_goes, server_ends, server_step, server_restarts, server_restart}
+use Rattle.protocol.specs.Server.{ServerState, ServerDoing}
+use Rattle.protocol.specs.ServerStep.{server_goes, server_ends, server_step, server_restarts, server_restart}
 use Rattle.protocol.specs.Client.{ClientState, ClientDoing}
-use Rattle.protocol.specs.ClientStep.{may_call, client_at, client_goes, client_call_goes, client_ends, client_bounded, client_step, client_call, is_client_within_limits}
-use Rattle.protocol.specs.World.{WorldState, Happened, new_world, nothing_happens, numbered_from_1, stamped, with_sent, after_master, after_server, after_client, master_moves, server_moves, client_moves, moves, delivered, server_restarts_at, restarts, call_moves, rots_replica, rots_on, at_moment, happens, after_events, IsReached}
+use Rattle.protocol.specs.ClientStep.{may_call, client_goes, client_call_goes, client_ends, client_bounded, client_step, client_call, is_client_within_limits}
+use Rattle.protocol.specs.World.{WorldState, Happened, new_world, nothing_happens, numbered_from_1, stamped, after_master, after_server, after_client, master_moves, server_moves, client_moves, moves, delivered, server_restarts_at, restarts, call_moves, rots_replica, rots_on, at_moment, happens, after_events}
 use Rattle.protocol.specs.Laws.{order_number, is_number, orders_under, OrdersAreNumberedOnce}
-use Rattle.protocol.proofs.Steps.{on_cond, tally, count-cons, count-append, count-in_order}
+use Rattle.protocol.proofs.Steps.{on_cond, count-cons, count-append, count-in_order}
 use Rattle.protocol.proofs.MasterMoves.{core_of}
 use Rattle.protocol.proofs.MasterSteps.{goes_keeps}
-use Rattle.protocol.proofs.ServerMoves.{ServerCore, KeepsServer, server_goes_holds}
+use Rattle.protocol.proofs.ServerMoves.{KeepsServer, server_goes_holds}
 use Rattle.protocol.proofs.ClientMoves.{HasNoOrder, one_more, client_goes_quiet, client_call_quiet}
 use Rattle.protocol.proofs.OrderNumbers.{epoch_of, state-appended, checkpoint_epoch, AllStops, stops_push, changed-push, AllFound, found_same, found_stopped, Numbers, numbers_keep}
 
@@ -118,25 +118,25 @@ module _ (sent : List Message) (m : MasterState) (h : AreNumbered sent m) (up : 
   goes_numbered k order =
       record {
         once = λ e n.
-          let whole = count-sent e n k sent order d.sent in
-          let old = h.once e n in
-          let new = g.once e n in
-          elim (cases_lt (orders_under e n sent) 1) [
-            | inl less ↦ omega (arith, whole, less, new)
-            | inr there ↦ elim (cases_lt (orders_under e n d.sent) 1) [
+            let whole = count-sent e n k sent order d.sent in
+            let old = h.once e n in
+            let new = g.once e n in
+            elim (cases_lt (orders_under e n sent) 1) [
+              | inl less ↦ omega (arith, whole, less, new)
+              | inr there ↦ elim (cases_lt (orders_under e n d.sent) 1) [
                 | inl less ↦ omega (arith, whole, less, old)
                 | inr here ↦ absurd (let was = g.used e n here in let below = h.counted up e n there was.0 in let above = was.1 in omega (arith, below, above))
               ]
-          ];
+            ];
         bounded = λ e n more. subst (λ (xs : List LogChange). AllFound (λ x. e ≤ epoch_of x) d.master.disk xs) (sym g.none)
-          (found_same (λ x. e ≤ epoch_of x) d.master.disk (let there = g.on_disk in let within = epoch_bound e n k order more in omega (arith, there, within)));
+            (found_same (λ x. e ≤ epoch_of x) d.master.disk (let there = g.on_disk in let within = epoch_bound e n k order more in omega (arith, there, within)));
         idle = λ _. g.none;
         epoch = λ _. g.on_disk ∙ sym g.logged;
         counted = λ _ e n more is.
-          elim (of_either e n k order more) [
-            | inl before ↦ let old = h.counted up e n before (is ∙ g.logged) in let more_now = g.rising in omega (arith, old, more_now)
-            | inr now ↦ (g.used e n now).2
-          ];
+            elim (of_either e n k order more) [
+              | inl before ↦ let old = h.counted up e n before (is ∙ g.logged) in let more_now = g.rising in omega (arith, old, more_now)
+              | inr now ↦ (g.used e n now).2
+            ];
       }
     where
       epoch_bound : (e n k : ℕ) (order : List ℕ) → 1 ≤ orders_under e n (sent ++ stamped k (in_order order d.sent)) → e ≤ m.logged.epoch
@@ -153,9 +153,9 @@ module _ (sent : List Message) (m : MasterState) (h : AreNumbered sent m) (up : 
   ends_numbered k choice (Stops made) =
       down_numbered sent k m (log_changed_by_all m.disk (take made d.changes)) (take 1 (drop made d.changes)) h
       (λ e n more decided.
-        let same = found_stopped (λ x. epoch_of x ≡ m.logged.epoch) m.disk d.changes made g.stops decided in
-        let bound = no_change sent m h up e n more in
-        omega (arith, same, bound))
+      let same = found_stopped (λ x. epoch_of x ≡ m.logged.epoch) m.disk d.changes made g.stops decided in
+      let bound = no_change sent m h up e n more in
+      omega (arith, same, bound))
 
 same_numbered : (sent : List Message) (k : ℕ) (m : MasterState) → AreNumbered sent m → AreNumbered (sent ++ stamped k []) m
 same_numbered sent k m h = still_numbered sent [] k m no_orders h
@@ -181,10 +181,10 @@ step_numbered sent k m moment i choice h =
     let good : Taken MasterState → Type 0 = λ t. AreNumbered (sent ++ stamped k t.out.sent) t.state in
     on_cond good m.up (master_bounded m d choice) (no_step m)
     (λ up. on_cond good (is_within_limits d.master) (master_ends m d choice choice.ending) (no_step m)
-      (λ _. ends_numbered sent m h up d
-        (goes_keeps (Numbers m.disk m.logged.epoch m.order_count) (numbers_keep m.disk m.logged.epoch m.order_count) m moment i choice.refused (begun sent m moment choice.refused h up))
-        k choice choice.ending)
-      (λ _. same_numbered sent k m h))
+    (λ _. ends_numbered sent m h up d
+    (goes_keeps (Numbers m.disk m.logged.epoch m.order_count) (numbers_keep m.disk m.logged.epoch m.order_count) m moment i choice.refused (begun sent m moment choice.refused h up))
+    k choice choice.ending)
+    (λ _. same_numbered sent k m h))
     (λ _. same_numbered sent k m h)
 
 -- the opening of a master, from what it found on its disk
@@ -204,7 +204,7 @@ opens_epoch start d epoch h more =
       disk = changed-push start d.changes (AppendRecord (log.Epoch epoch)) ∙ ap (λ (x : LogDisk). log_changed x (AppendRecord (log.Epoch epoch))) h.disk;
       on_disk = there;
       stops = stops_push (λ x. epoch_of start ≤ epoch_of x) start d.changes (AppendRecord (log.Epoch epoch)) h.stops
-        (subst (λ (x : LogDisk). epoch_of start ≤ epoch_of (log_changed x (AppendRecord (log.Epoch epoch)))) (sym h.disk) bound);
+          (subst (λ (x : LogDisk). epoch_of start ≤ epoch_of (log_changed x (AppendRecord (log.Epoch epoch)))) (sym h.disk) bound);
       later = bound;
     }
 
@@ -228,10 +228,10 @@ opening_opens config count found moment =
     let first : Opens found d = record { none = refl; disk = refl; on_disk = refl; stops = omega arith; later = omega arith } in
     on_cond (Opens found) (fits d r) (appends d r) _ (λ _. opens_epoch found d (suc d.master.logged.epoch) first (omega arith))
     (λ _. on_cond (Opens found) (checkpoint_fits d.master.config.log_bytes (checkpoint_of d.master.logged)) (logs_after_checkpoint (writes_checkpoint d) r (is_of_copy d.master.logged r) (λ e. e)) d
-      (λ _. on_cond (Opens found) (fits (writes_checkpoint d) r && not (is_of_copy d.master.logged r)) (appends (writes_checkpoint d) r) (writes_checkpoint d)
-        (λ _. opens_epoch found (writes_checkpoint d) (suc d.master.logged.epoch) (opens_checkpoint found d first) (omega arith))
-        (λ _. opens_checkpoint found d first))
-      (λ _. first))
+    (λ _. on_cond (Opens found) (fits (writes_checkpoint d) r && not (is_of_copy d.master.logged r)) (appends (writes_checkpoint d) r) (writes_checkpoint d)
+    (λ _. opens_epoch found (writes_checkpoint d) (suc d.master.logged.epoch) (opens_checkpoint found d first) (omega arith))
+    (λ _. opens_checkpoint found d first))
+    (λ _. first))
 
 first_of_and : (a b : Bool) → a && b ≡ true → a ≡ true
 first_of_and true b h = refl
@@ -239,7 +239,7 @@ first_of_and false b h = absurd (let both : false ≡ true = h in cc)
 
 opens_numbered : (sent : List Message) (k : ℕ) (old : MasterState) (moment : ℕ) (choice : Choice) (e : Ending) → AreNumbered sent old
     → (let started : MasterState = started_master old.config old.server_count (found_log old choice) moment in
-      AreNumbered (sent ++ stamped k (opens_as old started (opening started) choice e).out.sent) (opens_as old started (opening started) choice e).state)
+    AreNumbered (sent ++ stamped k (opens_as old started (opening started) choice e).out.sent) (opens_as old started (opening started) choice e).state)
 opens_numbered sent k old moment choice Lost h = down_numbered sent k old old.disk old.under_way h h.bounded
 opens_numbered sent k old moment choice (Stops made) h =
     let found : LogDisk = found_log old choice in
@@ -247,9 +247,9 @@ opens_numbered sent k old moment choice (Stops made) h =
     let o : Opens found d = opening_opens old.config old.server_count found moment in
     down_numbered sent k old (log_changed_by_all found (take made d.changes)) (take 1 (drop made d.changes)) h
     (λ e n more decided.
-      let there = found_stopped (λ x. epoch_of found ≤ epoch_of x) found d.changes made o.stops decided in
-      let bound = h.bounded e n more choice.decided in
-      omega (arith, there, bound))
+    let there = found_stopped (λ x. epoch_of found ≤ epoch_of x) found d.changes made o.stops decided in
+    let bound = h.bounded e n more choice.decided in
+    omega (arith, there, bound))
 opens_numbered sent k old moment choice Goes h =
     let found : LogDisk = found_log old choice in
     let started : MasterState = started_master old.config old.server_count found moment in
@@ -257,17 +257,17 @@ opens_numbered sent k old moment choice Goes h =
     let o : Opens found d = opening_opens old.config old.server_count found moment in
     on_cond (λ (t : Taken MasterState). AreNumbered (sent ++ stamped k t.out.sent) t.state) (has_opened started d && is_within_limits d.master) _ _
     (λ t. same_numbered sent k d.master
-      (let new : d.master.logged.epoch ≡ suc started.logged.epoch = eqb-true d.master.logged.epoch (suc started.logged.epoch) (first_of_and (has_opened started d) (is_within_limits d.master) t) in
-      record {
-        once = h.once;
-        bounded = λ e n more. subst (λ (xs : List LogChange). AllFound (λ x. e ≤ epoch_of x) d.master.disk xs) (sym o.none)
+    (let new : d.master.logged.epoch ≡ suc started.logged.epoch = eqb-true d.master.logged.epoch (suc started.logged.epoch) (first_of_and (has_opened started d) (is_within_limits d.master) t) in
+    record {
+      once = h.once;
+      bounded = λ e n more. subst (λ (xs : List LogChange). AllFound (λ x. e ≤ epoch_of x) d.master.disk xs) (sym o.none)
           (found_same (λ x. e ≤ epoch_of x) d.master.disk (let bound = h.bounded e n more choice.decided in let later = o.later in omega (arith, bound, later)));
-        idle = λ _. o.none;
-        epoch = λ _. o.on_disk;
-        counted = λ _ e n more is. absurd (let bound : e ≤ started.logged.epoch = h.bounded e n more choice.decided in omega (arith, bound, new, is));
-      }))
+      idle = λ _. o.none;
+      epoch = λ _. o.on_disk;
+      counted = λ _ e n more is. absurd (let bound : e ≤ started.logged.epoch = h.bounded e n more choice.decided in omega (arith, bound, new, is));
+    }))
     (λ _. down_numbered sent k old d.master.disk [] h
-      (λ e n more. found_same (λ x. e ≤ epoch_of x) d.master.disk (let bound = h.bounded e n more choice.decided in let later = o.later in omega (arith, bound, later))))
+    (λ e n more. found_same (λ x. e ≤ epoch_of x) d.master.disk (let bound = h.bounded e n more choice.decided in let later = o.later in omega (arith, bound, later))))
 
 restart_numbered : (sent : List Message) (k : ℕ) (m : MasterState) (moment : ℕ) (choice : Choice) → AreNumbered sent m
     → AreNumbered (sent ++ stamped k (master_restart m moment choice).out.sent) (master_restart m moment choice).state

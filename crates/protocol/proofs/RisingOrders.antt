@@ -1,11 +1,10 @@
 -- The number of the last order that a server took never falls.
-use Rattle.std.proofs.Common.{◌≡◌, ◌⊎◌, ℕ, zero, suc, ◌+◌, ◌-◌, ◌≤◌, ◌<◌, Bool, true, false, cond, List, [], ◌∷◌, ◌++◌, length, map, take, drop, Option, Some, None, refl, sym, ap, subst, ◌∙◌, inl, inr, arith}
+use Rattle.std.proofs.Common.{◌≡◌, ◌⊎◌, ℕ, zero, suc, ◌-◌, ◌≤◌, Bool, true, false, List, [], ◌∷◌, ◌++◌, length, map, take, drop, Option, Some, None, refl, sym, ap, subst, ◌∙◌, inl, inr, arith}
 use Rattle.std.specs.Prelude.{nat_lt, nat_le, ◌==◌, ◌&&◌, ◌||◌, IsTrue}
 use Rattle.std.proofs.lemmas.Bool.{eqb-true, ltb-true}
 use Rattle.gfs_types.specs.declared.config.Config.{Config}
 use Rattle.gfs_types.specs.declared.ids.Node.{Node}
 use Rattle.gfs_types.specs.declared.ids.Node.TheVariants as node
-use Rattle.gfs_types.specs.declared.message.Body.{Body}
 use Rattle.gfs_types.specs.declared.message.Message.{Message}
 use Rattle.gfs_types.specs.declared.call.Call.{Call}
 use Rattle.gfs_types.specs.declared.event.Event.{Event}
@@ -16,14 +15,14 @@ use Rattle.protocol.specs.Tables.{element_at, with_at, first_numbers, moment_lim
 use Rattle.protocol.specs.Choice.{Choice, Ending, Goes, Lost, Stops, decided_changes}
 use Rattle.protocol.specs.Seen.{Taken, no_step}
 use Rattle.protocol.specs.Replicas.{Replica, ServerDisk, StoreChange, SetOrder, PutReplica, DropReplica, disk_changed, disk_changed_by_all, is_new_order, replica_of, new_server_disk, rotten_replica}
-use Rattle.protocol.specs.Server.{ServerState, ServerDoing, started_server, stopped_server, server_begins}
-use Rattle.protocol.specs.ServerStep.{server_at, server_goes, server_ends, server_step, found_disk, server_restarts, server_restart}
+use Rattle.protocol.specs.Server.{ServerState, ServerDoing, started_server}
+use Rattle.protocol.specs.ServerStep.{server_goes, server_ends, server_step, server_restarts, server_restart}
 use Rattle.protocol.specs.ClientStep.{may_call}
 use Rattle.protocol.specs.Client.{ClientState}
-use Rattle.protocol.specs.World.{WorldState, Happened, new_world, nothing_happens, numbered_from_1, after_server, server_moves, client_moves, master_moves, moves, delivered, server_restarts_at, restarts, call_moves, rots_replica, rots_on, at_moment, happens, after_events, IsReached}
-use Rattle.protocol.specs.Laws.{order_number, IsSameOrLater, OrderNumbersNeverFall}
+use Rattle.protocol.specs.World.{WorldState, Happened, new_world, nothing_happens, numbered_from_1, after_server, server_moves, client_moves, moves, delivered, server_restarts_at, restarts, call_moves, rots_replica, rots_on, at_moment, happens, after_events, IsReached}
+use Rattle.protocol.specs.Laws.{IsSameOrLater, OrderNumbersNeverFall}
 use Rattle.protocol.proofs.Steps.{on_cond, none_some, same_some}
-use Rattle.protocol.proofs.ServerMoves.{ServerCore, server_core, IsOfReplica, store_changed, KeepsServer, server_goes_holds}
+use Rattle.protocol.proofs.ServerMoves.{ServerCore, server_core, IsOfReplica, KeepsServer, server_goes_holds}
 
 -- the order's number of one disk is that of another, or later
 abbrev pub Later : ServerDisk → ServerDisk → Type 0
@@ -111,7 +110,7 @@ found_later d (x ∷ []) (false ∷ rest) h few = subst (λ (ys : List StoreChan
 found_later d (x ∷ y ∷ ys) (b ∷ rest) h few = absurd (omega arith)
 
 -- what a server's step comes to
-pub record Goes_on (s t : ServerState) : Type 0 where
+pub record Follows (s t : ServerState) : Type 0 where
   pub sound : IsSound t
   pub later : Later s.disk t.disk
 
@@ -124,9 +123,11 @@ from_keeps s =
     record {
       says = λ c sender receiver b e h. h;
       stores = λ c x is h. (risen_push s.disk c.changes x h.0 (no_order (disk_changed_by_all s.disk c.changes) x is), all-push s.disk c.changes x ∙ ap (λ d. disk_changed d x) h.1, h.2);
-      takes = λ c epoch count new h.
-        (risen_push s.disk c.changes (SetOrder epoch count) h.0 (subst (λ (d : ServerDisk). is_new_order d epoch count ≡ true) (sym h.1) new),
-        all-push s.disk c.changes (SetOrder epoch count) ∙ ap (λ d. disk_changed d (SetOrder epoch count)) h.1, h.2);
+      takes = λ c epoch count new h. (
+        risen_push s.disk c.changes (SetOrder epoch count) h.0 (subst (λ (d : ServerDisk). is_new_order d epoch count ≡ true) (sym h.1) new),
+        all-push s.disk c.changes (SetOrder epoch count) ∙ ap (λ d. disk_changed d (SetOrder epoch count)) h.1,
+        h.2,
+      );
     }
   where
     no_order : (d : ServerDisk) (x : StoreChange) → IsOfReplica x → IsRisen d x
@@ -146,10 +147,10 @@ none_under_way s none =
       idle = λ up. none;
     }
 
-same_goes_on : (s : ServerState) → IsSound s → Goes_on s s
+same_goes_on : (s : ServerState) → IsSound s → Follows s s
 same_goes_on s is = record { sound = is; later = same_later s.disk }
 
-ends_as : (s : ServerState) (d : ServerDoing) (choice : Choice) (e : Ending) → s.under_way ≡ [] → From s (server_core d) → Goes_on s (server_ends s d choice e).state
+ends_as : (s : ServerState) (d : ServerDoing) (choice : Choice) (e : Ending) → s.under_way ≡ [] → From s (server_core d) → Follows s (server_ends s d choice e).state
 ends_as s d choice Goes none h = record { sound = none_under_way d.server (h.2 ∙ none); later = subst (λ (e : ServerDisk). Later s.disk e) h.1 (all_of s.disk d.changes h.0) }
 ends_as s d choice Lost none h = record { sound = record { risen = tt; few = omega arith; idle = λ up. refl }; later = same_later s.disk }
 ends_as s d choice (Stops made) none h =
@@ -158,13 +159,13 @@ ends_as s d choice (Stops made) none h =
       later = some_later s.disk d.changes made h.0;
     }
 
-step_goes_on : (s : ServerState) (moment : ℕ) (i : Input) (choice : Choice) → IsSound s → Goes_on s (server_step s moment i choice).state
+step_goes_on : (s : ServerState) (moment : ℕ) (i : Input) (choice : Choice) → IsSound s → Follows s (server_step s moment i choice).state
 step_goes_on s moment i choice is =
-    on_cond (λ (t : Taken ServerState). Goes_on s t.state) s.up (server_ends s (server_goes s moment i) choice choice.ending) (no_step s)
+    on_cond (λ (t : Taken ServerState). Follows s t.state) s.up (server_ends s (server_goes s moment i) choice choice.ending) (no_step s)
     (λ up. ends_as s (server_goes s moment i) choice choice.ending (is.idle up) (server_goes_holds (From s) (from_keeps s) s moment i (tt, refl, refl)))
     (λ _. same_goes_on s is)
 
-restarts_as : (s : ServerState) (moment : ℕ) (choice : Choice) (e : Ending) → IsSound s → Goes_on s (server_restarts s moment choice e).state
+restarts_as : (s : ServerState) (moment : ℕ) (choice : Choice) (e : Ending) → IsSound s → Follows s (server_restarts s moment choice e).state
 restarts_as s moment choice Lost is = record { sound = record { risen = is.risen; few = is.few; idle = λ up. absurd (let both : false ≡ true = up in cc) }; later = same_later s.disk }
 restarts_as s moment choice (Stops made) is =
     record { sound = record { risen = tt; few = omega arith; idle = λ up. refl }; later = found_later s.disk s.under_way choice.decided is.risen is.few }
@@ -193,16 +194,16 @@ AreSound w = (index : ℕ) (s : ServerState) → element_at w.servers index ≡ 
 
 -- each server of the later world goes on from the one at its place
 abbrev AreGoingOn : WorldState → WorldState → Type 0
-AreGoingOn w v = (index : ℕ) (t : ServerState) → element_at v.servers index ≡ Some t → (s : ServerState) × (element_at w.servers index ≡ Some s) × Goes_on s t
+AreGoingOn w v = (index : ℕ) (t : ServerState) → element_at v.servers index ≡ Some t → (s : ServerState) × (element_at w.servers index ≡ Some s) × Follows s t
 
 same_servers : (w : WorldState) → AreSound w → AreGoingOn w w
 same_servers w h index t is = (t, is, same_goes_on t (h index t is))
 
-one_server : (w : WorldState) (index moment : ℕ) (s : ServerState) (taken : Taken ServerState) → AreSound w → element_at w.servers index ≡ Some s → Goes_on s taken.state
+one_server : (w : WorldState) (index moment : ℕ) (s : ServerState) (taken : Taken ServerState) → AreSound w → element_at w.servers index ≡ Some s → Follows s taken.state
     → AreGoingOn w (after_server w index moment taken).world
 one_server w index moment s taken h at g other t is =
     elim (set_cases w.servers index taken.state other t is) [
-      | inl both ↦ (s, ap (λ (k : ℕ). element_at w.servers k) both.0 ∙ at, subst (λ (u : ServerState). Goes_on s u) (sym both.1) g)
+      | inl both ↦ (s, ap (λ (k : ℕ). element_at w.servers k) both.0 ∙ at, subst (λ (u : ServerState). Follows s u) (sym both.1) g)
       | inr there ↦ same_servers w h other t there
     ]
 
@@ -250,8 +251,11 @@ rots_replica_on w index s handle place byte choice None h at up = same_servers w
 rots_replica_on w index s handle place byte choice (Some r) h at up = λ other t is.
     let rotten : ServerState = record s { disk = disk_changed s.disk (PutReplica handle (rotten_replica r place byte)) } in
     elim (set_cases w.servers index rotten other t is) [
-      | inl both ↦ (s, ap (λ (k : ℕ). element_at w.servers k) both.0 ∙ at,
-          subst (λ (u : ServerState). Goes_on s u) (sym both.1) (record { sound = none_under_way rotten ((h index s at).idle up); later = same_later s.disk }))
+      | inl both ↦ (
+        s,
+        ap (λ (k : ℕ). element_at w.servers k) both.0 ∙ at,
+        subst (λ (u : ServerState). Follows s u) (sym both.1) (record { sound = none_under_way rotten ((h index s at).idle up); later = same_later s.disk }),
+      )
       | inr there ↦ same_servers w h other t there
     ]
 

@@ -1,6 +1,6 @@
 -- What a step of a chunkserver is made of. Whatever each of these moves keeps is kept by every step.
-use Rattle.std.proofs.Common.{◌≡◌, ℕ, suc, ◌+◌, ◌-◌, Bool, true, false, cond, List, [], ◌∷◌, ◌++◌, length, map, Option, Some, None, refl}
-use Rattle.std.specs.Prelude.{nat_le, nat_lt, ◌==◌, ◌&&◌, is_some, replicate}
+use Rattle.std.proofs.Common.{◌≡◌, ℕ, ◌+◌, ◌-◌, Bool, true, false, List, [], ◌∷◌, ◌++◌, length, map, Option, Some, None, refl}
+use Rattle.std.specs.Prelude.{nat_le, nat_lt, ◌==◌, replicate}
 use Rattle.std.specs.FinMap as table
 use Rattle.gfs_types.specs.declared.ids.Node.{Node}
 use Rattle.gfs_types.specs.declared.ids.Node.TheVariants.{Master}
@@ -24,13 +24,13 @@ use Rattle.protocol.specs.Tables.{counter_limit, without}
 use Rattle.protocol.specs.Sending.{message, the_server, the_client, handle_of, version_of, serial_of, server_number}
 use Rattle.protocol.specs.Replicas.{Replica, ServerDisk, StoreChange, SetOrder, PutReplica, DropReplica, disk_changed, is_new_order, replica_of, is_readable, read_bytes, is_copyable, is_writable, written_replica, stored_replica, raised_replica}
 use Rattle.protocol.specs.PushBuffer.{next_hop, hops_after, with_data, data_of}
-use Rattle.protocol.specs.PrimaryOrder.{Primary, Standing, IsPending, IsSettled, IsRefused, Attempted, IsNew, IsRepeat, IsOld, Waiting, attempted, denied, numbered, acknowledged, is_last_acknowledgement, refused_by_member}
+use Rattle.protocol.specs.PrimaryOrder.{Primary, IsPending, IsSettled, IsRefused, Attempted, IsNew, IsRepeat, IsOld, Waiting, attempted, denied, numbered, acknowledged, is_last_acknowledgement, refused_by_member}
 use Rattle.protocol.specs.RecordAppend.{Placing, PlacedAt, PaddedFrom, IsFull, IsTooLong, placing}
 use Rattle.protocol.specs.Seen.{Numbered, BecameSettled}
 use Rattle.protocol.specs.Server.{ServerState, ServerDoing, server_begins, chunk_limit, says, refuses, stores, shows, with_primary, without_lease, takes_data, drops_corrupt, primary_of}
-use Rattle.protocol.specs.ServerReads.{reads_from, takes_read, measures, takes_len, copies_out, takes_copy_ask}
-use Rattle.protocol.specs.ServerWrites.{passes_on, takes_push, refuses_attempt, answers_settled, denies, forwards, settles_if, acknowledges, change_of, place_of, bytes_of, primary_applies, places, appends_as, mutates_with, mutates_new, mutates_as, mutates_under, takes_mutate, nacks, member_applies, applies_data, applies_change, forwarded_to, takes_forward, acked_waiting, acked_under, takes_acked, nacked_waiting, nacked_under, takes_nacked}
-use Rattle.protocol.specs.ServerOrders.{on_order, records, can_take, takes_create, raises, takes_set_version, holds_version, takes_grant, extends_held, takes_extend, ends_held, takes_revoke, drops_old, takes_drop, takes_clone, is_pending_clone, takes_image, copies_locally, takes_copy_local}
+use Rattle.protocol.specs.ServerReads.{reads_from, measures, copies_out}
+use Rattle.protocol.specs.ServerWrites.{passes_on, refuses_attempt, answers_settled, denies, forwards, settles_if, acknowledges, change_of, place_of, bytes_of, primary_applies, places, appends_as, mutates_with, mutates_new, mutates_as, mutates_under, nacks, member_applies, applies_data, applies_change, forwarded_to, acked_waiting, acked_under, nacked_waiting, nacked_under}
+use Rattle.protocol.specs.ServerOrders.{on_order, records, can_take, takes_create, raises, takes_set_version, holds_version, takes_grant, extends_held, ends_held, takes_revoke, drops_old, takes_drop, takes_clone, takes_image, copies_locally, takes_copy_local}
 use Rattle.protocol.specs.ServerStep.{replica_line, lease_line, counting_leases, server_ticks, server_takes, server_does, server_at, server_goes}
 use Rattle.protocol.specs.Laws.{order_number}
 use Rattle.protocol.proofs.Steps.{on_cond}
@@ -87,8 +87,8 @@ module _ (P : ServerCore → Type 0) (k : KeepsServer P) where
   read_holds d client number handle version offset count (Some r) h =
       on_cond Holds (r.version == version) _ (refuses d client number Version)
       (λ _. on_cond Holds (is_readable d.server.config.block r offset count) (says d client (body.Bytes number (read_bytes r offset count))) (refuses (drops_corrupt d handle) client number Corrupt)
-        (λ _. says_holds d client (body.Bytes number (read_bytes r offset count)) refl h)
-        (λ _. refuses_holds (drops_corrupt d handle) client number Corrupt (corrupt_holds d handle h)))
+      (λ _. says_holds d client (body.Bytes number (read_bytes r offset count)) refl h)
+      (λ _. refuses_holds (drops_corrupt d handle) client number Corrupt (corrupt_holds d handle h)))
       (λ _. refuses_holds d client number Version h)
 
   measure_holds : (d : ServerDoing) (client : Node) (number version : ℕ) (o : Option Replica) → Holds d → Holds (measures d client number version o)
@@ -102,8 +102,8 @@ module _ (P : ServerCore → Type 0) (k : KeepsServer P) where
   copy_out_holds d receiver handle version (Some r) h =
       on_cond Holds (r.version == version) _ d
       (λ _. on_cond Holds (is_copyable d.server.config.block r) (says d receiver (body.Image (handle_of handle) (version_of version) (serial_of r.serial) r.bytes)) (drops_corrupt d handle)
-        (λ _. says_holds d receiver (body.Image (handle_of handle) (version_of version) (serial_of r.serial) r.bytes) refl h)
-        (λ _. corrupt_holds d handle h))
+      (λ _. says_holds d receiver (body.Image (handle_of handle) (version_of version) (serial_of r.serial) r.bytes) refl h)
+      (λ _. corrupt_holds d handle h))
       (λ _. h)
 
   -- mutations
@@ -150,9 +150,9 @@ module _ (P : ServerCore → Type 0) (k : KeepsServer P) where
       let taken : ServerDoing = shows (takes_data (with_primary d handle (numbered p id.client.0 id.seq (place_of m))) id) (Numbered handle p.held.version serial id m) in
       on_cond Holds (nat_le counter_limit p.serial) d _ (λ _. h)
       (λ _. on_cond Holds (is_writable d.server.config.block r (start_of m) (start_of m + length (bytes_of (chunk_limit d.server handle) m))) (primary_applies taken handle p r id m)
-        (refuses_attempt (drops_corrupt taken handle) id Corrupt)
-        (λ _. primary_holds taken handle p r id m h)
-        (λ _. attempt_holds (drops_corrupt taken handle) id Corrupt (corrupt_holds taken handle h)))
+      (refuses_attempt (drops_corrupt taken handle) id Corrupt)
+      (λ _. primary_holds taken handle p r id m h)
+      (λ _. attempt_holds (drops_corrupt taken handle) id Corrupt (corrupt_holds taken handle h)))
 
   appends_holds : (d : ServerDoing) (handle : ℕ) (p : Primary) (r : Replica) (id : DataId) (bytes : List ℕ) (where_ : Placing) → Holds d → Holds (appends_as d handle p r id bytes where_)
   appends_holds d handle p r id bytes IsTooLong h = denies_holds d handle p id ServerTooLong h
@@ -194,10 +194,10 @@ module _ (P : ServerCore → Type 0) (k : KeepsServer P) where
       let stored : ServerDoing = stores (takes_data d id) (PutReplica handle new) in
       on_cond Holds (nat_lt (chunk_limit d.server handle) (offset + length bytes)) d _ (λ _. h)
       (λ _. on_cond Holds (is_writable d.server.config.block r offset (offset + length bytes))
-        (says stored primary (body.Acked (handle_of handle) (version_of r.version) (serial_of serial)))
-        (nacks (drops_corrupt (takes_data d id) handle) primary handle r.version serial Corrupt)
-        (λ _. says_holds stored primary (body.Acked (handle_of handle) (version_of r.version) (serial_of serial)) refl (puts_holds (takes_data d id) handle new h))
-        (λ _. nacks_holds (drops_corrupt (takes_data d id) handle) primary handle r.version serial Corrupt (corrupt_holds (takes_data d id) handle h)))
+      (says stored primary (body.Acked (handle_of handle) (version_of r.version) (serial_of serial)))
+      (nacks (drops_corrupt (takes_data d id) handle) primary handle r.version serial Corrupt)
+      (λ _. says_holds stored primary (body.Acked (handle_of handle) (version_of r.version) (serial_of serial)) refl (puts_holds (takes_data d id) handle new h))
+      (λ _. nacks_holds (drops_corrupt (takes_data d id) handle) primary handle r.version serial Corrupt (corrupt_holds (takes_data d id) handle h)))
 
   data_holds : (d : ServerDoing) (primary : Node) (handle : ℕ) (r : Replica) (serial : ℕ) (id : DataId) (offset : ℕ) (o : Option (List ℕ)) → Holds d
       → Holds (applies_data d primary handle r serial id offset o)
@@ -215,7 +215,7 @@ module _ (P : ServerCore → Type 0) (k : KeepsServer P) where
   forwarded_holds d primary handle version serial id c (Some r) h =
       on_cond Holds (r.version == version) _ (nacks d primary handle version serial Version)
       (λ _. on_cond Holds (nat_lt r.serial serial) (applies_change d primary handle r serial id c) (nacks d primary handle version serial OldSerial)
-        (λ _. change_holds d primary handle r serial id c h) (λ _. nacks_holds d primary handle version serial OldSerial h))
+      (λ _. change_holds d primary handle r serial id c h) (λ _. nacks_holds d primary handle version serial OldSerial h))
       (λ _. nacks_holds d primary handle version serial Version h)
 
   acked_waiting_holds : (d : ServerDoing) (handle : ℕ) (p : Primary) (server serial : ℕ) (o : Option Waiting) → Holds d → Holds (acked_waiting d handle p server serial o)
@@ -301,9 +301,9 @@ module _ (P : ServerCore → Type 0) (k : KeepsServer P) where
       let new : Replica = stored_replica copy_version 0 r.bytes in
       on_cond Holds (r.version == version) _ d
       (λ _. on_cond Holds (is_copyable d.server.config.block r) _ (drops_corrupt d handle)
-        (λ _. on_cond Holds (can_take d copy) (records (stores d (PutReplica copy new)) copy copy_version) d
-          (λ _. records_holds (stores d (PutReplica copy new)) copy copy_version (puts_holds d copy new h)) (λ _. h))
-        (λ _. corrupt_holds d handle h))
+      (λ _. on_cond Holds (can_take d copy) (records (stores d (PutReplica copy new)) copy copy_version) d
+      (λ _. records_holds (stores d (PutReplica copy new)) copy copy_version (puts_holds d copy new h)) (λ _. h))
+      (λ _. corrupt_holds d handle h))
       (λ _. h)
 
   copy_local_holds : (handle version copy copy_version : ℕ) (d : ServerDoing) → Holds d → Holds (takes_copy_local d handle version copy copy_version)

@@ -1,10 +1,10 @@
 -- Lemmas on tests, tables and lists.
-use Rattle.std.proofs.Common.{◌≡◌, ◌≢◌, ◌⊎◌, ℕ, zero, suc, ◌+◌, ◌≤◌, Bool, true, false, cond, List, [], ◌∷◌, ◌++◌, Option, Some, None, refl, sym, ap, subst, ◌∙◌, inl, inr, arith}
-use Rattle.std.specs.Prelude.{◌==◌, ◌&&◌, map, filter, count_by, take}
+use Rattle.std.proofs.Common.{◌≡◌, ◌≢◌, ◌⊎◌, ℕ, zero, suc, ◌+◌, Bool, true, false, cond, List, [], ◌∷◌, ◌++◌, Option, Some, None, refl, sym, ap, ◌∙◌, inl, inr, arith}
+use Rattle.std.specs.Prelude.{◌==◌, count_by}
 use Rattle.std.specs.Cmp.{nat_cmp_total, unsigned_tied}
 use Rattle.std.specs.FinMap as table
 use Rattle.std.proofs.lemmas.Bool.{eqb-true, eqb-false}
-use Rattle.protocol.specs.Tables.{Table, removed_all, element_at, without_at, with_at}
+use Rattle.protocol.specs.Tables.{Table, removed_all, element_at, without_at}
 use Rattle.std.proofs.lemmas.List.Sums.{sum_by-append}
 use Rattle.protocol.specs.Choice.{picked, in_order}
 

@@ -1,5 +1,5 @@
 -- Laws of every lawful list of events, restarts, losses and repeats included, that public functions of this crate state.
-use Rattle.std.specs.Prelude.{◌≡◌, ◌⊎◌, ℕ, ◌≤◌, ◌<◌, Bool, false, ◌==◌, ◌&&◌, List, count_by, Option, Some, None, IsTrue}
+use Rattle.std.specs.Prelude.{◌≡◌, ◌⊎◌, ℕ, ◌≤◌, ◌<◌, Bool, false, ◌==◌, ◌&&◌, List, count_by, Option, Some, None}
 use Rattle.gfs_types.specs.declared.config.Config.{Config}
 use Rattle.gfs_types.specs.declared.ids.OrderNo.{OrderNo}
 use Rattle.gfs_types.specs.declared.event.Event.{Event}

@@ -8,7 +8,7 @@ use Rattle.gfs_types.specs.Paths.{Path}
 use Rattle.relaxed_file.specs.Names.{Names, Node, Dir, File, first_names, node_at, copied_entries, with_copies, id_after, id_after_all}
 use Rattle.relaxed_file.specs.NameStep.{with_node, hidden}
 use Rattle.protocol.specs.Tables.{Table, removed_all}
-use Rattle.protocol.specs.ChunkTable.{ChunkRow, ChunkTable, new_row, new_chunk_table, with_owner, chunk_of, handles_of, add_file, add_chunk, issue, grant, copy_file, drop_file, swap, change_row, with_row}
+use Rattle.protocol.specs.ChunkTable.{ChunkRow, ChunkTable, new_row, new_chunk_table, with_owner, handles_of, add_file, add_chunk, issue, grant, copy_file, drop_file, swap, change_row, with_row}
 use Rattle.protocol.specs.Sending.{client_id, file_id, handle_of, version_of, server_id}
 
 -- A client's last changing name call, and its answer: Done where there is no refusal.
