@@ -11,6 +11,7 @@ use Rattle.gfs_types.specs.declared.mutation.Mutation.TheVariants.{Write, Append
 use Rattle.gfs_types.specs.declared.config.Config.{Config}
 use Rattle.gfs_types.specs.Mutations.{start_of, end_of, is_placed_by_system, byte_of}
 use Rattle.gfs_types.specs.Image.{byte_at}
+use Rattle.relaxed_file.specs.Names.{IsTree}
 use Rattle.relaxed_file.specs.Order.{Entry, AreRoundsRising, IsSelection, last_cover, mutations_of}
 use Rattle.relaxed_file.specs.Sources.{sources_of}
 use Rattle.relaxed_file.specs.Parts.{has_part, part_start, part_bytes}
@@ -24,6 +25,10 @@ abbrev pub RunsGoOn : Type 0
 RunsGoOn =
     (config : Config) (trace : List Visible) (m : Machine) (action : Action)
     → IsRunTo config trace m → Allows m action → IsRunTo config (trace ++ visible (action ∷ [])) (after m action)
+
+-- In every run, each name stands in a directory (section 4.1).
+abbrev pub NamesStayATree : Type 0
+NamesStayATree = (config : Config) (m : Machine) → IsReached config m → IsTree m.names
 
 -- In every run, the rounds of each chunk's order never fall (section 3.1).
 abbrev pub RoundsNeverFall : Type 0
