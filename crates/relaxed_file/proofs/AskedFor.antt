@@ -48,10 +48,10 @@ asked_step : (m : Machine) (action : Action) → Allows m action → Holding m �
 asked_step m action allowed h = record {
   known = known_step m action allowed h.known;
   each = λ file index. all_more _ (λ e. asked_later m (after m action) index e (grows_step m action allowed h.known))
-    (chunk_step m (λ i chunk. AllByRecursion (WasAskedFor m i) chunk.order)
+      (chunk_step m (λ i chunk. AllByRecursion (WasAskedFor m i) chunk.order)
       (λ i. tt) (λ i chunk round later all. all) (λ i chunk all. all)
       (λ client current f i mutation is may all. all_pushed (WasAskedFor m i) _ _ all
-        (current.asked, open_is_made m client current h.known is, asked_here m (record { client = client; number = current.number }) f i current.asked.call mutation may.3))
+      (current.asked, open_is_made m client current h.known is, asked_here m (record { client = client; number = current.number }) f i current.asked.call mutation may.3))
       (λ i chunk place at all. asked_settled m i place chunk.order all)
       action allowed h.each file index);
 }

@@ -23,7 +23,7 @@ use Rattle.relaxed_file.proofs.OwnReads.{performed_clients}
 -- where a piece came from
 pub data IsPieceOf (m : Machine) (client : ℕ) (c : OpenCall) (piece : Piece) : Type 0 where
   by_look : (file index least last : ℕ) (chosen : List Entry) → MayLook m client c file index least last chosen
-    → piece ≡ record { index = index; bytes = read_slice (chunk_size m file) index c.asked.call chosen; round = Some least } → IsPieceOf m client c piece
+      → piece ≡ record { index = index; bytes = read_slice (chunk_size m file) index c.asked.call chosen; round = Some least } → IsPieceOf m client c piece
   by_none : (index : ℕ) → MayLookPast c index → piece ≡ record { index = index; bytes = []; round = None } → IsPieceOf m client c piece
 
 abbrev pub GetsPiece : Machine → ℕ → OpenCall → OpenCall → Type 0
@@ -79,7 +79,7 @@ module _ (m : Machine) (client : ℕ) where
       elim (cases_eq client who) [
         | inl is ↦ subst (λ (s : Client). CallStep m client v old s.open_call) (sym (put_is who state n.clients client is)) (mine is)
         | inr other ↦ subst (λ (s : Client). CallStep m client v old s.open_call) (sym (put_other who state n.clients client other ∙ ap (λ (t : ℕ → Client). t client) same))
-          (unchanged m client v old (others other))
+            (unchanged m client v old (others other))
       ]
 
   goes_on : (change : OpenCall → OpenCall) (o : Option OpenCall) → ((c : OpenCall) → o ≡ Some c → Goes m client c (change c))
@@ -107,18 +107,21 @@ module _ (m : Machine) (client : ℕ) where
       let new : Client = record ((with_client m who state).clients who) { open_call = option_map {T = OpenCall} {U = OpenCall} (λ (current : OpenCall). record current { has_begun = true }) ((with_client m who state).clients who).open_call } in
       elim (cases_eq client who) [
         | inl is ↦ subst (λ (s : Client). CallStep m client None old s.open_call) (sym (put_is who new (with_client m who state).clients client is))
-          (let here : ((with_client m who state).clients who).open_call ≡ old = ap (λ (s : Client). s.open_call) (put_same who state m.clients) ∙ kept ∙ ap (λ k. (m.clients k).open_call) (sym is) in
-          subst (λ o. CallStep m client None old (option_map {T = OpenCall} {U = OpenCall} (λ (current : OpenCall). record current { has_begun = true }) o)) (sym here) (goes_on (λ c. c) old (λ c there. same_call m client c)))
+            (let here : ((with_client m who state).clients who).open_call ≡ old = ap (λ (s : Client). s.open_call) (put_same who state m.clients) ∙ kept ∙ ap (λ k. (m.clients k).open_call) (sym is) in
+            subst (λ o. CallStep m client None old (option_map {T = OpenCall} {U = OpenCall} (λ (current : OpenCall). record current { has_begun = true }) o)) (sym here) (goes_on (λ c. c) old (λ c there. same_call m client c)))
         | inr other ↦ subst (λ (s : Client). CallStep m client None old s.open_call) (sym (put_other who new (with_client m who state).clients client other ∙ put_other who state m.clients client other))
-          (unchanged m client None old tt)
+            (unchanged m client None old tt)
       ]
 
   begun_step : (number : ℕ) (o : Option OpenCall) → CallStep m client None o (begun_call number o)
   begun_step number None = inr (inr (tt, inr (refl, refl)))
-  begun_step number (Some c) = inr (inr (tt, inl (elim (c.number == number) as (λ b. IsGoing m client (Some c) (Some (cond b (record c { has_begun = true }) c))) [
-    | true ↦ (c, record c { has_begun = true }, refl, refl, same_call m client c)
-    | false ↦ (c, c, refl, refl, same_call m client c)
-  ])))
+  begun_step number (Some c) = inr (inr (
+    tt,
+    inl (elim (c.number == number) as (λ b. IsGoing m client (Some c) (Some (cond b (record c { has_begun = true }) c))) [
+      | true ↦ (c, record c { has_begun = true }, refl, refl, same_call m client c)
+      | false ↦ (c, c, refl, refl, same_call m client c)
+    ]),
+  ))
 
   stays : (v : Option Visible) (n : Machine) → n.clients ≡ m.clients → IsOthers client v → Steps v n
   stays v n same others = subst (λ (t : ℕ → Client). CallStep m client v old (t client).open_call) (sym same) (unchanged m client v old others)
@@ -143,7 +146,7 @@ module _ (m : Machine) (client : ℕ) where
   call_step (Lock who) a = plain_step m who (λ current. record current { has_locks = true }) refl (λ c. same_call m client c)
   call_step (Add id) a = at_some (Steps None) (chunk_added m id) m (asked_file m id) a.1 (asked_is m id a.0 a.1 a.2.0 a.2.1)
       (changed m None id.client _ refl (λ other. tt) (λ mine.
-        subst (λ k. CallStep m client None old (begun_call id.number (m.clients k).open_call)) mine (begun_step id.number old)))
+      subst (λ k. CallStep m client None old (begun_call id.number (m.clients k).open_call)) mine (begun_step id.number old)))
   call_step (Place who f i mutation) a = at_some (Steps None) (λ current. placed m who current f i mutation) m _ a.0 a.1
       (plain_step (with_chunk m f i (with_entry (chunk_at m f i) (record { client = who; number = (a.0).number }) mutation)) who (λ c. c) refl (λ c. same_call m client c))
   call_step (Tell who f i) a = step_taken m who (λ c. record c { offers = offer_of m f i ∷ c.offers }) refl (λ c there mine.
@@ -152,9 +155,17 @@ module _ (m : Machine) (client : ℕ) where
   call_step (Note who f i noted count) a = note_taken who (record (m.clients who) { notes = put f (put i (Some noted) ((m.clients who).notes f)) (m.clients who).notes }) refl
   call_step (Look who f i least last chosen) a = at_some (Steps None) (λ current. looked m who current f i least chosen) m _ a.0 a.1
       (step_taken m who (λ c. record c { pieces = record { index = i; bytes = read_slice (chunk_size m f) i (a.0).asked.call chosen; round = Some least } ∷ c.pieces }) refl (λ c there mine.
-        let same : a.0 ≡ c = from_some (sym a.1 ∙ subst (λ k. (m.clients k).open_call ≡ Some c) mine there) in
-        (refl, refl, inr (_, by_look f i least last chosen (subst (λ d. MayLook m client d f i least last chosen) same (subst (λ k. MayLook m k a.0 f i least last chosen) (sym mine) a.2))
-          (ap (λ (d : OpenCall). record { index = i; bytes = read_slice (chunk_size m f) i d.asked.call chosen; round = Some least }) same), refl), inl refl)))
+      let same : a.0 ≡ c = from_some (sym a.1 ∙ subst (λ k. (m.clients k).open_call ≡ Some c) mine there) in (
+        refl,
+        refl,
+        inr (
+          _,
+          by_look f i least last chosen (subst (λ d. MayLook m client d f i least last chosen) same (subst (λ k. MayLook m k a.0 f i least last chosen) (sym mine) a.2))
+              (ap (λ (d : OpenCall). record { index = i; bytes = read_slice (chunk_size m f) i d.asked.call chosen; round = Some least }) same),
+          refl,
+        ),
+        inl refl,
+      )))
   call_step (LookPast who i) a = step_taken m who (λ c. record c { pieces = record { index = i; bytes = []; round = None } ∷ c.pieces }) refl (λ c there mine.
       let same : a.0 ≡ c = from_some (sym a.1 ∙ subst (λ k. (m.clients k).open_call ≡ Some c) mine there) in
       (refl, refl, inr (_, by_none i (subst (λ d. MayLookPast d i) same a.2) refl, refl), inl refl))

@@ -12,7 +12,7 @@ use Rattle.relaxed_file.specs.Machine.{new_machine, Piece}
 use Rattle.relaxed_file.specs.Run.{Action, IsLawful, Invoke, Return, ReturnFd, Step, Add, OpenRound, Place, Settle, Tell, Note, Look, LookPast, Measure, MeasureNone}
 use Rattle.relaxed_file.specs.Traces.{small_chunks, fd, record_a, region, HasRegions, IsRunWith, IsRunOfSmall, empty_file_trace, quarter_record_trace, padding_trace, two_chunks_trace, second_try_trace}
 use Rattle.relaxed_file.proofs.NamesLemmas.{create_f, open_f}
-use Rattle.relaxed_file.proofs.RowRuns.{◌▸◌, open_actions}
+use Rattle.relaxed_file.proofs.FirstRuns.{◌▸◌, open_actions}
 
 abbrev call_of : ℕ → CallId
 call_of number = record { client = 1; number = number }
@@ -155,10 +155,18 @@ two_chunks_run =
     ▸ (_, refl, (refl, omega arith, refl, (refl, refl, refl, refl, (λ earlier h. absurd (omega arith)), omega arith))) ▸ (refl, refl)
     ▸ (_, 1, (refl, refl, refl, (refl, refl, λ earlier h. rw (only_zero earlier h) (λ part. refl)))) ▸ (omega arith, refl, omega arith) ▸ (_, refl, (refl, refl)) ▸ (_, refl, (refl, (0, omega arith, refl), tt))
     ▸ (_, refl, (refl, omega arith, refl, (refl, refl, refl, refl, (λ earlier h. rw (only_zero earlier h) (λ part. refl)), omega arith))) ▸ (refl, refl)
-    ▸ (_, refl, ((λ index h. elim (first_or_second index h) [
-        | inl is ↦ rw is (1, refl, entry 3 (Write 60 (replicate 4 122)) true, (0, omega arith, refl), (refl, refl, omega arith), tt)
-        | inr is ↦ rw is (1, refl, entry 3 (Write 0 (replicate 16 122)) true, (0, omega arith, refl), (refl, refl, omega arith), tt)
-      ]), refl, refl))
+    ▸ (
+      _,
+      refl,
+      (
+        (λ index h. elim (first_or_second index h) [
+          | inl is ↦ rw is (1, refl, entry 3 (Write 60 (replicate 4 122)) true, (0, omega arith, refl), (refl, refl, omega arith), tt)
+          | inr is ↦ rw is (1, refl, entry 3 (Write 0 (replicate 16 122)) true, (0, omega arith, refl), (refl, refl, omega arith), tt)
+        ]),
+        refl,
+        refl,
+      ),
+    )
     ▸ refl ▸ (_, refl, (refl, refl)) ▸ (_, refl, (refl, refl, (0, omega arith, refl), omega arith, (omega arith, refl, omega arith, takes (omega arith) empty))) ▸ (_, refl, (0, omega arith, refl))
     ▸ refl ▸ (_, refl, (refl, refl, (omega arith, refl, omega arith, takes (omega arith) empty))) ▸ (_, refl, (refl, refl, (omega arith, refl, omega arith, takes (omega arith) empty)))
     ▸ (_, refl, (1, refl, first_piece ∷ second_piece ∷ [], (refl, (1, omega arith, refl), refl, (refl, (0, omega arith, refl), refl, refl)), refl, refl, refl))

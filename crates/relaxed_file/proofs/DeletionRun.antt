@@ -12,7 +12,7 @@ use Rattle.gfs_types.specs.Paths.{Path, hidden_name}
 use Rattle.relaxed_file.specs.Names.{Node, File, Names, first_names, node_at}
 use Rattle.relaxed_file.specs.Machine.{new_machine, Outcome, Replies, Opens}
 use Rattle.relaxed_file.specs.NameStep.{outcome_of, hidden, with_node}
-use Rattle.relaxed_file.proofs.RowRuns.{◌▸◌}
+use Rattle.relaxed_file.proofs.FirstRuns.{◌▸◌}
 use Rattle.relaxed_file.specs.Run.{Action, IsLawful, Invoke, Return, ReturnFd, Step, Expire, Pass}
 use Rattle.relaxed_file.specs.Traces.{small_chunks, fd, deletion_trace, IsRunOfSmall}
 use Rattle.relaxed_file.proofs.NamesLemmas.{with_f, create_f}

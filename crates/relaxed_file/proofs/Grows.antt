@@ -171,14 +171,18 @@ new_file_grows old new is = subst (λ f. FileGrows f new) (sym is) (record {
 
 file_changed : (m : Machine) (file : ℕ) (state : FileState) → FileGrows (m.files file) state → Grows m (with_file m file state)
 file_changed m file state new = record {
-  config = refl; clock = omega arith; file_count = omega arith;
+  config = refl;
+  clock = omega arith;
+  file_count = omega arith;
   files = put_at (λ k f. FileGrows (m.files k) f) file state m.files new (λ k. same_file (m.files k));
   clients = λ client. same_client (m.clients client);
 }
 
 client_changed : (m : Machine) (client : ℕ) (state : Client) → ClientGrows (m.clients client) state → Grows m (with_client m client state)
 client_changed m client state new = record {
-  config = refl; clock = omega arith; file_count = omega arith;
+  config = refl;
+  clock = omega arith;
+  file_count = omega arith;
   files = λ file. same_file (m.files file);
   clients = put_at (λ k c. ClientGrows (m.clients k) c) client state m.clients new (λ k. same_client (m.clients k));
 }
@@ -193,7 +197,10 @@ chunk_changed m file index chunk new = file_changed m file _ (record {
 -- a step that changes what came of an open call
 step_taken : (m : Machine) (client : ℕ) (change : OpenCall → OpenCall) → KeepsCall change → Grows m (with_step m client change)
 step_taken m client change keeps = client_changed m client _ (record {
-  call_count = omega arith; calls = λ number asked is. is; fd_count = omega arith; descriptors = λ fd file l is. is;
+  call_count = omega arith;
+  calls = λ number asked is. is;
+  fd_count = omega arith;
+  descriptors = λ fd file l is. is;
   open_call = open_step (m.clients client).call_count change (m.clients client).open_call keeps;
 })
 
@@ -209,17 +216,25 @@ copied_files_grow (e ∷ rest) files next fresh k =
 
 performed_grows : (m : Machine) (c : Call) (moment : ℕ) → Known m → Grows m (performed m c moment)
 performed_grows m (call.Create p) moment h = record {
-  config = refl; clock = omega arith; file_count = omega arith;
+  config = refl;
+  clock = omega arith;
+  file_count = omega arith;
   files = put_at (λ k f. FileGrows (m.files k) f) (suc m.file_count) new_file m.files (new_file_grows _ new_file (h.fresh (suc m.file_count) (omega arith))) (λ k. same_file (m.files k));
   clients = λ client. same_client (m.clients client);
 }
 performed_grows m (call.Snapshot p q) moment h = record {
-  config = refl; clock = omega arith; file_count = files_rise m (call.Snapshot p q) moment;
+  config = refl;
+  clock = omega arith;
+  file_count = files_rise m (call.Snapshot p q) moment;
   files = copied_files_grow (copied_entries m.names p q) m.files (suc m.file_count) (λ k l. h.fresh k (omega arith));
   clients = λ client. same_client (m.clients client);
 }
 performed_grows m other moment h = record {
-  config = refl; clock = omega arith; file_count = omega arith; files = λ file. same_file (m.files file); clients = λ client. same_client (m.clients client);
+  config = refl;
+  clock = omega arith;
+  file_count = omega arith;
+  files = λ file. same_file (m.files file);
+  clients = λ client. same_client (m.clients client);
 }
 
 outcome_grows : (m n : Machine) (client : ℕ) (outcome : Outcome) → Grows m n → Grows m (with_outcome n client outcome)
@@ -237,7 +252,7 @@ invoked_grows : (state : Client) (asked : Asked) (open_call : Option OpenCall) �
 invoked_grows state asked open_call newer unused = record {
   call_count = omega arith;
   calls = λ number before is. put_other (suc state.call_count) (Some asked) state.calls number
-    (λ same. absurd (none-some before (sym (unused number (omega arith)) ∙ is))) ∙ is;
+      (λ same. absurd (none-some before (sym (unused number (omega arith)) ∙ is))) ∙ is;
   fd_count = omega arith;
   descriptors = λ fd file l is. is;
   open_call = newer;
@@ -249,7 +264,9 @@ descriptors_grow descriptors c reply fd file is = is
 
 returned_grows : (m : Machine) (client : ℕ) (current : OpenCall) (reply : Answer) → Grows m (returned m client current reply)
 returned_grows m client current reply = client_changed m client _ (record {
-  call_count = omega arith; calls = λ number asked is. is; fd_count = omega arith;
+  call_count = omega arith;
+  calls = λ number asked is. is;
+  fd_count = omega arith;
   descriptors = λ fd file l is. descriptors_grow (m.clients client).descriptors current.asked.call reply fd file is;
   open_call = tt;
 })
@@ -257,7 +274,9 @@ returned_grows m client current reply = client_changed m client _ (record {
 fd_grows : (state : Client) (fd file : ℕ) (notes : ℕ → ℕ → Option ℕ) → fd ≡ suc state.fd_count
     → ClientGrows state (record state { open_call = None; fd_count = fd; descriptors = put fd (Some file) state.descriptors; notes = notes })
 fd_grows state fd file notes is = record {
-  call_count = omega arith; calls = λ number asked there. there; fd_count = omega arith;
+  call_count = omega arith;
+  calls = λ number asked there. there;
+  fd_count = omega arith;
   descriptors = λ k f l there. sym (put_other fd (Some file) state.descriptors k (λ same. absurd (omega arith))) ∙ there;
   open_call = tt;
 }
@@ -272,7 +291,7 @@ added_grows m id file h = machine_on m (begun m id) _
     (file_changed (begun m id) file _ (record {
       count = omega arith;
       chunks = put_at (λ k c. ChunkGrows ((m.files file).chunks k) c) (chunk_count m file) new_chunk (m.files file).chunks
-        (new_chunk_grows _ new_chunk (h.files file (chunk_count m file) (omega arith))) (λ k. same_chunk ((m.files file).chunks k));
+          (new_chunk_grows _ new_chunk (h.files file (chunk_count m file) (omega arith))) (λ k. same_chunk ((m.files file).chunks k));
       collected = λ is. is;
     }))
 
@@ -285,9 +304,11 @@ grows_step m (FindBusy client holder) a h = outcome_grows m m client _ (same_mac
 grows_step m (FindFull client) a h = outcome_grows m m client _ (same_machine m)
 grows_step m (Lock client) a h = step_taken m client (λ current. record current { has_locks = true }) (λ c. (refl, refl))
 grows_step m (Expire file moment) a h = record {
-  config = refl; clock = omega arith; file_count = omega arith;
+  config = refl;
+  clock = omega arith;
+  file_count = omega arith;
   files = put_at (λ k f. FileGrows (m.files k) f) file (record (m.files file) { is_collected = true }) m.files
-    (record { count = omega arith; chunks = λ index. same_chunk ((m.files file).chunks index); collected = λ is. refl }) (λ k. same_file (m.files k));
+      (record { count = omega arith; chunks = λ index. same_chunk ((m.files file).chunks index); collected = λ is. refl }) (λ k. same_file (m.files k));
   clients = λ client. same_client (m.clients client);
 }
 grows_step m (Add id) a h = at_some (Grows m) (chunk_added m id) m (asked_file m id) a.1 (asked_is m id a.0 a.1 a.2.0 a.2.1) (added_grows m id a.1 h)
@@ -295,8 +316,8 @@ grows_step m (OpenRound file index round) a h = chunk_changed m file index _ (re
 grows_step m (CloseRound file index) a h = chunk_changed m file index _ (record { order = same_order (chunk_at m file index).order; round = omega arith })
 grows_step m (Place client file index mutation) a h = at_some (Grows m) (λ current. placed m client current file index mutation) m _ a.0 a.1
     (machine_on m (with_chunk m file index (with_entry (chunk_at m file index) (record { client = client; number = (a.0).number }) mutation)) _
-      (chunk_changed m file index _ (record { order = order_longer (chunk_at m file index).order _; round = omega arith }))
-      (step_taken _ client (λ c. c) (λ c. (refl, refl))))
+    (chunk_changed m file index _ (record { order = order_longer (chunk_at m file index).order _; round = omega arith }))
+    (step_taken _ client (λ c. c) (λ c. (refl, refl))))
 grows_step m (Settle file index place) a h = chunk_changed m file index _ (record { order = order_settled place (chunk_at m file index).order; round = omega arith })
 grows_step m (Tell client file index) a h = step_taken m client (λ c. record c { offers = offer_of m file index ∷ c.offers }) (λ c. (refl, refl))
 grows_step m (Note client file index round count) a h = machine_on m (with_client m client (record (m.clients client) { notes = put file (put index (Some round) ((m.clients client).notes file)) (m.clients client).notes })) _
@@ -308,7 +329,11 @@ grows_step m (LookPast client index) a h = step_taken m client (λ c. record c {
 grows_step m (Measure client file index told least last chosen) a h = step_taken m client (λ c. record c { lengths = (index * chunk_size m file + image_length (chunk_size m file) (mutations_of chosen)) ∷ c.lengths }) (λ c. (refl, refl))
 grows_step m (MeasureNone client) a h = step_taken m client (λ c. record c { lengths = 0 ∷ c.lengths }) (λ c. (refl, refl))
 grows_step m (Pass moment) a h = record {
-  config = refl; clock = a; file_count = omega arith; files = λ file. same_file (m.files file); clients = λ client. same_client (m.clients client);
+  config = refl;
+  clock = a;
+  file_count = omega arith;
+  files = λ file. same_file (m.files file);
+  clients = λ client. same_client (m.clients client);
 }
 
 -- in every state that a run reaches, what is known is known, and from then on the machine grows

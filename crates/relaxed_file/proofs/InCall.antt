@@ -53,8 +53,11 @@ module _ (m : Machine) (client number : ℕ) (asked : Asked) where
       let same : h.call ≡ going.0 = from_some (sym h.open_now ∙ going.2) in
       let on : Goes k client h.call going.1 = subst (λ c. Goes k client c going.1) (sym same) going.4 in
       record {
-        since = unseen_last m k action h.since a is; call = going.1; open_now = going.3;
-        number_is = sym on.0 ∙ h.number_is; asked_is = sym on.1 ∙ h.asked_is;
+        since = unseen_last m k action h.since a is;
+        call = going.1;
+        open_now = going.3;
+        number_is = sym on.0 ∙ h.number_is;
+        asked_is = sym on.1 ∙ h.asked_is;
         pieces = pieces_go k h.call going.1 h.since h.open_now h.asked_is on.2 h.offers h.pieces;
         offers = offers_go k h.call going.1 h.since h.asked_is on.3 h.offers;
       }
@@ -65,7 +68,7 @@ module _ (m : Machine) (client number : ℕ) (asked : Asked) where
   silent_actions k n (x ∷ xs) lawful ends seen h =
       elim (shown x) as (λ o. shown x ≡ o → cons_option o (visible xs) ≡ [] → InCall m client number asked n) [
         | None ↦ λ is more. silent_actions (after k x) n xs lawful.1 ends more
-          (goes k x lawful.0 is h (subst (λ v. CallStep k client v (k.clients client).open_call ((after k x).clients client).open_call) is (call_step k client x lawful.0)))
+            (goes k x lawful.0 is h (subst (λ v. CallStep k client v (k.clients client).open_call ((after k x).clients client).open_call) is (call_step k client x lawful.0)))
         | Some v ↦ λ is more. absurd (no_cons v (visible xs) (sym more))
       ] refl seen
 
@@ -117,12 +120,21 @@ exchange m n client asked reply rest plain s =
       since = nothing (after one.at one.action);
       call = fresh_call (one.at.clients client) (asked_now one.at client asked);
       open_now = made_by_call one.at one.action client asked one.allowed one.is;
-      number_is = refl; asked_is = refl; pieces = tt; offers = tt;
+      number_is = refl;
+      asked_is = refl;
+      pieces = tt;
+      offers = tt;
     } in
     let inside : InCall (after one.at one.action) client (suc (one.at.clients client).call_count) (asked_now one.at client asked) two.at = silently _ client _ _ _ two.at two.silent start in
     let allowed : Allows two.at (Return client reply) = subst (Allows two.at) is two.allowed in
     record {
-      at = one.at; before = one.silent; action = one.action; made = one.is; allowed = one.allowed; answered = two.at; inside = inside;
+      at = one.at;
+      before = one.silent;
+      action = one.action;
+      made = one.is;
+      allowed = one.allowed;
+      answered = two.at;
+      inside = inside;
       may = subst (λ c. MayReturn two.at client c reply) (from_some (sym allowed.1 ∙ inside.open_now)) allowed.2;
       then = subst (λ a. Shows (after two.at a) n rest) is two.then;
     }

@@ -206,7 +206,10 @@ step_current next calls change (Some c) keeps h = (ap calls (keeps c).0 ∙ h.0 
 step_client : (next : ℕ) (state : Client) (change : OpenCall → OpenCall) → KeepsCall next change → ClientKnown next state
     → ClientKnown next (record state { open_call = option_map (λ current. record (change current) { has_begun = true }) state.open_call })
 step_client next state change keeps h = record {
-  descriptors = h.descriptors; no_more_descriptors = h.no_more_descriptors; calls = h.calls; no_more_calls = h.no_more_calls;
+  descriptors = h.descriptors;
+  no_more_descriptors = h.no_more_descriptors;
+  calls = h.calls;
+  no_more_calls = h.no_more_calls;
   current = step_current next state.calls change state.open_call keeps h.current;
 }
 
@@ -276,7 +279,7 @@ stepped_known m client moment outcome current h below =
     elim (is_refused outcome) as (λ b. Known (with_outcome (cond b m (performed m current.asked.call moment)) client outcome)) [
       | true ↦ outcome_known m client outcome h below
       | false ↦ outcome_known (performed m current.asked.call moment) client outcome (performed_known m current.asked.call moment h)
-        (let more : m.file_count ≤ (performed m current.asked.call moment).file_count = files_rise m current.asked.call moment in outcome_more _ _ outcome (omega arith) below)
+          (let more : m.file_count ≤ (performed m current.asked.call moment).file_count = files_rise m current.asked.call moment in outcome_more _ _ outcome (omega arith) below)
     ]
 
 -- a call is made
@@ -290,12 +293,13 @@ file_of_below next state other h = tt
 
 invoked_known : (next : ℕ) (state : Client) (asked : Asked) → ClientKnown next state → FileBelow next asked.file
     → ClientKnown next (record state {
-        call_count = suc state.call_count;
-        calls = put (suc state.call_count) (Some asked) state.calls;
-        open_call = Some (record { number = suc state.call_count; asked = asked; has_begun = false; has_locks = false; outcomes = []; offers = []; pieces = []; lengths = [] });
-      })
+      call_count = suc state.call_count;
+      calls = put (suc state.call_count) (Some asked) state.calls;
+      open_call = Some (record { number = suc state.call_count; asked = asked; has_begun = false; has_locks = false; outcomes = []; offers = []; pieces = []; lengths = [] });
+    })
 invoked_known next state asked h below = record {
-  descriptors = h.descriptors; no_more_descriptors = h.no_more_descriptors;
+  descriptors = h.descriptors;
+  no_more_descriptors = h.no_more_descriptors;
   calls = put_keeps (AskedBelow next) (suc state.call_count) (Some asked) state.calls below h.calls;
   no_more_calls = λ number late. put_other (suc state.call_count) (Some asked) state.calls number (λ same. absurd (omega arith)) ∙ h.no_more_calls number (omega arith);
   current = (put_same (suc state.call_count) (Some asked) state.calls, tt);
@@ -314,7 +318,9 @@ returned_known : (m : Machine) (client : ℕ) (current : OpenCall) (reply : Answ
 returned_known m client current reply h = client_changed m client _ h (record {
   descriptors = descriptors_below _ (m.clients client).descriptors current.asked.call reply (h.clients client).descriptors;
   no_more_descriptors = descriptors_end (m.clients client).descriptors (m.clients client).fd_count current.asked.call reply (h.clients client).no_more_descriptors;
-  calls = (h.clients client).calls; no_more_calls = (h.clients client).no_more_calls; current = tt;
+  calls = (h.clients client).calls;
+  no_more_calls = (h.clients client).no_more_calls;
+  current = tt;
 })
 
 -- a call that is in progress, or was ended
@@ -325,8 +331,10 @@ begun_known next calls number (Some current) h = cond_keeps (λ c. CurrentKnown 
 added_known : (m : Machine) (id : CallId) (file : ℕ) → Known m → file ≤ m.file_count → Known (chunk_added m id file)
 added_known m id file h l =
     let started : Known (begun m id) = client_changed m id.client _ h (record {
-      descriptors = (h.clients id.client).descriptors; no_more_descriptors = (h.clients id.client).no_more_descriptors;
-      calls = (h.clients id.client).calls; no_more_calls = (h.clients id.client).no_more_calls;
+      descriptors = (h.clients id.client).descriptors;
+      no_more_descriptors = (h.clients id.client).no_more_descriptors;
+      calls = (h.clients id.client).calls;
+      no_more_calls = (h.clients id.client).no_more_calls;
       current = begun_known _ (m.clients id.client).calls id.number (m.clients id.client).open_call (h.clients id.client).current;
     }) in
     file_changed (begun m id) file _ started l (λ k late. put_other (chunk_count m file) new_chunk (m.files file).chunks k (λ same. absurd (omega arith)) ∙ h.files file k (omega arith))
@@ -350,7 +358,9 @@ known_step m (Return client reply) a h = at_some Known (λ current. returned m c
 known_step m (ReturnFd client fd file) a h = client_changed m client _ h (record {
   descriptors = put_keeps (FileBelow _) fd (Some file) (m.clients client).descriptors (contained (OutcomeBelow _) (a.0).outcomes (Opens file) (current_outcomes m client a.0 h a.1) a.2.0) (h.clients client).descriptors;
   no_more_descriptors = λ k late. let is : fd ≡ suc (m.clients client).fd_count = a.2.1 in put_other fd (Some file) (m.clients client).descriptors k (λ same. absurd (omega arith)) ∙ (h.clients client).no_more_descriptors k (omega arith);
-  calls = (h.clients client).calls; no_more_calls = (h.clients client).no_more_calls; current = tt;
+  calls = (h.clients client).calls;
+  no_more_calls = (h.clients client).no_more_calls;
+  current = tt;
 })
 known_step m (Step client moment outcome) a h = at_some Known (λ current. stepped m client moment outcome current) m _ a.0 a.1
     (stepped_known m client moment outcome a.0 h (subst (OutcomeBelow (suc m.file_count)) (sym a.2.2) (by_below _ m.names (a.0).asked.call (refusal_of m.names (a.0).asked.call) h.names)))
@@ -371,8 +381,11 @@ known_step m (Tell client file index) a h = step_taken m client (λ c. record c 
 known_step m (Note client file index round count) a h =
     step_taken (with_client m client (record (m.clients client) { notes = put file (put index (Some round) ((m.clients client).notes file)) (m.clients client).notes })) client (λ c. c)
     (client_changed m client _ h (record {
-      descriptors = (h.clients client).descriptors; no_more_descriptors = (h.clients client).no_more_descriptors;
-      calls = (h.clients client).calls; no_more_calls = (h.clients client).no_more_calls; current = (h.clients client).current;
+      descriptors = (h.clients client).descriptors;
+      no_more_descriptors = (h.clients client).no_more_descriptors;
+      calls = (h.clients client).calls;
+      no_more_calls = (h.clients client).no_more_calls;
+      current = (h.clients client).current;
     })) (λ c. (refl, refl, λ all. all))
 known_step m (Look client file index least last chosen) a h = at_some Known (λ current. looked m client current file index least chosen) m _ a.0 a.1
     (step_taken m client (λ c. record c { pieces = record { index = index; bytes = read_slice (chunk_size m file) index (a.0).asked.call chosen; round = Some least } ∷ c.pieces }) h (λ c. (refl, refl, λ all. all)))

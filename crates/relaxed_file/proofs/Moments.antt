@@ -32,12 +32,18 @@ nothing m = record { actions = []; lawful = tt; ends = refl; seen = refl }
 
 pub unseen_first : (m n : Machine) (action : Action) (trace : List Visible) → Allows m action → shown action ≡ None → Shows (after m action) n trace → Shows m n trace
 unseen_first m n action trace a is s = record {
-  actions = action ∷ s.actions; lawful = (a, s.lawful); ends = s.ends; seen = ap (λ o. cons_option o (visible s.actions)) is ∙ s.seen;
+  actions = action ∷ s.actions;
+  lawful = (a, s.lawful);
+  ends = s.ends;
+  seen = ap (λ o. cons_option o (visible s.actions)) is ∙ s.seen;
 }
 
 seen_first : (m n : Machine) (action : Action) (v : Visible) (trace : List Visible) → Allows m action → shown action ≡ Some v → Shows (after m action) n trace → Shows m n (v ∷ trace)
 seen_first m n action v trace a is s = record {
-  actions = action ∷ s.actions; lawful = (a, s.lawful); ends = s.ends; seen = ap (λ o. cons_option o (visible s.actions)) is ∙ ap (λ t. v ∷ t) s.seen;
+  actions = action ∷ s.actions;
+  lawful = (a, s.lawful);
+  ends = s.ends;
+  seen = ap (λ o. cons_option o (visible s.actions)) is ∙ ap (λ t. v ∷ t) s.seen;
 }
 
 -- the first thing that is seen, by an action that is allowed where it stands
@@ -63,14 +69,18 @@ first_of_actions m n [] v rest lawful ends seen = absurd (no_cons v rest seen)
 first_of_actions m n (x ∷ xs) v rest lawful ends seen =
     elim (shown x) as (λ o. shown x ≡ o → cons_option o (visible xs) ≡ v ∷ rest → First m n v rest) [
       | None ↦ λ is more.
-        let found : First (after m x) n v rest = first_of_actions (after m x) n xs v rest lawful.1 ends more in
-        record { at = found.at; silent = unseen_first m found.at x [] lawful.0 is found.silent; action = found.action; is = found.is; allowed = found.allowed; then = found.then }
+          let found : First (after m x) n v rest = first_of_actions (after m x) n xs v rest lawful.1 ends more in
+          record { at = found.at; silent = unseen_first m found.at x [] lawful.0 is found.silent; action = found.action; is = found.is; allowed = found.allowed; then = found.then }
       | Some w ↦ λ is more.
-        let both : (w ≡ v) × (visible xs ≡ rest) = parts_of w v (visible xs) rest more in
-        record {
-          at = m; silent = nothing m; action = x; is = is ∙ ap Some both.0; allowed = lawful.0;
-          then = record { actions = xs; lawful = lawful.1; ends = ends; seen = both.1 };
-        }
+          let both : (w ≡ v) × (visible xs ≡ rest) = parts_of w v (visible xs) rest more in
+          record {
+            at = m;
+            silent = nothing m;
+            action = x;
+            is = is ∙ ap Some both.0;
+            allowed = lawful.0;
+            then = record { actions = xs; lawful = lawful.1; ends = ends; seen = both.1 };
+          }
     ] refl seen
 
 pub first_seen : (m n : Machine) (v : Visible) (rest : List Visible) → Shows m n (v ∷ rest) → First m n v rest

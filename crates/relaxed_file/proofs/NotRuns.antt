@@ -31,10 +31,10 @@ no_answer_without_call config before later client reply idle run =
     let one : First cut.at run.0 (Answered client reply) later = first_seen cut.at run.0 _ later cut.back in
     let call : (c : OpenCall) × IsOpen one.at client c = is_return one.at one.action client reply one.is one.allowed in
     true≢false (
-      sym (ap is_waiting call.1)
-      ∙ waits_as_seen client cut.at one.at [] one.silent
-      ∙ waits_as_seen client (new_machine config) cut.at before cut.front
-      ∙ idle)
+    sym (ap is_waiting call.1)
+    ∙ waits_as_seen client cut.at one.at [] one.silent
+    ∙ waits_as_seen client (new_machine config) cut.at before cut.front
+    ∙ idle)
 
 -- a call is on the file of its descriptor
 module _ (config : Config) (m : Machine) (client : ℕ) (fd : Fd) (one two : List ℕ) (x y : ℕ) (between later : List Visible) (n : Machine)
@@ -73,21 +73,21 @@ module _ (config : Config) (m : Machine) (client : ℕ) (fd : Fd) (one two : Lis
   to_second =
       leads_on _ middle.at b.answered (leads _ middle.at between middle.front)
       (leads_on middle.at b.at b.answered (leads middle.at b.at [] b.before)
-        (leads_on b.at (after b.at b.action) b.answered (leads_by b.at b.action b.allowed) (leads _ b.answered [] (b.inside).since)))
+      (leads_on b.at (after b.at b.action) b.answered (leads_by b.at b.action b.allowed) (leads _ b.answered [] (b.inside).since)))
 
   to_second_call : LeadsTo a.at b.at
   to_second_call =
       leads_on a.at a.answered b.at to_answer
       (leads_on a.answered (after a.answered (Return client (answer.At x))) b.at (leads_by a.answered (Return client (answer.At x)) answers)
-        (leads_on _ middle.at b.at (leads _ middle.at between middle.front) (leads middle.at b.at [] b.before)))
+      (leads_on _ middle.at b.at (leads _ middle.at between middle.front) (leads middle.at b.at [] b.before)))
 
   same_file : first_file.0 ≡ second_file.0
   same_file =
       let known : Known a.at = known_when_reached config a.at reached_call in
       let grown : Grows a.at b.at = grows_to a.at b.at to_second_call known in
       let counted : fd.0 ≤ ((a.at).clients client).fd_count = ⊎_elim
-        (λ late. absurd (none-some _ (sym ((known.clients client).no_more_descriptors fd.0 late) ∙ first_file.1)))
-        (λ l. l) (cases_lt ((a.at).clients client).fd_count fd.0) in
+      (λ late. absurd (none-some _ (sym ((known.clients client).no_more_descriptors fd.0 late) ∙ first_file.1)))
+      (λ l. l) (cases_lt ((a.at).clients client).fd_count fd.0) in
       from_some (sym first_file.1 ∙ (grown.clients client).descriptors fd.0 second_file.0 counted second_file.1)
 
   differ : (x + length one ≤ y) ⊎ (y + length two ≤ x)

@@ -70,7 +70,7 @@ module _ (client file index r : ℕ) where
   step_taken : (m : Machine) (who : ℕ) (change : OpenCall → OpenCall) → KeepsOffers change → Holds m → Holds (with_step m who change)
   step_taken m who change keeps h = put_look (StateReaches file index r) who _ m.clients client
       (λ same. let mine : StateReaches file index r (m.clients who) = subst (λ k. StateReaches file index r (m.clients k)) same h in
-        record { note = mine.note; offers = offers_step change (m.clients who).open_call keeps mine.offers })
+      record { note = mine.note; offers = offers_step change (m.clients who).open_call keeps mine.offers })
       h
 
   outcome_taken : (m : Machine) (who : ℕ) (outcome : Outcome) → Holds m → Holds (with_outcome m who outcome)
@@ -88,28 +88,29 @@ module _ (client file index r : ℕ) where
       → Holds (with_step m who (λ c. record c { offers = offer_of m f i ∷ c.offers }))
   told m who f i current is on round h = put_look (StateReaches file index r) who _ m.clients client
       (λ same. let mine : StateReaches file index r (m.clients who) = subst (λ k. StateReaches file index r (m.clients k)) same h in
-        record {
-          note = mine.note;
-          offers = subst (λ o. OffersReach file index r (option_map {T = OpenCall} {U = OpenCall} (λ (c : OpenCall). record c { offers = offer_of m f i ∷ c.offers; has_begun = true }) o)) (sym is)
+      record {
+        note = mine.note;
+        offers = subst (λ o. OffersReach file index r (option_map {T = OpenCall} {U = OpenCall} (λ (c : OpenCall). record c { offers = offer_of m f i ∷ c.offers; has_begun = true }) o)) (sym is)
             (λ here. (
               subst (λ g. OfferReaches index r (offer_of m g i)) (from_some (sym here ∙ on)) (offer_told m i (nat_lt i (chunk_count m file)) round),
-              (let before : OffersReach file index r (Some current) = subst (OffersReach file index r) is mine.offers in before here)));
-        })
+              (let before : OffersReach file index r (Some current) = subst (OffersReach file index r) is mine.offers in before here),
+            ));
+      })
       h
 
   note_taken : (m : Machine) (who f i round count : ℕ) (current : OpenCall) → IsOpen m who current → current.asked.file ≡ Some f → Contains current.offers (Told i round count) → Holds m
       → Holds (with_client m who (record (m.clients who) { notes = put f (put i (Some round) ((m.clients who).notes f)) (m.clients who).notes }))
   note_taken m who f i round count current is on offer h = put_look (StateReaches file index r) who _ m.clients client
       (λ same. let mine : StateReaches file index r (m.clients who) = subst (λ k. StateReaches file index r (m.clients k)) same h in
-        record {
-          note = put_look (λ (t : ℕ → Option ℕ). NoteReaches r (t index)) f (put i (Some round) ((m.clients who).notes f)) (m.clients who).notes file
+      record {
+        note = put_look (λ (t : ℕ → Option ℕ). NoteReaches r (t index)) f (put i (Some round) ((m.clients who).notes f)) (m.clients who).notes file
             (λ this. put_look (NoteReaches r) i (Some round) ((m.clients who).notes f) index
-              (λ at. let before : OffersReach file index r (Some current) = subst (OffersReach file index r) is mine.offers in
-                contained (OfferReaches index r) current.offers (Told i round count) (before (on ∙ ap Some (sym this))) offer (sym at))
-              (subst (λ g. NoteReaches r ((m.clients who).notes g index)) this mine.note))
+            (λ at. let before : OffersReach file index r (Some current) = subst (OffersReach file index r) is mine.offers in
+            contained (OfferReaches index r) current.offers (Told i round count) (before (on ∙ ap Some (sym this))) offer (sym at))
+            (subst (λ g. NoteReaches r ((m.clients who).notes g index)) this mine.note))
             mine.note;
-          offers = mine.offers;
-        })
+        offers = mine.offers;
+      })
       h
 
   forgotten : (f : ℕ) (notes : ℕ → ℕ → Option ℕ) → NoteReaches r (notes file index) → NoteReaches r (put f (λ i. None) notes file index)
@@ -130,16 +131,16 @@ module _ (client file index r : ℕ) where
       (elim (is_refused outcome) as (λ b. Holds (with_outcome (cond b m (performed m (a.0).asked.call moment)) who outcome)) [
         | true ↦ outcome_taken m who outcome h
         | false ↦ outcome_taken (performed m (a.0).asked.call moment) who outcome
-          (subst (λ (t : ℕ → Client). StateReaches file index r (t client)) (sym (performed_clients m (a.0).asked.call moment)) h)
+            (subst (λ (t : ℕ → Client). StateReaches file index r (t client)) (sym (performed_clients m (a.0).asked.call moment)) h)
       ])
   state_step m (FindBusy who holder) a round h = outcome_taken m who _ h
   state_step m (FindFull who) a round h = outcome_taken m who _ h
   state_step m (Lock who) a round h = step_taken m who (λ current. record current { has_locks = true }) (λ c. (refl, refl)) h
   state_step m (Add id) a round h = at_some Holds (chunk_added m id) m (asked_file m id) a.1 (asked_is m id a.0 a.1 a.2.0 a.2.1)
       (put_look (StateReaches file index r) id.client _ m.clients client
-        (λ same. let mine : StateReaches file index r (m.clients id.client) = subst (λ k. StateReaches file index r (m.clients k)) same h in
-          record { note = mine.note; offers = begun_offers id.number (m.clients id.client).open_call mine.offers })
-        h)
+      (λ same. let mine : StateReaches file index r (m.clients id.client) = subst (λ k. StateReaches file index r (m.clients k)) same h in
+      record { note = mine.note; offers = begun_offers id.number (m.clients id.client).open_call mine.offers })
+      h)
   state_step m (Place who f i mutation) a round h = at_some Holds (λ current. placed m who current f i mutation) m _ a.0 a.1
       (step_taken (with_chunk m f i (with_entry (chunk_at m f i) (record { client = who; number = (a.0).number }) mutation)) who (λ c. c) (λ c. (refl, refl)) h)
   state_step m (Tell who f i) a round h = told m who f i a.0 a.1 a.2.0 round h
@@ -196,7 +197,7 @@ own_successes_are_read config m n client file index e reply least last chosen re
       known = known_step m (Return client reply) allowed known;
       round = let more : (chunk_at m file index).round ≤ (chunk_at (after m (Return client reply)) file index).round = (((grows_step m (Return client reply) allowed known).files file).chunks index).round in omega (arith, more, below);
       state = at_some (λ k. StateReaches file index e.round (k.clients client)) (λ c. returned m client c reply) m _ current own.1
-        (subst (StateReaches file index e.round) (sym (put_same client _ m.clients)) (record { note = note; offers = tt }));
+          (subst (StateReaches file index e.round) (sym (put_same client _ m.clients)) (record { note = note; offers = tt }));
     } in
     let later : Reaches client file index e.round n = kept_to (Reaches client file index e.round) (reaches_step client file index e.round) _ n way now in
     let l : e.round ≤ least = subst (NoteReaches e.round) look.1 later.state.note in

@@ -12,7 +12,7 @@ use Rattle.relaxed_file.specs.Names.{Node, Dir, File, Names, first_names, copied
 use Rattle.relaxed_file.specs.Order.{Entry, empty, takes}
 use Rattle.relaxed_file.specs.Machine.{Machine, new_machine, Piece, Replies, Opens}
 use Rattle.relaxed_file.specs.NameStep.{outcome_of, outcome_by, refusal_of, snapshot_taken, with_outcome, AllRoundsClosed}
-use Rattle.relaxed_file.proofs.RowRuns.{◌▸◌}
+use Rattle.relaxed_file.proofs.FirstRuns.{◌▸◌}
 use Rattle.relaxed_file.specs.Run.{Action, Invoke, Return, ReturnFd, Step, Lock, FindBusy, Add, OpenRound, CloseRound, Place, Settle, Tell, Note, Look, IsLawful, after_all}
 use Rattle.relaxed_file.specs.Traces.{fd, record_a, record_b, small_chunks, snapshot_trace, IsRunOfSmall}
 

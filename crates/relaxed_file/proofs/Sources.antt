@@ -63,9 +63,9 @@ module _ (m : Machine) where
   copy_put : (sources : ℕ → List ℕ) (files : ℕ → FileState) (next : ℕ) (node : Node) → ArePut sources files → ArePut (with_source sources next node) (with_copied_file files next node)
   copy_put sources files next Dir h = h
   copy_put sources files next (File id) h = λ k. elim (k == next) as (λ b. PutIn (cond b (next ∷ sources id) (sources k)) (cond b (files id) (files k))) [
-      | true ↦ λ index. all_more _ (λ e. from_source id sources next index e) (h id index)
-      | false ↦ h k
-    ]
+    | true ↦ λ index. all_more _ (λ e. from_source id sources next index e) (h id index)
+    | false ↦ h k
+  ]
 
   copies_put : (entries : List (Path × Node)) (sources : ℕ → List ℕ) (files : ℕ → FileState) (next : ℕ) → ArePut sources files → ArePut (with_sources sources next entries) (with_copied_files files next entries)
   copies_put [] sources files next h = h
@@ -99,7 +99,7 @@ module _ (m : Machine) where
   put_step (CloseRound file index) sources a known selves h = chunk_put sources file index _ (h file index) h
   put_step (Place client file index mutation) sources a known selves h = at_some (λ k. ArePut sources k.files) (λ current. placed m client current file index mutation) m _ a.0 a.1
       (chunk_put sources file index _ (all_pushed (WasPutBy m (sources file) index) _ _ (h file index)
-        ((a.0).asked, open_is_made m client a.0 known a.1, file, (a.2).0, selves file, asked_here m (record { client = client; number = (a.0).number }) file index (a.0).asked.call mutation (a.2).3)) h)
+      ((a.0).asked, open_is_made m client a.0 known a.1, file, (a.2).0, selves file, asked_here m (record { client = client; number = (a.0).number }) file index (a.0).asked.call mutation (a.2).3)) h)
   put_step (Settle file index place) sources a known selves h = chunk_put sources file index _ (put_settled (sources file) index place _ (h file index)) h
   put_step (Look client file index least last chosen) sources a known selves h = at_some (λ k. ArePut sources k.files) (λ current. looked m client current file index least chosen) m _ a.0 a.1 h
   put_step other sources a known selves h = h
@@ -155,9 +155,9 @@ newer_some false x None e h = absurd (none-some e h)
 cover_has : (size place : ℕ) (chosen : List Entry) (e : Entry) → last_cover size chosen place ≡ Some e → Has chosen e
 cover_has size place [] e h = absurd (none-some e h)
 cover_has size place (x ∷ rest) e h = elim (newer_some (covers size place x.mutation) x (last_cover size rest place) e h) [
-    | inl same ↦ inl same
-    | inr later ↦ inr (cover_has size place rest e later)
-  ]
+  | inl same ↦ inl same
+  | inr later ↦ inr (cover_has size place rest e later)
+]
 
 -- the last cover among entries is that among their mutations
 newer_mutation : (b : Bool) (x : Entry) (o : Option Entry)
@@ -181,8 +181,8 @@ comes_from m sources index last place order chosen chose all =
     elim (last_cover m.config.chunk chosen place) as (λ o. last_cover m.config.chunk chosen place ≡ o → ComesFrom m sources index order chosen place) [
       | None ↦ λ is. inl (is, byte_is m.config.chunk place chosen None is)
       | Some e ↦ λ is.
-        let has : Has order e = chosen_has last chose e (cover_has m.config.chunk place chosen e is) in
-        inr (e, has_place order e has, is, byte_is m.config.chunk place chosen (Some e) is, has_all (WasPutBy m sources index) order e all has)
+          let has : Has order e = chosen_has last chose e (cover_has m.config.chunk place chosen e is) in
+          inr (e, has_place order e has, is, byte_is m.config.chunk place chosen (Some e) is, has_all (WasPutBy m sources index) order e all has)
     ] refl
 
 pub no_other_byte : NoOtherByte

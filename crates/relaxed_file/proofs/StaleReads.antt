@@ -134,8 +134,8 @@ module _ (config : Config) (m n : Machine) (client : ℕ) (fd : Fd) (bytes round
   same_file =
       let first : Known a.at = known_when_reached config a.at (leads_on (new_machine config) m a.at reached (leads m a.at [] a.before)) in
       let counted : fd.0 ≤ ((a.at).clients client).fd_count = ⊎_elim
-        (λ late. absurd (none-some _ (sym ((first.clients client).no_more_descriptors fd.0 late) ∙ append_file)))
-        (λ l. l) (cases_lt ((a.at).clients client).fd_count fd.0) in
+      (λ late. absurd (none-some _ (sym ((first.clients client).no_more_descriptors fd.0 late) ∙ append_file)))
+      (λ l. l) (cases_lt ((a.at).clients client).fd_count fd.0) in
       from_some (sym append_file ∙ ((grows_to a.at b.at to_call first).clients client).descriptors fd.0 read_done.0 counted read_file)
 
   -- where the record lies
@@ -153,19 +153,19 @@ module _ (config : Config) (m n : Machine) (client : ℕ) (fd : Fd) (bytes round
   look_gives k c index least last chosen way asked same look =
       let here : IsLook k client file it.index least last chosen = subst (λ i. IsLook k client file i least last chosen) same look in
       let own : IsOwnSuccess a.answered client file it.index it.entry =
-        (it.current, it.open_now, it.there, it.noted, it.note_is, it.success) in
+      (it.current, it.open_now, it.there, it.noted, it.note_is, it.success) in
       let there : Contains chosen it.entry = own_successes_are_read config a.answered k client file it.index it.entry (answer.At x) least last chosen reached_answer own answers way here in
       let whole : LeadsTo a.answered k = leads_on a.answered after_append k (leads_by a.answered (Return client (answer.At x)) answers) way in
       let far : end_of config.chunk (it.entry).mutation ≤ image_length config.chunk (mutations_of chosen) = reaches_end config.chunk there.0 chosen it.entry there.1 there.2 in
       let end_is : end_of config.chunk (it.entry).mutation ≡ it.offset + length bytes = ap (end_of config.chunk) it.what in
       let enough : 0 < min (part_length config.chunk x (length bytes) it.index) (image_length config.chunk (mutations_of chosen) - part_start config.chunk x it.index) =
-        part_bytes_there config.chunk it.index it.offset (length bytes) x _ it.is it.room some (omega (arith, far, end_is)) in
+      part_bytes_there config.chunk it.index it.offset (length bytes) x _ it.is it.room some (omega (arith, far, end_is)) in
       let count : length (image_slice config.chunk (mutations_of chosen) (part_start config.chunk x it.index) (part_length config.chunk x (length bytes) it.index))
-        ≡ min (part_length config.chunk x (length bytes) it.index) (image_length config.chunk (mutations_of chosen) - part_start config.chunk x it.index) = length_from config.chunk (mutations_of chosen) _ _ in
+      ≡ min (part_length config.chunk x (length bytes) it.index) (image_length config.chunk (mutations_of chosen) - part_start config.chunk x it.index) = length_from config.chunk (mutations_of chosen) _ _ in
       let given : 0 < length (read_slice config.chunk it.index (call.Read fd x (length bytes)) chosen) = omega (arith, enough, count) in
       subst (λ s. 0 < length (read_slice s index c.asked.call chosen)) (sym (size_is k whole))
       (subst (λ i. 0 < length (read_slice config.chunk i c.asked.call chosen)) (sym same)
-        (subst (λ (w : Asked). 0 < length (read_slice config.chunk it.index w.call chosen)) (sym asked) given))
+      (subst (λ (w : Asked). 0 < length (read_slice config.chunk it.index w.call chosen)) (sym asked) given))
 
   abbrev start : Machine
   start = after b.at b.action
@@ -189,21 +189,21 @@ module _ (config : Config) (m n : Machine) (client : ℕ) (fd : Fd) (bytes round
           (look_gives read.0 read.2 index least last chosen (leads_on after_append start read.0 to_start (leads start read.0 [] read.1)) read.4 index_same look)
       by_kind (by_none index past is) =
           let told : WasTold start client (asked_now b.at client (call.Read fd x (length bytes))) (NoSuchChunk index) =
-            contained (WasTold start client (asked_now b.at client (call.Read fd x (length bytes)))) _ (NoSuchChunk index) read.6 past in
+          contained (WasTold start client (asked_now b.at client (call.Read fd x (length bytes)))) _ (NoSuchChunk index) read.6 past in
           let f_is : told.4 ≡ file = asked_file_is told.2 told.4 told.3 (told.6).0 in
           let at_index : told.5 ≡ it.index = sym (offered_index told.0 told.4 index told.5 told.7) ∙ ap (λ (p : Piece). p.index) (sym is) ∙ same in
           let way : LeadsTo a.answered told.0 = leads_on a.answered after_append told.0 (leads_by a.answered (Return client (answer.At x)) answers)
-            (leads_on after_append start told.0 to_start (leads start told.0 [] told.1)) in
+          (leads_on after_append start told.0 to_start (leads start told.0 [] told.1)) in
           let more : chunk_count a.answered file ≤ chunk_count told.0 file = ((grows_to a.answered told.0 way known).files file).count in
           let there : it.index < chunk_count a.answered file = it.has_chunk in
           absurd (offered_there told.0 file index it.index (omega arith)
-            (subst (λ j. NoSuchChunk index ≡ offer_of told.0 file j) at_index (subst (λ g. NoSuchChunk index ≡ offer_of told.0 g told.5) f_is told.7)))
+          (subst (λ j. NoSuchChunk index ≡ offer_of told.0 file j) at_index (subst (λ g. NoSuchChunk index ≡ offer_of told.0 g told.5) f_is told.7)))
 
   no_pieces : (pieces : List Piece) → ArePieces config.chunk x (length bytes) (b.inside).call.pieces it.index pieces → [] ≡ flat_map (λ piece. piece.bytes) pieces → ⊥
   no_pieces [] are none = true≢false (sym (part_there config.chunk it.index it.offset (length bytes) x it.is it.room some) ∙ are)
   no_pieces (piece ∷ rest) are none =
       let read : WasRead start client (asked_now b.at client (call.Read fd x (length bytes))) piece =
-        contained (WasRead start client (asked_now b.at client (call.Read fd x (length bytes)))) (b.inside).call.pieces piece (b.inside).pieces are.1 in
+      contained (WasRead start client (asked_now b.at client (call.Read fd x (length bytes)))) (b.inside).call.pieces piece (b.inside).pieces are.1 in
       let given : 0 < length piece.bytes = piece_gives piece read are.2 in
       let empty : length piece.bytes ≡ 0 = empty_front piece.bytes (flat_map (λ p. p.bytes) rest) none in
       omega (arith, given, empty)
@@ -212,8 +212,8 @@ module _ (config : Config) (m n : Machine) (client : ℕ) (fd : Fd) (bytes round
   stale =
       let pieces : List Piece = read_done.2 in
       let are : ArePieces config.chunk x (length bytes) (b.inside).call.pieces it.index pieces =
-        subst (λ i. ArePieces config.chunk x (length bytes) (b.inside).call.pieces i pieces) (index_is b.answered to_read)
-        (subst (λ s. ArePieces s x (length bytes) (b.inside).call.pieces (x / b.answered.config.chunk) pieces) (size_is b.answered to_read) read_done.3) in
+      subst (λ i. ArePieces config.chunk x (length bytes) (b.inside).call.pieces i pieces) (index_is b.answered to_read)
+      (subst (λ s. ArePieces s x (length bytes) (b.inside).call.pieces (x / b.answered.config.chunk) pieces) (size_is b.answered to_read) read_done.3) in
       no_pieces pieces are read_done.4
 
 pub no_stale_read : NoStaleRead

@@ -114,18 +114,36 @@ answered config m client file fd bytes x reached a =
     let settings : m.config ≡ config = (grows_to (new_machine config) m reached (known_at_first config)).config in
     let both = append_is config.chunk done.2 done.3 fd bytes (found.2).mutation asked found.5 in
     record {
-      current = current; open_now = a.1; index = done.2; offset = done.3; is = subst (λ (c : Config). x ≡ done.2 * c.chunk + done.3) settings done.4;
-      entry = found.2; there = found.3; call_is = sym (same_id _ _ (found.4).0); settled = (found.4).1; what = both.0; room = both.1;
-      has_chunk = subst (λ f. done.2 < chunk_count m f) same done.5; noted = found.0; note_is = found.1; success = found.4;
+      current = current;
+      open_now = a.1;
+      index = done.2;
+      offset = done.3;
+      is = subst (λ (c : Config). x ≡ done.2 * c.chunk + done.3) settings done.4;
+      entry = found.2;
+      there = found.3;
+      call_is = sym (same_id _ _ (found.4).0);
+      settled = (found.4).1;
+      what = both.0;
+      room = both.1;
+      has_chunk = subst (λ f. done.2 < chunk_count m f) same done.5;
+      noted = found.0;
+      note_is = found.1;
+      success = found.4;
     }
 
 pub answered_appends_stay : AnsweredAppendsStay
 answered_appends_stay config m client file fd bytes x reached a =
-    let it : AnsweredAppend config m client file bytes x = answered config m client file fd bytes x reached a in
-    (it.index, it.offset, it.there.0, it.is, it.room, λ n way.
-    stands_later config m n file it.index it.there.0 it.entry (Append it.offset bytes) reached
-      (leads_on m _ n (leads_by m (Return client (answer.At x)) (it.current, it.open_now, subst (λ c. MayReturn m client c (answer.At x)) (from_some (sym a.1 ∙ it.open_now)) a.4)) way)
-      (found_at _ it.entry it.there) it.settled it.what)
+    let it : AnsweredAppend config m client file bytes x = answered config m client file fd bytes x reached a in (
+      it.index,
+      it.offset,
+      it.there.0,
+      it.is,
+      it.room,
+      λ n way.
+          stands_later config m n file it.index it.there.0 it.entry (Append it.offset bytes) reached
+          (leads_on m _ n (leads_by m (Return client (answer.At x)) (it.current, it.open_now, subst (λ c. MayReturn m client c (answer.At x)) (from_some (sym a.1 ∙ it.open_now)) a.4)) way)
+          (found_at _ it.entry it.there) it.settled it.what,
+    )
 
 pub answered_writes_stay : AnsweredWritesStay
 answered_writes_stay config m client file fd offset bytes index reached a part =
@@ -136,10 +154,12 @@ answered_writes_stay config m client file fd offset bytes index reached a part =
     subst (λ (o : Option ℕ). IfSome o (λ f. (i : ℕ) → IsTrue (has_part m.config.chunk offset (length bytes) i) → HasSuccess m client (record { client = client; number = current.number }) f i IsWrite)) a.2 done.0 in
     let found : HasSuccess m client (record { client = client; number = current.number }) file index IsWrite = each index (subst (λ (c : Config). IsTrue (has_part c.chunk offset (length bytes) index)) (sym settings) part) in
     let asked : IsAskedOf config.chunk index (call.Write fd offset bytes) (found.2).mutation =
-    subst (λ c. IsAskedOf config.chunk index c (found.2).mutation) a.3 (success_asked config m client current file index found.0 found.2 reached a.1 found.3 found.4) in
-    ((found.3).0, λ n way.
-    stands_later config m n file index (found.3).0 found.2 _ reached (leads_on m _ n (leads_by m (Return client answer.Done) (current, a.1, a.4)) way)
-      (found_at _ found.2 found.3) (found.4).1 (write_is config.chunk index offset fd bytes (found.2).mutation asked found.5))
+    subst (λ c. IsAskedOf config.chunk index c (found.2).mutation) a.3 (success_asked config m client current file index found.0 found.2 reached a.1 found.3 found.4) in (
+      (found.3).0,
+      λ n way.
+          stands_later config m n file index (found.3).0 found.2 _ reached (leads_on m _ n (leads_by m (Return client answer.Done) (current, a.1, a.4)) way)
+          (found_at _ found.2 found.3) (found.4).1 (write_is config.chunk index offset fd bytes (found.2).mutation asked found.5),
+    )
 
 -- two entries of an order, the first of them settled and the second an append
 past_in_rest : (P : Entry → Type 0) (order : List Entry) (k : ℕ) (f : Entry) → AllByRecursion P order → slice_get order k ≡ Some f → P f
@@ -153,7 +173,7 @@ earlier_first size [] j k e f past l one two s placed = absurd (none-some e one)
 earlier_first size (x ∷ rest) zero (suc k) e f past l one two s placed =
     past_in_rest (λ g. IsTrue (is_placed_by_system g.mutation) → end_of size e.mutation ≤ start_of g.mutation) rest k f
     (subst (λ (w : Entry). AllByRecursion (λ g. IsTrue (is_placed_by_system g.mutation) → end_of size w.mutation ≤ start_of g.mutation) rest) (from_some one)
-      (past.0 (subst (λ (w : Entry). IsTrue w.settled) (sym (from_some one)) s))) two placed
+    (past.0 (subst (λ (w : Entry). IsTrue w.settled) (sym (from_some one)) s))) two placed
 earlier_first size (x ∷ rest) (suc j) (suc k) e f past l one two s placed = earlier_first size rest j k e f past.1 (omega arith) one two s placed
 earlier_first size (x ∷ rest) j zero e f past l one two s placed = absurd (omega arith)
 
@@ -196,7 +216,7 @@ later_number m n client c d reply known open_c allowed way open_d =
     let grown : Grows (after m (Return client reply)) n = grows_to _ n way (known_step m (Return client reply) allowed known) in
     let closed : (((after m (Return client reply)).clients client).open_call ≡ None) × (((after m (Return client reply)).clients client).call_count ≡ (m.clients client).call_count) = closed_after m client c reply open_c in
     let newer : ((after m (Return client reply)).clients client).call_count < d.number = newer_number _ _ d closed.0
-      (subst (λ o. OpenGrows ((after m (Return client reply)).clients client).call_count ((after m (Return client reply)).clients client).open_call o) open_d (grown.clients client).open_call) in
+    (subst (λ o. OpenGrows ((after m (Return client reply)).clients client).call_count ((after m (Return client reply)).clients client).open_call o) open_d (grown.clients client).open_call) in
     let used : c.number ≤ (m.clients client).call_count = number_used m client c known open_c in
     omega (arith, newer, closed.1, used)
 
@@ -237,24 +257,24 @@ module _ (config : Config) (m n : Machine) (client other file : ℕ) (fd fe : Fd
         | inr after ↦ elim (cases_lt second.there.0 first.there.0) [
           | inl behind ↦ inr (let l : second.offset + length two ≤ first.offset = past_append config.chunk _ second.there.0 first.there.0 second.entry first.entry second.offset first.offset two one lie behind second_there at_first second.settled second.what first.what in omega (arith, l, x_is, y_is))
           | inr before ↦ absurd (
-            let place : first.there.0 ≡ second.there.0 = omega arith in
-            let entry : first.entry ≡ second.entry = from_some (sym at_first ∙ subst (λ k. slice_get (chunk_at n file second.index).order k ≡ Some second.entry) (sym place) second_there) in
-            let id : record { client = client; number = (first.current).number } ≡ record { client = other; number = (second.current).number } = sym first.call_is ∙ ap (λ (e : Entry). e.call) entry ∙ second.call_is in
-            let owner : other ≡ client = ap (λ (c : CallId). c.client) (sym id) in
-            let number : (first.current).number ≡ (second.current).number = ap (λ (c : CallId). c.number) id in
-            let later : (first.current).number < (second.current).number = later_number m n client first.current second.current (answer.At x) (known_when_reached config m reached) first.open_now returns way (subst (λ c. IsOpen n c second.current) owner second.open_now) in
-            omega (arith, number, later))
+              let place : first.there.0 ≡ second.there.0 = omega arith in
+              let entry : first.entry ≡ second.entry = from_some (sym at_first ∙ subst (λ k. slice_get (chunk_at n file second.index).order k ≡ Some second.entry) (sym place) second_there) in
+              let id : record { client = client; number = (first.current).number } ≡ record { client = other; number = (second.current).number } = sym first.call_is ∙ ap (λ (e : Entry). e.call) entry ∙ second.call_is in
+              let owner : other ≡ client = ap (λ (c : CallId). c.client) (sym id) in
+              let number : (first.current).number ≡ (second.current).number = ap (λ (c : CallId). c.number) id in
+              let later : (first.current).number < (second.current).number = later_number m n client first.current second.current (answer.At x) (known_when_reached config m reached) first.open_now returns way (subst (λ c. IsOpen n c second.current) owner second.open_now) in
+              omega (arith, number, later))
         ]
       ]
 
   differ : (x + length one ≤ y) ⊎ (y + length two ≤ x)
   differ = elim (cases_lt first.index second.index) [
     | inl below ↦ inl (let l : first.index * config.chunk + first.offset + length one ≤ second.index * config.chunk + second.offset = apart_by_index config.chunk first.index second.index first.offset second.offset (length one) below first.room in
-      omega (arith, l, first.is, second.is))
+        omega (arith, l, first.is, second.is))
     | inr above ↦ elim (cases_eq first.index second.index) [
       | inl same ↦ in_one_chunk same
       | inr other ↦ inr (let l : second.index * config.chunk + second.offset + length two ≤ first.index * config.chunk + first.offset = apart_by_index config.chunk second.index first.index second.offset first.offset (length two) (omega arith) second.room in
-        omega (arith, l, first.is, second.is))
+          omega (arith, l, first.is, second.is))
     ]
   ]
 

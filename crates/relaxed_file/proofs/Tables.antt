@@ -22,9 +22,9 @@ put_other key value table k other = ap (λ b. cond b value (table k)) (ne_eqb k 
 -- one value is known, the others by their number
 pub put_at : {A : Type 0} (P : ℕ → A → Type 0) (key : ℕ) (value : A) (table : ℕ → A) → P key value → ((k : ℕ) → P k (table k)) → (k : ℕ) → P k (put key value table k)
 put_at P key value table new old k = elim (k == key) as (λ b. (k == key) ≡ b → P k (cond b value (table k))) [
-    | true ↦ λ e. subst (λ j. P j value) (sym (eqb-true k key e)) new
-    | false ↦ λ e. old k
-  ] refl
+  | true ↦ λ e. subst (λ j. P j value) (sym (eqb-true k key e)) new
+  | false ↦ λ e. old k
+] refl
 
 -- an option that is known to be there
 pub at_some : {A B : Type 0} (P : B → Type 0) (f : A → B) (other : B) (o : Option A) (x : A) → o ≡ Some x → P (f x) → P (unwrap_or (option_map f o) other)
@@ -49,9 +49,9 @@ from_some {x = x} {y = y} h = same_Some x y h
 -- a table at one number, after another value was put somewhere
 pub put_look : {A : Type 0} (P : A → Type 0) (key : ℕ) (value : A) (table : ℕ → A) (k : ℕ) → (k ≡ key → P value) → P (table k) → P (put key value table k)
 put_look P key value table k new old = elim (k == key) as (λ b. (k == key) ≡ b → P (cond b value (table k))) [
-    | true ↦ λ e. new (eqb-true k key e)
-    | false ↦ λ e. old
-  ] refl
+  | true ↦ λ e. new (eqb-true k key e)
+  | false ↦ λ e. old
+] refl
 
 pub put_is : {A : Type 0} (key : ℕ) (value : A) (table : ℕ → A) (k : ℕ) → k ≡ key → put key value table k ≡ value
 put_is key value table k e = ap (λ b. cond b value (table k)) (eq-eqb k key e)

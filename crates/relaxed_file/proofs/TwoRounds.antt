@@ -8,7 +8,7 @@ use Rattle.relaxed_file.specs.Machine.{new_machine, Piece, Opens}
 use Rattle.relaxed_file.specs.Run.{Action, IsLawful, Invoke, Return, ReturnFd, Step, Add, OpenRound, CloseRound, Place, Settle, Tell, Note, Look}
 use Rattle.relaxed_file.specs.Traces.{small_chunks, fd, record_a, record_b, two_rounds_trace, IsRunOfSmall}
 use Rattle.relaxed_file.proofs.NamesLemmas.{create_f, open_f}
-use Rattle.relaxed_file.proofs.RowRuns.{◌▸◌, open_actions}
+use Rattle.relaxed_file.proofs.FirstRuns.{◌▸◌, open_actions}
 
 -- the first record, the failed one and the last one
 abbrev record_entry : ℕ → ℕ → ℕ → List ℕ → Bool → Entry

@@ -26,11 +26,11 @@ NoSharedOffset =
     (config : Config) (before between later : List Visible) (client : ℕ) (fd : Fd) (one two : List ℕ) (x y : ℕ)
     → y < x + length one → x < y + length two
     → IsRun config (before ++ (Called client (call.Append fd one) ∷ Answered client (answer.At x)
-        ∷ (between ++ (Called client (call.Append fd two) ∷ Answered client (answer.At y) ∷ later)))) → ⊥
+    ∷ (between ++ (Called client (call.Append fd two) ∷ Answered client (answer.At y) ∷ later)))) → ⊥
 
 -- A record that a client appended, and of which its next read gives nothing.
 abbrev pub NoStaleRead : Type 0
 NoStaleRead =
     (config : Config) (before later : List Visible) (client : ℕ) (fd : Fd) (bytes rounds : List ℕ) (x : ℕ) → 0 < length bytes
     → IsRun config (before ++ (Called client (call.Append fd bytes) ∷ Answered client (answer.At x)
-        ∷ Called client (call.Read fd x (length bytes)) ∷ Answered client (answer.Bytes [] rounds) ∷ later)) → ⊥
+    ∷ Called client (call.Read fd x (length bytes)) ∷ Answered client (answer.Bytes [] rounds) ∷ later)) → ⊥

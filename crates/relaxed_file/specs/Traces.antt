@@ -13,8 +13,20 @@ use Rattle.relaxed_file.specs.Run.{Visible, Called, Answered, Passed, IsRunTo, I
 -- chunks of 64 bytes, the rest by default
 abbrev pub small_chunks : Config
 small_chunks = record {
-  chunk = 64; block = 16; goal = 3; lease_ms = 60_000; skew_ms = 2_000; attempt_ms = 5_000; attempts = 5;
-  cache_entries = 256; cache_ms = 60_000; push_entries = 64; keep_ms = 259_200_000; slots = 32; log_bytes = 16_777_216; journal = 1_048_576;
+  chunk = 64;
+  block = 16;
+  goal = 3;
+  lease_ms = 60_000;
+  skew_ms = 2_000;
+  attempt_ms = 5_000;
+  attempts = 5;
+  cache_entries = 256;
+  cache_ms = 60_000;
+  push_entries = 64;
+  keep_ms = 259_200_000;
+  slots = 32;
+  log_bytes = 16_777_216;
+  journal = 1_048_576;
 }
 
 abbrev pub fd : ℕ → Fd

@@ -1,4 +1,4 @@
-use Rattle.relaxed_file.proofs.RowRuns.{long_record_run}
+use Rattle.relaxed_file.proofs.FirstRuns.{long_record_run}
 use Rattle.relaxed_file.proofs.traces.long_record.Goals as goal
 
 pub returns : goal.returns
