@@ -104,7 +104,3 @@ module _ {X : Type 0} (from to : List ℕ) where
   pub copies_there : (es : List (List ℕ × X)) → list_all (λ (e : List ℕ × X). is_at_or_below to e.0) (copies_of from to es) ≡ true
   copies_there [] = refl
   copies_there (e ∷ es) = copies_there_by e (filter (λ (e : List ℕ × X). is_at_or_below from e.0) es) (is_at_or_below from e.0) refl (copies_there es)
-
-  -- from any name but the root, a path moves with all that stands behind that name
-  pub copies_of-plain : bytes_eq from root ≡ false → (es : List (List ℕ × X)) → copies_of from to es ≡ map (λ e. (to ++ drop (length from) e.0, e.1)) (filter (λ e. is_at_or_below from e.0) es)
-  copies_of-plain other es = ap (λ b. map (λ (e : List ℕ × X). (to ++ cond (b && not (bytes_eq e.0 root)) e.0 (drop (length from) e.0), e.1)) (filter (λ (e : List ℕ × X). is_at_or_below from e.0) es)) other
