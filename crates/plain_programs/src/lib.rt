@@ -2,4 +2,6 @@
 //! Tests of the cell compare its answers with these.
 #![tactic(auto)]
 
+pub mod entry;
 pub mod image;
+pub mod regions;

@@ -7,4 +7,4 @@ use Rattle.plain_programs.proofs.image.byte_at.Given as goal
 abbrev pub invariant-loop-mutation : goal.invariant-loop-mutation
 invariant-loop-mutation l =
     spec.newer l.last (option_map (change.byte_of l.place) (spec.last_that (change.covers l.chunk l.place) (drop l.mutation-index l.mutations)))
-      ≡ option_map (change.byte_of l.place) (spec.last_that (change.covers l.chunk l.place) l.mutations)
+    ≡ option_map (change.byte_of l.place) (spec.last_that (change.covers l.chunk l.place) l.mutations)
