@@ -2,4 +2,10 @@
 #![tactic(auto)]
 
 #[cfg(test)]
+mod messages;
+#[cfg(test)]
+mod records;
+#[cfg(test)]
+mod samples;
+#[cfg(test)]
 mod values;
