@@ -1,6 +1,6 @@
 -- The settings of a cell: the range of each, in the order in which they are looked at, and what stands where none is given. A chunk has 64 MB and three replicas in the paper (sections 2.3 and 2.5), a lease 60 seconds (section 3.1), and a deleted file three days (section 4.4).
-use Rattle.std.specs.Prelude.{ℕ, ◌%◌, Bool, ◌&&◌, ◌==◌, nat_lt, nat_le, if◌then◌else◌, List, [], ◌∷◌, Option, Some, None, unwrap_or, codes}
-use Rattle.std.specs.List.{find}
+use Rattle.std.specs.Prelude.{ℕ, ◌%◌, ◌^◌, min, Bool, ◌&&◌, ◌==◌, nat_lt, nat_le, if◌then◌else◌, List, [], ◌∷◌, Option, Some, None, codes}
+use Rattle.std.specs.Int.{trailing_zeros, w32}
 use Rattle.gfs_types.specs.declared.config.Config.{Config}
 use Rattle.gfs_types.specs.declared.config.ConfigFault.{ConfigFault}
 use Rattle.gfs_types.specs.declared.config.ConfigFault.TheVariants.{Chunk, Block, Goal, LeaseMs, SkewMs, AttemptMs, Attempts, CacheEntries, CacheMs, PushEntries, KeepMs, Slots, LogBytes, Journal}
@@ -54,13 +54,9 @@ default_settings = record {
   journal = 1048576;
 }
 
--- the powers of two that a block may have by itself, from the greatest down
-abbrev pub block_sizes : List ℕ
-block_sizes = 65536 ∷ 32768 ∷ 16384 ∷ 8192 ∷ 4096 ∷ 2048 ∷ 1024 ∷ 512 ∷ 256 ∷ 128 ∷ 64 ∷ 32 ∷ 16 ∷ 8 ∷ 4 ∷ 2 ∷ 1 ∷ []
-
--- the greatest of them that divides a chunk
+-- the block where none is given: the greatest power of two that divides the chunk and is at most 65536 (2 ^ 16)
 abbrev pub block_for : ℕ → ℕ
-block_for chunk = unwrap_or (find (λ size. chunk % size == 0) block_sizes) 1
+block_for chunk = 2 ^ min (trailing_zeros w32 chunk) 16
 
 abbrev pub name_of_setting : ConfigFault → List ℕ
 name_of_setting Chunk = codes "chunk"
