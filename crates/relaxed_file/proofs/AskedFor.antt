@@ -1,5 +1,5 @@
 -- In every run each entry is a mutation that a call asked for.
-use Rattle.std.proofs.Common.{◌≡◌, ℕ, zero, suc, ◌+◌, ◌≤◌, List, [], ◌∷◌, ◌++◌, length, Some, refl, sym, ◌∙◌, ap, subst, arith}
+use Rattle.std.proofs.Common.{◌≡◌, ℕ, zero, suc, ◌+◌, ◌≤◌, List, [], ◌∷◌, ◌++◌, length, Some, sym, subst}
 use Rattle.std.specs.List.{AllByRecursion}
 use Rattle.gfs_types.specs.declared.call.Call.{Call}
 use Rattle.gfs_types.specs.declared.call.Call.TheVariants as call
@@ -7,9 +7,9 @@ use Rattle.gfs_types.specs.declared.config.Config.{Config}
 use Rattle.gfs_types.specs.declared.mutation.Mutation.{Mutation}
 use Rattle.gfs_types.specs.declared.mutation.Mutation.TheVariants.{Write, Append, Pad}
 use Rattle.relaxed_file.specs.Order.{Entry, CallId}
-use Rattle.relaxed_file.specs.Machine.{Machine, new_machine, OpenCall, IsOpen, Asked, chunk_at}
-use Rattle.relaxed_file.specs.Chunks.{AsksFor, MayPlace, settled_at}
-use Rattle.relaxed_file.specs.Run.{Action, Allows, after, IsReached}
+use Rattle.relaxed_file.specs.Machine.{Machine, new_machine, OpenCall, IsOpen, chunk_at}
+use Rattle.relaxed_file.specs.Chunks.{AsksFor, settled_at}
+use Rattle.relaxed_file.specs.Run.{Action, Allows, after}
 use Rattle.relaxed_file.specs.RunLaws.{IsAskedOf, WasAskedFor, EntriesWereAskedFor}
 use Rattle.relaxed_file.proofs.Tables.{all_more}
 use Rattle.relaxed_file.proofs.Known.{Known, known_step, CurrentKnown}

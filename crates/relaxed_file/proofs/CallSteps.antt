@@ -1,21 +1,18 @@
 -- How a client's open call changes by one action: it is made, it ends, or it goes on with the same number, perhaps with one more thing that it was told or that it read.
-use Rattle.std.proofs.Common.{◌≡◌, ℕ, zero, suc, ◌+◌, ◌*◌, ◌⊎◌, Bool, true, false, cond, List, [], ◌∷◌, Option, Some, None, refl, sym, ◌∙◌, ap, subst, inl, inr, arith}
-use Rattle.std.specs.Prelude.{option_map, unwrap_or, ◌==◌}
-use Rattle.std.specs.FinMap as map
+use Rattle.std.proofs.Common.{◌≡◌, ℕ, suc, ◌+◌, ◌*◌, ◌⊎◌, true, false, cond, List, [], ◌∷◌, Option, Some, None, refl, sym, ◌∙◌, ap, subst, inl, inr}
+use Rattle.std.specs.Prelude.{option_map, ◌==◌}
 use Rattle.std.proofs.lemmas.Bool.{cases_eq}
 use Rattle.gfs_types.specs.declared.call.Call.{Call}
-use Rattle.gfs_types.specs.declared.call.Call.TheVariants as call
 use Rattle.gfs_types.specs.declared.answer.Answer.{Answer}
 use Rattle.gfs_types.specs.declared.answer.Answer.TheVariants as answer
-use Rattle.gfs_types.specs.declared.refusal.Refusal.TheVariants.{Busy, NamesFull}
 use Rattle.gfs_types.specs.Image.{image_length}
-use Rattle.relaxed_file.specs.Order.{Entry, CallId, mutations_of}
-use Rattle.relaxed_file.specs.Machine.{Machine, Client, Asked, OpenCall, IsOpen, Outcome, Replies, Piece, chunk_at, chunk_size, put, with_client, with_step, with_chunk}
+use Rattle.relaxed_file.specs.Order.{Entry, mutations_of}
+use Rattle.relaxed_file.specs.Machine.{Machine, Client, Asked, OpenCall, IsOpen, Outcome, Piece, chunk_at, chunk_size, put, with_client, with_step, with_chunk}
 use Rattle.relaxed_file.specs.NameStep.{performed, is_refused, stepped, with_outcome}
 use Rattle.relaxed_file.specs.Chunks.{chunk_added, begun_call, placed, with_entry}
 use Rattle.relaxed_file.specs.Reads.{offer_of, looked, read_slice, MayLook, MayLookPast, MayOffer}
 use Rattle.relaxed_file.specs.Answers.{returned}
-use Rattle.relaxed_file.specs.Run.{Action, Invoke, Return, ReturnFd, Step, FindBusy, FindFull, Lock, Expire, Add, OpenRound, CloseRound, Place, Settle, Tell, Note, Look, LookPast, Measure, MeasureNone, Pass, Visible, Called, Answered, Passed, shown, asked_now, Allows, after, asked_file}
+use Rattle.relaxed_file.specs.Run.{Action, Invoke, Return, ReturnFd, Step, FindBusy, FindFull, Lock, Add, Place, Tell, Note, Look, LookPast, Measure, MeasureNone, Pass, Visible, Called, Answered, Passed, shown, asked_now, Allows, after, asked_file}
 use Rattle.relaxed_file.proofs.Tables.{put_is, put_same, put_other, at_some, from_some}
 use Rattle.relaxed_file.proofs.Known.{asked_is}
 use Rattle.relaxed_file.proofs.OwnReads.{performed_clients}

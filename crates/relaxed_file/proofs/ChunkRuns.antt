@@ -1,6 +1,5 @@
 -- Worked traces of one client on one file, by their actions.
-use Rattle.std.proofs.Common.{◌≡◌, ℕ, zero, suc, ◌<◌, ◌⊎◌, Bool, true, false, List, [], ◌∷◌, ◌++◌, Some, None, refl, inl, inr, arith, replicate, codes}
-use Rattle.std.specs.Prelude.{IsTrue}
+use Rattle.std.proofs.Common.{◌≡◌, ℕ, zero, suc, ◌<◌, ◌⊎◌, Bool, true, false, List, [], ◌∷◌, Some, None, refl, inl, inr, arith, replicate}
 use Rattle.std.proofs.lemmas.Bool.{ltb-true}
 use Rattle.gfs_types.specs.declared.call.Call.TheVariants as call
 use Rattle.gfs_types.specs.declared.answer.Answer.TheVariants as answer
@@ -9,7 +8,7 @@ use Rattle.gfs_types.specs.declared.mutation.Mutation.TheVariants.{Write, Append
 use Rattle.relaxed_file.specs.Order.{Entry, CallId, empty, takes}
 use Rattle.relaxed_file.specs.Parts.{has_part}
 use Rattle.relaxed_file.specs.Machine.{new_machine, Piece}
-use Rattle.relaxed_file.specs.Run.{Action, IsLawful, Invoke, Return, ReturnFd, Step, Add, OpenRound, Place, Settle, Tell, Note, Look, LookPast, Measure, MeasureNone}
+use Rattle.relaxed_file.specs.Run.{Action, IsLawful, Invoke, Return, Add, OpenRound, Place, Settle, Tell, Note, Look, LookPast, Measure, MeasureNone}
 use Rattle.relaxed_file.specs.Traces.{small_chunks, fd, record_a, region, HasRegions, IsRunWith, IsRunOfSmall, empty_file_trace, quarter_record_trace, padding_trace, two_chunks_trace, second_try_trace}
 use Rattle.relaxed_file.proofs.NamesLemmas.{create_f, open_f}
 use Rattle.relaxed_file.proofs.FirstRuns.{◌▸◌, open_actions}

@@ -1,5 +1,5 @@
 -- What holds of a new chunk and is kept by each step of a chunk is kept by each action of the machine, and so holds of every chunk in every run.
-use Rattle.std.proofs.Common.{◌≡◌, ℕ, suc, ◌<◌, Bool, true, false, cond, List, [], ◌∷◌, Option, Some, None, refl, sym, ◌∙◌, subst}
+use Rattle.std.proofs.Common.{◌≡◌, ℕ, suc, ◌<◌, true, false, cond, List, [], ◌∷◌, refl, ◌∙◌}
 use Rattle.std.specs.Prelude.{IsSomeAnd, slice_get}
 use Rattle.gfs_types.specs.declared.call.Call.{Call}
 use Rattle.gfs_types.specs.declared.call.Call.TheVariants as call
@@ -7,7 +7,7 @@ use Rattle.gfs_types.specs.declared.mutation.Mutation.{Mutation}
 use Rattle.gfs_types.specs.declared.config.Config.{Config}
 use Rattle.gfs_types.specs.Paths.{Path}
 use Rattle.relaxed_file.specs.Names.{Node, Dir, File, copied_entries, id_after}
-use Rattle.relaxed_file.specs.Machine.{Machine, FileState, Chunk, new_chunk, new_file, OpenCall, IsOpen, new_machine, chunk_at, chunk_count, put, with_chunk}
+use Rattle.relaxed_file.specs.Machine.{Machine, FileState, Chunk, new_chunk, new_file, OpenCall, IsOpen, new_machine, chunk_at, chunk_count, with_chunk}
 use Rattle.relaxed_file.specs.NameStep.{performed, is_refused, stepped, with_outcome, with_copied_file, with_copied_files}
 use Rattle.relaxed_file.specs.Chunks.{MayPlace, settled_at, chunk_added, placed, with_entry}
 use Rattle.relaxed_file.specs.Answers.{returned}

@@ -1,12 +1,10 @@
 -- A file's chunks change only by what is done on that very file.
-use Rattle.std.proofs.Common.{◌≡◌, ℕ, zero, suc, ◌<◌, ◌≤◌, Bool, true, false, cond, List, [], ◌∷◌, Option, Some, None, refl, sym, ◌∙◌, ap, subst, arith}
-use Rattle.std.specs.Prelude.{IsTrue, Contains, option_map, unwrap_or}
-use Rattle.std.proofs.lemmas.Option.{none-some}
+use Rattle.std.proofs.Common.{◌≡◌, ℕ, suc, ◌<◌, ◌≤◌, true, false, cond, List, [], ◌∷◌, Some, refl, sym, ◌∙◌, ap, arith}
 use Rattle.gfs_types.specs.declared.call.Call.{Call}
 use Rattle.gfs_types.specs.declared.call.Call.TheVariants as call
 use Rattle.gfs_types.specs.Paths.{Path}
-use Rattle.relaxed_file.specs.Names.{Node, Dir, File, copied_entries, id_after, id_after_all}
-use Rattle.relaxed_file.specs.Machine.{Machine, FileState, Chunk, new_file, OpenCall, Outcome, chunk_at, put}
+use Rattle.relaxed_file.specs.Names.{Node, Dir, File, copied_entries, id_after}
+use Rattle.relaxed_file.specs.Machine.{Machine, FileState, new_file, chunk_at, put}
 use Rattle.relaxed_file.specs.NameStep.{performed, is_refused, stepped, with_outcome, with_copied_file, with_copied_files}
 use Rattle.relaxed_file.specs.Chunks.{chunk_added, placed}
 use Rattle.relaxed_file.specs.Answers.{returned}
@@ -15,7 +13,7 @@ use Rattle.relaxed_file.specs.Run.{Action, Return, Step, Expire, Add, OpenRound,
 use Rattle.relaxed_file.specs.RunLaws.{file_changed_by, NoneChanges, FilesStayApart, PlacesAreOwn, ReadsSkipNothing}
 use Rattle.relaxed_file.proofs.Tables.{put_other, put_look, at_some}
 use Rattle.relaxed_file.proofs.Known.{Known, known_step, asked_is, id_after_rises}
-use Rattle.relaxed_file.proofs.Grows.{Grows, grows_step, known_when_reached}
+use Rattle.relaxed_file.proofs.Grows.{grows_step, known_when_reached}
 use Rattle.relaxed_file.proofs.Successes.{found_at}
 use Rattle.relaxed_file.proofs.OwnReads.{selected, has_place}
 

@@ -1,29 +1,26 @@
 -- What a machine keeps while it goes on: orders only get entries at their end, and entries only become settled; rounds, counts and the clock never fall; calls and descriptors keep their meaning.
-use Rattle.std.proofs.Common.{◌≡◌, ℕ, zero, suc, ◌+◌, ◌*◌, ◌<◌, ◌≤◌, Bool, true, false, cond, List, [], ◌∷◌, ◌++◌, Option, Some, None, refl, sym, ◌∙◌, ap, subst, inl, inr, arith, ◌⊎◌}
-use Rattle.std.specs.Prelude.{option_map, unwrap_or, IsTrue, slice_get, ◌==◌}
-use Rattle.std.specs.FinMap as map
+use Rattle.std.proofs.Common.{◌≡◌, ℕ, zero, suc, ◌+◌, ◌*◌, ◌<◌, ◌≤◌, true, false, cond, List, [], ◌∷◌, ◌++◌, Option, Some, None, refl, sym, ◌∙◌, subst, inl, inr, arith, ◌⊎◌}
+use Rattle.std.specs.Prelude.{option_map, IsTrue, ◌==◌}
 use Rattle.std.proofs.lemmas.Bool.{false≢true}
-use Rattle.std.proofs.lemmas.Option.{none-some, same_Some}
+use Rattle.std.proofs.lemmas.Option.{none-some}
 use Rattle.gfs_types.specs.declared.call.Call.{Call}
 use Rattle.gfs_types.specs.declared.call.Call.TheVariants as call
 use Rattle.gfs_types.specs.declared.answer.Answer.{Answer}
 use Rattle.gfs_types.specs.declared.answer.Answer.TheVariants as answer
-use Rattle.gfs_types.specs.declared.refusal.Refusal.TheVariants.{Busy, NamesFull}
-use Rattle.gfs_types.specs.declared.mutation.Mutation.{Mutation}
 use Rattle.gfs_types.specs.declared.config.Config.{Config}
-use Rattle.gfs_types.specs.Paths.{Path, hidden_name}
+use Rattle.gfs_types.specs.Paths.{Path}
 use Rattle.gfs_types.specs.Image.{image_length}
-use Rattle.relaxed_file.specs.Names.{Node, Dir, File, copied_entries, id_after, id_after_all}
+use Rattle.relaxed_file.specs.Names.{Node, Dir, File, copied_entries, id_after}
 use Rattle.relaxed_file.specs.Order.{CallId, Entry, mutations_of}
-use Rattle.relaxed_file.specs.Machine.{Machine, FileState, Chunk, new_chunk, new_file, new_machine, Client, Asked, OpenCall, Outcome, Replies, Piece, chunk_at, chunk_count, chunk_size, put, with_file, with_chunk, with_client, with_step}
-use Rattle.relaxed_file.specs.NameStep.{performed, is_refused, stepped, with_outcome, snapshot_taken, with_copied_file, with_copied_files}
+use Rattle.relaxed_file.specs.Machine.{Machine, FileState, Chunk, new_chunk, new_file, new_machine, Client, Asked, OpenCall, Outcome, chunk_at, chunk_count, chunk_size, put, with_file, with_chunk, with_client, with_step}
+use Rattle.relaxed_file.specs.NameStep.{performed, is_refused, stepped, with_outcome, with_copied_file, with_copied_files}
 use Rattle.relaxed_file.specs.Chunks.{chunk_added, placed, settled_at, begun, begun_call, with_entry}
 use Rattle.relaxed_file.specs.Reads.{looked, offer_of, read_slice}
 use Rattle.relaxed_file.specs.Answers.{returned, descriptors_after}
 use Rattle.relaxed_file.specs.Run.{Action, Invoke, Return, ReturnFd, Step, FindBusy, FindFull, Lock, Expire, Add, OpenRound, CloseRound, Place, Settle, Tell, Note, Look, LookPast, Measure, MeasureNone, Pass, Allows, after, asked_file, LeadsTo, IsReached}
 use Rattle.relaxed_file.proofs.Reached.{kept_to}
 use Rattle.relaxed_file.proofs.Tables.{cond_keeps, put_other, put_at, at_some}
-use Rattle.relaxed_file.proofs.Known.{Known, known_step, first_below, asked_is, copied_file_fresh, files_rise, ids_rise}
+use Rattle.relaxed_file.proofs.Known.{Known, known_step, first_below, asked_is, copied_file_fresh, files_rise}
 
 -- the same entry, perhaps settled since
 abbrev pub EntryGrows : Entry → Entry → Type 0

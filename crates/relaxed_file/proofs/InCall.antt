@@ -1,5 +1,5 @@
 -- A call between the moment it is made and its answer, with nothing seen in between: what it read and what it was told.
-use Rattle.std.proofs.Common.{◌≡◌, ℕ, zero, suc, ◌≤◌, ◌⊎◌, List, [], ◌∷◌, ◌++◌, Option, Some, None, refl, sym, ◌∙◌, ap, subst, inl, inr, ⊎_elim, arith}
+use Rattle.std.proofs.Common.{◌≡◌, ℕ, suc, List, [], ◌∷◌, Some, None, refl, sym, ◌∙◌, ap, subst, inl, inr}
 use Rattle.std.specs.List.{AllByRecursion, cons_option}
 use Rattle.std.proofs.lemmas.Option.{none-some}
 use Rattle.gfs_types.specs.declared.call.Call.{Call}
@@ -8,10 +8,10 @@ use Rattle.gfs_types.specs.declared.answer.Answer.TheVariants as answer
 use Rattle.relaxed_file.specs.Machine.{Machine, Asked, OpenCall, IsOpen, Offer, Piece}
 use Rattle.relaxed_file.specs.Reads.{offer_of, MayOffer}
 use Rattle.relaxed_file.specs.Answers.{MayReturn}
-use Rattle.relaxed_file.specs.Run.{Action, Invoke, Return, ReturnFd, Pass, Visible, Called, Answered, Passed, shown, visible, Allows, after, after_all, IsLawful, LeadsTo, asked_now}
+use Rattle.relaxed_file.specs.Run.{Action, Invoke, Return, ReturnFd, Pass, Visible, Called, Answered, shown, visible, Allows, after, after_all, IsLawful, LeadsTo, asked_now}
 use Rattle.relaxed_file.proofs.Reached.{leads_on, leads_by}
-use Rattle.relaxed_file.proofs.Tables.{from_some, all_more}
-use Rattle.relaxed_file.proofs.CallSteps.{IsPieceOf, GetsPiece, GetsOffer, Goes, IsOthers, IsMade, IsEnded, IsGoing, CallStep, call_step, fresh_call}
+use Rattle.relaxed_file.proofs.Tables.{from_some}
+use Rattle.relaxed_file.proofs.CallSteps.{IsPieceOf, GetsPiece, GetsOffer, Goes, CallStep, call_step, fresh_call}
 use Rattle.relaxed_file.proofs.Moments.{Shows, leads, nothing, unseen_first, join_shows, First, first_seen, who_of, said_of, asked_of, called_not, passed_not, no_cons}
 
 -- a piece that was read, and an offer that was made, since a state, by a call of this kind

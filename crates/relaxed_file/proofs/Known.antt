@@ -1,31 +1,27 @@
 -- In every run each file that is named, open or asked for was made, and a file that was not made is empty. Numbers of calls and descriptors are used once.
-use Rattle.std.proofs.Common.{◌≡◌, ℕ, zero, suc, ◌+◌, ◌-◌, ◌*◌, ◌<◌, ◌≤◌, Bool, true, false, cond, List, [], ◌∷◌, Option, Some, None, refl, sym, ◌∙◌, ap, subst, arith, inl, inr, ⊎_elim}
-use Rattle.std.specs.Prelude.{option_map, unwrap_or, option_and_then, IsTrue, IsFalse, Contains, ◌==◌}
+use Rattle.std.proofs.Common.{◌≡◌, ℕ, suc, ◌+◌, ◌-◌, ◌*◌, ◌<◌, ◌≤◌, true, false, cond, List, [], ◌∷◌, Option, Some, None, refl, sym, ◌∙◌, ap, subst, arith, ⊎_elim}
+use Rattle.std.specs.Prelude.{option_map, option_and_then, IsTrue, ◌==◌}
 use Rattle.std.specs.List.{AllByRecursion}
 use Rattle.std.specs.Ordering.{nat_cmp, eq_by_cmp}
 use Rattle.std.specs.Cmp.Lexicographic.{slice_cmp, nat_list_cmp_total}
 use Rattle.std.specs.FinMap as map
-use Rattle.std.proofs.lemmas.Bool.{cases_lt, false≢true, cases_Bool}
-use Rattle.std.proofs.lemmas.Option.{none-some, same_Some}
+use Rattle.std.proofs.lemmas.Bool.{cases_lt, false≢true}
 use Rattle.gfs_types.specs.declared.call.Call.{Call}
 use Rattle.gfs_types.specs.declared.call.Call.TheVariants as call
 use Rattle.gfs_types.specs.declared.answer.Answer.{Answer}
 use Rattle.gfs_types.specs.declared.answer.Answer.TheVariants as answer
 use Rattle.gfs_types.specs.declared.refusal.Refusal.{Refusal}
-use Rattle.gfs_types.specs.declared.refusal.Refusal.TheVariants.{Busy, NamesFull}
-use Rattle.gfs_types.specs.declared.config.Config.{Config}
 use Rattle.gfs_types.specs.Paths.{Path, root, trash, hidden_name}
-use Rattle.relaxed_file.specs.Names.{Node, Dir, File, Names, first_names, node_at, copied_entries, with_copies, id_after, id_after_all, copy_of_node, listing}
+use Rattle.relaxed_file.specs.Names.{Node, Dir, File, Names, first_names, node_at, copied_entries, with_copies, id_after, id_after_all, copy_of_node}
 use Rattle.gfs_types.specs.Image.{image_length}
 use Rattle.relaxed_file.specs.Order.{CallId, mutations_of}
-use Rattle.relaxed_file.specs.Machine.{Machine, FileState, Chunk, new_chunk, new_file, new_machine, Client, Asked, OpenCall, Outcome, Replies, Opens, chunk_at, chunk_count, chunk_size, put, with_file, with_chunk, with_client, with_step, IsOpen}
+use Rattle.relaxed_file.specs.Machine.{Machine, FileState, Chunk, new_chunk, new_file, Client, Asked, OpenCall, Outcome, Replies, Opens, chunk_at, chunk_count, chunk_size, put, with_file, with_chunk, with_client, with_step, IsOpen}
 use Rattle.relaxed_file.specs.NameStep.{performed, is_refused, stepped, with_outcome, with_node, hidden, opened, done_outcome, outcome_by, outcome_of, refusal_of, with_copied_file, with_copied_files}
 use Rattle.relaxed_file.specs.Chunks.{chunk_added, placed, begun, begun_call}
 use Rattle.relaxed_file.specs.Reads.{looked, offer_of, read_slice}
 use Rattle.relaxed_file.specs.Answers.{returned, descriptors_after}
-use Rattle.relaxed_file.specs.Run.{Action, Invoke, Return, ReturnFd, Step, FindBusy, FindFull, Lock, Expire, Add, OpenRound, CloseRound, Place, Settle, Tell, Note, Look, LookPast, Measure, MeasureNone, Pass, file_of, Allows, after, asked_file, IsReached}
+use Rattle.relaxed_file.specs.Run.{Action, Invoke, Return, ReturnFd, Step, FindBusy, FindFull, Lock, Expire, Add, OpenRound, CloseRound, Place, Settle, Tell, Note, Look, LookPast, Measure, MeasureNone, Pass, file_of, Allows, after, asked_file}
 use Rattle.relaxed_file.proofs.Tables.{cond_keeps, put_keeps, put_same, put_other, at_some, contained, all_more}
-use Rattle.relaxed_file.proofs.Reached.{kept_to}
 
 -- the file is one of those before this number
 abbrev pub NodeBelow : ℕ → Option Node → Type 0

@@ -1,21 +1,17 @@
 -- The moments of a run at which what is seen happens.
-use Rattle.std.proofs.Common.{◌≡◌, ℕ, zero, suc, ◌≤◌, ◌⊎◌, Bool, true, false, cond, List, [], ◌∷◌, ◌++◌, Option, Some, None, refl, sym, ◌∙◌, ap, subst, inl, inr, ⊎_elim, arith}
-use Rattle.std.specs.Prelude.{IsTrue, IsFalse, ◌==◌}
+use Rattle.std.proofs.Common.{◌≡◌, ℕ, Bool, true, false, cond, List, [], ◌∷◌, ◌++◌, Option, Some, None, refl, sym, ◌∙◌, ap, subst, inl, inr}
 use Rattle.std.specs.List.{cons_option}
 use Rattle.std.proofs.lemmas.Bool.{eq-eqb, ne_eqb}
 use Rattle.std.proofs.lemmas.Option.{none-some}
 use Rattle.gfs_types.specs.declared.call.Call.{Call}
-use Rattle.gfs_types.specs.declared.call.Call.TheVariants as call
 use Rattle.gfs_types.specs.declared.answer.Answer.{Answer}
-use Rattle.gfs_types.specs.declared.answer.Answer.TheVariants as answer
-use Rattle.gfs_types.specs.declared.config.Config.{Config}
-use Rattle.relaxed_file.specs.Machine.{Machine, new_machine, OpenCall, IsOpen}
-use Rattle.relaxed_file.specs.Run.{Action, Invoke, Return, ReturnFd, Pass, Visible, Called, Answered, Passed, shown, visible, Allows, after, after_all, IsLawful, LeadsTo, asked_now}
+use Rattle.relaxed_file.specs.Machine.{Machine, OpenCall, IsOpen}
+use Rattle.relaxed_file.specs.Run.{Action, Invoke, Return, ReturnFd, Pass, Visible, Called, Answered, Passed, shown, visible, Allows, after, after_all, IsLawful, LeadsTo}
 use Rattle.relaxed_file.specs.NotRuns.{waits}
 use Rattle.relaxed_file.proofs.Tables.{from_some}
 use Rattle.relaxed_file.proofs.Reached.{lawful_after, after_all-append}
 use Rattle.relaxed_file.proofs.GoingOn.{visible-append}
-use Rattle.relaxed_file.proofs.CallSteps.{Goes, same_call, IsOthers, IsMade, IsEnded, IsGoing, CallStep, call_step, fresh_call}
+use Rattle.relaxed_file.proofs.CallSteps.{IsOthers, CallStep, call_step}
 
 -- from one state to another, with this seen
 pub record Shows (m n : Machine) (trace : List Visible) : Type 0 where

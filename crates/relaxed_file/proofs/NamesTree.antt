@@ -1,36 +1,34 @@
 -- In every run the names are a tree.
-use Rattle.std.proofs.Common.{◌≡◌, ℕ, zero, suc, ◌+◌, ◌-◌, ◌/◌, ◌%◌, ◌<◌, ◌≤◌, ◌⊎◌, Bool, true, false, not, T, ◌&&◌, cond, List, [], ◌∷◌, ◌++◌, length, drop, Option, Some, None, is_some, Ordering, refl, sym, ◌∙◌, ap, subst, inl, inr, ⊎_elim, arith, append_assoc, append-nil, length-append, codes}
-use Rattle.std.specs.Prelude.{IsTrue, IsFalse, option_map, unwrap_or, filter, nat_lt, map as list_map}
+use Rattle.std.proofs.Common.{◌≡◌, ℕ, zero, suc, ◌+◌, ◌-◌, ◌/◌, ◌%◌, ◌≤◌, ◌⊎◌, Bool, true, false, not, T, ◌&&◌, cond, List, [], ◌∷◌, ◌++◌, length, drop, Option, Some, None, is_some, refl, sym, ◌∙◌, ap, subst, inl, inr, ⊎_elim, arith, append_assoc, append-nil, length-append, codes}
+use Rattle.std.specs.Prelude.{filter, nat_lt, map as list_map}
 use Rattle.std.specs.List.{AllByRecursion, list_any}
 use Rattle.std.specs.Str.{bytes_eq}
-use Rattle.std.specs.Ordering.{nat_cmp, eq_by_cmp, is_eq, is_lt}
+use Rattle.std.specs.Ordering.{nat_cmp, is_eq, is_lt}
 use Rattle.std.specs.declared.cmp.Ordering.TheVariants.{Less, Equal, Greater}
 use Rattle.std.specs.Cmp.Lexicographic.{slice_cmp, nat_list_cmp_total}
 use Rattle.std.specs.FinMap as map
 use Rattle.std.specs.FinMap.Entries.{find, is_sorted, below_all}
 use Rattle.std.proofs.lemmas.Map.Text.{is_eq-slice_cmp}
-use Rattle.std.proofs.lemmas.Bool.{true≢false, false≢true, and_parts, or_parts, false_from_ne_true, ne_eqb, not-true, not-false, cases_Bool, cases_lt}
+use Rattle.std.proofs.lemmas.Bool.{true≢false, false≢true, or_parts, ne_eqb}
 use Rattle.std.proofs.lemmas.Option.{none-some}
 use Rattle.std.proofs.lemmas.List.{drop_at, append_cancel_left}
 use Rattle.gfs_types.specs.declared.call.Call.{Call}
 use Rattle.gfs_types.specs.declared.call.Call.TheVariants as call
-use Rattle.gfs_types.specs.declared.answer.Answer.TheVariants as answer
 use Rattle.gfs_types.specs.declared.refusal.Refusal.{Refusal}
-use Rattle.gfs_types.specs.declared.config.Config.{Config}
-use Rattle.gfs_types.specs.Paths.{Path, root, trash, is_slash, is_path, parent, is_below, is_at_or_below, is_child, digit, last_digits, hidden_name}
+use Rattle.gfs_types.specs.Paths.{Path, root, trash, is_slash, is_path, parent, is_at_or_below, is_child, digit, last_digits, hidden_name}
 use Rattle.relaxed_file.specs.Names.{Node, Dir, File, Names, node_at, is_dir_node, is_taken, is_dir, IsTree, first_names, has_children, copied_entries, with_copies, id_after, copy_of_node}
-use Rattle.relaxed_file.specs.Machine.{Machine, new_machine, Outcome, Replies, OpenCall}
+use Rattle.relaxed_file.specs.Machine.{Machine, new_machine, Outcome}
 use Rattle.relaxed_file.specs.NameStep.{first_refusal, is_in_trash, is_reserved, path_tests, name_tests, refusal_of, outcome_by, outcome_of, performed, is_refused, stepped, with_outcome, with_node, hidden}
 use Rattle.relaxed_file.specs.Chunks.{chunk_added, placed}
 use Rattle.relaxed_file.specs.Answers.{returned}
 use Rattle.relaxed_file.specs.Reads.{looked}
 use Rattle.relaxed_file.specs.Run.{Action, Return, Step, Expire, Add, Place, Look, Allows, after, asked_file}
 use Rattle.relaxed_file.specs.RunLaws.{NamesStayATree}
-use Rattle.relaxed_file.proofs.Tables.{cond_keeps, at_some, from_some, all_more}
+use Rattle.relaxed_file.proofs.Tables.{at_some, from_some}
 use Rattle.relaxed_file.proofs.Known.{asked_is}
 use Rattle.relaxed_file.proofs.Reached.{kept_to}
 use Rattle.relaxed_file.proofs.AskedFor.{all_pushed}
-use Rattle.relaxed_file.proofs.PathParts.{HasNoSlash, equal_paths, same_paths, other_paths, Parted, at_slash, whole, parted, parent_of, parent_at_top, parent_of_part, child_of_parent, IsTail, at_or_below_from, at_or_below_is}
+use Rattle.relaxed_file.proofs.PathParts.{HasNoSlash, equal_paths, same_paths, other_paths, Parted, at_slash, whole, parted, parent_of, child_of_parent, IsTail, at_or_below_from, at_or_below_is}
 
 -- look-ups after a change, by the bytes of the paths
 get_inserted : (names : Names) (p : Path) (v : Node) (q : Path) → node_at (map.insert names p v) q ≡ cond (bytes_eq q p) (Some v) (node_at names q)

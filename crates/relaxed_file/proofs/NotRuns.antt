@@ -1,26 +1,22 @@
 -- Traces that are not runs.
-use Rattle.std.proofs.Common.{◌≡◌, ℕ, zero, suc, ◌+◌, ◌<◌, ◌≤◌, ◌⊎◌, Bool, true, false, List, [], ◌∷◌, ◌++◌, length, Option, Some, None, refl, sym, ◌∙◌, ap, subst, inl, inr, ⊎_elim, arith}
-use Rattle.std.specs.Prelude.{IsTrue, IsFalse}
+use Rattle.std.proofs.Common.{◌≡◌, ℕ, ◌+◌, ◌≤◌, ◌⊎◌, List, [], ◌∷◌, ◌++◌, length, Some, refl, sym, ◌∙◌, ap, subst, ⊎_elim, arith}
 use Rattle.std.proofs.lemmas.Bool.{true≢false, cases_lt}
 use Rattle.std.proofs.lemmas.Option.{none-some}
-use Rattle.gfs_types.specs.declared.call.Call.{Call}
 use Rattle.gfs_types.specs.declared.call.Call.TheVariants as call
-use Rattle.gfs_types.specs.declared.answer.Answer.{Answer}
 use Rattle.gfs_types.specs.declared.answer.Answer.TheVariants as answer
 use Rattle.gfs_types.specs.declared.ids.Fd.{Fd}
 use Rattle.gfs_types.specs.declared.config.Config.{Config}
 use Rattle.relaxed_file.specs.Machine.{Machine, new_machine, Asked, OpenCall, IsOpen}
 use Rattle.relaxed_file.specs.Answers.{IsDone, MayReturn}
-use Rattle.relaxed_file.specs.Run.{Action, Return, Visible, Called, Answered, Allows, after, LeadsTo, IsReached, IsRun, asked_now}
-use Rattle.relaxed_file.specs.RunLaws.{MayAnswer}
-use Rattle.relaxed_file.specs.NotRuns.{waits, NoAnswerWithoutCall, NoSharedOffset}
+use Rattle.relaxed_file.specs.Run.{Return, Visible, Called, Answered, Allows, after, LeadsTo, IsReached, IsRun, asked_now}
+use Rattle.relaxed_file.specs.NotRuns.{NoAnswerWithoutCall, NoSharedOffset}
 use Rattle.relaxed_file.proofs.Tables.{from_some}
 use Rattle.relaxed_file.proofs.Reached.{leads_on, leads_by}
-use Rattle.relaxed_file.proofs.Known.{Known, known_step}
+use Rattle.relaxed_file.proofs.Known.{Known}
 use Rattle.relaxed_file.proofs.Grows.{Grows, grows_to, known_when_reached}
 use Rattle.relaxed_file.proofs.Successes.{answered_offsets_differ}
 use Rattle.relaxed_file.proofs.Moments.{Shows, leads, Split, split_shows, First, first_seen, is_return, is_waiting, waits_as_seen}
-use Rattle.relaxed_file.proofs.InCall.{InCall, Exchange, exchange}
+use Rattle.relaxed_file.proofs.InCall.{Exchange, exchange}
 
 pub shows_run : (config : Config) (trace : List Visible) (run : IsRun config trace) → Shows (new_machine config) run.0 trace
 shows_run config trace run = record { actions = (run.1).0; lawful = (run.1).1; seen = (run.1).2; ends = (run.1).3 }

@@ -1,29 +1,24 @@
 -- No later look of a client leaves out its own success: its notes and what it is told never go below that round.
-use Rattle.std.proofs.Common.{◌≡◌, ℕ, zero, suc, ◌+◌, ◌*◌, ◌<◌, ◌≤◌, ◌⊎◌, Bool, true, false, cond, List, [], ◌∷◌, length, Option, Some, None, refl, sym, ◌∙◌, ap, subst, inl, inr, ⊎_elim, arith}
-use Rattle.std.specs.Prelude.{IsTrue, IsFalse, Contains, slice_get, option_map, unwrap_or, ◌==◌, nat_lt}
-use Rattle.std.specs.List.{AllByRecursion, slice_index_or}
-use Rattle.std.specs.FinMap as map
+use Rattle.std.proofs.Common.{◌≡◌, ℕ, zero, suc, ◌+◌, ◌*◌, ◌<◌, ◌≤◌, ◌⊎◌, Bool, true, false, cond, List, [], ◌∷◌, Option, Some, None, refl, sym, ◌∙◌, ap, subst, inl, inr, arith}
+use Rattle.std.specs.Prelude.{IsTrue, Contains, slice_get, option_map, ◌==◌, nat_lt}
+use Rattle.std.specs.List.{AllByRecursion}
 use Rattle.std.proofs.lemmas.Option.{none-some}
 use Rattle.gfs_types.specs.declared.call.Call.{Call}
 use Rattle.gfs_types.specs.declared.call.Call.TheVariants as call
-use Rattle.gfs_types.specs.declared.answer.Answer.{Answer}
-use Rattle.gfs_types.specs.declared.answer.Answer.TheVariants as answer
-use Rattle.gfs_types.specs.declared.refusal.Refusal.TheVariants.{Busy, NamesFull}
-use Rattle.gfs_types.specs.declared.config.Config.{Config}
 use Rattle.gfs_types.specs.Image.{image_length}
-use Rattle.relaxed_file.specs.Order.{Entry, CallId, IsSelection, empty, takes, leaves, mutations_of}
-use Rattle.relaxed_file.specs.Machine.{Machine, new_machine, Client, Asked, OpenCall, IsOpen, Outcome, Replies, Offer, Told, NoSuchChunk, Chunk, Piece, chunk_at, chunk_count, chunk_size, put, with_client, with_step, with_chunk}
+use Rattle.relaxed_file.specs.Order.{Entry, IsSelection, empty, takes, leaves, mutations_of}
+use Rattle.relaxed_file.specs.Machine.{Machine, Client, OpenCall, IsOpen, Outcome, Offer, Told, NoSuchChunk, chunk_at, chunk_count, chunk_size, put, with_client, with_step, with_chunk}
 use Rattle.relaxed_file.specs.NameStep.{performed, is_refused, stepped, with_outcome}
 use Rattle.relaxed_file.specs.Chunks.{chunk_added, begun_call, placed, with_entry}
-use Rattle.relaxed_file.specs.Reads.{offer_of, looked, read_slice, IsLook, MayOffer}
+use Rattle.relaxed_file.specs.Reads.{offer_of, looked, read_slice}
 use Rattle.relaxed_file.specs.Answers.{returned, IsSuccess}
-use Rattle.relaxed_file.specs.Run.{Action, Invoke, Return, ReturnFd, Step, FindBusy, FindFull, Lock, Expire, Add, OpenRound, CloseRound, Place, Settle, Tell, Note, Look, LookPast, Measure, MeasureNone, Pass, Allows, after, asked_file, LeadsTo, IsReached}
-use Rattle.relaxed_file.specs.RunLaws.{IsOwnSuccess, OwnSuccessesAreRead}
+use Rattle.relaxed_file.specs.Run.{Action, Invoke, Return, ReturnFd, Step, FindBusy, FindFull, Lock, Add, Place, Tell, Note, Look, LookPast, Measure, MeasureNone, Allows, after, asked_file}
+use Rattle.relaxed_file.specs.RunLaws.{OwnSuccessesAreRead}
 use Rattle.relaxed_file.proofs.Tables.{cond_keeps, put_look, put_same, at_some, contained, from_some}
 use Rattle.relaxed_file.proofs.Reached.{kept_to, leads_on, leads_by}
 use Rattle.relaxed_file.proofs.Known.{Known, known_step, asked_is}
-use Rattle.relaxed_file.proofs.Grows.{Grows, grows_step, grows_to, known_when_reached}
-use Rattle.relaxed_file.proofs.Rounds.{IsWithin, IsOrderly, every_order}
+use Rattle.relaxed_file.proofs.Grows.{grows_step, known_when_reached}
+use Rattle.relaxed_file.proofs.Rounds.{IsWithin, every_order}
 use Rattle.relaxed_file.proofs.Apart.{below_top}
 use Rattle.relaxed_file.proofs.Successes.{settled_entries_stay, found_at}
 

@@ -1,13 +1,12 @@
 -- Paths by their last slash: what stands before it is the parent.
-use Rattle.std.proofs.Common.{◌≡◌, ℕ, zero, suc, ◌+◌, ◌-◌, ◌<◌, ◌≤◌, ◌⊎◌, Bool, true, false, not, ◌&&◌, cond, List, [], ◌∷◌, ◌++◌, length, get_or, take, drop, refl, sym, ◌∙◌, ap, subst, inl, inr, ⊎_elim, arith, length-append, append_assoc, get_or-append-add, append-nil, ◌||◌}
-use Rattle.std.specs.List.{AllByRecursion, before_last, suffix_len, starts_with}
-use Rattle.std.specs.Prelude.{IsTrue, IsFalse, nat_eq}
-use Rattle.std.specs.Str.{bytes_eq, byte}
-use Rattle.std.proofs.lemmas.Bool.{true≢false, false≢true, and_parts, and_from, false_from_ne_true, or_right, eqb-true}
+use Rattle.std.proofs.Common.{◌≡◌, ℕ, zero, suc, ◌+◌, ◌-◌, ◌<◌, true, false, not, cond, List, [], ◌∷◌, ◌++◌, length, get_or, take, drop, refl, sym, ◌∙◌, ap, subst, arith, length-append, append_assoc, get_or-append-add, append-nil, ◌||◌}
+use Rattle.std.specs.List.{AllByRecursion, before_last, suffix_len}
+use Rattle.std.specs.Str.{bytes_eq}
+use Rattle.std.proofs.lemmas.Bool.{and_parts, and_from, false_from_ne_true, or_right, eqb-true}
 use Rattle.std.proofs.lemmas.Slice.Eq.{bytes_eq-Decides}
 use Rattle.std.proofs.lemmas.List.Sums.{suffix_len_is}
-use Rattle.std.proofs.lemmas.List.{take_at, drop_at, take-append-drop}
-use Rattle.gfs_types.specs.Paths.{Path, root, trash, is_slash, is_path, parent, front_below, is_below, is_at_or_below, is_child}
+use Rattle.std.proofs.lemmas.List.{take_at, take-append-drop}
+use Rattle.gfs_types.specs.Paths.{Path, root, is_slash, parent, front_below, is_below, is_at_or_below, is_child}
 
 abbrev pub HasNoSlash : List ℕ → Type 0
 HasNoSlash part = AllByRecursion (λ c. is_slash c ≡ false) part

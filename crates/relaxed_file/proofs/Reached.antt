@@ -1,8 +1,7 @@
 -- What each action keeps holds in every state that a run reaches.
 use Rattle.std.proofs.Common.{◌≡◌, List, [], ◌∷◌, ◌++◌, refl, sym, ◌∙◌, subst}
-use Rattle.gfs_types.specs.declared.config.Config.{Config}
-use Rattle.relaxed_file.specs.Machine.{Machine, new_machine}
-use Rattle.relaxed_file.specs.Run.{Action, Allows, after, IsLawful, after_all, LeadsTo, IsReached}
+use Rattle.relaxed_file.specs.Machine.{Machine}
+use Rattle.relaxed_file.specs.Run.{Action, Allows, after, IsLawful, after_all, LeadsTo}
 
 pub kept_by_all : (P : Machine → Type 0) → ((m : Machine) (action : Action) → Allows m action → P m → P (after m action))
     → (m : Machine) (actions : List Action) → IsLawful m actions → P m → P (after_all m actions)

@@ -1,9 +1,9 @@
 -- The regions of an order are maximal.
-use Rattle.std.proofs.Common.{◌≡◌, ℕ, zero, suc, ◌+◌, ◌<◌, ◌≤◌, Bool, true, false, not, cond, List, [], ◌∷◌, Option, Some, None, refl, sym, ◌∙◌, ap, subst, arith, inl, inr}
-use Rattle.std.specs.Prelude.{IsTrue, IsFalse, unwrap_or, option_map}
+use Rattle.std.proofs.Common.{◌≡◌, ℕ, zero, suc, ◌+◌, Bool, true, false, not, cond, List, [], ◌∷◌, Option, Some, None, refl, sym, ◌∙◌, ap, subst, arith, inl, inr}
+use Rattle.std.specs.Prelude.{IsFalse, unwrap_or, option_map}
 use Rattle.std.proofs.lemmas.Bool.{false≢true, cases_eq}
 use Rattle.relaxed_file.specs.declared.region.Region.{Region}
-use Rattle.relaxed_file.specs.Order.{Entry, is_undetermined, last_cover, order_length}
+use Rattle.relaxed_file.specs.Order.{Entry, last_cover, order_length}
 use Rattle.relaxed_file.specs.Regions.{is_determined, one_place, joined_before, regions_from, regions_of, AreRegions, IsOfOneKind, NextDiffers}
 use Rattle.relaxed_file.specs.Laws.{RegionsAreMaximal, OnlyUnsettledIsUndetermined}
 

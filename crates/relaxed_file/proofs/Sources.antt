@@ -1,18 +1,17 @@
 -- No look gives a byte that no mutation of the file, or of one that it goes back to, put there.
-use Rattle.std.proofs.Common.{◌≡◌, ℕ, zero, suc, ◌+◌, ◌<◌, ◌≤◌, ◌⊎◌, Bool, true, false, cond, List, [], ◌∷◌, ◌++◌, length, Option, Some, None, refl, sym, ◌∙◌, ap, subst, inl, inr, arith}
-use Rattle.std.specs.Prelude.{IsTrue, Contains, option_map, unwrap_or, ◌==◌}
-use Rattle.std.specs.List.{AllByRecursion, slice_index_or}
+use Rattle.std.proofs.Common.{◌≡◌, ℕ, zero, suc, ◌⊎◌, Bool, true, false, cond, List, [], ◌∷◌, Option, Some, None, refl, sym, ◌∙◌, ap, subst, inl, inr, arith}
+use Rattle.std.specs.Prelude.{Contains, option_map, unwrap_or, ◌==◌}
+use Rattle.std.specs.List.{AllByRecursion}
 use Rattle.std.proofs.lemmas.Option.{none-some}
 use Rattle.gfs_types.specs.declared.call.Call.{Call}
 use Rattle.gfs_types.specs.declared.call.Call.TheVariants as call
 use Rattle.gfs_types.specs.declared.config.Config.{Config}
-use Rattle.gfs_types.specs.declared.mutation.Mutation.{Mutation}
 use Rattle.gfs_types.specs.Paths.{Path}
 use Rattle.gfs_types.specs.Mutations.{covers, byte_of}
 use Rattle.gfs_types.specs.Image.{newer, last_that, byte_at}
 use Rattle.relaxed_file.specs.Names.{Node, Dir, File, copied_entries, id_after}
-use Rattle.relaxed_file.specs.Order.{Entry, CallId, IsSelection, empty, takes, leaves, last_cover, mutations_of}
-use Rattle.relaxed_file.specs.Machine.{Machine, new_machine, FileState, Chunk, new_chunk, new_file, OpenCall, Asked, Outcome, chunk_at, chunk_count, put, with_chunk}
+use Rattle.relaxed_file.specs.Order.{Entry, IsSelection, empty, takes, leaves, last_cover, mutations_of}
+use Rattle.relaxed_file.specs.Machine.{Machine, new_machine, FileState, Chunk, new_chunk, new_file, OpenCall, Outcome, chunk_at, chunk_count, with_chunk}
 use Rattle.relaxed_file.specs.NameStep.{performed, is_refused, stepped, with_outcome, with_copied_file, with_copied_files}
 use Rattle.relaxed_file.specs.Chunks.{settled_at, chunk_added, placed}
 use Rattle.relaxed_file.specs.Answers.{returned}

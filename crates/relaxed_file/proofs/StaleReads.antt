@@ -1,37 +1,34 @@
 -- A client that appended a record reads some of it.
-use Rattle.std.proofs.Common.{◌≡◌, ℕ, zero, suc, ◌+◌, ◌-◌, ◌*◌, ◌/◌, ◌<◌, ◌≤◌, ◌⊎◌, min, max, Bool, true, false, cond, List, [], ◌∷◌, ◌++◌, length, Option, Some, None, refl, sym, ◌∙◌, ap, subst, inl, inr, ⊎_elim, arith, lt-ltb, length-append}
-use Rattle.std.specs.Prelude.{IsTrue, IsFalse, Contains, nat_lt, flat_map}
-use Rattle.std.specs.List.{AllByRecursion, slice_index_or}
+use Rattle.std.proofs.Common.{◌≡◌, ℕ, zero, suc, ◌+◌, ◌-◌, ◌*◌, ◌/◌, ◌<◌, ◌≤◌, min, Bool, true, false, cond, List, [], ◌∷◌, ◌++◌, length, Some, refl, sym, ◌∙◌, ap, subst, ⊎_elim, arith, lt-ltb, length-append}
+use Rattle.std.specs.Prelude.{Contains, nat_lt, flat_map}
+use Rattle.std.specs.List.{slice_index_or}
 use Rattle.std.proofs.lemmas.Bool.{true≢false, cases_lt}
 use Rattle.std.proofs.lemmas.Option.{none-some}
 use Rattle.std.proofs.lemmas.Nat.{div-mul-add}
-use Rattle.gfs_types.specs.declared.call.Call.{Call}
 use Rattle.gfs_types.specs.declared.call.Call.TheVariants as call
-use Rattle.gfs_types.specs.declared.answer.Answer.{Answer}
 use Rattle.gfs_types.specs.declared.answer.Answer.TheVariants as answer
 use Rattle.gfs_types.specs.declared.ids.Fd.{Fd}
 use Rattle.gfs_types.specs.declared.config.Config.{Config}
 use Rattle.gfs_types.specs.declared.mutation.Mutation.{Mutation}
-use Rattle.gfs_types.specs.declared.mutation.Mutation.TheVariants.{Append}
 use Rattle.gfs_types.specs.Mutations.{end_of}
 use Rattle.gfs_types.specs.Image.{image_length, image_slice, bytes_from}
 use Rattle.relaxed_file.specs.Order.{Entry, mutations_of}
-use Rattle.relaxed_file.specs.Parts.{has_part, part_start, part_end, part_length}
-use Rattle.relaxed_file.specs.Machine.{Machine, new_machine, Asked, OpenCall, IsOpen, Offer, Told, NoSuchChunk, Piece, chunk_at, chunk_count, chunk_size}
-use Rattle.relaxed_file.specs.Reads.{offer_of, IsLook, read_slice, MayLook}
-use Rattle.relaxed_file.specs.Answers.{IsDone, ArePieces, MayReturn}
-use Rattle.relaxed_file.specs.Run.{Action, Return, Visible, Called, Answered, Allows, after, LeadsTo, IsReached, IsRun, asked_now}
-use Rattle.relaxed_file.specs.RunLaws.{MayAnswer, IsOwnSuccess}
+use Rattle.relaxed_file.specs.Parts.{has_part, part_start, part_length}
+use Rattle.relaxed_file.specs.Machine.{Machine, new_machine, Asked, OpenCall, Offer, Told, NoSuchChunk, Piece, chunk_at, chunk_count, chunk_size}
+use Rattle.relaxed_file.specs.Reads.{offer_of, IsLook, read_slice}
+use Rattle.relaxed_file.specs.Answers.{IsDone, ArePieces}
+use Rattle.relaxed_file.specs.Run.{Return, Visible, Called, Answered, Allows, after, LeadsTo, IsReached, asked_now}
+use Rattle.relaxed_file.specs.RunLaws.{IsOwnSuccess}
 use Rattle.relaxed_file.specs.NotRuns.{NoStaleRead}
 use Rattle.relaxed_file.proofs.Tables.{from_some, contained}
 use Rattle.relaxed_file.proofs.Reached.{leads_on, leads_by}
-use Rattle.relaxed_file.proofs.Known.{Known, known_step}
-use Rattle.relaxed_file.proofs.Grows.{Grows, grows_to, known_when_reached, known_at_first}
+use Rattle.relaxed_file.proofs.Known.{Known}
+use Rattle.relaxed_file.proofs.Grows.{grows_to, known_when_reached, known_at_first}
 use Rattle.relaxed_file.proofs.Successes.{AnsweredAppend, answered}
 use Rattle.relaxed_file.proofs.OwnReads.{own_successes_are_read}
 use Rattle.relaxed_file.proofs.CallSteps.{IsPieceOf, by_look, by_none}
-use Rattle.relaxed_file.proofs.Moments.{Shows, leads, Split, split_shows}
-use Rattle.relaxed_file.proofs.InCall.{InCall, WasRead, WasTold, Exchange, exchange, answered_way, answers_now}
+use Rattle.relaxed_file.proofs.Moments.{leads, Split, split_shows}
+use Rattle.relaxed_file.proofs.InCall.{WasRead, WasTold, Exchange, exchange, answered_way, answers_now}
 use Rattle.relaxed_file.proofs.NotRuns.{shows_run}
 
 length_from : (size : ℕ) (ms : List Mutation) (place count : ℕ) → length (bytes_from size ms place count) ≡ count

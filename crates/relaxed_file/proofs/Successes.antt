@@ -1,10 +1,9 @@
 -- What was answered stays: settled entries keep their places, and answered records share no place of their file.
-use Rattle.std.proofs.Common.{◌≡◌, ℕ, zero, suc, ◌+◌, ◌*◌, ◌<◌, ◌≤◌, ◌⊎◌, List, [], ◌∷◌, length, get_or, Option, Some, None, refl, sym, ◌∙◌, ap, subst, inl, inr, ⊎_elim, arith, mul-le-mul_right}
+use Rattle.std.proofs.Common.{◌≡◌, ℕ, zero, suc, ◌+◌, ◌*◌, ◌<◌, ◌≤◌, ◌⊎◌, List, [], ◌∷◌, length, Option, Some, None, refl, sym, ◌∙◌, ap, subst, inl, inr, ⊎_elim, arith, mul-le-mul_right}
 use Rattle.std.specs.Prelude.{IsTrue, IfSome, IsSomeAnd, Contains, slice_get}
 use Rattle.std.specs.List.{AllByRecursion}
-use Rattle.std.proofs.lemmas.Bool.{true≢false, and_parts, eqb-true, cases_lt, cases_eq}
+use Rattle.std.proofs.lemmas.Bool.{and_parts, eqb-true, cases_lt, cases_eq}
 use Rattle.std.proofs.lemmas.Option.{none-some, slice_get_read}
-use Rattle.gfs_types.specs.declared.call.Call.{Call}
 use Rattle.gfs_types.specs.declared.call.Call.TheVariants as call
 use Rattle.gfs_types.specs.declared.answer.Answer.{Answer}
 use Rattle.gfs_types.specs.declared.answer.Answer.TheVariants as answer
@@ -15,9 +14,9 @@ use Rattle.gfs_types.specs.declared.mutation.Mutation.TheVariants.{Write, Append
 use Rattle.gfs_types.specs.Mutations.{start_of, end_of, is_placed_by_system}
 use Rattle.relaxed_file.specs.Order.{Entry, CallId, same_call}
 use Rattle.relaxed_file.specs.Parts.{has_part, part_start, part_bytes}
-use Rattle.relaxed_file.specs.Machine.{Machine, new_machine, Client, Asked, OpenCall, IsOpen, Chunk, chunk_at, chunk_count}
+use Rattle.relaxed_file.specs.Machine.{Machine, new_machine, Client, Asked, OpenCall, IsOpen, chunk_at, chunk_count}
 use Rattle.relaxed_file.specs.Answers.{IsSuccess, HasSuccess, IsWrite, IsAppendAt, IsDone, MayReturn, returned}
-use Rattle.relaxed_file.specs.Run.{Action, Return, Allows, after, LeadsTo, IsReached}
+use Rattle.relaxed_file.specs.Run.{Return, Allows, after, LeadsTo, IsReached}
 use Rattle.relaxed_file.specs.RunLaws.{IsAskedOf, WasAskedFor, StandsAt, MayAnswer, SettledEntriesStay, AnsweredAppendsStay, AnsweredWritesStay, AnsweredOffsetsDiffer, LiePastSettled}
 use Rattle.relaxed_file.proofs.Tables.{contained, from_some, put_same, at_some}
 use Rattle.relaxed_file.proofs.Reached.{leads_on, leads_by}

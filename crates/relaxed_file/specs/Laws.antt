@@ -1,5 +1,5 @@
 -- Laws of orders and their selections: what is determined, and what stands (sections 2.7.1 and 3.3).
-use Rattle.std.specs.Prelude.{◌≡◌, ℕ, ◌+◌, ◌<◌, ◌≤◌, List, [], ◌∷◌, ◌++◌, length, Some, None, IsTrue, IsFalse}
+use Rattle.std.specs.Prelude.{◌≡◌, ℕ, ◌+◌, ◌<◌, ◌≤◌, List, ◌∷◌, ◌++◌, length, Some, None, IsTrue, IsFalse}
 use Rattle.gfs_types.specs.declared.mutation.Mutation.TheVariants.{Append}
 use Rattle.gfs_types.specs.Mutations.{byte_of}
 use Rattle.gfs_types.specs.Image.{byte_at, image_length, image_slice}
