@@ -3,7 +3,6 @@ use Rattle.std.specs.Prelude.{ℕ, suc, ◌+◌, ◌%◌, Bool, true, false, nat
 use Rattle.gfs_types.specs.declared.ids.Node.TheVariants.{Master}
 use Rattle.gfs_types.specs.declared.call.Call.{Call}
 use Rattle.gfs_types.specs.declared.call.Call.TheVariants as call
-use Rattle.gfs_types.specs.declared.answer.Answer.{Answer}
 use Rattle.gfs_types.specs.declared.answer.Answer.TheVariants as answer
 use Rattle.gfs_types.specs.declared.refusal.Refusal.{Refusal}
 use Rattle.gfs_types.specs.declared.refusal.Refusal.TheVariants.{NoReplica, Failed, Unknown}
@@ -16,7 +15,7 @@ use Rattle.gfs_types.specs.declared.message.Location.{Location}
 use Rattle.gfs_types.specs.declared.message.Holder.{Holder}
 use Rattle.gfs_types.specs.declared.message.Group.{Group}
 use Rattle.relaxed_file.specs.NameStep.{is_look}
-use Rattle.cell_core.specs.declared.stage.Stage.TheVariants.{AskedNames, AskedWhere, MustAskAgain, SentData, SentRead, HasAnswer}
+use Rattle.cell_core.specs.declared.stage.Stage.TheVariants.{AskedNames, AskedWhere, MustAskAgain, SentData, SentRead, MustRefuse}
 use Rattle.cell_core.specs.declared.stage.CurrentCall.{CurrentCall}
 use Rattle.cell_core.specs.declared.stage.ToldChunk.{ToldChunk}
 use Rattle.cell_core.specs.Sending.{file_id, moment_of, data_id, only_client, the_server}
@@ -76,9 +75,9 @@ new_call s c file index =
 abbrev pub attempts_names : ClientState → CurrentCall → Does ClientState
 attempts_names s c = goes_on s c AskedNames Master (if is_look c.asked then body.Look c.number c.asked else body.Name c.number c.deadline c.asked)
 
--- What completed a call is its answer, once its attempt isn't live.
-abbrev pub completes_live : ClientState → CurrentCall → Answer → Does ClientState
-completes_live s c reply = if nat_le c.ends.0 s.now then answers s reply else waits s c (HasAnswer reply)
+-- The call is refused, once its attempt isn't live.
+abbrev pub refuses_live : ClientState → CurrentCall → Refusal → Does ClientState
+refuses_live s c refusal = if nat_le c.ends.0 s.now then answers s (answer.Refused refusal) else waits s c (MustRefuse refusal)
 
 -- the refusal of a write or read whose attempt ended
 abbrev pub last_refusal : CurrentCall → Refusal

@@ -10,12 +10,12 @@ use Rattle.gfs_types.specs.declared.event.Input.TheVariants as input
 use Rattle.gfs_types.specs.declared.message.Message.{Message}
 use Rattle.relaxed_file.specs.Parts.{is_range_too_long, leaves_chunk}
 use Rattle.cell_core.specs.declared.stage.Stage.{Stage}
-use Rattle.cell_core.specs.declared.stage.Stage.TheVariants.{AskedNames, AskedWhere, MustAskAgain, SentData, SentMutate, SentRead, HasAnswer}
+use Rattle.cell_core.specs.declared.stage.Stage.TheVariants.{AskedNames, AskedWhere, MustAskAgain, SentData, SentMutate, SentRead, MustRefuse}
 use Rattle.cell_core.specs.declared.stage.CurrentCall.{CurrentCall}
 use Rattle.cell_core.specs.Choice.{Choice}
 use Rattle.cell_core.specs.Seen.{Does, stays, Taken, no_step, ends}
 use Rattle.cell_core.specs.Client.{ClientState, answers, is_client_within_limits}
-use Rattle.cell_core.specs.ClientAttempts.{asks, attempts_names, new_call, completes_live, gives_up}
+use Rattle.cell_core.specs.ClientAttempts.{asks, attempts_names, new_call, refuses_live, gives_up}
 use Rattle.cell_core.specs.ClientTakes.{client_takes}
 
 -- a range that no call of today may have
@@ -85,16 +85,16 @@ ticks_unanswered s c = if nat_lt s.now c.ends.0 then stays s else gives_up s c
 
 abbrev pub ticks_at : ClientState → CurrentCall → Stage → Does ClientState
 ticks_at s c AskedNames = ticks_names s c
-ticks_at s c (HasAnswer reply) = completes_live s c reply
+ticks_at s c (MustRefuse refusal) = refuses_live s c refusal
 ticks_at s c MustAskAgain = if nat_lt s.now c.deadline.0 then asks s c else ticks_unanswered s c
 ticks_at s c (AskedWhere number) = ticks_unanswered s c
 ticks_at s c (SentData at number) = ticks_unanswered s c
 ticks_at s c (SentMutate number) = ticks_unanswered s c
 ticks_at s c (SentRead at number) = ticks_unanswered s c
 
--- What completed a call is its answer at the first step at which it may be answered.
+-- A call that is to be refused is refused at the first step at which it may be answered.
 abbrev pub takes_at : ClientState → CurrentCall → Message → Stage → Does ClientState
-takes_at s c m (HasAnswer reply) = completes_live s c reply
+takes_at s c m (MustRefuse refusal) = refuses_live s c refusal
 takes_at s c m other = client_takes s c m.body
 
 abbrev pub client_does : ClientState → Input → Option CurrentCall → Does ClientState

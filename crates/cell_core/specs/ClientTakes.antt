@@ -18,7 +18,7 @@ use Rattle.cell_core.specs.declared.stage.CurrentCall.{CurrentCall}
 use Rattle.cell_core.specs.Sending.{only_client, the_server}
 use Rattle.cell_core.specs.Seen.{Does, stays}
 use Rattle.cell_core.specs.Client.{ClientState, waits, goes_on, answers}
-use Rattle.cell_core.specs.ClientAttempts.{is_write, completes_live, pushes, reads_at, target_of}
+use Rattle.cell_core.specs.ClientAttempts.{is_write, refuses_live, pushes, reads_at, target_of}
 
 abbrev pub with_descriptor : ClientState → ℕ → ClientState
 with_descriptor s file = record s { fd_count = suc s.fd_count; descriptors = table.insert s.descriptors (suc s.fd_count) file }
@@ -91,8 +91,8 @@ master_refuses s c other = stays s
 
 -- An attempt that was refused for want of a lease or a replica may still be placed until it ends. Another refusal is the attempt's end.
 abbrev pub primary_refuses : ClientState → CurrentCall → Refusal → Does ClientState
-primary_refuses s c NoChunk = completes_live s c (answer.Refused Failed)
-primary_refuses s c NoLease = completes_live s c (answer.Refused Failed)
+primary_refuses s c NoChunk = refuses_live s c Failed
+primary_refuses s c NoLease = refuses_live s c Failed
 primary_refuses s c other = answers s (answer.Refused Failed)
 
 -- a Refused; a read that the server refused has found no replica that serves

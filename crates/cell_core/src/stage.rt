@@ -1,8 +1,8 @@
 //! How far a client's open call has come.
 
-use gfs_types::answer::Answer;
 use gfs_types::call::Call;
 use gfs_types::ids::{FileId, Handle, Moment, ServerId, Version};
+use gfs_types::refusal::Refusal;
 
 /// A chunk as the master told it: its handle, its granted version, and the server to go to.
 #[derive(Clone, Copy, Debug, PartialEq, Eq)]
@@ -13,7 +13,7 @@ pub struct ToldChunk {
 }
 
 /// What an open call waits for.
-#[derive(Drop)]
+#[derive(Clone, Copy, Debug, PartialEq, Eq)]
 pub enum Stage {
     /// A name call's request is out.
     AskedNames,
@@ -27,8 +27,8 @@ pub enum Stage {
     SentMutate(u64),
     /// The server was asked to read, by an ask of this number.
     SentRead(ToldChunk, u64),
-    /// What completed the call, which is answered once its attempt isn't live.
-    HasAnswer(Answer),
+    /// The call is to be refused, once its attempt isn't live.
+    MustRefuse(Refusal),
 }
 
 /// An open call with its one attempt.
