@@ -1,0 +1,29 @@
+//! Want of memory.
+
+use std::alloc::{AllocError, AllocFailed};
+use std::error::Error;
+use std::fmt;
+
+/// An allocator refused what a step needs. The one such error of all crates.
+#[derive(Clone, Copy, Debug, PartialEq, Eq)]
+pub struct NoMemory;
+
+impl fmt::Display for NoMemory {
+    fn fmt<W: fmt::Write>(&self, f: &mut fmt::Formatter<W>) -> fmt::Result {
+        write!(f, "no memory")
+    }
+}
+
+impl Error for NoMemory {}
+
+impl From<AllocError> for NoMemory {
+    fn from(_error: AllocError) -> NoMemory {
+        NoMemory
+    }
+}
+
+impl<T: Drop> From<AllocFailed<T>> for NoMemory {
+    fn from(_failed: AllocFailed<T>) -> NoMemory {
+        NoMemory
+    }
+}
