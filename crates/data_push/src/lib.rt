@@ -4,6 +4,8 @@
 mod buffer;
 mod hop;
 pub mod laws;
+#[cfg(test)]
+mod tests;
 
 pub use buffer::Buffer;
 pub use hop::next_hop;
