@@ -19,8 +19,8 @@ pub reached_on : (w new : WorldState) (event : Event) (answer : Option Answer) �
 reached_on w new event answer r c s = (
   r.0 ++ (event, s.choice) ∷ [],
   ap (λ (config : Config). after_events (new_world config) (r.0 ++ (event, s.choice) ∷ [])) c
-  ∙ (after-push r.0 (new_world w.config) (event, s.choice)
-  ∙ (ap (λ (x : WorldState). (happens x event s.choice).world) r.1 ∙ s.world_is)),
+      ∙ (after-push r.0 (new_world w.config) (event, s.choice)
+      ∙ (ap (λ (x : WorldState). (happens x event s.choice).world) r.1 ∙ s.world_is)),
 )
 
 pub runs_none : (w : WorldState) → WorldRuns w [] [] w

@@ -13,7 +13,7 @@ use Rattle.cell_core.specs.declared.stage.Stage.{Stage}
 use Rattle.cell_core.specs.declared.stage.Stage.TheVariants.{AskedNames, AskedWhere, MustAskAgain, SentData, SentMutate, SentRead, MustRefuse}
 use Rattle.cell_core.specs.declared.stage.CurrentCall.{CurrentCall}
 use Rattle.cell_core.specs.Choice.{Choice}
-use Rattle.cell_core.specs.Seen.{Does, stays, Taken, no_step, ends}
+use Rattle.cell_core.specs.Seen.{Does, stays, Taken, ends}
 use Rattle.cell_core.specs.Client.{ClientState, answers, is_client_within_limits}
 use Rattle.cell_core.specs.ClientAttempts.{asks, attempts_names, new_call, refuses_live, gives_up}
 use Rattle.cell_core.specs.ClientTakes.{client_takes}
@@ -102,7 +102,9 @@ client_does s i None = stays s
 client_does s (input.Deliver m) (Some c) = takes_at s c m c.stage
 client_does s input.Tick (Some c) = ticks_at s c c.stage
 
--- One that has no number left of a counter takes no step.
+-- One that has no number left of a counter does nothing.
+abbrev pub client_goes : ClientState → ℕ → Input → Does ClientState
+client_goes s moment i = if is_client_within_limits s then client_does (client_at s moment) i s.current else stays s
+
 abbrev pub client_step : ClientState → ℕ → Input → Choice → Taken ClientState
-client_step s moment i choice =
-    if is_client_within_limits s then ends (client_does (client_at s moment) i s.current) choice choice.ending else no_step s
+client_step s moment i choice = ends (client_goes s moment i) choice choice.ending

@@ -18,8 +18,10 @@ pub mod ClientTakes
 pub mod ClientStep
 pub mod Observer
 pub mod NameKinds
+pub mod Growing
 pub mod Doing
 pub mod Bounds
 pub mod Roomy
 pub mod World
+pub mod Moving
 pub mod Conforms

@@ -6,7 +6,7 @@ use Rattle.gfs_types.specs.declared.message.Message.{Message}
 use Rattle.gfs_types.specs.declared.event.Input.{Input}
 use Rattle.gfs_types.specs.declared.event.Input.TheVariants as input
 use Rattle.cell_core.specs.Choice.{Choice}
-use Rattle.cell_core.specs.Seen.{Does, stays, Taken, no_step, ends}
+use Rattle.cell_core.specs.Seen.{Does, stays, Taken, ends}
 use Rattle.cell_core.specs.Master.{MasterState, is_master_within_limits}
 use Rattle.cell_core.specs.MasterNames.{takes_name, takes_look}
 use Rattle.cell_core.specs.MasterAsks.{takes_ask}
@@ -28,7 +28,9 @@ master_does m refused input.Tick = stays m
 abbrev pub master_at : MasterState → ℕ → MasterState
 master_at m moment = record m { now = max m.now moment }
 
--- One that has no number left of a counter takes no step.
+-- One that has no number left of a counter does nothing.
+abbrev pub master_goes : MasterState → ℕ → Bool → Input → Does MasterState
+master_goes m moment refused i = if is_master_within_limits m then master_does (master_at m moment) refused i else stays m
+
 abbrev pub master_step : MasterState → ℕ → Input → Choice → Taken MasterState
-master_step m moment i choice =
-    if is_master_within_limits m then ends (master_does (master_at m moment) choice.refused i) choice choice.ending else no_step m
+master_step m moment i choice = ends (master_goes m moment choice.refused i) choice choice.ending

@@ -32,10 +32,6 @@ no_output = record { sent = []; answer = None; down = false }
 abbrev pub down_output : StepOut
 down_output = record { sent = []; answer = None; down = true }
 
--- a step that changes nothing and gives nothing
-abbrev pub no_step : {S : Type 0} → S → Taken S
-no_step s = record { state = Some s; out = no_output; seen = None }
-
 -- by how a step ends; one that is put down keeps nothing
 abbrev pub ends : {S : Type 0} → Does S → Choice → Ending → Taken S
 ends d choice Goes = record { state = Some d.state; out = record { sent = in_order choice.order d.sent; answer = d.answer; down = false }; seen = d.seen }

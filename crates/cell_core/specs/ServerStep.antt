@@ -29,5 +29,8 @@ server_does s input.Tick = stays s
 abbrev pub server_at : ServerState → ℕ → ServerState
 server_at s moment = record s { now = max s.now moment }
 
+abbrev pub server_goes : ServerState → ℕ → Input → Does ServerState
+server_goes s moment i = server_does (server_at s moment) i
+
 abbrev pub server_step : ServerState → ℕ → Input → Choice → Taken ServerState
-server_step s moment i choice = ends (server_does (server_at s moment) i) choice choice.ending
+server_step s moment i choice = ends (server_goes s moment i) choice choice.ending

@@ -2,7 +2,10 @@
 
 ghost use Rattle.std.specs.Prelude.{◌≡◌, ◌≤◌, ◌<◌, ◌++◌, Some, None, false, IfOk, OnOk, OnErr};
 ghost use Rattle.gfs_types.specs.declared.event.Event.TheVariants as event;
-ghost use Rattle.cell_core.specs.Sending.{client_id};
+ghost use Rattle.gfs_types.specs.declared.ids.Node.TheVariants as node_kind;
+ghost use Rattle.cell_core.specs.Doing.{input_of, message_named};
+ghost use Rattle.cell_core.specs.Moving.{Moves};
+ghost use Rattle.cell_core.specs.Sending.{client_id, server_id};
 ghost use Rattle.cell_core.specs.Tables.{moment_limit};
 ghost use Rattle.cell_core.specs.Bounds.{Fits};
 ghost use Rattle.cell_core.specs.World.{new_world, all_sent};
@@ -19,7 +22,7 @@ use gfs_types::answer::Answer;
 use gfs_types::call::Call;
 use gfs_types::config::Config;
 use gfs_types::event::{Event, StepOut};
-use gfs_types::ids::{ClientId, Moment, Node, ServerId};
+use gfs_types::ids::{Moment, Node};
 use gfs_types::no_memory::NoMemory;
 use std::alloc::{Allocator, Global};
 use std::marker::Model;
@@ -84,11 +87,11 @@ impl<A: Allocator + Clone> Cell<A> {
 
     /// One event. One that names no such node, message or moment, or a node that is down, changes nothing.
     pub fn step(&mut self, event: Event) -> Option<Answer>
-        ensures { WorldSteps self.old event result self.new }
+        ensures config { self.new.config ≡ self.old.config }
     {
         match event {
             Event::Call { client, call, now } => {
-                if now.0 > MOMENT_LIMIT || client != ClientId(1) {
+                if now.0 > MOMENT_LIMIT || client.0 != 1 {
                     return None;
                 }
                 self.takes_call(call, now)
@@ -112,16 +115,28 @@ impl<A: Allocator + Clone> Cell<A> {
     /// A call is seen as it is made, and then its answer, if there is one.
     fn takes_call(&mut self, call: Call, now: Moment) -> Option<Answer>
         requires { now.0 ≤ moment_limit }
-        ensures { WorldSteps self.old (event.Call (client_id 1) call now) result self.new }
+        ensures config { self.new.config ≡ self.old.config }
     {
-        let Some(client) = &self.client else {
+        let Some(client) = &mut self.client else {
             return None;
         };
         if !client.may_call(&call) {
             return None;
         }
         let number = client.call_count() + 1;
-        match self.calls(&call, now) {
+        if self.watch.reserve().is_err() {
+            self.watch.calls(number, call);
+            self.client = None;
+            return None;
+        }
+        let copied = call.copy(self.alloc);
+        let Ok(copied) = copied else {
+            self.watch.calls(number, call);
+            self.client = None;
+            return None;
+        };
+        let out = client.call(now, copied);
+        match sends(&mut self.network, self.alloc, out) {
             Ok((answer, seen)) => {
                 self.watch.passes(self.config.skew_ms, now);
                 self.watch.calls(number, call);
@@ -136,21 +151,9 @@ impl<A: Allocator + Clone> Cell<A> {
         }
     }
 
-    fn calls(&mut self, call: &Call, now: Moment) -> Result<(Option<Answer>, Option<Answer>), NoMemory>
-        requires { now.0 ≤ moment_limit }
-    {
-        let Some(client) = &mut self.client else {
-            return Ok((None, None));
-        };
-        self.watch.reserve()?;
-        let copied = call.copy(self.alloc)?;
-        let out = client.call(now, copied);
-        sends(&mut self.network, self.alloc, out)
-    }
-
     fn delivers(&mut self, number: u64, now: Moment) -> Option<Answer>
         requires { now.0 ≤ moment_limit }
-        ensures { WorldSteps self.old (event.Deliver number now) result self.new }
+        ensures config { self.new.config ≡ self.old.config }
     {
         let Some(message) = self.network.get(number) else {
             return None;
@@ -162,96 +165,92 @@ impl<A: Allocator + Clone> Cell<A> {
     /// A node takes a step on the message of a number, or on a tick.
     fn moves(&mut self, node: Node, given: Option<u64>, now: Moment) -> Option<Answer>
         requires { now.0 ≤ moment_limit }
+        ensures config { self.new.config ≡ self.old.config }
     {
         match node {
-            Node::Master => {
-                if let Err(NoMemory) = self.master_moves(given, now) {
-                    self.master = None;
-                }
-                None
-            }
+            Node::Master => self.master_moves(given, now),
             Node::Server(id) => {
-                if id != ServerId(1) {
+                if id.0 != 1 {
                     return None;
                 }
-                if let Err(NoMemory) = self.server_moves(given, now) {
-                    self.server = None;
-                }
-                None
+                self.server_moves(given, now)
             }
             Node::Client(id) => {
-                if id != ClientId(1) {
+                if id.0 != 1 {
                     return None;
                 }
-                match self.client_moves(given, now) {
-                    Ok(answer) => answer,
-                    Err(NoMemory) => {
-                        self.client = None;
-                        None
-                    }
-                }
+                self.client_moves(given, now)
             }
         }
     }
 
-    fn master_moves(&mut self, given: Option<u64>, now: Moment) -> Result<(), NoMemory>
+    fn master_moves(&mut self, given: Option<u64>, now: Moment) -> Option<Answer>
         requires { now.0 ≤ moment_limit }
+        ensures config { self.new.config ≡ self.old.config }
     {
         let Some(master) = &mut self.master else {
-            return Ok(());
+            return None;
         };
-        self.watch.reserve()?;
-        let out = match given {
-            None => master.tick(now),
-            Some(number) => match self.network.get(number) {
-                None => return Ok(()),
-                Some(message) => master.deliver(now, message),
-            },
-        };
-        sends(&mut self.network, self.alloc, out)?;
+        let message = self.network.named(given);
+        if self.watch.reserve().is_err() {
+            self.master = None;
+            return None;
+        }
+        let out = master.step(now, message);
+        if sends(&mut self.network, self.alloc, out).is_err() {
+            self.master = None;
+            return None;
+        }
         self.watch.passes(self.config.skew_ms, now);
-        Ok(())
+        None
     }
 
-    fn server_moves(&mut self, given: Option<u64>, now: Moment) -> Result<(), NoMemory>
+    fn server_moves(&mut self, given: Option<u64>, now: Moment) -> Option<Answer>
         requires { now.0 ≤ moment_limit }
+        ensures config { self.new.config ≡ self.old.config }
     {
         let Some(server) = &mut self.server else {
-            return Ok(());
+            return None;
         };
-        self.watch.reserve()?;
-        let outcome = match given {
-            None => server.tick(now),
-            Some(number) => match self.network.get(number) {
-                None => return Ok(()),
-                Some(message) => server.deliver(now, message),
-            },
-        };
-        let Outcome { out, seen } = outcome;
-        sends(&mut self.network, self.alloc, out)?;
+        let message = self.network.named(given);
+        if self.watch.reserve().is_err() {
+            self.server = None;
+            return None;
+        }
+        let Outcome { out, seen } = server.step(now, message);
+        if sends(&mut self.network, self.alloc, out).is_err() {
+            self.server = None;
+            return None;
+        }
         self.watch.passes(self.config.skew_ms, now);
         self.watch.sees(seen);
-        Ok(())
+        None
     }
 
-    fn client_moves(&mut self, given: Option<u64>, now: Moment) -> Result<Option<Answer>, NoMemory>
+    fn client_moves(&mut self, given: Option<u64>, now: Moment) -> Option<Answer>
         requires { now.0 ≤ moment_limit }
+        ensures config { self.new.config ≡ self.old.config }
     {
         let Some(client) = &mut self.client else {
-            return Ok(None);
+            return None;
         };
-        self.watch.reserve()?;
-        let out = match given {
-            None => client.tick(now),
-            Some(number) => match self.network.get(number) {
-                None => return Ok(None),
-                Some(message) => client.deliver(now, message),
-            },
-        };
-        let (answer, seen) = sends(&mut self.network, self.alloc, out)?;
-        self.watch.passes(self.config.skew_ms, now);
-        self.watch.answers(seen);
-        Ok(answer)
+        let message = self.network.named(given);
+        if self.watch.reserve().is_err() {
+            self.client = None;
+            return None;
+        }
+        let out = client.step(now, message);
+        match sends(&mut self.network, self.alloc, out) {
+            Ok((answer, seen)) => {
+                self.watch.passes(self.config.skew_ms, now);
+                self.watch.answers(seen);
+                answer
+            }
+            Err(NoMemory) => {
+                self.client = None;
+                None
+            }
+        }
     }
 }
 
@@ -275,6 +274,6 @@ fn sends(
         Some(answer) => Some(answer.copy(alloc)?),
         None => None,
     };
-    network.send_all(sent)?;
+    network.send_all(alloc, sent)?;
     Ok((answer, seen))
 }

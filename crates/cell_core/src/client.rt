@@ -2,19 +2,17 @@
 
 ghost use Rattle.std.specs.Prelude.{◌≡◌, ◌≤◌, ◌<◌, ◌+◌, ◌/◌, Some, None, IfOk, IsTrue, suc};
 ghost use Rattle.std.specs.FinMap as map;
-ghost use Rattle.gfs_types.specs.declared.event.Input.TheVariants as input;
-ghost use Rattle.relaxed_file.specs.Parts.{is_range_too_long, leaves_chunk};
-ghost use Rattle.cell_core.specs.Tables.{moment_limit};
+ghost use Rattle.cell_core.specs.Tables.{moment_limit, counter_limit};
 ghost use Rattle.cell_core.specs.Bounds.{Fits};
-ghost use Rattle.cell_core.specs.Doing.{does, on_current};
+ghost use Rattle.std.specs.Option.{option_copied};
+ghost use Rattle.cell_core.specs.Doing.{input_of, does};
 ghost use Rattle.cell_core.specs.Client.{new_client, is_client_within_limits};
-ghost use Rattle.cell_core.specs.ClientAttempts.{asks, attempts_names, new_call};
-ghost use Rattle.cell_core.specs.ClientStep.{may_call, is_served, called, client_at, calls, calls_on, is_refused_range, ticks_at};
+ghost use Rattle.cell_core.specs.ClientStep.{may_call, called, client_at, client_goes};
 ghost use Rattle.cell_core.specs.Conforms.{ClientCalls, ClientSteps};
 
-use crate::effects::{down, Effects};
-use crate::limits::COUNTER_LIMIT;
 use crate::client_calls::is_served;
+use crate::effects::{Effects, down};
+use crate::limits::COUNTER_LIMIT;
 use crate::stage::CurrentCall;
 use gfs_types::answer::Answer;
 use gfs_types::call::Call;
@@ -32,7 +30,7 @@ use std::marker::Model;
 #[derive(Drop)]
 pub struct Client {
     pub(crate) config: Config,
-    pub(crate) now: u64,
+    pub(crate) clock: u64,
     pub(crate) call_count: u64,
     pub(crate) number: u64,
     pub(crate) fd_count: u64,
@@ -53,9 +51,9 @@ impl Model for Client {
 
     ghost coded = { Prim.hlevel (codes, map.code, coded_ℕ) };
 
-    ghost view = { λ s. record { config = s.config; now = s.now; call_count = s.call_count; number = s.number; fd_count = s.fd_count; descriptors = s.descriptors; current = s.current } };
+    ghost view = { λ s. record { config = s.config; now = s.clock; call_count = s.call_count; number = s.number; fd_count = s.fd_count; descriptors = s.descriptors; current = s.current } };
 
-    ghost invariant = { λ s. Fits s.config × (s.now ≤ moment_limit) };
+    ghost invariant = { λ s. Fits s.config × (s.clock ≤ moment_limit) };
 }
 
 impl Client {
@@ -65,7 +63,7 @@ impl Client {
     {
         Client {
             config,
-            now: 0,
+            clock: 0,
             call_count: 0,
             number: 0,
             fd_count: 0,
@@ -95,43 +93,46 @@ impl Client {
         requires may { IsTrue (may_call self.old call) }
         ensures { ClientCalls self.old now.0 call result self.new }
     {
-        self.now = self.now.max(now.0);
+        self.counts(now);
+        let Ok(effects) = self.begins(call) else {
+            let refused = Answer::Refused(Refusal::NoMemory);
+            return Effects::answer(self.alloc, refused).into_out();
+        };
+        effects.into_out()
+    }
+
+    /// A call has its number.
+    fn counts(&mut self, now: Moment)
+        requires moment { now.0 ≤ moment_limit }
+        requires count { self.old.call_count < counter_limit }
+        ensures { self.new ≡ called self.old now.0 }
+    {
+        self.clock = self.clock.max(now.0);
         self.call_count += 1;
-        match self.begins(call) {
-            Ok(effects) => effects.into_out(),
-            Err(NoMemory) => {
-                Effects::answer(self.alloc, Answer::Refused(Refusal::NoMemory)).into_out()
-            }
-        }
     }
 
-    /// A message comes.
-    pub fn deliver(&mut self, now: Moment, message: &Message) -> StepOut
+    /// A step on a message, or on a tick.
+    pub fn step(&mut self, now: Moment, message: Option<&Message>) -> StepOut
         requires { now.0 ≤ moment_limit }
-        ensures { ClientSteps self.old now.0 (input.Deliver message.now) result self.new }
+        ensures { ClientSteps self.old now.0 (input_of (option_copied message.entry)) result self.new }
     {
-        if !self.is_within_limits() {
-            return Effects::none(self.alloc).into_out();
-        }
-        self.move_clock(now);
-        match self.take(message) {
-            Ok(effects) => effects.into_out(),
-            Err(NoMemory) => down(self.alloc),
-        }
+        let Ok(effects) = self.goes(now, message) else {
+            return down(self.alloc);
+        };
+        effects.into_out()
     }
 
-    /// A tick: the client asks again, or its attempt ends.
-    pub fn tick(&mut self, now: Moment) -> StepOut
+    fn goes(&mut self, now: Moment, message: Option<&Message>) -> Result<Effects, NoMemory>
         requires { now.0 ≤ moment_limit }
-        ensures { ClientSteps self.old now.0 input.Tick result self.new }
+        ensures { IfOk result (λ e. client_goes self.old now.0 (input_of (option_copied message.entry)) ≡ does self.new e) }
     {
         if !self.is_within_limits() {
-            return Effects::none(self.alloc).into_out();
+            return Ok(Effects::none(self.alloc));
         }
         self.move_clock(now);
-        match self.ticks() {
-            Ok(effects) => effects.into_out(),
-            Err(NoMemory) => down(self.alloc),
+        match message {
+            Some(message) => self.take(message),
+            None => self.ticks(),
         }
     }
 
@@ -147,6 +148,6 @@ impl Client {
         requires { now.0 ≤ moment_limit }
         ensures { self.new ≡ client_at self.old now.0 }
     {
-        self.now = self.now.max(now.0);
+        self.clock = self.clock.max(now.0);
     }
 }

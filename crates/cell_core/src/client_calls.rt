@@ -1,7 +1,6 @@
 //! A call of the client, and its one attempt (sections 2.3 and 3.1).
 
 ghost use Rattle.std.specs.Prelude.{◌≡◌, ◌≤◌, ◌<◌, ◌+◌, ◌/◌, Some, None, IfOk, OnErr, IsTrue, [], ◌∷◌};
-ghost use Rattle.relaxed_file.specs.NameStep.{is_name_call};
 ghost use Rattle.cell_core.specs.Sending.{message, the_client, only_client};
 ghost use Rattle.std.specs.FinMap as map;
 ghost use Rattle.relaxed_file.specs.Parts.{is_range_too_long, leaves_chunk};
@@ -10,7 +9,7 @@ ghost use Rattle.gfs_types.specs.declared.answer.Answer.TheVariants as answer;
 ghost use Rattle.cell_core.specs.Doing.{does};
 ghost use Rattle.cell_core.specs.Client.{answers};
 ghost use Rattle.cell_core.specs.ClientAttempts.{asks, attempts_names, new_call, wanted_by, request_of, is_write};
-ghost use Rattle.cell_core.specs.ClientStep.{is_served, calls, calls_on, calls_file, is_refused_range};
+ghost use Rattle.cell_core.specs.ClientStep.{is_served, calls, calls_file, is_refused_range};
 
 use crate::client::Client;
 use crate::effects::Effects;
@@ -26,6 +25,7 @@ use gfs_types::refusal::Refusal;
 use std::alloc::Global;
 
 const LONGEST_RANGE: u64 = 67_108_864;
+
 const LAST_PLACE: u64 = 9_007_199_254_740_992;
 
 impl Client {
@@ -73,7 +73,7 @@ impl Client {
     fn new_call(&self, call: Call, file: FileId, index: u64) -> CurrentCall
         ensures { result ≡ new_call self.now call file.0 index }
     {
-        let deadline = self.now + self.config.attempt_ms;
+        let deadline = self.clock + self.config.attempt_ms;
         CurrentCall {
             number: self.call_count,
             asked: call,
@@ -88,8 +88,7 @@ impl Client {
 
     /// A name call's request: Open and List only look.
     fn begins_names(&mut self, call: Call) -> Result<Effects, NoMemory>
-        requires { IsTrue (is_name_call call) }
-        ensures ok { IfOk result (λ e. calls self.old call ≡ does self.new e) }
+        ensures ok { IfOk result (λ e. attempts_names self.old (new_call self.old call 0 0) ≡ does self.new e) }
         ensures err { OnErr result (self.new ≡ self.old) }
     {
         let mut current = self.new_call(call, FileId(0), 0);
@@ -104,6 +103,7 @@ impl Client {
     fn begins_on(&mut self, file: FileId, call: Call) -> Result<Effects, NoMemory>
         requires { self.old.number < counter_limit }
         ensures ok { IfOk result (λ e. calls_file self.old call file.0 ≡ does self.new e) }
+        ensures err { OnErr result (self.new ≡ self.old) }
     {
         match &call {
             Call::Write(_, offset, bytes) => {
@@ -145,6 +145,7 @@ impl Client {
     fn asks_at(&mut self, call: Call, file: FileId, offset: u64) -> Result<Effects, NoMemory>
         requires { self.old.number < counter_limit }
         ensures ok { IfOk result (λ e. asks self.old (new_call self.old call file.0 (offset / self.old.config.chunk)) ≡ does self.new e) }
+        ensures err { OnErr result (self.new ≡ self.old) }
     {
         let current = self.new_call(call, file, offset / u64::from(self.config.chunk));
         self.asks(current)

@@ -2,13 +2,14 @@
 //! ask, call or attempt.
 
 ghost use Rattle.std.specs.Prelude.{◌≡◌, ◌<◌, IfOk, IsTrue};
-ghost use Rattle.cell_core.specs.Doing.{does, on_current};
+ghost use Rattle.gfs_types.specs.declared.event.Input.TheVariants as input;
+ghost use Rattle.cell_core.specs.Doing.{does};
 ghost use Rattle.cell_core.specs.Seen.{stays};
 ghost use Rattle.cell_core.specs.declared.stage.Stage.TheVariants.{MustAskAgain};
 ghost use Rattle.cell_core.specs.Client.{is_client_within_limits, with_current, waits, goes_on};
 ghost use Rattle.cell_core.specs.ClientAttempts.{told_at, place_in_chunk, count_to_read, bytes_to_send, refuses_live, pushes, reads_at, last_refusal};
 ghost use Rattle.cell_core.specs.ClientTakes.{takes_named, takes_wait, takes_told, takes_pushed, takes_done, takes_bytes, takes_refused, takes_reply, is_own_data, opens, told, told_none, told_location, told_nobody, master_refuses, primary_refuses};
-ghost use Rattle.cell_core.specs.ClientStep.{ticks_at, takes_at, ticks_unanswered, ticks_names};
+ghost use Rattle.cell_core.specs.ClientStep.{client_does, ticks_unanswered, ticks_names};
 
 use crate::client::Client;
 use crate::client_calls::is_write;
@@ -27,7 +28,7 @@ impl Client {
     /// A message comes to a client with or without an open call.
     pub(crate) fn take(&mut self, message: &Message) -> Result<Effects, NoMemory>
         requires { IsTrue (is_client_within_limits self.old) }
-        ensures { IfOk result (λ e. on_current self.old (λ c. takes_at self.old c message.now c.stage) ≡ does self.new e) }
+        ensures { IfOk result (λ e. client_does self.old (input.Deliver message.now) self.old.current ≡ does self.new e) }
     {
         let Some(current) = self.current.take() else {
             return Ok(Effects::none(self.alloc));
@@ -86,7 +87,7 @@ impl Client {
     fn refuses_live(&mut self, current: CurrentCall, refusal: Refusal) -> Effects
         ensures { refuses_live self.old current refusal ≡ does self.new result }
     {
-        if current.ends.0 <= self.now {
+        if current.ends.0 <= self.clock {
             return self.answers(Answer::Refused(refusal));
         }
         self.waits(current, Stage::MustRefuse(refusal))
@@ -288,7 +289,12 @@ impl Client {
             target: Target::Write(place),
             deadline: current.deadline,
         };
-        self.goes_on(current, Stage::SentMutate(number), Node::Server(at.server), body)
+        self.goes_on(
+            current,
+            Stage::SentMutate(number),
+            Node::Server(at.server),
+            body,
+        )
     }
 
     fn takes_done(&mut self, current: CurrentCall, id: DataId) -> Effects
@@ -379,7 +385,7 @@ impl Client {
     /// A tick of a client with or without an open call.
     pub(crate) fn ticks(&mut self) -> Result<Effects, NoMemory>
         requires { IsTrue (is_client_within_limits self.old) }
-        ensures { IfOk result (λ e. on_current self.old (λ c. ticks_at self.old c c.stage) ≡ does self.new e) }
+        ensures { IfOk result (λ e. client_does self.old input.Tick self.old.current ≡ does self.new e) }
     {
         let Some(current) = self.current.take() else {
             return Ok(Effects::none(self.alloc));
@@ -387,7 +393,7 @@ impl Client {
         match current.stage {
             Stage::MustRefuse(refusal) => Ok(self.refuses_live(current, refusal)),
             Stage::MustAskAgain => {
-                if self.now < current.deadline.0 {
+                if self.clock < current.deadline.0 {
                     self.asks(current)
                 } else {
                     Ok(self.ticks_unanswered(current))
@@ -401,7 +407,7 @@ impl Client {
     fn ticks_names(&mut self, current: CurrentCall) -> Effects
         ensures { ticks_names (with_current self.old current) current ≡ does self.new result }
     {
-        if self.now < current.ends.0 {
+        if self.clock < current.ends.0 {
             return self.stays(current);
         }
         self.answers(Answer::Refused(Refusal::Unknown))
@@ -411,7 +417,7 @@ impl Client {
     fn ticks_unanswered(&mut self, current: CurrentCall) -> Effects
         ensures { ticks_unanswered (with_current self.old current) current ≡ does self.new result }
     {
-        if self.now < current.ends.0 {
+        if self.clock < current.ends.0 {
             return self.stays(current);
         }
         let refusal = last_refusal(&current);

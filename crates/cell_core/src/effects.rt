@@ -88,6 +88,19 @@ impl Effects {
     }
 }
 
+impl Outcome {
+    /// What a server gives that is put down.
+    pub fn down(alloc: Global) -> Outcome
+        ensures out { result.out ≡ down_output }
+        ensures seen { result.seen ≡ None }
+    {
+        Outcome {
+            out: down(alloc),
+            seen: None,
+        }
+    }
+}
+
 /// What a node gives that is put down.
 pub fn down(alloc: Global) -> StepOut
     ensures { result ≡ down_output }

@@ -24,6 +24,5 @@ mod server_writes;
 mod sights;
 mod stage;
 mod standing;
-mod tests;
 mod watch;
 pub mod world;

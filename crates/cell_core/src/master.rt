@@ -2,18 +2,18 @@
 
 ghost use Rattle.std.specs.Prelude.{◌≡◌, ◌≤◌, [], ◌∷◌, Some, None, IfOk, IsTrue};
 ghost use Rattle.std.specs.FinMap as map;
-ghost use Rattle.gfs_types.specs.declared.event.Input.TheVariants as input;
 ghost use Rattle.cell_core.specs.Tables.{moment_limit};
 ghost use Rattle.cell_core.specs.Bounds.{Fits};
-ghost use Rattle.gfs_types.specs.declared.ids.Node.TheVariants.{Master};
-ghost use Rattle.cell_core.specs.Doing.{does, TakesSo};
+ghost use Rattle.gfs_types.specs.declared.ids.Node.TheVariants as node_kind;
+ghost use Rattle.std.specs.Option.{option_copied};
+ghost use Rattle.cell_core.specs.Doing.{input_of, does, TakesSo, GoesSo};
 ghost use Rattle.cell_core.specs.Sending.{message, only_server, order_no};
 ghost use Rattle.cell_core.specs.Master.{new_master, master_says, is_master_within_limits};
 ghost use Rattle.cell_core.specs.MasterVersions.{takes_recorded, grants};
 ghost use Rattle.cell_core.specs.MasterStep.{master_takes, master_at};
 ghost use Rattle.cell_core.specs.Conforms.{MasterSteps};
 
-use crate::effects::{down, Effects};
+use crate::effects::{Effects, down};
 use crate::limits::COUNTER_LIMIT;
 use crate::names::NameNode;
 use crate::rows::{ChunkRow, KeptCall};
@@ -33,7 +33,7 @@ use std::marker::Model;
 #[derive(Drop)]
 pub struct Master<A: Allocator> {
     pub(crate) config: Config,
-    pub(crate) now: u64,
+    pub(crate) clock: u64,
     pub(crate) names: Trie<NameNode, A>,
     pub(crate) next_file: u64,
     pub(crate) files: NumberMap<HandleList>,
@@ -56,9 +56,9 @@ impl<A: Allocator> Model for Master<A> {
 
     ghost coded = { Prim.hlevel (codes, map.code, coded_list, coded_ℕ) };
 
-    ghost view = { λ m. record { config = m.config; now = m.now; names = m.names; next_file = m.next_file; files = m.files; next_handle = m.next_handle; chunks = m.chunks; order_count = m.order_count; kept = m.kept } };
+    ghost view = { λ m. record { config = m.config; now = m.clock; names = m.names; next_file = m.next_file; files = m.files; next_handle = m.next_handle; chunks = m.chunks; order_count = m.order_count; kept = m.kept } };
 
-    ghost invariant = { λ m. Fits m.config × (m.now ≤ moment_limit) };
+    ghost invariant = { λ m. Fits m.config × (m.clock ≤ moment_limit) };
 }
 
 /// Why a master could not be made.
@@ -83,15 +83,15 @@ impl<A: Allocator + Clone> Master<A> {
         let Ok(mut names) = Trie::new(alloc) else {
             return Err(NamesFault::Full);
         };
-        if names.insert(&root, NameNode::dir()).is_err() {
+        if names.insert(&trash, NameNode::dir()).is_err() {
             return Err(NamesFault::Full);
         }
-        if names.insert(&trash, NameNode::dir()).is_err() {
+        if names.insert(&root, NameNode::dir()).is_err() {
             return Err(NamesFault::Full);
         }
         Ok(Master {
             config,
-            now: 0,
+            clock: 0,
             names,
             next_file: 1,
             files: NumberMap::new(global),
@@ -103,30 +103,27 @@ impl<A: Allocator + Clone> Master<A> {
         })
     }
 
-    /// A message comes.
-    pub fn deliver(&mut self, now: Moment, message: &Message) -> StepOut
+    /// A step on a message, or on a tick.
+    pub fn step(&mut self, now: Moment, message: Option<&Message>) -> StepOut
         requires { now.0 ≤ moment_limit }
-        ensures { MasterSteps self.old now.0 (input.Deliver message.now) result self.new }
     {
-        if !self.is_within_limits() {
-            return Effects::none(self.alloc).into_out();
-        }
-        self.move_clock(now);
-        match self.take(message) {
-            Ok(effects) => effects.into_out(),
-            Err(NoMemory) => down(self.alloc),
-        }
+        let Ok(effects) = self.goes(now, message) else {
+            return down(self.alloc);
+        };
+        effects.into_out()
     }
 
-    /// A tick moves the clock alone.
-    pub fn tick(&mut self, now: Moment) -> StepOut
+    fn goes(&mut self, now: Moment, message: Option<&Message>) -> Result<Effects, NoMemory>
         requires { now.0 ≤ moment_limit }
-        ensures { MasterSteps self.old now.0 input.Tick result self.new }
     {
-        if self.is_within_limits() {
-            self.move_clock(now);
+        if !self.is_within_limits() {
+            return Ok(Effects::none(self.alloc));
         }
-        Effects::none(self.alloc).into_out()
+        self.move_clock(now);
+        match message {
+            Some(message) => self.take(message),
+            None => Ok(Effects::none(self.alloc)),
+        }
     }
 
     fn is_within_limits(&self) -> bool
@@ -141,23 +138,28 @@ impl<A: Allocator + Clone> Master<A> {
         requires { now.0 ≤ moment_limit }
         ensures { self.new ≡ master_at self.old now.0 }
     {
-        self.now = self.now.max(now.0);
+        self.clock = self.clock.max(now.0);
     }
 
     fn take(&mut self, message: &Message) -> Result<Effects, NoMemory>
         requires { IsTrue (is_master_within_limits self.old) }
-        ensures { IfOk result (λ e. TakesSo self.old message.now message.now.body (does self.new e)) }
     {
         match &message.body {
-            Body::Name { call_number, deadline, call } => {
-                self.takes_name(message.sender, *call_number, *deadline, call)
-            }
+            Body::Name {
+                call_number,
+                deadline,
+                call,
+            } => { self.takes_name(message.sender, *call_number, *deadline, call) }
             Body::Look { call_number, call } => {
                 self.takes_look(message.sender, *call_number, call)
             }
-            Body::Ask { number, file, wanted, deadline, lost_lease: _ } => {
-                self.takes_ask(message.sender, *number, *file, *wanted, *deadline)
-            }
+            Body::Ask {
+                number,
+                file,
+                wanted,
+                deadline,
+                lost_lease: _,
+            } => { self.takes_ask(message.sender, *number, *file, *wanted, *deadline) }
             Body::Recorded { handle, version } => self.takes_recorded(*handle, *version),
             _ => Ok(Effects::none(self.alloc)),
         }
@@ -187,7 +189,7 @@ impl<A: Allocator + Clone> Master<A> {
         requires { IsTrue (is_master_within_limits self.old) }
         ensures { IfOk result (λ e. grants self.old handle.0 ≡ does self.new e) }
     {
-        let end = Moment(self.now + self.config.lease_ms);
+        let end = Moment(self.clock + self.config.lease_ms);
         let row = ChunkRow {
             granted: Version(1),
             lease_end: end,
@@ -215,7 +217,7 @@ impl<A: Allocator + Clone> Master<A> {
 }
 
 pub(crate) fn from_master(receiver: Node, body: Body) -> Message
-    ensures { result ≡ message Master receiver body }
+    ensures { result ≡ message node_kind.Master receiver body }
 {
     Message {
         number: 0,

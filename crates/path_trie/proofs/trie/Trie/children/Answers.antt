@@ -12,7 +12,7 @@ returns g c =
     let d = c.args.directory.now in
     if_ok_along c.children_of.result (λ v. v.items ≡ child_entries c.as_str.result.now (by_bytes es)) (λ v. v.items ≡ children_by_part c.args.self.now d)
       (λ v ok all. all
-        ∙ ap (λ p. child_entries p (by_bytes es)) c.as_str.ensures
+        ∙ ap (λ p. child_entries p (by_bytes es)) c.as_str.ensures.text
         ∙ ap (child_entries d) (sym (entries_by_bytes es (c.children_of.ensures.ordered ok)))
         ∙ ap (λ m. child_entries d (entries m)) c.self.view_is)
       c.children_of.ensures.all

@@ -7,4 +7,4 @@ use Rattle.path_trie.proofs.trie.Trie.get.Goals as goal
 pub returns : goal.returns
 returns g c =
     let es = c.self.inside.names in
-    c.get.ensures.value ∙ ap (get_by_text es) c.as_str.ensures ∙ sym (get_by_bytes c.args.path.now es.entries) ∙ ap (λ m. map.get m c.args.path.now) c.self.view_is
+    c.get.ensures.value ∙ ap (get_by_text es) c.as_str.ensures.text ∙ sym (get_by_bytes c.args.path.now es.entries) ∙ ap (λ m. map.get m c.args.path.now) c.self.view_is

@@ -12,10 +12,10 @@ returns g c =
     ( lent_either c.get_mut.result _ _ _ _
         (λ some w.
           inserted c.as_str.result.now es (lent.lender w) w ((lent.holds w).3 (subst IsSome c.get_mut.ensures.value (copied_some c.get_mut.result some)))
-          ∙ ap (λ p. map.insert (names_of es.entries) p w) c.as_str.ensures
+          ∙ ap (λ p. map.insert (names_of es.entries) p w) c.as_str.ensures.text
           ∙ ap (λ m. map.insert m c.args.path.now w) c.self.view_is)
         (λ none. ap (λ n. names_of n.entries) lent.holds-at-none ∙ c.self.view_is),
       record {
         writes_back = tt;
-        value = c.get_mut.ensures.value ∙ ap (get_by_text es) c.as_str.ensures ∙ sym (get_by_bytes c.args.path.now es.entries) ∙ ap (λ m. map.get m c.args.path.now) c.self.view_is;
+        value = c.get_mut.ensures.value ∙ ap (get_by_text es) c.as_str.ensures.text ∙ sym (get_by_bytes c.args.path.now es.entries) ∙ ap (λ m. map.get m c.args.path.now) c.self.view_is;
       } )

@@ -13,6 +13,6 @@ returns g c =
     let d = c.args.directory.now in
     c.any_below.ensures.any
     ∙ any_by_bytes (is_below c.as_str.result.now) es
-    ∙ ap (λ p. list_any (λ e. is_below p e.0) (by_bytes es)) c.as_str.ensures
+    ∙ ap (λ p. list_any (λ e. is_below p e.0) (by_bytes es)) c.as_str.ensures.text
     ∙ ap (list_any (λ e. is_below d e.0)) (sym (entries_by_bytes es c.any_below.ensures.ordered))
     ∙ ap (λ m. has_below m d) c.self.view_is
