@@ -311,14 +311,12 @@ struct Numbers {
 }
 
 impl Numbers {
-    fn below(&mut self, end: u64) -> u64
-        requires { 0 < end }
-    {
+    fn below(&mut self, end: u64) -> u64 {
         self.state = self
             .state
             .wrapping_mul(6_364_136_223_846_793_005)
             .wrapping_add(1_442_695_040_888_963_407);
-        (self.state >> 33) % end
+        (self.state >> 33).checked_rem(end).unwrap_or(0)
     }
 
     fn pick<'a>(&mut self, words: &[&'a [u8]]) -> &'a [u8] {
