@@ -1,0 +1,34 @@
+-- A step of the master (section 2.3).
+use Rattle.std.specs.Prelude.{ℕ, Bool, max, if◌then◌else◌}
+use Rattle.gfs_types.specs.declared.message.Body.{Body}
+use Rattle.gfs_types.specs.declared.message.Body.TheVariants as body
+use Rattle.gfs_types.specs.declared.message.Message.{Message}
+use Rattle.gfs_types.specs.declared.event.Input.{Input}
+use Rattle.gfs_types.specs.declared.event.Input.TheVariants as input
+use Rattle.cell_core.specs.Choice.{Choice}
+use Rattle.cell_core.specs.Seen.{Does, stays, Taken, no_step, ends}
+use Rattle.cell_core.specs.Master.{MasterState, is_master_within_limits}
+use Rattle.cell_core.specs.MasterNames.{takes_name, takes_look}
+use Rattle.cell_core.specs.MasterAsks.{takes_ask}
+use Rattle.cell_core.specs.MasterVersions.{takes_recorded}
+
+abbrev pub master_takes : MasterState → Bool → Message → Body → Does MasterState
+master_takes m refused msg (body.Name number deadline c) = takes_name m msg.sender number deadline.0 c refused
+master_takes m refused msg (body.Look number c) = takes_look m msg.sender number c
+master_takes m refused msg (body.Ask number file wanted deadline lost) = takes_ask m msg.sender number file.0 wanted deadline.0
+master_takes m refused msg (body.Recorded handle version) = takes_recorded m handle.0 version.0
+master_takes m refused msg other = stays m
+
+-- at a tick only the clock moves
+abbrev pub master_does : MasterState → Bool → Input → Does MasterState
+master_does m refused (input.Deliver msg) = master_takes m refused msg msg.body
+master_does m refused input.Tick = stays m
+
+-- now is the greatest moment that it was given
+abbrev pub master_at : MasterState → ℕ → MasterState
+master_at m moment = record m { now = max m.now moment }
+
+-- One that has no number left of a counter takes no step.
+abbrev pub master_step : MasterState → ℕ → Input → Choice → Taken MasterState
+master_step m moment i choice =
+    if is_master_within_limits m then ends (master_does (master_at m moment) choice.refused i) choice choice.ending else no_step m

@@ -1,0 +1,3 @@
+mod Puts
+mod Hops
+mod Histories

@@ -1,0 +1,77 @@
+//! A finite map from numbers, looked up in logarithmic time. Contracts see it as the map alone.
+#![tactic(auto)]
+
+ghost use Rattle.std.specs.Prelude.{◌≡◌, false, IfOk, IfErr, OnOk, OnErr, IsSome, is_some};
+ghost use Rattle.std.specs.Option.{option_copied, option_copied_mut};
+ghost use Rattle.std.specs.Ordering.{nat_cmp};
+ghost use Rattle.std.specs.FinMap as map;
+ghost use Rattle.std.specs.Coded.{coded_ℕ};
+ghost use Rattle.std.specs.Borrow.{sem};
+ghost use Rattle.number_map.specs.Lending.{LendsValue};
+
+use std::alloc::{AllocError, Global};
+use std::collections::BTreeMap;
+use std::marker::Model;
+
+/// A finite map from numbers to values.
+#[derive(Drop)]
+pub struct NumberMap<V> {
+    kept: BTreeMap<u64, V>,
+}
+
+impl<V> Model for NumberMap<V> {
+    ghost use Rattle.std.specs.Ordering.{nat_cmp};
+    ghost use Rattle.std.specs.FinMap as map;
+    ghost use Rattle.std.specs.Coded.{coded_ℕ};
+
+    ghost Value = { map.FinMap nat_cmp V };
+
+    ghost coded = { map.code coded_ℕ V.code };
+
+    ghost view = { λ a. map.from_entries a.kept.entries };
+}
+
+impl<V: Drop> NumberMap<V> {
+    /// A map without entries. Takes no memory.
+    pub fn new(alloc: Global) -> Self
+        ensures { result ≡ map.empty }
+    {
+        NumberMap {
+            kept: BTreeMap::new(alloc),
+        }
+    }
+
+    /// The value at a number.
+    pub fn get(&self, key: u64) -> Option<&V>
+        ensures { option_copied result ≡ map.get self.now key }
+    {
+        self.kept.get(&key)
+    }
+
+    /// Puts a value at a number; the value that stood there is dropped. Where memory is refused nothing has changed; that
+    /// happens only at a number without a value.
+    pub fn insert(&mut self, key: u64, value: V) -> Result<(), AllocError>
+        ensures ok { OnOk result (self.new ≡ map.insert self.old key value) }
+        ensures err { OnErr result (self.new ≡ self.old) }
+        ensures absent { OnErr result (map.contains_key self.old key ≡ false) }
+    {
+        self.kept.insert(key, value)?;
+        Ok(())
+    }
+
+    /// The value at a number, to be changed in its place.
+    pub fn get_mut(&mut self, key: u64) -> Option<&mut V>
+        ensures* writes_back { sem 𝓛 (LendsValue V.row self.entry key result) }
+        ensures value { option_copied_mut result ≡ map.get self.old key }
+    {
+        self.kept.get_mut(&key)
+    }
+
+    /// Takes out the value at a number.
+    pub fn remove(&mut self, key: u64) -> Option<V>
+        ensures value { result ≡ map.get self.old key }
+        ensures rest { self.new ≡ map.remove self.old key }
+    {
+        self.kept.remove(&key)
+    }
+}

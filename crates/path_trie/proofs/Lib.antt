@@ -1,0 +1,4 @@
+pub mod Entries
+pub mod Lent
+pub mod Cuts
+pub mod Outcomes

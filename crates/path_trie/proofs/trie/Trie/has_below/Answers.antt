@@ -1,0 +1,18 @@
+use Rattle.std.proofs.Common.{string_bytes, sym, ap, ◌∙◌}
+use Rattle.std.specs.List.{list_any}
+use Rattle.std.specs.FinMap.{entries}
+use Rattle.gfs_types.specs.Paths.{is_below}
+use Rattle.path_trie.specs.Texts.{by_bytes}
+use Rattle.path_trie.specs.Below.{has_below}
+use Rattle.path_trie.proofs.Entries.{any_by_bytes, entries_by_bytes}
+use Rattle.path_trie.proofs.trie.Trie.has_below.Goals as goal
+
+pub returns : goal.returns
+returns g c =
+    let es = c.self.inside.names.entries in
+    let d = c.args.directory.now in
+    c.any_below.ensures.any
+    ∙ any_by_bytes (is_below c.as_str.result.now) es
+    ∙ ap (λ p. list_any (λ e. is_below p e.0) (by_bytes es)) c.as_str.ensures
+    ∙ ap (list_any (λ e. is_below d e.0)) (sym (entries_by_bytes es c.any_below.ensures.ordered))
+    ∙ ap (λ m. has_below m d) c.self.view_is

@@ -1,0 +1,13 @@
+pub mod Names
+pub mod Order
+pub mod Regions
+pub mod Parts
+pub mod Machine
+pub mod NameStep
+pub mod Locks
+pub mod Chunks
+pub mod Reads
+pub mod Answers
+pub mod Run
+pub mod Traces
+pub mod Laws
