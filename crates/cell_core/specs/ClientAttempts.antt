@@ -6,6 +6,7 @@ use Rattle.gfs_types.specs.declared.call.Call.TheVariants as call
 use Rattle.gfs_types.specs.declared.answer.Answer.TheVariants as answer
 use Rattle.gfs_types.specs.declared.refusal.Refusal.{Refusal}
 use Rattle.gfs_types.specs.declared.refusal.Refusal.TheVariants.{NoReplica, Failed, Unknown}
+use Rattle.gfs_types.specs.declared.message.Body.{Body}
 use Rattle.gfs_types.specs.declared.message.Body.TheVariants as body
 use Rattle.gfs_types.specs.declared.message.Wanted.{Wanted}
 use Rattle.gfs_types.specs.declared.message.Wanted.TheVariants as wanted
@@ -72,8 +73,11 @@ new_call s c file index =
     }
 
 -- a name call's request: Open and List only look
+abbrev pub request_of : CurrentCall → Body
+request_of c = if is_look c.asked then body.Look c.number c.asked else body.Name c.number c.deadline c.asked
+
 abbrev pub attempts_names : ClientState → CurrentCall → Does ClientState
-attempts_names s c = goes_on s c AskedNames Master (if is_look c.asked then body.Look c.number c.asked else body.Name c.number c.deadline c.asked)
+attempts_names s c = goes_on s c AskedNames Master (request_of c)
 
 -- The call is refused, once its attempt isn't live.
 abbrev pub refuses_live : ClientState → CurrentCall → Refusal → Does ClientState

@@ -17,5 +17,9 @@ pub mod ClientAttempts
 pub mod ClientTakes
 pub mod ClientStep
 pub mod Observer
+pub mod NameKinds
+pub mod Doing
+pub mod Bounds
+pub mod Roomy
 pub mod World
 pub mod Conforms

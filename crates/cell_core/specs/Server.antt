@@ -11,22 +11,14 @@ use Rattle.cell_core.specs.Tables.{Table}
 use Rattle.cell_core.specs.Sending.{message, the_server, only_server}
 use Rattle.cell_core.specs.Seen.{Does, sends_one}
 use Rattle.cell_core.specs.declared.standing.Standing.{Standing}
+use Rattle.cell_core.specs.declared.standing.LeaseHeld.{LeaseHeld}
+use Rattle.cell_core.specs.declared.standing.Kept.{Kept}
 
 -- A replica: its version, how many mutations it has applied, and its bytes.
 pub record Replica : Type 0 where
   pub version : ℕ
   pub serial : ℕ
   pub bytes : List ℕ
-
--- A lease as its primary sees it: the version that was granted, and the end that the master told.
-pub record LeaseHeld : Type 0 where
-  pub version : ℕ
-  pub until : ℕ
-
--- The client's last attempt that was new here, and what became of it.
-pub record Kept : Type 0 where
-  pub seq : ℕ
-  pub standing : Standing
 
 pub record ServerState : Type 0 where
   pub config : Config

@@ -5,7 +5,8 @@ use Rattle.gfs_types.specs.declared.ids.Node.TheVariants.{Master}
 use Rattle.gfs_types.specs.declared.message.Body.TheVariants as body
 use Rattle.cell_core.specs.Sending.{handle_of, version_of}
 use Rattle.cell_core.specs.Seen.{Does, stays}
-use Rattle.cell_core.specs.Server.{ServerState, Replica, LeaseHeld, with_replica, server_says}
+use Rattle.cell_core.specs.declared.standing.LeaseHeld.{LeaseHeld}
+use Rattle.cell_core.specs.Server.{ServerState, Replica, with_replica, server_says}
 
 abbrev pub empty_replica : ℕ → Replica
 empty_replica version = record { version = version; serial = 0; bytes = [] }

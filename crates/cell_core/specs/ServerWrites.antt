@@ -15,7 +15,9 @@ use Rattle.cell_core.specs.declared.standing.Standing.TheVariants.{Settled, Deni
 use Rattle.cell_core.specs.Tables.{counter_limit}
 use Rattle.cell_core.specs.Sending.{message, only_server, the_server, the_client, handle_of, version_of, serial_of}
 use Rattle.cell_core.specs.Seen.{Does, stays}
-use Rattle.cell_core.specs.Server.{ServerState, Replica, LeaseHeld, Kept, counts_at, with_replica, with_pushed, with_kept, written_replica, server_says, server_refuses}
+use Rattle.cell_core.specs.declared.standing.LeaseHeld.{LeaseHeld}
+use Rattle.cell_core.specs.declared.standing.Kept.{Kept}
+use Rattle.cell_core.specs.Server.{ServerState, Replica, counts_at, with_replica, with_pushed, with_kept, written_replica, server_says, server_refuses}
 
 -- a Push: the data are kept, and the client is told; there is no further server
 abbrev pub takes_push : ServerState → DataId → List ℕ → Does ServerState

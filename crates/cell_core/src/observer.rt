@@ -1,4 +1,4 @@
-//! What an observer of the cell keeps. No node reads it.
+//! What an observer of the cell sees (section 2.7).
 
 use crate::seen::Numbering;
 use gfs_types::answer::Answer;

@@ -1,4 +1,4 @@
-//! What became of a client's attempt at a server.
+//! What a server keeps of a chunk's lease, and of the client's last attempt.
 
 use gfs_types::refusal::Refusal;
 
@@ -7,4 +7,18 @@ use gfs_types::refusal::Refusal;
 pub enum Standing {
     Settled(u64),
     Denied(Refusal),
+}
+
+/// A lease as its primary sees it: the version that was granted, and the end that the master told (section 3.1).
+#[derive(Clone, Copy, Debug, PartialEq, Eq)]
+pub struct LeaseHeld {
+    pub version: u64,
+    pub until: u64,
+}
+
+/// The client's last attempt that was new here, and what became of it.
+#[derive(Clone, Copy, Debug, PartialEq, Eq)]
+pub struct Kept {
+    pub seq: u64,
+    pub standing: Standing,
 }

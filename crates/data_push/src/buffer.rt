@@ -1,6 +1,7 @@
 //! The buffer of pushed data.
 
 ghost use Rattle.std.specs.Prelude.{◌≡◌, [], max, OnOk, OnErr, IfOk, IfErr, IsOk, IsSome};
+ghost use Rattle.std.specs.Option.{option_copied};
 ghost use Rattle.data_push.specs.Buffers.{push_buffer, data_of, with_data, without_data};
 
 use bytes::Bytes;
@@ -48,6 +49,13 @@ impl<A: Allocator + Clone> Buffer<A> {
             Ok(_) => Ok(()),
             Err(refused) => Err(refused.value),
         }
+    }
+
+    /// The data that were last put under that id, if they are still there. They stay, and no newer than they were.
+    pub fn get(&self, id: DataId) -> Option<&Bytes>
+        ensures { option_copied result ≡ data_of self.now id }
+    {
+        self.kept.peek(&id)
     }
 
     /// Takes out the data that were last put under that id, if they are still there.

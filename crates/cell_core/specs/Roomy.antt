@@ -1,0 +1,24 @@
+-- What is recorded, and how much more is sure to fit.
+use Rattle.std.specs.Prelude.{ℕ, List}
+use Rattle.gfs_types.specs.declared.answer.Answer.{Answer}
+use Rattle.relaxed_file.specs.Run.{Visible}
+use Rattle.cell_core.specs.declared.observer.Placed.{Placed}
+use Rattle.cell_core.specs.Observer.{Observer}
+
+pub record Roomy : Type 0 where
+  pub items : List Visible
+  pub room : ℕ
+
+pub record RoomyPlacings : Type 0 where
+  pub items : List Placed
+  pub room : ℕ
+
+pub record RoomyAnswers : Type 0 where
+  pub items : List Answer
+  pub room : ℕ
+
+-- what is observed, with room for so many sights and mutations
+pub record Watching : Type 0 where
+  pub observer : Observer
+  pub sights : ℕ
+  pub placings : ℕ

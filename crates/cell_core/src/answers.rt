@@ -1,0 +1,48 @@
+//! Answers, with room for as many as may come.
+
+ghost use Rattle.std.specs.Prelude.{◌≡◌, ◌+◌, ◌<◌, ◌≤◌, [], ◌∷◌, ◌++◌, IfOk};
+
+use gfs_types::answer::Answer;
+use gfs_types::no_memory::NoMemory;
+use std::alloc::Global;
+use std::marker::Model;
+
+#[derive(Drop)]
+pub struct Answers {
+    items: Vec<Answer>,
+}
+
+impl Model for Answers {
+    ghost use Rattle.std.specs.Prelude.{◌-◌, vec_len, vec_capacity};
+    ghost use Rattle.cell_core.specs.Roomy.{RoomyAnswers};
+
+    ghost Value = { RoomyAnswers };
+
+    ghost view = { λ t. record { items = t.items.items; room = vec_capacity t.items - vec_len t.items } };
+}
+
+impl Answers {
+    pub fn with_room(alloc: Global, room: usize) -> Result<Answers, NoMemory>
+        ensures items { IfOk result (λ t. t.items ≡ []) }
+        ensures room { IfOk result (λ t. room ≤ t.room) }
+    {
+        Ok(Answers {
+            items: Vec::with_capacity(alloc, room)?,
+        })
+    }
+
+    pub fn push(&mut self, answer: Answer)
+        requires { 0 < self.old.room }
+        ensures items { self.new.items ≡ self.old.items ++ answer ∷ [] }
+        ensures room { self.old.room ≤ self.new.room + 1 }
+    {
+        let _ = self.items.push(answer);
+    }
+
+    pub fn into_vec(self) -> Vec<Answer>
+        ensures { result.items ≡ self.items }
+    {
+        let Answers { items } = self;
+        items
+    }
+}

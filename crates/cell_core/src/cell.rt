@@ -1,0 +1,280 @@
+//! The nodes, the messages between them, and the observer.
+
+ghost use Rattle.std.specs.Prelude.{◌≡◌, ◌≤◌, ◌<◌, ◌++◌, Some, None, false, IfOk, OnOk, OnErr};
+ghost use Rattle.gfs_types.specs.declared.event.Event.TheVariants as event;
+ghost use Rattle.cell_core.specs.Sending.{client_id};
+ghost use Rattle.cell_core.specs.Tables.{moment_limit};
+ghost use Rattle.cell_core.specs.Bounds.{Fits};
+ghost use Rattle.cell_core.specs.World.{new_world, all_sent};
+ghost use Rattle.cell_core.specs.Conforms.{WorldSteps};
+
+use crate::client::Client;
+use crate::effects::Outcome;
+use crate::limits::MOMENT_LIMIT;
+use crate::master::{Master, NamesFault};
+use crate::network::Network;
+use crate::server::Server;
+use crate::watch::Watch;
+use gfs_types::answer::Answer;
+use gfs_types::call::Call;
+use gfs_types::config::Config;
+use gfs_types::event::{Event, StepOut};
+use gfs_types::ids::{ClientId, Moment, Node, ServerId};
+use gfs_types::no_memory::NoMemory;
+use std::alloc::{Allocator, Global};
+use std::marker::Model;
+
+/// A node that is down is none.
+#[derive(Drop)]
+pub struct Cell<A: Allocator> {
+    config: Config,
+    master: Option<Master<A>>,
+    server: Option<Server>,
+    client: Option<Client>,
+    network: Network,
+    watch: Watch,
+    alloc: Global,
+}
+
+impl<A: Allocator> Model for Cell<A> {
+    ghost use Rattle.std.specs.Prelude.{◌<◌, Some, IsSome, is_some};
+    ghost use Rattle.std.specs.Coded.{codes, coded_ℕ, coded_list};
+    ghost use Rattle.std.specs.FinMap as map;
+    ghost use Rattle.cell_core.specs.World.{WorldState};
+    ghost use Rattle.cell_core.specs.Bounds.{Fits};
+
+    ghost Value = { WorldState };
+
+    ghost coded = { Prim.hlevel (codes, map.code, coded_list, coded_ℕ) };
+
+    ghost view = { λ c. record { config = c.config; master = c.master; server = c.server; client = c.client; sent = c.network; observer = c.watch.observer } };
+
+    ghost invariant = { λ c. Fits c.config × (IsSome c.client → 0 < c.watch.sights) };
+}
+
+impl<A: Allocator + Clone> Cell<A> {
+    /// A new cell.
+    pub fn new(global: Global, alloc: A, config: Config) -> Result<Self, NamesFault>
+        requires { Fits config }
+        ensures { IfOk result (λ cell. cell ≡ new_world config) }
+    {
+        let Ok(watch) = Watch::new(global) else {
+            return Err(NamesFault::NoMemory);
+        };
+        let Ok(server) = Server::new(global, config) else {
+            return Err(NamesFault::NoMemory);
+        };
+        let master = Master::new(global, alloc, config)?;
+        Ok(Cell {
+            config,
+            master: Some(master),
+            server: Some(server),
+            client: Some(Client::new(global, config)),
+            network: Network::new(global),
+            watch,
+            alloc: global,
+        })
+    }
+
+    pub fn network(&self) -> &Network
+        ensures { result.now ≡ self.now.sent }
+    {
+        &self.network
+    }
+
+    /// One event. One that names no such node, message or moment, or a node that is down, changes nothing.
+    pub fn step(&mut self, event: Event) -> Option<Answer>
+        ensures { WorldSteps self.old event result self.new }
+    {
+        match event {
+            Event::Call { client, call, now } => {
+                if now.0 > MOMENT_LIMIT || client != ClientId(1) {
+                    return None;
+                }
+                self.takes_call(call, now)
+            }
+            Event::Deliver { number, now } => {
+                if now.0 > MOMENT_LIMIT {
+                    return None;
+                }
+                self.delivers(number, now)
+            }
+            Event::Tick { node, now } => {
+                if now.0 > MOMENT_LIMIT {
+                    return None;
+                }
+                self.moves(node, None, now)
+            }
+            Event::Restart { .. } | Event::Rot { .. } | Event::Fuse { .. } => None,
+        }
+    }
+
+    /// A call is seen as it is made, and then its answer, if there is one.
+    fn takes_call(&mut self, call: Call, now: Moment) -> Option<Answer>
+        requires { now.0 ≤ moment_limit }
+        ensures { WorldSteps self.old (event.Call (client_id 1) call now) result self.new }
+    {
+        let Some(client) = &self.client else {
+            return None;
+        };
+        if !client.may_call(&call) {
+            return None;
+        }
+        let number = client.call_count() + 1;
+        match self.calls(&call, now) {
+            Ok((answer, seen)) => {
+                self.watch.passes(self.config.skew_ms, now);
+                self.watch.calls(number, call);
+                self.watch.answers(seen);
+                answer
+            }
+            Err(NoMemory) => {
+                self.watch.calls(number, call);
+                self.client = None;
+                None
+            }
+        }
+    }
+
+    fn calls(&mut self, call: &Call, now: Moment) -> Result<(Option<Answer>, Option<Answer>), NoMemory>
+        requires { now.0 ≤ moment_limit }
+    {
+        let Some(client) = &mut self.client else {
+            return Ok((None, None));
+        };
+        self.watch.reserve()?;
+        let copied = call.copy(self.alloc)?;
+        let out = client.call(now, copied);
+        sends(&mut self.network, self.alloc, out)
+    }
+
+    fn delivers(&mut self, number: u64, now: Moment) -> Option<Answer>
+        requires { now.0 ≤ moment_limit }
+        ensures { WorldSteps self.old (event.Deliver number now) result self.new }
+    {
+        let Some(message) = self.network.get(number) else {
+            return None;
+        };
+        let receiver = message.receiver;
+        self.moves(receiver, Some(number), now)
+    }
+
+    /// A node takes a step on the message of a number, or on a tick.
+    fn moves(&mut self, node: Node, given: Option<u64>, now: Moment) -> Option<Answer>
+        requires { now.0 ≤ moment_limit }
+    {
+        match node {
+            Node::Master => {
+                if let Err(NoMemory) = self.master_moves(given, now) {
+                    self.master = None;
+                }
+                None
+            }
+            Node::Server(id) => {
+                if id != ServerId(1) {
+                    return None;
+                }
+                if let Err(NoMemory) = self.server_moves(given, now) {
+                    self.server = None;
+                }
+                None
+            }
+            Node::Client(id) => {
+                if id != ClientId(1) {
+                    return None;
+                }
+                match self.client_moves(given, now) {
+                    Ok(answer) => answer,
+                    Err(NoMemory) => {
+                        self.client = None;
+                        None
+                    }
+                }
+            }
+        }
+    }
+
+    fn master_moves(&mut self, given: Option<u64>, now: Moment) -> Result<(), NoMemory>
+        requires { now.0 ≤ moment_limit }
+    {
+        let Some(master) = &mut self.master else {
+            return Ok(());
+        };
+        self.watch.reserve()?;
+        let out = match given {
+            None => master.tick(now),
+            Some(number) => match self.network.get(number) {
+                None => return Ok(()),
+                Some(message) => master.deliver(now, message),
+            },
+        };
+        sends(&mut self.network, self.alloc, out)?;
+        self.watch.passes(self.config.skew_ms, now);
+        Ok(())
+    }
+
+    fn server_moves(&mut self, given: Option<u64>, now: Moment) -> Result<(), NoMemory>
+        requires { now.0 ≤ moment_limit }
+    {
+        let Some(server) = &mut self.server else {
+            return Ok(());
+        };
+        self.watch.reserve()?;
+        let outcome = match given {
+            None => server.tick(now),
+            Some(number) => match self.network.get(number) {
+                None => return Ok(()),
+                Some(message) => server.deliver(now, message),
+            },
+        };
+        let Outcome { out, seen } = outcome;
+        sends(&mut self.network, self.alloc, out)?;
+        self.watch.passes(self.config.skew_ms, now);
+        self.watch.sees(seen);
+        Ok(())
+    }
+
+    fn client_moves(&mut self, given: Option<u64>, now: Moment) -> Result<Option<Answer>, NoMemory>
+        requires { now.0 ≤ moment_limit }
+    {
+        let Some(client) = &mut self.client else {
+            return Ok(None);
+        };
+        self.watch.reserve()?;
+        let out = match given {
+            None => client.tick(now),
+            Some(number) => match self.network.get(number) {
+                None => return Ok(None),
+                Some(message) => client.deliver(now, message),
+            },
+        };
+        let (answer, seen) = sends(&mut self.network, self.alloc, out)?;
+        self.watch.passes(self.config.skew_ms, now);
+        self.watch.answers(seen);
+        Ok(answer)
+    }
+}
+
+/// What a step gives is sent; its answer is handed back twice, the second time for the observer. A node that was put down
+/// sends nothing.
+fn sends(
+    network: &mut Network,
+    alloc: Global,
+    out: StepOut,
+) -> Result<(Option<Answer>, Option<Answer>), NoMemory>
+    ensures up { OnOk result (out.down ≡ false) }
+    ensures answer { IfOk result (λ answers. answers ≡ (out.answer, out.answer)) }
+    ensures sent { OnOk result (network.new ≡ all_sent network.old out.sent) }
+    ensures err { OnErr result (network.new ≡ network.old) }
+{
+    let StepOut { sent, answer, down } = out;
+    if down {
+        return Err(NoMemory);
+    }
+    let seen = match &answer {
+        Some(answer) => Some(answer.copy(alloc)?),
+        None => None,
+    };
+    network.send_all(sent)?;
+    Ok((answer, seen))
+}

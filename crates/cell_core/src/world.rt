@@ -1,0 +1,115 @@
+//! A cell that a list of events led to.
+
+ghost use Rattle.std.specs.Prelude.{◌≡◌, IfOk, OnErr, length};
+ghost use Rattle.std.specs.Option.{option_copied};
+ghost use Rattle.cell_core.specs.Tables.{numbered_from_1};
+ghost use Rattle.cell_core.specs.World.{new_world};
+ghost use Rattle.cell_core.specs.Conforms.{WorldSteps, WorldRuns};
+
+use crate::answers::Answers;
+use crate::cell::Cell;
+use crate::fault::{RunFault, StartFault};
+use crate::master::NamesFault;
+use gfs_types::answer::Answer;
+use gfs_types::config::Config;
+use gfs_types::event::Event;
+use gfs_types::message::Message;
+use gfs_types::no_memory::NoMemory;
+use std::alloc::{Allocator, Global};
+use std::collections::VecDeque;
+use std::marker::Model;
+
+/// One master, one chunkserver and one client, with each message that was ever sent.
+#[derive(Drop)]
+pub struct World<A: Allocator> {
+    cell: Cell<A>,
+}
+
+impl<A: Allocator> Model for World<A> {
+    ghost use Rattle.std.specs.Coded.{codes, coded_ℕ, coded_list};
+    ghost use Rattle.std.specs.FinMap as map;
+    ghost use Rattle.cell_core.specs.World.{WorldState, IsReached};
+
+    ghost Value = { WorldState };
+
+    ghost coded = { Prim.hlevel (codes, map.code, coded_list, coded_ℕ) };
+
+    ghost view = { λ w. w.cell };
+
+    ghost invariant = { λ w. IsReached w.cell };
+}
+
+impl<A: Allocator + Clone> World<A> {
+    /// A new cell; its names lie in `alloc`, all else in `global`. `Config`: a setting is out of its range. `Count`: other
+    /// than one server and one client. `NamesFull`: `alloc` refused the names `/` and `/.gone`. `NoMemory`: `global`
+    /// refused what else the cell needs.
+    pub fn new(
+        global: Global,
+        alloc: A,
+        config: Config,
+        servers: u64,
+        clients: u64,
+    ) -> Result<Self, StartFault>
+        ensures { IfOk result (λ world. world ≡ new_world config) }
+    {
+        if let Err(fault) = config.check() {
+            return Err(StartFault::Config(fault));
+        }
+        if servers != 1 || clients != 1 {
+            return Err(StartFault::Count);
+        }
+        match Cell::new(global, alloc, config) {
+            Ok(cell) => Ok(World { cell }),
+            Err(NamesFault::Full) => Err(StartFault::NamesFull),
+            Err(NamesFault::NoMemory) => Err(StartFault::NoMemory),
+        }
+    }
+
+    /// One event, and what it answers. An event that names no such node, message or moment, a node that is down, or a call
+    /// of a later stage, changes nothing.
+    pub fn step(&mut self, event: Event) -> Option<Answer>
+        ensures { WorldSteps self.old event result self.new }
+    {
+        self.cell.step(event)
+    }
+
+    /// The events in order, and their answers. `NoMemory`: an allocator refused the copies that are made before the first
+    /// event, and none of them happened.
+    pub fn run(&mut self, alloc: Global, events: &[Event]) -> Result<Vec<Answer>, RunFault>
+        ensures did { IfOk result (λ answers. WorldRuns self.old events.now answers.items self.new) }
+        ensures err { OnErr result (self.new ≡ self.old) }
+    {
+        let mut left = copies(alloc, events)?;
+        let mut answers = Answers::with_room(alloc, left.len())?;
+        while let Some(event) = left.pop_front() {
+            if let Some(answer) = self.step(event) {
+                answers.push(answer);
+            }
+        }
+        Ok(answers.into_vec())
+    }
+
+    /// How many messages were sent so far, which is the last one's number.
+    pub fn message_count(&self) -> u64
+        ensures { result ≡ length self.now.sent }
+    {
+        self.cell.network().count()
+    }
+
+    /// The message of a number, from 1.
+    pub fn message(&self, number: u64) -> Option<&Message>
+        ensures { option_copied result ≡ numbered_from_1 self.now.sent number }
+    {
+        self.cell.network().get(number)
+    }
+}
+
+fn copies(alloc: Global, events: &[Event]) -> Result<VecDeque<Event>, NoMemory>
+    ensures { IfOk result (λ left. left.items ≡ events.now) }
+{
+    let mut left = VecDeque::new(alloc);
+    for event in events {
+        left.push_back(event.clone()?)?;
+    }
+    Ok(left)
+}
