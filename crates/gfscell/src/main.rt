@@ -1,0 +1,92 @@
+//! `gfscell`: a Google File System cell that runs scripts.
+#![tactic(auto)]
+
+use command_line::command::{CommandFault, Request, parse};
+use command_line::options::Options;
+use shell::fault::ScriptFault;
+use shell::run::run_script;
+use std::env;
+use std::fs::File;
+use std::io::{self, BufReader, BufWriter, ErrorKind, Read};
+use std::process::ExitCode;
+use thiserror::Error;
+
+/// Why the program fails.
+#[derive(Debug, Drop, Error)]
+enum ProgramFault {
+    #[error("{0}")]
+    Command(CommandFault),
+    #[error("{0}")]
+    Script(ScriptFault),
+}
+
+impl ProgramFault {
+    fn exit_code(&self) -> ExitCode {
+        match self {
+            ProgramFault::Command(CommandFault::Bad) => ExitCode::from(2),
+            ProgramFault::Command(CommandFault::NoMemory) | ProgramFault::Script(_) => {
+                ExitCode::from(1)
+            }
+        }
+    }
+}
+
+impl From<CommandFault> for ProgramFault {
+    fn from(fault: CommandFault) -> ProgramFault {
+        ProgramFault::Command(fault)
+    }
+}
+
+impl From<ScriptFault> for ProgramFault {
+    fn from(fault: ScriptFault) -> ProgramFault {
+        ProgramFault::Script(fault)
+    }
+}
+
+/// Runs the script that a source gives.
+fn simulate<S: Read + Drop>(
+    rt: &HostRuntime,
+    options: &Options,
+    source: S,
+) -> Result<(), ScriptFault> {
+    let alloc = rt.alloc();
+    let mut reader = BufReader::new(alloc, source).map_err(|e| ScriptFault::of_read(&e))?;
+    let mut writer = BufWriter::new(alloc, io::writer(rt)).map_err(|e| ScriptFault::of_write(&e))?;
+    run_script(alloc, options, &mut reader, &mut writer)
+}
+
+/// The words of the command line. Words that are no text are a bad command line.
+fn words(rt: &HostRuntime) -> Result<Vec<String>, CommandFault> {
+    match env::args(rt) {
+        Ok(words) => Ok(words.collect(rt.alloc())?),
+        Err(error) if error.kind() == ErrorKind::OutOfMemory => Err(CommandFault::NoMemory),
+        Err(_) => Err(CommandFault::Bad),
+    }
+}
+
+fn run(rt: &HostRuntime) -> Result<(), ProgramFault> {
+    let alloc = rt.alloc();
+    let words = words(rt)?;
+    match parse(alloc, words.as_slice())? {
+        Request::Show(text) => rt
+            .print(text.as_str())
+            .map_err(|e| ScriptFault::of_write(&e))?,
+        Request::Sim { file: "-", options } => simulate(rt, &options, rt.reader())?,
+        Request::Sim { file, options } => {
+            let script = File::open(rt, file).map_err(|e| ScriptFault::of_read(&e))?;
+            simulate(rt, &options, script)?;
+        }
+    }
+    Ok(())
+}
+
+fn main(rt: HostRuntime) -> ExitCode {
+    match run(&rt) {
+        Ok(()) => ExitCode::SUCCESS,
+        Err(fault) => {
+            // Nothing can tell of a standard error that can't be written.
+            let _ = eprintln!(rt; "gfscell: {fault}");
+            fault.exit_code()
+        }
+    }
+}

@@ -1,0 +1,18 @@
+-- What a script's fault is where the cell or a line has one.
+use Rattle.std.specs.Prelude.{ℕ}
+use Rattle.cell_core.specs.declared.fault.StartFault.{StartFault}
+use Rattle.cell_core.specs.declared.fault.StartFault.TheVariants as starts
+use Rattle.script.specs.declared.fault.LineFault.{LineFault}
+use Rattle.script.specs.declared.fault.LineFault.TheVariants as lines
+use Rattle.shell.specs.declared.fault.ScriptFault.{ScriptFault}
+use Rattle.shell.specs.declared.fault.ScriptFault.TheVariants.{Line, Start, NoMemory}
+
+abbrev pub start_fault : StartFault → ScriptFault
+start_fault (starts.Config setting) = Start
+start_fault starts.Count = Start
+start_fault starts.NamesFull = Start
+start_fault starts.NoMemory = NoMemory
+
+abbrev pub line_fault : LineFault → ℕ → ScriptFault
+line_fault lines.Bad number = Line number
+line_fault lines.NoMemory number = NoMemory

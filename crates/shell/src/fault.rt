@@ -1,0 +1,74 @@
+//! Why a script comes to no end.
+
+ghost use Rattle.std.specs.Prelude.{◌≡◌, ◌≢◌};
+ghost use Rattle.std.specs.IoError.{error_kind};
+ghost use Rattle.shell.specs.Faults.{start_fault, line_fault};
+
+use cell_core::fault::StartFault;
+use script::fault::LineFault;
+use std::io::{self, ErrorKind};
+use thiserror::Error;
+
+/// Why a script comes to no end.
+#[derive(Clone, Copy, Debug, PartialEq, Eq, Error)]
+pub enum ScriptFault {
+    /// The line of this number isn't in the language, or names a node that the cell doesn't have. Lines count from 1.
+    #[error("line {0}: bad line")]
+    Line(u64),
+    /// The line of this number needs more than a million rounds of ticks.
+    #[error("line {0}: no end")]
+    NoEnd(u64),
+    /// There is no such cell: a setting is out of its range, or a count of nodes.
+    #[error("cannot start")]
+    Start,
+    #[error("no memory")]
+    NoMemory,
+    #[error("cannot read")]
+    Read,
+    #[error("cannot write")]
+    Write,
+}
+
+impl ScriptFault {
+    /// Why there is no cell.
+    pub fn of_start(fault: &StartFault) -> ScriptFault
+        ensures { result ≡ start_fault fault.now }
+    {
+        match fault {
+            StartFault::NoMemory => ScriptFault::NoMemory,
+            StartFault::Config(_) | StartFault::Count | StartFault::NamesFull => ScriptFault::Start,
+        }
+    }
+
+    /// The fault of the line of this number.
+    pub fn of_line(fault: LineFault, number: u64) -> ScriptFault
+        ensures { result ≡ line_fault fault number }
+    {
+        match fault {
+            LineFault::Bad => ScriptFault::Line(number),
+            LineFault::NoMemory => ScriptFault::NoMemory,
+        }
+    }
+
+    /// The fault of a reader.
+    pub fn of_read(error: &io::Error) -> ScriptFault
+        ensures memory { error_kind error.now ≡ ErrorKind.OutOfMemory → result ≡ ScriptFault.NoMemory }
+        ensures other { error_kind error.now ≢ ErrorKind.OutOfMemory → result ≡ ScriptFault.Read }
+    {
+        match error.kind() {
+            ErrorKind::OutOfMemory => ScriptFault::NoMemory,
+            _ => ScriptFault::Read,
+        }
+    }
+
+    /// The fault of a writer.
+    pub fn of_write(error: &io::Error) -> ScriptFault
+        ensures memory { error_kind error.now ≡ ErrorKind.OutOfMemory → result ≡ ScriptFault.NoMemory }
+        ensures other { error_kind error.now ≢ ErrorKind.OutOfMemory → result ≡ ScriptFault.Write }
+    {
+        match error.kind() {
+            ErrorKind::OutOfMemory => ScriptFault::NoMemory,
+            _ => ScriptFault::Write,
+        }
+    }
+}

@@ -1,0 +1,8 @@
+//! Runs scripts on a simulated cell.
+#![tactic(auto)]
+
+pub mod fault;
+pub mod run;
+pub mod simulator;
+#[cfg(test)]
+mod tests;

@@ -1,0 +1,134 @@
+//! A cell under the simulator's clock, which delivers its messages in the order of their numbers.
+
+use crate::fault::ScriptFault;
+use cell_core::world::World;
+use command_line::options::Options;
+use gfs_types::call::Call;
+use gfs_types::event::Event;
+use gfs_types::ids::{ClientId, Moment, Node, ServerId};
+use script::answers::AnswerLine;
+use std::alloc::{Allocator, Global};
+use std::io::Write;
+
+/// The milliseconds between two rounds of ticks.
+pub const ROUND_MS: u64 = 100;
+
+/// The rounds of ticks that a line may need.
+pub const MAX_ROUNDS: u32 = 1_000_000;
+
+/// A cell and its clock, which begins at 0.
+#[derive(Drop)]
+pub struct Simulator<A: Allocator> {
+    world: World<A>,
+    now: Moment,
+    /// The number of the next message to be delivered.
+    next: u64,
+    servers: u16,
+    clients: u64,
+}
+
+impl<A: Allocator + Clone> Simulator<A> {
+    /// A new cell, whose names lie in `alloc`.
+    ///
+    /// - `Start`: a setting or a count is out of its range, or the names found no room.
+    /// - `NoMemory`: another growth was refused.
+    pub fn new(global: Global, alloc: A, options: &Options) -> Result<Simulator<A>, ScriptFault> {
+        let Ok(servers) = u16::try_from(options.servers) else {
+            return Err(ScriptFault::Start);
+        };
+        let clients = options.clients;
+        match World::new(global, alloc, options.config, options.servers, clients) {
+            Ok(world) => Ok(Simulator {
+                world,
+                now: Moment(0),
+                next: 1,
+                servers,
+                clients,
+            }),
+            Err(fault) => Err(ScriptFault::of_start(&fault)),
+        }
+    }
+
+    pub fn has_client(&self, client: ClientId) -> bool {
+        (1..=self.clients).contains(&client.0)
+    }
+
+    /// Takes one event at a node, prints its answer, and tells whether it had one.
+    fn take<W: Write>(
+        &mut self,
+        node: Node,
+        event: Event,
+        writer: &mut W,
+    ) -> Result<bool, ScriptFault> {
+        let (Some(answer), Node::Client(client)) = (self.world.step(event), node) else {
+            return Ok(false);
+        };
+        let line = AnswerLine {
+            client,
+            answer: &answer,
+        };
+        writeln!(writer, "{line}").map_err(|e| ScriptFault::of_write(&e))?;
+        writer.flush().map_err(|e| ScriptFault::of_write(&e))?;
+        Ok(true)
+    }
+
+    /// Delivers each message that was sent and not yet delivered, and tells whether a call was answered.
+    fn deliver<W: Write>(&mut self, writer: &mut W) -> Result<bool, ScriptFault> {
+        let mut is_answered = false;
+        for _ in 0..u64::MAX {
+            let Some(message) = self.world.message(self.next) else {
+                break;
+            };
+            let receiver = message.receiver;
+            let event = Event::Deliver {
+                number: self.next,
+                now: self.now,
+            };
+            self.next = self.next.saturating_add(1);
+            is_answered |= self.take(receiver, event, writer)?;
+        }
+        Ok(is_answered)
+    }
+
+    fn tick<W: Write>(&mut self, node: Node, writer: &mut W) -> Result<bool, ScriptFault> {
+        let now = self.now;
+        self.take(node, Event::Tick { node, now }, writer)
+    }
+
+    /// A round of ticks: the servers in rising number, the master and the clients, each with the deliveries that follow.
+    fn tick_round<W: Write>(&mut self, writer: &mut W) -> Result<bool, ScriptFault> {
+        self.now = Moment(self.now.0.saturating_add(ROUND_MS));
+        let mut is_answered = false;
+        for server in 1..=self.servers {
+            is_answered |= self.tick(Node::Server(ServerId(server)), writer)?;
+        }
+        is_answered |= self.deliver(writer)?;
+        is_answered |= self.tick(Node::Master, writer)?;
+        is_answered |= self.deliver(writer)?;
+        for client in 1..=self.clients {
+            is_answered |= self.tick(Node::Client(ClientId(client)), writer)?;
+        }
+        is_answered |= self.deliver(writer)?;
+        Ok(is_answered)
+    }
+
+    /// A client's call, up to its answer. It tells whether the answer came within the rounds of ticks that a line may need.
+    pub fn call<W: Write>(
+        &mut self,
+        client: ClientId,
+        call: Call,
+        writer: &mut W,
+    ) -> Result<bool, ScriptFault> {
+        let now = self.now;
+        let event = Event::Call { client, call, now };
+        let mut is_answered = self.take(Node::Client(client), event, writer)?;
+        is_answered |= self.deliver(writer)?;
+        for _ in 0..MAX_ROUNDS {
+            if is_answered {
+                break;
+            }
+            is_answered = self.tick_round(writer)?;
+        }
+        Ok(is_answered)
+    }
+}

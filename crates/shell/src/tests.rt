@@ -1,0 +1,431 @@
+use crate::fault::ScriptFault;
+use crate::run::run_script;
+use command_line::options::Options;
+use gfs_types::config::Config;
+use std::alloc::{AllocError, Global};
+use std::io::{self, BufReader, ErrorKind, Read, Write};
+use std::test::Fail;
+
+/// One chunkserver, and chunks of 64 bytes in blocks of 16.
+fn small_cell() -> Options {
+    Options {
+        servers: 1,
+        clients: 1,
+        config: Config {
+            chunk: 64,
+            block: 16,
+            ..Config::default()
+        },
+    }
+}
+
+/// What a script prints on a small cell, and its fault.
+fn outcome(alloc: Global, options: &Options, script: &[u8]) -> (Vec<u8>, Result<(), ScriptFault>) {
+    let mut reader = script;
+    let mut writer = Vec::new(alloc);
+    let result = run_script(alloc, options, &mut reader, &mut writer);
+    (writer, result)
+}
+
+#[test]
+fn runs_scripts(rt: HostRuntime) -> Result<(), Fail> {
+    let rows: [(&str, &str); 8] = [
+        (
+            "c1 create /f\nc1 open /f\nc1 write 1 0 hello\nc1 read 1 0 5\n",
+            "c1 done\nc1 fd 1\nc1 done\nc1 bytes 5 68656c6c6f rounds 1\n",
+        ),
+        (
+            "c1 create /f\nc1 open /f\nc1 write 1 0 hello\nc1 read 1 0 5\nc1 write 1 7 x\nc1 read 1 2 10\nc1 list /\n",
+            "c1 done\nc1 fd 1\nc1 done\nc1 bytes 5 68656c6c6f rounds 1\nc1 done\nc1 bytes 6 6c6c6f000078 rounds 1\nc1 names 2 .gone/ f\n",
+        ),
+        (
+            "c1 create /f\nc1 open /f\nc1 write 1 0 hello\nc1 mkdir /f\nc1 create /x/y\nc1 write 1 128 x",
+            "c1 done\nc1 fd 1\nc1 done\nc1 refused 3 Exists\nc1 refused 2 NoParent\nc1 refused 11 TooLong\n",
+        ),
+        (
+            "c1 mkdir /x//y\nc1 mkdir /..\nc1 mkdir /a/\nc1 mkdir x\nc1 mkdir /\nc1 mkdir /.gone/x\n",
+            "c1 refused 1 BadPath\nc1 refused 1 BadPath\nc1 refused 1 BadPath\nc1 refused 1 BadPath\nc1 refused 3 Exists\nc1 refused 8 Reserved\n",
+        ),
+        (
+            "# nothing\n\nc1 create /f\nc1 open /f\nc1 read 1 0 10\n#",
+            "c1 done\nc1 fd 1\nc1 bytes 0 - rounds -\n",
+        ),
+        (
+            "c1 create /f\nc1 open /f\nc1 write 1 0 a*0\nc1 write 1 0 a*67108865\nc1 write 7 0 a*18446744073709551615\n",
+            "c1 done\nc1 fd 1\nc1 done\nc1 refused 11 TooLong\nc1 refused 12 BadFd\n",
+        ),
+        (
+            "c1 create /f\nc1 open /f\nc1 write 1 0 a*\nc1 write 1 2 ab*2\nc1 write 001 06 **003\nc1 read 1 0 64\n",
+            "c1 done\nc1 fd 1\nc1 done\nc1 done\nc1 done\nc1 bytes 9 612a61622a322a2a2a rounds 1\n",
+        ),
+        ("", ""),
+    ];
+    for (script, expected) in rows {
+        let (printed, result) = outcome(rt.alloc(), &small_cell(), script.as_bytes());
+        assert_eq!(rt; result, Ok(()), "{script}");
+        assert_eq!(rt; printed.as_slice(), expected.as_bytes(), "{script}");
+    }
+    Ok(())
+}
+
+#[test]
+fn refuses_lines(rt: HostRuntime) {
+    let lines: [&[u8]; 40] = [
+        b"c1 fly /x",
+        b"c1",
+        b"c1 mkdir",
+        b"c1 mkdir ",
+        b" ",
+        b" c1 mkdir /a",
+        b"c1 mkdir /a ",
+        b"c1  mkdir /a",
+        b"c1 mkdir  /a",
+        b"c1 mkdir /a /b",
+        b"c1 mkdir /a\r",
+        b"\r",
+        b"c1 mkdir /a\0",
+        b"\0",
+        b"c1 mkdir /\xff",
+        b"c1 mkdir /\xc3",
+        b"c1 mkdir /\xed\xa0\x80",
+        b"\xef\xbb\xbfc1 mkdir /a",
+        b"c0 mkdir /a",
+        b"c2 mkdir /a",
+        b"c01 mkdir /a",
+        b"c+1 mkdir /a",
+        b"c18446744073709551616 mkdir /a",
+        b"C1 mkdir /a",
+        b"s1 mkdir /a",
+        b"master mkdir /a",
+        b"c1 MKDIR /a",
+        b"c1\tmkdir\t/a",
+        b"c1 read 1 0",
+        b"c1 read 1 0 +5",
+        b"c1 read 1 0 -5",
+        b"c1 read 1 0 5x",
+        b"c1 read 1 0 0x5",
+        b"c1 read 1 18446744073709551616 5",
+        b"c1 read 99999999999999999999 0 5",
+        b"c1 write 1 0 \x1f",
+        b"c1 write 1 0 a\x7f",
+        b"c1 write 1 0 \xc3\xa9",
+        b"c1 write 1 0 a*18446744073709551616",
+        b"c1 append 1 x",
+    ];
+    for line in lines {
+        let (printed, result) = outcome(rt.alloc(), &small_cell(), line);
+        assert_eq!(rt; result, Err(ScriptFault::Line(1)), "{line:?}");
+        assert_eq!(rt; printed.len(), 0, "{line:?}");
+    }
+}
+
+#[test]
+fn keeps_what_was_printed(rt: HostRuntime) {
+    let script = b"c1 mkdir /a\n\nc1 mkdir /b\nc1 mkdir /c \nc1 mkdir /d\n".as_slice();
+    let (printed, result) = outcome(rt.alloc(), &small_cell(), script);
+    assert_eq!(rt; result, Err(ScriptFault::Line(4)));
+    assert_eq!(rt; printed.as_slice(), b"c1 done\nc1 done\n".as_slice());
+}
+
+/// `first`, so many bytes, and `last`.
+fn padded(
+    alloc: Global,
+    first: &str,
+    byte: u8,
+    count: usize,
+    last: &str,
+) -> Result<Vec<u8>, AllocError> {
+    let mut all = Vec::from_slice(alloc, first.as_bytes())?;
+    let middle = vec![in alloc; byte; count]?;
+    all.extend_from_slice(middle.as_slice())?;
+    all.extend_from_slice(last.as_bytes())?;
+    Ok(all)
+}
+
+#[test]
+fn measures_lines(rt: HostRuntime) -> Result<(), Fail> {
+    let alloc = rt.alloc();
+    let rows = [
+        // 8,192 bytes and a line feed, and without one
+        (
+            "c1 mkdir /",
+            8_182,
+            "\nc1 mkdir /x",
+            Ok(()),
+            "c1 refused 1 BadPath\nc1 done\n",
+        ),
+        ("c1 mkdir /", 8_182, "", Ok(()), "c1 refused 1 BadPath\n"),
+        ("#", 8_191, "\nc1 mkdir /x\n", Ok(()), "c1 done\n"),
+        // 8,193 bytes
+        ("c1 mkdir /", 8_183, "\n", Err(ScriptFault::Line(1)), ""),
+        ("c1 mkdir /", 8_183, "", Err(ScriptFault::Line(1)), ""),
+        ("\n#", 8_192, "\n", Err(ScriptFault::Line(2)), ""),
+        ("#", 100_000, "", Err(ScriptFault::Line(1)), ""),
+        // parts of 255 and of 256 bytes
+        ("c1 mkdir /", 255, "\n", Ok(()), "c1 done\n"),
+        ("c1 mkdir /", 256, "\n", Ok(()), "c1 refused 1 BadPath\n"),
+    ];
+    for (first, count, last, fault, expected) in rows {
+        let script = padded(alloc, first, b'a', count, last)?;
+        let (printed, result) = outcome(alloc, &small_cell(), script.as_slice());
+        assert_eq!(rt; result, fault, "{first}{count}{last}");
+        assert_eq!(rt;
+            printed.as_slice(),
+            expected.as_bytes(),
+            "{first}{count}{last}"
+        );
+    }
+    Ok(())
+}
+
+#[test]
+fn refuses_cells(rt: HostRuntime) {
+    let small = small_cell();
+    let config = small.config;
+    let wrong = [
+        Options {
+            servers: 0,
+            ..small
+        },
+        Options {
+            servers: 65,
+            ..small
+        },
+        Options {
+            servers: 65_537,
+            ..small
+        },
+        Options {
+            clients: 0,
+            ..small
+        },
+        Options {
+            clients: u64::MAX,
+            ..small
+        },
+        Options {
+            config: Config {
+                chunk: 63,
+                ..config
+            },
+            ..small
+        },
+        Options {
+            config: Config {
+                block: 24,
+                ..config
+            },
+            ..small
+        },
+    ];
+    for options in wrong {
+        let (printed, result) = outcome(rt.alloc(), &options, b"c1 fly /x\n");
+        assert_eq!(rt; result, Err(ScriptFault::Start), "{options:?}");
+        assert_eq!(rt; printed.len(), 0);
+    }
+}
+
+/// Gives its bytes, two at a time, and then fails.
+#[derive(Drop)]
+struct Failing<'a> {
+    rest: &'a [u8],
+    kind: ErrorKind,
+}
+
+impl Read for Failing<'_> {
+    fn read(&mut self, buffer: &mut [u8]) -> io::Result<usize> {
+        if self.rest.is_empty() {
+            return Err(io::Error::from(self.kind));
+        }
+        let count = buffer.len().min(self.rest.len()).min(2);
+        buffer[..count].copy_from_slice(&self.rest[..count]);
+        self.rest = &self.rest[count..];
+        Ok(count)
+    }
+}
+
+#[test]
+fn reader_fails(rt: HostRuntime) -> Result<(), Fail> {
+    let alloc = rt.alloc();
+    for (kind, fault) in [
+        (ErrorKind::Other, ScriptFault::Read),
+        (ErrorKind::OutOfMemory, ScriptFault::NoMemory),
+    ] {
+        let rest = b"c1 mkdir /a\nc1 mkdir /b".as_slice();
+        let mut reader = BufReader::new(alloc, Failing { rest, kind })?;
+        let mut writer = Vec::new(alloc);
+        let result = run_script(alloc, &small_cell(), &mut reader, &mut writer);
+        assert_eq!(rt; result, Err(fault));
+        assert_eq!(rt; writer.as_slice(), b"c1 done\n".as_slice());
+    }
+    Ok(())
+}
+
+/// Takes so many bytes, and then fails.
+#[derive(Drop)]
+struct Full {
+    room: usize,
+    kind: ErrorKind,
+    seen: Vec<u8>,
+}
+
+impl Write for Full {
+    fn write(&mut self, bytes: &[u8]) -> io::Result<usize> {
+        let room = self.room.saturating_sub(self.seen.len());
+        if room == 0 && !bytes.is_empty() {
+            return Err(io::Error::from(self.kind));
+        }
+        let count = room.min(bytes.len());
+        self.seen.extend_from_slice(&bytes[..count])?;
+        Ok(count)
+    }
+
+    fn flush(&mut self) -> io::Result<()> {
+        Ok(())
+    }
+}
+
+#[test]
+fn writer_fails(rt: HostRuntime) {
+    let alloc = rt.alloc();
+    for (kind, fault) in [
+        (ErrorKind::Other, ScriptFault::Write),
+        (ErrorKind::OutOfMemory, ScriptFault::NoMemory),
+    ] {
+        let mut reader = b"c1 mkdir /a\nc1 mkdir /b\nc1 fly /x\n".as_slice();
+        let mut writer = Full {
+            room: 11,
+            kind,
+            seen: Vec::new(alloc),
+        };
+        let result = run_script(alloc, &small_cell(), &mut reader, &mut writer);
+        assert_eq!(rt; result, Err(fault));
+        assert_eq!(rt; writer.seen.as_slice(), b"c1 done\nc1 ".as_slice());
+    }
+}
+
+/// A small generator of numbers.
+#[derive(Drop)]
+struct Numbers {
+    state: u64,
+}
+
+impl Numbers {
+    fn below(&mut self, end: u64) -> u64 {
+        self.state = self
+            .state
+            .wrapping_mul(6_364_136_223_846_793_005)
+            .wrapping_add(1_442_695_040_888_963_407);
+        (self.state >> 33).checked_rem(end).unwrap_or(0)
+    }
+
+    fn pick<'a>(&mut self, words: &[&'a [u8]]) -> &'a [u8] {
+        let at = self.below(words.len().max(1) as u64) as usize;
+        words.get(at).copied().unwrap_or(b"")
+    }
+}
+
+const PATHS: [&[u8]; 10] = [
+    b"/",
+    b"/a",
+    b"/b",
+    b"/a/b",
+    b"/a/b/c",
+    b"/.gone",
+    b"/.gone/x",
+    b"a",
+    b"/a/",
+    b"/\xc3\xa9",
+];
+
+const COUNTS: [&[u8]; 8] = [
+    b"0",
+    b"1",
+    b"2",
+    b"5",
+    b"63",
+    b"64",
+    b"65",
+    b"18446744073709551615",
+];
+
+const STRANGE: [&[u8]; 12] = [
+    b"",
+    b" ",
+    b"\r",
+    b"\0",
+    b"\xff",
+    b"+5",
+    b"-1",
+    b"18446744073709551616",
+    b"c2",
+    b"#",
+    b"a*99999999999",
+    b"fly",
+];
+
+/// A line that is in the language.
+fn push_good_line(numbers: &mut Numbers, script: &mut Vec<u8>) -> Result<(), AllocError> {
+    script.extend_from_slice(b"c1 ")?;
+    if numbers.below(2) == 0 {
+        script.extend_from_slice(numbers.pick(&[b"mkdir", b"create", b"open", b"list"]))?;
+        script.extend_from_slice(b" ")?;
+        script.extend_from_slice(numbers.pick(&PATHS))?;
+    } else if numbers.below(2) == 0 {
+        script.extend_from_slice(b"write ")?;
+        script.extend_from_slice(numbers.pick(&[b"1", b"2", b"3"]))?;
+        script.extend_from_slice(b" ")?;
+        script.extend_from_slice(numbers.pick(&COUNTS))?;
+        script.extend_from_slice(b" ")?;
+        script.extend_from_slice(numbers.pick(&[b"hello", b"x", b"z*9", b"z*64", b"*", b"z*0"]))?;
+    } else {
+        script.extend_from_slice(b"read ")?;
+        script.extend_from_slice(numbers.pick(&[b"1", b"2", b"3"]))?;
+        script.extend_from_slice(b" ")?;
+        script.extend_from_slice(numbers.pick(&COUNTS))?;
+        script.extend_from_slice(b" ")?;
+        script.extend_from_slice(numbers.pick(&COUNTS))?;
+    }
+    Ok(())
+}
+
+/// A line of words that may be anything.
+fn push_strange_line(numbers: &mut Numbers, script: &mut Vec<u8>) -> Result<(), AllocError> {
+    for _ in 0..numbers.below(6) {
+        script.extend_from_slice(numbers.pick(&[b"c1", b"c1", b"s1", b"write", b"read", b"open"]))?;
+        script.extend_from_slice(b" ")?;
+        script.extend_from_slice(numbers.pick(&STRANGE))?;
+    }
+    Ok(())
+}
+
+#[test]
+fn random_scripts_end(rt: HostRuntime) -> Result<(), Fail> {
+    let alloc = rt.alloc();
+    let mut numbers = Numbers { state: 2003 };
+    let mut whole = 0u64;
+    for _ in 0..200 {
+        let mut script = Vec::new(alloc);
+        for _ in 0..30 {
+            if numbers.below(40) == 0 {
+                push_strange_line(&mut numbers, &mut script)?;
+            } else {
+                push_good_line(&mut numbers, &mut script)?;
+            }
+            script.push(b'\n')?;
+        }
+        let (printed, result) = outcome(alloc, &small_cell(), script.as_slice());
+        let lines = printed.as_slice().iter().filter(|b| **b == b'\n').count() as u64;
+        match result {
+            Ok(()) => {
+                whole = whole.saturating_add(1);
+                assert!(rt; lines <= 30);
+            }
+            Err(ScriptFault::Line(number)) => assert!(rt; lines < number),
+            Err(fault) => assert!(rt; false, "{fault:?}"),
+        }
+    }
+    // Some scripts are good throughout, and some are not.
+    assert!(rt; 20 < whole && whole < 180, "{whole}");
+    Ok(())
+}
