@@ -1,0 +1,173 @@
+-- A range within one chunk has its one part there; and a call without an entry has no try anywhere.
+use Rattle.std.proofs.Common.{◌≡◌, ℕ, zero, suc, ◌+◌, ◌-◌, ◌*◌, ◌/◌, ◌%◌, ◌<◌, ◌≤◌, Bool, true, false, cond, List, [], ◌∷◌, length, Option, Some, append-nil, refl, sym, ap, ◌∙◌, subst, arith}
+use Rattle.std.specs.List.{fold}
+use Rattle.std.specs.Prelude.{Contains, IsTrue, IsFalse, ◌==◌, ◌&&◌, ◌||◌, not, nat_lt, min, map, filter, count_by, filter_map, IfSome, IsSome, MatchBool, option_map, unwrap_or}
+use Rattle.std.proofs.Math.Nat.{mod-eq-sub-div-mul, div-mul-le_self, mul-le-mul_right, suc-mul}
+use Rattle.std.proofs.lemmas.Bool.{ne_eqb, eq-eqb}
+use Rattle.std.proofs.lemmas.List.Elements.{All-head, All-tail}
+use Rattle.gfs_types.specs.declared.call.Call.{Call}
+use Rattle.gfs_types.specs.declared.call.Call.TheVariants as call
+use Rattle.gfs_types.specs.declared.answer.Answer.TheVariants as answer
+use Rattle.gfs_types.specs.Mutations.{is_pad}
+use Rattle.relaxed_file.specs.Order.{CallId, Entry, same_call}
+use Rattle.relaxed_file.specs.Parts.{has_part, part_start, part_end, part_length, is_range_too_long, leaves_chunk}
+use Rattle.relaxed_file.specs.Machine.{Machine, Chunk, OpenCall, Piece, chunk_size}
+use Rattle.relaxed_file.specs.Chunks.{tries_in, tries_below}
+use Rattle.relaxed_file.specs.Answers.{IsDone, HasSuccess, IsWrite, is_too_long}
+use Rattle.cell_core.specs.declared.observer.Placed.{Placed}
+use Rattle.cell_core.specs.Sending.{only_client}
+use Rattle.cell_core.specs.Observer.{entries_of, entry_of}
+use Rattle.cell_refinement.specs.Known.{IsInChunk, IsWriteOf, IsReadOf, HasNoEntry, call_id}
+
+less : (a b : ℕ) → a < b → IsTrue (nat_lt a b)
+less a b h = grind (arith, h)
+
+less_is : (a b : ℕ) → IsTrue (nat_lt a b) → a < b
+less_is a b h = grind (arith, h)
+
+not_less : (a b : ℕ) → IsFalse (nat_lt a b) → b ≤ a
+not_less a b h = grind (arith, h)
+
+at_most : (a b : ℕ) → b ≤ a → IsFalse (nat_lt a b)
+at_most a b h = grind (arith, h)
+
+-- of a place q * size + r: the part in its own chunk, in one before and in one behind
+own_end : (offset q r count size : ℕ) → r ≡ offset - q → q ≤ offset → r + count ≤ size → min ((offset + count) - q) size ≡ r + count
+own_end offset q r count size e l fits = omega arith
+
+none_before : (offset q e size count : ℕ) → q ≤ offset → e + size ≤ q → min ((offset + count) - e) size ≤ offset - e
+none_before offset q e size count l m = omega arith
+
+none_behind : (offset q r l size count : ℕ) → r ≡ offset - q → q ≤ offset → r + count ≤ size → q + size ≤ l → min ((offset + count) - l) size ≤ offset - l
+none_behind offset q r l size count e a fits m = omega arith
+
+module _ (size index offset count : ℕ) (h : IsInChunk size index offset count) where
+  start_is : part_start size offset index ≡ offset % size
+  start_is = ap (λ i. part_start size offset i) h.0 ∙ sym (mod-eq-sub-div-mul offset size)
+
+  end_is : part_end size offset count index ≡ offset % size + count
+  end_is = ap (λ i. part_end size offset count i) h.0
+      ∙ own_end offset (offset / size * size) (offset % size) count size (mod-eq-sub-div-mul offset size) (div-mul-le_self offset size) (not_less size (offset % size + count) h.2)
+
+  pub part_is : IsTrue (has_part size offset count index)
+  part_is = less (part_start size offset index) (part_end size offset count index)
+      (let a : part_start size offset index ≡ offset % size = start_is in let b : part_end size offset count index ≡ offset % size + count = end_is in let c : 0 < count = h.3 in omega arith)
+
+  no_earlier : (i : ℕ) → i < index → IsFalse (has_part size offset count i)
+  no_earlier i l =
+      let up : suc i * size ≤ index * size = mul-le-mul_right size (let x : suc i ≤ index = omega arith in x) in
+      let cut : suc i * size ≡ i * size + size = suc-mul i size in
+      let same : index * size ≡ offset / size * size = ap (λ n. n * size) h.0 in
+      at_most (part_start size offset i) (part_end size offset count i)
+      (none_before offset (offset / size * size) (i * size) size count (div-mul-le_self offset size) (let x : i * size + size ≤ offset / size * size = omega arith in x))
+
+  no_later : (i : ℕ) → index < i → IsFalse (has_part size offset count i)
+  no_later i l =
+      let up : suc index * size ≤ i * size = mul-le-mul_right size (let x : suc index ≤ i = omega arith in x) in
+      let cut : suc index * size ≡ index * size + size = suc-mul index size in
+      let same : index * size ≡ offset / size * size = ap (λ n. n * size) h.0 in
+      at_most (part_start size offset i) (part_end size offset count i)
+      (none_behind offset (offset / size * size) (offset % size) (i * size) size count (mod-eq-sub-div-mul offset size) (div-mul-le_self offset size) (not_less size (offset % size + count) h.2)
+      (let x : offset / size * size + size ≤ i * size = omega arith in x))
+
+  pub only_part : (i : ℕ) → IsTrue (has_part size offset count i) → i ≡ index
+  only_part i has =
+      elim (nat_lt i index) as (λ b. nat_lt i index ≡ b → i ≡ index) [
+        | true ↦ λ e. absurd (let both : true ≡ false = sym has ∙ no_earlier i (less_is i index e) in cc)
+        | false ↦ λ e. elim (nat_lt index i) as (λ b. nat_lt index i ≡ b → i ≡ index) [
+          | true ↦ λ f. absurd (let both : true ≡ false = sym has ∙ no_later i (less_is index i f) in cc)
+          | false ↦ λ f. let a = not_less i index e in let b = not_less index i f in omega arith
+        ] refl
+      ] refl
+
+-- an empty range has no part
+pub empty_part : (size offset : ℕ) → (i : ℕ) → IsFalse (has_part size offset 0 i)
+empty_part size offset i = at_most (part_start size offset i) (part_end size offset 0 i) (omega arith)
+
+-- A write of one chunk is done where it has its entry.
+pub write_done : (m : Machine) (oc : OpenCall) (file index : ℕ) → oc.asked.file ≡ Some file → HasSuccess m only_client (call_id oc.number) file index IsWrite
+    → (x : Call) → IsWriteOf m.config.chunk index x → IsDone m only_client oc x answer.Done
+write_done m oc file index is success (call.Write fd offset bytes) h = (
+  subst (λ o. IfSome o (λ f. (i : ℕ) → IsTrue (has_part (chunk_size m f) offset (length bytes) i) → HasSuccess m only_client (call_id oc.number) f i IsWrite)) (sym is)
+      (λ i has. subst (λ j. HasSuccess m only_client (call_id oc.number) file j IsWrite) (sym (only_part m.config.chunk index offset (length bytes) h i has)) success),
+  subst (λ o. IsSome o) (sym is) refl,
+  h.1,
+)
+write_done m oc file index is success other h = absurd h
+
+abbrev IsLast : List Piece → Type 0
+IsLast rest = rest ≡ []
+
+-- A read of one chunk is done where it has its piece.
+pub read_done : (m : Machine) (oc : OpenCall) (file index : ℕ) (bytes rounds : List ℕ) (round : Option ℕ) → oc.asked.file ≡ Some file → Contains oc.pieces (record { index = index; bytes = bytes; round = round })
+    → rounds ≡ filter_map (λ (piece : Piece). piece.round) (record { index = index; bytes = bytes; round = round } ∷ [])
+    → (x : Call) → IsReadOf m.config.chunk index x → IsDone m only_client oc x (answer.Bytes bytes rounds)
+read_done m oc file index bytes rounds round is there same (call.Read fd offset count) h =
+    let size : ℕ = m.config.chunk in
+    let piece : Piece = record { index = index; bytes = bytes; round = round } in
+    let rest : MatchBool (nat_lt (length bytes) (part_length size offset count index)) (IsLast []) (IsFalse (has_part size offset count (suc index))) =
+    elim (nat_lt (length bytes) (part_length size offset count index)) as (λ b. MatchBool b (IsLast []) (IsFalse (has_part size offset count (suc index)))) [
+      | true ↦ refl
+      | false ↦ no_later size index offset count h (suc index) (omega arith)
+    ] in (
+      file,
+      is,
+      piece ∷ [],
+      subst (λ i. IsTrue (has_part size offset count i) × Contains oc.pieces piece × (index ≡ i) × MatchBool (nat_lt (length bytes) (part_length size offset count i)) (IsLast []) (IsFalse (has_part size offset count (suc i)))) h.0
+          (part_is size index offset count h, there, refl, rest),
+      sym (append-nil bytes),
+      same,
+      h.1,
+    )
+read_done m oc file index bytes rounds round is there same other h = absurd h
+
+-- the range of a write lies behind the chunks that the file had
+or_right : (a b c : Bool) → c ≡ true → (a || b || c) ≡ true
+or_right true b true e = refl
+or_right false true true e = refl
+or_right false false true e = refl
+or_right a b false e = absurd (let both : false ≡ true = e in cc)
+
+and_both : (a b : Bool) → a ≡ true → b ≡ true → (a && b) ≡ true
+and_both true true e f = refl
+and_both true false e f = f
+and_both false b e f = e
+
+pub write_too_long : (size index count : ℕ) (before : Option ℕ) (x : Call) → IsWriteOf size index x → before ≡ Some count → count < index → IsTrue (is_too_long size before x)
+write_too_long size index count before (call.Write fd offset bytes) h is l =
+    or_right (is_range_too_long offset (length bytes)) (leaves_chunk size offset (length bytes)) _
+    (and_both (nat_lt 0 (length bytes)) _ (less 0 (length bytes) h.3)
+    (subst (λ o. unwrap_or (option_map (λ n. nat_lt n (offset / size)) o) false ≡ true) (sym is) (less count (offset / size) (let e : index ≡ offset / size = h.0 in omega arith))))
+write_too_long size index count before other h is l = absurd h
+
+by_parts : (a b c : Bool) → b ≡ false → (a && b && c) ≡ false
+by_parts true true c h = cc
+by_parts true false c h = refl
+by_parts false b c h = refl
+
+clash : (b : Bool) → b ≡ true → IsFalse b → ⊥
+clash b e f = let both : true ≡ false = sym e ∙ f in cc
+
+other_call : (n : ℕ) (p : Placed) → IsFalse (p.call == n) → (same_call (call_id n) (entry_of p).call && not (is_pad (entry_of p).mutation)) ≡ false
+other_call n p h = by_parts (only_client == p.numbering.data_id.client.0) (n == p.call) (not (is_pad p.numbering.mutation)) (ne_eqb n p.call (λ e. clash (p.call == n) (eq-eqb p.call n (sym e)) h))
+
+counted : (e : Entry) (es : List Entry) (n : ℕ) → (same_call (call_id n) e.call && not (is_pad e.mutation)) ≡ false
+    → count_by (λ (x : Entry). same_call (call_id n) x.call && not (is_pad x.mutation)) es ≡ 0 → count_by (λ (x : Entry). same_call (call_id n) x.call && not (is_pad x.mutation)) (e ∷ es) ≡ 0
+counted e es n never h =
+    let f : Entry → Bool = λ x. same_call (call_id n) x.call && not (is_pad x.mutation) in
+    ap (λ c. fold (λ (n : ℕ) (x : Entry). n + cond (f x) 1 0) (0 + cond c 1 0) es) never ∙ h
+
+-- a call without an entry has no try in a chunk
+pub none_tried : (ps : List Placed) (handle n : ℕ) → HasNoEntry ps n → count_by (λ (e : Entry). same_call (call_id n) e.call && not (is_pad e.mutation)) (entries_of ps handle) ≡ 0
+none_tried [] handle n h = refl
+none_tried (p ∷ rest) handle n h =
+    let more = none_tried rest handle n (All-tail (λ (x : Placed). IsFalse (x.call == n)) p rest h) in
+    elim (p.numbering.handle.0 == handle) as (λ b. count_by (λ (e : Entry). same_call (call_id n) e.call && not (is_pad e.mutation)) (map entry_of (cond b (p ∷ filter (λ q. q.numbering.handle.0 == handle) rest) (filter (λ q. q.numbering.handle.0 == handle) rest))) ≡ 0) [
+      | true ↦ counted (entry_of p) (entries_of rest handle) n (other_call n p (All-head (λ (x : Placed). IsFalse (x.call == n)) p rest h)) more
+      | false ↦ more
+    ]
+
+-- nor in any number of chunks
+pub none_below : (chunks : ℕ → Chunk) (id : CallId) (n : ℕ) → ((i : ℕ) → tries_in id (chunks i) ≡ 0) → tries_below chunks id n ≡ 0
+none_below chunks id zero h = refl
+none_below chunks id (suc n) h = let a = none_below chunks id n h in let b = h n in omega arith

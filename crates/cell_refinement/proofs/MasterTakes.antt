@@ -1,0 +1,88 @@
+-- Each message that the master takes.
+use Rattle.std.proofs.Common.{◌≡◌, ℕ, zero, suc, ◌+◌, ◌<◌, ◌≤◌, Bool, true, false, cond, List, [], ◌∷◌, length, Option, Some, None, refl, sym, ◌∙◌, subst, arith, nat_lt}
+use Rattle.std.specs.Prelude.{◌==◌, nat_le, slice_get}
+use Rattle.std.specs.FinMap as table
+use Rattle.gfs_types.specs.declared.ids.Node.{Node}
+use Rattle.gfs_types.specs.declared.event.Input.{Input}
+use Rattle.gfs_types.specs.declared.event.Input.TheVariants as input
+use Rattle.gfs_types.specs.declared.message.Body.{Body}
+use Rattle.gfs_types.specs.declared.message.Body.TheVariants as body
+use Rattle.gfs_types.specs.declared.message.Message.{Message}
+use Rattle.gfs_types.specs.declared.message.Wanted.{Wanted}
+use Rattle.gfs_types.specs.declared.message.Wanted.TheVariants as wanted
+use Rattle.gfs_types.specs.declared.refusal.Refusal.TheVariants.{TooLong}
+use Rattle.relaxed_file.specs.Run.{Visible}
+use Rattle.cell_core.specs.Seen.{stays}
+use Rattle.cell_core.specs.Master.{MasterState, master_says}
+use Rattle.cell_core.specs.MasterAsks.{Asker, asks_to_write, asks_of, takes_ask, adds_chunk, mutates_at}
+use Rattle.cell_core.specs.MasterStep.{master_takes, master_does}
+use Rattle.cell_refinement.specs.Known.{Known, IsWriteOf}
+use Rattle.cell_refinement.specs.Says.{Says, SaysBody, SaysAsk, IsReadable}
+use Rattle.cell_refinement.specs.Simulates.{IsFileOf, Holds}
+use Rattle.cell_refinement.proofs.MasterMoves.{MasterOutcome}
+use Rattle.cell_refinement.proofs.MasterSteps.{old, stays_so}
+use Rattle.cell_refinement.proofs.MasterLooks.{looks_so, same_some}
+use Rattle.cell_refinement.proofs.MasterNaming.{names_so}
+use Rattle.cell_refinement.proofs.MasterTells.{looks_at_so, mutates_at_so, refuses_too_long}
+use Rattle.cell_refinement.proofs.MasterGrants.{recorded_so}
+use Rattle.cell_refinement.proofs.MasterAdds.{adds_so}
+
+past_none : {X : Type 0} (xs : List X) (i : ℕ) → slice_get xs i ≡ None → length xs ≤ i
+past_none [] i is = omega arith
+past_none (x ∷ xs) zero is = absurd (let e : Some x ≡ None = is in cc)
+past_none (x ∷ xs) (suc i) is = let l = past_none xs i is in omega arith
+
+module _ (k : Known) (s : MasterState) (up : k.master ≡ Some s) (sent : List Message) (trace : List Visible) (h : Holds k sent trace) where
+  file_is : (file : ℕ) (handles : List ℕ) → IsReadable k file → table.get s.files file ≡ Some handles → IsFileOf k file handles
+  file_is file handles there is =
+      let x = (old k s up sent trace h).files file there in
+      subst (IsFileOf k file) (same_some (table.get s.files file) x.0 handles x.1 is) x.2
+
+  writes_so : (a : Asker) (file index : ℕ) (handles : List ℕ) → table.get s.files file ≡ Some handles → SaysAsk k a.number file (wanted.Write index) → MasterOutcome k (asks_to_write s a file handles index) sent trace
+  writes_so a file index handles is said =
+      let there : IsReadable k file = (said.1.5, said.1.6) in
+      let of : IsFileOf k file handles = file_is file handles there is in
+      elim (nat_lt (length handles) index) as (λ b. nat_lt (length handles) index ≡ b
+      → MasterOutcome k (cond b (master_says s a.client (body.Refused a.number TooLong)) (cond (index == length handles) (adds_chunk s a file handles) (mutates_at s a index (slice_get handles index)))) sent trace) [
+        | true ↦ λ e. refuses_too_long k s up sent trace h a file index handles said.0 said.2 of (let l : length handles < index = grind (arith, e) in l)
+        | false ↦ λ e. elim (index == length handles) as (λ b. (index == length handles) ≡ b → MasterOutcome k (cond b (adds_chunk s a file handles) (mutates_at s a index (slice_get handles index))) sent trace) [
+          | true ↦ λ f.
+              let l : index ≡ length handles = grind (arith, f) in
+              adds_so k s up sent trace h file handles is of said.1.0 said.1.1 said.1.2 said.1.3 (subst (λ n. IsWriteOf k.config.chunk n said.1.1.call) l said.1.4) there a said.0.0
+          | false ↦ λ f. mutates_at_so k s up sent trace h a file index handles (slice_get handles index) said.0
+              (λ x c oc client current at call. let y = said.2 x c oc client current at call in (y.0, y.1)) of refl
+        ] refl
+      ] refl
+
+  asks_by : (a : Asker) (file : ℕ) (w : Wanted) (o : Option (List ℕ)) → table.get s.files file ≡ o → SaysAsk k a.number file w → MasterOutcome k (asks_of s a file w o) sent trace
+  asks_by a file (wanted.Write index) None is said = absurd (let x = (old k s up sent trace h).files file (said.1.5, said.1.6) in let e : None ≡ Some x.0 = sym is ∙ x.1 in cc)
+  asks_by a file (wanted.Read index) None is said = absurd (let x = (old k s up sent trace h).files file said.1 in let e : None ≡ Some x.0 = sym is ∙ x.1 in cc)
+  asks_by a file (wanted.Write index) (Some handles) is said = writes_so a file index handles is said
+  asks_by a file (wanted.Read index) (Some handles) is said =
+      looks_at_so k s up sent trace h a file index handles (slice_get handles index) said.0 said.2 (file_is file handles said.1 is) refl (λ e. past_none handles index e)
+  asks_by a file other o is said = absurd said
+
+  pub asks_so : (client : Node) (number file : ℕ) (w : Wanted) (deadline : ℕ) → SaysAsk k number file w → MasterOutcome k (takes_ask s client number file w deadline) sent trace
+  asks_so client number file w deadline said =
+      elim (nat_le deadline s.now) as (λ b. MasterOutcome k (cond b (stays s) (asks_of s (record { client = client; number = number }) file w (table.get s.files file))) sent trace) [
+        | true ↦ stays_so k s up sent trace h
+        | false ↦ asks_by (record { client = client; number = number }) file w (table.get s.files file) refl said
+      ]
+
+  module _ (clock : k.greatest ≤ s.now + k.config.skew_ms) where
+    pub takes_so : (refused : Bool) (x : Message) (b : Body) → SaysBody k b → MasterOutcome k (master_takes s refused x b) sent trace
+    takes_so refused x (body.Name number deadline c) said = names_so k s up sent trace h x.sender number clock deadline.0 c refused said
+    takes_so refused x (body.Look number c) said = looks_so k s up sent trace h x.sender number c said
+    takes_so refused x (body.Ask number file w deadline lost) said = asks_so x.sender number file.0 w deadline.0 said
+    takes_so refused x (body.Recorded handle version) said = recorded_so k s up sent trace h handle.0 version.0
+    takes_so refused x other said = stays_so k s up sent trace h
+
+    -- what was said is so, for a message
+    abbrev pub IsSaid : Input → Type 0
+    IsSaid (input.Deliver x) = Says k x
+    IsSaid input.Tick = Unit {0}
+
+    -- a step of the master, on a message or a tick
+    pub does_so : (refused : Bool) (i : Input) → IsSaid i → MasterOutcome k (master_does s refused i) sent trace
+    does_so refused (input.Deliver x) said = takes_so refused x x.body said
+    does_so refused input.Tick said = stays_so k s up sent trace h

@@ -1,0 +1,4 @@
+pub mod Known
+pub mod Says
+pub mod Simulates
+pub mod Headline
