@@ -2,8 +2,8 @@
 use Rattle.std.specs.Prelude.{ℕ, List}
 use Rattle.gfs_types.specs.declared.answer.Answer.{Answer}
 use Rattle.relaxed_file.specs.Run.{Visible}
-use Rattle.cell_core.specs.declared.observer.Placed.{Placed}
-use Rattle.cell_core.specs.Observer.{Observer}
+use Rattle.cell_protocol.specs.declared.observer.Placed.{Placed}
+use Rattle.cell_protocol.specs.Observer.{Observer}
 
 pub record Roomy : Type 0 where
   pub items : List Visible

@@ -3,27 +3,27 @@
 ghost use Rattle.std.specs.Prelude.{◌≡◌, ◌≤◌, ◌<◌, ◌++◌, Some, None, false, IfOk, OnOk, OnErr};
 ghost use Rattle.gfs_types.specs.declared.event.Event.TheVariants as event;
 ghost use Rattle.gfs_types.specs.declared.ids.Node.TheVariants as node_kind;
-ghost use Rattle.cell_core.specs.Doing.{input_of, message_named};
-ghost use Rattle.cell_core.specs.Moving.{Moves};
-ghost use Rattle.cell_core.specs.Sending.{client_id, server_id};
-ghost use Rattle.cell_core.specs.Tables.{moment_limit};
-ghost use Rattle.cell_core.specs.Bounds.{Fits};
-ghost use Rattle.cell_core.specs.World.{new_world, all_sent};
-ghost use Rattle.cell_core.specs.Conforms.{WorldSteps};
+ghost use Rattle.cell_protocol.specs.Doing.{input_of, message_named};
+ghost use Rattle.cell_protocol.specs.Moving.{Moves};
+ghost use Rattle.cell_protocol.specs.Sending.{client_id, server_id};
+ghost use Rattle.cell_protocol.specs.Tables.{moment_limit};
+ghost use Rattle.cell_protocol.specs.Bounds.{Fits};
+ghost use Rattle.cell_protocol.specs.World.{new_world, all_sent};
+ghost use Rattle.cell_protocol.specs.Conforms.{WorldSteps};
 
-use crate::client::Client;
-use crate::effects::Outcome;
-use crate::limits::MOMENT_LIMIT;
-use crate::master::{Master, NamesFault};
 use crate::network::Network;
-use crate::server::Server;
 use crate::watch::Watch;
+use cell_protocol::effects::Outcome;
+use cell_protocol::limits::MOMENT_LIMIT;
+use client::client::Client;
 use gfs_types::answer::Answer;
 use gfs_types::call::Call;
 use gfs_types::config::Config;
 use gfs_types::event::{Event, StepOut};
 use gfs_types::ids::{Moment, Node};
 use gfs_types::no_memory::NoMemory;
+use master_cell::master::{Master, NamesFault};
+use server_cell::server::Server;
 use std::alloc::{Allocator, Global};
 use std::marker::Model;
 
@@ -43,8 +43,8 @@ impl<A: Allocator> Model for Cell<A> {
     ghost use Rattle.std.specs.Prelude.{◌<◌, Some, IsSome, is_some};
     ghost use Rattle.std.specs.Coded.{codes, coded_ℕ, coded_list};
     ghost use Rattle.std.specs.FinMap as map;
-    ghost use Rattle.cell_core.specs.World.{WorldState};
-    ghost use Rattle.cell_core.specs.Bounds.{Fits};
+    ghost use Rattle.cell_protocol.specs.World.{WorldState};
+    ghost use Rattle.cell_protocol.specs.Bounds.{Fits};
 
     ghost Value = { WorldState };
 

@@ -2,9 +2,9 @@
 
 ghost use Rattle.std.specs.Prelude.{◌≡◌, ◌+◌, [], ◌<◌, ◌^◌, length, OnOk, OnErr, IfOk};
 ghost use Rattle.std.specs.Option.{option_copied};
-ghost use Rattle.cell_core.specs.Tables.{numbered_from_1};
-ghost use Rattle.cell_core.specs.Doing.{message_named};
-ghost use Rattle.cell_core.specs.World.{all_sent, stamped};
+ghost use Rattle.cell_protocol.specs.Tables.{numbered_from_1};
+ghost use Rattle.cell_protocol.specs.Doing.{message_named};
+ghost use Rattle.cell_protocol.specs.World.{all_sent, stamped};
 
 use gfs_types::message::Message;
 use gfs_types::message_lists::MessageList;

@@ -2,7 +2,7 @@
 
 ghost use Rattle.std.specs.Prelude.{◌≡◌, ◌+◌, ◌<◌, ◌≤◌, [], ◌∷◌, ◌++◌, OnOk, IfOk};
 
-use crate::observer::Placed;
+use cell_protocol::observer::Placed;
 use gfs_types::no_memory::NoMemory;
 use std::alloc::Global;
 use std::marker::Model;

@@ -1,9 +1,9 @@
 //! The calls and answers in one order, and how far the clock has come, with room that is kept for what comes.
 
 ghost use Rattle.std.specs.Prelude.{◌≡◌, ◌+◌, ◌<◌, ◌≤◌, [], ◌∷◌, ◌++◌, OnOk, IfOk};
-ghost use Rattle.cell_core.specs.Observer.{visible_of};
+ghost use Rattle.cell_protocol.specs.Observer.{visible_of};
 
-use crate::observer::Sight;
+use cell_protocol::observer::Sight;
 use gfs_types::no_memory::NoMemory;
 use std::alloc::Global;
 use std::marker::Model;
@@ -16,7 +16,7 @@ struct Seen {
 
 impl Model for Seen {
     ghost use Rattle.relaxed_file.specs.Run.{Visible};
-    ghost use Rattle.cell_core.specs.Observer.{visible_of};
+    ghost use Rattle.cell_protocol.specs.Observer.{visible_of};
 
     ghost Value = { Visible };
 

@@ -1,13 +1,13 @@
 //! The observer of a cell, with room for what the next event shows. No node reads it (section 2.7).
 
 ghost use Rattle.std.specs.Prelude.{◌≡◌, ◌+◌, ◌<◌, ◌≤◌, OnOk, IfOk};
-ghost use Rattle.cell_core.specs.Observer.{new_observer, observed_moment, observed_call, observed_answer, observed};
-ghost use Rattle.cell_core.specs.Tables.{moment_limit};
+ghost use Rattle.cell_protocol.specs.Observer.{new_observer, observed_moment, observed_call, observed_answer, observed};
+ghost use Rattle.cell_protocol.specs.Tables.{moment_limit};
 
-use crate::observer::{Placed, Sight};
 use crate::placings::Placings;
-use crate::seen::Numbering;
 use crate::sights::Trace;
+use cell_protocol::observer::{Placed, Sight};
+use cell_protocol::seen::Numbering;
 use gfs_types::answer::Answer;
 use gfs_types::call::Call;
 use gfs_types::ids::{ClientId, Moment};

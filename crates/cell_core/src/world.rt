@@ -2,19 +2,19 @@
 
 ghost use Rattle.std.specs.Prelude.{◌≡◌, IfOk, OnErr, length};
 ghost use Rattle.std.specs.Option.{option_copied};
-ghost use Rattle.cell_core.specs.Tables.{numbered_from_1};
-ghost use Rattle.cell_core.specs.Bounds.{Fits};
-ghost use Rattle.cell_core.specs.World.{new_world};
+ghost use Rattle.cell_protocol.specs.Tables.{numbered_from_1};
+ghost use Rattle.cell_protocol.specs.Bounds.{Fits};
+ghost use Rattle.cell_protocol.specs.World.{new_world};
 
 use crate::answers::Answers;
 use crate::cell::Cell;
 use crate::fault::{RunFault, StartFault};
-use crate::master::NamesFault;
 use gfs_types::answer::Answer;
 use gfs_types::config::{Config, ConfigFault};
 use gfs_types::event::Event;
 use gfs_types::message::Message;
 use gfs_types::no_memory::NoMemory;
+use master_cell::master::NamesFault;
 use std::alloc::{Allocator, Global};
 use std::collections::VecDeque;
 use std::marker::Model;
@@ -28,7 +28,7 @@ pub struct World<A: Allocator> {
 impl<A: Allocator> Model for World<A> {
     ghost use Rattle.std.specs.Coded.{codes, coded_ℕ, coded_list};
     ghost use Rattle.std.specs.FinMap as map;
-    ghost use Rattle.cell_core.specs.World.{WorldState};
+    ghost use Rattle.cell_protocol.specs.World.{WorldState};
 
     ghost Value = { WorldState };
 

@@ -5,14 +5,14 @@ use Rattle.gfs_types.specs.declared.call.Call.{Call}
 use Rattle.gfs_types.specs.declared.message.Message.{Message}
 use Rattle.relaxed_file.specs.Machine.{Client, OpenCall, Asked, Opens}
 use Rattle.relaxed_file.specs.Run.{IsRunTo, Visible}
-use Rattle.cell_core.specs.declared.stage.Stage.{Stage}
-use Rattle.cell_core.specs.declared.stage.CurrentCall.{CurrentCall}
+use Rattle.cell_protocol.specs.declared.stage.Stage.{Stage}
+use Rattle.cell_protocol.specs.declared.stage.CurrentCall.{CurrentCall}
 use Rattle.std.proofs.lemmas.List.Elements.{All-weaker}
-use Rattle.cell_core.specs.declared.observer.Placed.{Placed}
-use Rattle.cell_core.specs.Sending.{only_client}
-use Rattle.cell_core.specs.Server.{ServerState}
-use Rattle.cell_core.specs.Master.{MasterState}
-use Rattle.cell_core.specs.Client.{ClientState}
+use Rattle.cell_protocol.specs.declared.observer.Placed.{Placed}
+use Rattle.cell_protocol.specs.Sending.{only_client}
+use Rattle.cell_protocol.specs.Server.{ServerState}
+use Rattle.cell_protocol.specs.Master.{MasterState}
+use Rattle.cell_protocol.specs.Client.{ClientState}
 use Rattle.cell_refinement.specs.Known.{Known, Attempt, IsAttempt, open_call_of, the_client_of, calls_made}
 use Rattle.cell_refinement.specs.Says.{IsNumbered, IsAnew, IsUntil, IsNameOf, IsPast, IsReadable, MayStillPlace, MayComeTo}
 use Rattle.cell_refinement.specs.Simulates.{AreUnique, IsMachine, IsChunkAt, IsMaster, IsServer, IsClient, Holds}

@@ -15,17 +15,17 @@ use Rattle.relaxed_file.specs.Machine.{Machine, OpenCall, Outcome, Opens, Replie
 use Rattle.relaxed_file.specs.Run.{Visible, ReturnFd}
 use Rattle.relaxed_file.specs.Answers.{MayReturn, IsDone, may_give_up, uses_chunks, returned_fd}
 use Rattle.relaxed_file.proofs.GoingOn.{runs_go_on}
-use Rattle.cell_core.specs.declared.stage.Stage.TheVariants as stage
-use Rattle.cell_core.specs.declared.stage.CurrentCall.{CurrentCall}
-use Rattle.cell_core.specs.Sending.{only_client}
-use Rattle.cell_core.specs.Client.{ClientState, answers, closed, waits}
-use Rattle.cell_core.specs.ClientAttempts.{is_write, gives_up, last_refusal, refuses_live}
-use Rattle.cell_core.specs.ClientTakes.{opens, with_descriptor}
+use Rattle.cell_protocol.specs.declared.stage.Stage.TheVariants as stage
+use Rattle.cell_protocol.specs.declared.stage.CurrentCall.{CurrentCall}
+use Rattle.cell_protocol.specs.Sending.{only_client}
+use Rattle.cell_protocol.specs.Client.{ClientState, answers, closed, waits}
+use Rattle.cell_protocol.specs.ClientAttempts.{is_write, gives_up, last_refusal, refuses_live}
+use Rattle.cell_protocol.specs.ClientTakes.{opens, with_descriptor}
 use Rattle.cell_refinement.specs.Known.{Known, IsChunkCall, the_client_of, calls_made}
 use Rattle.cell_refinement.specs.Says.{IsLate, IsReadable}
 use Rattle.cell_refinement.specs.Simulates.{HasAttempt, Holds}
 use Rattle.std.proofs.lemmas.Bool.{eq-eqb, eqb-true}
-use Rattle.cell_core.specs.Tables.{Table}
+use Rattle.cell_protocol.specs.Tables.{Table}
 use Rattle.cell_refinement.proofs.Serving.{at_insert}
 use Rattle.cell_refinement.proofs.ClientGoes.{ClientOutcome, IsAt}
 use Rattle.cell_refinement.proofs.ClientSteps.{old, unlearned, must_refuse_so}

@@ -9,10 +9,10 @@ use Rattle.gfs_types.specs.declared.answer.Answer.{Answer}
 use Rattle.gfs_types.specs.declared.message.Message.{Message}
 use Rattle.relaxed_file.specs.Machine.{Machine, Client, OpenCall, Asked, Opens, put}
 use Rattle.relaxed_file.specs.Run.{IsRunTo, Visible, Called, asked_now, file_of}
-use Rattle.cell_core.specs.declared.stage.CurrentCall.{CurrentCall}
-use Rattle.cell_core.specs.Sending.{only_client}
-use Rattle.cell_core.specs.Client.{ClientState}
-use Rattle.cell_core.specs.Observer.{answered}
+use Rattle.cell_protocol.specs.declared.stage.CurrentCall.{CurrentCall}
+use Rattle.cell_protocol.specs.Sending.{only_client}
+use Rattle.cell_protocol.specs.Client.{ClientState}
+use Rattle.cell_protocol.specs.Observer.{answered}
 use Rattle.cell_refinement.specs.Known.{Known, open_call_of, the_client_of, calls_made}
 use Rattle.cell_refinement.specs.Says.{Says, IsReadable}
 use Rattle.cell_refinement.specs.Simulates.{IsClient, AreTheSame, Holds}

@@ -15,19 +15,19 @@ use Rattle.relaxed_file.specs.Run.{IsRunTo, Visible, Called, Answered, Invoke, R
 use Rattle.relaxed_file.specs.Chunks.{tries_in}
 use Rattle.relaxed_file.specs.Answers.{MayReturn, returned, is_too_long}
 use Rattle.relaxed_file.proofs.GoingOn.{runs_go_on}
-use Rattle.cell_core.specs.declared.stage.Stage.{Stage}
-use Rattle.cell_core.specs.declared.stage.Stage.TheVariants as stage
-use Rattle.cell_core.specs.declared.stage.CurrentCall.{CurrentCall}
-use Rattle.cell_core.specs.declared.observer.Placed.{Placed}
-use Rattle.cell_core.specs.Sending.{only_client}
-use Rattle.cell_core.specs.Client.{ClientState, answers}
-use Rattle.cell_core.specs.ClientAttempts.{new_call, attempts_names, asks}
+use Rattle.cell_protocol.specs.declared.stage.Stage.{Stage}
+use Rattle.cell_protocol.specs.declared.stage.Stage.TheVariants as stage
+use Rattle.cell_protocol.specs.declared.stage.CurrentCall.{CurrentCall}
+use Rattle.cell_protocol.specs.declared.observer.Placed.{Placed}
+use Rattle.cell_protocol.specs.Sending.{only_client}
+use Rattle.cell_protocol.specs.Client.{ClientState, answers}
+use Rattle.cell_protocol.specs.ClientAttempts.{new_call, attempts_names, asks}
 use Rattle.cell_refinement.specs.Known.{Known, Spot, Attempt, IsChunkCall, HasNoEntry, open_call_of, the_client_of, calls_made, chunk_of, call_id}
 use Rattle.cell_refinement.specs.Says.{Says, IsNameOf}
 use Rattle.cell_refinement.specs.Simulates.{IsClient, FitsStage, IsCurrent, Holds}
 use Rattle.gfs_types.specs.declared.ids.Node.TheVariants.{Master}
 use Rattle.gfs_types.specs.declared.message.Body.TheVariants as body
-use Rattle.cell_core.specs.Client.{goes_on}
+use Rattle.cell_protocol.specs.Client.{goes_on}
 use Rattle.cell_refinement.proofs.Later.{IsWaiting}
 use Rattle.cell_refinement.proofs.ClientActs.{acting, some_at}
 use Rattle.cell_refinement.proofs.ClientGoes.{ClientOutcome}

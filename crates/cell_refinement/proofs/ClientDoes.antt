@@ -17,16 +17,16 @@ use Rattle.gfs_types.specs.declared.event.Input.{Input}
 use Rattle.gfs_types.specs.declared.event.Input.TheVariants as input
 use Rattle.relaxed_file.specs.Machine.{OpenCall, Asked}
 use Rattle.relaxed_file.specs.Run.{Visible}
-use Rattle.cell_core.specs.declared.stage.Stage.{Stage}
-use Rattle.cell_core.specs.declared.stage.Stage.TheVariants as stage
-use Rattle.cell_core.specs.declared.stage.CurrentCall.{CurrentCall}
-use Rattle.cell_core.specs.declared.stage.ToldChunk.{ToldChunk}
-use Rattle.cell_core.specs.Sending.{only_client, the_server}
-use Rattle.cell_core.specs.Seen.{Does, stays}
-use Rattle.cell_core.specs.Client.{ClientState, goes_on}
-use Rattle.cell_core.specs.ClientAttempts.{is_write, target_of, place_in_chunk, refuses_live}
-use Rattle.cell_core.specs.ClientTakes.{takes_named, takes_wait, told_location, told, takes_told, is_own_data, takes_pushed, takes_done, takes_bytes, takes_refused, client_takes}
-use Rattle.cell_core.specs.ClientStep.{ticks_unanswered, ticks_at, takes_at, client_does}
+use Rattle.cell_protocol.specs.declared.stage.Stage.{Stage}
+use Rattle.cell_protocol.specs.declared.stage.Stage.TheVariants as stage
+use Rattle.cell_protocol.specs.declared.stage.CurrentCall.{CurrentCall}
+use Rattle.cell_protocol.specs.declared.stage.ToldChunk.{ToldChunk}
+use Rattle.cell_protocol.specs.Sending.{only_client, the_server}
+use Rattle.cell_protocol.specs.Seen.{Does, stays}
+use Rattle.cell_protocol.specs.Client.{ClientState, goes_on}
+use Rattle.cell_protocol.specs.ClientAttempts.{is_write, target_of, place_in_chunk, refuses_live}
+use Rattle.cell_protocol.specs.ClientTakes.{takes_named, takes_wait, told_location, told, takes_told, is_own_data, takes_pushed, takes_done, takes_bytes, takes_refused, client_takes}
+use Rattle.cell_protocol.specs.ClientStep.{ticks_unanswered, ticks_at, takes_at, client_does}
 use Rattle.cell_refinement.specs.Known.{Known, Attempt, IsAttempt, IsChunkCall, HasNoEntry, open_call_of, the_client_of, calls_made}
 use Rattle.cell_refinement.specs.Says.{Says, SaysBody, SaysNamed, SaysTold, SaysDone, SaysBytes, SaysRefused, IsGranted, IsPast, MayComeTo}
 use Rattle.cell_refinement.specs.Simulates.{IsClient, IsAsking, IsAttemptOf, HasAttempt, FitsStage, AreTheSame, Holds}

@@ -12,11 +12,11 @@ use Rattle.relaxed_file.specs.Machine.{Machine, Client, OpenCall, Asked, put}
 use Rattle.relaxed_file.specs.Run.{IsRunTo, Visible, Answered, Return}
 use Rattle.relaxed_file.specs.Answers.{MayReturn, returned, descriptors_after, uses_chunks}
 use Rattle.relaxed_file.proofs.GoingOn.{runs_go_on}
-use Rattle.cell_core.specs.declared.stage.CurrentCall.{CurrentCall}
-use Rattle.cell_core.specs.Sending.{only_client}
-use Rattle.cell_core.specs.Server.{ServerState}
-use Rattle.cell_core.specs.Master.{MasterState}
-use Rattle.cell_core.specs.Client.{ClientState, answers, closed}
+use Rattle.cell_protocol.specs.declared.stage.CurrentCall.{CurrentCall}
+use Rattle.cell_protocol.specs.Sending.{only_client}
+use Rattle.cell_protocol.specs.Server.{ServerState}
+use Rattle.cell_protocol.specs.Master.{MasterState}
+use Rattle.cell_protocol.specs.Client.{ClientState, answers, closed}
 use Rattle.cell_refinement.specs.Known.{Known, Attempt, the_client_of, calls_made, kept_number}
 use Rattle.cell_refinement.specs.Says.{Says, IsLate, IsOver, IsReadable}
 use Rattle.cell_refinement.specs.Simulates.{IsClient, HasAttempt, AreTheSame, Holds}

@@ -6,11 +6,11 @@ use Rattle.relaxed_file.specs.NameStep.{is_name_call}
 use Rattle.gfs_types.specs.declared.message.Message.{Message}
 use Rattle.relaxed_file.specs.Machine.{Machine, Client, OpenCall, Asked, Opens}
 use Rattle.relaxed_file.specs.Run.{IsRunTo, Visible}
-use Rattle.cell_core.specs.declared.stage.CurrentCall.{CurrentCall}
-use Rattle.cell_core.specs.Sending.{only_client}
-use Rattle.cell_core.specs.Seen.{Does}
-use Rattle.cell_core.specs.Client.{ClientState}
-use Rattle.cell_core.specs.Observer.{answered}
+use Rattle.cell_protocol.specs.declared.stage.CurrentCall.{CurrentCall}
+use Rattle.cell_protocol.specs.Sending.{only_client}
+use Rattle.cell_protocol.specs.Seen.{Does}
+use Rattle.cell_protocol.specs.Client.{ClientState}
+use Rattle.cell_protocol.specs.Observer.{answered}
 use Rattle.cell_refinement.specs.Known.{Known, Attempt, IsAttempt, open_call_of, the_client_of, calls_made}
 use Rattle.cell_refinement.specs.Says.{Says, IsPast}
 use Rattle.cell_refinement.specs.Simulates.{AreUnique, IsClient, FitsStage, HasAttempt, IsCurrent, AreTheSame, Holds}

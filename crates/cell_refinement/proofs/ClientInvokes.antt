@@ -14,11 +14,11 @@ use Rattle.relaxed_file.specs.Parts.{has_part, is_range_too_long, leaves_chunk}
 use Rattle.relaxed_file.specs.Machine.{OpenCall}
 use Rattle.relaxed_file.specs.Run.{Visible, Called, file_of, invoked}
 use Rattle.relaxed_file.specs.Answers.{HasSuccess, IsWrite}
-use Rattle.cell_core.specs.declared.stage.CurrentCall.{CurrentCall}
-use Rattle.cell_core.specs.Sending.{only_client}
-use Rattle.cell_core.specs.Seen.{Does}
-use Rattle.cell_core.specs.Client.{ClientState, answers}
-use Rattle.cell_core.specs.ClientStep.{is_refused_range, calls_on, calls, is_served}
+use Rattle.cell_protocol.specs.declared.stage.CurrentCall.{CurrentCall}
+use Rattle.cell_protocol.specs.Sending.{only_client}
+use Rattle.cell_protocol.specs.Seen.{Does}
+use Rattle.cell_protocol.specs.Client.{ClientState, answers}
+use Rattle.cell_protocol.specs.ClientStep.{is_refused_range, calls_on, calls, is_served}
 use Rattle.cell_refinement.specs.Known.{Known, IsInChunk, open_call_of, the_client_of, calls_made, call_id}
 use Rattle.cell_refinement.specs.Simulates.{IsClient, AreTheSame, Holds}
 use Rattle.cell_refinement.proofs.ClientActs.{some_at}

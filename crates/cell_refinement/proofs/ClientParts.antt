@@ -14,9 +14,9 @@ use Rattle.relaxed_file.specs.Parts.{has_part, part_start, part_end, part_length
 use Rattle.relaxed_file.specs.Machine.{Machine, Chunk, OpenCall, Piece, chunk_size}
 use Rattle.relaxed_file.specs.Chunks.{tries_in, tries_below}
 use Rattle.relaxed_file.specs.Answers.{IsDone, HasSuccess, IsWrite, is_too_long}
-use Rattle.cell_core.specs.declared.observer.Placed.{Placed}
-use Rattle.cell_core.specs.Sending.{only_client}
-use Rattle.cell_core.specs.Observer.{entries_of, entry_of}
+use Rattle.cell_protocol.specs.declared.observer.Placed.{Placed}
+use Rattle.cell_protocol.specs.Sending.{only_client}
+use Rattle.cell_protocol.specs.Observer.{entries_of, entry_of}
 use Rattle.cell_refinement.specs.Known.{IsInChunk, IsWriteOf, IsReadOf, HasNoEntry, call_id}
 
 less : (a b : ℕ) → a < b → IsTrue (nat_lt a b)

@@ -8,13 +8,13 @@ use Rattle.gfs_types.specs.declared.refusal.Refusal.TheVariants.{Failed}
 use Rattle.gfs_types.specs.declared.message.Message.{Message}
 use Rattle.relaxed_file.specs.Machine.{Client, OpenCall, Asked}
 use Rattle.relaxed_file.specs.Run.{Visible}
-use Rattle.cell_core.specs.declared.stage.Stage.{Stage}
-use Rattle.cell_core.specs.declared.stage.Stage.TheVariants as stage
-use Rattle.cell_core.specs.declared.stage.CurrentCall.{CurrentCall}
-use Rattle.cell_core.specs.Seen.{stays}
-use Rattle.cell_core.specs.Client.{ClientState, waits}
-use Rattle.cell_core.specs.ClientAttempts.{asks, wanted_by, is_write}
-use Rattle.cell_core.specs.ClientTakes.{told_nobody}
+use Rattle.cell_protocol.specs.declared.stage.Stage.{Stage}
+use Rattle.cell_protocol.specs.declared.stage.Stage.TheVariants as stage
+use Rattle.cell_protocol.specs.declared.stage.CurrentCall.{CurrentCall}
+use Rattle.cell_protocol.specs.Seen.{stays}
+use Rattle.cell_protocol.specs.Client.{ClientState, waits}
+use Rattle.cell_protocol.specs.ClientAttempts.{asks, wanted_by, is_write}
+use Rattle.cell_protocol.specs.ClientTakes.{told_nobody}
 use Rattle.cell_refinement.specs.Known.{Known, Attempt, IsAttempt, IsChunkCall, IsWriteOf, the_client_of, calls_made}
 use Rattle.cell_refinement.specs.Says.{Says, IsPast, IsReadable, IsAskNumber, SaysAsk}
 use Rattle.cell_refinement.specs.Simulates.{AreUnique, IsClient, IsAsking, FitsStage, HasAttempt, Holds}

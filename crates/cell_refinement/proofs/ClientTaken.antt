@@ -17,14 +17,14 @@ use Rattle.relaxed_file.specs.Machine.{OpenCall, chunk_count}
 use Rattle.relaxed_file.specs.Run.{Visible}
 use Rattle.relaxed_file.specs.Chunks.{tries_in, tries_below}
 use Rattle.relaxed_file.specs.Answers.{HasSuccess, IsWrite, may_give_up}
-use Rattle.cell_core.specs.declared.stage.Stage.TheVariants as stage
-use Rattle.cell_core.specs.declared.stage.CurrentCall.{CurrentCall}
-use Rattle.cell_core.specs.declared.stage.ToldChunk.{ToldChunk}
-use Rattle.cell_core.specs.Sending.{only_client}
-use Rattle.cell_core.specs.Server.{ServerState}
-use Rattle.cell_core.specs.Client.{ClientState, answers}
-use Rattle.cell_core.specs.ClientAttempts.{is_write}
-use Rattle.cell_core.specs.ClientTakes.{master_refuses, primary_refuses}
+use Rattle.cell_protocol.specs.declared.stage.Stage.TheVariants as stage
+use Rattle.cell_protocol.specs.declared.stage.CurrentCall.{CurrentCall}
+use Rattle.cell_protocol.specs.declared.stage.ToldChunk.{ToldChunk}
+use Rattle.cell_protocol.specs.Sending.{only_client}
+use Rattle.cell_protocol.specs.Server.{ServerState}
+use Rattle.cell_protocol.specs.Client.{ClientState, answers}
+use Rattle.cell_protocol.specs.ClientAttempts.{is_write}
+use Rattle.cell_protocol.specs.ClientTakes.{master_refuses, primary_refuses}
 use Rattle.cell_refinement.specs.Known.{Known, Spot, Attempt, IsChunkCall, IsWriteOf, IsReadOf, HasEntry, HasNoEntry, the_client_of, calls_made, chunk_of, call_id, kept_seq}
 use Rattle.cell_refinement.specs.Says.{SaysDone, SaysBytes, IsRefusedAsk, IsRefusedAttempt, IsOver}
 use Rattle.cell_refinement.specs.Simulates.{IsAsking, IsAttemptOf, HasAttempt, FitsStage, Holds}

@@ -15,14 +15,14 @@ use Rattle.relaxed_file.specs.Machine.{Client, OpenCall, NoSuchChunk, Piece, put
 use Rattle.relaxed_file.specs.Reads.{noted, looked_past}
 use Rattle.relaxed_file.specs.Run.{IsRunTo, Visible, Note, LookPast}
 use Rattle.relaxed_file.proofs.GoingOn.{runs_go_on}
-use Rattle.cell_core.specs.declared.stage.Stage.{Stage}
-use Rattle.cell_core.specs.declared.stage.Stage.TheVariants as stage
-use Rattle.cell_core.specs.declared.stage.CurrentCall.{CurrentCall}
-use Rattle.cell_core.specs.declared.stage.ToldChunk.{ToldChunk}
-use Rattle.cell_core.specs.Sending.{only_client, only_server}
-use Rattle.cell_core.specs.Client.{ClientState, answers}
-use Rattle.cell_core.specs.ClientAttempts.{is_write, pushes, reads_at, told_at, bytes_to_send, place_in_chunk, count_to_read}
-use Rattle.cell_core.specs.ClientTakes.{told_nobody}
+use Rattle.cell_protocol.specs.declared.stage.Stage.{Stage}
+use Rattle.cell_protocol.specs.declared.stage.Stage.TheVariants as stage
+use Rattle.cell_protocol.specs.declared.stage.CurrentCall.{CurrentCall}
+use Rattle.cell_protocol.specs.declared.stage.ToldChunk.{ToldChunk}
+use Rattle.cell_protocol.specs.Sending.{only_client, only_server}
+use Rattle.cell_protocol.specs.Client.{ClientState, answers}
+use Rattle.cell_protocol.specs.ClientAttempts.{is_write, pushes, reads_at, told_at, bytes_to_send, place_in_chunk, count_to_read}
+use Rattle.cell_protocol.specs.ClientTakes.{told_nobody}
 use Rattle.cell_refinement.specs.Known.{Known, Spot, Attempt, IsAttempt, IsWriteOf, IsReadOf, IsMutationOf, the_client_of, calls_made}
 use Rattle.cell_refinement.specs.Says.{IsGranted, IsPast}
 use Rattle.cell_refinement.specs.Simulates.{AreUnique, IsAsking, IsToldAt, HasAttempt, FitsStage, Holds}

@@ -6,21 +6,21 @@ use Rattle.gfs_types.specs.declared.config.Config.{Config}
 use Rattle.gfs_types.specs.Image.{image}
 use Rattle.relaxed_file.specs.Order.{mutations_of}
 use Rattle.relaxed_file.specs.Machine.{Chunk, OpenCall, Replies, chunk_count}
-use Rattle.cell_core.specs.declared.rows.ChunkRow.{ChunkRow}
-use Rattle.cell_core.specs.declared.rows.KeptCall.{KeptCall}
-use Rattle.cell_core.specs.declared.stage.Stage.{Stage}
-use Rattle.cell_core.specs.declared.stage.Stage.TheVariants as stage
-use Rattle.cell_core.specs.declared.stage.CurrentCall.{CurrentCall}
-use Rattle.cell_core.specs.declared.stage.ToldChunk.{ToldChunk}
-use Rattle.cell_core.specs.declared.standing.Standing.{Standing}
-use Rattle.cell_core.specs.declared.standing.Standing.TheVariants.{Settled, Denied}
-use Rattle.cell_core.specs.declared.standing.LeaseHeld.{LeaseHeld}
-use Rattle.cell_core.specs.declared.standing.Kept.{Kept}
-use Rattle.cell_core.specs.Server.{ServerState, Replica}
-use Rattle.cell_core.specs.Master.{MasterState}
-use Rattle.cell_core.specs.MasterNames.{reply_of}
-use Rattle.cell_core.specs.Client.{ClientState}
-use Rattle.cell_core.specs.Observer.{entries_of}
+use Rattle.cell_protocol.specs.declared.rows.ChunkRow.{ChunkRow}
+use Rattle.cell_protocol.specs.declared.rows.KeptCall.{KeptCall}
+use Rattle.cell_protocol.specs.declared.stage.Stage.{Stage}
+use Rattle.cell_protocol.specs.declared.stage.Stage.TheVariants as stage
+use Rattle.cell_protocol.specs.declared.stage.CurrentCall.{CurrentCall}
+use Rattle.cell_protocol.specs.declared.stage.ToldChunk.{ToldChunk}
+use Rattle.cell_protocol.specs.declared.standing.Standing.{Standing}
+use Rattle.cell_protocol.specs.declared.standing.Standing.TheVariants.{Settled, Denied}
+use Rattle.cell_protocol.specs.declared.standing.LeaseHeld.{LeaseHeld}
+use Rattle.cell_protocol.specs.declared.standing.Kept.{Kept}
+use Rattle.cell_protocol.specs.Server.{ServerState, Replica}
+use Rattle.cell_protocol.specs.Master.{MasterState}
+use Rattle.cell_protocol.specs.MasterNames.{reply_of}
+use Rattle.cell_protocol.specs.Client.{ClientState}
+use Rattle.cell_protocol.specs.Observer.{entries_of}
 use Rattle.cell_refinement.specs.Known.{Known, Spot, Attempt, HasNoEntry, IsChunkCall, IsWriteOf, IsReadOf, open_call_of, the_client_of, calls_made, chunk_of}
 use Rattle.gfs_types.specs.declared.ids.DataId.{DataId}
 use Rattle.std.proofs.lemmas.List.Elements.{All-weaker}

@@ -5,10 +5,10 @@ use Rattle.gfs_types.specs.declared.call.Call.{Call}
 use Rattle.gfs_types.specs.declared.message.Message.{Message}
 use Rattle.relaxed_file.specs.Machine.{OpenCall, Offer, Piece, Opens, with_step}
 use Rattle.relaxed_file.specs.Run.{IsRunTo, Visible}
-use Rattle.cell_core.specs.Server.{ServerState}
-use Rattle.cell_core.specs.Master.{MasterState}
-use Rattle.cell_core.specs.Client.{ClientState}
-use Rattle.cell_core.specs.Sending.{only_client}
+use Rattle.cell_protocol.specs.Server.{ServerState}
+use Rattle.cell_protocol.specs.Master.{MasterState}
+use Rattle.cell_protocol.specs.Client.{ClientState}
+use Rattle.cell_protocol.specs.Sending.{only_client}
 use Rattle.cell_refinement.specs.Known.{Known, Attempt, IsAttempt, open_call_of, the_client_of}
 use Rattle.cell_refinement.specs.Says.{IsAnew, IsUntil, IsNameOf}
 use Rattle.cell_refinement.specs.Simulates.{IsMachine, IsChunkAt, IsMaster, IsServer, IsClient, Holds}

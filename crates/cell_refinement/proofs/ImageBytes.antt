@@ -5,7 +5,7 @@ use Rattle.gfs_types.specs.declared.mutation.Mutation.{Mutation}
 use Rattle.gfs_types.specs.Image.{image, image_length, image_slice, bytes_from, byte_at, last_that, newer}
 use Rattle.gfs_types.specs.Mutations.{covers, end_of, byte_of}
 use Rattle.gfs_types.specs.declared.mutation.Mutation.TheVariants.{Write}
-use Rattle.cell_core.specs.Server.{with_bytes}
+use Rattle.cell_protocol.specs.Server.{with_bytes}
 
 newer_none : (o : Option Mutation) → newer o None ≡ newer None o
 newer_none None = refl

@@ -10,10 +10,10 @@ use Rattle.relaxed_file.specs.Machine.{OpenCall, Asked, Opens}
 use Rattle.relaxed_file.specs.Run.{Visible, Called, Invoke, invoked, asked_now}
 use Rattle.relaxed_file.proofs.GoingOn.{runs_go_on}
 use Rattle.relaxed_file.proofs.Tables.{put_same, put_other}
-use Rattle.cell_core.specs.declared.observer.Placed.{Placed}
-use Rattle.cell_core.specs.Sending.{only_client}
-use Rattle.cell_core.specs.Server.{ServerState}
-use Rattle.cell_core.specs.Master.{MasterState}
+use Rattle.cell_protocol.specs.declared.observer.Placed.{Placed}
+use Rattle.cell_protocol.specs.Sending.{only_client}
+use Rattle.cell_protocol.specs.Server.{ServerState}
+use Rattle.cell_protocol.specs.Master.{MasterState}
 use Rattle.cell_refinement.specs.Known.{Known, Attempt, IsAttempt, open_call_of, the_client_of, calls_made}
 use Rattle.cell_refinement.specs.Says.{IsReadable}
 use Rattle.cell_refinement.specs.Simulates.{IsMachine, IsChunkAt, IsMaster, IsServer, IsClient, Holds}

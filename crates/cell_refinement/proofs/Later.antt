@@ -20,13 +20,13 @@ use Rattle.gfs_types.specs.declared.message.Target.{Target}
 use Rattle.relaxed_file.specs.NameStep.{is_look}
 use Rattle.relaxed_file.specs.Order.{Entry}
 use Rattle.relaxed_file.specs.Machine.{OpenCall, Asked, Offer, Outcome, Piece, Opens, Replies, Told, NoSuchChunk, chunk_count}
-use Rattle.cell_core.specs.declared.stage.Stage.{Stage}
-use Rattle.cell_core.specs.declared.stage.Stage.TheVariants as stage
-use Rattle.cell_core.specs.declared.stage.CurrentCall.{CurrentCall}
-use Rattle.cell_core.specs.Server.{ServerState}
-use Rattle.cell_core.specs.Master.{MasterState}
-use Rattle.cell_core.specs.Client.{ClientState}
-use Rattle.cell_core.specs.ClientAttempts.{place_in_chunk, count_to_read, is_write}
+use Rattle.cell_protocol.specs.declared.stage.Stage.{Stage}
+use Rattle.cell_protocol.specs.declared.stage.Stage.TheVariants as stage
+use Rattle.cell_protocol.specs.declared.stage.CurrentCall.{CurrentCall}
+use Rattle.cell_protocol.specs.Server.{ServerState}
+use Rattle.cell_protocol.specs.Master.{MasterState}
+use Rattle.cell_protocol.specs.Client.{ClientState}
+use Rattle.cell_protocol.specs.ClientAttempts.{place_in_chunk, count_to_read, is_write}
 use Rattle.cell_refinement.specs.Known.{Known, Spot, Attempt, IsWriteOf, HasEntry, OnCall, IsRoundOpen, open_call_of, the_client_of, calls_made, kept_number, kept_seq, chunk_of}
 use Rattle.cell_refinement.specs.Says.{Says, SaysBody, OnStage, IsNumbered, IsAskNumber, IsAnew, IsUntil, IsLate, IsNameOf, SaysNamed, HasReply, IsKept, SaysAsk, IsAskedToWrite, IsReadable, SaysTold, IsGranted, IsOver, MayStillPlace, MayComeTo, SaysPush, IsPast, IsPastData, SaysMutate, SaysDone, SaysRead, SaysBytes, IsRefusedAsk, IsRefusedAttempt, SaysRefused}
 

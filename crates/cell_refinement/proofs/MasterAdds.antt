@@ -15,11 +15,11 @@ use Rattle.relaxed_file.specs.Machine.{Machine, FileState, Chunk, new_chunk, Ope
 use Rattle.relaxed_file.specs.Chunks.{NeedsChunk, chunk_added, begun_call}
 use Rattle.relaxed_file.specs.Run.{IsRunTo, Visible, Add, after, asked_file}
 use Rattle.relaxed_file.proofs.GoingOn.{runs_go_on}
-use Rattle.cell_core.specs.declared.rows.ChunkRow.{ChunkRow}
-use Rattle.cell_core.specs.Sending.{message}
-use Rattle.cell_core.specs.Master.{MasterState, new_row}
-use Rattle.cell_core.specs.MasterAsks.{Asker, with_chunk, create_message, adds_chunk}
-use Rattle.cell_core.specs.Observer.{entries_of}
+use Rattle.cell_protocol.specs.declared.rows.ChunkRow.{ChunkRow}
+use Rattle.cell_protocol.specs.Sending.{message}
+use Rattle.cell_protocol.specs.Master.{MasterState, new_row}
+use Rattle.cell_protocol.specs.MasterAsks.{Asker, with_chunk, create_message, adds_chunk}
+use Rattle.cell_protocol.specs.Observer.{entries_of}
 use Rattle.cell_refinement.specs.Known.{Known, Spot, IsWriteOf, open_call_of, the_client_of, chunk_of, call_id}
 use Rattle.cell_refinement.specs.Says.{Says, IsNumbered, IsReadable, IsAnew, IsUntil, IsNameOf}
 use Rattle.cell_refinement.specs.Simulates.{IsMaster, IsChunkAt, IsBefore, IsGoing, IsFileOf, IsRow, Holds}

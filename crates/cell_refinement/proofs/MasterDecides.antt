@@ -8,8 +8,8 @@ use Rattle.relaxed_file.specs.Machine.{Machine, FileState, OpenCall, Outcome, Op
 use Rattle.relaxed_file.specs.NameStep.{MayStep, MayTakeEffect, is_name_call, is_look, is_refused, outcome_of, stepped, with_outcome}
 use Rattle.relaxed_file.specs.Run.{IsRunTo, Visible, Step, after, on_open}
 use Rattle.relaxed_file.proofs.GoingOn.{runs_go_on}
-use Rattle.cell_core.specs.Sending.{only_client}
-use Rattle.cell_core.specs.Master.{MasterState}
+use Rattle.cell_protocol.specs.Sending.{only_client}
+use Rattle.cell_protocol.specs.Master.{MasterState}
 use Rattle.cell_refinement.specs.Known.{Known, open_call_of, kept_number}
 use Rattle.cell_refinement.specs.Says.{IsAnew}
 use Rattle.cell_refinement.specs.Simulates.{IsMachine}

@@ -6,10 +6,10 @@ use Rattle.gfs_types.specs.declared.message.Message.{Message}
 use Rattle.relaxed_file.specs.Machine.{Machine, FileState, Chunk, new_chunk, chunk_count, with_chunk, put}
 use Rattle.relaxed_file.specs.Run.{IsRunTo, Visible, OpenRound}
 use Rattle.relaxed_file.proofs.GoingOn.{runs_go_on}
-use Rattle.cell_core.specs.declared.rows.ChunkRow.{ChunkRow}
-use Rattle.cell_core.specs.Seen.{stays}
-use Rattle.cell_core.specs.Master.{MasterState}
-use Rattle.cell_core.specs.MasterVersions.{granted_row, with_granted, grant_message, grants, learns, takes_recorded}
+use Rattle.cell_protocol.specs.declared.rows.ChunkRow.{ChunkRow}
+use Rattle.cell_protocol.specs.Seen.{stays}
+use Rattle.cell_protocol.specs.Master.{MasterState}
+use Rattle.cell_protocol.specs.MasterVersions.{granted_row, with_granted, grant_message, grants, learns, takes_recorded}
 use Rattle.cell_refinement.specs.Known.{Known, Spot, open_call_of, chunk_of}
 use Rattle.cell_refinement.specs.Simulates.{IsMaster, IsChunkAt, IsBefore, IsGoing, IsFileOf, IsRow, Holds}
 use Rattle.cell_refinement.proofs.Frames.{kept_call_same}

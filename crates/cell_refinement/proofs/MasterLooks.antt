@@ -12,10 +12,10 @@ use Rattle.relaxed_file.specs.NameStep.{is_look, is_name_call, is_refused, MayTa
 use Rattle.relaxed_file.specs.Run.{IsRunTo, Visible}
 use Rattle.gfs_types.specs.declared.ids.Node.TheVariants as node
 use Rattle.gfs_types.specs.declared.message.Body.TheVariants as body
-use Rattle.cell_core.specs.Sending.{only_client, message}
-use Rattle.cell_core.specs.Seen.{stays, sends_one}
-use Rattle.cell_core.specs.Master.{MasterState}
-use Rattle.cell_core.specs.MasterNames.{takes_look, reply_by}
+use Rattle.cell_protocol.specs.Sending.{only_client, message}
+use Rattle.cell_protocol.specs.Seen.{stays, sends_one}
+use Rattle.cell_protocol.specs.Master.{MasterState}
+use Rattle.cell_protocol.specs.MasterNames.{takes_look, reply_by}
 use Rattle.cell_refinement.specs.Known.{Known, open_call_of}
 use Rattle.cell_refinement.specs.Says.{Says, IsReadable, IsAnew, SaysLook, HasReply}
 use Rattle.cell_refinement.specs.Simulates.{IsMachine, IsMaster, Holds}

@@ -6,12 +6,12 @@ use Rattle.gfs_types.specs.declared.message.Message.{Message}
 use Rattle.relaxed_file.specs.Names.{File, node_at}
 use Rattle.relaxed_file.specs.Machine.{Machine, Chunk, OpenCall, Opens, new_chunk, chunk_count}
 use Rattle.relaxed_file.specs.Run.{IsRunTo, Visible}
-use Rattle.cell_core.specs.declared.observer.Placed.{Placed}
-use Rattle.cell_core.specs.Seen.{Does}
-use Rattle.cell_core.specs.Server.{ServerState}
-use Rattle.cell_core.specs.Master.{MasterState}
-use Rattle.cell_core.specs.Client.{ClientState}
-use Rattle.cell_core.specs.Observer.{entries_of}
+use Rattle.cell_protocol.specs.declared.observer.Placed.{Placed}
+use Rattle.cell_protocol.specs.Seen.{Does}
+use Rattle.cell_protocol.specs.Server.{ServerState}
+use Rattle.cell_protocol.specs.Master.{MasterState}
+use Rattle.cell_protocol.specs.Client.{ClientState}
+use Rattle.cell_protocol.specs.Observer.{entries_of}
 use Rattle.cell_refinement.specs.Known.{Known, Spot, Attempt, IsAttempt, open_call_of, the_client_of, calls_made, kept_number, chunk_of}
 use Rattle.cell_refinement.specs.Says.{Says, IsReadable, IsAnew, IsUntil, IsNameOf}
 use Rattle.cell_refinement.specs.Simulates.{IsMachine, IsBefore, IsGoing, IsChunkAt, IsMaster, IsServer, IsClient, Holds}

@@ -18,11 +18,11 @@ use Rattle.relaxed_file.specs.Machine.{Machine, FileState, new_file, OpenCall, O
 use Rattle.relaxed_file.specs.NameStep.{is_look, is_name_call, needs_room, MayTakeEffect, MayBeFull, performed, with_outcome, outcome_by, done_outcome, refusal_of}
 use Rattle.relaxed_file.specs.Run.{IsRunTo, Visible, FindFull}
 use Rattle.relaxed_file.proofs.GoingOn.{runs_go_on}
-use Rattle.cell_core.specs.declared.rows.KeptCall.{KeptCall}
-use Rattle.cell_core.specs.Sending.{only_client}
-use Rattle.cell_core.specs.Seen.{stays}
-use Rattle.cell_core.specs.Master.{MasterState}
-use Rattle.cell_core.specs.MasterNames as names
+use Rattle.cell_protocol.specs.declared.rows.KeptCall.{KeptCall}
+use Rattle.cell_protocol.specs.Sending.{only_client}
+use Rattle.cell_protocol.specs.Seen.{stays}
+use Rattle.cell_protocol.specs.Master.{MasterState}
+use Rattle.cell_protocol.specs.MasterNames as names
 use Rattle.cell_refinement.specs.Known.{Known, Spot, open_call_of, calls_made, kept_number, chunk_of}
 use Rattle.cell_refinement.specs.Says.{IsReadable, IsAnew, IsNameOf, SaysName}
 use Rattle.cell_refinement.specs.Simulates.{IsMaster, IsKeptCall, IsFileOf, IsRow, Holds}

@@ -8,11 +8,11 @@ use Rattle.gfs_types.specs.declared.message.Message.{Message}
 use Rattle.gfs_types.specs.declared.message.NameReply.TheVariants.{Answered}
 use Rattle.relaxed_file.specs.NameStep.{is_look}
 use Rattle.relaxed_file.specs.Run.{Visible}
-use Rattle.cell_core.specs.declared.rows.KeptCall.{KeptCall}
-use Rattle.cell_core.specs.Seen.{stays, sends_one}
-use Rattle.cell_core.specs.Master.{MasterState}
-use Rattle.cell_core.specs.MasterNames.{answers_name, reply_of}
-use Rattle.cell_core.specs.MasterAsks.{Asker, tells_to_wait}
+use Rattle.cell_protocol.specs.declared.rows.KeptCall.{KeptCall}
+use Rattle.cell_protocol.specs.Seen.{stays, sends_one}
+use Rattle.cell_protocol.specs.Master.{MasterState}
+use Rattle.cell_protocol.specs.MasterNames.{answers_name, reply_of}
+use Rattle.cell_protocol.specs.MasterAsks.{Asker, tells_to_wait}
 use Rattle.cell_refinement.specs.Known.{Known, kept_number}
 use Rattle.cell_refinement.specs.Says.{Says, IsNumbered, IsKept, SaysNamed}
 use Rattle.cell_refinement.specs.Simulates.{IsMaster, IsKeptCall, Holds}

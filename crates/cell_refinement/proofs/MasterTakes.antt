@@ -12,10 +12,10 @@ use Rattle.gfs_types.specs.declared.message.Wanted.{Wanted}
 use Rattle.gfs_types.specs.declared.message.Wanted.TheVariants as wanted
 use Rattle.gfs_types.specs.declared.refusal.Refusal.TheVariants.{TooLong}
 use Rattle.relaxed_file.specs.Run.{Visible}
-use Rattle.cell_core.specs.Seen.{stays}
-use Rattle.cell_core.specs.Master.{MasterState, master_says}
-use Rattle.cell_core.specs.MasterAsks.{Asker, asks_to_write, asks_of, takes_ask, adds_chunk, mutates_at}
-use Rattle.cell_core.specs.MasterStep.{master_takes, master_does}
+use Rattle.cell_protocol.specs.Seen.{stays}
+use Rattle.cell_protocol.specs.Master.{MasterState, master_says}
+use Rattle.cell_protocol.specs.MasterAsks.{Asker, asks_to_write, asks_of, takes_ask, adds_chunk, mutates_at}
+use Rattle.cell_protocol.specs.MasterStep.{master_takes, master_does}
 use Rattle.cell_refinement.specs.Known.{Known, IsWriteOf}
 use Rattle.cell_refinement.specs.Says.{Says, SaysBody, SaysAsk, IsReadable}
 use Rattle.cell_refinement.specs.Simulates.{IsFileOf, Holds}

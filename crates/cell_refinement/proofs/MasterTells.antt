@@ -14,15 +14,15 @@ use Rattle.relaxed_file.specs.Machine.{Machine, OpenCall, Told, NoSuchChunk, chu
 use Rattle.relaxed_file.specs.Reads.{offer_of, offered}
 use Rattle.relaxed_file.specs.Run.{IsRunTo, Visible, Tell}
 use Rattle.relaxed_file.proofs.GoingOn.{runs_go_on}
-use Rattle.cell_core.specs.declared.stage.Stage.{Stage}
-use Rattle.cell_core.specs.declared.stage.Stage.TheVariants as stage
-use Rattle.cell_core.specs.declared.stage.CurrentCall.{CurrentCall}
-use Rattle.cell_core.specs.declared.rows.ChunkRow.{ChunkRow}
-use Rattle.cell_core.specs.Sending.{only_client, only_server, server_id, message}
-use Rattle.cell_core.specs.Master.{MasterState, has_lease, master_says}
-use Rattle.cell_core.specs.MasterAsks.{Asker, holders_of, group_of, location_of, tells_location, looks_at, looks_at_row, mutates_at, mutates_row, tells_to_wait}
-use Rattle.cell_core.specs.Client.{ClientState}
-use Rattle.cell_core.specs.ClientAttempts.{is_write}
+use Rattle.cell_protocol.specs.declared.stage.Stage.{Stage}
+use Rattle.cell_protocol.specs.declared.stage.Stage.TheVariants as stage
+use Rattle.cell_protocol.specs.declared.stage.CurrentCall.{CurrentCall}
+use Rattle.cell_protocol.specs.declared.rows.ChunkRow.{ChunkRow}
+use Rattle.cell_protocol.specs.Sending.{only_client, only_server, server_id, message}
+use Rattle.cell_protocol.specs.Master.{MasterState, has_lease, master_says}
+use Rattle.cell_protocol.specs.MasterAsks.{Asker, holders_of, group_of, location_of, tells_location, looks_at, looks_at_row, mutates_at, mutates_row, tells_to_wait}
+use Rattle.cell_protocol.specs.Client.{ClientState}
+use Rattle.cell_protocol.specs.ClientAttempts.{is_write}
 use Rattle.cell_refinement.specs.Known.{Known, Spot, IsWriteOf, open_call_of, chunk_of}
 use Rattle.cell_refinement.specs.Says.{OnStage, IsAskNumber, IsGranted, SaysTold}
 use Rattle.cell_refinement.specs.Simulates.{IsMaster, IsClient, IsCurrent, IsAsking, IsWaited, FitsStage, AreTheSame, IsFileOf, IsRow, Holds}

@@ -4,11 +4,11 @@ use Rattle.std.specs.Prelude.{Contains, IfSome, IsTrue}
 use Rattle.gfs_types.specs.declared.call.Call.{Call}
 use Rattle.relaxed_file.specs.Order.{Entry}
 use Rattle.relaxed_file.specs.Machine.{OpenCall, chunk_count}
-use Rattle.cell_core.specs.declared.stage.Stage.{Stage}
-use Rattle.cell_core.specs.declared.stage.CurrentCall.{CurrentCall}
-use Rattle.cell_core.specs.Server.{ServerState}
-use Rattle.cell_core.specs.Master.{MasterState}
-use Rattle.cell_core.specs.Client.{ClientState}
+use Rattle.cell_protocol.specs.declared.stage.Stage.{Stage}
+use Rattle.cell_protocol.specs.declared.stage.CurrentCall.{CurrentCall}
+use Rattle.cell_protocol.specs.Server.{ServerState}
+use Rattle.cell_protocol.specs.Master.{MasterState}
+use Rattle.cell_protocol.specs.Client.{ClientState}
 use Rattle.cell_refinement.specs.Known.{Known, Spot, Attempt, HasNoEntry, open_call_of, the_client_of, calls_made, kept_number, kept_seq, chunk_of}
 use Rattle.cell_refinement.specs.Says.{IsNumbered, IsAnew, IsUntil, IsNameOf, MayStillPlace, MayComeTo}
 use Rattle.cell_refinement.proofs.Later.{Later, Grows, SameCall, WaitedBefore}

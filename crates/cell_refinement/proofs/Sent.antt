@@ -4,8 +4,8 @@ use Rattle.std.specs.Prelude.{All, IfSome}
 use Rattle.std.proofs.lemmas.List.Elements.{All-cons, All-head, All-tail, All-append}
 use Rattle.gfs_types.specs.declared.message.Message.{Message}
 use Rattle.relaxed_file.specs.Run.{Visible}
-use Rattle.cell_core.specs.Choice.{element_at, without_at, picked, in_order}
-use Rattle.cell_core.specs.World.{stamped, all_sent}
+use Rattle.cell_protocol.specs.Choice.{element_at, without_at, picked, in_order}
+use Rattle.cell_protocol.specs.World.{stamped, all_sent}
 use Rattle.cell_refinement.specs.Known.{Known}
 use Rattle.cell_refinement.specs.Says.{Says}
 use Rattle.cell_refinement.specs.Simulates.{Holds}

@@ -18,20 +18,20 @@ use Rattle.relaxed_file.specs.Reads.{MayLook, reads_part, read_slice, looked}
 use Rattle.relaxed_file.specs.Run.{Visible, Look, IsRunTo, after}
 use Rattle.gfs_types.specs.declared.config.Config.{Config}
 use Rattle.relaxed_file.proofs.GoingOn.{runs_go_on}
-use Rattle.cell_core.specs.declared.stage.Stage.{Stage}
-use Rattle.cell_core.specs.declared.stage.Stage.TheVariants as stage
-use Rattle.cell_core.specs.declared.stage.CurrentCall.{CurrentCall}
-use Rattle.cell_core.specs.declared.stage.ToldChunk.{ToldChunk}
-use Rattle.cell_core.specs.declared.observer.Placed.{Placed}
-use Rattle.cell_core.specs.Sending.{only_client}
-use Rattle.cell_core.specs.Server.{ServerState, Replica, server_says}
+use Rattle.cell_protocol.specs.declared.stage.Stage.{Stage}
+use Rattle.cell_protocol.specs.declared.stage.Stage.TheVariants as stage
+use Rattle.cell_protocol.specs.declared.stage.CurrentCall.{CurrentCall}
+use Rattle.cell_protocol.specs.declared.stage.ToldChunk.{ToldChunk}
+use Rattle.cell_protocol.specs.declared.observer.Placed.{Placed}
+use Rattle.cell_protocol.specs.Sending.{only_client}
+use Rattle.cell_protocol.specs.Server.{ServerState, Replica, server_says}
 use Rattle.gfs_types.specs.declared.message.Body.TheVariants as body
 use Rattle.std.proofs.lemmas.Option.{same_Some}
 use Rattle.std.proofs.lemmas.Bool.{cases_eq, eqb-true}
-use Rattle.cell_core.specs.ServerReads.{read_bytes, reads_from}
-use Rattle.cell_core.specs.Client.{ClientState}
-use Rattle.cell_core.specs.ClientAttempts.{place_in_chunk, count_to_read}
-use Rattle.cell_core.specs.Observer.{entries_of, entry_of}
+use Rattle.cell_protocol.specs.ServerReads.{read_bytes, reads_from}
+use Rattle.cell_protocol.specs.Client.{ClientState}
+use Rattle.cell_protocol.specs.ClientAttempts.{place_in_chunk, count_to_read}
+use Rattle.cell_protocol.specs.Observer.{entries_of, entry_of}
 use Rattle.cell_refinement.specs.Known.{Known, Spot, Attempt, IsInChunk, IsReadOf, open_call_of, calls_made, chunk_of}
 use Rattle.cell_refinement.specs.Says.{SaysRead, SaysBytes, SaysRefused, IsOver, OnStage, IsNumbered}
 use Rattle.cell_refinement.specs.Simulates.{IsServer, IsReplica, IsClient, IsCurrent, AreTheSame, IsToldAt, IsChunkAt, FitsStage, Holds}

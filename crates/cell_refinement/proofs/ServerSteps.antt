@@ -11,11 +11,11 @@ use Rattle.gfs_types.specs.Image.{image}
 use Rattle.relaxed_file.specs.Order.{mutations_of}
 use Rattle.relaxed_file.specs.Run.{Visible}
 use Rattle.data_push.specs.Buffers.{PushBuffer, same_id, with_data, without_data}
-use Rattle.cell_core.specs.Seen.{Does, stays}
-use Rattle.cell_core.specs.Server.{ServerState, Replica, with_pushed, with_replica}
-use Rattle.cell_core.specs.ServerOrders.{empty_replica, creates, takes_grant, with_lease, has_version}
-use Rattle.cell_core.specs.ServerWrites.{takes_push}
-use Rattle.cell_core.specs.Observer.{entries_of, newly_placed}
+use Rattle.cell_protocol.specs.Seen.{Does, stays}
+use Rattle.cell_protocol.specs.Server.{ServerState, Replica, with_pushed, with_replica}
+use Rattle.cell_protocol.specs.ServerOrders.{empty_replica, creates, takes_grant, with_lease, has_version}
+use Rattle.cell_protocol.specs.ServerWrites.{takes_push}
+use Rattle.cell_protocol.specs.Observer.{entries_of, newly_placed}
 use Rattle.cell_refinement.specs.Known.{Known, IsRoundOpen, calls_made, kept_seq}
 use Rattle.cell_refinement.specs.Says.{Says, SaysPush}
 use Rattle.cell_refinement.specs.Simulates.{IsServer, IsReplica, IsLease, Holds}

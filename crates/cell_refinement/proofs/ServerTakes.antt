@@ -15,15 +15,15 @@ use Rattle.gfs_types.specs.declared.message.Target.TheVariants as target
 use Rattle.relaxed_file.specs.Run.{Visible}
 use Rattle.data_push.specs.Buffers.{same_id, data_of}
 use Rattle.gfs_types.specs.declared.ids.ClientId.{ClientId}
-use Rattle.cell_core.specs.declared.standing.Standing.{Standing}
-use Rattle.cell_core.specs.declared.standing.Standing.TheVariants.{Settled, Denied}
-use Rattle.cell_core.specs.Seen.{stays}
-use Rattle.cell_core.specs.declared.standing.LeaseHeld.{LeaseHeld}
-use Rattle.cell_core.specs.declared.standing.Kept.{Kept}
-use Rattle.cell_core.specs.Server.{ServerState, Replica, with_kept}
-use Rattle.cell_core.specs.ServerOrders.{creates}
-use Rattle.cell_core.specs.ServerWrites.{takes_mutate, mutates_as, mutates_new, writes_with, places_write, may_place, answers_again, refuses_attempt, is_held}
-use Rattle.cell_core.specs.ServerStep.{server_takes}
+use Rattle.cell_protocol.specs.declared.standing.Standing.{Standing}
+use Rattle.cell_protocol.specs.declared.standing.Standing.TheVariants.{Settled, Denied}
+use Rattle.cell_protocol.specs.Seen.{stays}
+use Rattle.cell_protocol.specs.declared.standing.LeaseHeld.{LeaseHeld}
+use Rattle.cell_protocol.specs.declared.standing.Kept.{Kept}
+use Rattle.cell_protocol.specs.Server.{ServerState, Replica, with_kept}
+use Rattle.cell_protocol.specs.ServerOrders.{creates}
+use Rattle.cell_protocol.specs.ServerWrites.{takes_mutate, mutates_as, mutates_new, writes_with, places_write, may_place, answers_again, refuses_attempt, is_held}
+use Rattle.cell_protocol.specs.ServerStep.{server_takes}
 use Rattle.cell_refinement.specs.Known.{Known, Attempt, IsRoundOpen, kept_seq}
 use Rattle.cell_refinement.specs.Says.{SaysBody, SaysPush, SaysMutate, SaysRefused, IsNumbered, IsOver, IsTargetOf, MayStillPlace, MayComeTo, IsPastData}
 use Rattle.cell_refinement.specs.Simulates.{IsServer, IsReplica, IsLease, Stands, Holds}

@@ -17,13 +17,13 @@ use Rattle.relaxed_file.specs.Chunks.{MayPlace, MaySettle, placed, settled, sett
 use Rattle.relaxed_file.specs.Run.{Visible, Place, Settle, IsRunTo, after}
 use Rattle.relaxed_file.proofs.GoingOn.{runs_go_on}
 use Rattle.data_push.specs.Buffers.{without_data}
-use Rattle.cell_core.specs.declared.observer.Placed.{Placed}
-use Rattle.cell_core.specs.Sending.{only_client}
-use Rattle.cell_core.specs.Server.{ServerState, Replica, with_bytes, written_replica}
-use Rattle.cell_core.specs.ServerWrites.{places_write, after_write, numbering_of}
-use Rattle.cell_core.specs.Master.{MasterState}
-use Rattle.cell_core.specs.Client.{ClientState}
-use Rattle.cell_core.specs.Observer.{entries_of, entry_of}
+use Rattle.cell_protocol.specs.declared.observer.Placed.{Placed}
+use Rattle.cell_protocol.specs.Sending.{only_client}
+use Rattle.cell_protocol.specs.Server.{ServerState, Replica, with_bytes, written_replica}
+use Rattle.cell_protocol.specs.ServerWrites.{places_write, after_write, numbering_of}
+use Rattle.cell_protocol.specs.Master.{MasterState}
+use Rattle.cell_protocol.specs.Client.{ClientState}
+use Rattle.cell_protocol.specs.Observer.{entries_of, entry_of}
 use Rattle.cell_refinement.specs.Known.{Known, Spot, Attempt, IsAttempt, IsMutationOf, HasEntry, HasNoEntry, IsRoundOpen, open_call_of, the_client_of, calls_made, kept_seq, chunk_of, call_id}
 use Rattle.cell_refinement.specs.Says.{SaysPush, IsPastData, IsOver, MayStillPlace, MayComeTo}
 use Rattle.cell_refinement.specs.Simulates.{IsMachine, IsChunkAt, IsMaster, IsServer, IsClient, IsReplica, IsGoing, IsBefore, Holds}

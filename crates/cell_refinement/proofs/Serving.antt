@@ -7,10 +7,10 @@ use Rattle.std.specs.Cmp.{nat_cmp_total, eq_by_cmp_equiv}
 use Rattle.std.specs.FinMap as table
 use Rattle.gfs_types.specs.declared.message.Message.{Message}
 use Rattle.relaxed_file.specs.Run.{Visible}
-use Rattle.cell_core.specs.Tables.{Table}
-use Rattle.cell_core.specs.Server.{ServerState}
-use Rattle.cell_core.specs.Master.{MasterState}
-use Rattle.cell_core.specs.Client.{ClientState}
+use Rattle.cell_protocol.specs.Tables.{Table}
+use Rattle.cell_protocol.specs.Server.{ServerState}
+use Rattle.cell_protocol.specs.Master.{MasterState}
+use Rattle.cell_protocol.specs.Client.{ClientState}
 use Rattle.cell_refinement.specs.Known.{Known, Attempt, IsAttempt, open_call_of, kept_seq}
 use Rattle.cell_refinement.specs.Simulates.{IsMachine, IsChunkAt, IsMaster, IsServer, IsClient, Holds}
 use Rattle.cell_refinement.proofs.Later.{Later, all_stay}

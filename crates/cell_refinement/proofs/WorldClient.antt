@@ -7,14 +7,14 @@ use Rattle.gfs_types.specs.declared.call.Call.{Call}
 use Rattle.gfs_types.specs.declared.event.Input.{Input}
 use Rattle.gfs_types.specs.declared.event.Input.TheVariants as input
 use Rattle.relaxed_file.specs.Run.{invoked}
-use Rattle.cell_core.specs.Choice.{Choice, Goes, in_order}
-use Rattle.cell_core.specs.Sending.{only_client}
-use Rattle.cell_core.specs.Seen.{Taken, ends, stays}
-use Rattle.cell_core.specs.Master.{MasterState}
-use Rattle.cell_core.specs.Client.{ClientState}
-use Rattle.cell_core.specs.ClientStep.{client_call, client_does, client_at, is_served}
-use Rattle.cell_core.specs.Observer.{answered}
-use Rattle.cell_core.specs.World.{WorldState, after_client, after_call, all_sent}
+use Rattle.cell_protocol.specs.Choice.{Choice, Goes, in_order}
+use Rattle.cell_protocol.specs.Sending.{only_client}
+use Rattle.cell_protocol.specs.Seen.{Taken, ends, stays}
+use Rattle.cell_protocol.specs.Master.{MasterState}
+use Rattle.cell_protocol.specs.Client.{ClientState}
+use Rattle.cell_protocol.specs.ClientStep.{client_call, client_does, client_at, is_served}
+use Rattle.cell_protocol.specs.Observer.{answered}
+use Rattle.cell_protocol.specs.World.{WorldState, after_client, after_call, all_sent}
 use Rattle.cell_refinement.specs.Known.{Known, calls_made, open_call_of}
 use Rattle.cell_refinement.specs.Says.{Says}
 use Rattle.cell_refinement.specs.Simulates.{IsMaster, IsClient, Holds, known_of, Simulates}

@@ -9,18 +9,18 @@ use Rattle.gfs_types.specs.declared.event.Event.{Event}
 use Rattle.gfs_types.specs.declared.event.Event.TheVariants as event
 use Rattle.gfs_types.specs.declared.event.Input.{Input}
 use Rattle.gfs_types.specs.declared.event.Input.TheVariants as input
-use Rattle.cell_core.specs.declared.stage.CurrentCall.{CurrentCall}
-use Rattle.cell_core.specs.Tables.{moment_limit, numbered_from_1}
-use Rattle.cell_core.specs.Choice.{Choice, Ending, Goes, Lost}
-use Rattle.cell_core.specs.Sending.{only_server, only_client}
-use Rattle.cell_core.specs.Seen.{ends, stays}
-use Rattle.cell_core.specs.Server.{ServerState}
-use Rattle.cell_core.specs.ServerStep.{server_does, server_at}
-use Rattle.cell_core.specs.Master.{MasterState, is_master_within_limits}
-use Rattle.cell_core.specs.MasterStep.{master_does, master_at}
-use Rattle.cell_core.specs.Client.{ClientState, is_client_within_limits}
-use Rattle.cell_core.specs.ClientStep.{client_call, client_does, client_at, may_call, is_served}
-use Rattle.cell_core.specs.World.{WorldState, Happened, nothing_happens, after_master, after_server, after_client, after_call, master_moves, server_moves, client_moves, moves, delivered, call_moves, at_moment, happens}
+use Rattle.cell_protocol.specs.declared.stage.CurrentCall.{CurrentCall}
+use Rattle.cell_protocol.specs.Tables.{moment_limit, numbered_from_1}
+use Rattle.cell_protocol.specs.Choice.{Choice, Ending, Goes, Lost}
+use Rattle.cell_protocol.specs.Sending.{only_server, only_client}
+use Rattle.cell_protocol.specs.Seen.{ends, stays}
+use Rattle.cell_protocol.specs.Server.{ServerState}
+use Rattle.cell_protocol.specs.ServerStep.{server_does, server_at}
+use Rattle.cell_protocol.specs.Master.{MasterState, is_master_within_limits}
+use Rattle.cell_protocol.specs.MasterStep.{master_does, master_at}
+use Rattle.cell_protocol.specs.Client.{ClientState, is_client_within_limits}
+use Rattle.cell_protocol.specs.ClientStep.{client_call, client_does, client_at, may_call, is_served}
+use Rattle.cell_protocol.specs.World.{WorldState, Happened, nothing_happens, after_master, after_server, after_client, after_call, master_moves, server_moves, client_moves, moves, delivered, call_moves, at_moment, happens}
 use Rattle.cell_refinement.specs.Simulates.{known_of, Simulates}
 use Rattle.cell_refinement.proofs.Down.{left_holds}
 use Rattle.cell_refinement.proofs.WorldServer.{IsInput, server_moved}

@@ -5,12 +5,12 @@ use Rattle.std.proofs.lemmas.List.Elements.{All-contains, All-nil}
 use Rattle.std.proofs.lemmas.Option.{same_Some}
 use Rattle.gfs_types.specs.declared.event.Input.{Input}
 use Rattle.gfs_types.specs.declared.event.Input.TheVariants as input
-use Rattle.cell_core.specs.Choice.{Choice, Ending, Goes, Lost}
-use Rattle.cell_core.specs.Seen.{ends, stays}
-use Rattle.cell_core.specs.Master.{MasterState}
-use Rattle.cell_core.specs.MasterStep.{master_does, master_at}
-use Rattle.cell_core.specs.Client.{ClientState}
-use Rattle.cell_core.specs.World.{WorldState, after_master}
+use Rattle.cell_protocol.specs.Choice.{Choice, Ending, Goes, Lost}
+use Rattle.cell_protocol.specs.Seen.{ends, stays}
+use Rattle.cell_protocol.specs.Master.{MasterState}
+use Rattle.cell_protocol.specs.MasterStep.{master_does, master_at}
+use Rattle.cell_protocol.specs.Client.{ClientState}
+use Rattle.cell_protocol.specs.World.{WorldState, after_master}
 use Rattle.cell_refinement.specs.Known.{Known}
 use Rattle.cell_refinement.specs.Says.{Says}
 use Rattle.cell_refinement.specs.Simulates.{IsMaster, IsClient, Holds, Simulates}

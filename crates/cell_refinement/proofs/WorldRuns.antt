@@ -15,20 +15,20 @@ use Rattle.gfs_types.specs.declared.call.Call.{Call}
 use Rattle.gfs_types.specs.declared.ids.Node as ids
 use Rattle.gfs_types.specs.declared.ids.Node.TheVariants as node
 use Rattle.gfs_types.specs.declared.message.Message.{Message}
-use Rattle.cell_core.specs.Tables.{moment_limit, numbered_from_1}
-use Rattle.cell_core.specs.Sending.{only_server, only_client}
-use Rattle.cell_core.specs.Seen.{Taken}
-use Rattle.cell_core.specs.ServerStep.{server_step}
-use Rattle.cell_core.specs.MasterStep.{master_step}
-use Rattle.cell_core.specs.ClientStep.{client_step, client_call, may_call}
+use Rattle.cell_protocol.specs.Tables.{moment_limit, numbered_from_1}
+use Rattle.cell_protocol.specs.Sending.{only_server, only_client}
+use Rattle.cell_protocol.specs.Seen.{Taken}
+use Rattle.cell_protocol.specs.ServerStep.{server_step}
+use Rattle.cell_protocol.specs.MasterStep.{master_step}
+use Rattle.cell_protocol.specs.ClientStep.{client_step, client_call, may_call}
 use Rattle.gfs_types.specs.Paths.{Path, root, trash}
 use Rattle.relaxed_file.specs.Names.{Dir, File, node_at, first_names}
 use Rattle.relaxed_file.specs.Machine.{new_machine}
-use Rattle.cell_core.specs.Choice.{Choice}
-use Rattle.cell_core.specs.Server.{ServerState, new_server}
-use Rattle.cell_core.specs.Master.{MasterState, new_master}
-use Rattle.cell_core.specs.Client.{ClientState, new_client}
-use Rattle.cell_core.specs.World.{WorldState, new_world, Happened, after_master, after_server, after_client, after_call, master_moves, server_moves, client_moves, moves, delivered, call_moves, happens, after_events, IsReached, IsExplained}
+use Rattle.cell_protocol.specs.Choice.{Choice}
+use Rattle.cell_protocol.specs.Server.{ServerState, new_server}
+use Rattle.cell_protocol.specs.Master.{MasterState, new_master}
+use Rattle.cell_protocol.specs.Client.{ClientState, new_client}
+use Rattle.cell_protocol.specs.World.{WorldState, new_world, Happened, after_master, after_server, after_client, after_call, master_moves, server_moves, client_moves, moves, delivered, call_moves, happens, after_events, IsReached, IsExplained}
 use Rattle.cell_refinement.specs.Known.{Known}
 use Rattle.cell_refinement.specs.Says.{Says}
 use Rattle.cell_refinement.specs.Simulates.{IsMachine, IsMaster, IsServer, IsClient, IsReplica, IsLease, known_of, Simulates}

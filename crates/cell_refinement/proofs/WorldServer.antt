@@ -6,12 +6,12 @@ use Rattle.gfs_types.specs.declared.event.Input.{Input}
 use Rattle.gfs_types.specs.declared.event.Input.TheVariants as input
 use Rattle.gfs_types.specs.declared.message.Message.{Message}
 use Rattle.relaxed_file.specs.Run.{Visible}
-use Rattle.cell_core.specs.Choice.{Choice, Ending, Goes, Lost, in_order}
-use Rattle.cell_core.specs.Seen.{ends}
-use Rattle.cell_core.specs.Server.{ServerState}
-use Rattle.cell_core.specs.ServerStep.{server_step, server_does, server_at}
-use Rattle.cell_core.specs.Observer.{passed, newly_placed}
-use Rattle.cell_core.specs.World.{WorldState, after_server, all_sent}
+use Rattle.cell_protocol.specs.Choice.{Choice, Ending, Goes, Lost, in_order}
+use Rattle.cell_protocol.specs.Seen.{ends}
+use Rattle.cell_protocol.specs.Server.{ServerState}
+use Rattle.cell_protocol.specs.ServerStep.{server_step, server_does, server_at}
+use Rattle.cell_protocol.specs.Observer.{passed, newly_placed}
+use Rattle.cell_protocol.specs.World.{WorldState, after_server, all_sent}
 use Rattle.cell_refinement.specs.Known.{Known, kept_seq}
 use Rattle.cell_refinement.specs.Says.{Says}
 use Rattle.cell_refinement.specs.Simulates.{IsServer, Holds, known_of, Simulates}

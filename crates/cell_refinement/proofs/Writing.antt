@@ -14,9 +14,9 @@ use Rattle.relaxed_file.specs.Order.{CallId, Entry, same_call}
 use Rattle.relaxed_file.specs.Parts.{has_part, part_start, part_end, part_bytes}
 use Rattle.relaxed_file.specs.Machine.{Machine, chunk_size, chunk_at}
 use Rattle.relaxed_file.specs.Chunks.{AsksFor, tries_in}
-use Rattle.cell_core.specs.declared.observer.Placed.{Placed}
-use Rattle.cell_core.specs.Sending.{only_client}
-use Rattle.cell_core.specs.Observer.{entries_of, entry_of}
+use Rattle.cell_protocol.specs.declared.observer.Placed.{Placed}
+use Rattle.cell_protocol.specs.Sending.{only_client}
+use Rattle.cell_protocol.specs.Observer.{entries_of, entry_of}
 use Rattle.cell_refinement.specs.Known.{Spot, Attempt, IsInChunk, IsMutationOf, HasNoEntry, call_id}
 use Rattle.cell_refinement.proofs.ServerReading.{start_is, length_is, part_is}
 

@@ -7,13 +7,13 @@ use Rattle.gfs_types.specs.declared.mutation.Mutation.TheVariants as mutation
 use Rattle.relaxed_file.specs.Order.{CallId, Entry}
 use Rattle.relaxed_file.specs.Machine.{Machine, Chunk, Client, OpenCall, Asked, chunk_at}
 use Rattle.relaxed_file.specs.Parts.{is_range_too_long, leaves_chunk}
-use Rattle.cell_core.specs.declared.rows.KeptCall.{KeptCall}
-use Rattle.cell_core.specs.declared.observer.Placed.{Placed}
-use Rattle.cell_core.specs.Sending.{only_client}
-use Rattle.cell_core.specs.declared.standing.Kept.{Kept}
-use Rattle.cell_core.specs.Server.{ServerState}
-use Rattle.cell_core.specs.Master.{MasterState}
-use Rattle.cell_core.specs.Client.{ClientState}
+use Rattle.cell_protocol.specs.declared.rows.KeptCall.{KeptCall}
+use Rattle.cell_protocol.specs.declared.observer.Placed.{Placed}
+use Rattle.cell_protocol.specs.Sending.{only_client}
+use Rattle.cell_protocol.specs.declared.standing.Kept.{Kept}
+use Rattle.cell_protocol.specs.Server.{ServerState}
+use Rattle.cell_protocol.specs.Master.{MasterState}
+use Rattle.cell_protocol.specs.Client.{ClientState}
 
 -- where a chunk stands: its file, and its index there
 pub record Spot : Type 0 where

@@ -17,15 +17,15 @@ use Rattle.gfs_types.specs.declared.message.Target.{Target}
 use Rattle.gfs_types.specs.declared.message.Target.TheVariants as target
 use Rattle.relaxed_file.specs.Machine.{OpenCall, Asked, Told, NoSuchChunk, Opens, Replies, chunk_count}
 use Rattle.relaxed_file.specs.NameStep.{is_look, is_name_call}
-use Rattle.cell_core.specs.declared.stage.Stage.{Stage}
-use Rattle.cell_core.specs.declared.stage.Stage.TheVariants as stage
-use Rattle.cell_core.specs.declared.stage.CurrentCall.{CurrentCall}
-use Rattle.cell_core.specs.declared.stage.ToldChunk.{ToldChunk}
-use Rattle.cell_core.specs.Sending.{only_client, only_server}
-use Rattle.cell_core.specs.Server.{ServerState}
-use Rattle.cell_core.specs.Master.{MasterState}
-use Rattle.cell_core.specs.Client.{ClientState}
-use Rattle.cell_core.specs.ClientAttempts.{place_in_chunk, count_to_read, is_write}
+use Rattle.cell_protocol.specs.declared.stage.Stage.{Stage}
+use Rattle.cell_protocol.specs.declared.stage.Stage.TheVariants as stage
+use Rattle.cell_protocol.specs.declared.stage.CurrentCall.{CurrentCall}
+use Rattle.cell_protocol.specs.declared.stage.ToldChunk.{ToldChunk}
+use Rattle.cell_protocol.specs.Sending.{only_client, only_server}
+use Rattle.cell_protocol.specs.Server.{ServerState}
+use Rattle.cell_protocol.specs.Master.{MasterState}
+use Rattle.cell_protocol.specs.Client.{ClientState}
+use Rattle.cell_protocol.specs.ClientAttempts.{place_in_chunk, count_to_read, is_write}
 use Rattle.cell_refinement.specs.Known.{Known, Attempt, HasEntry, OnCall, IsWriteOf, IsRoundOpen, open_call_of, the_client_of, calls_made, kept_number, kept_seq, HasNoEntry}
 
 -- The client is up, and its call waits in this stage.

@@ -10,24 +10,24 @@ use Rattle.relaxed_file.specs.Order.{mutations_of}
 use Rattle.relaxed_file.specs.NameStep.{is_name_call}
 use Rattle.relaxed_file.specs.Machine.{Machine, Chunk, new_chunk, OpenCall, Asked, Opens, Replies, chunk_count}
 use Rattle.relaxed_file.specs.Run.{IsRunTo, Visible}
-use Rattle.cell_core.specs.declared.stage.Stage.{Stage}
-use Rattle.cell_core.specs.declared.stage.Stage.TheVariants as stage
-use Rattle.cell_core.specs.declared.stage.CurrentCall.{CurrentCall}
-use Rattle.cell_core.specs.declared.stage.ToldChunk.{ToldChunk}
-use Rattle.cell_core.specs.declared.standing.Standing.{Standing}
-use Rattle.cell_core.specs.declared.standing.Standing.TheVariants.{Settled, Denied}
-use Rattle.cell_core.specs.declared.rows.ChunkRow.{ChunkRow}
-use Rattle.cell_core.specs.declared.rows.KeptCall.{KeptCall}
-use Rattle.cell_core.specs.declared.observer.Placed.{Placed}
-use Rattle.cell_core.specs.Sending.{only_client, only_server}
-use Rattle.cell_core.specs.declared.standing.LeaseHeld.{LeaseHeld}
-use Rattle.cell_core.specs.Server.{ServerState, Replica}
-use Rattle.cell_core.specs.Master.{MasterState}
-use Rattle.cell_core.specs.MasterNames.{reply_of}
-use Rattle.cell_core.specs.Client.{ClientState}
-use Rattle.cell_core.specs.ClientAttempts.{is_write}
-use Rattle.cell_core.specs.Observer.{entries_of}
-use Rattle.cell_core.specs.World.{WorldState}
+use Rattle.cell_protocol.specs.declared.stage.Stage.{Stage}
+use Rattle.cell_protocol.specs.declared.stage.Stage.TheVariants as stage
+use Rattle.cell_protocol.specs.declared.stage.CurrentCall.{CurrentCall}
+use Rattle.cell_protocol.specs.declared.stage.ToldChunk.{ToldChunk}
+use Rattle.cell_protocol.specs.declared.standing.Standing.{Standing}
+use Rattle.cell_protocol.specs.declared.standing.Standing.TheVariants.{Settled, Denied}
+use Rattle.cell_protocol.specs.declared.rows.ChunkRow.{ChunkRow}
+use Rattle.cell_protocol.specs.declared.rows.KeptCall.{KeptCall}
+use Rattle.cell_protocol.specs.declared.observer.Placed.{Placed}
+use Rattle.cell_protocol.specs.Sending.{only_client, only_server}
+use Rattle.cell_protocol.specs.declared.standing.LeaseHeld.{LeaseHeld}
+use Rattle.cell_protocol.specs.Server.{ServerState, Replica}
+use Rattle.cell_protocol.specs.Master.{MasterState}
+use Rattle.cell_protocol.specs.MasterNames.{reply_of}
+use Rattle.cell_protocol.specs.Client.{ClientState}
+use Rattle.cell_protocol.specs.ClientAttempts.{is_write}
+use Rattle.cell_protocol.specs.Observer.{entries_of}
+use Rattle.cell_protocol.specs.World.{WorldState}
 use Rattle.cell_refinement.specs.Known.{Known, Spot, Attempt, IsAttempt, HasEntry, HasNoEntry, OnCall, IsChunkCall, IsWriteOf, IsReadOf, IsRoundOpen, open_call_of, the_client_of, calls_made, chunk_of}
 use Rattle.cell_refinement.specs.Says.{Says, SaysPush, IsReadable}
 

@@ -1,5 +1,5 @@
 use Rattle.std.proofs.Common.{◌≡◌, ◌≤◌, ◌+◌, ◌++◌, length}
-use Rattle.cell_core.specs.World.{stamped}
+use Rattle.cell_protocol.specs.World.{stamped}
 use Rattle.cell_core.proofs.network.with_numbers.Given as goal
 
 -- what is left completes the list
