@@ -22,7 +22,7 @@ impl Model for Entry {
     ghost view = { λ e. record { call = record { client = e.client; number = e.call_number }; round = e.round; mutation = e.mutation; settled = e.settled } };
 }
 
-ghost use Rattle.std.specs.Prelude.{◌≡◌};
+ghost use Rattle.std.specs.Prelude.{◌≡◌, ◌↔◌, IsTrue};
 
 impl Entry {
     pub fn new(
@@ -53,6 +53,17 @@ impl Entry {
         ensures { result.now ≡ self.now.mutation }
     {
         &self.mutation
+    }
+
+    /// Whether the other is an equal entry.
+    pub fn equals(&self, other: &Entry) -> bool
+        ensures { IsTrue result ↔ self.now ≡ other.now }
+    {
+        self.client == other.client
+            && self.call_number == other.call_number
+            && self.round == other.round
+            && self.mutation == other.mutation
+            && self.settled == other.settled
     }
 
     pub fn is_settled(&self) -> bool

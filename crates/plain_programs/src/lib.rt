@@ -5,3 +5,4 @@
 pub mod entry;
 pub mod image;
 pub mod regions;
+pub mod selection;

@@ -3,17 +3,19 @@ use Rattle.std.proofs.Common.{◌≡◌, ℕ, zero, suc, ◌+◌, ◌*◌, ◌<�
 use Rattle.std.specs.Prelude.{IsTrue, Contains, slice_get, option_map, ◌==◌, nat_lt}
 use Rattle.std.specs.List.{AllByRecursion}
 use Rattle.std.proofs.lemmas.Option.{none-some}
+use Rattle.gfs_types.specs.declared.answer.Answer.{Answer}
 use Rattle.gfs_types.specs.declared.call.Call.{Call}
 use Rattle.gfs_types.specs.declared.call.Call.TheVariants as call
+use Rattle.gfs_types.specs.declared.config.Config.{Config}
 use Rattle.gfs_types.specs.Image.{image_length}
 use Rattle.relaxed_file.specs.Order.{Entry, IsSelection, empty, takes, leaves, mutations_of}
 use Rattle.relaxed_file.specs.Machine.{Machine, Client, OpenCall, IsOpen, Outcome, Offer, Told, NoSuchChunk, chunk_at, chunk_count, chunk_size, put, with_client, with_step, with_chunk}
 use Rattle.relaxed_file.specs.NameStep.{performed, is_refused, stepped, with_outcome}
 use Rattle.relaxed_file.specs.Chunks.{chunk_added, begun_call, placed, with_entry}
-use Rattle.relaxed_file.specs.Reads.{offer_of, looked, read_slice}
+use Rattle.relaxed_file.specs.Reads.{offer_of, IsLook, looked, read_slice}
 use Rattle.relaxed_file.specs.Answers.{returned, IsSuccess}
-use Rattle.relaxed_file.specs.Run.{Action, Invoke, Return, ReturnFd, Step, FindBusy, FindFull, Lock, Add, Place, Tell, Note, Look, LookPast, Measure, MeasureNone, Allows, after, asked_file}
-use Rattle.relaxed_file.specs.RunLaws.{OwnSuccessesAreRead}
+use Rattle.relaxed_file.specs.Run.{Action, Invoke, Return, ReturnFd, Step, FindBusy, FindFull, Lock, Add, Place, Tell, Note, Look, LookPast, Measure, MeasureNone, Allows, after, LeadsTo, IsReached, asked_file}
+use Rattle.relaxed_file.specs.RunLaws.{IsOwnSuccess, OwnSuccessesAreRead}
 use Rattle.relaxed_file.proofs.Tables.{cond_keeps, put_look, put_same, at_some, contained, from_some}
 use Rattle.relaxed_file.proofs.Reached.{kept_to, leads_on, leads_by}
 use Rattle.relaxed_file.proofs.Known.{Known, known_step, asked_is}
@@ -180,8 +182,11 @@ has_place [] e h = absurd h
 has_place (x ∷ rest) e (inl same) = (0, omega arith, same)
 has_place (x ∷ rest) e (inr h) = let there : Contains rest e = has_place rest e h in (suc there.0, omega (arith, there.1), there.2)
 
-pub own_successes_are_read : OwnSuccessesAreRead
-own_successes_are_read config m n client file index e reply least last chosen reached own allowed way look =
+-- A client's looks after an answer name no round before that of its own success.
+pub own_rounds_are_named : (config : Config) (m n : Machine) (client file index : ℕ) (e : Entry) (reply : Answer) (least last : ℕ) (chosen : List Entry)
+    → IsReached config m → IsOwnSuccess m client file index e → Allows m (Return client reply)
+    → LeadsTo (after m (Return client reply)) n → IsLook n client file index least last chosen → e.round ≤ least
+own_rounds_are_named config m n client file index e reply least last chosen reached own allowed way look =
     let known : Known m = known_when_reached config m reached in
     let current : OpenCall = own.0 in
     let success : IsSuccess (record { client = client; number = current.number }) own.3 e = own.5 in
@@ -195,7 +200,12 @@ own_successes_are_read config m n client file index e reply least last chosen re
           (subst (StateReaches file index e.round) (sym (put_same client _ m.clients)) (record { note = note; offers = tt }));
     } in
     let later : Reaches client file index e.round n = kept_to (Reaches client file index e.round) (reaches_step client file index e.round) _ n way now in
-    let l : e.round ≤ least = subst (NoteReaches e.round) look.1 later.state.note in
+    subst (NoteReaches e.round) look.1 later.state.note
+
+pub own_successes_are_read : OwnSuccessesAreRead
+own_successes_are_read config m n client file index e reply least last chosen reached own allowed way look =
+    let success : IsSuccess (record { client = client; number = (own.0).number }) own.3 e = own.5 in
+    let l : e.round ≤ least = own_rounds_are_named config m n client file index e reply least last chosen reached own allowed way look in
     let there : slice_get (chunk_at n file index).order (own.2).0 ≡ Some e =
     settled_entries_stay config m n reached (leads_on m _ n (leads_by m (Return client reply) allowed) way) file index (own.2).0 e (found_at _ e own.2) success.1 in
     has_place chosen e (selected last look.3 (own.2).0 e there success.1 (omega (arith, l, look.2)))

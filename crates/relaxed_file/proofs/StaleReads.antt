@@ -31,17 +31,17 @@ use Rattle.relaxed_file.proofs.Moments.{leads, Split, split_shows}
 use Rattle.relaxed_file.proofs.InCall.{WasRead, WasTold, Exchange, exchange, answered_way, answers_now}
 use Rattle.relaxed_file.proofs.NotRuns.{shows_run}
 
-length_from : (size : ℕ) (ms : List Mutation) (place count : ℕ) → length (bytes_from size ms place count) ≡ count
+pub length_from : (size : ℕ) (ms : List Mutation) (place count : ℕ) → length (bytes_from size ms place count) ≡ count
 length_from size ms place zero = refl
 length_from size ms place (suc count) = let more : length (bytes_from size ms (suc place) count) ≡ count = length_from size ms (suc place) count in omega arith
 
 -- the image reaches the end of each mutation
-reaches_end : (size k : ℕ) (chosen : List Entry) (e : Entry) → k < length chosen → slice_index_or chosen k e ≡ e → end_of size e.mutation ≤ image_length size (mutations_of chosen)
+pub reaches_end : (size k : ℕ) (chosen : List Entry) (e : Entry) → k < length chosen → slice_index_or chosen k e ≡ e → end_of size e.mutation ≤ image_length size (mutations_of chosen)
 reaches_end size k [] e l is = absurd (omega arith)
 reaches_end size zero (x ∷ rest) e l is = let same : end_of size x.mutation ≡ end_of size e.mutation = ap (λ (w : Entry). end_of size w.mutation) is in omega arith
 reaches_end size (suc k) (x ∷ rest) e l is = let more : end_of size e.mutation ≤ image_length size (mutations_of rest) = reaches_end size k rest e (omega arith) is in omega arith
 
-empty_front : (xs ys : List ℕ) → [] ≡ xs ++ ys → length xs ≡ 0
+pub empty_front : (xs ys : List ℕ) → [] ≡ xs ++ ys → length xs ≡ 0
 empty_front xs ys h = let whole : 0 ≡ length (xs ++ ys) = ap (λ (l : List ℕ). length l) h in omega (arith, whole, length-append xs ys)
 
 abbrev index_of : Offer → ℕ
@@ -57,19 +57,19 @@ index_of_offer index round count true = refl
 index_of_offer index round count false = refl
 
 -- what is offered of a chunk that is there
-offered_there : (m : Machine) (file i j : ℕ) → j < chunk_count m file → NoSuchChunk i ≡ offer_of m file j → ⊥
+pub offered_there : (m : Machine) (file i j : ℕ) → j < chunk_count m file → NoSuchChunk i ≡ offer_of m file j → ⊥
 offered_there m file i j l h =
     subst is_none (h ∙ ap (λ b. cond b (Told j (chunk_at m file j).round (chunk_count m file)) (NoSuchChunk j)) (lt-ltb j (chunk_count m file) l)) tt
 
-offered_index : (m : Machine) (file i j : ℕ) → NoSuchChunk i ≡ offer_of m file j → i ≡ j
+pub offered_index : (m : Machine) (file i j : ℕ) → NoSuchChunk i ≡ offer_of m file j → i ≡ j
 offered_index m file i j h = ap index_of h ∙ index_of_offer j (chunk_at m file j).round (chunk_count m file) (nat_lt j (chunk_count m file))
 
 -- a record's own part of its chunk
-part_there : (size index offset count x : ℕ) → x ≡ index * size + offset → offset + count ≤ size → 0 < count → has_part size x count index ≡ true
+pub part_there : (size index offset count x : ℕ) → x ≡ index * size + offset → offset + count ≤ size → 0 < count → has_part size x count index ≡ true
 part_there size index offset count x is room some =
     lt-ltb (x - index * size) (min ((x + count) - index * size) size) (omega arith)
 
-part_bytes_there : (size index offset count x end : ℕ) → x ≡ index * size + offset → offset + count ≤ size → 0 < count → offset + count ≤ end
+pub part_bytes_there : (size index offset count x end : ℕ) → x ≡ index * size + offset → offset + count ≤ size → 0 < count → offset + count ≤ end
     → 0 < min (part_length size x count index) (end - part_start size x index)
 part_bytes_there size index offset count x end is room some far = omega arith
 

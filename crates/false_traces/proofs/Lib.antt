@@ -1,0 +1,3 @@
+mod Calm
+mod Looks
+mod Skipped
