@@ -1,2 +1,4 @@
 pub mod Lent
 pub mod Serials
+pub mod Numbers
+pub mod Successes

@@ -1,18 +1,18 @@
 -- Each call gives no serial, or the next one.
-use Rattle.std.proofs.Common.{◌≡◌, ℕ, ◌+◌, Bool, true, false, cond, eqb, ltb, List, [], ◌∷◌, ◌++◌, length, refl, sym, ap, ◌∙◌, subst, Some, None, Option, ◌⊎◌, inl, inr, arith}
+use Rattle.std.proofs.Common.{◌≡◌, ℕ, ◌+◌, Bool, true, false, cond, eqb, ltb, List, [], ◌∷◌, ◌++◌, length, refl, sym, ap, subst, Some, None, Option, ◌⊎◌, inl, inr}
 use Rattle.std.specs.FinMap.{get}
 use Rattle.gfs_types.specs.declared.ids.ClientId.{ClientId}
 use Rattle.gfs_types.specs.declared.refusal.Refusal.{Refusal}
 use Rattle.gfs_types.specs.declared.refusal.Refusal.TheVariants as refusal
 use Rattle.leases.specs.LeaseHeld.{counts}
 use Rattle.primary_order.specs.declared.answer.Accept.{Accept}
-use Rattle.primary_order.specs.declared.answer.Accept.TheVariants.{New, Again, Pending, Refused}
+use Rattle.primary_order.specs.declared.answer.Accept.TheVariants.{New, Pending, Refused}
 use Rattle.primary_order.specs.declared.kept.Standing.{Standing}
 use Rattle.primary_order.specs.declared.kept.Standing.TheVariants.{IsPending, IsSettled, IsRefused}
 use Rattle.primary_order.specs.declared.kept.Kept.{Kept}
 use Rattle.primary_order.specs.declared.waiting.Waiting.{Waiting}
 use Rattle.primary_order.specs.declared.primary.Primary.{Primary}
-use Rattle.primary_order.specs.PrimaryOrder.{counter_limit, known, known_by, answer_by, new_answer, numbered, numbered_if, accept_answer, accepted, denied_if, seen_at, settled_kept, settled_by, waiting_by, acknowledged, refused_by}
+use Rattle.primary_order.specs.PrimaryOrder.{counter_limit, known, known_by, answer_by, new_answer, numbered, numbered_if, denied_if, seen_at, settled_kept, settled_by, waiting_by, refused_by}
 use Rattle.primary_order.specs.Laws.{OrderCall, Attempt, AttemptWithoutMemory, Deny, Acknowledge, Refuse, ExtendLease, Report, EndLease, after_call, serials_in, serials_by, serials_of, counted_from}
 
 abbrev Next : ℕ → List ℕ → ℕ → Type 0

@@ -4,7 +4,6 @@ use Rattle.std.specs.List.{list_all, position, remove}
 use Rattle.std.specs.FinMap as map
 use Rattle.std.specs.Ordering.{nat_cmp}
 use Rattle.gfs_types.specs.declared.ids.ClientId.{ClientId}
-use Rattle.gfs_types.specs.declared.ids.Serial.{Serial}
 use Rattle.gfs_types.specs.declared.refusal.Refusal.{Refusal}
 use Rattle.gfs_types.specs.declared.refusal.Refusal.TheVariants as refusal
 use Rattle.gfs_types.specs.declared.mutation.Mutation.{Mutation}

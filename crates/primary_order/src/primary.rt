@@ -146,7 +146,8 @@ impl Primary {
         ensures answer { result ≡ ack_answer (seen_at self.old now.0) server.0 serial.0 }
         ensures after { self.new ≡ acknowledged (seen_at self.old now.0) server.0 serial.0 }
     {
-        if !self.held.valid(now) {
+        let counts = self.held.valid(now);
+        if !counts {
             return None;
         }
         let Waiting {
