@@ -5,6 +5,8 @@ ghost use Rattle.disk.specs.declared.device.DiskFault.TheVariants.{NoMemory};
 ghost use Rattle.disk.specs.Device.{ChangesOnly, Elapses, Follows, HasCause, Holds, NoMore, Only};
 
 use std::alloc::{AllocError, AllocFailed};
+use std::error::Error;
+use std::fmt;
 
 /// Why a disk's call failed.
 #[derive(Clone, Copy, Debug, PartialEq, Eq)]
@@ -14,6 +16,17 @@ pub enum DiskFault {
     /// Memory was refused, and no byte changed.
     NoMemory,
 }
+
+impl fmt::Display for DiskFault {
+    fn fmt<W: fmt::Write>(&self, f: &mut fmt::Formatter<W>) -> fmt::Result {
+        match self {
+            DiskFault::Device => write!(f, "disk failed"),
+            DiskFault::NoMemory => write!(f, "no memory"),
+        }
+    }
+}
+
+impl Error for DiskFault {}
 
 impl From<AllocError> for DiskFault {
     ghost from_gives = { λ _ e. e ≡ NoMemory };

@@ -44,7 +44,8 @@ impl<A: Allocator + Clone> FaultDisk<A> {
     pub fn into_disk(self) -> MemDisk<A>
         ensures { result ≡ self.disk }
     {
-        self.disk
+        let FaultDisk { disk, left: _ } = self;
+        disk
     }
 
     // Whether this call is to fail, which is noted.

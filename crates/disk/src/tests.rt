@@ -1,3 +1,9 @@
+//! Tests: each call once, the three ways of a stop, and refused memory.
+
+ghost use Rattle.std.specs.Prelude.{◌≡◌, ◌≤◌, ◌+◌, length, OnOk};
+ghost use Rattle.disk.specs.Bytes.{put_at};
+ghost use Rattle.disk.specs.Device.{Only};
+
 use crate::{Disk, DiskFault, FaultDisk, FuseDisk, MemDisk};
 use gfs_types::event::Torn;
 use linked_list_allocator::LocalHeap;
@@ -19,6 +25,17 @@ fn put<D: Disk>(disk: &mut D, at: usize, bytes: &[u8]) -> Option<Result<(), Disk
         return None;
     }
     Some(disk.write_at(at, bytes))
+}
+
+// The caller of CALLING.md.
+/// Writes the bytes and makes them durable: from then on each stop leaves them.
+fn store<D: Disk>(disk: &mut D, at: usize, bytes: &[u8]) -> Result<(), DiskFault>
+    requires { at + length bytes.now ≤ length (D.seen disk.old) }
+    ensures seen { OnOk result (D.seen disk.new ≡ put_at (D.seen disk.old) at bytes.now) }
+    ensures durable { OnOk result (Only (D.seen disk.new) (D.may_leave disk.new)) }
+{
+    disk.write_at(at, bytes)?;
+    disk.sync()
 }
 
 // The first four bytes, and zeros where the disk is shorter.
@@ -78,6 +95,19 @@ fn what_was_synced_stays(rt: HostRuntime) -> Result<(), Fail> {
         assert!(rt; four(&mut disk) == Ok([5, 9, 8, 4]));
         let want = [5, settled(torn, 6, 9), settled(torn, 3, 8), 4];
         assert!(rt; four(&mut disk.stop(torn)) == Ok(want));
+    }
+    Ok(())
+}
+
+#[test]
+fn what_a_caller_stored_stays(rt: HostRuntime) -> Result<(), Fail> {
+    for torn in WAYS {
+        let mut disk = FuseDisk::new(one_to_four(rt.alloc())?);
+        if disk.size() < 3 {
+            return Err(Fail::new("the disk is too small"));
+        }
+        assert!(rt; store(&mut disk, 1, &[9, 9]) == Ok(()));
+        assert!(rt; four(&mut disk.stop(torn)) == Ok([1, 9, 9, 4]));
     }
     Ok(())
 }
@@ -164,31 +194,45 @@ fn writes_taken<A: Allocator + Clone>(disk: &mut MemDisk<A>, count: u8) -> u8 {
     count
 }
 
-// Heaps too small for the disk, for the record of its writes, and large enough.
+// The first five bytes.
+fn five<D: Disk>(disk: &mut D) -> Result<[u8; 5], DiskFault> {
+    let mut out = [0; 5];
+    if disk.size() < 5 {
+        return Ok(out);
+    }
+    disk.read(0, &mut out)?;
+    Ok(out)
+}
+
+// Heaps that grow by the least block, so that each allocation in turn is the first to be refused: the disk's own, and those of five writes.
 #[test]
 fn refused_memory_changes_no_byte(rt: HostRuntime) -> Result<(), Fail> {
-    let (mut no_disk, mut part, mut all) = (false, false, false);
-    for size in 1..40 {
-        let heap = LocalHeap::new(rt.alloc(), size * 32)?;
+    let (mut no_disk, mut met) = (false, [false; 6]);
+    for size in 1..100 {
+        let heap = LocalHeap::new(rt.alloc(), size * 16)?;
         let Ok(mut disk) = MemDisk::new(&heap, 40) else {
             no_disk = true;
             continue;
         };
-        let taken = writes_taken(&mut disk, 4);
-        let mut want = [1, 2, 3, 4];
-        for i in taken as usize..4 {
+        let taken = writes_taken(&mut disk, 5).min(5) as usize;
+        let mut want = [1, 2, 3, 4, 5];
+        for i in taken..5 {
             want[i] = 0;
         }
-        assert!(rt; four(&mut disk) == Ok(want), "heap {size}");
+        assert!(rt; five(&mut disk) == Ok(want), "heap {size}");
         assert!(rt; disk.sync() == Ok(()));
-        if taken < 4 {
-            part = true;
-        } else {
-            all = true;
-        }
+        met[taken] = true;
         let mut stopped = FuseDisk::new(disk).stop(Torn::Byte(9));
-        assert!(rt; four(&mut stopped) == Ok(want));
+        assert!(rt; five(&mut stopped) == Ok(want), "heap {size}");
     }
-    assert!(rt; no_disk && part && all, "{no_disk}, {part}, {all}");
+    assert!(rt; no_disk);
+    assert_eq!(rt; met, [true; 6]);
+    Ok(())
+}
+
+#[test]
+fn faults_have_texts(rt: HostRuntime) -> Result<(), Fail> {
+    let texts = format!(in rt.alloc(); "{}, {}", DiskFault::Device, DiskFault::NoMemory)?;
+    assert_eq!(rt; texts.as_str(), "disk failed, no memory");
     Ok(())
 }
