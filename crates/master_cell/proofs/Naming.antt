@@ -1,8 +1,9 @@
 -- How a name call is taken, by the tests on the way.
-use Rattle.std.proofs.Common.{◌≡◌, ℕ, Bool, true, false, cond, ◌==◌, Option, Some, None, Result, Ok, Err, refl, ap, ◌∙◌}
+use Rattle.std.proofs.Common.{◌≡◌, ℕ, Bool, true, false, cond, ◌==◌, List, Option, Some, None, Ok, Err, refl, sym, ap, ◌∙◌}
 use Rattle.std.specs.Prelude.{nat_lt, nat_le}
 use Rattle.gfs_types.specs.declared.ids.Node.{Node}
 use Rattle.gfs_types.specs.declared.call.Call.{Call}
+use Rattle.gfs_types.specs.declared.call.Call.TheVariants as call
 use Rattle.gfs_types.specs.declared.refusal.Refusal.{Refusal}
 use Rattle.gfs_types.specs.declared.refusal.Refusal.TheVariants.{NamesFull}
 use Rattle.gfs_types.specs.Paths.{Path}
@@ -27,11 +28,20 @@ full_by m c p path None h = (cc, refl)
 full_by m c p path (Some s) h = absurd (cc)
 
 -- a name that meets no refusal is made, or finds no room
-pub full_so : (m : MasterState) (c : Call) (p path : Path) → Ok p ≡ free_path (refusal_of m.names c) path → MakesSo m c (Some NamesFull) m
-full_so m c p path h = (true, ap (made m c true) (full_by m c p path _ h).1)
+pub full_so : (m new other : MasterState) (c : Call) (p path : Path) (b : Bool) → Ok p ≡ free_path (refusal_of m.names c) path → b ≡ false → new ≡ cond b other m → MakesSo m c (Some NamesFull) new
+full_so m new other c p path b free full e =
+    (true, ap (made m c true) (full_by m c p path (refusal_of m.names c) free).1 ∙ ap (λ (s : MasterState). (s, Some NamesFull)) (sym (e ∙ ap (λ t. cond t other m) full)))
 
-pub made_so : (m new : MasterState) (c : Call) (p path : Path) → Ok p ≡ free_path (refusal_of m.names c) path → performed m c ≡ new → MakesSo m c None new
-made_so m new c p path h e = (false, ap (made m c false) (full_by m c p path _ h).1 ∙ ap (λ (s : MasterState). (s, None)) e)
+pub made_so : (m new : MasterState) (c : Call) (by : Path → MasterState) (p path : Path) (b : Bool) → Ok p ≡ free_path (refusal_of m.names c) path → performed m c ≡ by path → b ≡ true → new ≡ cond b (by p) m → MakesSo m c None new
+made_so m new c by p path b free is fits e =
+    let f : (p ≡ path) × (refusal_of m.names c ≡ None) = full_by m c p path (refusal_of m.names c) free in
+    (false, ap (made m c false) f.1 ∙ ap (λ (s : MasterState). (s, None)) (is ∙ (ap by (sym f.0) ∙ sym (e ∙ ap (λ t. cond t (by p) m) fits))))
+
+-- only the calls that make a name change names
+pub not_changing : (c : Call) → is_changing c ≡ true → ((x : List ℕ) → c ≡ call.Mkdir x → ⊥) → ((x : List ℕ) → c ≡ call.Create x → ⊥) → ⊥
+not_changing (call.Mkdir x) h no_mkdir no_create = no_mkdir x refl
+not_changing (call.Create x) h no_mkdir no_create = no_create x refl
+not_changing other h no_mkdir no_create = absurd (cc)
 
 settled : (m : MasterState) (client : Node) (number : ℕ) (c : Call) (refused : Bool) (o : Option Refusal)
     → names_by m client number c refused o ≡ settles_name (made m c refused o).0 client number (made m c refused o).1
@@ -64,10 +74,10 @@ module _ (m : MasterState) (client : Node) (number deadline : ℕ) (c : Call) wh
   first_so d h kept anew = by_kept None anew.0 d h kept anew.1
 
   -- a request that was answered gets the same answer
-  pub again_so : (k : KeptCall) → is_changing c ≡ true → m.kept ≡ Some k → number == k.number ≡ true → NamesSo m client number deadline c (answers_name m client number k.refusal)
-  again_so k h kept same =
-      by_kept (Some k) false _ h kept
-      (ap (λ t. cond t (answers_name m client number k.refusal) (cond (nat_lt number k.number) (stays m) (names_anew m client number deadline c false))) same)
+  pub again_so : (k : KeptCall) (d : Does MasterState) → is_changing c ≡ true → m.kept ≡ Some k → number == k.number ≡ true → answers_name m client number k.refusal ≡ d → NamesSo m client number deadline c d
+  again_so k d h kept same e =
+      by_kept (Some k) false d h kept
+      (ap (λ t. cond t (answers_name m client number k.refusal) (cond (nat_lt number k.number) (stays m) (names_anew m client number deadline c false))) same ∙ e)
 
   -- an older one gets none
   pub older_so : (k : KeptCall) → is_changing c ≡ true → m.kept ≡ Some k → number == k.number ≡ false → nat_lt number k.number ≡ true → NamesSo m client number deadline c (stays m)
