@@ -106,6 +106,7 @@ impl<A: Allocator + Clone> Master<A> {
     /// A step on a message, or on a tick.
     pub fn step(&mut self, now: Moment, message: Option<&Message>) -> StepOut
         requires { now.0 ≤ moment_limit }
+        ensures { MasterSteps self.old now.0 (input_of (option_copied message.entry)) result self.new }
     {
         let Ok(effects) = self.goes(now, message) else {
             return down(self.alloc);
