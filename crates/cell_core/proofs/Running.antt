@@ -1,5 +1,5 @@
 -- A world that was reached is explained, and runs are put together from the front.
-use Rattle.std.proofs.Common.{◌≡◌, ◌<◌, List, [], ◌∷◌, ◌++◌, Option, Some, None, refl, sym, ap, ◌∙◌, append_assoc}
+use Rattle.std.proofs.Common.{◌≡◌, ◌<◌, List, [], ◌∷◌, ◌++◌, Option, Some, None, refl, sym, ap, ◌∙◌, append_assoc, length, drop, arith}
 use Rattle.std.proofs.lemmas.List.{append-nil}
 use Rattle.gfs_types.specs.declared.config.Config.{Config}
 use Rattle.gfs_types.specs.declared.answer.Answer.{Answer}
@@ -24,18 +24,26 @@ abbrev pub GoesOn : WorldState → List Event → List Answer → WorldState →
 GoesOn old events answers mid left =
     (later : List Answer) (new : WorldState) → WorldRuns mid left later new → WorldRuns old events (answers ++ later) new
 
-pub begins : (w : WorldState) (events : List Event) → GoesOn w events [] w events
-begins w events later new r = r
+pub begins : (w : WorldState) (events left : List Event) (answers : List Answer) → left ≡ events → answers ≡ [] → GoesOn w events answers w left
+begins w events left answers is empty later new r = rw (empty, sym is) r
 
-pub in_silence : (old mid new : WorldState) (events left : List Event) (answers : List Answer) (event : Event) → GoesOn old events answers mid (event ∷ left) → WorldSteps mid event None new → GoesOn old events answers new left
-in_silence old mid new events left answers event g s later last r = g later last (runs_step mid new last event left None later s r)
+pub in_silence : (old mid new : WorldState) (events before left : List Event) (answers : List Answer) (event : Event) → GoesOn old events answers mid before → before ≡ event ∷ left → WorldSteps mid event None new
+    → GoesOn old events answers new left
+in_silence old mid new events before left answers event g is s later last r = g later last (rw is (runs_step mid new last event left None later s r))
 
-pub with_answer : (old mid new : WorldState) (events left : List Event) (answers : List Answer) (event : Event) (answer : Answer) → GoesOn old events answers mid (event ∷ left) → WorldSteps mid event (Some answer) new
-    → GoesOn old events (answers ++ answer ∷ []) new left
-with_answer old mid new events left answers event answer g s later last r =
-    rw (append_assoc answers (answer ∷ []) later) (g (answer ∷ later) last (runs_step mid new last event left (Some answer) later s r))
+pub with_answer : (old mid new : WorldState) (events before left : List Event) (answers more : List Answer) (event : Event) (answer : Answer) → GoesOn old events answers mid before → before ≡ event ∷ left → WorldSteps mid event (Some answer) new
+    → more ≡ answers ++ answer ∷ [] → GoesOn old events more new left
+with_answer old mid new events before left answers more event answer g is s more_is later last r =
+    rw (more_is, append_assoc answers (answer ∷ []) later) (g (answer ∷ later) last (rw is (runs_step mid new last event left (Some answer) later s r)))
 
-pub to_its_end : (old new : WorldState) (events : List Event) (answers : List Answer) → GoesOn old events answers new [] → WorldRuns old events answers new
-to_its_end old new events answers g =
-    let r = g [] new (runs_none new) in
-    record { steps = r.steps; events_are = r.events_are; answers_are = r.answers_are ∙ append-nil answers; leads = r.leads }
+-- a list whose first element is not there
+pub none_first : (before after : List Event) → before ≡ after → after ≡ drop 1 before → before ≡ []
+none_first [] after same rest = refl
+none_first (e ∷ es) after same rest =
+    let longer : length (e ∷ es) ≡ length es = ap (λ (xs : List Event). length xs) (same ∙ rest) in
+    absurd (omega (arith, longer))
+
+pub to_its_end : (old new : WorldState) (events left : List Event) (answers all : List Answer) → GoesOn old events answers new left → left ≡ [] → all ≡ answers → WorldRuns old events all new
+to_its_end old new events left answers all g is all_is =
+    let r = g [] new (rw is (runs_none new)) in
+    record { steps = r.steps; events_are = r.events_are; answers_are = r.answers_are ∙ (append-nil answers ∙ sym all_is); leads = r.leads }

@@ -1,5 +1,5 @@
 -- Events by what they come to.
-use Rattle.std.proofs.Common.{◌≡◌, ◌≤◌, ◌<◌, ℕ, Bool, true, false, List, [], Option, Some, None, refl, sym, ap, ◌∙◌, arith}
+use Rattle.std.proofs.Common.{◌≡◌, ◌≢◌, ◌⊎◌, inl, inr, ◌≤◌, ◌<◌, ℕ, Bool, true, false, List, [], Option, Some, None, refl, sym, ap, ◌∙◌, arith}
 use Rattle.std.specs.Prelude.{if◌then◌else◌, ◌==◌, nat_le}
 use Rattle.std.proofs.lemmas.Bool.Decides.{nat_tests}
 use Rattle.gfs_types.specs.declared.answer.Answer.{Answer}
@@ -8,6 +8,9 @@ use Rattle.gfs_types.specs.declared.message.Message.{Message}
 use Rattle.gfs_types.specs.declared.ids.ClientId.{ClientId}
 use Rattle.gfs_types.specs.declared.ids.Moment.{Moment}
 use Rattle.gfs_types.specs.declared.ids.Node.{Node}
+use Rattle.gfs_types.specs.declared.ids.ServerId.{ServerId}
+use Rattle.gfs_types.specs.declared.ids.Handle.{Handle}
+use Rattle.gfs_types.specs.declared.event.Torn.{Torn}
 use Rattle.gfs_types.specs.declared.event.Event.{Event}
 use Rattle.gfs_types.specs.declared.event.Event.TheVariants as event
 use Rattle.gfs_types.specs.declared.event.Input.TheVariants as input
@@ -20,10 +23,10 @@ use Rattle.cell_protocol.specs.Conforms.{WorldSteps}
 use Rattle.cell_core.specs.Standing.{Calls}
 use Rattle.cell_core.proofs.Moved.{no_choice}
 
-answer_of : Happened → Option Answer
+abbrev answer_of : Happened → Option Answer
 answer_of h = h.out.answer
 
-world_of : Happened → WorldState
+abbrev world_of : Happened → WorldState
 world_of h = h.world
 
 early : (moment : ℕ) → moment ≤ moment_limit → nat_le moment moment_limit ≡ true
@@ -51,9 +54,21 @@ late_message w number now h = nothing w _ (too_late w now.0 _ h)
 pub late_tick : (w : WorldState) (n : Node) (now : Moment) → moment_limit < now.0 → WorldSteps w (event.Tick n now) None w
 late_tick w n now h = nothing w _ (too_late w now.0 _ h)
 
-pub call_of_another : (w : WorldState) (client : ClientId) (c : Call) (now : Moment) → now.0 ≤ moment_limit → (client.0 == 1) ≡ false → WorldSteps w (event.Call client c now) None w
+not_one : (n : ℕ) → n ≢ 1 → (n == 1) ≡ false
+not_one n h = grind (arith, nat_tests)
+
+pub call_of_another : (w : WorldState) (client : ClientId) (c : Call) (now : Moment) → now.0 ≤ moment_limit → client.0 ≢ 1 → WorldSteps w (event.Call client c now) None w
 call_of_another w client c now h is =
-    nothing w _ (in_time w now.0 _ h ∙ ap (λ (b : Bool). if b then call_moves w now.0 c no_choice w.client else nothing_happens w) is)
+    nothing w _ (in_time w now.0 _ h ∙ ap (λ (b : Bool). if b then call_moves w now.0 c no_choice w.client else nothing_happens w) (not_one client.0 is))
+
+-- what this cell doesn't take
+pub idle : (w : WorldState) (e : Event)
+    → ((n : Node) × (now : Moment) × (e ≡ event.Restart n now))
+        ⊎ (((server : ServerId) × (handle : Handle) × (place : ℕ) × (byte : ℕ) × (e ≡ event.Rot server handle place byte)) ⊎ ((n : Node) × (count : ℕ) × (torn : Torn) × (e ≡ event.Fuse n count torn)))
+    → WorldSteps w e None w
+idle w e (inl h) = rw h.2 (nothing w _ refl)
+idle w e (inr (inl h)) = rw h.4 (nothing w _ refl)
+idle w e (inr (inr h)) = rw h.3 (nothing w _ refl)
 
 pub called : (w : WorldState) (client : ClientId) (c : Call) (now : Moment) (answer : Option Answer) (new : WorldState) → now.0 ≤ moment_limit → client.0 ≡ 1 → Calls w now.0 c answer new → WorldSteps w (event.Call client c now) answer new
 called w client c now answer new h is k =

@@ -139,19 +139,15 @@ impl<A: Allocator + Clone> Cell<A> {
             return None;
         };
         let out = client.call(now, copied);
-        match sends(&mut self.network, self.alloc, out) {
-            Ok((answer, seen)) => {
-                self.watch.passes(self.config.skew_ms, now);
-                self.watch.calls(number, call);
-                self.watch.answers(seen);
-                answer
-            }
-            Err(NoMemory) => {
-                self.watch.calls(number, call);
-                self.client = None;
-                None
-            }
-        }
+        let Ok((answer, seen)) = sends(&mut self.network, self.alloc, out) else {
+            self.watch.calls(number, call);
+            self.client = None;
+            return None;
+        };
+        self.watch.passes(self.config.skew_ms, now);
+        self.watch.calls(number, call);
+        self.watch.answers(seen);
+        answer
     }
 
     fn delivers(&mut self, number: u64, now: Moment) -> Option<Answer>
@@ -203,16 +199,12 @@ impl<A: Allocator + Clone> Cell<A> {
             return None;
         }
         let out = master.step(now, message);
-        match sends(&mut self.network, self.alloc, out) {
-            Ok((answer, _)) => {
-                self.watch.passes(self.config.skew_ms, now);
-                answer
-            }
-            Err(NoMemory) => {
-                self.master = None;
-                None
-            }
-        }
+        let Ok((answer, _)) = sends(&mut self.network, self.alloc, out) else {
+            self.master = None;
+            return None;
+        };
+        self.watch.passes(self.config.skew_ms, now);
+        answer
     }
 
     fn server_moves(&mut self, given: Option<u64>, now: Moment) -> Option<Answer>
@@ -229,17 +221,13 @@ impl<A: Allocator + Clone> Cell<A> {
             return None;
         }
         let Outcome { out, seen } = server.step(now, message);
-        match sends(&mut self.network, self.alloc, out) {
-            Ok((answer, _)) => {
-                self.watch.passes(self.config.skew_ms, now);
-                self.watch.sees(seen);
-                answer
-            }
-            Err(NoMemory) => {
-                self.server = None;
-                None
-            }
-        }
+        let Ok((answer, _)) = sends(&mut self.network, self.alloc, out) else {
+            self.server = None;
+            return None;
+        };
+        self.watch.passes(self.config.skew_ms, now);
+        self.watch.sees(seen);
+        answer
     }
 
     fn client_moves(&mut self, given: Option<u64>, now: Moment) -> Option<Answer>
@@ -256,17 +244,13 @@ impl<A: Allocator + Clone> Cell<A> {
             return None;
         }
         let out = client.step(now, message);
-        match sends(&mut self.network, self.alloc, out) {
-            Ok((answer, seen)) => {
-                self.watch.passes(self.config.skew_ms, now);
-                self.watch.answers(seen);
-                answer
-            }
-            Err(NoMemory) => {
-                self.client = None;
-                None
-            }
-        }
+        let Ok((answer, seen)) = sends(&mut self.network, self.alloc, out) else {
+            self.client = None;
+            return None;
+        };
+        self.watch.passes(self.config.skew_ms, now);
+        self.watch.answers(seen);
+        answer
     }
 }
 
