@@ -1,30 +1,23 @@
 -- Steps of the world in which a node is put down, or nothing happens.
-use Rattle.std.proofs.Common.{◌≡◌, ◌≢◌, arith, ℕ, Bool, true, false, List, [], Option, Some, None, refl, sym, ap, ◌∙◌}
+use Rattle.std.proofs.Common.{◌≡◌, ◌≢◌, arith, ℕ, Bool, true, false, List, [], Option, Some, None, sym, ap, ◌∙◌}
 use Rattle.std.proofs.lemmas.Bool.Decides.{nat_tests}
 use Rattle.std.specs.Prelude.{suc, if◌then◌else◌, ◌==◌}
 use Rattle.gfs_types.specs.declared.answer.Answer.{Answer}
 use Rattle.gfs_types.specs.declared.call.Call.{Call}
 use Rattle.gfs_types.specs.declared.event.Input.{Input}
-use Rattle.gfs_types.specs.declared.event.StepOut.{StepOut}
 use Rattle.gfs_types.specs.declared.message.Message.{Message}
 use Rattle.gfs_types.specs.declared.ids.ServerId.{ServerId}
 use Rattle.gfs_types.specs.declared.ids.ClientId.{ClientId}
 use Rattle.gfs_types.specs.declared.ids.Node.TheVariants as node
-use Rattle.cell_protocol.specs.declared.seen.Numbering.{Numbering}
 use Rattle.cell_protocol.specs.Choice.{Choice, Lost}
 use Rattle.cell_protocol.specs.Sending.{server_id, client_id}
-use Rattle.cell_protocol.specs.Seen.{Taken, down_output}
 use Rattle.cell_protocol.specs.Server.{ServerState}
-use Rattle.cell_protocol.specs.ServerStep.{server_step}
 use Rattle.cell_protocol.specs.Master.{MasterState}
-use Rattle.cell_protocol.specs.MasterStep.{master_step}
 use Rattle.cell_protocol.specs.Client.{ClientState}
-use Rattle.cell_protocol.specs.ClientStep.{may_call, client_call, client_step}
-use Rattle.cell_protocol.specs.Doing.{input_of, message_named}
-use Rattle.cell_protocol.specs.Observer.{Observer, observed_moment, observed_call, observed_answer, observed}
-use Rattle.cell_protocol.specs.World.{WorldState, Happened, nothing_happens, all_sent, after_master, after_server, after_client, after_call, master_moves, server_moves, client_moves, call_moves, moves}
+use Rattle.cell_protocol.specs.ClientStep.{may_call, client_call}
+use Rattle.cell_protocol.specs.Observer.{Observer, observed_call}
+use Rattle.cell_protocol.specs.World.{WorldState, Happened, nothing_happens, after_call, master_moves, server_moves, client_moves, call_moves}
 use Rattle.cell_protocol.specs.Moving.{Moves}
-use Rattle.cell_protocol.specs.Conforms.{left_by, Gives, MasterSteps, ServerSteps, ClientCalls, ClientSteps}
 use Rattle.cell_core.specs.Standing.{Calls}
 
 -- where nothing is done the choice is any
@@ -93,7 +86,7 @@ call_down w moment c is =
 pub call_barred : (w : WorldState) (s : ClientState) (moment : ℕ) (c : Call) → w.client ≡ Some s → may_call s c ≡ false → Calls w moment c None (record w { client = Some s })
 call_barred w s moment c is may =
     let h = ap (λ (o : Option ClientState). call_moves w moment c no_choice o) is
-        ∙ ap (λ (b : Bool). if b then after_call w moment (suc s.call_count) c (client_call s moment c no_choice).out (client_call s moment c no_choice).state else nothing_happens w) may in
+    ∙ ap (λ (b : Bool). if b then after_call w moment (suc s.call_count) c (client_call s moment c no_choice).out (client_call s moment c no_choice).state else nothing_happens w) may in
     record { choice = no_choice; answer_is = ap answer_of h; world_is = ap world_of h ∙ ap (λ (o : Option ClientState). record w { client = o }) is }
 
 -- memory was refused, and the node is put down

@@ -1,10 +1,9 @@
 -- A world that was reached is explained, and runs are put together from the front.
-use Rattle.std.proofs.Common.{◌≡◌, ◌<◌, List, [], ◌∷◌, ◌++◌, Option, Some, None, refl, sym, ap, ◌∙◌, append_assoc, length, drop, arith}
+use Rattle.std.proofs.Common.{◌≡◌, List, [], ◌∷◌, ◌++◌, Option, Some, None, refl, sym, ap, ◌∙◌, append_assoc, length, drop, arith}
 use Rattle.std.proofs.lemmas.List.{append-nil}
-use Rattle.gfs_types.specs.declared.config.Config.{Config}
 use Rattle.gfs_types.specs.declared.answer.Answer.{Answer}
 use Rattle.gfs_types.specs.declared.event.Event.{Event}
-use Rattle.cell_protocol.specs.World.{WorldState, IsReached, IsExplained}
+use Rattle.cell_protocol.specs.World.{WorldState, IsExplained}
 use Rattle.cell_protocol.specs.Conforms.{WorldSteps, WorldRuns}
 use Rattle.cell_protocol.proofs.Reached.{reached_on, runs_none, runs_step}
 use Rattle.cell_refinement.proofs.WorldRuns.{answers_are_a_run}

@@ -1,5 +1,5 @@
 -- Events by what they come to.
-use Rattle.std.proofs.Common.{◌≡◌, ◌≢◌, ◌⊎◌, inl, inr, ◌≤◌, ◌<◌, ℕ, Bool, true, false, List, [], Option, Some, None, refl, sym, ap, ◌∙◌, arith}
+use Rattle.std.proofs.Common.{◌≡◌, ◌≢◌, ◌⊎◌, inl, inr, ◌≤◌, ◌<◌, ℕ, Bool, true, false, Option, Some, None, refl, sym, ap, ◌∙◌, arith}
 use Rattle.std.specs.Prelude.{if◌then◌else◌, ◌==◌, nat_le}
 use Rattle.std.proofs.lemmas.Bool.Decides.{nat_tests}
 use Rattle.gfs_types.specs.declared.answer.Answer.{Answer}
@@ -15,7 +15,6 @@ use Rattle.gfs_types.specs.declared.event.Event.{Event}
 use Rattle.gfs_types.specs.declared.event.Event.TheVariants as event
 use Rattle.gfs_types.specs.declared.event.Input.TheVariants as input
 use Rattle.cell_protocol.specs.Tables.{moment_limit, numbered_from_1}
-use Rattle.cell_protocol.specs.Choice.{Choice}
 use Rattle.cell_protocol.specs.Doing.{input_of, message_named}
 use Rattle.cell_protocol.specs.World.{WorldState, Happened, nothing_happens, moves, delivered, call_moves, at_moment, happens}
 use Rattle.cell_protocol.specs.Moving.{Moves}
@@ -64,7 +63,7 @@ call_of_another w client c now h is =
 -- what this cell doesn't take
 pub idle : (w : WorldState) (e : Event)
     → ((n : Node) × (now : Moment) × (e ≡ event.Restart n now))
-        ⊎ (((server : ServerId) × (handle : Handle) × (place : ℕ) × (byte : ℕ) × (e ≡ event.Rot server handle place byte)) ⊎ ((n : Node) × (count : ℕ) × (torn : Torn) × (e ≡ event.Fuse n count torn)))
+    ⊎ (((server : ServerId) × (handle : Handle) × (place : ℕ) × (byte : ℕ) × (e ≡ event.Rot server handle place byte)) ⊎ ((n : Node) × (count : ℕ) × (torn : Torn) × (e ≡ event.Fuse n count torn)))
     → WorldSteps w e None w
 idle w e (inl h) = rw h.2 (nothing w _ refl)
 idle w e (inr (inl h)) = rw h.4 (nothing w _ refl)
@@ -88,6 +87,6 @@ pub brought : (w : WorldState) (number : ℕ) (m : Message) (now : Moment) (answ
     → Moves w m.receiver now.0 (input_of (message_named w.sent (Some number))) answer new → WorldSteps w (event.Deliver number now) answer new
 brought w number m now answer new h is moved =
     let same = in_time w now.0 _ h
-        ∙ (ap (λ (o : Option Message). delivered w now.0 moved.choice o) is
-        ∙ sym (ap (λ (o : Option Message). moves w m.receiver now.0 (input_of o) moved.choice) is)) in
+    ∙ (ap (λ (o : Option Message). delivered w now.0 moved.choice o) is
+    ∙ sym (ap (λ (o : Option Message). moves w m.receiver now.0 (input_of o) moved.choice) is)) in
     record { choice = moved.choice; answer_is = ap answer_of same ∙ moved.answer_is; world_is = ap world_of same ∙ moved.world_is }

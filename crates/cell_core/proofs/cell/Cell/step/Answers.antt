@@ -5,8 +5,8 @@ use Rattle.cell_core.proofs.cell.Cell.step.Goals.{then-now-gt-MOMENT_LIMIT-via-t
 pub returns-then-now-gt-MOMENT_LIMIT-clause-steps : goal.returns-then-now-gt-MOMENT_LIMIT-clause-steps
 returns-then-now-gt-MOMENT_LIMIT-clause-steps g c =
     elim c.then-now-gt-MOMENT_LIMIT.branch [
-      then-now-gt-MOMENT_LIMIT-via-then-now-gt-MOMENT_LIMIT w ↦ rw c.in-Call.is (late_call _ _ _ _ w.if-now-gt-MOMENT_LIMIT.true)
-    | then-now-gt-MOMENT_LIMIT-via-else-now-gt-MOMENT_LIMIT+then-client-ne1 w ↦ rw c.in-Call.is (call_of_another _ _ _ _ w.if-now-gt-MOMENT_LIMIT.false w.if-client-ne1.true)
+      | then-now-gt-MOMENT_LIMIT-via-then-now-gt-MOMENT_LIMIT w ↦ rw c.in-Call.is (late_call _ _ _ _ w.if-now-gt-MOMENT_LIMIT.true)
+      | then-now-gt-MOMENT_LIMIT-via-else-now-gt-MOMENT_LIMIT+then-client-ne1 w ↦ rw c.in-Call.is (call_of_another _ _ _ _ w.if-now-gt-MOMENT_LIMIT.false w.if-client-ne1.true)
     ]
 
 pub returns-then-now-gt-MOMENT_LIMIT-2-clause-steps : goal.returns-then-now-gt-MOMENT_LIMIT-2-clause-steps

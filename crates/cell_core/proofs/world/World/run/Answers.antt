@@ -1,4 +1,4 @@
-use Rattle.std.proofs.Common.{◌≡◌, List, ◌∷◌, length, ap, sym, arith}
+use Rattle.std.proofs.Common.{◌≡◌, List, ◌∷◌, length, ap, arith}
 use Rattle.gfs_types.specs.declared.event.Event.{Event}
 use Rattle.cell_core.proofs.Running.{explained, begins, in_silence, with_answer, none_first, to_its_end}
 use Rattle.cell_core.proofs.world.World.run.Goals as goal
@@ -39,4 +39,4 @@ loop-event-preserved g c =
 pub returns-clause-ok : goal.returns-clause-ok
 returns-clause-ok g c =
     to_its_end c.args.self.now c.loop-event.self c.args.events.now c.loop-event.left.items c.loop-event.answers.items c.into_vec.result.items c.loop-event.invariant.runs
-        (none_first c.loop-event.left.items c.pop_front.new.self.items c.in_default.ensures.items c.in_default.ensures.rest) c.into_vec.ensures
+    (none_first c.loop-event.left.items c.pop_front.new.self.items c.in_default.ensures.items c.in_default.ensures.rest) c.into_vec.ensures
