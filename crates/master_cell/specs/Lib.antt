@@ -1,1 +1,2 @@
 pub mod NameKinds
+pub mod Making

@@ -116,6 +116,7 @@ impl<A: Allocator + Clone> Master<A> {
 
     fn goes(&mut self, now: Moment, message: Option<&Message>) -> Result<Effects, NoMemory>
         requires { now.0 ≤ moment_limit }
+        ensures { IfOk result (λ e. GoesSo self.old now.0 (input_of (option_copied message.entry)) (does self.new e)) }
     {
         if !self.is_within_limits() {
             return Ok(Effects::none(self.alloc));
@@ -144,6 +145,7 @@ impl<A: Allocator + Clone> Master<A> {
 
     fn take(&mut self, message: &Message) -> Result<Effects, NoMemory>
         requires { IsTrue (is_master_within_limits self.old) }
+        ensures { IfOk result (λ e. TakesSo self.old message.now message.now.body (does self.new e)) }
     {
         match &message.body {
             Body::Name {

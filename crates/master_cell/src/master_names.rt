@@ -1,8 +1,8 @@
 //! Name calls at the master: the first refusal in order, else the effect (section 4.1).
 
-ghost use Rattle.std.specs.Prelude.{◌≡◌, Bool, Option, Some, None, true, false, IfOk, IsTrue};
+ghost use Rattle.std.specs.Prelude.{◌≡◌, if◌then◌else◌, IfOk, IsTrue};
 ghost use Rattle.std.specs.FinMap as map;
-ghost use Rattle.relaxed_file.specs.Names.{listing, node_at, is_taken, is_dir};
+ghost use Rattle.relaxed_file.specs.Names.{listing, is_dir};
 ghost use Rattle.relaxed_file.specs.NameStep.{outcome_of, refusal_of, is_in_trash};
 ghost use Rattle.gfs_types.specs.declared.call.Call.TheVariants as call;
 ghost use Rattle.gfs_types.specs.declared.answer.Answer.TheVariants as answer;
@@ -12,7 +12,8 @@ ghost use Rattle.gfs_types.specs.Paths.{is_path, parent};
 ghost use Rattle.master_cell.specs.NameKinds.{named};
 ghost use Rattle.cell_protocol.specs.Doing.{does, NamesSo};
 ghost use Rattle.cell_protocol.specs.Master.{is_master_within_limits};
-ghost use Rattle.cell_protocol.specs.MasterNames.{takes_look, answers_name, settles_name, reply_by, names_anew};
+ghost use Rattle.cell_protocol.specs.MasterNames.{takes_look, answers_name, reply_by, is_changing, with_kept_call, with_directory, with_new_file};
+ghost use Rattle.master_cell.specs.Making.{free_path, MakesSo, AnewSo};
 
 use crate::master::Master;
 use crate::names::{NameKind, NameNode};
@@ -27,13 +28,6 @@ use gfs_types::no_memory::NoMemory;
 use gfs_types::path::{Path, PathFault};
 use gfs_types::refusal::Refusal;
 use std::alloc::{Allocator, Global};
-
-/// What a changing call asks for.
-#[derive(Clone, Copy, Debug, PartialEq, Eq)]
-enum Making {
-    Directory,
-    File,
-}
 
 impl<A: Allocator + Clone> Master<A> {
     /// Open and List read the names alone.
@@ -109,29 +103,47 @@ impl<A: Allocator + Clone> Master<A> {
         call: &Call,
     ) -> Result<Effects, NoMemory>
         requires { IsTrue (is_master_within_limits self.old) }
+        ensures { IfOk result (λ e. NamesSo self.old client call_number deadline.0 call.now (does self.new e)) }
     {
-        let (making, text) = match call {
-            Call::Mkdir(text) => (Making::Directory, text),
-            Call::Create(text) => (Making::File, text),
-            _ => return Ok(Effects::none(self.alloc)),
-        };
-        if let Some(kept) = self.kept {
-            if call_number == kept.number {
-                return self.answers_name(client, call_number, kept.refusal);
-            }
-            if call_number < kept.number {
-                return Ok(Effects::none(self.alloc));
-            }
+        if !is_changing(call) {
+            return Ok(Effects::none(self.alloc));
         }
+        let Some(kept) = self.kept else {
+            return self.takes_anew(client, call_number, deadline, call);
+        };
+        if call_number == kept.number {
+            return self.answers_name(client, call_number, kept.refusal);
+        }
+        if call_number < kept.number {
+            return Ok(Effects::none(self.alloc));
+        }
+        self.takes_anew(client, call_number, deadline, call)
+    }
+
+    /// A request that was not answered before, which is taken only before its deadline.
+    fn takes_anew(
+        &mut self,
+        client: Node,
+        call_number: u64,
+        deadline: Moment,
+        call: &Call,
+    ) -> Result<Effects, NoMemory>
+        requires limits { IsTrue (is_master_within_limits self.old) }
+        requires changing { IsTrue (is_changing call.now) }
+        ensures { IfOk result (λ e. AnewSo self.old client call_number deadline.0 call.now (does self.new e)) }
+    {
         if deadline.0 <= self.clock {
             return Ok(Effects::none(self.alloc));
         }
-        let refusal = self.makes(making, text)?;
-        self.kept = Some(KeptCall {
-            number: call_number,
-            refusal,
-        });
+        let refusal = self.makes(call)?;
+        self.keeps(call_number, refusal);
         self.answers_name(client, call_number, refusal)
+    }
+
+    fn keeps(&mut self, number: u64, refusal: Option<Refusal>)
+        ensures { self.new ≡ with_kept_call self.old number refusal }
+    {
+        self.kept = Some(KeptCall { number, refusal });
     }
 
     fn answers_name(
@@ -156,39 +168,72 @@ impl<A: Allocator + Clone> Master<A> {
     }
 
     /// The refusal of a call that makes a name, or its effect.
-    fn makes(&mut self, making: Making, text: &Text) -> Result<Option<Refusal>, NoMemory>
+    fn makes(&mut self, call: &Call) -> Result<Option<Refusal>, NoMemory>
+        requires limits { IsTrue (is_master_within_limits self.old) }
+        requires changing { IsTrue (is_changing call.now) }
+        ensures { IfOk result (λ r. MakesSo self.old call.now r self.new) }
+    {
+        match call {
+            Call::Mkdir(text) => self.makes_directory(text),
+            Call::Create(text) => self.makes_file(text),
+            _ => Ok(None),
+        }
+    }
+
+    fn makes_directory(&mut self, text: &Text) -> Result<Option<Refusal>, NoMemory>
+        ensures { IfOk result (λ r. MakesSo self.old (call.Mkdir text.now) r self.new) }
+    {
+        let path = match self.free_path(text)? {
+            Ok(path) => path,
+            Err(refusal) => return Ok(Some(refusal)),
+        };
+        if !self.adds_directory(&path) {
+            return Ok(Some(Refusal::NamesFull));
+        }
+        Ok(None)
+    }
+
+    fn makes_file(&mut self, text: &Text) -> Result<Option<Refusal>, NoMemory>
         requires { IsTrue (is_master_within_limits self.old) }
+        ensures { IfOk result (λ r. MakesSo self.old (call.Create text.now) r self.new) }
+    {
+        let path = match self.free_path(text)? {
+            Ok(path) => path,
+            Err(refusal) => return Ok(Some(refusal)),
+        };
+        if !self.adds_file(&path)? {
+            return Ok(Some(Refusal::NamesFull));
+        }
+        Ok(None)
+    }
+
+    /// The path of a name that may be made, or else the refusal.
+    fn free_path(&self, text: &Text) -> Result<Result<Path, Refusal>, NoMemory>
+        ensures { IfOk result (λ r. r ≡ free_path (refusal_of self.now.names (call.Mkdir text.now)) text.now) }
     {
         let path = match Path::parse(text.as_str(), self.alloc) {
             Ok(path) => path,
-            Err(PathFault::BadPath) => return Ok(Some(Refusal::BadPath)),
+            Err(PathFault::BadPath) => return Ok(Err(Refusal::BadPath)),
             Err(PathFault::NoMemory) => return Err(NoMemory),
         };
-        if let Some(refusal) = self.refusal_of(&path)? {
-            return Ok(Some(refusal));
-        }
-        match making {
-            Making::Directory => Ok(self.makes_directory(&path)),
-            Making::File => self.makes_file(&path),
+        match self.refusal_of(&path)? {
+            Some(refusal) => Ok(Err(refusal)),
+            None => Ok(Ok(path)),
         }
     }
 
     /// The refusal of a name that is to be made.
-    fn refusal_of(&self, path: &Path) -> Result<Option<Refusal>, NoMemory> {
+    fn refusal_of(&self, path: &Path) -> Result<Option<Refusal>, NoMemory>
+        ensures { IfOk result (λ r. r ≡ refusal_of self.now.names (call.Mkdir path.now)) }
+    {
         if is_in_trash(path.as_str()) {
             return Ok(Some(Refusal::Reserved));
         }
-        let parent = match Path::parse(parent_of(path.as_str()), self.alloc) {
-            Ok(parent) => parent,
-            Err(_) => return Err(NoMemory),
+        let Ok(parent) = Path::parse(parent_of(path.as_str()), self.alloc) else {
+            return Err(NoMemory);
         };
-        match self.names.get(&parent) {
-            None => return Ok(Some(Refusal::NoParent)),
-            Some(node) => {
-                if !node.is_dir() {
-                    return Ok(Some(Refusal::NoParent));
-                }
-            }
+        if !self.is_dir(&parent) {
+            return Ok(Some(Refusal::NoParent));
         }
         if self.names.get(path).is_some() {
             return Ok(Some(Refusal::Exists));
@@ -196,28 +241,43 @@ impl<A: Allocator + Clone> Master<A> {
         Ok(None)
     }
 
-    fn makes_directory(&mut self, path: &Path) -> Option<Refusal> {
-        match self.names.insert(path, NameNode::dir()) {
-            Ok(()) => None,
-            Err(_) => Some(Refusal::NamesFull),
+    fn is_dir(&self, path: &Path) -> bool
+        ensures { result ≡ is_dir self.now.names path.now }
+    {
+        match self.names.get(path) {
+            Some(node) => node.is_dir(),
+            None => false,
         }
     }
 
-    fn makes_file(&mut self, path: &Path) -> Result<Option<Refusal>, NoMemory>
-        requires { IsTrue (is_master_within_limits self.old) }
+    /// A directory at a free name: whether there was room for the name.
+    fn adds_directory(&mut self, path: &Path) -> bool
+        ensures { self.new ≡ (if result then with_directory self.old path.now else self.old) }
     {
-        if self
-            .names
-            .insert(path, NameNode::file(FileId(self.next_file)))
-            .is_err()
-        {
-            return Ok(Some(Refusal::NamesFull));
+        self.names.insert(path, NameNode::dir()).is_ok()
+    }
+
+    /// A file without chunks at a free name: whether there was room for the name.
+    fn adds_file(&mut self, path: &Path) -> Result<bool, NoMemory>
+        requires { IsTrue (is_master_within_limits self.old) }
+        ensures { IfOk result (λ is_added. self.new ≡ (if is_added then with_new_file self.old path.now else self.old)) }
+    {
+        let node = NameNode::file(FileId(self.next_file));
+        if self.names.insert(path, node).is_err() {
+            return Ok(false);
         }
         self.files
             .insert(self.next_file, HandleList::empty(self.alloc))?;
         self.next_file += 1;
-        Ok(None)
+        Ok(true)
     }
+}
+
+/// The calls that change names and are served.
+fn is_changing(call: &Call) -> bool
+    ensures { result ≡ is_changing call.now }
+{
+    matches!(call, Call::Mkdir(_) | Call::Create(_))
 }
 
 /// A name as it is listed: a directory's has a slash after it.
