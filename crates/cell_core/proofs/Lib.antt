@@ -1,1 +1,4 @@
 pub mod Fitting
+pub mod Moved
+pub mod Stepped
+pub mod Running

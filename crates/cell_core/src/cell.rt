@@ -10,6 +10,7 @@ ghost use Rattle.cell_protocol.specs.Tables.{moment_limit};
 ghost use Rattle.cell_protocol.specs.Bounds.{Fits};
 ghost use Rattle.cell_protocol.specs.World.{new_world, all_sent};
 ghost use Rattle.cell_protocol.specs.Conforms.{WorldSteps};
+ghost use Rattle.cell_core.specs.Standing.{Calls};
 
 use crate::network::Network;
 use crate::watch::Watch;
@@ -88,6 +89,7 @@ impl<A: Allocator + Clone> Cell<A> {
     /// One event. One that names no such node, message or moment, or a node that is down, changes nothing.
     pub fn step(&mut self, event: Event) -> Option<Answer>
         ensures config { self.new.config ≡ self.old.config }
+        ensures steps { WorldSteps self.old event result self.new }
     {
         match event {
             Event::Call { client, call, now } => {
@@ -116,6 +118,7 @@ impl<A: Allocator + Clone> Cell<A> {
     fn takes_call(&mut self, call: Call, now: Moment) -> Option<Answer>
         requires { now.0 ≤ moment_limit }
         ensures config { self.new.config ≡ self.old.config }
+        ensures steps { Calls self.old now.0 call result self.new }
     {
         let Some(client) = &mut self.client else {
             return None;
@@ -136,24 +139,21 @@ impl<A: Allocator + Clone> Cell<A> {
             return None;
         };
         let out = client.call(now, copied);
-        match sends(&mut self.network, self.alloc, out) {
-            Ok((answer, seen)) => {
-                self.watch.passes(self.config.skew_ms, now);
-                self.watch.calls(number, call);
-                self.watch.answers(seen);
-                answer
-            }
-            Err(NoMemory) => {
-                self.watch.calls(number, call);
-                self.client = None;
-                None
-            }
-        }
+        let Ok((answer, seen)) = sends(&mut self.network, self.alloc, out) else {
+            self.watch.calls(number, call);
+            self.client = None;
+            return None;
+        };
+        self.watch.passes(self.config.skew_ms, now);
+        self.watch.calls(number, call);
+        self.watch.answers(seen);
+        answer
     }
 
     fn delivers(&mut self, number: u64, now: Moment) -> Option<Answer>
         requires { now.0 ≤ moment_limit }
         ensures config { self.new.config ≡ self.old.config }
+        ensures steps { WorldSteps self.old (event.Deliver number now) result self.new }
     {
         let Some(message) = self.network.get(number) else {
             return None;
@@ -166,6 +166,7 @@ impl<A: Allocator + Clone> Cell<A> {
     fn moves(&mut self, node: Node, given: Option<u64>, now: Moment) -> Option<Answer>
         requires { now.0 ≤ moment_limit }
         ensures config { self.new.config ≡ self.old.config }
+        ensures steps { Moves self.old node now.0 (input_of (message_named self.old.sent given)) result self.new }
     {
         match node {
             Node::Master => self.master_moves(given, now),
@@ -187,6 +188,7 @@ impl<A: Allocator + Clone> Cell<A> {
     fn master_moves(&mut self, given: Option<u64>, now: Moment) -> Option<Answer>
         requires { now.0 ≤ moment_limit }
         ensures config { self.new.config ≡ self.old.config }
+        ensures steps { Moves self.old node_kind.Master now.0 (input_of (message_named self.old.sent given)) result self.new }
     {
         let Some(master) = &mut self.master else {
             return None;
@@ -197,17 +199,18 @@ impl<A: Allocator + Clone> Cell<A> {
             return None;
         }
         let out = master.step(now, message);
-        if sends(&mut self.network, self.alloc, out).is_err() {
+        let Ok((answer, _)) = sends(&mut self.network, self.alloc, out) else {
             self.master = None;
             return None;
-        }
+        };
         self.watch.passes(self.config.skew_ms, now);
-        None
+        answer
     }
 
     fn server_moves(&mut self, given: Option<u64>, now: Moment) -> Option<Answer>
         requires { now.0 ≤ moment_limit }
         ensures config { self.new.config ≡ self.old.config }
+        ensures steps { Moves self.old (node_kind.Server (server_id 1)) now.0 (input_of (message_named self.old.sent given)) result self.new }
     {
         let Some(server) = &mut self.server else {
             return None;
@@ -218,18 +221,19 @@ impl<A: Allocator + Clone> Cell<A> {
             return None;
         }
         let Outcome { out, seen } = server.step(now, message);
-        if sends(&mut self.network, self.alloc, out).is_err() {
+        let Ok((answer, _)) = sends(&mut self.network, self.alloc, out) else {
             self.server = None;
             return None;
-        }
+        };
         self.watch.passes(self.config.skew_ms, now);
         self.watch.sees(seen);
-        None
+        answer
     }
 
     fn client_moves(&mut self, given: Option<u64>, now: Moment) -> Option<Answer>
         requires { now.0 ≤ moment_limit }
         ensures config { self.new.config ≡ self.old.config }
+        ensures steps { Moves self.old (node_kind.Client (client_id 1)) now.0 (input_of (message_named self.old.sent given)) result self.new }
     {
         let Some(client) = &mut self.client else {
             return None;
@@ -240,17 +244,13 @@ impl<A: Allocator + Clone> Cell<A> {
             return None;
         }
         let out = client.step(now, message);
-        match sends(&mut self.network, self.alloc, out) {
-            Ok((answer, seen)) => {
-                self.watch.passes(self.config.skew_ms, now);
-                self.watch.answers(seen);
-                answer
-            }
-            Err(NoMemory) => {
-                self.client = None;
-                None
-            }
-        }
+        let Ok((answer, seen)) = sends(&mut self.network, self.alloc, out) else {
+            self.client = None;
+            return None;
+        };
+        self.watch.passes(self.config.skew_ms, now);
+        self.watch.answers(seen);
+        answer
     }
 }
 

@@ -1,10 +1,14 @@
 //! A cell that a list of events led to.
 
-ghost use Rattle.std.specs.Prelude.{◌≡◌, IfOk, OnErr, length};
+ghost use Rattle.std.specs.Prelude.{◌≡◌, ◌<◌, None, IfOk, OnOk, IfErr, OnErr, length};
+ghost use Rattle.std.specs.Result.{result_err};
+ghost use Rattle.gfs_types.specs.Settings.{first_out_of_range};
+ghost use Rattle.cell_core.specs.Starting.{IsWhy};
 ghost use Rattle.std.specs.Option.{option_copied};
 ghost use Rattle.cell_protocol.specs.Tables.{numbered_from_1};
 ghost use Rattle.cell_protocol.specs.Bounds.{Fits};
-ghost use Rattle.cell_protocol.specs.World.{new_world};
+ghost use Rattle.cell_protocol.specs.World.{new_world, IsExplained};
+ghost use Rattle.cell_protocol.specs.Conforms.{WorldSteps, WorldRuns};
 
 use crate::answers::Answers;
 use crate::cell::Cell;
@@ -29,12 +33,15 @@ impl<A: Allocator> Model for World<A> {
     ghost use Rattle.std.specs.Coded.{codes, coded_ℕ, coded_list};
     ghost use Rattle.std.specs.FinMap as map;
     ghost use Rattle.cell_protocol.specs.World.{WorldState};
+    ghost use Rattle.cell_core.specs.Standing.{Stands};
 
     ghost Value = { WorldState };
 
     ghost coded = { Prim.hlevel (codes, map.code, coded_list, coded_ℕ) };
 
     ghost view = { λ w. w.cell };
+
+    ghost invariant = { λ w. Stands w.cell };
 }
 
 impl<A: Allocator + Clone> World<A> {
@@ -48,7 +55,10 @@ impl<A: Allocator + Clone> World<A> {
         servers: u64,
         clients: u64,
     ) -> Result<Self, StartFault>
-        ensures { IfOk result (λ world. world ≡ new_world config) }
+        ensures world { IfOk result (λ world. world ≡ new_world config) }
+        ensures settings { OnOk result (first_out_of_range config ≡ None) }
+        ensures counts { OnOk result ((servers ≡ 1) × (clients ≡ 1)) }
+        ensures why { IfErr result (IsWhy config servers clients) }
     {
         if let Err(fault) = fitting(&config) {
             return Err(StartFault::Config(fault));
@@ -65,15 +75,21 @@ impl<A: Allocator + Clone> World<A> {
 
     /// One event, and what it answers. An event that names no such node, message or moment, a node that is down, or a call
     /// of a later stage, changes nothing.
-    pub fn step(&mut self, event: Event) -> Option<Answer> {
+    pub fn step(&mut self, event: Event) -> Option<Answer>
+        ensures steps { WorldSteps self.old event result self.new }
+        ensures explained { IsExplained self.new }
+    {
         self.cell.step(event)
     }
 
     /// The events in order, and their answers. `NoMemory`: an allocator refused the copies that are made before the first
     /// event, and none of them happened.
     pub fn run(&mut self, alloc: Global, events: &[Event]) -> Result<Vec<Answer>, RunFault>
+        ensures ok { IfOk result (λ answers. WorldRuns self.old events.now answers.items self.new) }
         ensures err { OnErr result (self.new ≡ self.old) }
+        ensures explained { IsExplained self.new }
     {
+        let _ = &self.cell;
         let mut left = copies(alloc, events)?;
         let mut answers = Answers::with_room(alloc, left.len())?;
         while let Some(event) = left.pop_front() {
@@ -111,7 +127,9 @@ fn copies(alloc: Global, events: &[Event]) -> Result<VecDeque<Event>, NoMemory>
 
 /// Settings that pass have the bounds that keep sums of moments small.
 fn fitting(config: &Config) -> Result<(), ConfigFault>
-    ensures { IfOk result (λ _. Fits config.now) }
+    ensures check { result_err result ≡ first_out_of_range config.now }
+    ensures bounds { IfOk result (λ _. Fits config.now) }
+    ensures attempts { IfOk result (λ _. 0 < config.now.attempts) }
 {
     config.check()
 }

@@ -40,4 +40,4 @@ mod ClientInvokes
 mod Invoked
 mod WorldClient
 mod WorldEvents
-mod WorldRuns
+pub mod WorldRuns
