@@ -1,9 +1,9 @@
 //! The words of a command line.
 
-use crate::options::{Options, block_for, narrowed};
+use crate::options::{Options, narrowed};
 use clap::error::ErrorKind;
 use clap::{Arg, ArgAction, ArgMatches, Command};
-use gfs_types::config::Config;
+use gfs_types::config::{Config, default_block};
 use script::numbers::number;
 use std::alloc::{AllocError, Global};
 use thiserror::Error;
@@ -118,7 +118,7 @@ fn config(matches: &ArgMatches<'_>) -> Result<Config, CommandFault> {
     let chunk = narrow_value(matches, "chunk", default.chunk)?;
     Ok(Config {
         chunk,
-        block: narrow_value(matches, "block", block_for(chunk))?,
+        block: narrow_value(matches, "block", default_block(chunk))?,
         goal: narrow_value(matches, "goal", default.goal)?,
         lease_ms: value(matches, "lease-ms", default.lease_ms)?,
         skew_ms: value(matches, "skew-ms", default.skew_ms)?,

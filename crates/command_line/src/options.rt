@@ -1,7 +1,7 @@
 //! What a run is given beside its script.
 
 ghost use Rattle.std.specs.Prelude.{◌≡◌, min, ◌^◌, ◌-◌};
-ghost use Rattle.std.specs.Int.{trailing_zeros, w32};
+ghost use Rattle.gfs_types.specs.Settings.{default_settings};
 
 use gfs_types::config::Config;
 
@@ -14,6 +14,8 @@ pub struct Options {
 }
 
 impl Default for Options {
+    ghost is_default = { λ o. o ≡ record { servers = 3; clients = 1; config = default_settings } };
+
     /// Three servers and one client, and the settings' defaults.
     fn default() -> Options {
         Options {
@@ -22,13 +24,6 @@ impl Default for Options {
             config: Config::default(),
         }
     }
-}
-
-/// The block of a chunk for which none is given: the greatest power of two that divides the chunk and is at most 65,536.
-pub fn block_for(chunk: u32) -> u32
-    ensures { result ≡ 2 ^ min (trailing_zeros w32 chunk) 16 }
-{
-    1 << chunk.trailing_zeros().min(16)
 }
 
 /// A setting as wide as its field. What is too great for the field becomes the field's greatest value, which is out of each
