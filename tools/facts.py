@@ -121,6 +121,16 @@ def check_open_rounds(cell):
             raise Broken(f'chunk {handle}: two leases may count')
 
 
+def check_told(cell, used):
+    """A lease is of a Grant to its server, with these members, and ends as that or an Extend of its version tells."""
+    for server in cell.world['servers']:
+        for handle, primary in server['leases'].items.items():
+            held = primary['held']
+            lease = (f's{server["id"]}', handle, held['version'])
+            if used.get('members', {}).get(lease) != list(held['members']) or held['until'] not in used.get('ends', {}).get(lease, ()):
+                raise Broken(f'chunk {handle}: a lease that the master did not tell')
+
+
 def check_lapsed(cell, before, used):
     """A lease that no longer counts for its primary never counts again, nor is one extended that ended at the master."""
     for server in cell.world['servers']:
@@ -169,10 +179,14 @@ def check_messages(cell, used):
             if version in used.setdefault('grants', set()):
                 raise Broken(f'chunk and version {version} are granted twice')
             used['grants'].add(version)
+            used.setdefault('members', {})[(message.receiver, *version)] = list(message.body[5])
             if any((f's{member}', *version) not in recorded for member in message.body[5]):
                 raise Broken(f'chunk and version {version} are granted, and a member did not record it')
             if f's{message.body[5][0]}' != message.receiver:
                 raise Broken(f'chunk and version {version} are granted to another one than the first member')
+        if message.kind in ('Grant', 'Extend'):
+            handle, version, end = message.body[2:5] if message.kind == 'Grant' else message.body[1:4]
+            used.setdefault('ends', {}).setdefault((message.receiver, handle['0'], version['0']), set()).add(end['0'])
     used['seen'] = len(cell.messages)
 
 
@@ -243,6 +257,7 @@ def check_all(cell, before, used):
     check_new_entries(cell, before)
     check_leases(cell)
     check_open_rounds(cell)
+    check_told(cell, used)
     check_lapsed(cell, before, used)
     check_serials(cell, before)
     if not cell.world['observer']['are_clocks_kept']:
