@@ -112,6 +112,25 @@ def check_leases(cell):
                     raise Broken(f'chunk {handle}: shared, and a lease of it may count')
 
 
+def check_open_rounds(cell):
+    """While clocks are kept, at most one lease of a chunk may count, whether its master is up or not."""
+    greatest = cell.world['observer']['greatest']
+    counting = [handle for server in cell.world['servers'] for handle, primary in server['leases'].items.items() if greatest < primary['held']['until']]
+    for handle in counting:
+        if counting.count(handle) > 1:
+            raise Broken(f'chunk {handle}: two leases may count')
+
+
+def check_told(cell, used):
+    """A lease is of a Grant to its server, with these members, and ends as that or an Extend of its version tells."""
+    for server in cell.world['servers']:
+        for handle, primary in server['leases'].items.items():
+            held = primary['held']
+            lease = (f's{server["id"]}', handle, held['version'])
+            if used.get('members', {}).get(lease) != list(held['members']) or held['until'] not in used.get('ends', {}).get(lease, ()):
+                raise Broken(f'chunk {handle}: a lease that the master did not tell')
+
+
 def check_lapsed(cell, before, used):
     """A lease that no longer counts for its primary never counts again, nor is one extended that ended at the master."""
     for server in cell.world['servers']:
@@ -143,8 +162,13 @@ ORDERS = ('Create', 'SetVersion', 'Grant', 'Revoke', 'Drop', 'Clone', 'CopyLocal
 
 
 def check_messages(cell, used):
-    """No two orders have one number, and a version is granted once. `used` holds what earlier messages had."""
+    """No two orders have one number; a version is granted once, and its members said that they have it. `used` holds what earlier messages had."""
+    recorded = used.setdefault('recorded', set())
     for message in cell.messages[used.get('seen', 1):]:
+        if message.kind == 'Recorded':
+            recorded.add((message.sender, message.body[1]['0'], message.body[2]['0']))
+        if message.kind == 'Report':
+            recorded.update((message.sender, line['handle']['0'], line['version']['0']) for line in message.body[1])
         if message.kind in ORDERS:
             number = (message.body[1]['epoch'], message.body[1]['count'])
             if number in used.setdefault('numbers', set()):
@@ -155,6 +179,14 @@ def check_messages(cell, used):
             if version in used.setdefault('grants', set()):
                 raise Broken(f'chunk and version {version} are granted twice')
             used['grants'].add(version)
+            used.setdefault('members', {})[(message.receiver, *version)] = list(message.body[5])
+            if any((f's{member}', *version) not in recorded for member in message.body[5]):
+                raise Broken(f'chunk and version {version} are granted, and a member did not record it')
+            if f's{message.body[5][0]}' != message.receiver:
+                raise Broken(f'chunk and version {version} are granted to another one than the first member')
+        if message.kind in ('Grant', 'Extend'):
+            handle, version, end = message.body[2:5] if message.kind == 'Grant' else message.body[1:4]
+            used.setdefault('ends', {}).setdefault((message.receiver, handle['0'], version['0']), set()).add(end['0'])
     used['seen'] = len(cell.messages)
 
 
@@ -224,6 +256,8 @@ def check_all(cell, before, used):
     check_messages(cell, used)
     check_new_entries(cell, before)
     check_leases(cell)
+    check_open_rounds(cell)
+    check_told(cell, used)
     check_lapsed(cell, before, used)
     check_serials(cell, before)
     if not cell.world['observer']['are_clocks_kept']:
