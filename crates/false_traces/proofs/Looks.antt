@@ -87,9 +87,9 @@ module _ (config : Config) (m n : Machine) (client : ℕ) (fd : Fd) (file index 
             allowed = (read.2, read.3, here);
             more_bytes = flat_map (λ p. p.bytes) rest;
             bytes_are = bytes_are ∙ ap (λ (s : List ℕ). s ++ flat_map (λ p. p.bytes) rest) (
-            ap (λ (p : Piece). p.bytes) piece_is
-            ∙ ap (λ j. read_slice (read.0).config.chunk j (read.2).asked.call chosen) i_is
-            ∙ ap (λ (a : Asked). read_slice (read.0).config.chunk index a.call chosen) read.4);
+                ap (λ (p : Piece). p.bytes) piece_is
+                ∙ ap (λ j. read_slice (read.0).config.chunk j (read.2).asked.call chosen) i_is
+                ∙ ap (λ (a : Asked). read_slice (read.0).config.chunk index a.call chosen) read.4);
             more_rounds = filter_map (λ p. p.round) rest;
             rounds_are = rounds_are ∙ ap (λ (p : Piece). cons_option p.round (filter_map (λ q. q.round) rest)) piece_is;
           }

@@ -82,7 +82,8 @@ module _ (last : ℕ) where
   pub at_end : (order chosen : List Entry) (place taken : ℕ) → length order ≤ place → taken ≤ length chosen
       → IsSelection last (drop place order) (drop taken chosen) ↔ (taken ≡ length chosen)
   at_end order chosen place taken past within =
-      subst (λ (es : List Entry). IsSelection last es (drop taken chosen) ↔ (taken ≡ length chosen)) (sym (drop_all place order past))
-      (λ selected. let all : length (drop taken chosen) ≡ 0 = ap (λ (es : List Entry). length es) (none_of_empty (drop taken chosen) selected) in
-      omega (arith, all, length-drop taken chosen),
-      λ same. subst (λ es. IsSelection last [] es) (sym (drop_all taken chosen (omega arith))) empty)
+      subst (λ (es : List Entry). IsSelection last es (drop taken chosen) ↔ (taken ≡ length chosen)) (sym (drop_all place order past)) (
+        λ selected. let all : length (drop taken chosen) ≡ 0 = ap (λ (es : List Entry). length es) (none_of_empty (drop taken chosen) selected) in
+            omega (arith, all, length-drop taken chosen),
+        λ same. subst (λ es. IsSelection last [] es) (sym (drop_all taken chosen (omega arith))) empty,
+      )

@@ -46,10 +46,12 @@ loop-entry-preserved c =
     ]
 
 pub returns-then-round-last : goal.returns-then-round-last
-returns-then-round-last c =
-    (λ h. absurd (false≢true h), λ h. absurd (next_missing c.args.last c.args.order.now c.args.chosen.now c.loop-entry.entry-index c.loop-entry.taken c.entry-item.result c.loop-entry-test.true c.entry-item.is
-    (λ within same. refused _ c.is_next.result c.is_next.ensures c.if-is_next.false (within, same))
-    (sym c.is_settled.ensures ∙ c.if-is_settled.true) (omega arith) (c.loop-entry.invariant.decides.0 h)))
+returns-then-round-last c = (
+  λ h. absurd (false≢true h),
+  λ h. absurd (next_missing c.args.last c.args.order.now c.args.chosen.now c.loop-entry.entry-index c.loop-entry.taken c.entry-item.result c.loop-entry-test.true c.entry-item.is
+      (λ within same. refused _ c.is_next.result c.is_next.ensures c.if-is_next.false (within, same))
+      (sym c.is_settled.ensures ∙ c.if-is_settled.true) (omega arith) (c.loop-entry.invariant.decides.0 h)),
+)
 
 pub returns : goal.returns
 returns c =
