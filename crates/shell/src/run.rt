@@ -1,5 +1,8 @@
 //! Runs a script, line by line.
 
+ghost use Rattle.std.specs.Prelude.{◌≡◌, OnOk};
+ghost use Rattle.shell.specs.Printing.{Prints, PrintsARun};
+
 use crate::fault::ScriptFault;
 use crate::simulator::Simulator;
 use command_line::options::Options;
@@ -20,7 +23,9 @@ fn run_line<A: Allocator + Clone, W: Write>(
     number: u64,
     line: &[u8],
     writer: &mut W,
-) -> Result<(), ScriptFault> {
+) -> Result<(), ScriptFault>
+    ensures { OnOk result (Prints simulator.old.world simulator.new.world (W.contents writer.old) (W.contents writer.new)) }
+{
     match parse(alloc, line) {
         Err(fault) => Err(ScriptFault::of_line(fault, number)),
         Ok(Line::Nothing) => Ok(()),
@@ -52,7 +57,9 @@ pub fn run_script<R: BufRead, W: Write>(
     options: &Options,
     reader: &mut R,
     writer: &mut W,
-) -> Result<(), ScriptFault> {
+) -> Result<(), ScriptFault>
+    ensures { OnOk result (PrintsARun options.now.config (W.contents writer.old) (W.contents writer.new)) }
+{
     let mut simulator = Simulator::new(alloc, alloc, options)?;
     let mut line = Vec::new(alloc);
     for number in 1..u64::MAX {

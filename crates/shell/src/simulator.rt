@@ -1,5 +1,10 @@
 //! A cell under the simulator's clock, which delivers its messages in the order of their numbers.
 
+ghost use Rattle.std.specs.Prelude.{◌≡◌, Some, IfOk, OnOk};
+ghost use Rattle.shell.specs.Printing.{Prints, node_of, now_of};
+ghost use Rattle.gfs_types.specs.declared.ids.Node.TheVariants as node_kind;
+ghost use Rattle.cell_protocol.specs.World.{new_world};
+
 use crate::fault::ScriptFault;
 use cell_core::world::World;
 use command_line::options::Options;
@@ -9,6 +14,7 @@ use gfs_types::ids::{ClientId, Moment, Node, ServerId};
 use script::answers::AnswerLine;
 use std::alloc::{Allocator, Global};
 use std::io::Write;
+use std::marker::Model;
 
 /// The milliseconds between two rounds of ticks.
 pub const ROUND_MS: u64 = 100;
@@ -27,12 +33,30 @@ pub struct Simulator<A: Allocator> {
     clients: u64,
 }
 
+impl<A: Allocator> Model for Simulator<A> {
+    ghost use Rattle.std.specs.Prelude.{◌≤◌, IsTrue};
+    ghost use Rattle.std.specs.Coded.{codes, coded_ℕ, coded_list};
+    ghost use Rattle.std.specs.FinMap as map;
+    ghost use Rattle.cell_protocol.specs.World.{IsExplained};
+    ghost use Rattle.shell.specs.Printing.{Simulated};
+
+    ghost Value = { Simulated };
+
+    ghost coded = { Prim.hlevel (codes, map.code, coded_list, coded_ℕ) };
+
+    ghost view = { λ s. record { world = s.world; now = s.now.0 } };
+
+    ghost invariant = { λ s. (s.world.observer.greatest ≤ s.now.0) × IsTrue s.world.observer.are_clocks_kept × IsExplained s.world };
+}
+
 impl<A: Allocator + Clone> Simulator<A> {
     /// A new cell, whose names lie in `alloc`.
     ///
     /// - `Start`: a setting or a count is out of its range, or the names found no room.
     /// - `NoMemory`: another growth was refused.
-    pub fn new(global: Global, alloc: A, options: &Options) -> Result<Simulator<A>, ScriptFault> {
+    pub fn new(global: Global, alloc: A, options: &Options) -> Result<Simulator<A>, ScriptFault>
+        ensures { IfOk result (λ s. s.world ≡ new_world options.now.config) }
+    {
         let Ok(servers) = u16::try_from(options.servers) else {
             return Err(ScriptFault::Start);
         };
@@ -59,7 +83,12 @@ impl<A: Allocator + Clone> Simulator<A> {
         node: Node,
         event: Event,
         writer: &mut W,
-    ) -> Result<bool, ScriptFault> {
+    ) -> Result<bool, ScriptFault>
+        requires node { node_of self.old.world event ≡ Some node }
+        requires moment { now_of event ≡ self.old.now }
+        ensures now { self.new.now ≡ self.old.now }
+        ensures printed { OnOk result (Prints self.old.world self.new.world (W.contents writer.old) (W.contents writer.new)) }
+    {
         let (Some(answer), Node::Client(client)) = (self.world.step(event), node) else {
             return Ok(false);
         };
@@ -73,7 +102,10 @@ impl<A: Allocator + Clone> Simulator<A> {
     }
 
     /// Delivers each message that was sent and not yet delivered, and tells whether a call was answered.
-    fn deliver<W: Write>(&mut self, writer: &mut W) -> Result<bool, ScriptFault> {
+    fn deliver<W: Write>(&mut self, writer: &mut W) -> Result<bool, ScriptFault>
+        ensures now { self.new.now ≡ self.old.now }
+        ensures printed { OnOk result (Prints self.old.world self.new.world (W.contents writer.old) (W.contents writer.new)) }
+    {
         let mut is_answered = false;
         for _ in 0..u64::MAX {
             let Some(message) = self.world.message(self.next) else {
@@ -90,13 +122,18 @@ impl<A: Allocator + Clone> Simulator<A> {
         Ok(is_answered)
     }
 
-    fn tick<W: Write>(&mut self, node: Node, writer: &mut W) -> Result<bool, ScriptFault> {
+    fn tick<W: Write>(&mut self, node: Node, writer: &mut W) -> Result<bool, ScriptFault>
+        ensures now { self.new.now ≡ self.old.now }
+        ensures printed { OnOk result (Prints self.old.world self.new.world (W.contents writer.old) (W.contents writer.new)) }
+    {
         let now = self.now;
         self.take(node, Event::Tick { node, now }, writer)
     }
 
     /// A round of ticks: the servers in rising number, the master and the clients, each with the deliveries that follow.
-    fn tick_round<W: Write>(&mut self, writer: &mut W) -> Result<bool, ScriptFault> {
+    fn tick_round<W: Write>(&mut self, writer: &mut W) -> Result<bool, ScriptFault>
+        ensures { OnOk result (Prints self.old.world self.new.world (W.contents writer.old) (W.contents writer.new)) }
+    {
         self.now = Moment(self.now.0.saturating_add(ROUND_MS));
         let mut is_answered = false;
         for server in 1..=self.servers {
@@ -118,7 +155,9 @@ impl<A: Allocator + Clone> Simulator<A> {
         client: ClientId,
         call: Call,
         writer: &mut W,
-    ) -> Result<bool, ScriptFault> {
+    ) -> Result<bool, ScriptFault>
+        ensures { OnOk result (Prints self.old.world self.new.world (W.contents writer.old) (W.contents writer.new)) }
+    {
         let now = self.now;
         let event = Event::Call { client, call, now };
         let mut is_answered = self.take(Node::Client(client), event, writer)?;
