@@ -2,12 +2,13 @@
 use Rattle.std.proofs.Common.{◌≡◌, ◌≤◌, ◌+◌, ℕ, suc, Bool, true, false, cond, List, [], ◌∷◌, ◌++◌, Option, Some, None, refl, sym, ap, ◌∙◌, subst, arith}
 use Rattle.std.specs.Prelude.{option_map, max, nat_lt, nat_le, ◌&&◌, ◌==◌, if◌then◌else◌, IsTrue}
 use Rattle.std.specs.List.{flat_map}
-use Rattle.std.specs.Io.KnownBytes.{Appends}
+use Rattle.std.specs.Io.KnownBytes.{Appends, Keeps}
 use Rattle.std.proofs.lemmas.List.{append-nil, append_assoc}
 use Rattle.std.proofs.lemmas.Grind.{flat_map-append}
 use Rattle.std.proofs.lemmas.Bool.Decides.{nat_tests}
 use Rattle.gfs_types.specs.declared.answer.Answer.{Answer}
 use Rattle.gfs_types.specs.declared.call.Call.{Call}
+use Rattle.gfs_types.specs.declared.config.Config.{Config}
 use Rattle.gfs_types.specs.declared.event.Event.{Event}
 use Rattle.gfs_types.specs.declared.event.Event.TheVariants as event
 use Rattle.gfs_types.specs.declared.event.Input.{Input}
@@ -16,7 +17,8 @@ use Rattle.gfs_types.specs.declared.event.StepOut.{StepOut}
 use Rattle.gfs_types.specs.declared.ids.Node.{Node}
 use Rattle.gfs_types.specs.declared.ids.Node.TheVariants as node
 use Rattle.gfs_types.specs.declared.message.Message.{Message}
-use Rattle.relaxed_file.specs.Run.{Visible, Called, Answered, Passed}
+use Rattle.relaxed_file.specs.Machine.{new_machine}
+use Rattle.relaxed_file.specs.Run.{Visible, Called, Answered, Passed, IsRun}
 use Rattle.cell_protocol.specs.Tables.{moment_limit, numbered_from_1}
 use Rattle.cell_protocol.specs.Choice.{Choice, Ending, Goes, Lost}
 use Rattle.cell_protocol.specs.Seen.{Does, Taken, ends}
@@ -26,8 +28,9 @@ use Rattle.cell_protocol.specs.Master.{MasterState}
 use Rattle.cell_protocol.specs.Client.{ClientState}
 use Rattle.cell_protocol.specs.ClientStep.{may_call, client_call}
 use Rattle.cell_protocol.specs.Observer.{Observer, passed, answered, observed_moment}
-use Rattle.cell_protocol.specs.World.{WorldState, Happened, nothing_happens, after_master, after_server, after_client, after_call, master_moves, server_moves, client_moves, moves, delivered, call_moves, at_moment, happens}
-use Rattle.shell.specs.Printing.{line_feed, whole_line, line_of, lines_of, line_at, node_of, now_of, Shows, Prints}
+use Rattle.cell_protocol.specs.Conforms.{WorldSteps}
+use Rattle.cell_protocol.specs.World.{IsExplained, new_world, WorldState, Happened, nothing_happens, after_master, after_server, after_client, after_call, master_moves, server_moves, client_moves, moves, delivered, call_moves, at_moment, happens}
+use Rattle.shell.specs.Printing.{line_feed, whole_line, line_of, lines_of, line_at, node_of, now_of, Shows, Adds, Prints, PrintsARun}
 
 no_line : (n : Node) → [] ≡ line_at n None
 no_line node.Master = refl
@@ -141,10 +144,10 @@ shows_delivered w n moment choice (Some m) h = subst (λ x. Shows w x moment (mo
 pub shows_event : (w : WorldState) (e : Event) (n : Node) (choice : Choice) → node_of w e ≡ Some n → Shows w n (now_of e) (happens w e choice)
 shows_event w (event.Call client c now) n choice h =
     subst (λ x. Shows w x now.0 (happens w (event.Call client c now) choice)) (some_same (node.Client client) n h)
-      (shows_at w (node.Client client) now.0 _ ((elim (client.0 == only_client) as (λ b. client.0 == only_client ≡ b → Shows w (node.Client client) now.0 (cond b (call_moves w now.0 c choice w.client) (nothing_happens w))) [
-        | true ↦ λ one. shows_call w client.0 now.0 c choice w.client (is_one client.0 only_client one)
-        | false ↦ λ one. shows_nothing w (node.Client client) now.0
-      ]) refl))
+    (shows_at w (node.Client client) now.0 _ ((elim (client.0 == only_client) as (λ b. client.0 == only_client ≡ b → Shows w (node.Client client) now.0 (cond b (call_moves w now.0 c choice w.client) (nothing_happens w))) [
+      | true ↦ λ one. shows_call w client.0 now.0 c choice w.client (is_one client.0 only_client one)
+      | false ↦ λ one. shows_nothing w (node.Client client) now.0
+    ]) refl))
 shows_event w (event.Deliver number now) n choice h = shows_at w n now.0 _ (shows_delivered w n now.0 choice (numbered_from_1 w.sent number) h)
 shows_event w (event.Tick at now) n choice h =
     subst (λ x. Shows w x now.0 (happens w (event.Tick at now) choice)) (some_same at n h) (shows_at w at now.0 _ (shows_moves w at now.0 input.Tick choice))
@@ -172,4 +175,47 @@ prints_on a b c x y z p q = record {
   trace_is = q.trace_is ∙ (ap (λ (l : List Visible). l ++ q.more) p.trace_is ∙ append_assoc a.observer.trace p.more q.more);
   printed_is = subst (λ l. Appends x z l) (sym (flat_map-append line_of p.more q.more)) (appends_twice x y z (lines_of p.more) (lines_of q.more) p.printed_is q.printed_is);
   config_is = q.config_is ∙ p.config_is;
+}
+
+-- a new world, whose trace is empty
+pub starts : (config : Config) (w : WorldState) → w ≡ new_world config → (w.observer.greatest ≤ 0) × IsTrue w.observer.are_clocks_kept × IsExplained w
+starts config w is = subst (λ (x : WorldState). (x.observer.greatest ≤ 0) × IsTrue x.observer.are_clocks_kept × IsExplained x) (sym is) (omega arith, refl, λ _. (new_machine config, ([], tt, refl, refl)))
+
+-- what an event adds
+pub adds : (old new : WorldState) (e : Event) (n : Node) (answer : Option Answer) → node_of old e ≡ Some n → WorldSteps old e answer new → Adds old new (line_at n answer)
+adds old new e n answer at s =
+    let shown : Shows old n (now_of e) (happens old e s.choice) = shows_event old e n s.choice at in
+    record {
+      more = shown.more;
+      trace_is = ap (λ (w : WorldState). w.observer.trace) (sym s.world_is) ∙ shown.trace_is;
+      lines_are = shown.lines_are ∙ ap (λ (a : Option Answer). line_at n a) s.answer_is;
+      config_is = ap (λ (w : WorldState). w.config) (sym s.world_is) ∙ shown.config_is;
+    }
+
+-- clocks stay kept
+pub stays : (old new : WorldState) (e : Event) (n : Node) (answer : Option Answer) (now : ℕ) → node_of old e ≡ Some n → now_of e ≡ now → old.observer.greatest ≤ now → IsTrue old.observer.are_clocks_kept → WorldSteps old e answer new → IsExplained new
+    → (new.observer.greatest ≤ now) × IsTrue new.observer.are_clocks_kept × IsExplained new
+stays old new e n answer now at is le kept s explained =
+    let shown : Shows old n (now_of e) (happens old e s.choice) = shows_event old e n s.choice at in
+    let le' : old.observer.greatest ≤ now_of e = omega (arith, is) in
+    let both = shown.clocks le' kept in
+    let later : new.observer.greatest ≤ now_of e = subst (λ (w : WorldState). w.observer.greatest ≤ now_of e) s.world_is both.0 in
+    (omega (arith, is), subst (λ (w : WorldState). IsTrue w.observer.are_clocks_kept) s.world_is both.1, explained)
+
+pub appends_kept : (a b c : Option (List ℕ)) (xs : List ℕ) → Appends a b xs → Keeps b c → Appends a c xs
+appends_kept None b c xs h k = tt
+appends_kept (Some x) None c xs h k = absurd h
+appends_kept (Some x) (Some y) None xs h k = absurd k
+appends_kept (Some x) (Some y) (Some z) xs h k = k ∙ h
+
+-- a world that went on, and the lines that were printed of it
+pub prints_lines : (old new : WorldState) (before after : Option (List ℕ)) (lines : List ℕ) → Adds old new lines → Appends before after lines → Prints old new before after
+prints_lines old new before after lines a h = record { more = a.more; trace_is = a.trace_is; printed_is = subst (λ l. Appends before after l) (sym a.lines_are) h; config_is = a.config_is }
+
+-- what was printed since the cell was new
+pub prints_a_run : (config : Config) (w : WorldState) (before after : Option (List ℕ)) → Prints (new_world config) w before after → IsRun w.config w.observer.trace → PrintsARun config before after
+prints_a_run config w before after p run = record {
+  trace = p.more;
+  is_run = subst (λ (c : Config). IsRun c p.more) p.config_is (subst (λ (t : List Visible). IsRun w.config t) p.trace_is run);
+  printed_is = p.printed_is;
 }

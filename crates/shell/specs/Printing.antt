@@ -46,6 +46,13 @@ now_of (event.Restart n now) = now.0
 now_of (event.Rot server handle place byte) = 0
 now_of (event.Fuse n count torn) = 0
 
+-- a world that went on, and what is to be printed of it
+pub record Adds (old new : WorldState) (lines : List ℕ) : Type 0 where
+  pub more : List Visible
+  pub trace_is : new.observer.trace ≡ old.observer.trace ++ more
+  pub lines_are : lines_of more ≡ lines
+  pub config_is : new.config ≡ old.config
+
 -- a world that went on, and what was printed of it
 pub record Prints (old new : WorldState) (before after : Option (List ℕ)) : Type 0 where
   pub more : List Visible
@@ -71,7 +78,7 @@ pub record Shows (w : WorldState) (n : Node) (moment : ℕ) (h : Happened) : Typ
 -- a world and the simulator's clock
 pub record Simulated : Type 0 where
   pub world : WorldState
-  pub now : ℕ
+  pub clock : ℕ
 
 -- what was printed are the answers of a run of the relaxed-file machine
 pub record PrintsARun (config : Config) (before after : Option (List ℕ)) : Type 0 where
