@@ -1,5 +1,8 @@
 //! Runs a script, line by line.
 
+ghost use Rattle.std.specs.Prelude.{◌≡◌, OnOk};
+ghost use Rattle.shell.specs.Printing.{Prints, PrintsARun};
+
 use crate::fault::ScriptFault;
 use crate::simulator::Simulator;
 use command_line::options::Options;
@@ -20,7 +23,9 @@ fn run_line<A: Allocator + Clone, W: Write>(
     number: u64,
     line: &[u8],
     writer: &mut W,
-) -> Result<(), ScriptFault> {
+) -> Result<(), ScriptFault>
+    ensures { OnOk result (Prints simulator.old.world simulator.new.world (W.contents writer.old) (W.contents writer.new)) }
+{
     match parse(alloc, line) {
         Err(fault) => Err(ScriptFault::of_line(fault, number)),
         Ok(Line::Nothing) => Ok(()),
@@ -37,7 +42,30 @@ fn run_line<A: Allocator + Clone, W: Write>(
     }
 }
 
-/// Runs a script on a new cell, and prints each answer when it comes.
+/// Runs the lines of a script, up to its end or to a fault.
+fn run_lines<A: Allocator + Clone, R: BufRead, W: Write>(
+    alloc: Global,
+    simulator: &mut Simulator<A>,
+    reader: &mut R,
+    writer: &mut W,
+) -> Result<(), ScriptFault>
+    ensures { OnOk result (Prints simulator.old.world simulator.new.world (W.contents writer.old) (W.contents writer.new)) }
+{
+    let mut line = Vec::new(alloc);
+    for number in 1..u64::MAX {
+        let count = read_line(reader, &mut line).map_err(|e| ScriptFault::of_read(&e))?;
+        if count == 0 {
+            break;
+        }
+        let whole = line.as_slice();
+        let text = whole.strip_suffix(b"\n").unwrap_or(whole);
+        run_line(alloc, simulator, number, text, writer)?;
+    }
+    Ok(())
+}
+
+/// Runs a script on a new cell, and prints each answer when it comes. Where it ends well, what was printed are the answers of
+/// a run of the relaxed-file machine.
 ///
 /// The cell is made before the first line is read. At a fault the lines that were printed before stay printed, and no later
 /// line is run.
@@ -52,17 +80,11 @@ pub fn run_script<R: BufRead, W: Write>(
     options: &Options,
     reader: &mut R,
     writer: &mut W,
-) -> Result<(), ScriptFault> {
+) -> Result<(), ScriptFault>
+    ensures { OnOk result (PrintsARun options.now.config (W.contents writer.old) (W.contents writer.new)) }
+{
     let mut simulator = Simulator::new(alloc, alloc, options)?;
-    let mut line = Vec::new(alloc);
-    for number in 1..u64::MAX {
-        let count = read_line(reader, &mut line).map_err(|e| ScriptFault::of_read(&e))?;
-        if count == 0 {
-            break;
-        }
-        let whole = line.as_slice();
-        let text = whole.strip_suffix(b"\n").unwrap_or(whole);
-        run_line(alloc, &mut simulator, number, text, writer)?;
-    }
+    run_lines(alloc, &mut simulator, reader, writer)?;
+    simulator.follows_the_machine();
     Ok(())
 }

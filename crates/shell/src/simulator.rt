@@ -1,14 +1,22 @@
 //! A cell under the simulator's clock, which delivers its messages in the order of their numbers.
 
+ghost use Rattle.std.specs.Prelude.{◌≡◌, Some, IfOk, OnOk};
+ghost use Rattle.std.specs.Io.KnownBytes.{Appends};
+ghost use Rattle.shell.specs.Printing.{Adds, Prints, line_at, node_of, now_of};
+ghost use Rattle.cell_protocol.specs.World.{new_world};
+ghost use Rattle.relaxed_file.specs.Run.{IsRun};
+
 use crate::fault::ScriptFault;
 use cell_core::world::World;
 use command_line::options::Options;
+use gfs_types::answer::Answer;
 use gfs_types::call::Call;
 use gfs_types::event::Event;
 use gfs_types::ids::{ClientId, Moment, Node, ServerId};
 use script::answers::AnswerLine;
 use std::alloc::{Allocator, Global};
 use std::io::Write;
+use std::marker::Model;
 
 /// The milliseconds between two rounds of ticks.
 pub const ROUND_MS: u64 = 100;
@@ -20,11 +28,27 @@ pub const MAX_ROUNDS: u32 = 1_000_000;
 #[derive(Drop)]
 pub struct Simulator<A: Allocator> {
     world: World<A>,
-    now: Moment,
+    clock: Moment,
     /// The number of the next message to be delivered.
     next: u64,
     servers: u16,
     clients: u64,
+}
+
+impl<A: Allocator> Model for Simulator<A> {
+    ghost use Rattle.std.specs.Prelude.{◌≤◌, IsTrue};
+    ghost use Rattle.std.specs.Coded.{codes, coded_ℕ, coded_list};
+    ghost use Rattle.std.specs.FinMap as map;
+    ghost use Rattle.cell_protocol.specs.World.{IsExplained};
+    ghost use Rattle.shell.specs.Printing.{Simulated};
+
+    ghost Value = { Simulated };
+
+    ghost coded = { Prim.hlevel (codes, map.code, coded_list, coded_ℕ) };
+
+    ghost view = { λ s. record { world = s.world; clock = s.clock.0 } };
+
+    ghost invariant = { λ s. (s.world.observer.greatest ≤ s.clock.0) × IsTrue s.world.observer.are_clocks_kept × IsExplained s.world };
 }
 
 impl<A: Allocator + Clone> Simulator<A> {
@@ -32,7 +56,9 @@ impl<A: Allocator + Clone> Simulator<A> {
     ///
     /// - `Start`: a setting or a count is out of its range, or the names found no room.
     /// - `NoMemory`: another growth was refused.
-    pub fn new(global: Global, alloc: A, options: &Options) -> Result<Simulator<A>, ScriptFault> {
+    pub fn new(global: Global, alloc: A, options: &Options) -> Result<Simulator<A>, ScriptFault>
+        ensures { IfOk result (λ s. s.world ≡ new_world options.now.config) }
+    {
         let Ok(servers) = u16::try_from(options.servers) else {
             return Err(ScriptFault::Start);
         };
@@ -40,7 +66,7 @@ impl<A: Allocator + Clone> Simulator<A> {
         match World::new(global, alloc, options.config, options.servers, clients) {
             Ok(world) => Ok(Simulator {
                 world,
-                now: Moment(0),
+                clock: Moment(0),
                 next: 1,
                 servers,
                 clients,
@@ -49,8 +75,26 @@ impl<A: Allocator + Clone> Simulator<A> {
         }
     }
 
+    /// The calls and answers so far are a run of the relaxed-file machine.
+    pub fn follows_the_machine(&self)
+        ensures { IsRun self.now.world.config self.now.world.observer.trace }
+    {
+        let _ = &self.world;
+    }
+
     pub fn has_client(&self, client: ClientId) -> bool {
         (1..=self.clients).contains(&client.0)
+    }
+
+    /// Takes one event at a node, and gives its answer.
+    fn happens(&mut self, node: Node, event: Event) -> Option<Answer>
+        requires node { node_of self.old.world event ≡ Some node }
+        requires moment { now_of event ≡ self.old.clock }
+        ensures clock { self.new.clock ≡ self.old.clock }
+        ensures adds { Adds self.old.world self.new.world (line_at node result) }
+    {
+        let _ = node;
+        self.world.step(event)
     }
 
     /// Takes one event at a node, prints its answer, and tells whether it had one.
@@ -59,21 +103,21 @@ impl<A: Allocator + Clone> Simulator<A> {
         node: Node,
         event: Event,
         writer: &mut W,
-    ) -> Result<bool, ScriptFault> {
-        let (Some(answer), Node::Client(client)) = (self.world.step(event), node) else {
-            return Ok(false);
-        };
-        let line = AnswerLine {
-            client,
-            answer: &answer,
-        };
-        writeln!(writer, "{line}").map_err(|e| ScriptFault::of_write(&e))?;
-        writer.flush().map_err(|e| ScriptFault::of_write(&e))?;
-        Ok(true)
+    ) -> Result<bool, ScriptFault>
+        requires node { node_of self.old.world event ≡ Some node }
+        requires moment { now_of event ≡ self.old.clock }
+        ensures clock { self.new.clock ≡ self.old.clock }
+        ensures printed { OnOk result (Prints self.old.world self.new.world (W.contents writer.old) (W.contents writer.new)) }
+    {
+        let answer = self.happens(node, event);
+        print_answer(node, answer, writer)
     }
 
     /// Delivers each message that was sent and not yet delivered, and tells whether a call was answered.
-    fn deliver<W: Write>(&mut self, writer: &mut W) -> Result<bool, ScriptFault> {
+    fn deliver<W: Write>(&mut self, writer: &mut W) -> Result<bool, ScriptFault>
+        ensures clock { self.new.clock ≡ self.old.clock }
+        ensures printed { OnOk result (Prints self.old.world self.new.world (W.contents writer.old) (W.contents writer.new)) }
+    {
         let mut is_answered = false;
         for _ in 0..u64::MAX {
             let Some(message) = self.world.message(self.next) else {
@@ -82,7 +126,7 @@ impl<A: Allocator + Clone> Simulator<A> {
             let receiver = message.receiver;
             let event = Event::Deliver {
                 number: self.next,
-                now: self.now,
+                now: self.clock,
             };
             self.next = self.next.saturating_add(1);
             is_answered |= self.take(receiver, event, writer)?;
@@ -90,24 +134,46 @@ impl<A: Allocator + Clone> Simulator<A> {
         Ok(is_answered)
     }
 
-    fn tick<W: Write>(&mut self, node: Node, writer: &mut W) -> Result<bool, ScriptFault> {
-        let now = self.now;
+    fn tick<W: Write>(&mut self, node: Node, writer: &mut W) -> Result<bool, ScriptFault>
+        ensures clock { self.new.clock ≡ self.old.clock }
+        ensures printed { OnOk result (Prints self.old.world self.new.world (W.contents writer.old) (W.contents writer.new)) }
+    {
+        let now = self.clock;
         self.take(node, Event::Tick { node, now }, writer)
     }
 
-    /// A round of ticks: the servers in rising number, the master and the clients, each with the deliveries that follow.
-    fn tick_round<W: Write>(&mut self, writer: &mut W) -> Result<bool, ScriptFault> {
-        self.now = Moment(self.now.0.saturating_add(ROUND_MS));
+    /// A tick at each server, in rising number.
+    fn tick_servers<W: Write>(&mut self, writer: &mut W) -> Result<bool, ScriptFault>
+        ensures { OnOk result (Prints self.old.world self.new.world (W.contents writer.old) (W.contents writer.new)) }
+    {
         let mut is_answered = false;
-        for server in 1..=self.servers {
-            is_answered |= self.tick(Node::Server(ServerId(server)), writer)?;
+        for number in 0..self.servers {
+            is_answered |= self.tick(Node::Server(ServerId(number + 1)), writer)?;
         }
+        Ok(is_answered)
+    }
+
+    /// A tick at each client, in rising number.
+    fn tick_clients<W: Write>(&mut self, writer: &mut W) -> Result<bool, ScriptFault>
+        ensures { OnOk result (Prints self.old.world self.new.world (W.contents writer.old) (W.contents writer.new)) }
+    {
+        let mut is_answered = false;
+        for number in 0..self.clients {
+            is_answered |= self.tick(Node::Client(ClientId(number + 1)), writer)?;
+        }
+        Ok(is_answered)
+    }
+
+    /// A round of ticks: the servers in rising number, the master and the clients, each with the deliveries that follow.
+    fn tick_round<W: Write>(&mut self, writer: &mut W) -> Result<bool, ScriptFault>
+        ensures { OnOk result (Prints self.old.world self.new.world (W.contents writer.old) (W.contents writer.new)) }
+    {
+        self.clock = Moment(self.clock.0.saturating_add(ROUND_MS));
+        let mut is_answered = self.tick_servers(writer)?;
         is_answered |= self.deliver(writer)?;
         is_answered |= self.tick(Node::Master, writer)?;
         is_answered |= self.deliver(writer)?;
-        for client in 1..=self.clients {
-            is_answered |= self.tick(Node::Client(ClientId(client)), writer)?;
-        }
+        is_answered |= self.tick_clients(writer)?;
         is_answered |= self.deliver(writer)?;
         Ok(is_answered)
     }
@@ -118,8 +184,10 @@ impl<A: Allocator + Clone> Simulator<A> {
         client: ClientId,
         call: Call,
         writer: &mut W,
-    ) -> Result<bool, ScriptFault> {
-        let now = self.now;
+    ) -> Result<bool, ScriptFault>
+        ensures { OnOk result (Prints self.old.world self.new.world (W.contents writer.old) (W.contents writer.new)) }
+    {
+        let now = self.clock;
         let event = Event::Call { client, call, now };
         let mut is_answered = self.take(Node::Client(client), event, writer)?;
         is_answered |= self.deliver(writer)?;
@@ -131,4 +199,27 @@ impl<A: Allocator + Clone> Simulator<A> {
         }
         Ok(is_answered)
     }
+}
+
+/// Prints a client's answer, if there is one, and tells whether there was.
+fn print_answer<W: Write>(
+    node: Node,
+    answer: Option<Answer>,
+    writer: &mut W,
+) -> Result<bool, ScriptFault>
+    ensures { OnOk result (Appends (W.contents writer.old) (W.contents writer.new) (line_at node answer)) }
+{
+    let Node::Client(client) = node else {
+        return Ok(false);
+    };
+    let Some(answer) = answer else {
+        return Ok(false);
+    };
+    let line = AnswerLine {
+        client,
+        answer: &answer,
+    };
+    writeln!(writer, "{line}").map_err(|e| ScriptFault::of_write(&e))?;
+    writer.flush().map_err(|e| ScriptFault::of_write(&e))?;
+    Ok(true)
 }

@@ -1,0 +1,6 @@
+use Rattle.shell.specs.Printing.{Prints}
+use Rattle.shell.proofs.simulator.Simulator.call.Given as goal
+
+-- what the world went on by was printed
+abbrev pub invariant-loop : goal.invariant-loop
+invariant-loop g l = Prints l.fn.self.world l.self.world (g.W.Write.contents l.fn.writer) (g.W.Write.contents l.writer)

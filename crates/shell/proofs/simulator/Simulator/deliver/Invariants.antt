@@ -1,0 +1,10 @@
+use Rattle.std.proofs.Common.{◌≡◌}
+use Rattle.shell.specs.Printing.{Prints}
+use Rattle.shell.proofs.simulator.Simulator.deliver.Given as goal
+
+-- what the world went on by was printed
+abbrev pub invariant-loop : goal.invariant-loop
+invariant-loop g l = record {
+  clock : l.self.clock ≡ l.fn.self.clock;
+  printed : Prints l.fn.self.world l.self.world (g.W.Write.contents l.fn.writer) (g.W.Write.contents l.writer);
+}
