@@ -1,6 +1,6 @@
 -- What an event adds to the trace is what is printed of it, and clocks that were kept stay so.
 use Rattle.std.proofs.Common.{◌≡◌, ◌≤◌, ◌+◌, ℕ, suc, Bool, true, false, cond, List, [], ◌∷◌, ◌++◌, Option, Some, None, refl, sym, ap, ◌∙◌, subst, arith}
-use Rattle.std.specs.Prelude.{option_map, max, nat_lt, nat_le, ◌&&◌, ◌==◌, if◌then◌else◌, IsTrue}
+use Rattle.std.specs.Prelude.{option_map, nat_lt, nat_le, ◌&&◌, ◌==◌, IsTrue}
 use Rattle.std.specs.List.{flat_map}
 use Rattle.std.specs.Io.KnownBytes.{Appends, Keeps}
 use Rattle.std.proofs.lemmas.List.{append-nil, append_assoc}
@@ -13,15 +13,14 @@ use Rattle.gfs_types.specs.declared.event.Event.{Event}
 use Rattle.gfs_types.specs.declared.event.Event.TheVariants as event
 use Rattle.gfs_types.specs.declared.event.Input.{Input}
 use Rattle.gfs_types.specs.declared.event.Input.TheVariants as input
-use Rattle.gfs_types.specs.declared.event.StepOut.{StepOut}
 use Rattle.gfs_types.specs.declared.ids.Node.{Node}
 use Rattle.gfs_types.specs.declared.ids.Node.TheVariants as node
 use Rattle.gfs_types.specs.declared.message.Message.{Message}
 use Rattle.relaxed_file.specs.Machine.{new_machine}
-use Rattle.relaxed_file.specs.Run.{Visible, Called, Answered, Passed, IsRun}
+use Rattle.relaxed_file.specs.Run.{Visible, Called, Passed, IsRun}
 use Rattle.cell_protocol.specs.Tables.{moment_limit, numbered_from_1}
 use Rattle.cell_protocol.specs.Choice.{Choice, Ending, Goes, Lost}
-use Rattle.cell_protocol.specs.Seen.{Does, Taken, ends}
+use Rattle.cell_protocol.specs.Seen.{Does, ends}
 use Rattle.cell_protocol.specs.Sending.{only_client, only_server}
 use Rattle.cell_protocol.specs.Server.{ServerState}
 use Rattle.cell_protocol.specs.Master.{MasterState}
@@ -30,7 +29,7 @@ use Rattle.cell_protocol.specs.ClientStep.{may_call, client_call}
 use Rattle.cell_protocol.specs.Observer.{Observer, passed, answered, observed_moment}
 use Rattle.cell_protocol.specs.Conforms.{WorldSteps}
 use Rattle.cell_protocol.specs.World.{IsExplained, new_world, WorldState, Happened, nothing_happens, after_master, after_server, after_client, after_call, master_moves, server_moves, client_moves, moves, delivered, call_moves, at_moment, happens}
-use Rattle.shell.specs.Printing.{line_feed, whole_line, line_of, lines_of, line_at, node_of, now_of, Shows, Adds, Prints, PrintsARun}
+use Rattle.shell.specs.Printing.{whole_line, line_of, lines_of, line_at, node_of, now_of, Shows, Adds, Prints, PrintsARun}
 
 no_line : (n : Node) → [] ≡ line_at n None
 no_line node.Master = refl

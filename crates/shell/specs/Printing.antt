@@ -8,7 +8,6 @@ use Rattle.gfs_types.specs.declared.event.Event.{Event}
 use Rattle.gfs_types.specs.declared.event.Event.TheVariants as event
 use Rattle.gfs_types.specs.declared.ids.Node.{Node}
 use Rattle.gfs_types.specs.declared.ids.Node.TheVariants as node
-use Rattle.gfs_types.specs.declared.message.Message.{Message}
 use Rattle.relaxed_file.specs.Run.{Visible, Called, Answered, Passed, IsRun}
 use Rattle.cell_protocol.specs.Tables.{numbered_from_1}
 use Rattle.cell_protocol.specs.World.{WorldState, Happened}
