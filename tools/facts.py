@@ -98,6 +98,14 @@ def check_chunks(cell):
             raise Broken(f'chunk {handle}: the reference count is not the number of owners')
 
 
+def check_names(cell):
+    """Each file has one name, and each name's file is there."""
+    master = cell.world['master']
+    named = sorted(node[1] for node in master['logged']['names'].items.values() if node[0] == 'File')
+    if master['up'] and named != sorted(master['logged']['table']['files'].items):
+        raise Broken('the names and the files differ')
+
+
 def check_leases(cell):
     """While clocks are kept, a lease that counts for its primary has not ended at a master that is up and has the chunk."""
     master = cell.world['master']
@@ -253,6 +261,7 @@ def check_all(cell, before, used):
     check_orders(cell, before)
     check_log(cell, before)
     check_chunks(cell)
+    check_names(cell)
     check_messages(cell, used)
     check_new_entries(cell, before)
     check_leases(cell)

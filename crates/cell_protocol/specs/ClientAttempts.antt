@@ -16,7 +16,7 @@ use Rattle.gfs_types.specs.declared.message.Location.{Location}
 use Rattle.gfs_types.specs.declared.message.Holder.{Holder}
 use Rattle.gfs_types.specs.declared.message.Group.{Group}
 use Rattle.relaxed_file.specs.NameStep.{is_look}
-use Rattle.cell_protocol.specs.declared.stage.Stage.TheVariants.{AskedNames, AskedWhere, MustAskAgain, SentData, SentRead, MustRefuse}
+use Rattle.cell_protocol.specs.declared.stage.Stage.TheVariants.{AskedNames, AskedWhere, MustAskAgain, SentData, SentRead, SentLen, MustRefuse}
 use Rattle.cell_protocol.specs.declared.stage.CurrentCall.{CurrentCall}
 use Rattle.cell_protocol.specs.declared.stage.ToldChunk.{ToldChunk}
 use Rattle.cell_protocol.specs.Sending.{file_id, moment_of, data_id, only_client, the_server}
@@ -45,6 +45,7 @@ count_to_read other = 0
 -- what the master is asked for
 abbrev pub wanted_by : ℕ → Call → Wanted
 wanted_by index (call.Write fd offset bytes) = wanted.Write index
+wanted_by index (call.Length fd) = wanted.Last
 wanted_by index other = wanted.Read index
 
 -- the master is asked
@@ -83,7 +84,7 @@ attempts_names s c = goes_on s c AskedNames Master (request_of c)
 abbrev pub refuses_live : ClientState → CurrentCall → Refusal → Does ClientState
 refuses_live s c refusal = if nat_le c.ends.0 s.now then answers s (answer.Refused refusal) else waits s c (MustRefuse refusal)
 
--- the refusal of a write or read whose attempt ended
+-- the refusal of a write, a read or a length whose attempt ended
 abbrev pub last_refusal : CurrentCall → Refusal
 last_refusal c = if c.is_nobody_told then NoReplica else (if is_write c.asked then Failed else Unknown)
 
@@ -105,6 +106,15 @@ abbrev pub reads_at : ClientState → CurrentCall → Location → Holder → Do
 reads_at s c l h =
     goes_on (counted s) c (SentRead (told_at l h.server.0) (suc s.number)) (the_server h.server.0)
     (body.Read (suc s.number) l.handle h.version (place_in_chunk s.config.chunk c.asked) (count_to_read c.asked))
+
+-- the call is on the chunk that was told
+abbrev pub at_told : CurrentCall → Location → CurrentCall
+at_told c l = record c { index = l.index }
+
+-- the server is asked for the length of the chunk that was told, which is the file's last
+abbrev pub measures_at : ClientState → CurrentCall → Location → Holder → Does ClientState
+measures_at s c l h =
+    goes_on (counted s) (at_told c l) (SentLen (told_at l h.server.0) (suc s.number)) (the_server h.server.0) (body.Len (suc s.number) l.handle h.version)
 
 abbrev pub target_of : ℕ → Call → Target
 target_of chunk c = target.Write (place_in_chunk chunk c)

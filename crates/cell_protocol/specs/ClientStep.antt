@@ -10,7 +10,7 @@ use Rattle.gfs_types.specs.declared.event.Input.TheVariants as input
 use Rattle.gfs_types.specs.declared.message.Message.{Message}
 use Rattle.relaxed_file.specs.Parts.{is_range_too_long, leaves_chunk}
 use Rattle.cell_protocol.specs.declared.stage.Stage.{Stage}
-use Rattle.cell_protocol.specs.declared.stage.Stage.TheVariants.{AskedNames, AskedWhere, MustAskAgain, SentData, SentMutate, SentRead, MustRefuse}
+use Rattle.cell_protocol.specs.declared.stage.Stage.TheVariants.{AskedNames, AskedWhere, MustAskAgain, SentData, SentMutate, SentRead, SentLen, MustRefuse}
 use Rattle.cell_protocol.specs.declared.stage.CurrentCall.{CurrentCall}
 use Rattle.cell_protocol.specs.Choice.{Choice}
 use Rattle.cell_protocol.specs.Seen.{Does, stays, Taken, ends}
@@ -32,6 +32,7 @@ calls_file s (call.Read fd offset count) file =
     if is_refused_range s offset count then answers s (answer.Refused TooLong)
     else (if count == 0 then answers s (answer.Bytes [] [])
     else asks s (new_call s (call.Read fd offset count) file (offset / s.config.chunk)))
+calls_file s (call.Length fd) file = asks s (new_call s (call.Length fd) file 0)
 calls_file s other file = stays s
 
 abbrev pub calls_on : ClientState → Call → Option ℕ → Does ClientState
@@ -46,6 +47,7 @@ calls s (call.Open p) = attempts_names s (new_call s (call.Open p) 0 0)
 calls s (call.List p) = attempts_names s (new_call s (call.List p) 0 0)
 calls s (call.Write fd offset bytes) = calls_on s (call.Write fd offset bytes) (table.get s.descriptors fd.0)
 calls s (call.Read fd offset count) = calls_on s (call.Read fd offset count) (table.get s.descriptors fd.0)
+calls s (call.Length fd) = calls_on s (call.Length fd) (table.get s.descriptors fd.0)
 calls s other = stays s
 
 -- the calls that the cell serves today
@@ -56,6 +58,7 @@ is_served (call.Open p) = true
 is_served (call.List p) = true
 is_served (call.Write fd offset bytes) = true
 is_served (call.Read fd offset count) = true
+is_served (call.Length fd) = true
 is_served other = false
 
 -- A call is taken where none is open, and each counter has a number left.
@@ -91,6 +94,7 @@ ticks_at s c (AskedWhere number) = ticks_unanswered s c
 ticks_at s c (SentData at number) = ticks_unanswered s c
 ticks_at s c (SentMutate number) = ticks_unanswered s c
 ticks_at s c (SentRead at number) = ticks_unanswered s c
+ticks_at s c (SentLen at number) = ticks_unanswered s c
 
 -- A call that is to be refused is refused at the first step at which it may be answered.
 abbrev pub takes_at : ClientState → CurrentCall → Message → Stage → Does ClientState

@@ -1,5 +1,5 @@
 -- What the client makes of a message. It takes only the answer to its current ask, call or attempt (sections 2.7.1 and 3.1).
-use Rattle.std.specs.Prelude.{ℕ, suc, ◌==◌, ◌&&◌, Bool, true, false, if◌then◌else◌, List, [], ◌∷◌, Option, Some, None}
+use Rattle.std.specs.Prelude.{ℕ, suc, ◌+◌, ◌*◌, nat_lt, ◌==◌, ◌&&◌, Bool, true, false, if◌then◌else◌, List, [], ◌∷◌, Option, Some, None}
 use Rattle.std.specs.FinMap as table
 use Rattle.gfs_types.specs.declared.ids.DataId.{DataId}
 use Rattle.gfs_types.specs.declared.ids.FileId.{FileId}
@@ -12,13 +12,15 @@ use Rattle.gfs_types.specs.declared.message.Body.{Body}
 use Rattle.gfs_types.specs.declared.message.Body.TheVariants as body
 use Rattle.gfs_types.specs.declared.message.Location.{Location}
 use Rattle.gfs_types.specs.declared.message.Holder.{Holder}
+use Rattle.relaxed_file.specs.Reads.{is_length_call}
 use Rattle.cell_protocol.specs.declared.stage.Stage.{Stage}
-use Rattle.cell_protocol.specs.declared.stage.Stage.TheVariants.{AskedNames, AskedWhere, MustAskAgain, SentData, SentMutate, SentRead}
+use Rattle.cell_protocol.specs.declared.stage.Stage.TheVariants.{AskedNames, AskedWhere, MustAskAgain, SentData, SentMutate, SentRead, SentLen}
 use Rattle.cell_protocol.specs.declared.stage.CurrentCall.{CurrentCall}
+use Rattle.cell_protocol.specs.Tables.{number_limit}
 use Rattle.cell_protocol.specs.Sending.{only_client, the_server}
 use Rattle.cell_protocol.specs.Seen.{Does, stays}
 use Rattle.cell_protocol.specs.Client.{ClientState, waits, goes_on, answers}
-use Rattle.cell_protocol.specs.ClientAttempts.{is_write, refuses_live, pushes, reads_at, target_of}
+use Rattle.cell_protocol.specs.ClientAttempts.{is_write, refuses_live, pushes, reads_at, measures_at, target_of}
 
 abbrev pub with_descriptor : ClientState → ℕ → ClientState
 with_descriptor s file = record s { fd_count = suc s.fd_count; descriptors = table.insert s.descriptors (suc s.fd_count) file }
@@ -44,14 +46,16 @@ abbrev pub takes_wait : ClientState → CurrentCall → Stage → ℕ → Does C
 takes_wait s c (AskedWhere asked) number = if number == asked then waits s (told_nobody c false) MustAskAgain else stays s
 takes_wait s c other number = stays s
 
--- there is no such chunk: a read gets nothing
+-- there is no such chunk: a read gets nothing, and the file is empty
 abbrev pub told_none : ClientState → CurrentCall → Does ClientState
-told_none s c = if is_write c.asked then stays s else answers s (answer.Bytes [] [])
+told_none s c = if is_write c.asked then stays s else (if is_length_call c.asked then answers s (answer.Length 0) else answers s (answer.Bytes [] []))
 
 -- a chunk's location; one without any holder is taken as a Wait
 abbrev pub told_location : ClientState → CurrentCall → Location → List Holder → Does ClientState
 told_location s c l [] = waits s (told_nobody c true) MustAskAgain
-told_location s c l (h ∷ rest) = if is_write c.asked then pushes s (told_nobody c false) l l.group else reads_at s (told_nobody c false) l h
+told_location s c l (h ∷ rest) =
+    if is_write c.asked then pushes s (told_nobody c false) l l.group
+    else (if is_length_call c.asked then measures_at s (told_nobody c false) l h else reads_at s (told_nobody c false) l h)
 
 abbrev pub told : ClientState → CurrentCall → Option Location → Does ClientState
 told s c None = told_none s c
@@ -83,6 +87,15 @@ abbrev pub takes_bytes : ClientState → CurrentCall → Stage → ℕ → List 
 takes_bytes s c (SentRead at asked) number bytes = if number == asked then answers s (answer.Bytes bytes (at.round.0 ∷ [])) else stays s
 takes_bytes s c other number bytes = stays s
 
+-- The file's length is its last chunk's beyond those before. One that no number holds is not answered.
+abbrev pub tells_length : ClientState → ℕ → Does ClientState
+tells_length s found = if nat_lt found number_limit then answers s (answer.Length found) else stays s
+
+-- a LenIs
+abbrev pub takes_len_is : ClientState → CurrentCall → Stage → ℕ → ℕ → Does ClientState
+takes_len_is s c (SentLen at asked) number count = if number == asked then tells_length s (c.index * s.config.chunk + count) else stays s
+takes_len_is s c other number count = stays s
+
 -- the master's refusals of an ask complete the call
 abbrev pub master_refuses : ClientState → CurrentCall → Refusal → Does ClientState
 master_refuses s c TooLong = answers s (answer.Refused TooLong)
@@ -95,11 +108,12 @@ primary_refuses s c NoChunk = refuses_live s c Failed
 primary_refuses s c NoLease = refuses_live s c Failed
 primary_refuses s c other = answers s (answer.Refused Failed)
 
--- a Refused; a read that the server refused has found no replica that serves
+-- a Refused; a read or a length that the server refused has found no replica that serves
 abbrev pub takes_refused : ClientState → CurrentCall → Stage → ℕ → Refusal → Does ClientState
 takes_refused s c (AskedWhere asked) number refusal = if number == asked then master_refuses s c refusal else stays s
 takes_refused s c (SentMutate asked) number refusal = if number == asked then primary_refuses s c refusal else stays s
 takes_refused s c (SentRead at asked) number refusal = if number == asked then answers s (answer.Refused NoReplica) else stays s
+takes_refused s c (SentLen at asked) number refusal = if number == asked then answers s (answer.Refused NoReplica) else stays s
 takes_refused s c other number refusal = stays s
 
 abbrev pub client_takes : ClientState → CurrentCall → Body → Does ClientState
@@ -110,4 +124,5 @@ client_takes s c (body.Refused number refusal) = takes_refused s c c.stage numbe
 client_takes s c (body.Pushed id) = takes_pushed s c c.stage id
 client_takes s c (body.Done id place) = takes_done s c c.stage id
 client_takes s c (body.Bytes number bytes) = takes_bytes s c c.stage number bytes
+client_takes s c (body.LenIs number count) = takes_len_is s c c.stage number count
 client_takes s c other = stays s

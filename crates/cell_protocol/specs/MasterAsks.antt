@@ -1,5 +1,5 @@
 -- What the client asks of a file's chunks (sections 2.4 and 3.1).
-use Rattle.std.specs.Prelude.{ℕ, suc, ◌==◌, nat_lt, nat_le, if◌then◌else◌, List, [], ◌∷◌, ◌++◌, length, Option, Some, None, slice_get}
+use Rattle.std.specs.Prelude.{ℕ, suc, ◌-◌, ◌==◌, nat_lt, nat_le, if◌then◌else◌, List, [], ◌∷◌, ◌++◌, length, Option, Some, None, slice_get}
 use Rattle.std.specs.FinMap as table
 use Rattle.gfs_types.specs.declared.ids.Node.{Node}
 use Rattle.gfs_types.specs.declared.ids.Node.TheVariants as node
@@ -78,12 +78,20 @@ asks_to_write m a file handles index =
     if nat_lt (length handles) index then master_says m a.client (body.Refused a.number TooLong)
     else (if index == length handles then adds_chunk m a file handles else mutates_at m a index (slice_get handles index))
 
--- appends and lengths are not asked for yet
+-- To append: the last chunk, where it isn't before the index that was asked for; else the next one.
+abbrev pub asks_to_append : MasterState → Asker → ℕ → List ℕ → ℕ → Does MasterState
+asks_to_append m a file handles after =
+    if nat_le (length handles) after then adds_chunk m a file handles else mutates_at m a (length handles - 1) (slice_get handles (length handles - 1))
+
+-- the last chunk, if there is one
+abbrev pub looks_at_last : MasterState → Asker → List ℕ → Does MasterState
+looks_at_last m a handles = looks_at m a (length handles - 1) (slice_get handles (length handles - 1))
+
 abbrev pub asks_for : MasterState → Asker → ℕ → Wanted → List ℕ → Does MasterState
 asks_for m a file (wanted.Read index) handles = looks_at m a index (slice_get handles index)
 asks_for m a file (wanted.Write index) handles = asks_to_write m a file handles index
-asks_for m a file (wanted.Append after) handles = stays m
-asks_for m a file wanted.Last handles = stays m
+asks_for m a file (wanted.Append after) handles = asks_to_append m a file handles after
+asks_for m a file wanted.Last handles = looks_at_last m a handles
 
 abbrev pub asks_of : MasterState → Asker → ℕ → Wanted → Option (List ℕ) → Does MasterState
 asks_of m a file w None = master_says m a.client (body.Refused a.number Collected)

@@ -8,7 +8,7 @@ use Rattle.gfs_types.specs.declared.event.Input.TheVariants as input
 use Rattle.cell_protocol.specs.Choice.{Choice}
 use Rattle.cell_protocol.specs.Seen.{Does, stays, Taken, ends}
 use Rattle.cell_protocol.specs.Server.{ServerState}
-use Rattle.cell_protocol.specs.ServerReads.{takes_read}
+use Rattle.cell_protocol.specs.ServerReads.{takes_read, takes_len}
 use Rattle.cell_protocol.specs.ServerWrites.{takes_push, takes_mutate}
 use Rattle.cell_protocol.specs.ServerOrders.{takes_create, takes_grant}
 
@@ -16,6 +16,7 @@ abbrev pub server_takes : ServerState → Message → Body → Does ServerState
 server_takes s m (body.Push id bytes rest) = takes_push s id bytes
 server_takes s m (body.Mutate id handle version target deadline) = takes_mutate s id handle.0 version.0 target deadline.0
 server_takes s m (body.Read number handle version offset count) = takes_read s m.sender number handle.0 version.0 offset count
+server_takes s m (body.Len number handle version) = takes_len s m.sender number handle.0 version.0
 server_takes s m (body.Create order handle version) = takes_create s handle.0 version.0
 server_takes s m (body.Grant order handle version end_moment members) = takes_grant s handle.0 version.0 end_moment.0
 server_takes s m other = stays s

@@ -11,6 +11,10 @@ Table X = map.FinMap nat_cmp X
 abbrev pub counter_limit : ℕ
 counter_limit = 4_611_686_018_427_387_903
 
+-- the first number that a message or an answer doesn't hold
+abbrev pub number_limit : ℕ
+number_limit = 18_446_744_073_709_551_616
+
 -- the last moment that a node can be given
 abbrev pub moment_limit : ℕ
 moment_limit = 4_000_000_000_000_000

@@ -27,6 +27,8 @@ pub enum Stage {
     SentMutate(u64),
     /// The server was asked to read, by an ask of this number.
     SentRead(ToldChunk, u64),
+    /// The server was asked for the length of its replica, by an ask of this number.
+    SentLen(ToldChunk, u64),
     /// The call is to be refused, once its attempt isn't live.
     MustRefuse(Refusal),
 }
@@ -36,7 +38,7 @@ pub enum Stage {
 pub struct CurrentCall {
     pub number: u64,
     pub asked: Call,
-    /// The file of its descriptor, 0 for a name call, and the index of its chunk there.
+    /// The file of its descriptor, 0 for a name call, and the index of its chunk there: of a length the one that was told.
     pub file: FileId,
     pub index: u64,
     pub deadline: Moment,

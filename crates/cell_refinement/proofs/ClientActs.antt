@@ -15,8 +15,8 @@ use Rattle.cell_protocol.specs.Master.{MasterState}
 use Rattle.cell_protocol.specs.Client.{ClientState}
 use Rattle.cell_refinement.specs.Known.{Known, Attempt, IsAttempt, open_call_of, the_client_of, calls_made}
 use Rattle.cell_refinement.specs.Says.{IsNumbered, IsAnew, IsUntil, IsNameOf, IsPast, IsReadable, MayStillPlace, MayComeTo}
-use Rattle.cell_refinement.specs.Simulates.{AreUnique, IsMachine, IsChunkAt, IsMaster, IsServer, IsClient, Holds}
-use Rattle.cell_refinement.proofs.Later.{Later, Grows, IsWaiting, WaitedBefore, all_stay}
+use Rattle.cell_refinement.specs.Simulates.{AreInTurn, IsMachine, IsChunkAt, IsMaster, IsServer, IsClient, Holds}
+use Rattle.cell_refinement.proofs.Later.{Later, AreOver, Grows, IsWaiting, WaitedBefore, all_stay}
 use Rattle.cell_refinement.proofs.Frames.{SameChunks, master_same, server_same}
 
 -- the world with another client, another part of the client in the machine, and other attempts
@@ -43,7 +43,7 @@ pub record Acts (k : Known) (s s' : ClientState) (clients : ℕ → Client) (att
   pub no_attempts : (number : ℕ) → number ≤ s.number → k.attempts number ≡ None → attempts number ≡ None
   pub numbers : s.number ≤ s'.number
   pub fresh : (c' : CurrentCall) → s'.current ≡ Some c' → IsFresh s c'.stage
-  pub past : (c' : CurrentCall) → s'.current ≡ Some c' → (calls_made k.m < c'.number) ⊎ ((c : CurrentCall) × (s.current ≡ Some c) × (c'.number ≡ c.number) × (IsPast c.stage → IsPast c'.stage))
+  pub past : (c' : CurrentCall) → s'.current ≡ Some c' → (calls_made k.m < c'.number) ⊎ ((c : CurrentCall) × (s.current ≡ Some c) × (c'.number ≡ c.number) × (IsPast c.stage → IsPast c'.stage ⊎ AreOver k c.number))
   pub anew : (number deadline : ℕ) (c : Call) (x : MasterState) → k.master ≡ Some x → IsAnew k number c → IsUntil k deadline → IsNameOf (acting k clients attempts s') number deadline c x
   pub may_place : (seq : ℕ) (a : Attempt) (x : ServerState) → k.server ≡ Some x → k.attempts seq ≡ Some a → MayStillPlace k a → MayComeTo (acting k clients attempts s') seq a x
   -- the client in the machine
@@ -52,7 +52,7 @@ pub record Acts (k : Known) (s s' : ClientState) (clients : ℕ → Client) (att
   pub asked : (oc : OpenCall) → (clients only_client).open_call ≡ Some oc → ((clients only_client).calls oc.number ≡ Some oc.asked) × (oc.number ≡ (clients only_client).call_count)
   pub files : (number : ℕ) (asked : Asked) → (clients only_client).calls number ≡ Some asked → (number ≤ (clients only_client).call_count) × ((file : ℕ) → asked.file ≡ Some file → IsReadable k file)
   pub notes : (file index round : ℕ) → (clients only_client).notes file index ≡ Some round → round ≤ 1
-  pub unique : AreUnique k.attempts → AreUnique attempts
+  pub in_turn : AreInTurn k.attempts k.server → AreInTurn attempts k.server
   pub each_attempt : (seq : ℕ) (a : Attempt) → attempts seq ≡ Some a → IsAttempt (acting k clients attempts s') a × (seq ≤ s'.number)
 
 module _ (k : Known) (s s' : ClientState) (clients : ℕ → Client) (attempts : ℕ → Option Attempt) (up : k.client ≡ Some s) (t : Acts k s s' clients attempts) where
@@ -111,7 +111,7 @@ module _ (k : Known) (s s' : ClientState) (clients : ℕ → Client) (attempts :
     owners = h.owners;
     chunks = h.chunks;
     placed = All-weaker (IsEarlier (calls_made k.m)) (IsEarlier (clients only_client).call_count) (λ p h. (h.0, h.1, let a = h.2 in let b = t.made in omega arith)) k.placed h.placed;
-    unique = t.unique h.unique;
+    in_turn = t.in_turn h.in_turn;
     unmade = h.unmade;
     untouched = h.untouched;
     unowned = h.unowned;

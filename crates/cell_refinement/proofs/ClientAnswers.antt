@@ -35,11 +35,13 @@ use Rattle.cell_refinement.proofs.ClientEnds.{IsOverAll, ends_so, ClosesNone, re
 pub chunk_uses : (size index : ℕ) (x : Call) → IsChunkCall size index x → IsTrue (uses_chunks x)
 chunk_uses size index (call.Write fd offset bytes) h = refl
 chunk_uses size index (call.Read fd offset count) h = refl
+chunk_uses size index (call.Length fd) h = refl
 chunk_uses size index other h = absurd h
 
 pub chunk_no_name : (size index : ℕ) (x : Call) → IsChunkCall size index x → IsTrue (is_name_call x) → ⊥
 chunk_no_name size index (call.Write fd offset bytes) h n = let e : false ≡ true = n in cc
 chunk_no_name size index (call.Read fd offset count) h n = let e : false ≡ true = n in cc
+chunk_no_name size index (call.Length fd) h n = let e : false ≡ true = n in cc
 chunk_no_name size index other h n = absurd h
 
 pub write_uses : (x : Call) → IsTrue (is_write x) → IsTrue (uses_chunks x)
@@ -52,6 +54,8 @@ may_last size index (call.Write fd offset bytes) true h = refl
 may_last size index (call.Write fd offset bytes) false h = refl
 may_last size index (call.Read fd offset count) true h = refl
 may_last size index (call.Read fd offset count) false h = refl
+may_last size index (call.Length fd) true h = refl
+may_last size index (call.Length fd) false h = refl
 may_last size index other b h = absurd h
 
 may_fail : (x : Call) → IsTrue (is_write x) → IsTrue (may_give_up x Failed)
@@ -114,8 +118,8 @@ module _ (k : Known) (s : ClientState) (c : CurrentCall) (oc : OpenCall) (at : I
   pub may_refuse : (reason : Refusal) → IsTrue (may_give_up c.asked reason) → MayReturn k.m only_client oc (answer.Refused reason)
   may_refuse reason may = inr (inl (subst (λ x. IsTrue (may_give_up x reason)) (sym at.is.asked) may))
 
-  pub gives_up_so : IsChunkCall k.config.chunk c.index c.asked → c.ends.0 ≤ s.now → ClientOutcome k (calls_made k.m) (gives_up s c) sent trace
-  gives_up_so fits ended = returns_so (answer.Refused (last_refusal c)) (may_refuse (last_refusal c) (may_last k.config.chunk c.index c.asked c.is_nobody_told fits)) (inr (chunk_uses k.config.chunk c.index c.asked fits)) (late_all ended)
+  pub gives_up_so : (index : ℕ) → IsChunkCall k.config.chunk index c.asked → c.ends.0 ≤ s.now → ClientOutcome k (calls_made k.m) (gives_up s c) sent trace
+  gives_up_so index fits ended = returns_so (answer.Refused (last_refusal c)) (may_refuse (last_refusal c) (may_last k.config.chunk index c.asked c.is_nobody_told fits)) (inr (chunk_uses k.config.chunk index c.asked fits)) (late_all ended)
 
   pub names_end_so : IsTrue (is_name_call c.asked) → c.ends.0 ≤ s.now → ClientOutcome k (calls_made k.m) (answers s (answer.Refused Unknown)) sent trace
   names_end_so name ended = returns_so (answer.Refused Unknown) (may_refuse Unknown (may_not_know c.asked name)) (inl name) (late_all ended)

@@ -80,7 +80,7 @@ module _ (k : Known) (s s' : ClientState) (x : Call) (clients : ℕ → Client) 
 
   acts_beginning : Acts k s s' clients k.attempts
   acts_beginning = record {
-    unique = λ u. u;
+    in_turn = λ u. u;
     made = let e = w.made in omega arith;
     calls = calls_stay;
     open_call = λ oc is. inl (let e : suc (calls_made k.m) ≡ oc.number = ap (λ (y : OpenCall). y.number) (w.call oc is) in omega arith);

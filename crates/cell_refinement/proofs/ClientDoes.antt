@@ -1,6 +1,6 @@
 -- Each step of the client on a message or a tick.
-use Rattle.std.proofs.Common.{◌≡◌, ℕ, ◌≤◌, Bool, true, false, cond, List, [], ◌∷◌, Option, Some, None, refl, sym, ap, ◌∙◌, subst, inr, arith, append-nil}
-use Rattle.std.specs.Prelude.{◌==◌, ◌&&◌, nat_lt}
+use Rattle.std.proofs.Common.{◌≡◌, ℕ, ◌+◌, ◌*◌, ◌≤◌, Bool, true, false, cond, List, [], ◌∷◌, Option, Some, None, refl, sym, ap, ◌∙◌, subst, inl, inr, arith, append-nil}
+use Rattle.std.specs.Prelude.{IsTrue, IsFalse, ◌==◌, ◌&&◌, nat_lt}
 use Rattle.std.proofs.lemmas.Bool.{eqb-true}
 use Rattle.std.proofs.lemmas.List.Elements.{All-nil}
 use Rattle.gfs_types.specs.declared.config.Config.{Config}
@@ -16,26 +16,28 @@ use Rattle.gfs_types.specs.declared.message.Holder.{Holder}
 use Rattle.gfs_types.specs.declared.event.Input.{Input}
 use Rattle.gfs_types.specs.declared.event.Input.TheVariants as input
 use Rattle.relaxed_file.specs.Machine.{OpenCall, Asked}
+use Rattle.relaxed_file.specs.Reads.{is_length_call}
 use Rattle.relaxed_file.specs.Run.{Visible}
 use Rattle.cell_protocol.specs.declared.stage.Stage.{Stage}
 use Rattle.cell_protocol.specs.declared.stage.Stage.TheVariants as stage
 use Rattle.cell_protocol.specs.declared.stage.CurrentCall.{CurrentCall}
 use Rattle.cell_protocol.specs.declared.stage.ToldChunk.{ToldChunk}
+use Rattle.cell_protocol.specs.Tables.{number_limit}
 use Rattle.cell_protocol.specs.Sending.{only_client, the_server}
 use Rattle.cell_protocol.specs.Seen.{Does, stays}
 use Rattle.cell_protocol.specs.Client.{ClientState, goes_on}
 use Rattle.cell_protocol.specs.ClientAttempts.{is_write, target_of, place_in_chunk, refuses_live}
-use Rattle.cell_protocol.specs.ClientTakes.{takes_named, takes_wait, told_location, told, takes_told, is_own_data, takes_pushed, takes_done, takes_bytes, takes_refused, client_takes}
+use Rattle.cell_protocol.specs.ClientTakes.{takes_named, takes_wait, told_location, told, takes_told, is_own_data, takes_pushed, takes_done, takes_bytes, tells_length, takes_len_is, takes_refused, client_takes}
 use Rattle.cell_protocol.specs.ClientStep.{ticks_unanswered, ticks_at, takes_at, client_does}
 use Rattle.cell_refinement.specs.Known.{Known, Attempt, IsAttempt, IsChunkCall, HasNoEntry, open_call_of, the_client_of, calls_made}
-use Rattle.cell_refinement.specs.Says.{Says, SaysBody, SaysNamed, SaysTold, SaysDone, SaysBytes, SaysRefused, IsGranted, IsPast, MayComeTo}
+use Rattle.cell_refinement.specs.Says.{Says, SaysBody, SaysNamed, SaysTold, SaysDone, SaysBytes, SaysLenIs, SaysRefused, IsGranted, IsGrantedLast, IsPast, MayComeTo}
 use Rattle.cell_refinement.specs.Simulates.{IsClient, IsAsking, IsAttemptOf, HasAttempt, FitsStage, AreTheSame, Holds}
 use Rattle.cell_refinement.proofs.ClientActs.{acting, some_at}
 use Rattle.cell_refinement.proofs.ClientGoes.{ClientOutcome, IsAt}
 use Rattle.cell_refinement.proofs.ClientSteps.{old, staged, at_stage, one, only_current, moves, stays_so, waits_so, asks_so}
 use Rattle.cell_refinement.proofs.ClientAnswers.{gives_up_so, names_end_so, refuses_live_so, answers_so, opens_so}
-use Rattle.cell_refinement.proofs.ClientTaken.{chunk_write, write_chunk, read_chunk, done_so, bytes_so, ask_refused_so, read_refused_so, attempt_refused_so}
-use Rattle.cell_refinement.proofs.ClientTold.{reads_nothing_so, reads_so, pushes_so, place_of, some_of}
+use Rattle.cell_refinement.proofs.ClientTaken.{chunk_write, write_chunk, read_chunk, length_chunk, write_no_length, done_so, bytes_so, length_so, ask_refused_so, read_refused_so, length_refused_so, attempt_refused_so}
+use Rattle.cell_refinement.proofs.ClientTold.{reads_nothing_so, measures_nothing_so, reads_so, measures_so, pushes_so, place_of, some_of}
 
 -- what comes was said
 abbrev pub SaysInput : Known → Input → Type 0
@@ -89,7 +91,7 @@ module _ (k : Known) (s : ClientState) (c : CurrentCall) (oc : OpenCall) (at : I
         sym (fits.6),
         sym own.deadline,
         place,
-        (λ s'' c'' up' current' same'. only_current x s' (staged c st c.is_nobody_told) (λ y. IsPast y.stage) refl refl tt s'' c'' up' current'),
+        (λ s'' c'' up' current' same'. inl (only_current x s' (staged c st c.is_nobody_told) (λ y. IsPast y.stage) refl refl tt s'' c'' up' current')),
         attempt.number,
         some_of k.server (MayComeTo x id.seq a) (λ y up. inr (inr (oc, at.call, number_is, subst (HasNoEntry k.placed) (sym own.call) asking.unplaced))),
       ))
@@ -116,15 +118,20 @@ module _ (k : Known) (s : ClientState) (c : CurrentCall) (oc : OpenCall) (at : I
       (λ e. waits_so k s c oc at sent trace h false (fits_at (stage.AskedWhere asked) is).0 (early_at (stage.AskedWhere asked) is (λ p. p)) (no_attempt_at (stage.AskedWhere asked) is (λ seq own. own))) (λ e. stay)
   wait_so other is number = stay
 
-  location_so : (number : ℕ) → c.stage ≡ stage.AskedWhere number → (l : Location) (holders : List Holder) → IsGranted k c.file.0 c.index oc l holders → ClientOutcome k (calls_made k.m) (told_location s c l holders) sent trace
-  location_so number is l [] g = waits_so k s c oc at sent trace h true (fits_at (stage.AskedWhere number) is).0 (early_at (stage.AskedWhere number) is (λ p. p)) (no_attempt_at (stage.AskedWhere number) is (λ seq own. own))
-  location_so number is l (holder ∷ rest) g = by_test (is_write c.asked) _ _
-      (λ e. pushes_so k s c oc at sent trace h number is l holder rest g l.group g.3 e)
-      (λ e. reads_so k s c oc at sent trace h number is l holder rest g e)
+  location_so : (number : ℕ) → c.stage ≡ stage.AskedWhere number → (l : Location) (holders : List Holder)
+      → (IsFalse (is_length_call c.asked) → IsGranted k c.file.0 c.index oc l holders) → (IsTrue (is_length_call c.asked) → IsGrantedLast k c.file.0 oc l holders) → ClientOutcome k (calls_made k.m) (told_location s c l holders) sent trace
+  location_so number is l [] g last = waits_so k s c oc at sent trace h true (fits_at (stage.AskedWhere number) is).0 (early_at (stage.AskedWhere number) is (λ p. p)) (no_attempt_at (stage.AskedWhere number) is (λ seq own. own))
+  location_so number is l (holder ∷ rest) g last = by_test (is_write c.asked) _ _
+      (λ e. let here = g (write_no_length c.asked e) in pushes_so k s c oc at sent trace h number is l holder rest here l.group here.3 e)
+      (λ e. by_test (is_length_call c.asked) _ _
+      (λ f. measures_so k s c oc at sent trace h number is l holder rest (last f) f)
+      (λ f. reads_so k s c oc at sent trace h number is l holder rest (g f) e f))
 
   told_so : (number : ℕ) → c.stage ≡ stage.AskedWhere number → (o : Option Location) → SaysTold k number o → ClientOutcome k (calls_made k.m) (told s c o) sent trace
-  told_so number is None said = by_test (is_write c.asked) _ _ (λ e. stay) (λ e. reads_nothing_so k s c oc at sent trace h number is e (said.1 s c oc at.up at.current is at.call))
-  told_so number is (Some l) said = location_so number is l l.holders (said.1 s c oc at.up at.current is at.call)
+  told_so number is None said = by_test (is_write c.asked) _ _ (λ e. stay) (λ e. by_test (is_length_call c.asked) _ _
+      (λ f. measures_nothing_so k s c oc at sent trace h number is f (said.1 s c oc at.up at.current is at.call))
+      (λ f. reads_nothing_so k s c oc at sent trace h number is e f (said.1 s c oc at.up at.current is at.call)))
+  told_so number is (Some l) said = let to = said.1 s c oc at.up at.current is at.call in location_so number is l l.holders to.0 to.1
 
   told_at_so : (st : Stage) → c.stage ≡ st → (number : ℕ) (o : Option Location) → SaysTold k number o → ClientOutcome k (calls_made k.m) (takes_told s c st number o) sent trace
   told_at_so (stage.AskedWhere asked) is number o said = by_test (number == asked) _ _
@@ -141,12 +148,23 @@ module _ (k : Known) (s : ClientState) (c : CurrentCall) (oc : OpenCall) (at : I
       (λ e. bytes_so k s c oc at sent trace h to asked bytes is (subst (λ n. SaysBytes k n bytes) (eqb-true number asked e) said)) (λ e. stay)
   bytes_at_so other is number bytes said = stay
 
+  -- an answered length is within what a number holds
+  tells_so : (to : ToldChunk) (number count : ℕ) → c.stage ≡ stage.SentLen to number → SaysLenIs k number count → ClientOutcome k (calls_made k.m) (tells_length s (c.index * s.config.chunk + count)) sent trace
+  tells_so to number count is said = subst (λ (z : Config). ClientOutcome k (calls_made k.m) (tells_length s (c.index * z.chunk + count)) sent trace) (sym (old k s c oc at sent trace h).config)
+      (by_test (nat_lt (c.index * k.config.chunk + count) number_limit) _ _ (λ e. length_so k s c oc at sent trace h to number count is said) (λ e. stay))
+
+  len_is_so : (st : Stage) → c.stage ≡ st → (number count : ℕ) → SaysLenIs k number count → ClientOutcome k (calls_made k.m) (takes_len_is s c st number count) sent trace
+  len_is_so (stage.SentLen to asked) is number count said = by_test (number == asked) _ _
+      (λ e. tells_so to asked count is (subst (λ n. SaysLenIs k n count) (eqb-true number asked e) said)) (λ e. stay)
+  len_is_so other is number count said = stay
+
   refused_so : (st : Stage) → c.stage ≡ st → (number : ℕ) (refusal : Refusal) → SaysRefused k number refusal → ClientOutcome k (calls_made k.m) (takes_refused s c st number refusal) sent trace
   refused_so (stage.AskedWhere asked) is number refusal said = by_test (number == asked) _ _
       (λ e. let here = is ∙ ap stage.AskedWhere (sym (eqb-true number asked e)) in ask_refused_so k s c oc at sent trace h number refusal here (said.1 s c oc at.up at.current here at.call)) (λ e. stay)
   refused_so (stage.SentMutate asked) is number refusal said = by_test (number == asked) _ _
       (λ e. attempt_refused_so k s c oc at sent trace h number refusal (is ∙ ap stage.SentMutate (sym (eqb-true number asked e))) said.2) (λ e. stay)
   refused_so (stage.SentRead to asked) is number refusal said = by_test (number == asked) _ _ (λ e. read_refused_so k s c oc at sent trace h to asked is) (λ e. stay)
+  refused_so (stage.SentLen to asked) is number refusal said = by_test (number == asked) _ _ (λ e. length_refused_so k s c oc at sent trace h to asked is) (λ e. stay)
   refused_so other is number refusal said = stay
 
   takes_body : (b : Body) → SaysBody k b → ClientOutcome k (calls_made k.m) (client_takes s c b) sent trace
@@ -157,14 +175,15 @@ module _ (k : Known) (s : ClientState) (c : CurrentCall) (oc : OpenCall) (at : I
   takes_body (body.Pushed id) said = pushed_so c.stage refl id
   takes_body (body.Done id place) said = done_at_so c.stage refl id said
   takes_body (body.Bytes number bytes) said = bytes_at_so c.stage refl number bytes said
+  takes_body (body.LenIs number count) said = len_is_so c.stage refl number count said
   takes_body other said = stay
 
   takes_so : (x : Message) → Says k x → ClientOutcome k (calls_made k.m) (client_takes s c x.body) sent trace
   takes_so x said = takes_body x.body said
 
   -- an attempt without an answer
-  unanswered_so : IsChunkCall k.config.chunk c.index c.asked → ClientOutcome k (calls_made k.m) (ticks_unanswered s c) sent trace
-  unanswered_so fits = by_test (nat_lt s.now c.ends.0) _ _ (λ e. stay) (λ e. gives_up_so k s c oc at sent trace h fits (let l : c.ends.0 ≤ s.now = grind (arith, e) in l))
+  unanswered_so : (index : ℕ) → IsChunkCall k.config.chunk index c.asked → ClientOutcome k (calls_made k.m) (ticks_unanswered s c) sent trace
+  unanswered_so index fits = by_test (nat_lt s.now c.ends.0) _ _ (λ e. stay) (λ e. gives_up_so k s c oc at sent trace h index fits (let l : c.ends.0 ≤ s.now = grind (arith, e) in l))
 
   must_so : (refusal : Refusal) → c.stage ≡ stage.MustRefuse refusal → ClientOutcome k (calls_made k.m) (refuses_live s c refusal) sent trace
   must_so refusal is =
@@ -176,11 +195,12 @@ module _ (k : Known) (s : ClientState) (c : CurrentCall) (oc : OpenCall) (at : I
   ticks_so (stage.MustRefuse refusal) is = must_so refusal is
   ticks_so stage.MustAskAgain is = by_test (nat_lt s.now c.deadline.0) _ _
       (λ e. asks_so k s c oc at sent trace h (fits_at stage.MustAskAgain is) (early_at stage.MustAskAgain is (λ p. p)) (no_attempt_at stage.MustAskAgain is (λ seq own. own)))
-      (λ e. unanswered_so (fits_at stage.MustAskAgain is).fits)
-  ticks_so (stage.AskedWhere number) is = unanswered_so (fits_at (stage.AskedWhere number) is).0.fits
-  ticks_so (stage.SentData to number) is = unanswered_so (fits_at (stage.SentData to number) is).0.fits
-  ticks_so (stage.SentMutate number) is = unanswered_so (write_chunk k.config.chunk c.index c.asked (fits_at (stage.SentMutate number) is).1)
-  ticks_so (stage.SentRead to number) is = unanswered_so (read_chunk k.config.chunk c.index c.asked (fits_at (stage.SentRead to number) is).1)
+      (λ e. unanswered_so c.index (fits_at stage.MustAskAgain is).fits)
+  ticks_so (stage.AskedWhere number) is = unanswered_so c.index (fits_at (stage.AskedWhere number) is).0.fits
+  ticks_so (stage.SentData to number) is = unanswered_so c.index (fits_at (stage.SentData to number) is).0.fits
+  ticks_so (stage.SentMutate number) is = unanswered_so c.index (write_chunk k.config.chunk c.index c.asked (fits_at (stage.SentMutate number) is).1)
+  ticks_so (stage.SentRead to number) is = unanswered_so c.index (read_chunk k.config.chunk c.index c.asked (fits_at (stage.SentRead to number) is).1)
+  ticks_so (stage.SentLen to number) is = unanswered_so 0 (length_chunk k.config.chunk c.asked (fits_at (stage.SentLen to number) is).1)
 
   takes_at_so : (x : Message) → Says k x → (st : Stage) → c.stage ≡ st → ClientOutcome k (calls_made k.m) (takes_at s c x st) sent trace
   takes_at_so x said (stage.MustRefuse refusal) is = must_so refusal is

@@ -56,7 +56,7 @@ module _ (k : Known) (s s' : ClientState) (c : CurrentCall) (oc : OpenCall) (cli
     calls = λ number asked is. ap (λ f. f number) w.calls ∙ is;
     open_call = λ x is. absurd (no_call x is);
     old_attempts = λ seq a is. is;
-    unique = λ u. u;
+    in_turn = λ u. u;
     no_attempts = λ number used is. is;
     numbers = let e = w.number in omega arith;
     fresh = λ x is. absurd (no_current x is);
@@ -71,9 +71,12 @@ module _ (k : Known) (s s' : ClientState) (c : CurrentCall) (oc : OpenCall) (cli
     may_place = λ seq a x is known old.
         let e : oc ≡ old.0 = (let h : Some oc ≡ Some old.0 = sym at.call ∙ old.1 in cc) in
         let own = at.is.attempts seq a known (sym old.2 ∙ ap (λ (y : OpenCall). y.number) (sym e) ∙ at.is.number_is) in
-        elim (o.mutations seq a x is known own.1 own.0) [
-          | inl over ↦ inl over
-          | inr late ↦ inr (inl late)
+        elim own.1 [
+          | inr over ↦ inl (some_at k.server (IsOver seq a) x is over)
+          | inl mine ↦ elim (o.mutations seq a x is known mine own.0) [
+            | inl over ↦ inl over
+            | inr late ↦ inr (inl late)
+          ]
         ];
     descriptors = w.files;
     outcomes = λ x file is. absurd (no_call x is);

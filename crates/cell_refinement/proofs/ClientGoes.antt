@@ -1,6 +1,6 @@
 -- A step of the client by which its call goes on.
 use Rattle.std.proofs.Common.{◌≡◌, ℕ, ◌+◌, ◌≤◌, List, ◌++◌, Option, Some, None, sym, ap, ◌∙◌, subst, inr, arith, append-nil}
-use Rattle.std.specs.Prelude.{All, Contains, IsTrue}
+use Rattle.std.specs.Prelude.{All, Contains, IsTrue, ◌⊎◌}
 use Rattle.std.specs.FinMap as table
 use Rattle.relaxed_file.specs.NameStep.{is_name_call}
 use Rattle.gfs_types.specs.declared.message.Message.{Message}
@@ -13,8 +13,8 @@ use Rattle.cell_protocol.specs.Client.{ClientState}
 use Rattle.cell_protocol.specs.Observer.{answered}
 use Rattle.cell_refinement.specs.Known.{Known, Attempt, IsAttempt, open_call_of, the_client_of, calls_made}
 use Rattle.cell_refinement.specs.Says.{Says, IsPast}
-use Rattle.cell_refinement.specs.Simulates.{AreUnique, IsClient, FitsStage, HasAttempt, IsCurrent, AreTheSame, Holds}
-use Rattle.cell_refinement.proofs.Later.{Grows, SameCall}
+use Rattle.cell_refinement.specs.Simulates.{AreInTurn, IsClient, FitsStage, IsOwnOrOver, IsCurrent, AreTheSame, Holds}
+use Rattle.cell_refinement.proofs.Later.{Grows, AreOver}
 use Rattle.cell_refinement.proofs.ClientActs.{acting, IsFresh, Acts, acts, some_at}
 
 -- what a step of the client comes to, after so many calls
@@ -51,13 +51,14 @@ pub record Proceeds (k : Known) (s s' : ClientState) (c c' : CurrentCall) (attem
   pub fd_count : s'.fd_count ≡ s.fd_count
   pub descriptors : s'.descriptors ≡ s.descriptors
   pub current : s'.current ≡ Some c'
-  pub same : SameCall c c'
+  pub asked : c'.asked ≡ c.asked
+  pub deadline : c'.deadline ≡ c.deadline
   pub number : c'.number ≡ c.number
   pub ends : c'.ends ≡ c.ends
   pub numbers : s.number ≤ s'.number
-  pub past : IsPast c.stage → IsPast c'.stage
+  pub past : IsPast c.stage → IsPast c'.stage ⊎ AreOver k c.number
   pub fresh : IsFresh s c'.stage
-  pub unique : AreUnique k.attempts → AreUnique attempts
+  pub in_turn : AreInTurn k.attempts k.server → AreInTurn attempts k.server
   pub old_attempts : (seq : ℕ) (a : Attempt) → k.attempts seq ≡ Some a → attempts seq ≡ Some a
   pub no_attempts : (number : ℕ) → number ≤ s.number → k.attempts number ≡ None → attempts number ≡ None
 
@@ -74,11 +75,11 @@ module _ (k : Known) (s s' : ClientState) (c c' : CurrentCall) (oc oc' : OpenCal
     calls = λ number asked is. ap (λ f. f number) w.calls ∙ is;
     open_call = λ x is. inr (oc, at.call, subst (λ y. Grows oc y) (same_open x is) w.grows);
     old_attempts = p.old_attempts;
-    unique = p.unique;
+    in_turn = p.in_turn;
     no_attempts = p.no_attempts;
     numbers = p.numbers;
     fresh = λ x is. subst (λ (y : CurrentCall). IsFresh s y.stage) (same_current x is) p.fresh;
-    past = λ x is. inr (c, at.current, subst (λ (y : CurrentCall). y.number ≡ c.number) (same_current x is) p.number, subst (λ (y : CurrentCall). IsPast c.stage → IsPast y.stage) (same_current x is) p.past);
+    past = λ x is. inr (c, at.current, subst (λ (y : CurrentCall). y.number ≡ c.number) (same_current x is) p.number, subst (λ (y : CurrentCall). IsPast c.stage → IsPast y.stage ⊎ AreOver k c.number) (same_current x is) p.past);
     anew = λ number deadline x master is new until.
         let e : oc ≡ new.0 = (let h : Some oc ≡ Some new.0 = sym at.call ∙ new.1 in cc) in
         inr (inr (
@@ -87,7 +88,7 @@ module _ (k : Known) (s s' : ClientState) (c c' : CurrentCall) (oc oc' : OpenCal
               let f : s' ≡ y = (let h : Some s' ≡ Some y = up' in cc) in
               let g : c' ≡ x' = same_current x' (ap (λ (z : ClientState). z.current) f ∙ current') in
               let u = until s c at.up at.current in
-              (ap (λ (z : CurrentCall). z.deadline.0) (sym g) ∙ ap (λ d. d.0) p.same.deadline ∙ u.0, subst (λ (z : CurrentCall). IsTrue (is_name_call z.asked)) g (subst (λ z. IsTrue (is_name_call z)) (sym p.same.asked) u.1)),
+              (ap (λ (z : CurrentCall). z.deadline.0) (sym g) ∙ ap (λ d. d.0) p.deadline ∙ u.0, subst (λ (z : CurrentCall). IsTrue (is_name_call z.asked)) g (subst (λ z. IsTrue (is_name_call z)) (sym p.asked) u.1)),
         ));
     may_place = λ seq a x is known old.
         let e : oc ≡ old.0 = (let h : Some oc ≡ Some old.0 = sym at.call ∙ old.1 in cc) in
@@ -121,7 +122,7 @@ module _ (k : Known) (s s' : ClientState) (c c' : CurrentCall) (oc oc' : OpenCal
       → IsRunTo k.config trace (record k.m { clients = clients })
       → ((seq : ℕ) (a : Attempt) → attempts seq ≡ Some a → IsAttempt (acting k clients attempts s') a × (seq ≤ s'.number))
       → FitsStage (acting k clients attempts s') s' c' oc' c'.stage
-      → ((seq : ℕ) (a : Attempt) → attempts seq ≡ Some a → a.call ≡ c'.number → (a.deadline ≡ c'.deadline.0) × HasAttempt c'.stage seq)
+      → ((seq : ℕ) (a : Attempt) → attempts seq ≡ Some a → a.call ≡ c'.number → (a.deadline ≡ c'.deadline.0) × IsOwnOrOver k c'.stage seq a)
       → All (Says (acting k clients attempts s')) more
       → ClientOutcome k (calls_made k.m) (record { state = s'; sent = more; answer = None; seen = None }) sent trace
   goes sent more trace h run each fits own says = record {
@@ -133,8 +134,8 @@ module _ (k : Known) (s s' : ClientState) (c c' : CurrentCall) (oc oc' : OpenCal
         (client_going (some_at k.client (IsClient k) s at.up h.client) (record {
           number = p.number ∙ at.is.number ∙ sym p.call_count;
           number_is = w.grows.number ∙ at.is.number_is ∙ sym p.number;
-          asked = ap (λ (a : Asked). a.call) w.grows.asked ∙ at.is.asked ∙ sym p.same.asked;
-          ends = ap (λ d. d.0) p.ends ∙ at.is.ends ∙ ap (λ d. d.0 + k.config.skew_ms) (sym p.same.deadline);
+          asked = ap (λ (a : Asked). a.call) w.grows.asked ∙ at.is.asked ∙ sym p.asked;
+          ends = ap (λ d. d.0) p.ends ∙ at.is.ends ∙ ap (λ d. d.0 + k.config.skew_ms) (sym p.deadline);
           stage = fits;
           attempts = own;
         })) h);

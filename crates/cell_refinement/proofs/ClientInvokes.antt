@@ -48,6 +48,7 @@ served_closes (call.Open p) h = inl refl
 served_closes (call.List p) h = inl refl
 served_closes (call.Write fd offset bytes) h = inr refl
 served_closes (call.Read fd offset count) h = inr refl
+served_closes (call.Length fd) h = inr refl
 served_closes other h = absurd (let e : false ≡ true = h in cc)
 
 module _ (k : Known) (s : ClientState) (up : k.client ≡ Some s) (idle : s.current ≡ None) (free : open_call_of k.m ≡ None) (sent : List Message) (trace : List Visible) (h : Holds k sent trace) where
@@ -103,6 +104,11 @@ module _ (k : Known) (s : ClientState) (up : k.client ≡ Some s) (idle : s.curr
       (λ z. asks_new_so k s y up idle free sent trace h file (offset / s.config.chunk) on
       (subst (λ (g : Config). IsInChunk g.chunk (offset / s.config.chunk) offset count) was.config (refl, good.0, good.1, not_zero count z))))
 
+  lengths_so : (x : Call) (o : Option ℕ) → file_of (the_client_of k.m) x ≡ o → (fd : Fd) → x ≡ call.Length fd
+      → ClientOutcome k (suc (calls_made k.m)) (calls_on (counted_call s) (call.Length fd) o) sent (trace ++ Called only_client (call.Length fd) ∷ [])
+  lengths_so x None is fd same = bad_fd_so k s (call.Length fd) up idle free sent trace h refl (ap (file_of (the_client_of k.m)) (sym same) ∙ is) (inr refl)
+  lengths_so x (Some file) is fd same = asks_new_so k s (call.Length fd) up idle free sent trace h file 0 (ap (file_of (the_client_of k.m)) (sym same) ∙ is) refl
+
   -- A call that is served keeps all.
   pub calls_so : (x : Call) → IsTrue (is_served x) → ClientOutcome k (suc (calls_made k.m)) (calls (counted_call s) x) sent (trace ++ Called only_client x ∷ [])
   calls_so (call.Mkdir p) served = name_so k s (call.Mkdir p) up idle free sent trace h refl
@@ -111,6 +117,7 @@ module _ (k : Known) (s : ClientState) (up : k.client ≡ Some s) (idle : s.curr
   calls_so (call.List p) served = name_so k s (call.List p) up idle free sent trace h refl
   calls_so (call.Write fd offset bytes) served = writes_so (call.Write fd offset bytes) (table.get s.descriptors fd.0) (sym (was.descriptors fd.0)) fd offset bytes refl
   calls_so (call.Read fd offset count) served = reads_so (call.Read fd offset count) (table.get s.descriptors fd.0) (sym (was.descriptors fd.0)) fd offset count refl
+  calls_so (call.Length fd) served = lengths_so (call.Length fd) (table.get s.descriptors fd.0) (sym (was.descriptors fd.0)) fd refl
   calls_so other served = absurd (let e : false ≡ true = served in cc)
 
   -- and so one that is refused for want of memory

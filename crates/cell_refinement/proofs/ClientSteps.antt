@@ -1,12 +1,13 @@
 -- Steps of the client by which its call goes on, and of which the machine sees nothing: it stays, waits, or asks again.
-use Rattle.std.proofs.Common.{◌≡◌, ℕ, suc, ◌<◌, ◌≤◌, Bool, List, [], ◌∷◌, Option, Some, None, refl, sym, ap, ◌∙◌, subst, arith, append-nil}
-use Rattle.std.specs.Prelude.{All, IsTrue}
+use Rattle.std.proofs.Common.{◌≡◌, ℕ, suc, ◌<◌, ◌≤◌, Bool, List, [], ◌∷◌, Option, Some, None, refl, sym, ap, ◌∙◌, subst, arith, append-nil, inl, inr}
+use Rattle.std.specs.Prelude.{All, IsTrue, IsFalse}
 use Rattle.std.proofs.lemmas.List.Elements.{All-nil, All-cons}
 use Rattle.gfs_types.specs.declared.call.Call.{Call}
 use Rattle.gfs_types.specs.declared.call.Call.TheVariants as call
 use Rattle.gfs_types.specs.declared.refusal.Refusal.TheVariants.{Failed}
 use Rattle.gfs_types.specs.declared.message.Message.{Message}
 use Rattle.relaxed_file.specs.Machine.{Client, OpenCall, Asked}
+use Rattle.relaxed_file.specs.Reads.{is_length_call}
 use Rattle.relaxed_file.specs.Run.{Visible}
 use Rattle.cell_protocol.specs.declared.stage.Stage.{Stage}
 use Rattle.cell_protocol.specs.declared.stage.Stage.TheVariants as stage
@@ -17,7 +18,7 @@ use Rattle.cell_protocol.specs.ClientAttempts.{asks, wanted_by, is_write}
 use Rattle.cell_protocol.specs.ClientTakes.{told_nobody}
 use Rattle.cell_refinement.specs.Known.{Known, Attempt, IsAttempt, IsChunkCall, IsWriteOf, the_client_of, calls_made}
 use Rattle.cell_refinement.specs.Says.{Says, IsPast, IsReadable, IsAskNumber, SaysAsk}
-use Rattle.cell_refinement.specs.Simulates.{AreUnique, IsClient, IsAsking, FitsStage, HasAttempt, Holds}
+use Rattle.cell_refinement.specs.Simulates.{AreInTurn, IsClient, IsAsking, FitsStage, HasAttempt, Holds}
 use Rattle.cell_refinement.proofs.Later.{Grows}
 use Rattle.cell_refinement.proofs.Quiet.{grows_refl}
 use Rattle.cell_refinement.proofs.ClientActs.{acting, IsFresh, some_at}
@@ -54,7 +55,14 @@ asked_says k s c number a up current new made file same readable (call.Write fd 
 asked_says k s c number a up current new made file same readable (call.Read fd offset count) is fits = (
   new,
   readable,
-  λ s' c' oc' up' current' at call. only_current k s c (λ y. (y.file.0 ≡ c.file.0) × (y.index ≡ c.index)) up current (refl, refl) s' c' up' current',
+  λ s' c' oc' up' current' at call. only_current k s c (λ y. (y.file.0 ≡ c.file.0) × (y.index ≡ c.index) × IsFalse (is_length_call y.asked)) up current
+      (refl, refl, subst (λ y. IsFalse (is_length_call y)) (sym is) refl) s' c' up' current',
+)
+asked_says k s c number a up current new made file same readable (call.Length fd) is fits = (
+  new,
+  readable,
+  λ s' c' oc' up' current' at call. only_current k s c (λ y. (y.file.0 ≡ c.file.0) × (y.index ≡ 0) × IsTrue (is_length_call y.asked)) up current
+      (refl, fits, subst (λ y. IsTrue (is_length_call y)) (sym is) refl) s' c' up' current',
 )
 asked_says k s c number a up current new made file same readable other is fits = absurd fits
 
@@ -96,24 +104,25 @@ module _ (k : Known) (s : ClientState) (c : CurrentCall) (oc : OpenCall) (at : I
   }
 
   pub proceeds : (n : ℕ) (st : Stage) (b : Bool) (attempts : ℕ → Option Attempt) → s.number ≤ n → (IsPast c.stage → IsPast st) → IsFresh s st
-      → ((seq : ℕ) (a : Attempt) → k.attempts seq ≡ Some a → attempts seq ≡ Some a) → ((number : ℕ) → number ≤ s.number → k.attempts number ≡ None → attempts number ≡ None) → (AreUnique k.attempts → AreUnique attempts)
+      → ((seq : ℕ) (a : Attempt) → k.attempts seq ≡ Some a → attempts seq ≡ Some a) → ((number : ℕ) → number ≤ s.number → k.attempts number ≡ None → attempts number ≡ None) → (AreInTurn k.attempts k.server → AreInTurn attempts k.server)
       → Proceeds k s (at_stage s n c st b) c (staged c st b) attempts
-  proceeds n st b attempts more past fresh olds none once = record {
+  proceeds n st b attempts more past fresh olds none turn = record {
     config = refl;
     now = refl;
     call_count = refl;
     fd_count = refl;
     descriptors = refl;
     current = refl;
-    same = record { asked = refl; file = refl; index = refl; deadline = refl };
+    asked = refl;
+    deadline = refl;
     number = refl;
     ends = refl;
     numbers = more;
-    past = past;
+    past = λ p. inl (past p);
     fresh = fresh;
     old_attempts = olds;
     no_attempts = none;
-    unique = once;
+    in_turn = turn;
   }
 
   -- nothing new for the machine, and no new attempt
@@ -127,7 +136,7 @@ module _ (k : Known) (s : ClientState) (c : CurrentCall) (oc : OpenCall) (at : I
       sent more trace h h.run
       (λ seq a is. (attempt_acting k.m.clients k.attempts (at_stage s n c st b) oc unlearned a (h.machine.attempts seq a is).0, let l = attempt_number seq a is in omega arith))
       fits
-      (λ seq a is same. ((at.is.attempts seq a is same).0, own seq (at.is.attempts seq a is same).1))
+      (λ seq a is same. ((at.is.attempts seq a is same).0, elim (at.is.attempts seq a is same).1 [ inl mine ↦ inl (own seq mine) | inr over ↦ inr over ]))
       says
 
   pub stays_so : ClientOutcome k (calls_made k.m) (stays s) sent trace

@@ -1,5 +1,5 @@
 -- What the client makes of the answers to its attempt or its read, and of refusals.
-use Rattle.std.proofs.Common.{◌≡◌, ℕ, ◌≤◌, true, false, List, [], ◌∷◌, Some, refl, sym, ap, ◌∙◌, subst, inl, inr, arith}
+use Rattle.std.proofs.Common.{◌≡◌, ℕ, ◌+◌, ◌*◌, ◌≤◌, true, false, List, [], ◌∷◌, Some, refl, sym, ap, ◌∙◌, subst, inl, inr, arith}
 use Rattle.std.specs.Prelude.{Contains, IfSome, IsTrue, IsFalse}
 use Rattle.std.proofs.lemmas.Bool.{eq-eqb}
 use Rattle.gfs_types.specs.declared.config.Config.{Config}
@@ -13,10 +13,11 @@ use Rattle.gfs_types.specs.declared.refusal.Refusal.TheVariants.{NoReplica, Fail
 use Rattle.gfs_types.specs.declared.ids.DataId.{DataId}
 use Rattle.gfs_types.specs.declared.message.Message.{Message}
 use Rattle.relaxed_file.specs.Order.{CallId, same_call}
-use Rattle.relaxed_file.specs.Machine.{OpenCall, chunk_count}
+use Rattle.relaxed_file.specs.Machine.{Machine, OpenCall, chunk_count}
+use Rattle.relaxed_file.specs.Reads.{is_length_call}
 use Rattle.relaxed_file.specs.Run.{Visible}
 use Rattle.relaxed_file.specs.Chunks.{tries_in, tries_below}
-use Rattle.relaxed_file.specs.Answers.{HasSuccess, IsWrite, may_give_up}
+use Rattle.relaxed_file.specs.Answers.{IsDone, HasSuccess, IsWrite, may_give_up}
 use Rattle.cell_protocol.specs.declared.stage.Stage.TheVariants as stage
 use Rattle.cell_protocol.specs.declared.stage.CurrentCall.{CurrentCall}
 use Rattle.cell_protocol.specs.declared.stage.ToldChunk.{ToldChunk}
@@ -26,7 +27,7 @@ use Rattle.cell_protocol.specs.Client.{ClientState, answers}
 use Rattle.cell_protocol.specs.ClientAttempts.{is_write}
 use Rattle.cell_protocol.specs.ClientTakes.{master_refuses, primary_refuses}
 use Rattle.cell_refinement.specs.Known.{Known, Spot, Attempt, IsChunkCall, IsWriteOf, IsReadOf, HasEntry, HasNoEntry, the_client_of, calls_made, chunk_of, call_id, kept_seq}
-use Rattle.cell_refinement.specs.Says.{SaysDone, SaysBytes, IsRefusedAsk, IsRefusedAttempt, IsOver}
+use Rattle.cell_refinement.specs.Says.{SaysDone, SaysBytes, SaysLenIs, IsRefusedAsk, IsRefusedAttempt, IsOver}
 use Rattle.cell_refinement.specs.Simulates.{IsAsking, IsAttemptOf, HasAttempt, FitsStage, Holds}
 use Rattle.cell_refinement.proofs.ClientActs.{some_at}
 use Rattle.cell_refinement.proofs.ClientGoes.{ClientOutcome, IsAt}
@@ -51,10 +52,32 @@ pub chunk_write : (size index : ℕ) (x : Call) → IsChunkCall size index x →
 chunk_write size index (call.Write fd offset bytes) h w = h
 chunk_write size index other h w = absurd (let e : false ≡ true = w in cc)
 
-pub chunk_read : (size index : ℕ) (x : Call) → IsChunkCall size index x → IsFalse (is_write x) → IsReadOf size index x
-chunk_read size index (call.Read fd offset count) h w = h
-chunk_read size index (call.Write fd offset bytes) h w = absurd (let e : true ≡ false = w in cc)
-chunk_read size index other h w = absurd h
+pub chunk_read : (size index : ℕ) (x : Call) → IsChunkCall size index x → IsFalse (is_write x) → IsFalse (is_length_call x) → IsReadOf size index x
+chunk_read size index (call.Read fd offset count) h w l = h
+chunk_read size index (call.Write fd offset bytes) h w l = absurd (let e : true ≡ false = w in cc)
+chunk_read size index (call.Length fd) h w l = absurd (let e : true ≡ false = l in cc)
+chunk_read size index other h w l = absurd h
+
+-- a length begins with no chunk
+pub length_chunk : (size : ℕ) (x : Call) → IsTrue (is_length_call x) → IsChunkCall size 0 x
+length_chunk size (call.Length fd) h = refl
+length_chunk size other h = absurd (let e : false ≡ true = h in cc)
+
+pub chunk_length : (size index : ℕ) (x : Call) → IsChunkCall size index x → IsTrue (is_length_call x) → index ≡ 0
+chunk_length size index (call.Length fd) h l = h
+chunk_length size index other h l = absurd (let e : false ≡ true = l in cc)
+
+length_finds_none : (x : Call) → IsTrue (is_length_call x) → IsTrue (may_give_up x NoReplica)
+length_finds_none (call.Length fd) h = refl
+length_finds_none other h = absurd (let e : false ≡ true = h in cc)
+
+pub length_done : (m : Machine) (oc : OpenCall) (x : Call) (n : ℕ) → IsTrue (is_length_call x) → Contains oc.lengths n → IsDone m only_client oc x (answer.Length n)
+length_done m oc (call.Length fd) n h there = there
+length_done m oc other n h there = absurd (let e : false ≡ true = h in cc)
+
+pub write_no_length : (x : Call) → IsTrue (is_write x) → IsFalse (is_length_call x)
+write_no_length (call.Write fd offset bytes) h = refl
+write_no_length other h = absurd (let e : false ≡ true = h in cc)
 
 write_fails : (x : Call) → IsTrue (is_write x) → IsTrue (may_give_up x Failed)
 write_fails (call.Write fd offset bytes) h = refl
@@ -72,9 +95,9 @@ mutation_is m place bytes is = subst IsWrite (sym is) tt
 
 module _ (k : Known) (s : ClientState) (c : CurrentCall) (oc : OpenCall) (at : IsAt k s c oc) (sent : List Message) (trace : List Visible) (h : Holds k sent trace) where
   -- a call on a chunk of which no mutation is still to come
-  pub over_by : IsChunkCall k.config.chunk c.index c.asked → ((seq : ℕ) (a : Attempt) (x : ServerState) → k.server ≡ Some x → k.attempts seq ≡ Some a → HasAttempt c.stage seq → IsOver seq a x) → IsOverAll k c oc
-  over_by fits over = record {
-    names = λ name empty x is. absurd (chunk_no_name k.config.chunk c.index c.asked fits name);
+  pub over_by : (index : ℕ) → IsChunkCall k.config.chunk index c.asked → ((seq : ℕ) (a : Attempt) (x : ServerState) → k.server ≡ Some x → k.attempts seq ≡ Some a → HasAttempt c.stage seq → IsOver seq a x) → IsOverAll k c oc
+  over_by index fits over = record {
+    names = λ name empty x is. absurd (chunk_no_name k.config.chunk index c.asked fits name);
     mutations = λ seq a x is known own same. inl (over seq a x is known own);
   }
 
@@ -103,7 +126,7 @@ module _ (k : Known) (s : ClientState) (c : CurrentCall) (oc : OpenCall) (at : I
       (write_done k.m oc c.file.0 c.index fits.0 (success number fits.3 fits.4 (subst (HasEntry k) same said.2) fits.2) oc.asked.call
       (asked_of (λ g x. IsWriteOf g.chunk c.index x) fits.1))
       (inr (chunk_uses k.config.chunk c.index c.asked whole))
-      (over_by whole (λ seq a x up known mine.
+      (over_by c.index whole (λ seq a x up known mine.
       let e : seq ≡ number = subst (λ st. HasAttempt st seq) is mine in
       inl (let l = some_at k.server (λ (y : ServerState). id.seq ≤ kept_seq y.kept) x up said.3 in omega arith)))
 
@@ -116,7 +139,7 @@ module _ (k : Known) (s : ClientState) (c : CurrentCall) (oc : OpenCall) (at : I
       (read_done k.m oc c.file.0 c.index bytes (to.round.0 ∷ []) (Some 1) fits.0 (said.1 to s c oc at.up at.current is at.call) (ap (λ n. n ∷ []) fits.2.round) oc.asked.call
       (asked_of (λ g x. IsReadOf g.chunk c.index x) fits.1))
       (inr (chunk_uses k.config.chunk c.index c.asked whole))
-      (over_by whole (λ seq a x up known mine. absurd (subst (λ st. HasAttempt st seq) is mine)))
+      (over_by c.index whole (λ seq a x up known mine. absurd (subst (λ st. HasAttempt st seq) is mine)))
 
   -- no entry of the call stands
   untried : (at' : Spot) → HasNoEntry k.placed oc.number → tries_in (call_id oc.number) (chunk_of k.m at') ≡ 0
@@ -130,7 +153,7 @@ module _ (k : Known) (s : ClientState) (c : CurrentCall) (oc : OpenCall) (at : I
   none_stands file none = none_below (k.m.files file).chunks (call_id oc.number) (chunk_count k.m file) (λ i. untried (record { file = file; index = i }) none)
 
   pub none_of_asked : (number : ℕ) → c.stage ≡ stage.AskedWhere number → IsChunkCall k.config.chunk c.index c.asked → IsOverAll k c oc
-  none_of_asked number is whole = over_by whole (λ seq a x up known mine. absurd (subst (λ st. HasAttempt st seq) is mine))
+  none_of_asked number is whole = over_by c.index whole (λ seq a x up known mine. absurd (subst (λ st. HasAttempt st seq) is mine))
 
   -- the master refuses an ask
   pub ask_refused_so : (number : ℕ) (refusal : Refusal) → c.stage ≡ stage.AskedWhere number → IsRefusedAsk c oc refusal → ClientOutcome k (calls_made k.m) (master_refuses s c refusal) sent trace
@@ -157,7 +180,27 @@ module _ (k : Known) (s : ClientState) (c : CurrentCall) (oc : OpenCall) (at : I
       returns_so k s c oc at sent trace h (answer.Refused NoReplica)
       (may_refuse k s c oc at sent trace h NoReplica (read_finds_none k.config.chunk c.index c.asked fits.1))
       (inr (chunk_uses k.config.chunk c.index c.asked whole))
-      (over_by whole (λ seq a x up known mine. absurd (subst (λ st. HasAttempt st seq) is mine)))
+      (over_by c.index whole (λ seq a x up known mine. absurd (subst (λ st. HasAttempt st seq) is mine)))
+
+  -- the server has told its length
+  pub length_so : (to : ToldChunk) (number count : ℕ) → c.stage ≡ stage.SentLen to number → SaysLenIs k number count → ClientOutcome k (calls_made k.m) (answers s (answer.Length (c.index * k.config.chunk + count))) sent trace
+  length_so to number count is said =
+      let fits : FitsStage k s c oc (stage.SentLen to number) = subst (FitsStage k s c oc) is at.is.stage in
+      let whole : IsChunkCall k.config.chunk 0 c.asked = length_chunk k.config.chunk c.asked fits.1 in
+      returns_so k s c oc at sent trace h (answer.Length (c.index * k.config.chunk + count))
+      (length_done k.m oc oc.asked.call (c.index * k.config.chunk + count) (subst (λ x. IsTrue (is_length_call x)) (sym at.is.asked) fits.1) (said.1 to s c oc at.up at.current is at.call))
+      (inr (chunk_uses k.config.chunk 0 c.asked whole))
+      (over_by 0 whole (λ seq a x up known mine. absurd (subst (λ st. HasAttempt st seq) is mine)))
+
+  -- the server refuses to tell its length
+  pub length_refused_so : (to : ToldChunk) (number : ℕ) → c.stage ≡ stage.SentLen to number → ClientOutcome k (calls_made k.m) (answers s (answer.Refused NoReplica)) sent trace
+  length_refused_so to number is =
+      let fits : FitsStage k s c oc (stage.SentLen to number) = subst (FitsStage k s c oc) is at.is.stage in
+      let whole : IsChunkCall k.config.chunk 0 c.asked = length_chunk k.config.chunk c.asked fits.1 in
+      returns_so k s c oc at sent trace h (answer.Refused NoReplica)
+      (may_refuse k s c oc at sent trace h NoReplica (length_finds_none c.asked fits.1))
+      (inr (chunk_uses k.config.chunk 0 c.asked whole))
+      (over_by 0 whole (λ seq a x up known mine. absurd (subst (λ st. HasAttempt st seq) is mine)))
 
   -- the primary's refusal is the attempt's end
   fails_so : (number : ℕ) → c.stage ≡ stage.SentMutate number → ((a : Attempt) → k.attempts number ≡ Some a → IfSome k.server (IsOver number a)) → ClientOutcome k (calls_made k.m) (answers s (answer.Refused Failed)) sent trace
@@ -167,7 +210,7 @@ module _ (k : Known) (s : ClientState) (c : CurrentCall) (oc : OpenCall) (at : I
       returns_so k s c oc at sent trace h (answer.Refused Failed)
       (may_refuse k s c oc at sent trace h Failed (write_fails c.asked (write_is k.config.chunk c.index c.asked fits.1)))
       (inr (chunk_uses k.config.chunk c.index c.asked whole))
-      (over_by whole (λ seq a x up known mine.
+      (over_by c.index whole (λ seq a x up known mine.
       let e : seq ≡ number = subst (λ st. HasAttempt st seq) is mine in
       subst (λ n. IsOver n a x) (sym e) (some_at k.server (IsOver number a) x up (over a (ap k.attempts (sym e) ∙ known)))))
 

@@ -1,6 +1,6 @@
 -- The client is told of a chunk: it notes the round, and sends its data or asks to read; or there is no such chunk.
-use Rattle.std.proofs.Common.{◌≡◌, ℕ, suc, ◌≤◌, true, false, cond, List, [], ◌∷◌, Option, Some, None, refl, sym, ap, ◌∙◌, subst, inr, arith, append-nil}
-use Rattle.std.specs.Prelude.{Contains, IfSome, IsTrue, IsFalse, ◌==◌, option_map}
+use Rattle.std.proofs.Common.{◌≡◌, ℕ, suc, ◌<◌, ◌≤◌, true, false, cond, List, [], ◌∷◌, Option, Some, None, refl, sym, ap, ◌∙◌, subst, inl, inr, arith, append-nil}
+use Rattle.std.specs.Prelude.{Contains, IfSome, IsTrue, IsFalse, ◌⊎◌, ◌==◌, option_map}
 use Rattle.std.proofs.lemmas.Bool.{eq-eqb, eqb-true}
 use Rattle.std.proofs.lemmas.List.Elements.{Contains-append_right}
 use Rattle.gfs_types.specs.declared.config.Config.{Config}
@@ -12,27 +12,28 @@ use Rattle.gfs_types.specs.declared.message.Location.{Location}
 use Rattle.gfs_types.specs.declared.message.Holder.{Holder}
 use Rattle.gfs_types.specs.declared.message.Group.{Group}
 use Rattle.relaxed_file.specs.Machine.{Client, OpenCall, NoSuchChunk, Piece, put}
-use Rattle.relaxed_file.specs.Reads.{noted, looked_past}
-use Rattle.relaxed_file.specs.Run.{IsRunTo, Visible, Note, LookPast}
+use Rattle.relaxed_file.specs.Reads.{noted, looked_past, is_length_call, measured_none}
+use Rattle.relaxed_file.specs.Run.{IsRunTo, Visible, Note, LookPast, MeasureNone}
 use Rattle.relaxed_file.proofs.GoingOn.{runs_go_on}
 use Rattle.cell_protocol.specs.declared.stage.Stage.{Stage}
 use Rattle.cell_protocol.specs.declared.stage.Stage.TheVariants as stage
 use Rattle.cell_protocol.specs.declared.stage.CurrentCall.{CurrentCall}
 use Rattle.cell_protocol.specs.declared.stage.ToldChunk.{ToldChunk}
 use Rattle.cell_protocol.specs.Sending.{only_client, only_server}
+use Rattle.cell_protocol.specs.Server.{ServerState}
 use Rattle.cell_protocol.specs.Client.{ClientState, answers}
-use Rattle.cell_protocol.specs.ClientAttempts.{is_write, pushes, reads_at, told_at, bytes_to_send, place_in_chunk, count_to_read}
+use Rattle.cell_protocol.specs.ClientAttempts.{is_write, pushes, reads_at, measures_at, told_at, at_told, bytes_to_send, place_in_chunk, count_to_read}
 use Rattle.cell_protocol.specs.ClientTakes.{told_nobody}
 use Rattle.cell_refinement.specs.Known.{Known, Spot, Attempt, IsAttempt, IsWriteOf, IsReadOf, IsMutationOf, the_client_of, calls_made}
-use Rattle.cell_refinement.specs.Says.{IsGranted, IsPast}
-use Rattle.cell_refinement.specs.Simulates.{AreUnique, IsAsking, IsToldAt, HasAttempt, FitsStage, Holds}
-use Rattle.cell_refinement.proofs.ClientActs.{acting}
-use Rattle.cell_refinement.proofs.ClientGoes.{ClientOutcome, IsAt, Learns, goes}
+use Rattle.cell_refinement.specs.Says.{IsGranted, IsGrantedLast, IsPast, IsOver}
+use Rattle.cell_refinement.specs.Simulates.{AreInTurn, IsAsking, IsToldAt, HasAttempt, FitsStage, Holds}
+use Rattle.cell_refinement.proofs.ClientActs.{acting, IsFresh}
+use Rattle.cell_refinement.proofs.ClientGoes.{ClientOutcome, IsAt, Learns, Proceeds, goes}
 use Rattle.cell_refinement.proofs.ClientSteps.{old, staged, at_stage, one, only_current, unused, attempt_number, attempt_acting, asking_acting, proceeds, waits_so}
 use Rattle.cell_refinement.proofs.ClientEnds.{learned, returns_after}
 use Rattle.cell_refinement.proofs.ClientAnswers.{chunk_uses}
 use Rattle.cell_refinement.proofs.ClientParts.{read_done}
-use Rattle.cell_refinement.proofs.ClientTaken.{asked_of, none_of_asked, chunk_write, chunk_read}
+use Rattle.cell_refinement.proofs.ClientTaken.{asked_of, none_of_asked, chunk_write, chunk_read, chunk_length, length_done}
 
 pub some_of : {S : Type 0} (o : Option S) (P : S → Type 0) → ((s : S) → o ≡ Some s → P s) → IfSome o P
 some_of None P h = tt
@@ -59,17 +60,18 @@ pub place_of : (size : ℕ) (a : Attempt) (at : Spot) (x : Call) → IsMutationO
 place_of size a at (call.Write fd offset bytes) h = sym h.1
 place_of size a at other h = absurd h
 
--- a call that had no attempt gets one
-unique_put : (n : ℕ) (a : Attempt) (t : ℕ → Option Attempt) → ((seq : ℕ) (b : Attempt) → t seq ≡ Some b → b.call ≡ a.call → ⊥) → AreUnique t → AreUnique (put n (Some a) t)
-unique_put n a t free u seq other b d =
-    elim (seq == n) as (λ x. (seq == n) ≡ x → cond x (Some a) (t seq) ≡ Some b → put n (Some a) t other ≡ Some d → b.call ≡ d.call → seq ≡ other) [
-      | true ↦ λ e is. elim (other == n) as (λ y. (other == n) ≡ y → cond y (Some a) (t other) ≡ Some d → b.call ≡ d.call → seq ≡ other) [
-        | true ↦ λ f is' same. eqb-true seq n e ∙ sym (eqb-true other n f)
-        | false ↦ λ f is' same. let g : a ≡ b = (let h : Some a ≡ Some b = is in cc) in absurd (free other d is' (sym same ∙ sym (ap (λ (x : Attempt). x.call) g)))
+-- a call gets an attempt, where each one before it is over
+in_turn_put : (n : ℕ) (a : Attempt) (t : ℕ → Option Attempt) (server : Option ServerState) → ((seq : ℕ) (b : Attempt) → t seq ≡ Some b → (seq < n) × (b.call ≡ a.call → IfSome server (IsOver seq b)))
+    → AreInTurn t server → AreInTurn (put n (Some a) t) server
+in_turn_put n a t server before u seq other b d =
+    elim (seq == n) as (λ x. (seq == n) ≡ x → cond x (Some a) (t seq) ≡ Some b → put n (Some a) t other ≡ Some d → b.call ≡ d.call → seq < other → IfSome server (IsOver seq b)) [
+      | true ↦ λ e is. elim (other == n) as (λ y. (other == n) ≡ y → cond y (Some a) (t other) ≡ Some d → b.call ≡ d.call → seq < other → IfSome server (IsOver seq b)) [
+        | true ↦ λ f is' same less. let g : seq ≡ n = eqb-true seq n e in let h : other ≡ n = eqb-true other n f in absurd (omega arith)
+        | false ↦ λ f is' same less. let g : seq ≡ n = eqb-true seq n e in let h = (before other d is').0 in absurd (omega arith)
       ] refl
-      | false ↦ λ e is. elim (other == n) as (λ y. (other == n) ≡ y → cond y (Some a) (t other) ≡ Some d → b.call ≡ d.call → seq ≡ other) [
-        | true ↦ λ f is' same. let g : a ≡ d = (let h : Some a ≡ Some d = is' in cc) in absurd (free seq b is (same ∙ sym (ap (λ (x : Attempt). x.call) g)))
-        | false ↦ λ f is' same. u seq other b d is is' same
+      | false ↦ λ e is. elim (other == n) as (λ y. (other == n) ≡ y → cond y (Some a) (t other) ≡ Some d → b.call ≡ d.call → seq < other → IfSome server (IsOver seq b)) [
+        | true ↦ λ f is' same less. let g : a ≡ d = (let h : Some a ≡ Some d = is' in cc) in (before seq b is).1 (same ∙ sym (ap (λ (x : Attempt). x.call) g))
+        | false ↦ λ f is' same less. u seq other b d is is' same less
       ] refl
     ] refl
 
@@ -82,6 +84,13 @@ module _ (k : Known) (s : ClientState) (c : CurrentCall) (oc : OpenCall) (at : I
 
   no_attempt : (seq : ℕ) → HasAttempt c.stage seq → ⊥
   no_attempt seq own = subst (λ st. HasAttempt st seq) is own
+
+  -- whatever attempts the call had are over
+  over_before : (seq : ℕ) (a : Attempt) → k.attempts seq ≡ Some a → a.call ≡ c.number → IfSome k.server (IsOver seq a)
+  over_before seq a known same = elim (at.is.attempts seq a known same).1 [
+    | inl own ↦ absurd (no_attempt seq own)
+    | inr over ↦ over
+  ]
 
   early : IsPast c.stage → ⊥
   early past = subst IsPast is past
@@ -99,7 +108,7 @@ module _ (k : Known) (s : ClientState) (c : CurrentCall) (oc : OpenCall) (at : I
   learns_past : Learns k oc past_call past_clients
   learns_past = record {
     call = ap (λ o. option_map (λ (current : OpenCall). record current { pieces = gone ∷ current.pieces; has_begun = true }) o) at.call;
-    grows = record { number = refl; asked = refl; outcomes = λ x there. there; offers = λ x there. there; pieces = λ x there. Contains-append_right (gone ∷ []) oc.pieces x there };
+    grows = record { number = refl; asked = refl; outcomes = λ x there. there; offers = λ x there. there; pieces = λ x there. Contains-append_right (gone ∷ []) oc.pieces x there; lengths = λ x there. there };
     outcomes = refl;
     made = refl;
     calls = refl;
@@ -108,74 +117,150 @@ module _ (k : Known) (s : ClientState) (c : CurrentCall) (oc : OpenCall) (at : I
     notes = h.machine.notes;
   }
 
-  pub reads_nothing_so : IsFalse (is_write c.asked) → Contains oc.offers (NoSuchChunk c.index) → ClientOutcome k (calls_made k.m) (answers s (answer.Bytes [] [])) sent trace
-  reads_nothing_so read offer =
+  pub reads_nothing_so : IsFalse (is_write c.asked) → IsFalse (is_length_call c.asked) → Contains oc.offers (NoSuchChunk c.index) → ClientOutcome k (calls_made k.m) (answers s (answer.Bytes [] [])) sent trace
+  reads_nothing_so read long offer =
       returns_after k s c oc past_call past_clients at learns_past (none_of_asked k s c oc at sent trace h number is asking.fits) (answer.Bytes [] []) sent trace h
       (subst (λ t. IsRunTo k.config t (learned k past_clients)) (append-nil trace) (runs_go_on k.config trace k.m (LookPast only_client c.index) h.run (oc, at.call, offer)))
       (read_done (learned k past_clients) past_call c.file.0 c.index [] [] None asking.file (0, omega arith, refl) refl oc.asked.call
-      (asked_of k s c oc at sent trace h (λ g x. IsReadOf g.chunk c.index x) (chunk_read k.config.chunk c.index c.asked asking.fits read)))
+      (asked_of k s c oc at sent trace h (λ g x. IsReadOf g.chunk c.index x) (chunk_read k.config.chunk c.index c.asked asking.fits read long)))
+      (inr (chunk_uses k.config.chunk c.index c.asked asking.fits))
+
+  -- There is no chunk, and the file's length is 0.
+  abbrev pub empty_call : OpenCall
+  empty_call = record oc { lengths = 0 ∷ oc.lengths; has_begun = true }
+
+  abbrev pub empty_clients : ℕ → Client
+  empty_clients = (measured_none k.m only_client).clients
+
+  learns_empty : Learns k oc empty_call empty_clients
+  learns_empty = record {
+    call = ap (λ o. option_map (λ (current : OpenCall). record current { lengths = 0 ∷ current.lengths; has_begun = true }) o) at.call;
+    grows = record { number = refl; asked = refl; outcomes = λ x there. there; offers = λ x there. there; pieces = λ x there. there; lengths = λ x there. Contains-append_right (0 ∷ []) oc.lengths x there };
+    outcomes = refl;
+    made = refl;
+    calls = refl;
+    fd_count = refl;
+    descriptors = refl;
+    notes = h.machine.notes;
+  }
+
+  pub measures_nothing_so : IsTrue (is_length_call c.asked) → Contains oc.offers (NoSuchChunk c.index) → ClientOutcome k (calls_made k.m) (answers s (answer.Length 0)) sent trace
+  measures_nothing_so long offer =
+      let long_is : IsTrue (is_length_call oc.asked.call) = subst (λ x. IsTrue (is_length_call x)) (sym at.is.asked) long in
+      let first : Contains oc.offers (NoSuchChunk 0) = subst (λ n. Contains oc.offers (NoSuchChunk n)) (chunk_length k.config.chunk c.index c.asked asking.fits long) offer in
+      returns_after k s c oc empty_call empty_clients at learns_empty (none_of_asked k s c oc at sent trace h number is asking.fits) (answer.Length 0) sent trace h
+      (subst (λ t. IsRunTo k.config t (learned k empty_clients)) (append-nil trace) (runs_go_on k.config trace k.m (MeasureNone only_client) h.run (oc, at.call, (long_is, first))))
+      (length_done (learned k empty_clients) empty_call oc.asked.call 0 long_is (0, omega arith, refl))
       (inr (chunk_uses k.config.chunk c.index c.asked asking.fits))
 
   -- The client notes the round.
   abbrev pub noted_call : OpenCall
   noted_call = record oc { has_begun = true }
 
-  abbrev pub noted_clients : ℕ → Client
-  noted_clients = (noted k.m only_client c.file.0 c.index 1).clients
+  abbrev pub noted_clients : ℕ → (ℕ → Client)
+  noted_clients index = (noted k.m only_client c.file.0 index 1).clients
 
-  abbrev pub notes_now : ℕ → ℕ → Option ℕ
-  notes_now = put c.file.0 (put c.index (Some 1) ((the_client_of k.m).notes c.file.0)) (the_client_of k.m).notes
+  abbrev pub notes_now : ℕ → (ℕ → ℕ → Option ℕ)
+  notes_now index = put c.file.0 (put index (Some 1) ((the_client_of k.m).notes c.file.0)) (the_client_of k.m).notes
 
-  note_by : (f i round : ℕ) → notes_now f i ≡ Some round → round ≤ 1
-  note_by f i round =
-      elim (f == c.file.0) as (λ b. cond b (put c.index (Some 1) ((the_client_of k.m).notes c.file.0)) ((the_client_of k.m).notes f) i ≡ Some round → round ≤ 1) [
-        | true ↦ elim (i == c.index) as (λ b. cond b (Some 1) ((the_client_of k.m).notes c.file.0 i) ≡ Some round → round ≤ 1) [
+  note_by : (index f i round : ℕ) → notes_now index f i ≡ Some round → round ≤ 1
+  note_by index f i round =
+      elim (f == c.file.0) as (λ b. cond b (put index (Some 1) ((the_client_of k.m).notes c.file.0)) ((the_client_of k.m).notes f) i ≡ Some round → round ≤ 1) [
+        | true ↦ elim (i == index) as (λ b. cond b (Some 1) ((the_client_of k.m).notes c.file.0 i) ≡ Some round → round ≤ 1) [
           | true ↦ λ e. let same : 1 ≡ round = (let g : Some 1 ≡ Some round = e in cc) in omega arith
           | false ↦ λ e. h.machine.notes c.file.0 i round e
         ]
         | false ↦ λ e. h.machine.notes f i round e
       ]
 
-  learns_note : Learns k oc noted_call noted_clients
-  learns_note = record {
+  learns_note : (index : ℕ) → Learns k oc noted_call (noted_clients index)
+  learns_note index = record {
     call = ap (λ o. option_map (λ (current : OpenCall). record current { has_begun = true }) o) at.call;
-    grows = record { number = refl; asked = refl; outcomes = λ x there. there; offers = λ x there. there; pieces = λ x there. there };
+    grows = record { number = refl; asked = refl; outcomes = λ x there. there; offers = λ x there. there; pieces = λ x there. there; lengths = λ x there. there };
     outcomes = refl;
     made = refl;
     calls = refl;
     fd_count = refl;
     descriptors = refl;
-    notes = note_by;
+    notes = note_by index;
   }
 
-  note_is : notes_now c.file.0 c.index ≡ Some 1
-  note_is = ap (λ f. f c.index) (put_self c.file.0 (put c.index (Some 1) ((the_client_of k.m).notes c.file.0)) (the_client_of k.m).notes) ∙ put_self c.index (Some 1) ((the_client_of k.m).notes c.file.0)
+  note_is : (index : ℕ) → notes_now index c.file.0 index ≡ Some 1
+  note_is index = ap (λ f. f index) (put_self c.file.0 (put index (Some 1) ((the_client_of k.m).notes c.file.0)) (the_client_of k.m).notes) ∙ put_self index (Some 1) ((the_client_of k.m).notes c.file.0)
+
+  run_noted : (index : ℕ) (l : Location) (holder : Holder) (rest : List Holder) → IsGranted k c.file.0 index oc l (holder ∷ rest) → IsRunTo k.config trace (learned k (noted_clients index))
+  run_noted index l holder rest g = subst (λ t. IsRunTo k.config t (learned k (noted_clients index))) (append-nil trace)
+      (runs_go_on k.config trace k.m (Note only_client c.file.0 index 1 g.5.0) h.run
+      (oc, at.call, (asking.file, g.5.1, some_of ((the_client_of k.m).notes c.file.0 index) (λ before. before ≤ 1) (λ before e. h.machine.notes c.file.0 index before e))))
+
+  -- the call goes to the chunk that was told
+  proceeds_at : (l : Location) (n : ℕ) (st : Stage) → s.number ≤ n → IsFresh s st → Proceeds k s (at_stage s n (at_told c l) st false) c (staged (at_told c l) st false) k.attempts
+  proceeds_at l n st more fresh = record {
+    config = refl;
+    now = refl;
+    call_count = refl;
+    fd_count = refl;
+    descriptors = refl;
+    current = refl;
+    asked = refl;
+    deadline = refl;
+    number = refl;
+    ends = refl;
+    numbers = more;
+    past = λ p. absurd (early p);
+    fresh = fresh;
+    old_attempts = λ seq a e. e;
+    no_attempts = λ m used e. e;
+    in_turn = λ u. u;
+  }
+
+  -- a length asks the server
+  pub measures_so : (l : Location) (holder : Holder) (rest : List Holder) → IsGrantedLast k c.file.0 oc l (holder ∷ rest) → IsTrue (is_length_call c.asked)
+      → ClientOutcome k (calls_made k.m) (measures_at s (told_nobody c false) l holder) sent trace
+  measures_so l holder rest last long =
+      let n : ℕ = suc s.number in
+      let to : ToldChunk = told_at l holder.server.0 in
+      let st : Stage = stage.SentLen to n in
+      let clients : ℕ → Client = noted_clients l.index in
+      let c' : CurrentCall = staged (at_told c l) st false in
+      let s' : ClientState = at_stage s n (at_told c l) st false in
+      let x : Known = acting k clients k.attempts s' in
+      let g = last.0 in
+      let none : k.attempts n ≡ None = unused k s c oc at sent trace h n (omega arith) in
+      goes k s s' c c' oc noted_call clients k.attempts at (learns_note l.index)
+      (proceeds_at l n st (omega arith) (λ m w b. let e : n ≡ m = w in absurd (omega arith)))
+      sent _ trace h (run_noted l.index l holder rest g)
+      (λ seq a e. (attempt_acting k s c oc at sent trace h clients k.attempts s' noted_call (learns_note l.index) a (h.machine.attempts seq a e).0, let b = attempt_number k s c oc at sent trace h seq a e in omega arith))
+      (asking.file, long, record { owner = g.4; round = g.0; server = g.1; noted = note_is l.index; there = g.6 }, (omega arith, omega arith, none), last.1)
+      (λ seq a e same. ((at.is.attempts seq a e same).0, inr (over_before seq a e same)))
+      (one x _ (
+        ((omega arith, omega arith), none),
+        λ to' s'' c'' oc'' up' current' st' call'.
+            only_current x s' c' (λ y. y.stage ≡ stage.SentLen to' n → (to'.handle.0 ≡ l.handle.0) × (holder.version.0 ≡ 1)) refl refl
+            (λ e. (let f : to ≡ to' = (let g : stage.SentLen to n ≡ stage.SentLen to' n = e in cc) in ap (λ (t : ToldChunk). t.handle.0) (sym f), g.2))
+            s'' c'' up' current' st',
+      ))
 
   module _ (l : Location) (holder : Holder) (rest : List Holder) (g : IsGranted k c.file.0 c.index oc l (holder ∷ rest)) where
-    run_noted : IsRunTo k.config trace (learned k noted_clients)
-    run_noted = subst (λ t. IsRunTo k.config t (learned k noted_clients)) (append-nil trace)
-        (runs_go_on k.config trace k.m (Note only_client c.file.0 c.index 1 g.5.0) h.run
-        (oc, at.call, (asking.file, g.5.1, some_of ((the_client_of k.m).notes c.file.0 c.index) (λ before. before ≤ 1) (λ before e. h.machine.notes c.file.0 c.index before e))))
-
-    told_there : (attempts : ℕ → Option Attempt) (s' : ClientState) (st : Stage) (server : ℕ) → server ≡ only_server → IsToldAt (acting k noted_clients attempts s') (staged c st false) (told_at l server)
-    told_there attempts s' st server same = record { owner = g.4; round = g.0; server = same; noted = note_is; there = g.6 }
+    told_there : (attempts : ℕ → Option Attempt) (s' : ClientState) (st : Stage) (server : ℕ) → server ≡ only_server → IsToldAt (acting k (noted_clients c.index) attempts s') (staged c st false) (told_at l server)
+    told_there attempts s' st server same = record { owner = g.4; round = g.0; server = same; noted = note_is c.index; there = g.6 }
 
     -- a read asks the server
-    pub reads_so : IsFalse (is_write c.asked) → ClientOutcome k (calls_made k.m) (reads_at s (told_nobody c false) l holder) sent trace
-    reads_so read =
+    pub reads_so : IsFalse (is_write c.asked) → IsFalse (is_length_call c.asked) → ClientOutcome k (calls_made k.m) (reads_at s (told_nobody c false) l holder) sent trace
+    reads_so read long =
         let n : ℕ = suc s.number in
         let to : ToldChunk = told_at l holder.server.0 in
         let st : Stage = stage.SentRead to n in
         let s' : ClientState = at_stage s n c st false in
-        let x : Known = acting k noted_clients k.attempts s' in
+        let x : Known = acting k (noted_clients c.index) k.attempts s' in
         let none : k.attempts n ≡ None = unused k s c oc at sent trace h n (omega arith) in
         let config = (old k s c oc at sent trace h).config in
-        goes k s s' c (staged c st false) oc noted_call noted_clients k.attempts at learns_note
+        goes k s s' c (staged c st false) oc noted_call (noted_clients c.index) k.attempts at (learns_note c.index)
         (proceeds k s c oc at sent trace h n st false k.attempts (omega arith) (λ p. absurd (early p)) (λ m w b. let e : n ≡ m = w in absurd (omega arith)) (λ seq a e. e) (λ m used e. e) (λ u. u))
-        sent _ trace h run_noted
-        (λ seq a e. (attempt_acting k s c oc at sent trace h noted_clients k.attempts s' noted_call learns_note a (h.machine.attempts seq a e).0, let b = attempt_number k s c oc at sent trace h seq a e in omega arith))
-        (asking.file, chunk_read k.config.chunk c.index c.asked asking.fits read, told_there k.attempts s' st holder.server.0 g.1, (omega arith, omega arith, none))
-        (λ seq a e same. absurd (no_attempt seq (at.is.attempts seq a e same).1))
+        sent _ trace h (run_noted c.index l holder rest g)
+        (λ seq a e. (attempt_acting k s c oc at sent trace h (noted_clients c.index) k.attempts s' noted_call (learns_note c.index) a (h.machine.attempts seq a e).0, let b = attempt_number k s c oc at sent trace h seq a e in omega arith))
+        (asking.file, chunk_read k.config.chunk c.index c.asked asking.fits read long, told_there k.attempts s' st holder.server.0 g.1, (omega arith, omega arith, none))
+        (λ seq a e same. ((at.is.attempts seq a e same).0, inr (over_before seq a e same)))
         (one x _ (
           ((omega arith, omega arith), none),
           λ to' s'' c'' oc'' up' current' st' call'.
@@ -194,7 +279,7 @@ module _ (k : Known) (s : ClientState) (c : CurrentCall) (oc : OpenCall) (at : I
         let s' : ClientState = at_stage s n c st false in
         let a : Attempt = attempt_of s c l in
         let attempts : ℕ → Option Attempt = put n (Some a) k.attempts in
-        let x : Known = acting k noted_clients attempts s' in
+        let x : Known = acting k (noted_clients c.index) attempts s' in
         let config = (old k s c oc at sent trace h).config in
         let made = h.machine.asked oc at.call in
         let spot : Spot = record { file = c.file.0; index = c.index } in
@@ -209,17 +294,17 @@ module _ (k : Known) (s : ClientState) (c : CurrentCall) (oc : OpenCall) (at : I
               (ap (λ (z : Config). place_in_chunk z.chunk c.asked) config ∙ ap (place_in_chunk k.config.chunk) (sym at.is.asked)) (ap bytes_to_send (sym at.is.asked));
           number = let e = at.is.number_is in let f = made.1 in omega arith;
         } in
-        goes k s s' c (staged c st false) oc noted_call noted_clients attempts at learns_note
+        goes k s s' c (staged c st false) oc noted_call (noted_clients c.index) attempts at (learns_note c.index)
         (proceeds k s c oc at sent trace h n st false attempts (omega arith) (λ p. absurd (early p)) (λ m w b. absurd w)
         (λ seq b e. put_other n (Some a) k.attempts seq (λ same. let l = attempt_number k s c oc at sent trace h seq b e in omega arith) ∙ e)
         (λ m used e. put_other n (Some a) k.attempts m (λ same. omega arith) ∙ e)
-        (unique_put n a k.attempts (λ seq b is same. no_attempt seq (at.is.attempts seq b is same).1)))
-        sent _ trace h run_noted
+        (in_turn_put n a k.attempts k.server (λ seq b is. (let l = attempt_number k s c oc at sent trace h seq b is in omega arith, λ same. over_before seq b is same))))
+        sent _ trace h (run_noted c.index l holder rest g)
         (λ seq b. elim (seq == n) as (λ t. (seq == n) ≡ t → cond t (Some a) (k.attempts seq) ≡ Some b → IsAttempt x b × (seq ≤ n)) [
           | true ↦ λ e is. (subst (IsAttempt x) (let g : Some a ≡ Some b = is in cc) new, let f : seq ≡ n = eqb-true seq n e in omega arith)
-          | false ↦ λ e is. (attempt_acting k s c oc at sent trace h noted_clients attempts s' noted_call learns_note b (h.machine.attempts seq b is).0, let f = attempt_number k s c oc at sent trace h seq b is in omega arith)
+          | false ↦ λ e is. (attempt_acting k s c oc at sent trace h (noted_clients c.index) attempts s' noted_call (learns_note c.index) b (h.machine.attempts seq b is).0, let f = attempt_number k s c oc at sent trace h seq b is in omega arith)
         ] refl) (
-          asking_acting k s c oc at sent trace h noted_clients attempts s' noted_call st false learns_note.grows asking,
+          asking_acting k s c oc at sent trace h (noted_clients c.index) attempts s' noted_call st false (learns_note c.index).grows asking,
           told_there attempts s' st group.primary.0 known,
           write,
           omega arith,
@@ -227,8 +312,8 @@ module _ (k : Known) (s : ClientState) (c : CurrentCall) (oc : OpenCall) (at : I
           record { known = own; call = refl; owner = g.4; deadline = refl },
           refl,
         )
-        (λ seq b. elim (seq == n) as (λ t. (seq == n) ≡ t → cond t (Some a) (k.attempts seq) ≡ Some b → b.call ≡ c.number → (b.deadline ≡ c.deadline.0) × (seq ≡ n)) [
-          | true ↦ λ e is same. (ap (λ (y : Attempt). y.deadline) (let g : Some b ≡ Some a = sym is in let f : b ≡ a = cc in f), eqb-true seq n e)
-          | false ↦ λ e is same. absurd (no_attempt seq (at.is.attempts seq b is same).1)
+        (λ seq b. elim (seq == n) as (λ t. (seq == n) ≡ t → cond t (Some a) (k.attempts seq) ≡ Some b → b.call ≡ c.number → (b.deadline ≡ c.deadline.0) × ((seq ≡ n) ⊎ IfSome k.server (IsOver seq b))) [
+          | true ↦ λ e is same. (ap (λ (y : Attempt). y.deadline) (let g : Some b ≡ Some a = sym is in let f : b ≡ a = cc in f), inl (eqb-true seq n e))
+          | false ↦ λ e is same. ((at.is.attempts seq b is same).0, inr (over_before seq b is same))
         ] refl)
         (one x _ (omega arith, refl, a, own, refl))

@@ -1,5 +1,5 @@
 -- A node is given a moment: its clock comes so far, and nothing else changes.
-use Rattle.std.proofs.Common.{◌≡◌, ℕ, ◌≤◌, List, Option, Some, None, refl, ap, ◌∙◌, subst, inr, arith}
+use Rattle.std.proofs.Common.{◌≡◌, ℕ, ◌≤◌, List, Option, Some, None, refl, ap, ◌∙◌, subst, inl, inr, arith}
 use Rattle.std.specs.Prelude.{IfSome}
 use Rattle.gfs_types.specs.declared.call.Call.{Call}
 use Rattle.gfs_types.specs.declared.message.Message.{Message}
@@ -13,7 +13,7 @@ use Rattle.cell_refinement.specs.Known.{Known, Attempt, IsAttempt, open_call_of,
 use Rattle.cell_refinement.specs.Says.{IsNumbered, IsAnew, IsUntil, IsNameOf}
 use Rattle.cell_refinement.specs.Simulates.{IsMachine, IsChunkAt, IsMaster, IsServer, IsClient, AreTheSame, Holds}
 use Rattle.cell_refinement.proofs.Later.{Later, WaitedBefore, all_stay}
-use Rattle.cell_refinement.proofs.Frames.{SameChunks, SameClient, master_same, server_same, client_same}
+use Rattle.cell_refinement.proofs.Frames.{SameChunks, SameClient, master_same, server_same, client_same, in_turn_stays}
 use Rattle.cell_refinement.proofs.Quiet.{goes_on_refl, grows_refl, same_call_refl, may_place_same}
 
 some_is : {S : Type 0} (o : Option S) (P : S → Type 0) → ((s : S) → o ≡ Some s → P s) → IfSome o P
@@ -72,7 +72,7 @@ module _ (k : Known) (om : Option MasterState) (oc : Option ClientState) (lm : I
     master = λ x is. ((lm x is).0, (lm x is).1, let e : kept_number (lm x is).0.kept ≡ kept_number x.kept = ap (λ (y : MasterState). kept_number y.kept) (lm x is).3 in omega arith);
     server = λ x is. (x, is, omega arith, omega arith);
     stage = λ st number wait numbered s' c' call client current at is. waited st s' c' call client current at is;
-    past = λ s' c' client current. inr ((lc s' client).0, c', (lc s' client).1, current_was s' c' client current, refl, λ p. p);
+    past = λ s' c' client current. inr ((lc s' client).0, c', (lc s' client).1, current_was s' c' client current, refl, λ p. inl p);
     anew = λ number deadline c x is h u. anew_left number deadline c x h u;
     may_place = λ seq a x is known h. may_place_same k l seq a x refl (goes_on_refl (open_call_of k.m)) h;
   }
@@ -109,7 +109,7 @@ module _ (k : Known) (om : Option MasterState) (oc : Option ClientState) (lm : I
     owners = h.owners;
     chunks = h.chunks;
     placed = h.placed;
-    unique = h.unique;
+    in_turn = in_turn_stays k l later (λ seq. refl) h.in_turn;
     unmade = h.unmade;
     untouched = h.untouched;
     unowned = h.unowned;

@@ -14,7 +14,7 @@ use Rattle.cell_refinement.specs.Known.{Known, Attempt, IsAttempt, open_call_of}
 use Rattle.cell_refinement.specs.Says.{IsNumbered, IsAnew, IsUntil, IsNameOf}
 use Rattle.cell_refinement.specs.Simulates.{IsMachine, IsChunkAt, IsMaster, IsServer, IsClient, Holds}
 use Rattle.cell_refinement.proofs.Later.{Later, WaitedBefore, all_stay}
-use Rattle.cell_refinement.proofs.Frames.{SameChunks, SameClient, master_same, server_same, client_same}
+use Rattle.cell_refinement.proofs.Frames.{SameChunks, SameClient, master_same, server_same, client_same, in_turn_stays}
 use Rattle.cell_refinement.proofs.Quiet.{goes_on_refl, grows_refl, same_call_refl, may_place_same}
 
 -- the node as it was, or none
@@ -67,7 +67,7 @@ module _ (k : Known) (om : Option MasterState) (os : Option ServerState) (oc : O
     master = λ x is. (x, was k.master om x lm is, omega arith);
     server = λ x is. (x, was k.server os x ls is, omega arith, omega arith);
     stage = λ st number wait numbered s' c' call client current at is. waited st s' c' call client current at is;
-    past = λ s' c' client current. inr (s', c', was k.client oc s' lc client, current, refl, λ p. p);
+    past = λ s' c' client current. inr (s', c', was k.client oc s' lc client, current, refl, λ p. inl p);
     anew = λ number deadline c x is h u. anew_left number deadline c x h u;
     may_place = λ seq a x is known h. may_place_same k l seq a x refl (goes_on_refl (open_call_of k.m)) h;
   }
@@ -104,7 +104,7 @@ module _ (k : Known) (om : Option MasterState) (os : Option ServerState) (oc : O
     owners = h.owners;
     chunks = h.chunks;
     placed = h.placed;
-    unique = h.unique;
+    in_turn = in_turn_stays k l later (λ seq. refl) h.in_turn;
     unmade = h.unmade;
     untouched = h.untouched;
     unowned = h.unowned;

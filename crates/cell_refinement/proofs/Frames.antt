@@ -5,7 +5,7 @@ use Rattle.std.specs.FinMap as table
 use Rattle.gfs_types.specs.declared.config.Config.{Config}
 use Rattle.gfs_types.specs.Image.{image}
 use Rattle.relaxed_file.specs.Order.{mutations_of}
-use Rattle.relaxed_file.specs.Machine.{Chunk, OpenCall, Replies, chunk_count}
+use Rattle.relaxed_file.specs.Machine.{Chunk, OpenCall, Replies, Told, chunk_count}
 use Rattle.cell_protocol.specs.declared.rows.ChunkRow.{ChunkRow}
 use Rattle.cell_protocol.specs.declared.rows.KeptCall.{KeptCall}
 use Rattle.cell_protocol.specs.declared.stage.Stage.{Stage}
@@ -25,8 +25,8 @@ use Rattle.cell_refinement.specs.Known.{Known, Spot, Attempt, HasNoEntry, IsChun
 use Rattle.gfs_types.specs.declared.ids.DataId.{DataId}
 use Rattle.std.proofs.lemmas.List.Elements.{All-weaker}
 use Rattle.cell_refinement.specs.Says.{IsPast, SaysPush}
-use Rattle.cell_refinement.specs.Simulates.{IsMaster, IsServer, IsClient, IsRow, IsKeptCall, IsReplica, IsLease, Stands, IsAsking, IsToldAt, IsAttemptOf, IsWaited, FitsStage, IsCurrent, AreTheSame}
-use Rattle.cell_refinement.proofs.Later.{Later, Grows, on_call, entry_of_attempt_stays, round_stays, data_stays}
+use Rattle.cell_refinement.specs.Simulates.{AreInTurn, IsMaster, IsServer, IsClient, IsRow, IsKeptCall, IsReplica, IsLease, Stands, IsAsking, IsToldAt, IsAttemptOf, IsWaited, FitsStage, IsCurrent, AreTheSame}
+use Rattle.cell_refinement.proofs.Later.{Later, Grows, on_call, on_server, over_stays, entry_of_attempt_stays, round_stays, data_stays}
 
 -- the names, the chunks' handles and the rounds are as they were
 pub record SameChunks (k l : Known) : Type 0 where
@@ -157,6 +157,13 @@ module _ (k l : Known) (t : Later k l) (f : SameClient k l) (s : ClientState) (c
     told_at_stays at h.2,
     waited_stays number h.3,
   )
+  fits_stays (stage.SentLen at number) is h = (
+    ap (λ a. a.file) g.asked ∙ h.0,
+    h.1,
+    told_at_stays at h.2,
+    waited_stays number h.3,
+    g.offers (Told c.index 1 (suc c.index)) h.4,
+  )
   fits_stays (stage.MustRefuse refusal) is h = h
 
   current_stays : IsCurrent k s c oc → IsCurrent l s c oc'
@@ -166,7 +173,14 @@ module _ (k l : Known) (t : Later k l) (f : SameClient k l) (s : ClientState) (c
     asked = ap (λ a. a.call) g.asked ∙ h.asked;
     ends = h.ends ∙ sym (ap (λ (config : Config). c.deadline.0 + config.skew_ms) t.config);
     stage = fits_stays c.stage refl h.stage;
-    attempts = λ seq a is same. h.attempts seq a (sym (f.attempts seq) ∙ is) same;
+    attempts = λ seq a is same.
+        let was = h.attempts seq a (sym (f.attempts seq) ∙ is) same in (
+          was.0,
+          elim was.1 [
+            | inl own ↦ inl own
+            | inr over ↦ inr (on_server k l t (λ x x' before now kept later p. over_stays k l t seq a x x' kept later p) over)
+          ],
+        );
   }
 
 same_stays : (k l : Known) → Later k l → SameClient k l → (s : ClientState) → k.client ≡ Some s → (o : Option CurrentCall) → s.current ≡ o → (p q : Option OpenCall) → GoesOn p q → AreTheSame k s o p → AreTheSame l s o q
@@ -186,3 +200,7 @@ client_same k l s t f up h = record {
   descriptors = λ fd. h.descriptors fd ∙ sym (f.descriptors fd);
   current = same_stays k l t f s up s.current refl (open_call_of k.m) (open_call_of l.m) f.goes_on h.current;
 }
+
+pub in_turn_stays : (k l : Known) → Later k l → ((seq : ℕ) → l.attempts seq ≡ k.attempts seq) → AreInTurn k.attempts k.server → AreInTurn l.attempts l.server
+in_turn_stays k l t old h seq other a b is is' same less =
+    on_server k l t (λ s s' was now kept later p. over_stays k l t seq a s s' kept later p) (h seq other a b (sym (old seq) ∙ is) (sym (old other) ∙ is') same less)

@@ -1,4 +1,4 @@
--- The machine's open call learns something: an offer or a piece of a read more. All else of the machine stays.
+-- The machine's open call learns something: an offer, a piece of a read or a length more. All else of the machine stays.
 use Rattle.std.proofs.Common.{◌≡◌, ℕ, true, List, Option, Some, None, refl, sym, ap, ◌∙◌, subst, inr, arith}
 use Rattle.std.specs.Prelude.{Contains, IfSome, option_map}
 use Rattle.gfs_types.specs.declared.call.Call.{Call}
@@ -23,6 +23,7 @@ pub record Learns (change : OpenCall → OpenCall) : Type 0 where
   pub outcomes : (oc : OpenCall) → (change oc).outcomes ≡ oc.outcomes
   pub offers : (oc : OpenCall) (x : Offer) → Contains oc.offers x → Contains (change oc).offers x
   pub pieces : (oc : OpenCall) (x : Piece) → Contains oc.pieces x → Contains (change oc).pieces x
+  pub lengths : (oc : OpenCall) (x : ℕ) → Contains oc.lengths x → Contains (change oc).lengths x
 
 abbrev pub stepped_call : (OpenCall → OpenCall) → OpenCall → OpenCall
 stepped_call change oc = record (change oc) { has_begun = true }
@@ -38,6 +39,7 @@ module _ (change : OpenCall → OpenCall) (f : Learns change) where
     outcomes = λ x h. subst (λ xs. Contains xs x) (sym (f.outcomes oc)) h;
     offers = f.offers oc;
     pieces = f.pieces oc;
+    lengths = f.lengths oc;
   }
 
   pub goes_on_by : (o : Option OpenCall) → GoesOn o (option_map (stepped_call change) o)
@@ -117,7 +119,7 @@ module _ (change : OpenCall → OpenCall) (f : Learns change) where
       owners = h.owners;
       chunks = h.chunks;
       placed = h.placed;
-      unique = h.unique;
+      in_turn = h.in_turn;
       attempts = λ seq a is. (attempt_learning a (h.attempts seq a is).0, (h.attempts seq a is).1);
       unmade = h.unmade;
       untouched = h.untouched;

@@ -97,7 +97,7 @@ module _ (k : Known) (x : Call) (down : k.client ≡ None) (free : open_call_of 
     chunks = h.machine.chunks;
     placed = All-weaker (λ (p : Placed). (p.numbering.version.0 ≡ 1) × (p.numbering.data_id.client.0 ≡ only_client) × (p.call ≤ calls_made k.m)) (λ (p : Placed). (p.numbering.version.0 ≡ 1) × (p.numbering.data_id.client.0 ≡ only_client) × (p.call ≤ suc (calls_made k.m)))
         (λ p g. (g.0, g.1, let l = g.2 in omega arith)) k.placed h.machine.placed;
-    unique = h.machine.unique;
+    in_turn = h.machine.in_turn;
     unmade = h.machine.unmade;
     untouched = h.machine.untouched;
     unowned = h.machine.unowned;

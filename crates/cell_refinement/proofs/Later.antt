@@ -1,6 +1,6 @@
 -- What may change from one moment to the next so that each message in flight still says what is true.
-use Rattle.std.proofs.Common.{◌≡◌, ℕ, ◌<◌, ◌≤◌, List, [], ◌∷◌, Option, Some, None, refl, sym, ap, ◌∙◌, subst, inl, inr, arith}
-use Rattle.std.specs.Prelude.{All, Contains, IfSome, IsTrue, ◌⊎◌}
+use Rattle.std.proofs.Common.{◌≡◌, ℕ, suc, ◌+◌, ◌*◌, ◌<◌, ◌≤◌, List, [], ◌∷◌, Option, Some, None, refl, sym, ap, ◌∙◌, subst, inl, inr, arith}
+use Rattle.std.specs.Prelude.{All, Contains, IfSome, IsTrue, IsFalse, ◌⊎◌}
 use Rattle.std.proofs.lemmas.List.Elements.{All-weaker}
 use Rattle.gfs_types.specs.declared.config.Config.{Config}
 use Rattle.gfs_types.specs.declared.call.Call.{Call}
@@ -18,6 +18,7 @@ use Rattle.gfs_types.specs.declared.message.Location.{Location}
 use Rattle.gfs_types.specs.declared.message.Holder.{Holder}
 use Rattle.gfs_types.specs.declared.message.Target.{Target}
 use Rattle.relaxed_file.specs.NameStep.{is_look}
+use Rattle.relaxed_file.specs.Reads.{is_length_call}
 use Rattle.relaxed_file.specs.Order.{Entry}
 use Rattle.relaxed_file.specs.Machine.{OpenCall, Asked, Offer, Outcome, Piece, Opens, Replies, Told, NoSuchChunk, chunk_count}
 use Rattle.cell_protocol.specs.declared.stage.Stage.{Stage}
@@ -28,7 +29,7 @@ use Rattle.cell_protocol.specs.Master.{MasterState}
 use Rattle.cell_protocol.specs.Client.{ClientState}
 use Rattle.cell_protocol.specs.ClientAttempts.{place_in_chunk, count_to_read, is_write}
 use Rattle.cell_refinement.specs.Known.{Known, Spot, Attempt, IsWriteOf, HasEntry, OnCall, IsRoundOpen, open_call_of, the_client_of, calls_made, kept_number, kept_seq, chunk_of}
-use Rattle.cell_refinement.specs.Says.{Says, SaysBody, OnStage, IsNumbered, IsAskNumber, IsAnew, IsUntil, IsLate, IsNameOf, SaysNamed, HasReply, IsKept, SaysAsk, IsAskedToWrite, IsReadable, SaysTold, IsGranted, IsOver, MayStillPlace, MayComeTo, SaysPush, IsPast, IsPastData, SaysMutate, SaysDone, SaysRead, SaysBytes, IsRefusedAsk, IsRefusedAttempt, SaysRefused}
+use Rattle.cell_refinement.specs.Says.{Says, SaysBody, OnStage, IsNumbered, IsAskNumber, IsAnew, IsUntil, IsLate, IsNameOf, SaysNamed, HasReply, IsKept, SaysAsk, IsAskedToWrite, IsReadable, SaysTold, IsGranted, IsGrantedLast, IsToldTo, IsOver, MayStillPlace, MayComeTo, SaysPush, IsPast, IsPastWith, SaysMutate, SaysDone, SaysRead, SaysBytes, SaysLen, SaysLenIs, IsRefusedAsk, IsRefusedAttempt, SaysRefused}
 
 -- an open call that went on
 pub record Grows (oc later : OpenCall) : Type 0 where
@@ -37,6 +38,7 @@ pub record Grows (oc later : OpenCall) : Type 0 where
   pub outcomes : (x : Outcome) → Contains oc.outcomes x → Contains later.outcomes x
   pub offers : (x : Offer) → Contains oc.offers x → Contains later.offers x
   pub pieces : (x : Piece) → Contains oc.pieces x → Contains later.pieces x
+  pub lengths : (x : ℕ) → Contains oc.lengths x → Contains later.lengths x
 
 -- a client's call that went on
 pub record SameCall (c later : CurrentCall) : Type 0 where
@@ -49,6 +51,7 @@ pub record SameCall (c later : CurrentCall) : Type 0 where
 abbrev pub IsWaiting : Stage → ℕ → Type 0
 IsWaiting (stage.AskedWhere n) number = n ≡ number
 IsWaiting (stage.SentRead at n) number = n ≡ number
+IsWaiting (stage.SentLen at n) number = n ≡ number
 IsWaiting other number = ⊥
 
 -- the client waited in that stage already
@@ -62,6 +65,10 @@ pub record WaitedBefore (k : Known) (st : Stage) (later : CurrentCall) (oc' : Op
   pub call : open_call_of k.m ≡ Some oc
   pub same : SameCall c later
   pub grows : Grows oc oc'
+
+-- the attempts of this call are over at the server, while that is up
+abbrev pub AreOver : Known → ℕ → Type 0
+AreOver k number = (seq : ℕ) (a : Attempt) → k.attempts seq ≡ Some a → a.call ≡ number → IfSome k.server (IsOver seq a)
 
 pub record Later (k l : Known) : Type 0 where
   pub config : l.config ≡ k.config
@@ -81,7 +88,7 @@ pub record Later (k l : Known) : Type 0 where
   pub server : (s' : ServerState) → l.server ≡ Some s' → (s : ServerState) × (k.server ≡ Some s) × (kept_seq s.kept ≤ kept_seq s'.kept) × (s.now ≤ s'.now)
   pub stage : (st : Stage) (number : ℕ) → IsWaiting st number → IsNumbered k number → (s' : ClientState) (c' : CurrentCall) (oc' : OpenCall) → l.client ≡ Some s' → s'.current ≡ Some c' → c'.stage ≡ st → open_call_of l.m ≡ Some oc' → WaitedBefore k st c' oc'
   -- a client's call goes on
-  pub past : (s' : ClientState) (c' : CurrentCall) → l.client ≡ Some s' → s'.current ≡ Some c' → (calls_made k.m < c'.number) ⊎ ((s : ClientState) × (c : CurrentCall) × (k.client ≡ Some s) × (s.current ≡ Some c) × (c'.number ≡ c.number) × (IsPast c.stage → IsPast c'.stage))
+  pub past : (s' : ClientState) (c' : CurrentCall) → l.client ≡ Some s' → s'.current ≡ Some c' → (calls_made k.m < c'.number) ⊎ ((s : ClientState) × (c : CurrentCall) × (k.client ≡ Some s) × (s.current ≡ Some c) × (c'.number ≡ c.number) × (IsPast c.stage → IsPast c'.stage ⊎ AreOver k c.number))
   -- a name that the master may still take stays so, or was taken, or comes too late
   pub anew : (number deadline : ℕ) (c : Call) (s' : MasterState) → l.master ≡ Some s' → IsAnew k number c → IsUntil k deadline → IsNameOf l number deadline c s'
   -- and so for a mutation at the server
@@ -128,7 +135,7 @@ module _ (k l : Known) (t : Later k l) where
   entry_stays : (a : Attempt) → HasEntry k a → HasEntry l a
   entry_stays a h = (h.0, t.owner a.handle h.0 h.1, h.2, t.entries h.0 h.2 h.3, h.4, h.5, h.6, h.7)
 
-  over_stays : (seq : ℕ) (a : Attempt) (s s' : ServerState) → kept_seq s.kept ≤ kept_seq s'.kept → s.now ≤ s'.now → IsOver seq a s → IsOver seq a s'
+  pub over_stays : (seq : ℕ) (a : Attempt) (s s' : ServerState) → kept_seq s.kept ≤ kept_seq s'.kept → s.now ≤ s'.now → IsOver seq a s → IsOver seq a s'
   over_stays seq a s s' kept now (inl h) = inl (omega (arith, h))
   over_stays seq a s s' kept now (inr h) = inr (omega (arith, h))
 
@@ -177,10 +184,14 @@ module _ (k l : Known) (t : Later k l) where
   ask_stays number file (wanted.Read index) h = (
     ask_number_stays number h.0,
     readable_stays file h.1,
-    on_stage (stage.AskedWhere number) number refl h.0.0 (λ s s' c c' oc oc' same g p. (ap (λ f. f.0) same.file ∙ p.0, same.index ∙ p.1)) h.2,
+    on_stage (stage.AskedWhere number) number refl h.0.0 (λ s s' c c' oc oc' same g p. (ap (λ f. f.0) same.file ∙ p.0, same.index ∙ p.1, subst (λ x. IsFalse (is_length_call x)) (sym same.asked) p.2)) h.2,
   )
   ask_stays number file (wanted.Append after) h = h
-  ask_stays number file wanted.Last h = h
+  ask_stays number file wanted.Last h = (
+    ask_number_stays number h.0,
+    readable_stays file h.1,
+    on_stage (stage.AskedWhere number) number refl h.0.0 (λ s s' c c' oc oc' same g p. (ap (λ f. f.0) same.file ∙ p.0, same.index ∙ p.1, subst (λ x. IsTrue (is_length_call x)) (sym same.asked) p.2)) h.2,
+  )
 
   granted_stays : (file index file' index' : ℕ) (oc oc' : OpenCall) (x : Location) (hs : List Holder) → file' ≡ file → index' ≡ index → Grows oc oc' → IsGranted k file index oc x hs → IsGranted l file' index' oc' x hs
   granted_stays file index file' index' oc oc' x [] e f g h = tt
@@ -195,6 +206,16 @@ module _ (k l : Known) (t : Later k l) where
         (let a = h.6 in let b = t.chunks file in omega arith),
       ))
 
+  granted_last_stays : (file file' : ℕ) (oc oc' : OpenCall) (x : Location) (hs : List Holder) → file' ≡ file → Grows oc oc' → IsGrantedLast k file oc x hs → IsGrantedLast l file' oc' x hs
+  granted_last_stays file file' oc oc' x [] e g h = tt
+  granted_last_stays file file' oc oc' x (holder ∷ rest) e g h = (granted_stays file x.index file' x.index oc oc' x (holder ∷ rest) e refl g h.0, g.offers (Told x.index 1 (suc x.index)) h.1)
+
+  told_to_stays : (c c' : CurrentCall) (oc oc' : OpenCall) (x : Location) → SameCall c c' → Grows oc oc' → IsToldTo k c oc x → IsToldTo l c' oc' x
+  told_to_stays c c' oc oc' x same g h = (
+    λ not. granted_stays c.file.0 c.index c'.file.0 c'.index oc oc' x x.holders (ap (λ f. f.0) same.file) same.index g (h.0 (subst (λ y. IsFalse (is_length_call y)) same.asked not)),
+    λ is. granted_last_stays c.file.0 c'.file.0 oc oc' x x.holders (ap (λ f. f.0) same.file) g (h.1 (subst (λ y. IsTrue (is_length_call y)) same.asked is)),
+  )
+
   told_stays : (number : ℕ) (o : Option Location) → SaysTold k number o → SaysTold l number o
   told_stays number None h = (
     ask_number_stays number h.0,
@@ -202,7 +223,7 @@ module _ (k l : Known) (t : Later k l) where
   )
   told_stays number (Some x) h = (
     ask_number_stays number h.0,
-    on_stage (stage.AskedWhere number) number refl h.0.0 (λ s s' c c' oc oc' same g p. granted_stays c.file.0 c.index c'.file.0 c'.index oc oc' x x.holders (ap (λ f. f.0) same.file) same.index g p) h.1,
+    on_stage (stage.AskedWhere number) number refl h.0.0 (λ s s' c c' oc oc' same g p. told_to_stays c c' oc oc' x same g p) h.1,
   )
 
   push_stays : (id : DataId) (bytes : List ℕ) → SaysPush k id bytes → SaysPush l id bytes
@@ -213,11 +234,17 @@ module _ (k l : Known) (t : Later k l) where
   come_stays seq a s s' is known kept now (inr (inl h)) = inr (inl (late_stays a.deadline h))
   come_stays seq a s s' is known kept now (inr (inr h)) = t.may_place seq a s' is known h
 
-  past_stays : (number : ℕ) → number ≤ calls_made k.m → IsPastData k number → IsPastData l number
-  past_stays number made h s' c' client current same =
+  past_stays : (seq : ℕ) (a : Attempt) → k.attempts seq ≡ Some a → a.call ≤ calls_made k.m → IsPastWith k seq a → IsPastWith l seq a
+  past_stays seq a known made h s' c' client current same =
       elim (t.past s' c' client current) [
         | inl new ↦ absurd (omega arith)
-        | inr old ↦ old.5 (h old.0 old.1 old.2 old.3 (sym old.4 ∙ same))
+        | inr old ↦ elim (h old.0 old.1 old.2 old.3 (sym old.4 ∙ same)) [
+          | inl past ↦ elim (old.5 past) [
+            | inl still ↦ inl still
+            | inr all ↦ inr (on_server (λ s s' was is kept now p. over_stays seq a s s' kept now p) (all seq a known (sym same ∙ old.4)))
+          ]
+          | inr over ↦ inr (on_server (λ s s' was is kept now p. over_stays seq a s s' kept now p) over)
+        ]
       ]
 
   mutate_stays : (id : DataId) (handle version : ℕ) (x : Target) (deadline : ℕ) → SaysMutate k id handle version x deadline → SaysMutate l id handle version x deadline
@@ -229,7 +256,7 @@ module _ (k l : Known) (t : Later k l) where
     h.4,
     h.5,
     h.6,
-    past_stays h.2.call h.8 h.7,
+    past_stays id.seq h.2 h.3 h.8 h.7,
     (let a = h.8 in let b = t.made in omega arith),
     on_server (λ s s' was is kept now p. come_stays id.seq h.2 s s' is h.3 kept now p) h.9,
   )
@@ -253,6 +280,17 @@ module _ (k l : Known) (t : Later k l) where
     t.numbers number h.0,
     λ at. on_stage (stage.SentRead at number) number refl h.0 (λ s s' c c' oc oc' same g p.
         subst (λ n. Contains oc'.pieces (record { index = n; bytes = bytes; round = Some 1 })) (sym same.index) (g.pieces (record { index = c.index; bytes = bytes; round = Some 1 }) p)) (h.1 at),
+  )
+
+  len_stays : (number handle version : ℕ) → SaysLen k number handle version → SaysLen l number handle version
+  len_stays number handle version h = (ask_number_stays number h.0, λ at. on_stage (stage.SentLen at number) number refl h.0.0 (λ s s' c c' oc oc' same g p. p) (h.1 at))
+
+  len_is_stays : (number count : ℕ) → SaysLenIs k number count → SaysLenIs l number count
+  len_is_stays number count h = (
+    t.numbers number h.0,
+    λ at. on_stage (stage.SentLen at number) number refl h.0 (λ s s' c c' oc oc' same g p.
+        subst (λ n. Contains oc'.lengths (n * l.config.chunk + count)) (sym same.index)
+        (subst (λ (config : Config). Contains oc'.lengths (c.index * config.chunk + count)) (sym t.config) (g.lengths (c.index * k.config.chunk + count) p))) (h.1 at),
   )
 
   refused_ask_stays : (c c' : CurrentCall) (oc oc' : OpenCall) (refusal : Refusal) → SameCall c c' → Grows oc oc' → IsRefusedAsk c oc refusal → IsRefusedAsk c' oc' refusal
@@ -298,6 +336,8 @@ module _ (k l : Known) (t : Later k l) where
   body_stays (body.Done id place) h = done_stays id h
   body_stays (body.Read number handle version offset count) h = read_stays number handle.0 version.0 offset count h
   body_stays (body.Bytes number bytes) h = bytes_stay number bytes h
+  body_stays (body.Len number handle version) h = len_stays number handle.0 version.0 h
+  body_stays (body.LenIs number count) h = len_is_stays number count h
   body_stays (body.Create order handle version) h = h
   body_stays (body.Grant order handle version end_moment members) h = (h.0, round_stays handle.0 h.1)
   body_stays other h = tt

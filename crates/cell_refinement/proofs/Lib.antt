@@ -7,6 +7,7 @@ mod Serving
 mod ServerSteps
 mod Growing
 mod ServerReading
+mod ServerMeasuring
 mod ChunkTables
 mod Writing
 mod ServerWriting

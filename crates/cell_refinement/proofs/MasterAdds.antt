@@ -57,8 +57,8 @@ needs m number file index other at w = absurd w
 
 -- the open call has begun, and is as it was in all else
 begins : (number : ℕ) (b : Bool) (oc : OpenCall) → Grows oc (if b then record oc { has_begun = true } else oc)
-begins number true oc = record { number = refl; asked = refl; outcomes = λ x h. h; offers = λ x h. h; pieces = λ x h. h }
-begins number false oc = record { number = refl; asked = refl; outcomes = λ x h. h; offers = λ x h. h; pieces = λ x h. h }
+begins number true oc = record { number = refl; asked = refl; outcomes = λ x h. h; offers = λ x h. h; pieces = λ x h. h; lengths = λ x h. h }
+begins number false oc = record { number = refl; asked = refl; outcomes = λ x h. h; offers = λ x h. h; pieces = λ x h. h; lengths = λ x h. h }
 
 outcomes_begun : (b : Bool) (oc : OpenCall) → (if b then record oc { has_begun = true } else oc).outcomes ≡ oc.outcomes
 outcomes_begun true oc = refl

@@ -39,7 +39,7 @@ decided m names count files outcome = with_outcome (record m { names = names; fi
 
 goes_on_by : (outcome : Outcome) (o : Option OpenCall) → GoesOn o (option_map (gains outcome) o)
 goes_on_by outcome None = tt
-goes_on_by outcome (Some oc) = record { number = refl; asked = refl; outcomes = λ x h. contains_more outcome x oc.outcomes h; offers = λ x h. h; pieces = λ x h. h }
+goes_on_by outcome (Some oc) = record { number = refl; asked = refl; outcomes = λ x h. contains_more outcome x oc.outcomes h; offers = λ x h. h; pieces = λ x h. h; lengths = λ x h. h }
 
 pub gained_from : (outcome : Outcome) (o : Option OpenCall) (oc' : OpenCall) → option_map (gains outcome) o ≡ Some oc' → (oc : OpenCall) × (o ≡ Some oc) × (gains outcome oc ≡ oc')
 gained_from outcome None oc' is = absurd (let both : None ≡ Some oc' = is in cc)

@@ -137,7 +137,7 @@ module _ (k : Known) (m : Machine) (owner : ℕ → Option Spot) (s s' : MasterS
     unmade = b.unmade;
     untouched = b.untouched;
     unowned = b.unowned;
-    unique = h.unique;
+    in_turn = h.in_turn;
   }
 
   server_moved : (o : Option ServerState) → IfSome o (IsServer k) → IfSome o (IsServer (moved k m owner s'))

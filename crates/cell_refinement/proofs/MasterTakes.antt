@@ -1,7 +1,9 @@
 -- Each message that the master takes.
-use Rattle.std.proofs.Common.{◌≡◌, ℕ, zero, suc, ◌+◌, ◌<◌, ◌≤◌, Bool, true, false, cond, List, [], ◌∷◌, length, Option, Some, None, refl, sym, ◌∙◌, subst, arith, nat_lt}
-use Rattle.std.specs.Prelude.{◌==◌, nat_le, slice_get}
+use Rattle.std.proofs.Common.{◌≡◌, ℕ, zero, suc, ◌+◌, ◌-◌, ◌<◌, ◌≤◌, Bool, true, false, cond, List, [], ◌∷◌, length, Option, Some, None, refl, sym, ◌∙◌, subst, arith, nat_lt}
+use Rattle.std.specs.Prelude.{IsFalse, ◌==◌, nat_le, slice_get}
 use Rattle.std.specs.FinMap as table
+use Rattle.gfs_types.specs.declared.call.Call.{Call}
+use Rattle.gfs_types.specs.declared.call.Call.TheVariants as call
 use Rattle.gfs_types.specs.declared.ids.Node.{Node}
 use Rattle.gfs_types.specs.declared.event.Input.{Input}
 use Rattle.gfs_types.specs.declared.event.Input.TheVariants as input
@@ -11,6 +13,7 @@ use Rattle.gfs_types.specs.declared.message.Message.{Message}
 use Rattle.gfs_types.specs.declared.message.Wanted.{Wanted}
 use Rattle.gfs_types.specs.declared.message.Wanted.TheVariants as wanted
 use Rattle.gfs_types.specs.declared.refusal.Refusal.TheVariants.{TooLong}
+use Rattle.relaxed_file.specs.Reads.{is_length_call}
 use Rattle.relaxed_file.specs.Run.{Visible}
 use Rattle.cell_protocol.specs.Seen.{stays}
 use Rattle.cell_protocol.specs.Master.{MasterState, master_says}
@@ -23,7 +26,7 @@ use Rattle.cell_refinement.proofs.MasterMoves.{MasterOutcome}
 use Rattle.cell_refinement.proofs.MasterSteps.{old, stays_so}
 use Rattle.cell_refinement.proofs.MasterLooks.{looks_so, same_some}
 use Rattle.cell_refinement.proofs.MasterNaming.{names_so}
-use Rattle.cell_refinement.proofs.MasterTells.{looks_at_so, mutates_at_so, refuses_too_long}
+use Rattle.cell_refinement.proofs.MasterTells.{looks_at_so, looks_at_last_so, mutates_at_so, refuses_too_long}
 use Rattle.cell_refinement.proofs.MasterGrants.{recorded_so}
 use Rattle.cell_refinement.proofs.MasterAdds.{adds_so}
 
@@ -31,6 +34,10 @@ past_none : {X : Type 0} (xs : List X) (i : ℕ) → slice_get xs i ≡ None →
 past_none [] i is = omega arith
 past_none (x ∷ xs) zero is = absurd (let e : Some x ≡ None = is in cc)
 past_none (x ∷ xs) (suc i) is = let l = past_none xs i is in omega arith
+
+write_no_length : (size index : ℕ) (x : Call) → IsWriteOf size index x → IsFalse (is_length_call x)
+write_no_length size index (call.Write fd offset bytes) h = refl
+write_no_length size index other h = absurd h
 
 module _ (k : Known) (s : MasterState) (up : k.master ≡ Some s) (sent : List Message) (trace : List Visible) (h : Holds k sent trace) where
   file_is : (file : ℕ) (handles : List ℕ) → IsReadable k file → table.get s.files file ≡ Some handles → IsFileOf k file handles
@@ -50,7 +57,7 @@ module _ (k : Known) (s : MasterState) (up : k.master ≡ Some s) (sent : List M
               let l : index ≡ length handles = grind (arith, f) in
               adds_so k s up sent trace h file handles is of said.1.0 said.1.1 said.1.2 said.1.3 (subst (λ n. IsWriteOf k.config.chunk n said.1.1.call) l said.1.4) there a said.0.0
           | false ↦ λ f. mutates_at_so k s up sent trace h a file index handles (slice_get handles index) said.0
-              (λ x c oc client current at call. let y = said.2 x c oc client current at call in (y.0, y.1)) of refl
+              (λ x c oc client current at call. let y = said.2 x c oc client current at call in (y.0, (y.1, write_no_length k.config.chunk index c.asked y.2))) of refl
         ] refl
       ] refl
 
@@ -59,7 +66,10 @@ module _ (k : Known) (s : MasterState) (up : k.master ≡ Some s) (sent : List M
   asks_by a file (wanted.Read index) None is said = absurd (let x = (old k s up sent trace h).files file said.1 in let e : None ≡ Some x.0 = sym is ∙ x.1 in cc)
   asks_by a file (wanted.Write index) (Some handles) is said = writes_so a file index handles is said
   asks_by a file (wanted.Read index) (Some handles) is said =
-      looks_at_so k s up sent trace h a file index handles (slice_get handles index) said.0 said.2 (file_is file handles said.1 is) refl (λ e. past_none handles index e)
+      looks_at_so k s up sent trace h a file index handles (slice_get handles index) said.0 (λ x c oc client current at call. let y = said.2 x c oc client current at call in (y.0, (y.1, y.2))) (file_is file handles said.1 is) refl (λ e. past_none handles index e)
+  asks_by a file wanted.Last None is said = absurd (let x = (old k s up sent trace h).files file said.1 in let e : None ≡ Some x.0 = sym is ∙ x.1 in cc)
+  asks_by a file wanted.Last (Some handles) is said =
+      looks_at_last_so k s up sent trace h a file handles (slice_get handles (length handles - 1)) said.0 (λ x c oc client current at call. let y = said.2 x c oc client current at call in (y.0, (y.1, y.2))) (file_is file handles said.1 is) refl (λ e. past_none handles (length handles - 1) e)
   asks_by a file other o is said = absurd said
 
   pub asks_so : (client : Node) (number file : ℕ) (w : Wanted) (deadline : ℕ) → SaysAsk k number file w → MasterOutcome k (takes_ask s client number file w deadline) sent trace

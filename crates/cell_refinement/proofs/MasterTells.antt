@@ -1,6 +1,6 @@
 -- The master tells the client of a chunk: the machine's open call, if it waits for that, is offered the same.
-use Rattle.std.proofs.Common.{◌≡◌, ℕ, ◌<◌, ◌≤◌, true, false, cond, List, [], ◌∷◌, length, Option, Some, None, refl, sym, ap, ◌∙◌, subst, inl, inr, arith, append-nil, nat_lt}
-use Rattle.std.specs.Prelude.{Contains, IfSome, IsTrue, ◌⊎◌, ◌==◌, slice_get, option_map}
+use Rattle.std.proofs.Common.{◌≡◌, ℕ, suc, ◌-◌, ◌<◌, ◌≤◌, true, false, cond, List, [], ◌∷◌, length, Option, Some, None, refl, sym, ap, ◌∙◌, subst, inl, inr, arith, append-nil, nat_lt}
+use Rattle.std.specs.Prelude.{Contains, IfSome, IsTrue, IsFalse, ◌⊎◌, ◌==◌, slice_get, option_map}
 use Rattle.std.specs.FinMap as table
 use Rattle.gfs_types.specs.declared.call.Call.{Call}
 use Rattle.gfs_types.specs.declared.call.Call.TheVariants as call
@@ -11,7 +11,7 @@ use Rattle.gfs_types.specs.declared.message.Message.{Message}
 use Rattle.gfs_types.specs.declared.message.Location.{Location}
 use Rattle.gfs_types.specs.declared.message.Group.{Group}
 use Rattle.relaxed_file.specs.Machine.{Machine, OpenCall, Told, NoSuchChunk, chunk_at, chunk_count, with_step}
-use Rattle.relaxed_file.specs.Reads.{offer_of, offered}
+use Rattle.relaxed_file.specs.Reads.{offer_of, offered, is_length_call}
 use Rattle.relaxed_file.specs.Run.{IsRunTo, Visible, Tell}
 use Rattle.relaxed_file.proofs.GoingOn.{runs_go_on}
 use Rattle.cell_protocol.specs.declared.stage.Stage.{Stage}
@@ -24,7 +24,7 @@ use Rattle.cell_protocol.specs.MasterAsks.{Asker, holders_of, group_of, location
 use Rattle.cell_protocol.specs.Client.{ClientState}
 use Rattle.cell_protocol.specs.ClientAttempts.{is_write}
 use Rattle.cell_refinement.specs.Known.{Known, Spot, IsWriteOf, open_call_of, chunk_of}
-use Rattle.cell_refinement.specs.Says.{OnStage, IsAskNumber, IsGranted, SaysTold}
+use Rattle.cell_refinement.specs.Says.{OnStage, IsAskNumber, IsGranted, IsGrantedLast, IsToldTo, SaysTold}
 use Rattle.cell_refinement.specs.Simulates.{IsMaster, IsClient, IsCurrent, IsAsking, IsWaited, FitsStage, AreTheSame, IsFileOf, IsRow, Holds}
 use Rattle.cell_refinement.proofs.Growing.{Learns, stepped_call, learning, learns}
 use Rattle.cell_refinement.proofs.ServerSteps.{one}
@@ -92,7 +92,18 @@ module _ (k : Known) (sent : List Message) (trace : List Visible) (h : Holds k s
 -- what a Told says of the call that waits for it
 abbrev pub IsToldSo : Known → Option Location → CurrentCall → OpenCall → Type 0
 IsToldSo k None c oc = Contains oc.offers (NoSuchChunk c.index)
-IsToldSo k (Some x) c oc = IsGranted k c.file.0 c.index oc x x.holders
+IsToldSo k (Some x) c oc = IsToldTo k c oc x
+
+-- a call that asks for this chunk, and a length
+abbrev pub AsksFor : ℕ → CurrentCall → Type 0
+AsksFor index c = (c.index ≡ index) × IsFalse (is_length_call c.asked)
+
+abbrev pub AsksForLast : CurrentCall → Type 0
+AsksForLast c = (c.index ≡ 0) × IsTrue (is_length_call c.asked)
+
+-- Which chunk of so many such a call may be told.
+abbrev pub MayBeTold : ℕ → ℕ → CurrentCall → Type 0
+MayBeTold count index c = AsksFor index c ⊎ (IsTrue (is_length_call c.asked) × (suc index ≡ count))
 
 says_told : (k : Known) (number : ℕ) (o : Option Location) → IsAskNumber k number → OnStage k (stage.AskedWhere number) (λ x c oc. IsToldSo k o c oc) → SaysTold k number o
 says_told k number None a b = (a, b)
@@ -108,6 +119,7 @@ offers_more m file index = record {
   outcomes = λ oc. refl;
   offers = λ oc x h. contains_more (offer_of m file index) x oc.offers h;
   pieces = λ oc x h. h;
+  lengths = λ oc x h. h;
 }
 
 has_offer : (m : Machine) (file index : ℕ) (o : Option OpenCall) (oc' : OpenCall) → option_map (stepped_call (offering m file index)) o ≡ Some oc' → Contains oc'.offers (offer_of m file index)
@@ -120,14 +132,14 @@ module _ (k : Known) (s : MasterState) (up : k.master ≡ Some s) (sent : List M
   was : IsMaster k s
   was = old k s up sent trace h
 
-  -- what is asked of the chunk
-  abbrev pub AsksThere : ℕ → ℕ → ℕ → Type 0
-  AsksThere number file index = OnStage k (stage.AskedWhere number) (λ x c oc. (c.file.0 ≡ file) × (c.index ≡ index))
+  -- what is asked of the file
+  abbrev pub AsksThere : ℕ → ℕ → (CurrentCall → Type 0) → Type 0
+  AsksThere number file P = OnStage k (stage.AskedWhere number) (λ x c oc. (c.file.0 ≡ file) × P c)
 
-  tell_waiting : (a : Asker) (file index : ℕ) (o : Option Location) → IsAskNumber k a.number → AsksThere a.number file index → Waits k a.number
-      → ((c : CurrentCall) (oc : OpenCall) → c.file.0 ≡ file → c.index ≡ index → Contains oc.offers (offer_of k.m file index) → IsToldSo (learning k (offering k.m file index)) o c oc)
+  tell_waiting : (a : Asker) (file index : ℕ) (P : CurrentCall → Type 0) (o : Option Location) → IsAskNumber k a.number → AsksThere a.number file P → Waits k a.number
+      → ((c : CurrentCall) (oc : OpenCall) → c.file.0 ≡ file → P c → Contains oc.offers (offer_of k.m file index) → IsToldSo (learning k (offering k.m file index)) o c oc)
       → MasterOutcome k (master_says s a.client (body.Told a.number o)) sent trace
-  tell_waiting a file index o numbered there w so =
+  tell_waiting a file index P o numbered there w so =
       let change : OpenCall → OpenCall = offering k.m file index in
       let told : Message = message node.Master a.client (body.Told a.number o) in
       let spot = there w.x w.c w.oc w.client w.current w.stage w.call in
@@ -143,21 +155,21 @@ module _ (k : Known) (s : MasterState) (up : k.master ≡ Some s) (sent : List M
             (says_told (learning k change) a.number o numbered (λ x' c' oc' client' current' at call'.
             let e : w.x ≡ x' = same_some k.client w.x x' w.client client' in
             let f : w.c ≡ c' = same_some w.x.current w.c c' w.current (ap (λ (y : ClientState). y.current) e ∙ current') in
-            so c' oc' (ap (λ (y : CurrentCall). y.file.0) (sym f) ∙ spot.0) (ap (λ (y : CurrentCall). y.index) (sym f) ∙ spot.1) (has_offer k.m file index (open_call_of k.m) oc' call'))));
+            so c' oc' (ap (λ (y : CurrentCall). y.file.0) (sym f) ∙ spot.0) (subst P f spot.1) (has_offer k.m file index (open_call_of k.m) oc' call'))));
       }
 
-  tell_by : (a : Asker) (file index : ℕ) (o : Option Location) → IsAskNumber k a.number → AsksThere a.number file index → Waits k a.number ⊎ WaitsNot k a.number
-      → ((c : CurrentCall) (oc : OpenCall) → c.file.0 ≡ file → c.index ≡ index → Contains oc.offers (offer_of k.m file index) → IsToldSo (learning k (offering k.m file index)) o c oc)
+  tell_by : (a : Asker) (file index : ℕ) (P : CurrentCall → Type 0) (o : Option Location) → IsAskNumber k a.number → AsksThere a.number file P → Waits k a.number ⊎ WaitsNot k a.number
+      → ((c : CurrentCall) (oc : OpenCall) → c.file.0 ≡ file → P c → Contains oc.offers (offer_of k.m file index) → IsToldSo (learning k (offering k.m file index)) o c oc)
       → MasterOutcome k (master_says s a.client (body.Told a.number o)) sent trace
-  tell_by a file index o numbered there (inl w) so = tell_waiting a file index o numbered there w so
-  tell_by a file index o numbered there (inr not) so = tells k s up sent trace h _ (says_told k a.number o numbered (λ x c oc client current at call. absurd (not x c client current at)))
+  tell_by a file index P o numbered there (inl w) so = tell_waiting a file index P o numbered there w so
+  tell_by a file index P o numbered there (inr not) so = tells k s up sent trace h _ (says_told k a.number o numbered (λ x c oc client current at call. absurd (not x c client current at)))
 
-  tells_none : (a : Asker) (file index : ℕ) → IsAskNumber k a.number → AsksThere a.number file index → chunk_count k.m file ≤ index → MasterOutcome k (master_says s a.client (body.Told a.number None)) sent trace
-  tells_none a file index numbered there past =
+  tells_none : (a : Asker) (file index : ℕ) (P : CurrentCall → Type 0) → IsAskNumber k a.number → AsksThere a.number file P → ((c : CurrentCall) → P c → c.index ≡ index) → chunk_count k.m file ≤ index → MasterOutcome k (master_says s a.client (body.Told a.number None)) sent trace
+  tells_none a file index P numbered there same past =
       let b : nat_lt index (chunk_count k.m file) ≡ false = grind (arith, past) in
       let none : offer_of k.m file index ≡ NoSuchChunk index = ap (λ b. cond b (Told index (chunk_at k.m file index).round (chunk_count k.m file)) (NoSuchChunk index)) b in
-      tell_by a file index None numbered there (waits_client k sent trace h a.number k.client refl)
-      (λ c oc e f at. subst (λ n. Contains oc.offers (NoSuchChunk n)) (sym f) (subst (Contains oc.offers) none at))
+      tell_by a file index P None numbered there (waits_client k sent trace h a.number k.client refl)
+      (λ c oc e f at. subst (λ n. Contains oc.offers (NoSuchChunk n)) (sym (same c f)) (subst (Contains oc.offers) none at))
 
   group_there : (row : ChunkRow) → IfSome (group_of s.now row) (λ g. g.primary.0 ≡ only_server)
   group_there row = by_cond (λ (o : Option Group). IfSome o (λ g. g.primary.0 ≡ only_server)) (has_lease s.now row) (Some (record { primary = server_id only_server; members = only_server ∷ [] })) None refl tt
@@ -172,13 +184,38 @@ module _ (k : Known) (s : MasterState) (up : k.master ≡ Some s) (sent : List M
       subst (λ n. IsGranted l file index oc (location_of s index handle row) (cond (nat_lt 0 n) (record { server = server_id only_server; version = row.granted } ∷ []) [])) (sym has.0)
       (has.0, refl, has.0, group_there row, own, (count, subst (λ n. Contains oc.offers (Told index n count)) has.1 at), there)
 
+  granted_last_so : (l : Known) (file index handle : ℕ) (row : ChunkRow) (oc : OpenCall) (round count : ℕ) → l.owner handle ≡ Some (record { file = file; index = index }) → index < chunk_count l.m file
+      → ((row.granted.0 ≡ 0) ⊎ ((row.granted.0 ≡ 1) × (round ≡ 1))) → Contains oc.offers (Told index round count) → suc index ≡ count
+      → IsGrantedLast l file oc (location_of s index handle row) (holders_of row)
+  granted_last_so l file index handle row oc round count own there (inl none) at last =
+      subst (λ n. IsGrantedLast l file oc (location_of s index handle row) (cond (nat_lt 0 n) (record { server = server_id only_server; version = row.granted } ∷ []) [])) (sym none) tt
+  granted_last_so l file index handle row oc round count own there (inr has) at last =
+      let offered : Contains oc.offers (Told index 1 count) = subst (λ n. Contains oc.offers (Told index n count)) has.1 at in
+      subst (λ n. IsGrantedLast l file oc (location_of s index handle row) (cond (nat_lt 0 n) (record { server = server_id only_server; version = row.granted } ∷ []) [])) (sym has.0)
+      ((has.0, refl, has.0, group_there row, own, (count, offered), there), subst (λ n. Contains oc.offers (Told index 1 n)) (sym last) offered)
+
+  -- what is told of a chunk to a call that may be told it
+  told_to_so : (l : Known) (file index handle : ℕ) (row : ChunkRow) (c : CurrentCall) (oc : OpenCall) (round count : ℕ) → l.owner handle ≡ Some (record { file = file; index = index }) → index < chunk_count l.m file
+      → ((row.granted.0 ≡ 0) ⊎ ((row.granted.0 ≡ 1) × (round ≡ 1))) → Contains oc.offers (Told index round count) → c.file.0 ≡ file → MayBeTold count index c
+      → IsToldTo l c oc (location_of s index handle row)
+  told_to_so l file index handle row c oc round count own there has at same (inl asks) = (
+    (λ not. subst (λ n. IsGranted l n c.index oc (location_of s index handle row) (holders_of row)) (sym same)
+        (subst (λ n. IsGranted l file n oc (location_of s index handle row) (holders_of row)) (sym asks.0) (granted_so l file index handle row oc round count own there has at))),
+    (λ long. absurd (let both : true ≡ false = sym long ∙ asks.1 in cc)),
+  )
+  told_to_so l file index handle row c oc round count own there has at same (inr last) = (
+    (λ not. absurd (let both : true ≡ false = sym last.0 ∙ not in cc)),
+    (λ long. subst (λ n. IsGrantedLast l n oc (location_of s index handle row) (holders_of row)) (sym same) (granted_last_so l file index handle row oc round count own there has at last.1)),
+  )
+
   round_of : (row : ChunkRow) (at : Spot) → IsRow row (chunk_of k.m at) → (row.granted.0 ≡ 0) ⊎ ((row.granted.0 ≡ 1) × ((chunk_of k.m at).round ≡ 1))
   round_of row at (inl h) = inl h.0
   round_of row at (inr h) = inr (h.0, h.1.0)
 
-  pub tells_location_so : (a : Asker) (file index handle : ℕ) (row : ChunkRow) → IsAskNumber k a.number → AsksThere a.number file index → k.owner handle ≡ Some (record { file = file; index = index })
+  pub tells_location_so : (a : Asker) (file index handle : ℕ) (P : CurrentCall → Type 0) (row : ChunkRow) → IsAskNumber k a.number → AsksThere a.number file P
+      → ((c : CurrentCall) → P c → MayBeTold (chunk_count k.m file) index c) → k.owner handle ≡ Some (record { file = file; index = index })
       → table.get s.chunks handle ≡ Some row → MasterOutcome k (tells_location s a index handle row) sent trace
-  tells_location_so a file index handle row numbered there own has =
+  tells_location_so a file index handle P row numbered there may own has =
       let there_is : index < chunk_count k.m file = (h.machine.owned handle (record { file = file; index = index }) own).within in
       let b : nat_lt index (chunk_count k.m file) ≡ true = grind (arith, there_is) in
       let offer : offer_of k.m file index ≡ Told index (chunk_at k.m file index).round (chunk_count k.m file) =
@@ -186,32 +223,43 @@ module _ (k : Known) (s : MasterState) (up : k.master ≡ Some s) (sent : List M
       let r = was.rows handle row has in
       let same : r.0 ≡ record { file = file; index = index } = same_some (k.owner handle) r.0 (record { file = file; index = index }) r.1 own in
       let round = round_of row (record { file = file; index = index }) (subst (λ at. IsRow row (chunk_of k.m at)) same r.2) in
-      tell_by a file index (Some (location_of s index handle row)) numbered there (waits_client k sent trace h a.number k.client refl)
+      tell_by a file index P (Some (location_of s index handle row)) numbered there (waits_client k sent trace h a.number k.client refl)
       (λ c oc e f at.
-      subst (λ n. IsGranted (learning k (offering k.m file index)) n c.index oc (location_of s index handle row) (holders_of row)) (sym e)
-      (subst (λ n. IsGranted (learning k (offering k.m file index)) file n oc (location_of s index handle row) (holders_of row)) (sym f)
-      (granted_so (learning k (offering k.m file index)) file index handle row oc (chunk_at k.m file index).round (chunk_count k.m file) own there_is round (subst (Contains oc.offers) offer at))))
+      told_to_so (learning k (offering k.m file index)) file index handle row c oc (chunk_at k.m file index).round (chunk_count k.m file) own there_is round (subst (Contains oc.offers) offer at) e (may c f))
 
-  looks_at_row_so : (a : Asker) (file index handle : ℕ) (o : Option ChunkRow) → IsAskNumber k a.number → AsksThere a.number file index → k.owner handle ≡ Some (record { file = file; index = index })
+  looks_at_row_so : (a : Asker) (file index handle : ℕ) (P : CurrentCall → Type 0) (o : Option ChunkRow) → IsAskNumber k a.number → AsksThere a.number file P
+      → ((c : CurrentCall) → P c → MayBeTold (chunk_count k.m file) index c) → k.owner handle ≡ Some (record { file = file; index = index })
       → table.get s.chunks handle ≡ o → MasterOutcome k (looks_at_row s a index handle o) sent trace
-  looks_at_row_so a file index handle None numbered there own has = stays_so k s up sent trace h
-  looks_at_row_so a file index handle (Some row) numbered there own has = tells_location_so a file index handle row numbered there own has
+  looks_at_row_so a file index handle P None numbered there may own has = stays_so k s up sent trace h
+  looks_at_row_so a file index handle P (Some row) numbered there may own has = tells_location_so a file index handle P row numbered there may own has
 
-  pub looks_at_so : (a : Asker) (file index : ℕ) (handles : List ℕ) (o : Option ℕ) → IsAskNumber k a.number → AsksThere a.number file index → IsFileOf k file handles → slice_get handles index ≡ o
+  pub looks_at_so : (a : Asker) (file index : ℕ) (handles : List ℕ) (o : Option ℕ) → IsAskNumber k a.number → AsksThere a.number file (AsksFor index) → IsFileOf k file handles → slice_get handles index ≡ o
       → (o ≡ None → length handles ≤ index) → MasterOutcome k (looks_at s a index o) sent trace
-  looks_at_so a file index handles None numbered there of is past = tells_none a file index numbered there (let l = past refl in let e = of.count in omega arith)
-  looks_at_so a file index handles (Some handle) numbered there of is past = looks_at_row_so a file index handle (table.get s.chunks handle) numbered there (of.owner index handle is) refl
+  looks_at_so a file index handles None numbered there of is past = tells_none a file index (AsksFor index) numbered there (λ c p. p.0) (let l = past refl in let e = of.count in omega arith)
+  looks_at_so a file index handles (Some handle) numbered there of is past = looks_at_row_so a file index handle (AsksFor index) (table.get s.chunks handle) numbered there (λ c p. inl p) (of.owner index handle is) refl
 
-  mutates_row_so : (a : Asker) (file index handle : ℕ) (o : Option ChunkRow) → IsAskNumber k a.number → AsksThere a.number file index → k.owner handle ≡ Some (record { file = file; index = index })
+  -- the last chunk, if there is one
+  pub looks_at_last_so : (a : Asker) (file : ℕ) (handles : List ℕ) (o : Option ℕ) → IsAskNumber k a.number → AsksThere a.number file AsksForLast → IsFileOf k file handles → slice_get handles (length handles - 1) ≡ o
+      → (o ≡ None → length handles ≤ length handles - 1) → MasterOutcome k (looks_at s a (length handles - 1) o) sent trace
+  looks_at_last_so a file handles None numbered there of is past =
+      let l = past refl in let e = of.count in
+      tells_none a file (length handles - 1) AsksForLast numbered there (λ c p. let q = p.0 in omega arith) (omega arith)
+  looks_at_last_so a file handles (Some handle) numbered there of is past =
+      let own = of.owner (length handles - 1) handle is in
+      let within = (h.machine.owned handle (record { file = file; index = length handles - 1 }) own).within in
+      let e = of.count in
+      looks_at_row_so a file (length handles - 1) handle AsksForLast (table.get s.chunks handle) numbered there (λ c p. inr (p.1, omega arith)) own refl
+
+  mutates_row_so : (a : Asker) (file index handle : ℕ) (o : Option ChunkRow) → IsAskNumber k a.number → AsksThere a.number file (AsksFor index) → k.owner handle ≡ Some (record { file = file; index = index })
       → table.get s.chunks handle ≡ o → MasterOutcome k (mutates_row s a index handle o) sent trace
   mutates_row_so a file index handle None numbered there own has = stays_so k s up sent trace h
   mutates_row_so a file index handle (Some row) numbered there own has =
       elim (has_lease s.now row) as (λ b. MasterOutcome k (cond b (tells_location s a index handle row) (tells_to_wait s a)) sent trace) [
-        | true ↦ tells_location_so a file index handle row numbered there own has
+        | true ↦ tells_location_so a file index handle (AsksFor index) row numbered there (λ c p. inl p) own has
         | false ↦ waits_so k s up sent trace h a numbered.0
       ]
 
-  pub mutates_at_so : (a : Asker) (file index : ℕ) (handles : List ℕ) (o : Option ℕ) → IsAskNumber k a.number → AsksThere a.number file index → IsFileOf k file handles → slice_get handles index ≡ o
+  pub mutates_at_so : (a : Asker) (file index : ℕ) (handles : List ℕ) (o : Option ℕ) → IsAskNumber k a.number → AsksThere a.number file (AsksFor index) → IsFileOf k file handles → slice_get handles index ≡ o
       → MasterOutcome k (mutates_at s a index o) sent trace
   mutates_at_so a file index handles None numbered there of is = stays_so k s up sent trace h
   mutates_at_so a file index handles (Some handle) numbered there of is = mutates_row_so a file index handle (table.get s.chunks handle) numbered there (of.owner index handle is) refl

@@ -1,5 +1,5 @@
 -- Events at the master and at the server: the client stays as it is, and the machine's open call goes on.
-use Rattle.std.proofs.Common.{◌≡◌, ℕ, ◌≤◌, Option, Some, None, refl, sym, ap, ◌∙◌, subst, inr, arith}
+use Rattle.std.proofs.Common.{◌≡◌, ℕ, ◌≤◌, Option, Some, None, refl, sym, ap, ◌∙◌, subst, inl, inr, arith}
 use Rattle.std.specs.Prelude.{Contains, IfSome, IsTrue}
 use Rattle.gfs_types.specs.declared.call.Call.{Call}
 use Rattle.relaxed_file.specs.Order.{Entry}
@@ -15,7 +15,7 @@ use Rattle.cell_refinement.proofs.Later.{Later, Grows, SameCall, WaitedBefore}
 use Rattle.cell_refinement.proofs.Frames.{GoesOn}
 
 pub grows_refl : (oc : OpenCall) → Grows oc oc
-grows_refl oc = record { number = refl; asked = refl; outcomes = λ x h. h; offers = λ x h. h; pieces = λ x h. h }
+grows_refl oc = record { number = refl; asked = refl; outcomes = λ x h. h; offers = λ x h. h; pieces = λ x h. h; lengths = λ x h. h }
 
 pub same_call_refl : (c : CurrentCall) → SameCall c c
 same_call_refl c = record { asked = refl; file = refl; index = refl; deadline = refl }
@@ -83,7 +83,7 @@ module _ (k l : Known) (q : Quiet k l) where
     master = q.master;
     server = q.server;
     stage = λ st number wait numbered s' c' oc' client current at call. waited st s' c' oc' client current at call;
-    past = λ s' c' client current. inr (s', c', sym q.client ∙ client, current, refl, λ p. p);
+    past = λ s' c' client current. inr (s', c', sym q.client ∙ client, current, refl, λ p. inl p);
     anew = q.anew;
     may_place = q.may_place;
   }

@@ -41,7 +41,7 @@ use Rattle.cell_refinement.proofs.ServerSteps.{ServerOutcome, tells, old}
 use Rattle.cell_refinement.proofs.Growing.{Learns, learning, learns, stepped_call}
 
 -- all entries of these rounds are a selection
-whole : (order : List Entry) → All (λ (e : Entry). e.round ≤ 1) order → IsSelection 1 order order
+pub whole : (order : List Entry) → All (λ (e : Entry). e.round ≤ 1) order → IsSelection 1 order order
 whole [] h = IsSelection.empty
 whole (e ∷ rest) h = IsSelection.takes (h 0 e (omega arith)) (whole rest (λ i d lt. h (suc i) d (omega arith)))
 
@@ -138,6 +138,7 @@ learns_piece piece = record {
   outcomes = λ oc. refl;
   offers = λ oc x h. h;
   pieces = λ oc x h. later_at piece oc.pieces x h;
+  lengths = λ oc x h. h;
 }
 
 -- a size and a call
@@ -147,7 +148,7 @@ sized n c = (n, c)
 pair_ap : (a b : ℕ) (c d : Call) → a ≡ b → c ≡ d → sized a c ≡ sized b d
 pair_ap a b c d e f = ap (λ x. sized x c) e ∙ ap (λ y. sized b y) f
 
-abbrev spot_of : CurrentCall → Spot
+abbrev pub spot_of : CurrentCall → Spot
 spot_of c = record { file = c.file.0; index = c.index }
 
 -- what the machine's look at the whole order gives
@@ -238,6 +239,7 @@ module _ (k : Known) (s : ServerState) (up : k.server ≡ Some s) (sent : List M
   stage_case stage.MustAskAgain = inr (λ at is. cc)
   stage_case (stage.SentData x n) = inr (λ at is. cc)
   stage_case (stage.SentMutate n) = inr (λ at is. cc)
+  stage_case (stage.SentLen x n) = inr (λ at is. cc)
   stage_case (stage.MustRefuse refusal) = inr (λ at is. cc)
 
   unwaited : ((at : ToldChunk) → OnStage k (stage.SentRead at number) (λ sc c oc. ⊥)) → ServerOutcome k (server_says s receiver (body.Bytes number (read_bytes r offset count))) sent trace

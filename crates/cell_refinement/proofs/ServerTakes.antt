@@ -10,6 +10,7 @@ use Rattle.gfs_types.specs.declared.refusal.Refusal.TheVariants.{NoLease, NoData
 use Rattle.gfs_types.specs.declared.message.Body.{Body}
 use Rattle.gfs_types.specs.declared.message.Body.TheVariants as body
 use Rattle.gfs_types.specs.declared.message.Message.{Message}
+use Rattle.gfs_types.specs.declared.mutation.Mutation.TheVariants as mutation
 use Rattle.gfs_types.specs.declared.message.Target.{Target}
 use Rattle.gfs_types.specs.declared.message.Target.TheVariants as target
 use Rattle.relaxed_file.specs.Run.{Visible}
@@ -22,14 +23,15 @@ use Rattle.cell_protocol.specs.declared.standing.LeaseHeld.{LeaseHeld}
 use Rattle.cell_protocol.specs.declared.standing.Kept.{Kept}
 use Rattle.cell_protocol.specs.Server.{ServerState, Replica, with_kept}
 use Rattle.cell_protocol.specs.ServerOrders.{creates}
-use Rattle.cell_protocol.specs.ServerWrites.{takes_mutate, mutates_as, mutates_new, writes_with, places_write, may_place, answers_again, refuses_attempt, is_held}
+use Rattle.cell_protocol.specs.ServerWrites.{takes_mutate, mutates_as, mutates_new, mutates_with, places, may_place, answers_attempt, refuses_attempt, is_held}
 use Rattle.cell_protocol.specs.ServerStep.{server_takes}
 use Rattle.cell_refinement.specs.Known.{Known, Attempt, IsRoundOpen, kept_seq}
-use Rattle.cell_refinement.specs.Says.{SaysBody, SaysPush, SaysMutate, SaysRefused, IsNumbered, IsOver, IsTargetOf, MayStillPlace, MayComeTo, IsPastData}
+use Rattle.cell_refinement.specs.Says.{SaysBody, SaysPush, SaysMutate, SaysRefused, IsNumbered, IsOver, IsTargetOf, MayStillPlace, MayComeTo, IsPastData, IsPastWith}
 use Rattle.cell_refinement.specs.Simulates.{IsServer, IsReplica, IsLease, Stands, Holds}
 use Rattle.cell_refinement.proofs.Serving.{serving, serves}
 use Rattle.cell_refinement.proofs.ServerSteps.{ServerOutcome, unseen, one, found, old, stays_so, tells, pushes_so, creates_so, grants_so}
 use Rattle.cell_refinement.proofs.ServerReading.{reads_so}
+use Rattle.cell_refinement.proofs.ServerMeasuring.{measures_so}
 use Rattle.cell_refinement.proofs.ServerWriting.{places_so}
 
 some_same : {X : Type 0} {x y : X} → Some x ≡ Some y → x ≡ y
@@ -94,7 +96,7 @@ module _ (k : Known) (s : ServerState) (up : k.server ≡ Some s) (sent : List M
     kept_is : (q : Kept) → s.kept ≡ Some q → Stands k q.seq q.standing
     kept_is q is = subst {A = Option Kept} (λ o. IfSome o (λ (x : Kept). Stands k x.seq x.standing)) is part.kept
 
-    again : (q : Kept) (x : Standing) → s.kept ≡ Some q → id.seq ≡ q.seq → Stands k q.seq x → ServerOutcome k (answers_again s id x) sent trace
+    again : (q : Kept) (x : Standing) → s.kept ≡ Some q → id.seq ≡ q.seq → Stands k q.seq x → ServerOutcome k (answers_attempt s id x) sent trace
     again q (Settled place) is same stands =
         tells k s up sent trace h _ (stands.0, ap k.attempts same ∙ stands.1, stands.2, (let e : kept_seq s.kept ≡ q.seq = ap kept_seq is in omega arith))
     again q (Denied refusal) is same stands =
@@ -114,6 +116,18 @@ module _ (k : Known) (s : ServerState) (up : k.server ≡ Some s) (sent : List M
         ]
       ]
 
+      -- the attempt isn't over, so its call has come so far
+      not_over_yet : IsOver id.seq a s → ⊥
+      not_over_yet (inl taken) = absurd (omega arith)
+      not_over_yet (inr too_late) = in_time too_late
+
+      past_data : IsPastData k a.call
+      past_data sc c client current same =
+          elim (subst (λ b. IsPastWith k id.seq b) (some_same (sym said.3 ∙ known)) said.7 sc c client current same) [
+            | inl past ↦ past
+            | inr over ↦ absurd (not_over_yet (subst {A = Option ServerState} (λ o. IfSome o (IsOver id.seq a)) up over))
+          ]
+
       denied : ServerOutcome k (refuses_attempt (with_kept s id.seq (Denied NoData)) id NoData) sent trace
       denied =
           let s' : ServerState = with_kept s id.seq (Denied NoData) in
@@ -128,16 +142,16 @@ module _ (k : Known) (s : ServerState) (up : k.server ≡ Some s) (sent : List M
           }) h)
           (one (serving k s') _ (numbered, λ sc c oc client current at_stage call. tt, of_this (λ b. IsOver id.seq b s') (inl (omega arith))))
 
-      writes_so : (r : Replica) → table.get s.replicas a.handle ≡ Some r → (o : Option (List ℕ)) → data_of s.pushed id ≡ o → ServerOutcome k (writes_with s a.handle r id a.place o) sent trace
+      writes_so : (r : Replica) → table.get s.replicas a.handle ≡ Some r → (o : Option (List ℕ)) → data_of s.pushed id ≡ o → ServerOutcome k (mutates_with s a.handle r id (target.Write a.place) o) sent trace
       writes_so r is None none = denied
       writes_so r is (Some bytes) there =
           let at_key = found (λ e. SaysPush k e.0 e.1) (same_id id) s.pushed.entries bytes there part.pushed in
           let e : id ≡ at_key.0 = same_id_exact id at_key.0 at_key.1 in
           let said_push : SaysPush k id bytes = subst (λ x. SaysPush k x bytes) (sym e) at_key.2 in
           let same : a.bytes ≡ bytes = ap (λ (x : Attempt). x.bytes) (some_same (sym known ∙ said_push.3)) ∙ said_push.4 in
-          subst (λ bs. ServerOutcome k (cond (may_place s r a.place bs) (places_write s a.handle r id a.place bs) (stays s)) sent trace) same
-          (elim (may_place s r a.place a.bytes) as (λ b. ServerOutcome k (cond b (places_write s a.handle r id a.place a.bytes) (stays s)) sent trace) [
-            | true ↦ places_so k s up sent trace h id a r known said.1 (subst (λ n. IsPastData k n) (ap (λ (x : Attempt). x.call) (some_same (sym said.3 ∙ known))) said.7)
+          subst (λ bs. ServerOutcome k (cond (may_place s r a.place bs) (places s a.handle r id (mutation.Write a.place bs)) (stays s)) sent trace) same
+          (elim (may_place s r a.place a.bytes) as (λ b. ServerOutcome k (cond b (places s a.handle r id (mutation.Write a.place a.bytes)) (stays s)) sent trace) [
+            | true ↦ places_so k s up sent trace h id a r known said.1 past_data not_over_yet
                 (omega arith) round (subst (IsReplica k a.handle) is (part.replicas a.handle)) some open_still.0 open_still.1 open_still.2 open_still.3
             | false ↦ stays_so k s up sent trace h
           ])
@@ -145,13 +159,13 @@ module _ (k : Known) (s : ServerState) (up : k.server ≡ Some s) (sent : List M
       new_so : (x : Target) → IsTargetOf a x → (o : Option Replica) → table.get s.replicas a.handle ≡ o → ServerOutcome k (mutates_new s a.handle id x o) sent trace
       new_so x fits None is = stays_so k s up sent trace h
       new_so target.Append fits (Some r) is = absurd fits
-      new_so (target.Write offset) fits (Some r) is = subst (λ n. ServerOutcome k (writes_with s a.handle r id n (data_of s.pushed id)) sent trace) (sym fits) (writes_so r is (data_of s.pushed id) refl)
+      new_so (target.Write offset) fits (Some r) is = subst (λ n. ServerOutcome k (mutates_with s a.handle r id (target.Write n) (data_of s.pushed id)) sent trace) (sym fits) (writes_so r is (data_of s.pushed id) refl)
 
     as_so : (in_time : a.deadline ≤ s.now → ⊥) (round : IsRoundOpen k a.handle) (o : Option Kept) → s.kept ≡ o → IsTargetOf a t → ServerOutcome k (mutates_as s a.handle id t o) sent trace
     as_so in_time round None is fits = new_so (let e : kept_seq s.kept ≡ 0 = ap kept_seq is in let g = said.0 in omega arith) in_time round t fits (table.get s.replicas a.handle) refl
     as_so in_time round (Some q) is fits =
         let e : kept_seq s.kept ≡ q.seq = ap kept_seq is in
-        elim (id.seq == q.seq) as (λ b. (id.seq == q.seq) ≡ b → ServerOutcome k (cond b (answers_again s id q.standing) (cond (nat_lt id.seq q.seq) (refuses_attempt s id OldRequest) (mutates_new s a.handle id t (table.get s.replicas a.handle)))) sent trace) [
+        elim (id.seq == q.seq) as (λ b. (id.seq == q.seq) ≡ b → ServerOutcome k (cond b (answers_attempt s id q.standing) (cond (nat_lt id.seq q.seq) (refuses_attempt s id OldRequest) (mutates_new s a.handle id t (table.get s.replicas a.handle)))) sent trace) [
           | true ↦ λ same. again q q.standing is (eqb-true id.seq q.seq same) (kept_is q is)
           | false ↦ λ other. elim (nat_lt id.seq q.seq) as (λ b. nat_lt id.seq q.seq ≡ b → ServerOutcome k (cond b (refuses_attempt s id OldRequest) (mutates_new s a.handle id t (table.get s.replicas a.handle))) sent trace) [
             | true ↦ λ less. lower (let g : id.seq ≤ q.seq = is_lower id.seq q.seq less in omega arith)
@@ -186,6 +200,7 @@ module _ (k : Known) (s : ServerState) (up : k.server ≡ Some s) (sent : List M
   takes_so m (body.Push id bytes rest) said = pushes_so k s up sent trace h id bytes said
   takes_so m (body.Mutate id handle version t deadline) said = mutate_by id handle.0 version.0 t deadline.0 said
   takes_so m (body.Read number handle version offset count) said = reads_so k s up sent trace h m.sender number handle.0 version.0 offset count said (table.get s.replicas handle.0) refl
+  takes_so m (body.Len number handle version) said = measures_so k s up sent trace h m.sender number handle.0 version.0 said (table.get s.replicas handle.0) refl
   takes_so m (body.Create order handle version) said =
       subst (λ n. ServerOutcome k (creates s handle.0 n (table.get s.replicas handle.0)) sent trace) (sym said) (creates_so k s up sent trace h handle.0 (table.get s.replicas handle.0) refl)
   takes_so m (body.Grant order handle version end_moment members) said = grants_so k s up sent trace h handle.0 version.0 end_moment.0 said.0 said.1

@@ -1,6 +1,6 @@
 -- The server places a write: the machine places it and settles it.
 use Rattle.std.proofs.Common.{◌≡◌, ℕ, ◌<◌, ◌≤◌, true, false, cond, List, [], ◌∷◌, ◌++◌, length, Option, Some, None, refl, sym, ap, ◌∙◌, subst, inl, inr, arith, append-nil}
-use Rattle.std.specs.Prelude.{Contains, IfSome, IsTrue, IsFalse, ◌⊎◌, ◌==◌, option_map, unwrap_or, slice_get, IsSomeAnd}
+use Rattle.std.specs.Prelude.{Contains, IfSome, IsTrue, IsFalse, ◌⊎◌, ◌==◌, option_map, unwrap_or, nat_lt, slice_get, IsSomeAnd}
 use Rattle.std.proofs.lemmas.Bool.{cases_eq, ne_eqb, eq-eqb}
 use Rattle.std.proofs.lemmas.Option.{same_Some}
 use Rattle.std.specs.FinMap as table
@@ -20,7 +20,7 @@ use Rattle.data_push.specs.Buffers.{without_data}
 use Rattle.cell_protocol.specs.declared.observer.Placed.{Placed}
 use Rattle.cell_protocol.specs.Sending.{only_client}
 use Rattle.cell_protocol.specs.Server.{ServerState, Replica, with_bytes, written_replica}
-use Rattle.cell_protocol.specs.ServerWrites.{places_write, after_write, numbering_of}
+use Rattle.cell_protocol.specs.ServerWrites.{places, after_mutation, numbering_of}
 use Rattle.cell_protocol.specs.Master.{MasterState}
 use Rattle.cell_protocol.specs.Client.{ClientState}
 use Rattle.cell_protocol.specs.Observer.{entries_of, entry_of}
@@ -28,7 +28,7 @@ use Rattle.cell_refinement.specs.Known.{Known, Spot, Attempt, IsAttempt, IsMutat
 use Rattle.cell_refinement.specs.Says.{SaysPush, IsPastData, IsOver, MayStillPlace, MayComeTo}
 use Rattle.cell_refinement.specs.Simulates.{IsMachine, IsChunkAt, IsMaster, IsServer, IsClient, IsReplica, IsGoing, IsBefore, Holds}
 use Rattle.cell_refinement.proofs.Later.{Later, all_stay, data_stays}
-use Rattle.cell_refinement.proofs.Frames.{SameChunks, SameClient, master_same, client_same, lease_stays}
+use Rattle.cell_refinement.proofs.Frames.{SameChunks, SameClient, master_same, client_same, lease_stays, in_turn_stays}
 use Rattle.cell_refinement.proofs.Quiet.{Quiet, later_quiet}
 use Rattle.cell_refinement.proofs.Growing.{Learns, stepped_call, goes_on_by, learned_from}
 use Rattle.cell_refinement.proofs.Serving.{at_insert}
@@ -45,11 +45,17 @@ abbrev begun : OpenCall → OpenCall
 begun oc = oc
 
 begins : Learns begun
-begins = record { number = λ oc. refl; asked = λ oc. refl; outcomes = λ oc. refl; offers = λ oc x h. h; pieces = λ oc x h. h }
+begins = record { number = λ oc. refl; asked = λ oc. refl; outcomes = λ oc. refl; offers = λ oc x h. h; pieces = λ oc x h. h; lengths = λ oc x h. h }
 
 mutations-push : (es : List Entry) (e : Entry) → mutations_of (es ++ e ∷ []) ≡ mutations_of es ++ e.mutation ∷ []
 mutations-push [] e = refl
 mutations-push (x ∷ rest) e = ap (λ ms. x.mutation ∷ ms) (mutations-push rest e)
+
+cases_lt : (a b : ℕ) → (a < b) ⊎ (b ≤ a)
+cases_lt a b = elim (nat_lt a b) as (λ x. nat_lt a b ≡ x → (a < b) ⊎ (b ≤ a)) [
+  | true ↦ λ e. inl (grind (arith, e))
+  | false ↦ λ e. inr (grind (arith, e))
+] refl
 
 -- two spots are the same, or differ in file or index
 spot_cases : (p q : Spot) → (p ≡ q) ⊎ ((p.file ≡ q.file) → (p.index ≡ q.index) → ⊥)
@@ -121,7 +127,7 @@ module _ (m : Machine) (at : Spot) (oc : OpenCall) (w : Mutation) where
       subst (λ t. IsRunTo config t last) (append-nil trace) (runs_go_on config trace first (Settle at.file at.index (length (chunk_of m at).order)) b (may_settle may.2))
 
 module _ (k : Known) (s : ServerState) (up : k.server ≡ Some s) (sent : List Message) (trace : List Visible) (h : Holds k sent trace)
-    (id : DataId) (a : Attempt) (r : Replica) (known : k.attempts id.seq ≡ Some a) (own : id.client.0 ≡ only_client) (past : IsPastData k a.call)
+    (id : DataId) (a : Attempt) (r : Replica) (known : k.attempts id.seq ≡ Some a) (own : id.client.0 ≡ only_client) (past : IsPastData k a.call) (going : IsOver id.seq a s → ⊥)
     (newer : kept_seq s.kept ≤ id.seq) (round : IsRoundOpen k a.handle) (here : IsReplica k a.handle (Some r)) (some : 0 < k.config.attempts)
     (oc : OpenCall) (call_is : open_call_of k.m ≡ Some oc) (number : oc.number ≡ a.call) (unplaced : HasNoEntry k.placed a.call) where
   attempt : IsAttempt k a
@@ -163,10 +169,10 @@ module _ (k : Known) (s : ServerState) (up : k.server ≡ Some s) (sent : List M
   m2 = last k.m attempt.at oc w
 
   abbrev p : Placed
-  p = record { call = calls_made k.m; numbering = numbering_of a.handle r id a.place a.bytes }
+  p = record { call = calls_made k.m; numbering = numbering_of a.handle r id (mutation.Write a.place a.bytes) }
 
   abbrev s' : ServerState
-  s' = after_write s a.handle r id a.place a.bytes
+  s' = after_mutation s a.handle r id (mutation.Write a.place a.bytes)
 
   abbrev l : Known
   l = record k { m = m2; server = Some s'; placed = k.placed ++ p ∷ [] }
@@ -194,8 +200,10 @@ module _ (k : Known) (s : ServerState) (up : k.server ≡ Some s) (sent : List M
 
   over : (seq : ℕ) (b : Attempt) (x : ServerState) → Some s' ≡ Some x → k.attempts seq ≡ Some b → b.call ≡ a.call → IsOver seq b x
   over seq b x is there same =
-      let e : seq ≡ id.seq = h.machine.unique seq id.seq b a there known same in
-      subst (λ (y : ServerState). IsOver seq b y) (some_same is) (inl (omega arith))
+      subst (λ (y : ServerState). IsOver seq b y) (some_same is) (elim (cases_lt id.seq seq) [
+        | inl more ↦ absurd (going (subst {A = Option ServerState} (λ o. IfSome o (IsOver id.seq a)) up (h.machine.in_turn id.seq seq a b known there (sym same) more)))
+        | inr less ↦ inl (omega arith)
+      ])
 
   still_placing : (seq : ℕ) (b : Attempt) (x : ServerState) → Some s' ≡ Some x → k.attempts seq ≡ Some b → MayStillPlace k b → MayComeTo l seq b x
   still_placing seq b x is there may =
@@ -299,7 +307,7 @@ module _ (k : Known) (s : ServerState) (up : k.server ≡ Some s) (sent : List M
     owners = h.machine.owners;
     chunks = at_spot k.m attempt.at oc w (λ q c. (c.order ≡ []) ⊎ ((handle : ℕ) × (k.owner handle ≡ Some q))) (inr (a.handle, attempt.owned)) h.machine.chunks;
     placed = All-push (λ (x : Placed). (x.numbering.version.0 ≡ 1) × (x.numbering.data_id.client.0 ≡ only_client) × (x.call ≤ calls_made k.m)) k.placed p h.machine.placed (here.0, own, omega arith);
-    unique = h.machine.unique;
+    in_turn = in_turn_stays k l later (λ seq. refl) h.machine.in_turn;
     unmade = λ file l. counts_are k.m attempt.at oc w file ∙ h.machine.unmade file l;
     untouched = λ q beyond.
         let n : chunk_count m2 q.file ≡ chunk_count k.m q.file = counts_are k.m attempt.at oc w q.file in
@@ -357,7 +365,7 @@ module _ (k : Known) (s : ServerState) (up : k.server ≡ Some s) (sent : List M
   client_after (Some x) is g = client_same k l x later same_client is g
 
   -- The write has its place, and all holds.
-  pub places_so : ServerOutcome k (places_write s a.handle r id a.place a.bytes) sent trace
+  pub places_so : ServerOutcome k (places s a.handle r id (mutation.Write a.place a.bytes)) sent trace
   places_so = record {
     m = m2;
     made = refl;

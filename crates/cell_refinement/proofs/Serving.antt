@@ -14,7 +14,7 @@ use Rattle.cell_protocol.specs.Client.{ClientState}
 use Rattle.cell_refinement.specs.Known.{Known, Attempt, IsAttempt, open_call_of, kept_seq}
 use Rattle.cell_refinement.specs.Simulates.{IsMachine, IsChunkAt, IsMaster, IsServer, IsClient, Holds}
 use Rattle.cell_refinement.proofs.Later.{Later, all_stay}
-use Rattle.cell_refinement.proofs.Frames.{SameChunks, SameClient, master_same, client_same}
+use Rattle.cell_refinement.proofs.Frames.{SameChunks, SameClient, master_same, client_same, in_turn_stays}
 use Rattle.cell_refinement.proofs.Quiet.{Quiet, later_quiet, goes_on_refl, anew_same, may_place_same}
 
 -- what a table gives after an entry was put in
@@ -108,7 +108,7 @@ module _ (k : Known) (s s' : ServerState) (up : k.server ≡ Some s) (kept : kep
     owners = h.owners;
     chunks = h.chunks;
     placed = h.placed;
-    unique = h.unique;
+    in_turn = in_turn_stays k (serving k s') later_serving (λ seq. refl) h.in_turn;
     attempts = λ seq a is. (attempt_serving a (h.attempts seq a is).0, (h.attempts seq a is).1);
     unmade = h.unmade;
     untouched = h.untouched;

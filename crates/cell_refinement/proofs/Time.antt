@@ -88,7 +88,7 @@ module _ (k : Known) (moment : ℕ) where
     owners = h.owners;
     chunks = h.chunks;
     placed = h.placed;
-    unique = h.unique;
+    in_turn = h.in_turn;
     attempts = λ seq a is. (attempt_at a (h.attempts seq a is).0, (h.attempts seq a is).1);
     unmade = h.unmade;
     untouched = h.untouched;

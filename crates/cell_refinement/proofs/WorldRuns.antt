@@ -67,7 +67,7 @@ module _ (config : Config) where
     owners = λ h g at is. gone _ at is;
     chunks = λ at. inl refl;
     placed = All-nil _;
-    unique = λ seq other a b is. gone _ a is;
+    in_turn = λ seq other a b is. gone _ a is;
     unmade = λ file l. refl;
     untouched = λ at l. refl;
     unowned = λ handle is. refl;

@@ -80,7 +80,7 @@ abbrev pub IsInChunk : ℕ → ℕ → ℕ → ℕ → Type 0
 IsInChunk size index offset count =
     (index ≡ offset / size) × IsFalse (is_range_too_long offset count) × IsFalse (leaves_chunk size offset count) × (0 < count)
 
--- A write of one chunk, or a read of one.
+-- A write of one chunk, or a read of one; a length begins with no chunk.
 abbrev pub IsWriteOf : ℕ → ℕ → Call → Type 0
 IsWriteOf size index (call.Write fd offset bytes) = IsInChunk size index offset (length bytes)
 IsWriteOf size index other = ⊥
@@ -92,6 +92,7 @@ IsReadOf size index other = ⊥
 abbrev pub IsChunkCall : ℕ → ℕ → Call → Type 0
 IsChunkCall size index (call.Write fd offset bytes) = IsInChunk size index offset (length bytes)
 IsChunkCall size index (call.Read fd offset count) = IsInChunk size index offset count
+IsChunkCall size index (call.Length fd) = index ≡ 0
 IsChunkCall size index other = ⊥
 
 -- The data of an attempt are those of its call, and go where it says.

@@ -1,5 +1,5 @@
 -- What each message in flight says: something that was true when it was sent, and stays so.
-use Rattle.std.specs.Prelude.{◌≡◌, ℕ, ◌+◌, ◌<◌, ◌≤◌, List, [], ◌∷◌, Contains, Option, Some, None, IfSome, IsTrue, IsFalse, ◌⊎◌}
+use Rattle.std.specs.Prelude.{◌≡◌, ℕ, suc, ◌+◌, ◌*◌, ◌<◌, ◌≤◌, List, [], ◌∷◌, Contains, Option, Some, None, IfSome, IsTrue, IsFalse, ◌⊎◌}
 use Rattle.gfs_types.specs.declared.ids.DataId.{DataId}
 use Rattle.gfs_types.specs.declared.call.Call.{Call}
 use Rattle.gfs_types.specs.declared.refusal.Refusal.{Refusal}
@@ -17,6 +17,7 @@ use Rattle.gfs_types.specs.declared.message.Target.{Target}
 use Rattle.gfs_types.specs.declared.message.Target.TheVariants as target
 use Rattle.relaxed_file.specs.Machine.{OpenCall, Asked, Told, NoSuchChunk, Opens, Replies, chunk_count}
 use Rattle.relaxed_file.specs.NameStep.{is_look, is_name_call}
+use Rattle.relaxed_file.specs.Reads.{is_length_call}
 use Rattle.cell_protocol.specs.declared.stage.Stage.{Stage}
 use Rattle.cell_protocol.specs.declared.stage.Stage.TheVariants as stage
 use Rattle.cell_protocol.specs.declared.stage.CurrentCall.{CurrentCall}
@@ -87,7 +88,9 @@ abbrev pub SaysAsk : Known → ℕ → ℕ → Wanted → Type 0
 SaysAsk k number file (wanted.Write index) =
     IsAskNumber k number × IsAskedToWrite k file index × OnStage k (stage.AskedWhere number) (λ s c oc. (c.file.0 ≡ file) × (c.index ≡ index) × IsWriteOf k.config.chunk index c.asked)
 SaysAsk k number file (wanted.Read index) =
-    IsAskNumber k number × IsReadable k file × OnStage k (stage.AskedWhere number) (λ s c oc. (c.file.0 ≡ file) × (c.index ≡ index))
+    IsAskNumber k number × IsReadable k file × OnStage k (stage.AskedWhere number) (λ s c oc. (c.file.0 ≡ file) × (c.index ≡ index) × IsFalse (is_length_call c.asked))
+SaysAsk k number file wanted.Last =
+    IsAskNumber k number × IsReadable k file × OnStage k (stage.AskedWhere number) (λ s c oc. (c.file.0 ≡ file) × (c.index ≡ 0) × IsTrue (is_length_call c.asked))
 SaysAsk k number file other = ⊥
 
 -- A told chunk with a holder: its round 1, at the cell's server, and an offer of the open call.
@@ -97,9 +100,22 @@ IsGranted k file index oc l (h ∷ rest) =
     (l.round.0 ≡ 1) × (h.server.0 ≡ only_server) × (h.version.0 ≡ 1) × IfSome l.group (λ g. g.primary.0 ≡ only_server)
     × (k.owner l.handle.0 ≡ Some (record { file = file; index = index })) × ((count : ℕ) × Contains oc.offers (Told index 1 count)) × (index < chunk_count k.m file)
 
+-- the offer of a chunk with which its file ended
+abbrev pub IsLastOffered : OpenCall → ℕ → Type 0
+IsLastOffered oc index = Contains oc.offers (Told index 1 (suc index))
+
+abbrev pub IsGrantedLast : Known → ℕ → OpenCall → Location → List Holder → Type 0
+IsGrantedLast k file oc l [] = Unit {0}
+IsGrantedLast k file oc l (h ∷ rest) = IsGranted k file l.index oc l (h ∷ rest) × IsLastOffered oc l.index
+
+-- The chunk that the call asked for; of a length, one with which its file ended.
+abbrev pub IsToldTo : Known → CurrentCall → OpenCall → Location → Type 0
+IsToldTo k c oc l =
+    (IsFalse (is_length_call c.asked) → IsGranted k c.file.0 c.index oc l l.holders) × (IsTrue (is_length_call c.asked) → IsGrantedLast k c.file.0 oc l l.holders)
+
 abbrev pub SaysTold : Known → ℕ → Option Location → Type 0
 SaysTold k number None = IsAskNumber k number × OnStage k (stage.AskedWhere number) (λ s c oc. Contains oc.offers (NoSuchChunk c.index))
-SaysTold k number (Some l) = IsAskNumber k number × OnStage k (stage.AskedWhere number) (λ s c oc. IsGranted k c.file.0 c.index oc l l.holders)
+SaysTold k number (Some l) = IsAskNumber k number × OnStage k (stage.AskedWhere number) (λ s c oc. IsToldTo k c oc l)
 
 -- an attempt is over at the server: it was taken, or comes too late
 abbrev pub IsOver : ℕ → Attempt → ServerState → Type 0
@@ -133,10 +149,14 @@ IsPast other = ⊥
 abbrev pub IsPastData : Known → ℕ → Type 0
 IsPastData k number = (s : ClientState) (c : CurrentCall) → k.client ≡ Some s → s.current ≡ Some c → c.number ≡ number → IsPast c.stage
 
+-- it has come so far with this attempt, unless the attempt is over
+abbrev pub IsPastWith : Known → ℕ → Attempt → Type 0
+IsPastWith k seq a = (s : ClientState) (c : CurrentCall) → k.client ≡ Some s → s.current ≡ Some c → c.number ≡ a.call → IsPast c.stage ⊎ IfSome k.server (IsOver seq a)
+
 abbrev pub SaysMutate : Known → DataId → ℕ → ℕ → Target → ℕ → Type 0
 SaysMutate k id handle version t deadline =
     (1 ≤ id.seq) × (id.client.0 ≡ only_client)
-    × (a : Attempt) × (k.attempts id.seq ≡ Some a) × (handle ≡ a.handle) × (deadline ≡ a.deadline) × IsTargetOf a t × IsPastData k a.call × (a.call ≤ calls_made k.m) × MayCome k id.seq a
+    × (a : Attempt) × (k.attempts id.seq ≡ Some a) × (handle ≡ a.handle) × (deadline ≡ a.deadline) × IsTargetOf a t × IsPastWith k id.seq a × (a.call ≤ calls_made k.m) × MayCome k id.seq a
 
 abbrev pub SaysDone : Known → DataId → Type 0
 SaysDone k id = (a : Attempt) × (k.attempts id.seq ≡ Some a) × HasEntry k a × IfSome k.server (λ s. id.seq ≤ kept_seq s.kept)
@@ -151,6 +171,12 @@ abbrev pub SaysBytes : Known → ℕ → List ℕ → Type 0
 SaysBytes k number bytes =
     IsNumbered k number
     × ((at : ToldChunk) → OnStage k (stage.SentRead at number) (λ s c oc. Contains oc.pieces (record { index = c.index; bytes = bytes; round = Some 1 })))
+
+abbrev pub SaysLen : Known → ℕ → ℕ → ℕ → Type 0
+SaysLen k number handle version = IsAskNumber k number × ((at : ToldChunk) → OnStage k (stage.SentLen at number) (λ s c oc. (at.handle.0 ≡ handle) × (version ≡ 1)))
+
+abbrev pub SaysLenIs : Known → ℕ → ℕ → Type 0
+SaysLenIs k number count = IsNumbered k number × ((at : ToldChunk) → OnStage k (stage.SentLen at number) (λ s c oc. Contains oc.lengths (c.index * k.config.chunk + count)))
 
 -- of the refusal of an ask, and of an attempt
 abbrev pub IsRefusedAsk : CurrentCall → OpenCall → Refusal → Type 0
@@ -183,6 +209,8 @@ SaysBody k (body.Mutate id handle version t deadline) = SaysMutate k id handle.0
 SaysBody k (body.Done id place) = SaysDone k id
 SaysBody k (body.Read number handle version offset count) = SaysRead k number handle.0 version.0 offset count
 SaysBody k (body.Bytes number bytes) = SaysBytes k number bytes
+SaysBody k (body.Len number handle version) = SaysLen k number handle.0 version.0
+SaysBody k (body.LenIs number count) = SaysLenIs k number count
 SaysBody k (body.Create order handle version) = version.0 ≡ 1
 SaysBody k (body.Grant order handle version end_moment members) = SaysGrant k handle.0 version.0
 SaysBody k other = Unit {0}

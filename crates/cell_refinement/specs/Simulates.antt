@@ -8,6 +8,7 @@ use Rattle.gfs_types.specs.Image.{image}
 use Rattle.relaxed_file.specs.Names.{File, node_at}
 use Rattle.relaxed_file.specs.Order.{mutations_of}
 use Rattle.relaxed_file.specs.NameStep.{is_name_call}
+use Rattle.relaxed_file.specs.Reads.{is_length_call}
 use Rattle.relaxed_file.specs.Machine.{Machine, Chunk, new_chunk, OpenCall, Asked, Opens, Replies, chunk_count}
 use Rattle.relaxed_file.specs.Run.{IsRunTo, Visible}
 use Rattle.cell_protocol.specs.declared.stage.Stage.{Stage}
@@ -29,7 +30,7 @@ use Rattle.cell_protocol.specs.ClientAttempts.{is_write}
 use Rattle.cell_protocol.specs.Observer.{entries_of}
 use Rattle.cell_protocol.specs.World.{WorldState}
 use Rattle.cell_refinement.specs.Known.{Known, Spot, Attempt, IsAttempt, HasEntry, HasNoEntry, OnCall, IsChunkCall, IsWriteOf, IsReadOf, IsRoundOpen, open_call_of, the_client_of, calls_made, chunk_of}
-use Rattle.cell_refinement.specs.Says.{Says, SaysPush, IsReadable}
+use Rattle.cell_refinement.specs.Says.{Says, SaysPush, IsReadable, IsLastOffered, IsOver}
 
 -- A chunk before its one round, and from then on.
 abbrev pub IsBefore : Chunk → Type 0
@@ -44,9 +45,9 @@ pub record IsChunkAt (k : Known) (handle : ℕ) (at : Spot) : Type 0 where
   pub order : (chunk_of k.m at).order ≡ entries_of k.placed handle
   pub round : IsBefore (chunk_of k.m at) ⊎ IsGoing (chunk_of k.m at)
 
--- a call has one attempt
-abbrev pub AreUnique : (ℕ → Option Attempt) → Type 0
-AreUnique attempts = (seq other : ℕ) (a b : Attempt) → attempts seq ≡ Some a → attempts other ≡ Some b → a.call ≡ b.call → seq ≡ other
+-- of two attempts of a call the earlier one is over at the server, while that is up
+abbrev pub AreInTurn : (ℕ → Option Attempt) → Option ServerState → Type 0
+AreInTurn attempts server = (seq other : ℕ) (a b : Attempt) → attempts seq ≡ Some a → attempts other ≡ Some b → a.call ≡ b.call → seq < other → IfSome server (IsOver seq a)
 
 -- what the machine alone keeps
 pub record IsMachine (k : Known) : Type 0 where
@@ -63,7 +64,7 @@ pub record IsMachine (k : Known) : Type 0 where
   pub owners : (h g : ℕ) (at : Spot) → k.owner h ≡ Some at → k.owner g ≡ Some at → h ≡ g
   pub chunks : (at : Spot) → ((chunk_of k.m at).order ≡ []) ⊎ ((handle : ℕ) × (k.owner handle ≡ Some at))
   pub placed : All (λ (p : Placed). (p.numbering.version.0 ≡ 1) × (p.numbering.data_id.client.0 ≡ only_client) × (p.call ≤ calls_made k.m)) k.placed
-  pub unique : AreUnique k.attempts
+  pub in_turn : AreInTurn k.attempts k.server
   pub attempts : (seq : ℕ) (a : Attempt) → k.attempts seq ≡ Some a → IsAttempt k a × IfSome k.client (λ s. seq ≤ s.number)
   -- files that were not made, chunks past a file's end, and handles that no chunk has
   pub unmade : (file : ℕ) → k.m.file_count < file → chunk_count k.m file ≡ 0
@@ -151,6 +152,8 @@ FitsStage k s c oc (stage.SentMutate seq) =
     (oc.asked.file ≡ Some c.file.0) × IsWriteOf k.config.chunk c.index c.asked × ((the_client_of k.m).notes c.file.0 c.index ≡ Some 1)
     × (a : Attempt) × IsAttemptOf k c seq a
 FitsStage k s c oc (stage.SentRead at number) = (oc.asked.file ≡ Some c.file.0) × IsReadOf k.config.chunk c.index c.asked × IsToldAt k c at × IsWaited k s number
+FitsStage k s c oc (stage.SentLen at number) =
+    (oc.asked.file ≡ Some c.file.0) × IsTrue (is_length_call c.asked) × IsToldAt k c at × IsWaited k s number × IsLastOffered oc c.index
 FitsStage k s c oc (stage.MustRefuse refusal) = (refusal ≡ Failed) × IsTrue (is_write c.asked)
 
 -- which attempts a call has in a stage
@@ -160,13 +163,17 @@ HasAttempt (stage.SentMutate number) seq = seq ≡ number
 HasAttempt (stage.MustRefuse refusal) seq = Unit {0}
 HasAttempt other seq = ⊥
 
+-- an attempt of the call is that of its stage, or is over at the server, while that is up
+abbrev pub IsOwnOrOver : Known → Stage → ℕ → Attempt → Type 0
+IsOwnOrOver k st seq a = HasAttempt st seq ⊎ IfSome k.server (IsOver seq a)
+
 pub record IsCurrent (k : Known) (s : ClientState) (c : CurrentCall) (oc : OpenCall) : Type 0 where
   pub number : c.number ≡ s.call_count
   pub number_is : oc.number ≡ c.number
   pub asked : oc.asked.call ≡ c.asked
   pub ends : c.ends.0 ≡ c.deadline.0 + k.config.skew_ms
   pub stage : FitsStage k s c oc c.stage
-  pub attempts : (seq : ℕ) (a : Attempt) → k.attempts seq ≡ Some a → a.call ≡ c.number → (a.deadline ≡ c.deadline.0) × HasAttempt c.stage seq
+  pub attempts : (seq : ℕ) (a : Attempt) → k.attempts seq ≡ Some a → a.call ≡ c.number → (a.deadline ≡ c.deadline.0) × IsOwnOrOver k c.stage seq a
 
 -- the client's call is the machine's open one
 abbrev pub AreTheSame : Known → ClientState → Option CurrentCall → Option OpenCall → Type 0

@@ -4,6 +4,7 @@ ghost use Rattle.std.specs.Prelude.{◌≡◌, ◌≤◌, ◌<◌, ◌+◌, ◌/
 ghost use Rattle.cell_protocol.specs.Sending.{message, the_client, only_client};
 ghost use Rattle.std.specs.FinMap as map;
 ghost use Rattle.relaxed_file.specs.Parts.{is_range_too_long, leaves_chunk};
+ghost use Rattle.relaxed_file.specs.Reads.{is_length_call};
 ghost use Rattle.cell_protocol.specs.Tables.{counter_limit};
 ghost use Rattle.gfs_types.specs.declared.answer.Answer.TheVariants as answer;
 ghost use Rattle.cell_protocol.specs.Doing.{does};
@@ -37,7 +38,10 @@ impl Client {
         ensures err { OnErr result (self.new ≡ self.old) }
     {
         match &call {
-            Call::Write(fd, _, _) | Call::Read(fd, _, _) => match self.descriptors.get(fd.0) {
+            Call::Length(fd) | Call::Write(fd, _, _) | Call::Read(fd, _, _) => match self
+                .descriptors
+                .get(fd.0)
+            {
                 None => Ok(self.answers(Answer::Refused(Refusal::BadFd))),
                 Some(file) => {
                     let file = FileId(*file);
@@ -128,6 +132,10 @@ impl Client {
                 }
                 self.asks_at(call, file, offset)
             }
+            Call::Length(_) => {
+                let current = self.new_call(call, file, 0);
+                self.asks(current)
+            }
             _ => Ok(Effects::none(self.alloc)),
         }
     }
@@ -194,6 +202,7 @@ pub(crate) fn is_served(call: &Call) -> bool
             | Call::Create(_)
             | Call::Open(_)
             | Call::List(_)
+            | Call::Length(_)
             | Call::Write(_, _, _)
             | Call::Read(_, _, _)
     )
@@ -205,13 +214,19 @@ pub(crate) fn is_write(call: &Call) -> bool
     matches!(call, Call::Write(_, _, _))
 }
 
+pub(crate) fn is_length(call: &Call) -> bool
+    ensures { result ≡ is_length_call call.now }
+{
+    matches!(call, Call::Length(_))
+}
+
 fn wanted_by(current: &CurrentCall) -> Wanted
     ensures { result ≡ wanted_by current.now.index current.now.asked }
 {
-    if is_write(&current.asked) {
-        Wanted::Write(current.index)
-    } else {
-        Wanted::Read(current.index)
+    match &current.asked {
+        Call::Write(_, _, _) => Wanted::Write(current.index),
+        Call::Length(_) => Wanted::Last,
+        _ => Wanted::Read(current.index),
     }
 }
 

@@ -1,18 +1,19 @@
 //! What the client makes of a message, and of a tick (sections 2.7.1 and 3.1). It takes only the answer to its current
 //! ask, call or attempt.
 
-ghost use Rattle.std.specs.Prelude.{◌≡◌, ◌<◌, IfOk, IsTrue};
+ghost use Rattle.std.specs.Prelude.{◌≡◌, ◌+◌, ◌*◌, ◌<◌, nat_lt, IfOk, IsTrue};
 ghost use Rattle.gfs_types.specs.declared.event.Input.TheVariants as input;
+ghost use Rattle.cell_protocol.specs.Tables.{number_limit};
 ghost use Rattle.cell_protocol.specs.Doing.{does};
 ghost use Rattle.cell_protocol.specs.Seen.{stays};
 ghost use Rattle.cell_protocol.specs.declared.stage.Stage.TheVariants.{MustAskAgain};
 ghost use Rattle.cell_protocol.specs.Client.{is_client_within_limits, with_current, waits, goes_on};
-ghost use Rattle.cell_protocol.specs.ClientAttempts.{told_at, place_in_chunk, count_to_read, bytes_to_send, refuses_live, pushes, reads_at, last_refusal};
-ghost use Rattle.cell_protocol.specs.ClientTakes.{takes_named, takes_wait, takes_told, takes_pushed, takes_done, takes_bytes, takes_refused, takes_reply, is_own_data, opens, told, told_none, told_location, told_nobody, master_refuses, primary_refuses};
+ghost use Rattle.cell_protocol.specs.ClientAttempts.{told_at, place_in_chunk, count_to_read, bytes_to_send, refuses_live, pushes, reads_at, measures_at, last_refusal};
+ghost use Rattle.cell_protocol.specs.ClientTakes.{takes_named, takes_wait, takes_told, takes_pushed, takes_done, takes_bytes, takes_len_is, takes_refused, takes_reply, is_own_data, opens, told, told_none, told_location, told_nobody, master_refuses, primary_refuses};
 ghost use Rattle.cell_protocol.specs.ClientStep.{client_does, ticks_unanswered, ticks_names};
 
 use crate::client::Client;
-use crate::client_calls::is_write;
+use crate::client_calls::{is_length, is_write};
 use bytes::Bytes;
 use cell_protocol::effects::Effects;
 use cell_protocol::stage::{CurrentCall, Stage, ToldChunk};
@@ -46,6 +47,7 @@ impl Client {
             Body::Pushed { data } => self.takes_pushed(current, *data),
             Body::Done { data, place: _ } => Ok(self.takes_done(current, *data)),
             Body::Bytes { number, bytes } => self.takes_bytes(current, *number, bytes),
+            Body::LenIs { number, count } => Ok(self.takes_len_is(current, *number, *count)),
             _ => Ok(self.stays(current)),
         }
     }
@@ -195,12 +197,15 @@ impl Client {
         }
     }
 
-    /// There is no such chunk: a read gets nothing.
+    /// There is no such chunk: a read gets nothing, and the file is empty.
     fn told_none(&mut self, current: CurrentCall) -> Effects
         ensures { told_none (with_current self.old current) current ≡ does self.new result }
     {
         if is_write(&current.asked) {
             return self.stays(current);
+        }
+        if is_length(&current.asked) {
+            return self.answers(Answer::Length(0));
         }
         self.answers_nothing()
     }
@@ -221,6 +226,9 @@ impl Client {
         current.is_nobody_told = false;
         if is_write(&current.asked) {
             return self.pushes(current, location);
+        }
+        if is_length(&current.asked) {
+            return self.measures_at(current, location, holder);
         }
         self.reads_at(current, location, holder)
     }
@@ -268,6 +276,28 @@ impl Client {
         };
         self.number = number;
         let stage = Stage::SentRead(told_at(location, holder.server), number);
+        self.goes_on(current, stage, Node::Server(holder.server), body)
+    }
+
+    /// The server is asked for the length of the chunk that was told, which is the file's last.
+    fn measures_at(
+        &mut self,
+        mut current: CurrentCall,
+        location: &Location,
+        holder: Holder,
+    ) -> Result<Effects, NoMemory>
+        requires { IsTrue (is_client_within_limits self.old) }
+        ensures { IfOk result (λ e. measures_at self.old current location.now holder ≡ does self.new e) }
+    {
+        let number = self.number + 1;
+        let body = Body::Len {
+            number,
+            handle: location.handle,
+            version: holder.version,
+        };
+        self.number = number;
+        current.index = location.index;
+        let stage = Stage::SentLen(told_at(location, holder.server), number);
         self.goes_on(current, stage, Node::Server(holder.server), body)
     }
 
@@ -330,6 +360,21 @@ impl Client {
         Ok(self.answers(Answer::Bytes { bytes, rounds }))
     }
 
+    /// A length came: the file's is that of its last chunk beyond those before.
+    fn takes_len_is(&mut self, current: CurrentCall, number: u64, count: u64) -> Effects
+        ensures { takes_len_is (with_current self.old current) current current.stage number count ≡ does self.new result }
+    {
+        let Stage::SentLen(_, asked) = current.stage else {
+            return self.stays(current);
+        };
+        let chunk = u64::from(self.config.chunk);
+        if number != asked || !is_within_numbers(current.index, chunk, count) {
+            return self.stays(current);
+        }
+        let found = current.index * chunk + count;
+        self.answers(Answer::Length(found))
+    }
+
     fn takes_refused(&mut self, current: CurrentCall, number: u64, refusal: Refusal) -> Effects
         ensures { takes_refused (with_current self.old current) current current.stage number refusal ≡ does self.new result }
     {
@@ -348,7 +393,7 @@ impl Client {
                     self.stays(current)
                 }
             }
-            Stage::SentRead(_, asked) => {
+            Stage::SentRead(_, asked) | Stage::SentLen(_, asked) => {
                 if number == asked {
                     self.answers(Answer::Refused(Refusal::NoReplica))
                 } else {
@@ -425,7 +470,7 @@ impl Client {
     }
 }
 
-/// The refusal of a write or read whose attempt ended.
+/// The refusal of a write, a read or a length whose attempt ended.
 fn last_refusal(current: &CurrentCall) -> Refusal
     ensures { result ≡ last_refusal current.now }
 {
@@ -445,6 +490,16 @@ fn told_at(location: &Location, server: ServerId) -> ToldChunk
         handle: location.handle,
         round: location.round,
         server,
+    }
+}
+
+/// Whether a number holds the end of so many bytes in the chunk at an index.
+fn is_within_numbers(index: u64, chunk: u64, count: u64) -> bool
+    ensures { result ≡ nat_lt (index * chunk + count) number_limit }
+{
+    match index.checked_mul(chunk) {
+        Some(start) => start <= u64::MAX - count,
+        None => false,
     }
 }
 

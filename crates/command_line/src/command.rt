@@ -1,5 +1,11 @@
 //! The words of a command line.
 
+ghost use Rattle.std.specs.Prelude.{◌≡◌, IfOk, IfErr, is_ok, map, string_bytes, false};
+ghost use Rattle.clap.specs.Words.{app_of, shape_of, found_of, kind_of, rows_of, rule_of};
+ghost use Rattle.command_line.specs.Program.{names, option_named, option_names, program, setting_names, sim, with_options};
+ghost use Rattle.command_line.specs.Asking.{Answers, Becomes, all_numbered, config_of, is_numbered, narrow_for, number_for, options_of};
+ghost use Rattle.command_line.specs.declared.command.CommandFault.TheVariants.{Bad, NoMemory};
+
 use crate::options::{Options, narrowed};
 use clap::error::ErrorKind;
 use clap::{Arg, ArgAction, ArgMatches, Command};
@@ -28,6 +34,8 @@ pub enum CommandFault {
 }
 
 impl From<AllocError> for CommandFault {
+    ghost from_gives = { λ _ fault. fault ≡ NoMemory };
+
     fn from(_error: AllocError) -> CommandFault {
         CommandFault::NoMemory
     }
@@ -74,25 +82,47 @@ const OPTIONS: [(&str, &str); 16] = [
     ("journal", "Events of a running cell [default: 1048576]"),
 ];
 
-fn sim_command<'a>(alloc: Global) -> Result<Command<'a>, AllocError> {
-    let file = Arg::new(alloc, "FILE")
-        .help("The script, or - for standard input")
-        .required(true);
-    let mut command = Command::new(alloc, "sim")
-        .about("Runs a script on a simulated cell")
-        .arg(file)?;
-    for (name, help) in OPTIONS {
-        let option = Arg::new(alloc, name)
-            .long(name)
-            .value_name("N")
-            .help(help)
-            .action(ArgAction::Set);
-        command = command.arg(option)?;
+/// An option by a long name, which takes one number.
+fn option<'a>(alloc: Global, name: &'a str, help: &'a str) -> Arg<'a>
+    ensures rule { rule_of result ≡ option_named name.entry.now }
+    ensures local { result.global ≡ false }
+{
+    Arg::new(alloc, name)
+        .long(name)
+        .value_name("N")
+        .help(help)
+        .action(ArgAction::Set)
+}
+
+/// The command with an option for each of these, which are names and what the help says of them.
+fn with_options<'a>(
+    alloc: Global,
+    mut command: Command<'a>,
+    options: &[(&'a str, &'a str)],
+) -> Result<Command<'a>, AllocError>
+    ensures { IfOk result (λ r. app_of r ≡ with_options (app_of command.entry) (names options.now)) }
+{
+    for (name, help) in options {
+        command = command.arg(option(alloc, name, help))?;
     }
     Ok(command)
 }
 
-fn command<'a>(alloc: Global) -> Result<Command<'a>, AllocError> {
+fn sim_command<'a>(alloc: Global) -> Result<Command<'a>, AllocError>
+    ensures { IfOk result (λ command. shape_of command ≡ sim) }
+{
+    let file = Arg::new(alloc, "FILE")
+        .help("The script, or - for standard input")
+        .required(true);
+    let command = Command::new(alloc, "sim")
+        .about("Runs a script on a simulated cell")
+        .arg(file)?;
+    with_options(alloc, command, &OPTIONS)
+}
+
+fn command<'a>(alloc: Global) -> Result<Command<'a>, AllocError>
+    ensures { IfOk result (λ command. app_of command ≡ program) }
+{
     Command::new(alloc, "gfscell")
         .version("0.1.0")
         .about("A Google File System cell")
@@ -102,18 +132,30 @@ fn command<'a>(alloc: Global) -> Result<Command<'a>, AllocError> {
 }
 
 /// The value of an option, or `default` where it isn't given.
-fn value(matches: &ArgMatches<'_>, name: &str, default: u64) -> Result<u64, CommandFault> {
+fn value(matches: &ArgMatches<'_>, name: &str, default: u64) -> Result<u64, CommandFault>
+    ensures ok { IfOk result (λ n. n ≡ number_for (rows_of (found_of matches.now)) name.now default) }
+    ensures all { is_ok result ≡ is_numbered (rows_of (found_of matches.now)) name.now }
+    ensures err { IfErr result (λ fault. fault ≡ Bad) }
+{
     match matches.get_str(name) {
         None => Ok(default),
         Some(text) => number(text.as_bytes()).ok_or(CommandFault::Bad),
     }
 }
 
-fn narrow_value(matches: &ArgMatches<'_>, name: &str, default: u32) -> Result<u32, CommandFault> {
+fn narrow_value(matches: &ArgMatches<'_>, name: &str, default: u32) -> Result<u32, CommandFault>
+    ensures ok { IfOk result (λ n. n ≡ narrow_for (rows_of (found_of matches.now)) name.now default) }
+    ensures all { is_ok result ≡ is_numbered (rows_of (found_of matches.now)) name.now }
+    ensures err { IfErr result (λ fault. fault ≡ Bad) }
+{
     Ok(narrowed(value(matches, name, u64::from(default))?))
 }
 
-fn config(matches: &ArgMatches<'_>) -> Result<Config, CommandFault> {
+fn config(matches: &ArgMatches<'_>) -> Result<Config, CommandFault>
+    ensures ok { IfOk result (λ config. config ≡ config_of (rows_of (found_of matches.now))) }
+    ensures all { is_ok result ≡ all_numbered (rows_of (found_of matches.now)) setting_names }
+    ensures err { IfErr result (λ fault. fault ≡ Bad) }
+{
     let default = Config::default();
     let chunk = narrow_value(matches, "chunk", default.chunk)?;
     Ok(Config {
@@ -134,7 +176,11 @@ fn config(matches: &ArgMatches<'_>) -> Result<Config, CommandFault> {
     })
 }
 
-fn options(matches: &ArgMatches<'_>) -> Result<Options, CommandFault> {
+fn options(matches: &ArgMatches<'_>) -> Result<Options, CommandFault>
+    ensures ok { IfOk result (λ options. options ≡ options_of (rows_of (found_of matches.now))) }
+    ensures all { is_ok result ≡ all_numbered (rows_of (found_of matches.now)) option_names }
+    ensures err { IfErr result (λ fault. fault ≡ Bad) }
+{
     let default = Options::default();
     Ok(Options {
         servers: value(matches, "servers", default.servers)?,
@@ -144,7 +190,9 @@ fn options(matches: &ArgMatches<'_>) -> Result<Options, CommandFault> {
 }
 
 /// What a parse that found no matches comes to: a text to show, or a fault.
-fn shown<'a>(alloc: Global, error: &clap::Error) -> Result<Request<'a>, CommandFault> {
+fn shown<'a>(alloc: Global, error: &clap::Error) -> Result<Request<'a>, CommandFault>
+    ensures { Becomes (kind_of error.now) result }
+{
     match error.kind() {
         ErrorKind::DisplayHelp | ErrorKind::DisplayVersion => {
             Ok(Request::Show(format!(in alloc; "{error}")?))
@@ -154,8 +202,11 @@ fn shown<'a>(alloc: Global, error: &clap::Error) -> Result<Request<'a>, CommandF
     }
 }
 
-/// What the words of a command line ask for. The first word is the program's name.
-pub fn parse<'a>(alloc: Global, words: &'a [String]) -> Result<Request<'a>, CommandFault> {
+/// What the words of a command line ask for. The first word is the program's name. Only for want of memory the answer is
+/// another than that, and then it says so.
+pub fn parse<'a>(alloc: Global, words: &'a [String]) -> Result<Request<'a>, CommandFault>
+    ensures { Answers (map string_bytes words.entry.now) result }
+{
     let matches = match command(alloc)?.try_get_matches_from(words) {
         Ok(matches) => matches,
         Err(error) => return shown(alloc, &error),

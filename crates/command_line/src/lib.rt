@@ -1,4 +1,5 @@
-//! The command line of `gfscell`.
+//! The command line of `gfscell`. `specs/Program.antt` has the command as a value, and `specs/Asking.antt` what words ask for
+//! under it, which is what `command::parse` answers.
 #![tactic(auto)]
 
 pub mod command;

@@ -1,3 +1,7 @@
+ghost use Rattle.std.specs.Prelude.{◌≡◌, IfOk, OnOk, OnErr};
+ghost use Rattle.data_push.specs.Buffers.{with_data};
+ghost use Rattle.data_push.specs.NextHop.{next_hop_of};
+
 use crate::{Buffer, next_hop};
 use bytes::Bytes;
 use gfs_types::ids::{ClientId, DataId, ServerId};
@@ -18,6 +22,33 @@ fn data(text: &'static str) -> Bytes {
 
 fn is<A: Allocator + Clone>(buffer: &mut Buffer<A>, id: DataId, text: &'static str) -> bool {
     buffer.take(id).is_some_and(|b| b == data(text))
+}
+
+// The caller of CALLING.md.
+/// Keeps pushed data and names the server to pass them on to. Where memory is refused nothing is kept.
+fn receive(
+    buffer: &mut Buffer,
+    id: DataId,
+    bytes: Bytes,
+    rest: &[ServerId],
+    me: ServerId,
+) -> Result<Option<ServerId>, (DataId, Bytes)>
+    ensures kept { OnOk result (buffer.new ≡ with_data buffer.old id bytes) }
+    ensures hop { IfOk result (λ hop. hop ≡ next_hop_of rest.now me) }
+    ensures refused { OnErr result (buffer.new ≡ buffer.old) }
+{
+    buffer.put(id, bytes)?;
+    Ok(next_hop(rest, me))
+}
+
+#[test]
+fn received_data_are_kept_and_passed_on(rt: HostRuntime) -> Result<(), Fail> {
+    let mut buffer = Buffer::new(rt.alloc(), 2)?;
+    let rest = [ServerId(3), ServerId(2)];
+    let hop = receive(&mut buffer, id(1, 1), data("one"), &rest, ServerId(1));
+    assert!(rt; hop.is_ok_and(|hop| hop == Some(ServerId(2))));
+    assert!(rt; buffer.get(id(1, 1)).is_some_and(|b| *b == data("one")));
+    Ok(())
 }
 
 #[test]
@@ -70,17 +101,19 @@ fn first_refused<A: Allocator + Clone>(buffer: &mut Buffer<A>, count: u64) -> Op
     None
 }
 
-// A heap too small for the buffer, one too small for all its data, and one with room for all.
+// Heaps that grow by the least block, so that each allocation in turn is the first to be refused: the buffer's own, and those of eight data.
 #[test]
 fn refused_memory_leaves_what_was_there(rt: HostRuntime) -> Result<(), Fail> {
-    let (mut no_buffer, mut part, mut all) = (false, false, false);
-    for size in 1..40 {
-        let heap = LocalHeap::new(rt.alloc(), size * 64)?;
+    let (mut no_buffer, mut met) = (false, [false; 9]);
+    for size in 1..120 {
+        let heap = LocalHeap::new(rt.alloc(), size * 16)?;
         let Ok(mut buffer) = Buffer::new(&heap, 8) else {
+            assert_eq!(rt; heap.used(), 0);
             no_buffer = true;
             continue;
         };
         let refused = first_refused(&mut buffer, 8);
+        met[refused.map_or(8, |first| first.saturating_sub(1)).min(8) as usize] = true;
         for seq in 1..=8 {
             let kept = refused.is_none_or(|first| seq < first);
             assert!(rt;
@@ -88,13 +121,10 @@ fn refused_memory_leaves_what_was_there(rt: HostRuntime) -> Result<(), Fail> {
                 "heap {size}, data {seq}"
             );
         }
-        match refused {
-            Some(_) => part = true,
-            None => all = true,
-        }
         assert!(rt; buffer.put(id(2, 1), data("y")).is_ok() || refused == Some(1));
     }
-    assert!(rt; no_buffer && part && all, "{no_buffer}, {part}, {all}");
+    assert!(rt; no_buffer);
+    assert_eq!(rt; met, [true; 9]);
     Ok(())
 }
 

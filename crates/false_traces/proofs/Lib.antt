@@ -1,3 +1,6 @@
 mod Calm
+mod Changed
+mod Lacking
 mod Looks
+mod OneName
 mod Skipped

@@ -1,5 +1,5 @@
 -- What a read of a record's range is answered begins with what it saw of the record's chunk.
-use Rattle.std.proofs.Common.{◌≡◌, ℕ, suc, ◌+◌, ◌*◌, ◌/◌, ◌<◌, ◌≤◌, true, List, [], ◌∷◌, ◌++◌, Some, refl, sym, ◌∙◌, ap, subst, arith}
+use Rattle.std.proofs.Common.{◌≡◌, ℕ, ◌+◌, ◌*◌, ◌/◌, ◌<◌, ◌≤◌, List, [], ◌∷◌, ◌++◌, Some, sym, ◌∙◌, ap, subst, arith}
 use Rattle.std.specs.Prelude.{flat_map, filter_map}
 use Rattle.std.specs.List.{cons_option}
 use Rattle.std.proofs.lemmas.Bool.{true≢false}
@@ -13,9 +13,8 @@ use Rattle.relaxed_file.specs.Machine.{Machine, new_machine, Asked, OpenCall, No
 use Rattle.relaxed_file.specs.Reads.{offer_of, IsLook, MayLook, read_slice}
 use Rattle.relaxed_file.specs.Answers.{IsDone, ArePieces}
 use Rattle.relaxed_file.specs.Run.{Look, Visible, Allows, after, LeadsTo, IsReached, asked_now}
-use Rattle.relaxed_file.proofs.Tables.{from_some, contained}
+use Rattle.relaxed_file.proofs.Tables.{contained}
 use Rattle.relaxed_file.proofs.Reached.{leads_on, leads_by}
-use Rattle.relaxed_file.proofs.Known.{Known}
 use Rattle.relaxed_file.proofs.Grows.{grows_to, known_when_reached, known_at_first}
 use Rattle.relaxed_file.proofs.CallSteps.{IsPieceOf, by_look, by_none}
 use Rattle.relaxed_file.proofs.Moments.{leads}

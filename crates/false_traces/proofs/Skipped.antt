@@ -1,5 +1,5 @@
 -- A record that one client found at a round is in each later look of another client that names that round or a later one.
-use Rattle.std.proofs.Common.{◌≡◌, ℕ, ◌+◌, ◌<◌, ◌≤◌, min, ◌-◌, false, List, [], ◌∷◌, ◌++◌, length, Option, Some, refl, sym, ◌∙◌, ap, subst, arith}
+use Rattle.std.proofs.Common.{◌≡◌, ℕ, ◌+◌, ◌<◌, ◌≤◌, min, ◌-◌, List, [], ◌∷◌, length, Option, Some, refl, sym, ◌∙◌, ap, subst, arith}
 use Rattle.std.specs.Prelude.{Contains, slice_get}
 use Rattle.std.proofs.lemmas.Option.{slice_get_within, get_or_from_slice_get}
 use Rattle.gfs_types.specs.declared.call.Call.TheVariants as call
@@ -8,14 +8,13 @@ use Rattle.gfs_types.specs.declared.ids.Fd.{Fd}
 use Rattle.gfs_types.specs.declared.config.Config.{Config}
 use Rattle.gfs_types.specs.Mutations.{end_of}
 use Rattle.gfs_types.specs.Image.{image_length, image_slice}
-use Rattle.gfs_types.specs.Paths.{Path}
 use Rattle.relaxed_file.specs.Names.{Node, File, node_at}
 use Rattle.relaxed_file.specs.Order.{Entry, mutations_of}
 use Rattle.relaxed_file.specs.Parts.{part_start, part_length}
 use Rattle.relaxed_file.specs.Machine.{Machine, new_machine, Asked, chunk_at, chunk_count, chunk_size}
 use Rattle.relaxed_file.specs.Reads.{read_slice}
 use Rattle.relaxed_file.specs.Answers.{IsDone}
-use Rattle.relaxed_file.specs.Run.{Return, Visible, Called, Answered, Allows, after, LeadsTo, IsReached, IsRun, asked_now}
+use Rattle.relaxed_file.specs.Run.{Return, Visible, Called, Answered, Allows, after, LeadsTo, IsReached}
 use Rattle.relaxed_file.specs.RunLaws.{IsOwnSuccess}
 use Rattle.relaxed_file.proofs.Tables.{from_some}
 use Rattle.relaxed_file.proofs.Reached.{leads_on, leads_by}
@@ -24,7 +23,7 @@ use Rattle.relaxed_file.proofs.Grows.{grows_to, known_when_reached, known_at_fir
 use Rattle.relaxed_file.proofs.Successes.{AnsweredAppend, answered, settled_entries_stay, found_at}
 use Rattle.relaxed_file.proofs.OwnReads.{own_rounds_are_named}
 use Rattle.relaxed_file.proofs.FilesApart.{reads_skip_nothing}
-use Rattle.relaxed_file.proofs.Moments.{Shows, leads, Split, split_shows, waits_as_seen}
+use Rattle.relaxed_file.proofs.Moments.{leads, Split, split_shows, waits_as_seen}
 use Rattle.relaxed_file.proofs.InCall.{Exchange, exchange, answered_way, answers_now}
 use Rattle.relaxed_file.proofs.NotRuns.{shows_run}
 use Rattle.relaxed_file.proofs.StaleReads.{reaches_end, length_from, part_bytes_there, empty_front}
@@ -42,7 +41,7 @@ contains_at : (order : List Entry) (k : ℕ) (e : Entry) → slice_get order k �
 contains_at order k e is = (k, slice_get_within order k e is, get_or_from_slice_get order k e e is)
 
 -- one descriptor stands for one file, also later
-keeps_file : (m n : Machine) (client file g : ℕ) (fd : Fd) → Known m → LeadsTo m n → (m.clients client).descriptors fd.0 ≡ Some file → fd.0 ≤ (m.clients client).fd_count
+pub keeps_file : (m n : Machine) (client file g : ℕ) (fd : Fd) → Known m → LeadsTo m n → (m.clients client).descriptors fd.0 ≡ Some file → fd.0 ≤ (m.clients client).fd_count
     → (n.clients client).descriptors fd.0 ≡ Some g → g ≡ file
 keeps_file m n client file g fd known way first counted now =
     from_some (sym (((grows_to m n way known).clients client).descriptors fd.0 g counted now) ∙ first)

@@ -2,9 +2,17 @@
 //! on its states.
 #![tactic(auto)]
 
-ghost use Rattle.false_traces.specs.FalseTraces.{NoSkippedRecord};
+ghost use Rattle.false_traces.specs.FalseTraces.{NoByteOfAnotherFile, NoSkippedRecord, NoWriteIntoSnapshot, NoWriteThroughSnapshot};
 
 /// No read leaves out a record that another client found in a round up to the one that the read names.
 pub fn no_skipped_record()
     ensures { NoSkippedRecord }
+{}
+
+/// No file shows what was written to another one alone. So a write to a snapshot changes no byte of the file that it was taken
+/// of, nor the other way round.
+pub fn files_stay_apart()
+    ensures files { NoByteOfAnotherFile }
+    ensures copy { NoWriteThroughSnapshot }
+    ensures source { NoWriteIntoSnapshot }
 {}

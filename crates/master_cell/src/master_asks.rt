@@ -8,7 +8,7 @@ ghost use Rattle.gfs_types.specs.declared.ids.Node.TheVariants as node_kind;
 ghost use Rattle.cell_protocol.specs.Sending.{message};
 ghost use Rattle.cell_protocol.specs.Doing.{does};
 ghost use Rattle.cell_protocol.specs.Master.{is_master_within_limits, has_lease, master_says, new_row};
-ghost use Rattle.cell_protocol.specs.MasterAsks.{takes_ask, asks_of, looks_at, mutates_at, create_message, location_of, holders_of, group_of, tells_to_wait, tells_location};
+ghost use Rattle.cell_protocol.specs.MasterAsks.{takes_ask, asks_of, looks_at, mutates_at, adds_chunk, create_message, location_of, holders_of, group_of, tells_to_wait, tells_location};
 
 use crate::master::{Master, from_master, only_member};
 use cell_protocol::effects::Effects;
@@ -46,7 +46,12 @@ impl<A: Allocator + Clone> Master<A> {
                 self.looks_at(client, number, index, handle)
             }
             Wanted::Write(index) => self.asks_to_write(client, number, file, index),
-            Wanted::Append(_) | Wanted::Last => Ok(Effects::none(self.alloc)),
+            Wanted::Last => {
+                let index = (handles.len() as u64).saturating_sub(1);
+                let handle = handle_at(handles, index);
+                self.looks_at(client, number, index, handle)
+            }
+            Wanted::Append(after) => self.asks_to_append(client, number, file, after),
         }
     }
 
@@ -148,10 +153,48 @@ impl<A: Allocator + Clone> Master<A> {
             let handle = handle_at(handles, index);
             return self.mutates_at(client, number, index, handle);
         }
+        let handles = handles.copy(self.alloc)?;
+        self.adds_chunk(client, number, file, handles)
+    }
+
+    /// An append is to the last chunk, where it isn't before the index that was asked for, or else to the next one.
+    fn asks_to_append(
+        &mut self,
+        client: Node,
+        number: u64,
+        file: FileId,
+        after: u64,
+    ) -> Result<Effects, NoMemory>
+        requires { IsTrue (is_master_within_limits self.old) }
+        ensures { IfOk result (λ e. asks_of self.old (record { client = client; number = number }) file.0 (wanted.Append after) (map.get self.old.files file.0) ≡ does self.new e) }
+    {
+        let Some(handles) = self.files.get(file.0) else {
+            return self.refuses_ask(client, number, Refusal::Collected);
+        };
+        let count = handles.len() as u64;
+        if count <= after {
+            let handles = handles.copy(self.alloc)?;
+            return self.adds_chunk(client, number, file, handles);
+        }
+        let last = count - 1;
+        let handle = handle_at(handles, last);
+        self.mutates_at(client, number, last, handle)
+    }
+
+    /// The file with these handles gets one more chunk.
+    fn adds_chunk(
+        &mut self,
+        client: Node,
+        number: u64,
+        file: FileId,
+        mut handles: HandleList,
+    ) -> Result<Effects, NoMemory>
+        requires { IsTrue (is_master_within_limits self.old) }
+        ensures { IfOk result (λ e. adds_chunk self.old (record { client = client; number = number }) file.0 handles ≡ does self.new e) }
+    {
         let effects = self.orders_create(client, number)?;
-        let mut grown = handles.copy(self.alloc)?;
-        grown.push(self.next_handle)?;
-        self.files.insert(file.0, grown)?;
+        handles.push(self.next_handle)?;
+        self.files.insert(file.0, handles)?;
         self.chunks.insert(self.next_handle, new_row())?;
         self.next_handle += 1;
         self.order_count += 1;

@@ -3,7 +3,7 @@
 
 pub mod child;
 pub mod copy;
-mod parts;
+pub mod parts;
 #[cfg(test)]
 mod tests;
 pub mod trie;

@@ -6,8 +6,8 @@ ghost use Rattle.std.specs.Str.{bytes_eq};
 ghost use Rattle.path_trie.specs.Below.{rest_below};
 ghost use Rattle.gfs_types.specs.Paths.{root, parent, last_part, front_below, is_below, is_at_or_below, is_child};
 
-// What stands after a path's last slash.
-pub(crate) fn last_part(path: &str) -> &str
+/// What stands after a path's last slash.
+pub fn last_part(path: &str) -> &str
     ensures { result.now ≡ last_part path.now }
 {
     match path.rsplit_once('/') {
@@ -16,8 +16,8 @@ pub(crate) fn last_part(path: &str) -> &str
     }
 }
 
-// The directory right above a path.
-fn parent(path: &str) -> &str
+/// The directory right above a path.
+pub fn parent(path: &str) -> &str
     ensures { result.now ≡ parent path.now }
 {
     match path.rsplit_once('/') {
@@ -36,28 +36,29 @@ fn begins_below(directory: &[u8], path: &[u8]) -> bool
     path.starts_with(directory) && path[directory.len()..].starts_with(b"/")
 }
 
-// Whether a path lies below a directory, at any depth.
-pub(crate) fn is_below(directory: &str, path: &str) -> bool
+/// Whether a path lies below a directory, at any depth.
+pub fn is_below(directory: &str, path: &str) -> bool
     ensures { result ≡ is_below directory.now path.now }
 {
     begins_below(directory.as_bytes(), path.as_bytes()) && path != directory
 }
 
-pub(crate) fn is_at_or_below(top: &str, path: &str) -> bool
+/// Whether a path is this one or lies below it.
+pub fn is_at_or_below(top: &str, path: &str) -> bool
     ensures { result ≡ is_at_or_below top.now path.now }
 {
     path == top || is_below(top, path)
 }
 
-// Whether a path lies right below a directory.
-pub(crate) fn is_child(directory: &str, path: &str) -> bool
+/// Whether a path lies right below a directory.
+pub fn is_child(directory: &str, path: &str) -> bool
     ensures { result ≡ is_child directory.now path.now }
 {
     is_below(directory, path) && parent(path) == directory
 }
 
-// What a path has behind a name that it lies at or below, or None where it doesn't.
-pub(crate) fn rest_below<'a>(top: &str, path: &'a str) -> Option<&'a str>
+/// What a path has behind a name that it lies at or below, or None where it doesn't.
+pub fn rest_below<'a>(top: &str, path: &'a str) -> Option<&'a str>
     ensures { MatchOption result (is_at_or_below top.now path.now ≡ false) (λ rest. (is_at_or_below top.now path.now ≡ true) × (rest.now ≡ rest_below top.now path.now)) }
 {
     if !is_at_or_below(top, path) {

@@ -1,9 +1,14 @@
-//! Tests: what no contract says, and each call once.
+//! Tests: what no contract says, each call once, and refused memory.
+
+ghost use Rattle.std.specs.Prelude.{◌≡◌, ◌↔◌, None, IsSome, IsErrOf, OnOk, OnErr};
+ghost use Rattle.std.specs.FinMap as map;
+ghost use Rattle.gfs_types.specs.declared.refusal.Refusal.TheVariants.{Exists};
 
 use crate::copy::TryCopy;
 use crate::trie::Trie;
 use gfs_types::no_memory::NoMemory;
 use gfs_types::path::Path;
+use gfs_types::refusal::Refusal;
 use linked_list_allocator::LocalHeap;
 use std::alloc::{Allocator, Global};
 use std::collections::BTreeMap;
@@ -12,6 +17,26 @@ use std::test::Fail;
 impl TryCopy for u64 {
     fn try_copy(&self) -> Result<u64, NoMemory> {
         Ok(*self)
+    }
+}
+
+// The caller of CALLING.md.
+/// Makes an entry for a new file, unless something stands at its path.
+fn create<A: Allocator + Clone>(
+    names: &mut Trie<u64, A>,
+    path: &Path,
+    file: u64,
+) -> Result<(), Refusal>
+    ensures made { OnOk result (names.new ≡ map.insert names.old path.now file) }
+    ensures exists { IsErrOf result Exists ↔ IsSome (map.get names.old path.now) }
+    ensures refused { OnErr result (names.new ≡ names.old) }
+{
+    if names.get(path).is_some() {
+        return Err(Refusal::Exists);
+    }
+    match names.insert(path, file) {
+        Ok(()) => Ok(()),
+        Err(_) => Err(Refusal::NoMemory),
     }
 }
 
@@ -85,10 +110,13 @@ fn each_call(rt: HostRuntime) -> Result<(), Fail> {
         *value = 50;
     }
     assert_eq!(rt; at(alloc, &trie, "/d-e")?, Some(50));
+    assert_eq!(rt; create(&mut trie, &file, 51), Err(Refusal::Exists));
     assert_eq!(rt; trie.remove(&file), Some(50));
     assert_eq!(rt; trie.remove(&file), None);
     assert!(rt; !trie.has_at_or_below(&file));
     assert_eq!(rt; trie.len(), 7);
+    assert_eq!(rt; create(&mut trie, &file, 51), Ok(()));
+    assert_eq!(rt; at(alloc, &trie, "/d-e")?, Some(51));
     let children = trie.children(alloc, &directory)?;
     let values: Vec<u64> = children.iter().map(|child| *child.value()).collect(alloc)?;
     assert_eq!(rt; values.as_slice(), [4, 2].as_slice());
@@ -154,35 +182,120 @@ fn like_a_map_of_ten_thousand(rt: HostRuntime) -> Result<(), Fail> {
     Ok(())
 }
 
+const NAMES: [&str; 8] = ["/", "/d", "/d/a", "/d/b", "/d/c", "/d/d", "/d/e", "/d/f"];
+
+const COPIES: [&str; 7] = ["/e", "/e/a", "/e/b", "/e/c", "/e/d", "/e/e", "/e/f"];
+
+// Puts the names in turn, and gives how many were put before one was refused.
+fn names_put<A: Allocator + Clone>(alloc: Global, trie: &mut Trie<u64, A>) -> Result<usize, Fail> {
+    let mut count = 0;
+    for text in NAMES {
+        if !put(alloc, trie, text, 7)? {
+            return Ok(count);
+        }
+        count = count.saturating_add(1).min(NAMES.len());
+    }
+    Ok(count)
+}
+
+// How many of these names stand in the map.
+fn names_there<A: Allocator + Clone>(
+    alloc: Global,
+    trie: &Trie<u64, A>,
+    names: &[&str],
+) -> Result<usize, Fail> {
+    let mut count = 0usize;
+    for text in names {
+        if at(alloc, trie, text)? == Some(7) {
+            count = count.saturating_add(1);
+        }
+    }
+    Ok(count)
+}
+
+fn copied<V: TryCopy + Drop, A: Allocator + Clone>(
+    alloc: Global,
+    trie: &mut Trie<V, A>,
+) -> Result<bool, Fail> {
+    let from = Path::parse("/d", alloc)?;
+    let to = Path::parse("/e", alloc)?;
+    if trie.has_at_or_below(&to) {
+        return Err(Fail::new("something stands there"));
+    }
+    Ok(trie.copy_below(&from, &to).is_ok())
+}
+
+// Heaps that grow by the least block, so that each allocation in turn is the first to be refused: those of eight names, and those of a copy of seven.
 #[test]
-fn a_full_heap_leaves_the_map(rt: HostRuntime) -> Result<(), Fail> {
+fn refused_memory_leaves_the_map(rt: HostRuntime) -> Result<(), Fail> {
     let alloc = rt.alloc();
-    for size in [64, 256, 1_024, 4_096] {
-        let heap = LocalHeap::new(alloc, size)?;
+    let (mut met, mut refused_copies, mut copies) = ([false; 9], 0u64, 0u64);
+    for size in 1..200 {
+        let heap = LocalHeap::new(alloc, size * 16)?;
         let mut trie = Trie::new(&heap)?;
-        for i in 0..200u64 {
-            let text = format!(in alloc; "/f{i}")?;
-            let before = trie.len();
-            let added = put(alloc, &mut trie, text.as_str(), i)?;
-            assert_eq!(rt; at(alloc, &trie, text.as_str())?.is_some(), added);
-            assert_eq!(rt; trie.len() > before, added);
+        let count = names_put(alloc, &mut trie)?;
+        met[count.min(8)] = true;
+        assert_eq!(rt; trie.len(), count, "heap {size}");
+        assert_eq!(rt; names_there(alloc, &trie, &NAMES)?, count, "heap {size}");
+        if count < 8 {
+            continue;
         }
-        let done = trie.len();
-        assert!(rt; done < 200);
-        let from = Path::parse("/f0", alloc)?;
-        let to = Path::parse("/g", alloc)?;
-        if trie.has_at_or_below(&to) {
-            return Err(Fail::new("something stands there"));
+        let used = heap.used();
+        let is_copied = copied(alloc, &mut trie)?;
+        let (more, len) = if is_copied { (7, 15) } else { (0, 8) };
+        assert_eq!(rt; trie.len(), len, "heap {size}");
+        assert_eq!(rt; names_there(alloc, &trie, &NAMES)?, 8, "heap {size}");
+        assert_eq!(rt; names_there(alloc, &trie, &COPIES)?, more, "heap {size}");
+        if is_copied {
+            copies = copies.saturating_add(1);
+        } else {
+            refused_copies = refused_copies.saturating_add(1);
+            assert_eq!(rt; heap.used(), used, "heap {size}");
         }
-        let copied = trie.copy_below(&from, &to).is_ok();
-        assert_eq!(rt; trie.has_at_or_below(&to), copied && done > 0);
-        for i in 0..200u64 {
-            let text = format!(in alloc; "/f{i}")?;
-            let path = Path::parse(text.as_str(), alloc)?;
-            trie.remove(&path);
+    }
+    assert_eq!(rt; met, [true; 9]);
+    assert!(rt;
+        copies > 0 && refused_copies > 7,
+        "{copies}, {refused_copies}"
+    );
+    Ok(())
+}
+
+// A value that can or can't be copied.
+#[derive(Clone, Copy)]
+struct Item {
+    number: u64,
+    is_refused: bool,
+}
+
+impl TryCopy for Item {
+    fn try_copy(&self) -> Result<Item, NoMemory> {
+        if self.is_refused {
+            return Err(NoMemory);
         }
-        let again = put(alloc, &mut trie, "/a", 1)?;
-        assert_eq!(rt; again, done > 0);
+        Ok(*self)
+    }
+}
+
+#[test]
+fn a_value_that_is_not_copied_leaves_the_map(rt: HostRuntime) -> Result<(), Fail> {
+    let alloc = rt.alloc();
+    for refused in 0..9 {
+        let mut trie = Trie::new(alloc)?;
+        for (number, text) in NAMES.iter().enumerate() {
+            let value = Item {
+                number: number as u64,
+                is_refused: number == refused,
+            };
+            let path = Path::parse(text, alloc)?;
+            assert!(rt; trie.insert(&path, value).is_ok());
+        }
+        // the first name lies outside of the copy, and the ninth isn't there
+        let is_copied = copied(alloc, &mut trie)?;
+        assert_eq!(rt; is_copied, refused == 0 || refused == 8);
+        assert_eq!(rt; trie.len(), if is_copied { 15 } else { 8 });
+        let path = Path::parse("/d/f", alloc)?;
+        assert!(rt; trie.get(&path).is_some_and(|value| value.number == 7));
     }
     Ok(())
 }

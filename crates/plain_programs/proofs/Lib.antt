@@ -1,2 +1,4 @@
 mod Images
+mod NameSteps
 mod Selections
+mod Sorted

@@ -1,0 +1,2 @@
+pub mod NameKinds
+pub mod NameTables

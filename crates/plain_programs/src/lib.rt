@@ -2,7 +2,19 @@
 //! Tests of the cell compare its answers with these.
 #![tactic(auto)]
 
+mod copies;
 pub mod entry;
 pub mod image;
+mod listing;
+pub mod name;
+pub mod name_kind;
+pub mod name_list;
+mod name_refusals;
+pub mod name_table;
+#[cfg(test)]
+mod name_tests;
+pub mod outcome;
 pub mod regions;
 pub mod selection;
+#[cfg(test)]
+mod tests;

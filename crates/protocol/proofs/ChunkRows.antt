@@ -1,13 +1,10 @@
 -- Rows of the table of chunks after each record: their granted and issued versions.
 use Rattle.std.proofs.Common.{◌≡◌, ℕ, suc, ◌-◌, ◌≤◌, Bool, true, false, cond, List, [], ◌∷◌, ◌++◌, map, Option, Some, None, refl, sym, ap, subst, ◌∙◌, inl, inr, arith}
-use Rattle.std.specs.Prelude.{nat_lt, nat_le, ◌==◌, ◌&&◌, filter, T}
-use Rattle.std.specs.Ordering.{nat_cmp, eq_by_cmp, is_lt, is_eq}
-use Rattle.std.specs.Cmp.{nat_cmp_total, eq_by_cmp_equiv, unsigned_tied}
-use Rattle.std.proofs.lemmas.Bool.{eqb-false}
+use Rattle.std.specs.Prelude.{nat_lt, nat_le, filter}
+use Rattle.std.specs.Ordering.{nat_cmp, eq_by_cmp}
+use Rattle.std.specs.Cmp.{nat_cmp_total}
 use Rattle.std.specs.FinMap as table
-use Rattle.std.specs.FinMap.Entries.{find, is_sorted, below_all}
-use Rattle.std.specs.declared.cmp.Ordering.{Ordering}
-use Rattle.std.specs.declared.cmp.Ordering.TheVariants.{Less, Equal, Greater}
+use Rattle.std.specs.FinMap.Entries.{find}
 use Rattle.std.proofs.Math.Nat.{le-max_right}
 use Rattle.gfs_types.specs.declared.record.Record.{Record}
 use Rattle.gfs_types.specs.declared.record.Record.TheVariants as log
@@ -18,6 +15,7 @@ use Rattle.protocol.specs.Sending.{file_id, handle_of}
 use Rattle.protocol.specs.ChunkTable.{ChunkRow, ChunkTable, new_row, with_owner, changed_row, granted_row, shared, all_shared, left_by, left, all_left, handles_of}
 use Rattle.protocol.specs.Logged.{Logged, KeptCall, Copy, first_logged, after_record, after_records, copies_for_file, swapped_in, owned_row, with_owned, with_copied_node, with_copied_nodes, checkpoint_of, name_item, node_item, chunk_item, client_item}
 use Rattle.protocol.proofs.Steps.{on_cond, none_some, same_some, put_cases, put_split, kept_cases, removed_cases}
+use Rattle.protocol.proofs.Entries.{AllOf, all_filtered, all_found, IsFound}
 use Rattle.protocol.proofs.MasterMoves.{IsDue}
 use Rattle.protocol.proofs.OrderNumbers.{after-append}
 
@@ -252,11 +250,6 @@ owned_right l k (x ∷ xs) h = owned_right l (table.insert k x (owned_row (table
     one None is = put_right l k x (record new_row { references = 1 }) (omega arith) (λ r at. omega arith) h
     one (Some row) is = both_from l k l (table.insert k x (with_owner row)) (same_from l) (put_from k x row (with_owner row) is refl refl) h
 
--- each entry passes
-abbrev AllOf : (ℕ × ChunkRow → Type 0) → List (ℕ × ChunkRow) → Type 0
-AllOf P [] = Unit {0}
-AllOf P (e ∷ es) = P e × AllOf P es
-
 abbrev IsIn : Rows → ℕ × ChunkRow → Type 0
 IsIn l e = table.get l e.0 ≡ Some e.1
 
@@ -285,45 +278,6 @@ clients_right : (l : Rows) (es : List (ℕ × KeptCall)) (k : Logged) → Both l
 clients_right l [] k h = h
 clients_right l (e ∷ es) k h = clients_right l es (after_record k (client_item e)) h
 
-filtered : (P : ℕ × ChunkRow → Type 0) (test : ℕ × ChunkRow → Bool) (es : List (ℕ × ChunkRow)) → AllOf P es → AllOf P (filter test es)
-filtered P test [] all = tt
-filtered P test (e ∷ es) all = on_cond (AllOf P) (test e) (e ∷ filter test es) (filter test es) (λ _. (all.0, filtered P test es all.1)) (λ _. filtered P test es all.1)
-
--- a smaller key is no key of these
-later_key : (x k : ℕ) → T (is_lt (nat_cmp x k)) → eq_by_cmp nat_cmp k x ≡ false
-later_key x k h = (eq_by_cmp_equiv nat_cmp_total).symm k x ∙ by_order (nat_cmp x k) refl h
-  where
-    by_order : (o : Ordering) → nat_cmp x k ≡ o → T (is_lt o) → is_eq o ≡ false
-    by_order Less e g = refl
-    by_order Equal e g = absurd g
-    by_order Greater e g = absurd g
-
-both_parts : (a b : Bool) → T (a && b) → T a × T b
-both_parts true b h = (tt, h)
-both_parts false b h = absurd h
-
-same_key : (n : ℕ) → eq_by_cmp nat_cmp n n ≡ true
-same_key n = unsigned_tied n n ∙ split (n == n) refl
-  where
-    split : (b : Bool) → (n == n) ≡ b → (n == n) ≡ true
-    split true e = e
-    split false e = absurd (eqb-false n n e refl)
-
-abbrev IsFound : List (ℕ × ChunkRow) → ℕ × ChunkRow → Type 0
-IsFound es e = find nat_cmp e.0 es ≡ Some e.1
-
-found_behind : (x : ℕ × ChunkRow) (es some : List (ℕ × ChunkRow)) → T (below_all nat_cmp x.0 some) → AllOf (IsFound es) some → AllOf (IsFound (x ∷ es)) some
-found_behind x es [] h all = tt
-found_behind x es (e ∷ rest) h all =
-    let parts = both_parts (is_lt (nat_cmp x.0 e.0)) (below_all nat_cmp x.0 rest) h in
-    (ap (λ (b : Bool). cond b (Some x.1) (find nat_cmp e.0 es)) (later_key x.0 e.0 parts.0) ∙ all.0, found_behind x es rest parts.1 all.1)
-
-all_found : (es : List (ℕ × ChunkRow)) → T (is_sorted nat_cmp es) → AllOf (IsFound es) es
-all_found [] h = tt
-all_found (x ∷ es) h =
-    let parts = both_parts (below_all nat_cmp x.0 es) (is_sorted nat_cmp es) h in
-    (ap (λ (b : Bool). cond b (Some x.1) (find nat_cmp x.0 es)) (same_key x.0), found_behind x es es parts.0 (all_found es parts.1))
-
 in_table : (l : Rows) (es : List (ℕ × ChunkRow)) → AllOf (IsFound (table.entries l)) es → AllOf (IsIn l) es
 in_table l [] all = tt
 in_table l (e ∷ es) all = (table.get-entries l e.0 ∙ all.0, in_table l es all.1)
@@ -340,7 +294,7 @@ checkpoint_both l h =
     let one : Logged = after_records first names in
     let two : Logged = after_records one (map chunk_item rows) in
     let there : AllOf (IsIn (rows_of l)) rows =
-    in_table (rows_of l) rows (filtered (IsFound (table.entries (rows_of l))) (λ e. nat_lt 0 e.1.references) (table.entries (rows_of l)) (all_found (table.entries (rows_of l)) (table.entries_sorted (rows_of l)))) in
+    in_table (rows_of l) rows (all_filtered (IsFound (table.entries (rows_of l))) (λ e. nat_lt 0 e.1.references) (table.entries (rows_of l)) (all_found (table.entries (rows_of l)) (table.entries_sorted (rows_of l)))) in
     let read : Both (rows_of l) (rows_of (after_records two (map client_item clients))) =
     clients_right (rows_of l) clients two (chunks_right (rows_of l) rows one there (names_right (rows_of l) l.table (table.entries l.names) first (no_row (rows_of l) h))) in
     subst (λ (k : Logged). Both (rows_of l) (rows_of k)) (sym (after-append first (names ++ map chunk_item rows) (map client_item clients) ∙ ap (λ (k : Logged). after_records k (map client_item clients)) (after-append first names (map chunk_item rows)))) read

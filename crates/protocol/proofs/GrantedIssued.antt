@@ -16,7 +16,7 @@ use Rattle.protocol.specs.Master.{MasterState, MasterDoing, stopped_master, mast
 use Rattle.protocol.specs.MasterStep.{master_goes, master_ends, master_bounded, master_step, is_within_limits, found_log, lease_after_restart, started_master, opening, has_opened, opens_as, new_master, first_log}
 use Rattle.protocol.specs.Laws.{GrantedIsAtMostIssued}
 use Rattle.protocol.proofs.Steps.{on_cond, none_some}
-use Rattle.protocol.proofs.MasterMoves.{Core, core_of, Keeps, core_changed}
+use Rattle.protocol.proofs.MasterMoves.{Core, core_of, Nothing, Keeps, core_changed}
 use Rattle.protocol.proofs.MasterSteps.{goes_keeps}
 use Rattle.protocol.proofs.OrderNumbers.{state_of, state-appended, AllStops, stops_push, changed-push, AllFound, found_same, found_stopped}
 use Rattle.protocol.proofs.ChunkRows.{Rows, rows_of, AreIssued, From, same_from, then_from, Both, both_from, both_record, removed_from, changed_from, checkpoint_both, mapped_from}
@@ -61,13 +61,14 @@ quieter : (start : LogDisk) (c : Core) (l : Logged) → From (rows_of c.logged) 
 quieter start c l f h =
     record { none = h.none; disk = h.disk; stops = h.stops; rows = both_from (rows_of c.logged) (rows_of (state_of c.disk)) (rows_of l) (rows_of (state_of c.disk)) f (same_from (rows_of (state_of c.disk))) h.rows }
 
-issuing_keeps : (start : LogDisk) → Keeps (IsIssuing start)
+issuing_keeps : (start : LogDisk) → Keeps ⊥ Nothing (IsIssuing start)
 issuing_keeps start =
     record {
       tells = λ c receiver b none h. record { none = h.none; disk = h.disk; rows = h.rows; stops = h.stops };
-      orders = λ c server b is h. record { none = h.none; disk = h.disk; rows = h.rows; stops = h.stops };
-      appends = λ c r due h. changed start c (AppendRecord r) (after_record c.logged r) (both_appended c.logged c.disk r (both_record c.logged (state_of c.disk) r due h.rows)) h;
-      checkpoint = λ c h. checkpointed start c h;
+      grants = λ c primary handle version until members told h. record { none = h.none; disk = h.disk; rows = h.rows; stops = h.stops };
+      orders = λ c server b is plain h. record { none = h.none; disk = h.disk; rows = h.rows; stops = h.stops };
+      appends = λ c r due names h. changed start c (AppendRecord r) (after_record c.logged r) (both_appended c.logged c.disk r (both_record c.logged (state_of c.disk) r due h.rows)) h;
+      checkpoint = λ c tree h. checkpointed start c h;
       less = λ c handles h. quieter start c (record c.logged { copies = _; table = _ }) (removed_from (rows_of c.logged) handles) h;
       ends = λ c handle moment h.
           quieter start c (record c.logged { table = record c.logged.table { chunks = changed_row (rows_of c.logged) handle (λ row. record row { lease_end = moment }) (table.get (rows_of c.logged) handle) } })

@@ -1,4 +1,9 @@
 pub mod Steps
+pub mod Entries
+pub mod VersionAttempts
+pub mod Namespace
+pub mod HiddenNames
+pub mod FilesNamed
 pub mod MasterMoves
 pub mod MasterNamesMoves
 pub mod MasterChunksMoves
@@ -6,8 +11,14 @@ pub mod MasterSteps
 pub mod ServerMoves
 pub mod RisingOrders
 pub mod ClientMoves
+pub mod SentReached
 pub mod OrderNumbers
 pub mod OrdersOnce
+pub mod MembersRecorded
 pub mod MasterReached
 pub mod ChunkRows
+pub mod LoggedParts
 pub mod GrantedIssued
+pub mod NamesReached
+pub mod OneName
+pub mod NamesLogged

@@ -1,6 +1,8 @@
 -- What an ask of a client and a word of a server lead to at the master.
-use Rattle.std.proofs.Common.{◌≡◌, ℕ, zero, suc, ◌+◌, Bool, true, false, cond, List, [], ◌∷◌, ◌++◌, length, map, Option, Some, None, refl}
+use Rattle.std.proofs.Common.{◌≡◌, ℕ, zero, suc, ◌+◌, Bool, true, false, cond, List, [], ◌∷◌, ◌++◌, length, map, Option, Some, None, refl, sym, subst, inl, inr, ap, is_some, ◌∙◌}
 use Rattle.std.specs.Prelude.{nat_le, nat_lt, ◌==◌, ◌&&◌}
+use Rattle.std.proofs.lemmas.Bool.{eqb-true}
+use Rattle.std.specs.Cmp.{nat_cmp_total}
 use Rattle.std.specs.FinMap as table
 use Rattle.gfs_types.specs.declared.ids.Node.{Node}
 use Rattle.gfs_types.specs.declared.ids.OrderNo.{OrderNo}
@@ -12,18 +14,20 @@ use Rattle.gfs_types.specs.declared.message.Wanted.TheVariants as wanted
 use Rattle.gfs_types.specs.declared.message.ReplicaLine.{ReplicaLine}
 use Rattle.gfs_types.specs.declared.message.LeaseLine.{LeaseLine}
 use Rattle.gfs_types.specs.declared.record.Record.TheVariants as log
-use Rattle.protocol.specs.Tables.{element_at, rising, has_number, with_number}
+use Rattle.protocol.specs.Tables.{Table, element_at, rising, has_number, with_number, same_numbers}
 use Rattle.protocol.specs.Sending.{the_server, server_id, file_id, handle_of, version_of, moment_of}
 use Rattle.protocol.specs.ChunkTable.{ChunkRow, chunk_of, file_of, has_ended}
 use Rattle.protocol.specs.Master.{MasterDoing, VersionAttempt, HeldAt, tells, orders, ends_at, with_attempt, without_attempt, gives_up_copy, holders_where, current_holders}
 use Rattle.protocol.specs.MasterSnapshots.{revokes, waits_for}
-use Rattle.protocol.specs.MasterVersions.{Asker, VersionTarget, holder_line, group_of, tells_location, tells_holders, tells_none, tells_to_wait, version_order, sends_versions, new_attempt, sends_issued, issues_to, targets_by, recorded_holders, issues_own, is_attempted, copy_order, sends_copies, copy_targets, sends_copy_started, copies_to, begins_copy, copy_for, is_copied, wants_own, wants_own_of, issues_copy, wants_copy, wants_by, wants_primary, holder_target, sends_grant, grants_to, is_complete, with_recorded, learns_attempt, learns}
+use Rattle.protocol.specs.MasterVersions.{Asker, VersionTarget, target_servers, holder_line, group_of, tells_location, tells_holders, tells_none, tells_to_wait, version_order, sends_versions, new_attempt, sends_issued, issues_to, targets_by, recorded_holders, issues_own, is_attempted, copy_order, sends_copies, copy_targets, sends_copy_started, copies_to, begins_copy, copy_for, is_copied, wants_own, wants_own_of, issues_copy, wants_copy, wants_by, wants_primary, holder_target, sends_grant, grants_to, is_complete, with_recorded, learns_attempt, learns}
 use Rattle.protocol.specs.MasterAsks.{looks_at_row, looks_at, mutates_row, mutates_at, adds_chunk, with_index, asks_to_write, asks_to_append, asks_for_last, asks_for, asks_of, takes_ask}
 use Rattle.protocol.specs.MasterReports.{holds_now, takes_recorded, revoked_row, takes_revoked, is_useless, drops_useless, learns_all, may_extend, extends_row, extends_all, hears, takes_report}
 use Rattle.protocol.specs.Laws.{order_number}
 use Rattle.protocol.specs.Seen.{CopyStarted}
 use Rattle.protocol.proofs.Steps.{on_cond}
-use Rattle.protocol.proofs.MasterMoves.{Core, core_of, Keeps, At, logs_keeps}
+use Rattle.protocol.proofs.Entries.{AllOf, same_key}
+use Rattle.protocol.proofs.VersionAttempts.{IsServerNumber, IsTold, fewer_told, one_told, both_of, number_passes, with_number_cases, complete_told, AreTargets, target_numbers, holder_targets, holders_servers, targets_servers, copy_servers}
+use Rattle.protocol.proofs.MasterMoves.{Core, core_of, IsNoGrant, Keeps, IsAfter, At, logs_keeps, logs_keeps_after}
 use Rattle.protocol.proofs.MasterNamesMoves.{tells_keeps, orders_keeps, copies_keeps, revokes_keeps}
 
 numbered_version : (handle version : ℕ) (base : Option ℕ) (o : OrderNo) → order_number (version_order handle version base o) ≡ Some o
@@ -34,218 +38,282 @@ numbered_copy : (handle copy version : ℕ) (base : Option ℕ) (o : OrderNo) �
 numbered_copy handle copy version None o = refl
 numbered_copy handle copy version (Some base) o = refl
 
-module _ (P : Core → Type 0) (k : Keeps P) where
-  location_keeps : (d : MasterDoing) (a : Asker) (handle : ℕ) (row : ChunkRow) (holders : List Holder) → At P k d → At P k (tells_location d a handle row holders)
-  location_keeps d a handle row holders h =
-      tells_keeps P k d a.client (body.Told a.number (Some (record { index = a.index; handle = handle_of handle; round = version_of row.granted; holders = holders; group = group_of d.master row }))) refl h
+no_grant_version : (handle version : ℕ) (base : Option ℕ) (o : OrderNo) → IsNoGrant (version_order handle version base o)
+no_grant_version handle version None o = tt
+no_grant_version handle version (Some base) o = tt
 
-  holders_keeps : (d : MasterDoing) (a : Asker) (handle : ℕ) (row : ChunkRow) → At P k d → At P k (tells_holders d a handle row)
+no_grant_copy : (handle copy version : ℕ) (base : Option ℕ) (o : OrderNo) → IsNoGrant (copy_order handle copy version base o)
+no_grant_copy handle copy version None o = tt
+no_grant_copy handle copy version (Some base) o = tt
+
+-- the file that is asked for is there
+abbrev pub IsThere : MasterDoing → Asker → Type 0
+IsThere d a = table.contains_key d.master.logged.table.files a.file ≡ true
+
+put_there : {X : Type 0} (t : Table X) (n : ℕ) (x : X) → table.contains_key (table.insert t n x) n ≡ true
+put_there t n x = ap is_some (table.get-insert nat_cmp_total t n x n ∙ ap (λ (b : Bool). cond b (Some x) (table.get t n)) (same_key n))
+
+added_there : (d : MasterDoing) (a : Asker) (handle : ℕ) (e : MasterDoing) → IsAfter d (log.AddChunk (file_id a.file) (handle_of handle)) e → IsThere e a
+added_there d a handle e (inl same) = subst (λ (x : MasterDoing). IsThere x a) (sym same) (put_there d.master.logged.table.files a.file _)
+added_there d a handle e (inr same) = subst (λ (x : MasterDoing). IsThere x a) (sym same) (put_there d.master.logged.table.files a.file _)
+
+-- the server, if it is one, said that it has each of these
+abbrev pub AreLinesTold : (ℕ → ℕ → ℕ → Type 0) → ℕ → List ReplicaLine → Type 0
+AreLinesTold Told server lines = AllOf (λ line. IsServerNumber server → Told server line.handle.0 line.version.0) lines
+
+module _ (Asks : Type 0) (Told : ℕ → ℕ → ℕ → Type 0) (P : Core → Type 0) (k : Keeps Asks Told P) where
+  location_keeps : (d : MasterDoing) (a : Asker) (handle : ℕ) (row : ChunkRow) (holders : List Holder) → At Asks Told P k d → At Asks Told P k (tells_location d a handle row holders)
+  location_keeps d a handle row holders h =
+      tells_keeps Asks Told P k d a.client (body.Told a.number (Some (record { index = a.index; handle = handle_of handle; round = version_of row.granted; holders = holders; group = group_of d.master row }))) refl h
+
+  holders_keeps : (d : MasterDoing) (a : Asker) (handle : ℕ) (row : ChunkRow) → At Asks Told P k d → At Asks Told P k (tells_holders d a handle row)
   holders_keeps d a handle row h = location_keeps d a handle row (map holder_line (current_holders d.master handle row)) h
 
-  none_keeps : (d : MasterDoing) (a : Asker) → At P k d → At P k (tells_none d a)
-  none_keeps d a h = tells_keeps P k d a.client (body.Told a.number None) refl h
+  none_keeps : (d : MasterDoing) (a : Asker) → At Asks Told P k d → At Asks Told P k (tells_none d a)
+  none_keeps d a h = tells_keeps Asks Told P k d a.client (body.Told a.number None) refl h
 
-  wait_keeps : (d : MasterDoing) (a : Asker) → At P k d → At P k (tells_to_wait d a)
-  wait_keeps d a h = tells_keeps P k d a.client (body.Wait a.number) refl h
+  wait_keeps : (d : MasterDoing) (a : Asker) → At Asks Told P k d → At Asks Told P k (tells_to_wait d a)
+  wait_keeps d a h = tells_keeps Asks Told P k d a.client (body.Wait a.number) refl h
 
-  versions_keeps : (d : MasterDoing) (handle version : ℕ) (targets : List VersionTarget) → At P k d → At P k (sends_versions d handle version targets)
+  versions_keeps : (d : MasterDoing) (handle version : ℕ) (targets : List VersionTarget) → At Asks Told P k d → At Asks Told P k (sends_versions d handle version targets)
   versions_keeps d handle version [] h = h
   versions_keeps d handle version (t ∷ rest) h =
       versions_keeps (orders d t.server (version_order handle version t.base)) handle version rest
-      (orders_keeps P k d t.server (version_order handle version t.base) (numbered_version handle version t.base) h)
+      (orders_keeps Asks Told P k d t.server (version_order handle version t.base) (numbered_version handle version t.base) (no_grant_version handle version t.base) h)
 
-  issued_keeps : (a : Asker) (handle version : ℕ) (targets : List VersionTarget) (d : MasterDoing) → At P k d → At P k (sends_issued d a handle version targets)
-  issued_keeps a handle version targets d h =
+  -- a new attempt, which nobody recorded yet
+  attempt_keeps : (d : MasterDoing) (handle version : ℕ) (targets : List VersionTarget) (begun : VersionAttempt) → begun ≡ new_attempt d.master version targets → AreTargets targets
+      → At Asks Told P k d → At Asks Told P k (with_attempt d handle begun)
+  attempt_keeps d handle version targets begun is servers h =
+      let new : IsTold Told handle (new_attempt d.master version targets) = record { servers = λ n there. inl (number_passes IsServerNumber (target_servers targets) n (target_numbers targets servers) there); recorded = λ n none. absurd (let both : false ≡ true = none in cc) } in
+      (h.0, one_told Told d.master.attempts handle begun (subst (λ (x : VersionAttempt). IsTold Told handle x) (sym is) new) h.1, h.2)
+
+  issued_keeps : (a : Asker) (handle version : ℕ) (targets : List VersionTarget) → AreTargets targets → (d : MasterDoing) → At Asks Told P k d → At Asks Told P k (sends_issued d a handle version targets)
+  issued_keeps a handle version targets servers d h =
       let tried : MasterDoing = with_attempt d handle (new_attempt d.master version targets) in
-      wait_keeps (sends_versions tried handle version targets) a (versions_keeps tried handle version targets h)
+      wait_keeps (sends_versions tried handle version targets) a
+      (versions_keeps tried handle version targets (attempt_keeps d handle version targets (new_attempt d.master version targets) refl servers h))
 
   issues_keeps : (d : MasterDoing) (a : Asker) (own : ℕ) (own_row : ChunkRow) (handle : ℕ) (row : ChunkRow) (targets : List VersionTarget)
-      → chunk_of d.master.logged.table handle ≡ Some row → At P k d → At P k (issues_to d a own own_row handle row targets)
-  issues_keeps d a own own_row handle row [] is h = location_keeps d a own own_row [] h
-  issues_keeps d a own own_row handle row (t ∷ rest) is h =
-      logs_keeps P k d (log.Issue (handle_of handle) (version_of (suc row.issued))) (λ e. sends_issued e a handle (suc row.issued) (t ∷ rest)) (row, is, refl)
-      (issued_keeps a handle (suc row.issued) (t ∷ rest)) h
+      → chunk_of d.master.logged.table handle ≡ Some row → AreTargets targets → At Asks Told P k d → At Asks Told P k (issues_to d a own own_row handle row targets)
+  issues_keeps d a own own_row handle row [] is servers h = location_keeps d a own own_row [] h
+  issues_keeps d a own own_row handle row (t ∷ rest) is servers h =
+      logs_keeps Asks Told P k d (log.Issue (handle_of handle) (version_of (suc row.issued))) (λ e. sends_issued e a handle (suc row.issued) (t ∷ rest)) (row, is, refl) (λ asks. record { due = tt; after = h.2 asks })
+      (issued_keeps a handle (suc row.issued) (t ∷ rest) servers) h
 
-  own_keeps : (d : MasterDoing) (a : Asker) (handle : ℕ) (row : ChunkRow) (b : Bool) → chunk_of d.master.logged.table handle ≡ Some row → At P k d → At P k (issues_own d a handle row b)
+  own_keeps : (d : MasterDoing) (a : Asker) (handle : ℕ) (row : ChunkRow) (b : Bool) → chunk_of d.master.logged.table handle ≡ Some row → At Asks Told P k d → At Asks Told P k (issues_own d a handle row b)
   own_keeps d a handle row true is h = wait_keeps d a h
-  own_keeps d a handle row false is h = issues_keeps d a handle row handle row (targets_by d.master handle row (recorded_holders d.master handle row)) is h
+  own_keeps d a handle row false is h = issues_keeps d a handle row handle row (targets_by d.master handle row (recorded_holders d.master handle row)) is (targets_servers d.master handle row) h
 
-  sends_copies_keeps : (d : MasterDoing) (handle copy version : ℕ) (targets : List VersionTarget) → At P k d → At P k (sends_copies d handle copy version targets)
+  sends_copies_keeps : (d : MasterDoing) (handle copy version : ℕ) (targets : List VersionTarget) → At Asks Told P k d → At Asks Told P k (sends_copies d handle copy version targets)
   sends_copies_keeps d handle copy version [] h = h
   sends_copies_keeps d handle copy version (t ∷ rest) h =
       sends_copies_keeps (orders d t.server (copy_order handle copy version t.base)) handle copy version rest
-      (orders_keeps P k d t.server (copy_order handle copy version t.base) (numbered_copy handle copy version t.base) h)
+      (orders_keeps Asks Told P k d t.server (copy_order handle copy version t.base) (numbered_copy handle copy version t.base) (no_grant_copy handle copy version t.base) h)
 
-  started_keeps : (a : Asker) (handle copy version : ℕ) (targets : List VersionTarget) (d : MasterDoing) → At P k d → At P k (sends_copy_started d a handle copy version targets)
-  started_keeps a handle copy version targets d h =
+  started_keeps : (a : Asker) (handle copy version : ℕ) (targets : List VersionTarget) → AreTargets targets → (d : MasterDoing) → At Asks Told P k d
+      → At Asks Told P k (sends_copy_started d a handle copy version targets)
+  started_keeps a handle copy version targets servers d h =
       let seen : MasterDoing = record d { seen = d.seen ++ CopyStarted handle copy ∷ [] } in
       let tried : MasterDoing = with_attempt seen copy (new_attempt d.master version targets) in
-      wait_keeps (sends_copies tried handle copy version targets) a (sends_copies_keeps tried handle copy version targets h)
+      wait_keeps (sends_copies tried handle copy version targets) a
+      (sends_copies_keeps tried handle copy version targets (attempt_keeps seen copy version targets (new_attempt d.master version targets) refl servers h))
 
-  copies_to_keeps : (d : MasterDoing) (a : Asker) (handle : ℕ) (row : ChunkRow) (targets : List VersionTarget) → At P k d → At P k (copies_to d a handle row targets)
-  copies_to_keeps d a handle row [] h = location_keeps d a handle row [] h
-  copies_to_keeps d a handle row (t ∷ rest) h =
+  copies_to_keeps : (d : MasterDoing) (a : Asker) (handle : ℕ) (row : ChunkRow) (targets : List VersionTarget) → AreTargets targets → IsThere d a → At Asks Told P k d → At Asks Told P k (copies_to d a handle row targets)
+  copies_to_keeps d a handle row [] servers there h = location_keeps d a handle row [] h
+  copies_to_keeps d a handle row (t ∷ rest) servers there h =
       let copy : ℕ = d.master.logged.next_handle in
-      logs_keeps P k d (log.CopyStart (file_id a.file) a.index (handle_of handle) (handle_of copy) (version_of (suc row.issued)))
-      (λ e. sends_copy_started e a handle copy (suc row.issued) (t ∷ rest)) refl (started_keeps a handle copy (suc row.issued) (t ∷ rest)) h
+      logs_keeps Asks Told P k d (log.CopyStart (file_id a.file) a.index (handle_of handle) (handle_of copy) (version_of (suc row.issued)))
+      (λ e. sends_copy_started e a handle copy (suc row.issued) (t ∷ rest)) (refl, there) (λ asks. record { due = tt; after = h.2 asks }) (started_keeps a handle copy (suc row.issued) (t ∷ rest) servers) h
 
-  wants_own_keeps : (d : MasterDoing) (a : Asker) (handle : ℕ) (row : ChunkRow) → chunk_of d.master.logged.table handle ≡ Some row → At P k d → At P k (wants_own d a handle row)
-  wants_own_keeps d a handle row is h =
-      on_cond (At P k) (nat_lt 1 row.references) (begins_copy d a handle row) _ (λ _. copies_to_keeps d a handle row (copy_targets d.master handle row) h)
-      (λ _. on_cond (At P k) (is_copied d.master.logged handle) (tells_to_wait d a) (issues_own d a handle row (is_attempted d.master handle)) (λ _. wait_keeps d a h)
+  wants_own_keeps : (d : MasterDoing) (a : Asker) (handle : ℕ) (row : ChunkRow) → chunk_of d.master.logged.table handle ≡ Some row → IsThere d a → At Asks Told P k d → At Asks Told P k (wants_own d a handle row)
+  wants_own_keeps d a handle row is there h =
+      on_cond (At Asks Told P k) (nat_lt 1 row.references) (begins_copy d a handle row) _ (λ _. copies_to_keeps d a handle row (copy_targets d.master handle row) (copy_servers d.master handle row) there h)
+      (λ _. on_cond (At Asks Told P k) (is_copied d.master.logged handle) (tells_to_wait d a) (issues_own d a handle row (is_attempted d.master handle)) (λ _. wait_keeps d a h)
       (λ _. own_keeps d a handle row (is_attempted d.master handle) is h))
 
-  wants_own_of_keeps : (d : MasterDoing) (a : Asker) (handle : ℕ) (o : Option ChunkRow) → chunk_of d.master.logged.table handle ≡ o → At P k d → At P k (wants_own_of d a handle o)
-  wants_own_of_keeps d a handle None is h = h
-  wants_own_of_keeps d a handle (Some row) is h = wants_own_keeps d a handle row is h
+  wants_own_of_keeps : (d : MasterDoing) (a : Asker) (handle : ℕ) (o : Option ChunkRow) → chunk_of d.master.logged.table handle ≡ o → IsThere d a → At Asks Told P k d → At Asks Told P k (wants_own_of d a handle o)
+  wants_own_of_keeps d a handle None is there h = h
+  wants_own_of_keeps d a handle (Some row) is there h = wants_own_keeps d a handle row is there h
 
   issues_copy_keeps : (d : MasterDoing) (a : Asker) (handle : ℕ) (row : ChunkRow) (copy : ℕ) (copy_row : ChunkRow) (holders : List HeldAt)
-      → chunk_of d.master.logged.table copy ≡ Some copy_row → At P k d → At P k (issues_copy d a handle row copy copy_row holders)
-  issues_copy_keeps d a handle row copy copy_row [] is h =
+      → chunk_of d.master.logged.table copy ≡ Some copy_row → AreTargets (map holder_target holders) → IsThere d a → At Asks Told P k d → At Asks Told P k (issues_copy d a handle row copy copy_row holders)
+  issues_copy_keeps d a handle row copy copy_row [] is servers there h =
       let given_up : MasterDoing = gives_up_copy d copy in
-      wants_own_of_keeps given_up a handle (chunk_of given_up.master.logged.table handle) refl (copies_keeps P k d (copy ∷ []) h)
-  issues_copy_keeps d a handle row copy copy_row (t ∷ rest) is h = issues_keeps d a handle row copy copy_row (map holder_target (t ∷ rest)) is h
+      wants_own_of_keeps given_up a handle (chunk_of given_up.master.logged.table handle) refl there (copies_keeps Asks Told P k d (copy ∷ []) h)
+  issues_copy_keeps d a handle row copy copy_row (t ∷ rest) is servers there h = issues_keeps d a handle row copy copy_row (map holder_target (t ∷ rest)) is servers h
 
   wants_copy_keeps : (d : MasterDoing) (a : Asker) (handle : ℕ) (row : ChunkRow) (copy : ℕ) (o : Option ChunkRow)
-      → chunk_of d.master.logged.table handle ≡ Some row → chunk_of d.master.logged.table copy ≡ o → At P k d → At P k (wants_copy d a handle row copy o)
-  wants_copy_keeps d a handle row copy None is copy_is h = wants_own_keeps d a handle row is h
-  wants_copy_keeps d a handle row copy (Some copy_row) is copy_is h =
-      on_cond (At P k) (is_attempted d.master copy) (tells_to_wait d a) (issues_copy d a handle row copy copy_row (holders_where d.master copy (λ v. v == copy_row.issued))) (λ _. wait_keeps d a h)
-      (λ _. issues_copy_keeps d a handle row copy copy_row (holders_where d.master copy (λ v. v == copy_row.issued)) copy_is h)
+      → chunk_of d.master.logged.table handle ≡ Some row → chunk_of d.master.logged.table copy ≡ o → IsThere d a → At Asks Told P k d → At Asks Told P k (wants_copy d a handle row copy o)
+  wants_copy_keeps d a handle row copy None is copy_is there h = wants_own_keeps d a handle row is there h
+  wants_copy_keeps d a handle row copy (Some copy_row) is copy_is there h =
+      on_cond (At Asks Told P k) (is_attempted d.master copy) (tells_to_wait d a) (issues_copy d a handle row copy copy_row (holders_where d.master copy (λ v. v == copy_row.issued))) (λ _. wait_keeps d a h)
+      (λ _. let holders : List HeldAt = holders_where d.master copy (λ v. v == copy_row.issued) in
+      issues_copy_keeps d a handle row copy copy_row holders copy_is (holder_targets holders (holders_servers d.master copy (λ v. v == copy_row.issued))) there h)
 
-  wants_by_keeps : (d : MasterDoing) (a : Asker) (handle : ℕ) (row : ChunkRow) (o : Option ℕ) → chunk_of d.master.logged.table handle ≡ Some row → At P k d → At P k (wants_by d a handle row o)
-  wants_by_keeps d a handle row None is h = wants_own_keeps d a handle row is h
-  wants_by_keeps d a handle row (Some copy) is h = wants_copy_keeps d a handle row copy (chunk_of d.master.logged.table copy) is refl h
+  wants_by_keeps : (d : MasterDoing) (a : Asker) (handle : ℕ) (row : ChunkRow) (o : Option ℕ) → chunk_of d.master.logged.table handle ≡ Some row → IsThere d a → At Asks Told P k d → At Asks Told P k (wants_by d a handle row o)
+  wants_by_keeps d a handle row None is there h = wants_own_keeps d a handle row is there h
+  wants_by_keeps d a handle row (Some copy) is there h = wants_copy_keeps d a handle row copy (chunk_of d.master.logged.table copy) is refl there h
 
-  wants_primary_keeps : (d : MasterDoing) (a : Asker) (handle : ℕ) (row : ChunkRow) → chunk_of d.master.logged.table handle ≡ Some row → At P k d → At P k (wants_primary d a handle row)
-  wants_primary_keeps d a handle row is h =
-      on_cond (At P k) (waits_for d.master handle) (tells_to_wait d a) (wants_by d a handle row (copy_for d.master.logged a.file a.index)) (λ _. wait_keeps d a h)
-      (λ _. wants_by_keeps d a handle row (copy_for d.master.logged a.file a.index) is h)
+  wants_primary_keeps : (d : MasterDoing) (a : Asker) (handle : ℕ) (row : ChunkRow) → chunk_of d.master.logged.table handle ≡ Some row → IsThere d a → At Asks Told P k d → At Asks Told P k (wants_primary d a handle row)
+  wants_primary_keeps d a handle row is there h =
+      on_cond (At Asks Told P k) (waits_for d.master handle) (tells_to_wait d a) (wants_by d a handle row (copy_for d.master.logged a.file a.index)) (λ _. wait_keeps d a h)
+      (λ _. wants_by_keeps d a handle row (copy_for d.master.logged a.file a.index) is there h)
 
-  mutates_row_keeps : (d : MasterDoing) (a : Asker) (lost : Bool) (handle : ℕ) (o : Option ChunkRow) → chunk_of d.master.logged.table handle ≡ o → At P k d → At P k (mutates_row d a lost handle o)
-  mutates_row_keeps d a lost handle None is h = h
-  mutates_row_keeps d a lost handle (Some row) is h =
-      on_cond (At P k) (has_ended row d.master.now) (wants_primary d a handle row) (tells_holders (cond lost (revokes d handle) d) a handle row)
-      (λ _. wants_primary_keeps d a handle row is h)
-      (λ _. holders_keeps (cond lost (revokes d handle) d) a handle row (on_cond (At P k) lost (revokes d handle) d (λ _. revokes_keeps P k d handle h) (λ _. h)))
+  mutates_row_keeps : (d : MasterDoing) (a : Asker) (lost : Bool) (handle : ℕ) (o : Option ChunkRow) → chunk_of d.master.logged.table handle ≡ o → IsThere d a → At Asks Told P k d → At Asks Told P k (mutates_row d a lost handle o)
+  mutates_row_keeps d a lost handle None is there h = h
+  mutates_row_keeps d a lost handle (Some row) is there h =
+      on_cond (At Asks Told P k) (has_ended row d.master.now) (wants_primary d a handle row) (tells_holders (cond lost (revokes d handle) d) a handle row)
+      (λ _. wants_primary_keeps d a handle row is there h)
+      (λ _. holders_keeps (cond lost (revokes d handle) d) a handle row (on_cond (At Asks Told P k) lost (revokes d handle) d (λ _. revokes_keeps Asks Told P k d handle h) (λ _. h)))
 
-  mutates_at_keeps : (d : MasterDoing) (a : Asker) (lost : Bool) (o : Option ℕ) → At P k d → At P k (mutates_at d a lost o)
-  mutates_at_keeps d a lost None h = h
-  mutates_at_keeps d a lost (Some handle) h = mutates_row_keeps d a lost handle (chunk_of d.master.logged.table handle) refl h
+  mutates_at_keeps : (d : MasterDoing) (a : Asker) (lost : Bool) (o : Option ℕ) → IsThere d a → At Asks Told P k d → At Asks Told P k (mutates_at d a lost o)
+  mutates_at_keeps d a lost None there h = h
+  mutates_at_keeps d a lost (Some handle) there h = mutates_row_keeps d a lost handle (chunk_of d.master.logged.table handle) refl there h
 
-  adds_keeps : (d : MasterDoing) (a : Asker) (lost : Bool) → At P k d → At P k (adds_chunk d a lost)
-  adds_keeps d a lost h =
+  adds_keeps : (d : MasterDoing) (a : Asker) (lost : Bool) → IsThere d a → At Asks Told P k d → At Asks Told P k (adds_chunk d a lost)
+  adds_keeps d a lost there h =
       let handle : ℕ = d.master.logged.next_handle in
-      logs_keeps P k d (log.AddChunk (file_id a.file) (handle_of handle)) (λ e. mutates_at e a lost (Some handle)) refl (λ e. mutates_at_keeps e a lost (Some handle)) h
+      logs_keeps_after Asks Told P k d (log.AddChunk (file_id a.file) (handle_of handle)) (λ e. mutates_at e a lost (Some handle)) (refl, there) (λ asks. record { due = tt; after = h.2 asks })
+      (λ e after. mutates_at_keeps e a lost (Some handle) (added_there d a handle e after)) h
 
-  looks_row_keeps : (d : MasterDoing) (a : Asker) (handle : ℕ) (o : Option ChunkRow) → At P k d → At P k (looks_at_row d a handle o)
+  looks_row_keeps : (d : MasterDoing) (a : Asker) (handle : ℕ) (o : Option ChunkRow) → At Asks Told P k d → At Asks Told P k (looks_at_row d a handle o)
   looks_row_keeps d a handle None h = h
   looks_row_keeps d a handle (Some row) h = holders_keeps d a handle row h
 
-  looks_keeps : (d : MasterDoing) (a : Asker) (o : Option ℕ) → At P k d → At P k (looks_at d a o)
+  looks_keeps : (d : MasterDoing) (a : Asker) (o : Option ℕ) → At Asks Told P k d → At Asks Told P k (looks_at d a o)
   looks_keeps d a None h = none_keeps d a h
   looks_keeps d a (Some handle) h = looks_row_keeps d a handle (chunk_of d.master.logged.table handle) h
 
-  write_keeps : (d : MasterDoing) (a : Asker) (lost : Bool) (handles : List ℕ) (index : ℕ) → At P k d → At P k (asks_to_write d a lost handles index)
-  write_keeps d a lost handles index h =
-      on_cond (At P k) (nat_lt (length handles) index) (tells d a.client (body.Refused a.number TooLong)) _ (λ _. tells_keeps P k d a.client (body.Refused a.number TooLong) refl h)
-      (λ _. on_cond (At P k) (index == length handles) (adds_chunk d (with_index a index) lost) (mutates_at d (with_index a index) lost (element_at handles index))
-      (λ _. adds_keeps d (with_index a index) lost h) (λ _. mutates_at_keeps d (with_index a index) lost (element_at handles index) h))
+  write_keeps : (d : MasterDoing) (a : Asker) (lost : Bool) (handles : List ℕ) (index : ℕ) → IsThere d a → At Asks Told P k d → At Asks Told P k (asks_to_write d a lost handles index)
+  write_keeps d a lost handles index there h =
+      on_cond (At Asks Told P k) (nat_lt (length handles) index) (tells d a.client (body.Refused a.number TooLong)) _ (λ _. tells_keeps Asks Told P k d a.client (body.Refused a.number TooLong) refl h)
+      (λ _. on_cond (At Asks Told P k) (index == length handles) (adds_chunk d (with_index a index) lost) (mutates_at d (with_index a index) lost (element_at handles index))
+      (λ _. adds_keeps d (with_index a index) lost there h) (λ _. mutates_at_keeps d (with_index a index) lost (element_at handles index) there h))
 
-  append_keeps : (d : MasterDoing) (a : Asker) (lost : Bool) (handles : List ℕ) (after count : ℕ) → At P k d → At P k (asks_to_append d a lost handles after count)
-  append_keeps d a lost handles after zero h = adds_keeps d (with_index a 0) lost h
-  append_keeps d a lost handles after (suc last) h =
-      on_cond (At P k) (nat_lt last after) (adds_chunk d (with_index a (suc last)) lost) (mutates_at d (with_index a last) lost (element_at handles last))
-      (λ _. adds_keeps d (with_index a (suc last)) lost h) (λ _. mutates_at_keeps d (with_index a last) lost (element_at handles last) h)
+  append_keeps : (d : MasterDoing) (a : Asker) (lost : Bool) (handles : List ℕ) (after count : ℕ) → IsThere d a → At Asks Told P k d → At Asks Told P k (asks_to_append d a lost handles after count)
+  append_keeps d a lost handles after zero there h = adds_keeps d (with_index a 0) lost there h
+  append_keeps d a lost handles after (suc last) there h =
+      on_cond (At Asks Told P k) (nat_lt last after) (adds_chunk d (with_index a (suc last)) lost) (mutates_at d (with_index a last) lost (element_at handles last))
+      (λ _. adds_keeps d (with_index a (suc last)) lost there h) (λ _. mutates_at_keeps d (with_index a last) lost (element_at handles last) there h)
 
-  last_keeps : (d : MasterDoing) (a : Asker) (handles : List ℕ) (count : ℕ) → At P k d → At P k (asks_for_last d a handles count)
+  last_keeps : (d : MasterDoing) (a : Asker) (handles : List ℕ) (count : ℕ) → At Asks Told P k d → At Asks Told P k (asks_for_last d a handles count)
   last_keeps d a handles zero h = none_keeps d a h
   last_keeps d a handles (suc last) h = looks_keeps d (with_index a last) (element_at handles last) h
 
-  asks_for_keeps : (d : MasterDoing) (a : Asker) (lost : Bool) (w : Wanted) (handles : List ℕ) → At P k d → At P k (asks_for d a lost w handles)
-  asks_for_keeps d a lost (wanted.Read index) handles h = looks_keeps d (with_index a index) (element_at handles index) h
-  asks_for_keeps d a lost (wanted.Write index) handles h = write_keeps d a lost handles index h
-  asks_for_keeps d a lost (wanted.Append after) handles h = append_keeps d a lost handles after (length handles) h
-  asks_for_keeps d a lost wanted.Last handles h = last_keeps d a handles (length handles) h
+  asks_for_keeps : (d : MasterDoing) (a : Asker) (lost : Bool) (w : Wanted) (handles : List ℕ) → IsThere d a → At Asks Told P k d → At Asks Told P k (asks_for d a lost w handles)
+  asks_for_keeps d a lost (wanted.Read index) handles there h = looks_keeps d (with_index a index) (element_at handles index) h
+  asks_for_keeps d a lost (wanted.Write index) handles there h = write_keeps d a lost handles index there h
+  asks_for_keeps d a lost (wanted.Append after) handles there h = append_keeps d a lost handles after (length handles) there h
+  asks_for_keeps d a lost wanted.Last handles there h = last_keeps d a handles (length handles) h
 
-  asks_of_keeps : (d : MasterDoing) (a : Asker) (lost : Bool) (w : Wanted) (o : Option (List ℕ)) → At P k d → At P k (asks_of d a lost w o)
-  asks_of_keeps d a lost w None h = tells_keeps P k d a.client (body.Refused a.number Collected) refl h
-  asks_of_keeps d a lost w (Some handles) h = asks_for_keeps d a lost w handles h
+  asks_of_keeps : (d : MasterDoing) (a : Asker) (lost : Bool) (w : Wanted) (o : Option (List ℕ)) → file_of d.master.logged.table a.file ≡ o → At Asks Told P k d → At Asks Told P k (asks_of d a lost w o)
+  asks_of_keeps d a lost w None is h = tells_keeps Asks Told P k d a.client (body.Refused a.number Collected) refl h
+  asks_of_keeps d a lost w (Some handles) is h = asks_for_keeps d a lost w handles (ap is_some is) h
 
-  pub ask_keeps : (d : MasterDoing) (client : Node) (number file : ℕ) (w : Wanted) (deadline : ℕ) (lost : Bool) → At P k d → At P k (takes_ask d client number file w deadline lost)
+  pub ask_keeps : (d : MasterDoing) (client : Node) (number file : ℕ) (w : Wanted) (deadline : ℕ) (lost : Bool) → At Asks Told P k d → At Asks Told P k (takes_ask d client number file w deadline lost)
   ask_keeps d client number file w deadline lost h =
       let a : Asker = record { client = client; number = number; file = file; index = 0 } in
-      on_cond (At P k) (nat_le deadline d.master.now) d (asks_of d a lost w (file_of d.master.logged.table file)) (λ _. h)
-      (λ _. asks_of_keeps d a lost w (file_of d.master.logged.table file) h)
+      on_cond (At Asks Told P k) (nat_le deadline d.master.now) d (asks_of d a lost w (file_of d.master.logged.table file)) (λ _. h)
+      (λ _. asks_of_keeps d a lost w (file_of d.master.logged.table file) refl h)
 
   -- grants
 
-  grant_keeps : (handle version primary : ℕ) (members : List ℕ) (d : MasterDoing) → At P k d → At P k (sends_grant d handle version primary members)
-  grant_keeps handle version primary members d h =
+  grant_keeps : (handle version primary : ℕ) (members : List ℕ) → ((n : ℕ) → has_number members n ≡ true → Told n handle version) → (d : MasterDoing) → At Asks Told P k d
+      → At Asks Told P k (sends_grant d handle version primary members)
+  grant_keeps handle version primary members told d h =
       let until : ℕ = d.master.now + d.master.config.lease_ms in
-      orders_keeps P k (ends_at (without_attempt d handle) handle until) primary (λ order. body.Grant order (handle_of handle) (version_of version) (moment_of until) members) (λ o. refl)
-      (k.ends (core_of d) handle until h)
+      let ended : MasterDoing = ends_at (without_attempt d handle) handle until in
+      (k.grants (core_of ended) primary handle version (moment_of until) members told (k.ends (core_of d) handle until h.0), fewer_told Told d.master.attempts (handle ∷ []) h.1, h.2)
 
-  grants_to_keeps : (d : MasterDoing) (handle : ℕ) (a : VersionAttempt) (servers : List ℕ) → At P k d → At P k (grants_to d handle a servers)
-  grants_to_keeps d handle a [] h = h
-  grants_to_keeps d handle a (primary ∷ rest) h =
-      logs_keeps P k d (log.Grant (handle_of handle) (version_of a.version) (server_id primary) (primary ∷ rest)) (λ e. sends_grant e handle a.version primary (primary ∷ rest)) tt
-      (grant_keeps handle a.version primary (primary ∷ rest)) h
+  grants_to_keeps : (d : MasterDoing) (handle : ℕ) (a : VersionAttempt) (servers : List ℕ) → ((n : ℕ) → has_number servers n ≡ true → Told n handle a.version) → At Asks Told P k d
+      → At Asks Told P k (grants_to d handle a servers)
+  grants_to_keeps d handle a [] told h = h
+  grants_to_keeps d handle a (primary ∷ rest) told h =
+      logs_keeps Asks Told P k d (log.Grant (handle_of handle) (version_of a.version) (server_id primary) (primary ∷ rest)) (λ e. sends_grant e handle a.version primary (primary ∷ rest)) tt (λ asks. record { due = tt; after = h.2 asks })
+      (grant_keeps handle a.version primary (primary ∷ rest) told) h
 
-  recorded_keeps : (d : MasterDoing) (handle : ℕ) (a : VersionAttempt) → At P k d → At P k (with_recorded d handle a)
-  recorded_keeps d handle a h =
-      on_cond (At P k) (is_complete d.master a) (grants_to (with_attempt d handle a) handle a (rising a.servers)) (with_attempt d handle a)
-      (λ _. grants_to_keeps (with_attempt d handle a) handle a (rising a.servers) h) (λ _. h)
+  recorded_keeps : (d : MasterDoing) (handle : ℕ) (a : VersionAttempt) → IsTold Told handle a → At Asks Told P k d → At Asks Told P k (with_recorded d handle a)
+  recorded_keeps d handle a told h =
+      let now : At Asks Told P k (with_attempt d handle a) = (h.0, one_told Told d.master.attempts handle a told h.1, h.2) in
+      on_cond (At Asks Told P k) (is_complete d.master a) (grants_to (with_attempt d handle a) handle a (rising a.servers)) (with_attempt d handle a)
+      (λ all. grants_to_keeps (with_attempt d handle a) handle a (rising a.servers)
+      (complete_told Told handle a (both_of (same_numbers a.servers a.recorded) (nat_lt d.master.now (a.begun + d.master.config.attempt_ms)) all).0 told) now)
+      (λ _. now)
 
-  learns_attempt_keeps : (d : MasterDoing) (server handle version : ℕ) (o : Option ChunkRow) (p : Option VersionAttempt) → At P k d → At P k (learns_attempt d server handle version o p)
-  learns_attempt_keeps d server handle version None p h = h
-  learns_attempt_keeps d server handle version (Some row) None h = h
-  learns_attempt_keeps d server handle version (Some row) (Some a) h =
+  -- one more that said that it recorded it
+  one_more_told : (server handle version : ℕ) (a : VersionAttempt) → (a.version == version) && has_number a.servers server ≡ true → (IsServerNumber server → Told server handle version)
+      → IsTold Told handle a → IsTold Told handle (record a { recorded = with_number a.recorded server })
+  one_more_told server handle version a fits word h =
+      let parts = both_of (a.version == version) (has_number a.servers server) fits in
+      let new : Told server handle a.version = elim (h.servers server parts.1) [
+        | inl one ↦ subst (λ (v : ℕ). Told server handle v) (sym (eqb-true a.version version parts.0)) (word one)
+        | inr all ↦ all handle a.version
+      ] in
+      record {
+        servers = h.servers;
+        recorded = λ n is.
+            elim (with_number_cases a.recorded server n is) [
+              | inl same ↦ subst (λ (m : ℕ). Told m handle a.version) (sym same) new
+              | inr before ↦ h.recorded n before
+            ];
+      }
+
+  learns_attempt_keeps : (d : MasterDoing) (server handle version : ℕ) (o : Option ChunkRow) (p : Option VersionAttempt) → table.get d.master.attempts handle ≡ p
+      → (IsServerNumber server → Told server handle version) → At Asks Told P k d → At Asks Told P k (learns_attempt d server handle version o p)
+  learns_attempt_keeps d server handle version None p is word h = h
+  learns_attempt_keeps d server handle version (Some row) None is word h = h
+  learns_attempt_keeps d server handle version (Some row) (Some a) is word h =
       let more : VersionAttempt = record a { recorded = with_number a.recorded server } in
-      on_cond (At P k) ((a.version == version) && has_number a.servers server) (with_recorded d handle more) d (λ _. recorded_keeps d handle more h) (λ _. h)
+      on_cond (At Asks Told P k) ((a.version == version) && has_number a.servers server) (with_recorded d handle more) d
+      (λ fits. recorded_keeps d handle more (one_more_told server handle version a fits word (h.1 handle a is)) h) (λ _. h)
 
-  learns_keeps : (d : MasterDoing) (server handle version : ℕ) → At P k d → At P k (learns d server handle version)
-  learns_keeps d server handle version h = learns_attempt_keeps d server handle version (chunk_of d.master.logged.table handle) (table.get d.master.attempts handle) h
+  learns_keeps : (d : MasterDoing) (server handle version : ℕ) → (IsServerNumber server → Told server handle version) → At Asks Told P k d → At Asks Told P k (learns d server handle version)
+  learns_keeps d server handle version word h =
+      learns_attempt_keeps d server handle version (chunk_of d.master.logged.table handle) (table.get d.master.attempts handle) refl word h
 
-  pub takes_recorded_keeps : (d : MasterDoing) (server handle version : ℕ) → At P k d → At P k (takes_recorded d server handle version)
-  takes_recorded_keeps d server handle version h = learns_keeps (holds_now d server handle version) server handle version h
+  pub takes_recorded_keeps : (d : MasterDoing) (server handle version : ℕ) → (IsServerNumber server → Told server handle version) → At Asks Told P k d
+      → At Asks Told P k (takes_recorded d server handle version)
+  takes_recorded_keeps d server handle version word h = learns_keeps (holds_now d server handle version) server handle version word h
 
-  revoked_row_keeps : (d : MasterDoing) (server handle version : ℕ) (o : Option ChunkRow) → At P k d → At P k (revoked_row d server handle version o)
+  revoked_row_keeps : (d : MasterDoing) (server handle version : ℕ) (o : Option ChunkRow) → At Asks Told P k d → At Asks Told P k (revoked_row d server handle version o)
   revoked_row_keeps d server handle version None h = h
   revoked_row_keeps d server handle version (Some row) h =
-      on_cond (At P k) ((row.granted == version) && (row.primary == server)) (ends_at d handle 0) d (λ _. k.ends (core_of d) handle 0 h) (λ _. h)
+      on_cond (At Asks Told P k) ((row.granted == version) && (row.primary == server)) (ends_at d handle 0) d (λ _. (k.ends (core_of d) handle 0 h.0, h.1, h.2)) (λ _. h)
 
-  pub takes_revoked_keeps : (d : MasterDoing) (server handle version : ℕ) → At P k d → At P k (takes_revoked d server handle version)
+  pub takes_revoked_keeps : (d : MasterDoing) (server handle version : ℕ) → At Asks Told P k d → At Asks Told P k (takes_revoked d server handle version)
   takes_revoked_keeps d server handle version h = revoked_row_keeps d server handle version (chunk_of d.master.logged.table handle) h
 
-  drops_keeps : (d : MasterDoing) (server : ℕ) (lines : List ReplicaLine) → At P k d → At P k (drops_useless d server lines)
+  drops_keeps : (d : MasterDoing) (server : ℕ) (lines : List ReplicaLine) → At Asks Told P k d → At Asks Told P k (drops_useless d server lines)
   drops_keeps d server [] h = h
   drops_keeps d server (line ∷ rest) h =
       let dropped : MasterDoing = orders d server (λ order. body.Drop order line.handle line.version) in
-      on_cond (λ (e : MasterDoing). At P k (drops_useless e server rest)) (is_useless line.version.0 (chunk_of d.master.logged.table line.handle.0)) dropped d
-      (λ _. drops_keeps dropped server rest (orders_keeps P k d server (λ order. body.Drop order line.handle line.version) (λ o. refl) h))
+      on_cond (λ (e : MasterDoing). At Asks Told P k (drops_useless e server rest)) (is_useless line.version.0 (chunk_of d.master.logged.table line.handle.0)) dropped d
+      (λ _. drops_keeps dropped server rest (orders_keeps Asks Told P k d server (λ order. body.Drop order line.handle line.version) (λ o. refl) (λ o. tt) h))
       (λ _. drops_keeps d server rest h)
 
-  learns_all_keeps : (d : MasterDoing) (server : ℕ) (lines : List ReplicaLine) → At P k d → At P k (learns_all d server lines)
-  learns_all_keeps d server [] h = h
-  learns_all_keeps d server (line ∷ rest) h = learns_all_keeps (learns d server line.handle.0 line.version.0) server rest (learns_keeps d server line.handle.0 line.version.0 h)
+  learns_all_keeps : (d : MasterDoing) (server : ℕ) (lines : List ReplicaLine) → AreLinesTold Told server lines → At Asks Told P k d → At Asks Told P k (learns_all d server lines)
+  learns_all_keeps d server [] words h = h
+  learns_all_keeps d server (line ∷ rest) words h =
+      learns_all_keeps (learns d server line.handle.0 line.version.0) server rest words.1 (learns_keeps d server line.handle.0 line.version.0 words.0 h)
 
-  extends_keeps : (d : MasterDoing) (server : ℕ) (line : LeaseLine) (o : Option ChunkRow) → At P k d → At P k (extends_row d server line o)
+  extends_keeps : (d : MasterDoing) (server : ℕ) (line : LeaseLine) (o : Option ChunkRow) → At Asks Told P k d → At Asks Told P k (extends_row d server line o)
   extends_keeps d server line None h = h
   extends_keeps d server line (Some row) h =
       let until : ℕ = d.master.now + d.master.config.lease_ms in
-      on_cond (At P k) (may_extend d.master server line row && nat_lt row.lease_end until)
+      on_cond (At Asks Told P k) (may_extend d.master server line row && nat_lt row.lease_end until)
       (tells (ends_at d line.handle.0 until) (the_server server) (body.Extend line.handle line.version (moment_of until))) d
-      (λ _. tells_keeps P k (ends_at d line.handle.0 until) (the_server server) (body.Extend line.handle line.version (moment_of until)) refl (k.ends (core_of d) line.handle.0 until h))
+      (λ _. tells_keeps Asks Told P k (ends_at d line.handle.0 until) (the_server server) (body.Extend line.handle line.version (moment_of until)) refl (k.ends (core_of d) line.handle.0 until h.0, h.1, h.2))
       (λ _. h)
 
-  extends_all_keeps : (d : MasterDoing) (server : ℕ) (lines : List LeaseLine) → At P k d → At P k (extends_all d server lines)
+  extends_all_keeps : (d : MasterDoing) (server : ℕ) (lines : List LeaseLine) → At Asks Told P k d → At Asks Told P k (extends_all d server lines)
   extends_all_keeps d server [] h = h
   extends_all_keeps d server (line ∷ rest) h =
       extends_all_keeps (extends_row d server line (chunk_of d.master.logged.table line.handle.0)) server rest (extends_keeps d server line (chunk_of d.master.logged.table line.handle.0) h)
 
-  pub report_keeps : (d : MasterDoing) (server : ℕ) (replicas : List ReplicaLine) (leases : List LeaseLine) → At P k d → At P k (takes_report d server replicas leases)
-  report_keeps d server replicas leases h =
+  pub report_keeps : (d : MasterDoing) (server : ℕ) (replicas : List ReplicaLine) (leases : List LeaseLine) → AreLinesTold Told server replicas → At Asks Told P k d
+      → At Asks Told P k (takes_report d server replicas leases)
+  report_keeps d server replicas leases words h =
       let heard : MasterDoing = hears d server replicas in
       let dropped : MasterDoing = drops_useless heard server replicas in
-      extends_all_keeps (learns_all dropped server replicas) server leases (learns_all_keeps dropped server replicas (drops_keeps heard server replicas h))
+      extends_all_keeps (learns_all dropped server replicas) server leases (learns_all_keeps dropped server replicas words (drops_keeps heard server replicas h))

@@ -1,5 +1,5 @@
 -- What a step of the master is made of. Whatever each of these moves keeps is kept by every step.
-use Rattle.std.proofs.Common.{◌≡◌, ℕ, suc, Bool, true, false, cond, List, [], ◌∷◌, ◌++◌, Some, None, refl, sym, ap, ◌∙◌}
+use Rattle.std.proofs.Common.{◌≡◌, ℕ, suc, Bool, true, false, cond, List, [], ◌∷◌, ◌++◌, Some, None, refl, sym, ap, subst, ◌∙◌, ◌⊎◌, inl, inr}
 use Rattle.std.specs.Prelude.{◌&&◌, ◌||◌, not}
 use Rattle.std.specs.List.{list_any}
 use Rattle.std.specs.Ordering.{nat_cmp, eq_by_cmp}
@@ -8,18 +8,24 @@ use Rattle.std.specs.FinMap as table
 use Rattle.gfs_types.specs.declared.ids.Node.{Node}
 use Rattle.gfs_types.specs.declared.ids.Node.TheVariants as node
 use Rattle.gfs_types.specs.declared.ids.OrderNo.{OrderNo}
+use Rattle.gfs_types.specs.declared.ids.Moment.{Moment}
 use Rattle.gfs_types.specs.declared.message.Body.{Body}
+use Rattle.gfs_types.specs.declared.message.Body.TheVariants as body
 use Rattle.gfs_types.specs.declared.message.Message.{Message}
 use Rattle.gfs_types.specs.declared.record.Record.{Record}
 use Rattle.gfs_types.specs.declared.record.Record.TheVariants as log
-use Rattle.protocol.specs.Tables.{Table, removed_all}
-use Rattle.protocol.specs.Sending.{message, the_server}
+use Rattle.protocol.specs.Tables.{Table, removed_all, has_number}
+use Rattle.protocol.specs.Sending.{message, the_server, handle_of, version_of}
 use Rattle.protocol.specs.ChunkTable.{ChunkRow, chunk_of, set_end}
 use Rattle.protocol.specs.LogSizes.{checkpoint_fits}
 use Rattle.protocol.specs.Logged.{Logged, LogDisk, LogChange, AppendRecord, WriteCheckpoint, log_changed, after_record, checkpoint_of, copies_given_up}
-use Rattle.protocol.specs.Master.{MasterDoing, fits, appends, writes_checkpoint, logs, logs_after_checkpoint, is_of_copy}
+use Rattle.protocol.specs.Master.{MasterDoing, PendingSnapshot, fits, appends, writes_checkpoint, logs, logs_after_checkpoint, is_of_copy}
 use Rattle.protocol.specs.Laws.{order_number}
 use Rattle.protocol.proofs.Steps.{on_cond}
+use Rattle.relaxed_file.specs.Names.{Names}
+use Rattle.relaxed_file.proofs.NamesTree.{Tree}
+use Rattle.protocol.proofs.VersionAttempts.{AreTold, fewer_told}
+use Rattle.protocol.proofs.Namespace.{IsNamespace, IsNamed, IsNameDue, names_after, names_are_after}
 
 -- the part of a step of the master that the laws speak of
 pub record Core : Type 0 where
@@ -47,9 +53,9 @@ core_of d =
 abbrev pub IsDue : Logged → Record → Type 0
 IsDue l (log.Epoch epoch) = ⊥
 IsDue l (log.Create client n file path) = file.0 ≡ l.next_file
-IsDue l (log.AddChunk file handle) = handle.0 ≡ l.next_handle
+IsDue l (log.AddChunk file handle) = (handle.0 ≡ l.next_handle) × (table.contains_key l.table.files file.0 ≡ true)
 IsDue l (log.Issue handle version) = (row : ChunkRow) × (chunk_of l.table handle.0 ≡ Some row) × (version.0 ≡ suc row.issued)
-IsDue l (log.CopyStart file index handle copy copy_version) = copy.0 ≡ l.next_handle
+IsDue l (log.CopyStart file index handle copy copy_version) = (copy.0 ≡ l.next_handle) × (table.contains_key l.table.files file.0 ≡ true)
 IsDue l (log.Counters next_file next_handle epoch) = ⊥
 IsDue l (log.DirItem path) = ⊥
 IsDue l (log.FileItem path file handles) = ⊥
@@ -60,17 +66,37 @@ IsDue l other = Unit {0}
 abbrev pub core_changed : Core → LogChange → Core
 core_changed c change = record c { disk = log_changed c.disk change; changes = c.changes ++ change ∷ [] }
 
--- What each move keeps.
-pub record Keeps (P : Core → Type 0) : Type 0 where
+abbrev pub IsNoGrant : Body → Type 0
+IsNoGrant (body.Grant order handle version end_moment members) = ⊥
+IsNoGrant other = Unit {0}
+
+abbrev pub core_ordered : Core → ℕ → (OrderNo → Body) → Core
+core_ordered c server b =
+    record c { sent = c.sent ++ message node.Master (the_server server) (b (record { epoch = c.logged.epoch; count = suc c.order_count })) ∷ []; order_count = suc c.order_count }
+
+-- where nothing is asked of what servers say
+abbrev pub Nothing : ℕ → ℕ → ℕ → Type 0
+Nothing n handle version = Unit {0}
+
+-- the names before a record and after it, where names are asked for
+pub record AreNames (l : Logged) (r : Record) : Type 0 where
+  pub due : IsNameDue l.names l.next_file r
+  pub before : Tree l.names
+  pub after : Tree (names_after l.names l.next_file r)
+
+-- What each move keeps. Told n handle version: that server said that it has this version of the chunk. Asks: whether names are asked for.
+pub record Keeps (Asks : Type 0) (Told : ℕ → ℕ → ℕ → Type 0) (P : Core → Type 0) : Type 0 where
   -- a message that is no order
   pub tells : (c : Core) (receiver : Node) (b : Body) → order_number b ≡ None → P c → P (record c { sent = c.sent ++ message node.Master receiver b ∷ [] })
   -- an order, under the next number
-  pub orders : (c : Core) (server : ℕ) (b : OrderNo → Body) → ((o : OrderNo) → order_number (b o) ≡ Some o) → P c
-      → P (record c { sent = c.sent ++ message node.Master (the_server server) (b (record { epoch = c.logged.epoch; count = suc c.order_count })) ∷ []; order_count = suc c.order_count })
+  pub orders : (c : Core) (server : ℕ) (b : OrderNo → Body) → ((o : OrderNo) → order_number (b o) ≡ Some o) → ((o : OrderNo) → IsNoGrant (b o)) → P c → P (core_ordered c server b)
+  -- a grant, whose members all said that they have the version
+  pub grants : (c : Core) (primary handle version : ℕ) (until : Moment) (members : List ℕ) → ((n : ℕ) → has_number members n ≡ true → Told n handle version) → P c
+      → P (core_ordered c primary (λ order. body.Grant order (handle_of handle) (version_of version) until members))
   -- a record
-  pub appends : (c : Core) (r : Record) → IsDue c.logged r → P c → P (record (core_changed c (AppendRecord r)) { logged = after_record c.logged r })
+  pub appends : (c : Core) (r : Record) → IsDue c.logged r → (Asks → AreNames c.logged r) → P c → P (record (core_changed c (AppendRecord r)) { logged = after_record c.logged r })
   -- a checkpoint, which gives up all copies
-  pub checkpoint : (c : Core) → P c → P (record (core_changed c (WriteCheckpoint (checkpoint_of c.logged))) { logged = copies_given_up c.logged (table.keys c.logged.copies) })
+  pub checkpoint : (c : Core) → (Asks → Tree c.logged.names) → P c → P (record (core_changed c (WriteCheckpoint (checkpoint_of c.logged))) { logged = copies_given_up c.logged (table.keys c.logged.copies) })
   -- copies that are given up
   pub less : (c : Core) (handles : List ℕ) → P c → P (record c { logged = copies_given_up c.logged handles })
   -- a lease's end
@@ -114,21 +140,47 @@ neither true true h = absurd (let both : false ≡ true = h in cc)
 neither true false h = refl
 neither false b h = absurd (let both : false ≡ true = h in cc)
 
-module _ (P : Core → Type 0) (k : Keeps P) where
+-- snapshots that wait are no part of the log
+pub logs_snapshots : (d : MasterDoing) (r : Record) (then_ : MasterDoing → MasterDoing) (ss : List PendingSnapshot) → ((e : MasterDoing) → e.master.snapshots ≡ ss → (then_ e).master.snapshots ≡ ss)
+    → d.master.snapshots ≡ ss → (logs d r then_).master.snapshots ≡ ss
+logs_snapshots d r then_ ss go h =
+    let was : Bool = is_of_copy d.master.logged r in
+    let good : MasterDoing → Type 0 = λ e. e.master.snapshots ≡ ss in
+    on_cond good (fits d r) (then_ (appends d r)) _ (λ _. go (appends d r) h)
+    (λ _. on_cond good (checkpoint_fits d.master.config.log_bytes (checkpoint_of d.master.logged)) (logs_after_checkpoint (writes_checkpoint d) r was then_) d
+    (λ _. on_cond good (fits (writes_checkpoint d) r && not was) (then_ (appends (writes_checkpoint d) r)) (writes_checkpoint d) (λ _. go (appends (writes_checkpoint d) r) h) (λ _. h))
+    (λ _. h))
+
+-- a step just after a record, which a checkpoint may have made room for
+abbrev pub IsAfter : MasterDoing → Record → MasterDoing → Type 0
+IsAfter d r e = (e ≡ appends d r) ⊎ (e ≡ appends (writes_checkpoint d) r)
+
+module _ (Asks : Type 0) (Told : ℕ → ℕ → ℕ → Type 0) (P : Core → Type 0) (k : Keeps Asks Told P) where
+  -- beside it, of whom an attempt says that it recorded it said so, and the names are a tree with free targets
   abbrev pub At : MasterDoing → Type 0
-  At d = P (core_of d)
+  At d = P (core_of d) × AreTold Told d.master.attempts × (Asks → IsNamespace d.master.logged.names d.master.snapshots)
 
   checkpoint_keeps : (d : MasterDoing) → At d → At (writes_checkpoint d)
-  checkpoint_keeps d h = k.checkpoint (core_of d) h
+  checkpoint_keeps d h = (k.checkpoint (core_of d) (λ asks. (h.2 asks).tree) h.0, fewer_told Told d.master.attempts (table.keys d.master.logged.copies) h.1, h.2)
 
-  -- to log, from what the rest of the step keeps
-  pub logs_keeps : (d : MasterDoing) (r : Record) (then_ : MasterDoing → MasterDoing) → IsDue d.master.logged r → ((e : MasterDoing) → At e → At (then_ e)) → At d → At (logs d r then_)
-  logs_keeps d r then_ due go h =
+  -- to log, from what the rest of the step keeps after it
+  pub logs_keeps_after : (d : MasterDoing) (r : Record) (then_ : MasterDoing → MasterDoing) → IsDue d.master.logged r
+      → (Asks → IsNamed d.master.logged.names d.master.logged.next_file r d.master.snapshots) → ((e : MasterDoing) → IsAfter d r e → At e → At (then_ e)) → At d → At (logs d r then_)
+  logs_keeps_after d r then_ due named go h =
+      let kept : (l : Logged) → l.names ≡ d.master.logged.names → l.next_file ≡ d.master.logged.next_file → Asks → IsNamespace (after_record l r).names d.master.snapshots =
+      λ l same next asks. subst (λ (n : Names). IsNamespace n d.master.snapshots) (sym (names_are_after l r ∙ ap (λ (n : Names). names_after n l.next_file r) same ∙ ap (λ (n : ℕ). names_after d.master.logged.names n r) next)) (named asks).after in
+      let names : Asks → AreNames d.master.logged r = λ asks. record { due = (named asks).due; before = (h.2 asks).tree; after = (named asks).after.tree } in
+      let less : Logged = copies_given_up d.master.logged (table.keys d.master.logged.copies) in
+      let names_later : Asks → AreNames less r = λ asks. record { due = (named asks).due; before = (h.2 asks).tree; after = (named asks).after.tree } in
       let was : Bool = is_of_copy d.master.logged r in
-      on_cond At (fits d r) (then_ (appends d r)) _ (λ _. go (appends d r) (k.appends (core_of d) r due h))
+      on_cond At (fits d r) (then_ (appends d r)) _ (λ _. go (appends d r) (inl refl) (k.appends (core_of d) r due names h.0, h.1, kept d.master.logged refl refl))
       (λ _. on_cond At (checkpoint_fits d.master.config.log_bytes (checkpoint_of d.master.logged)) (logs_after_checkpoint (writes_checkpoint d) r was then_) d
       (λ _. on_cond At (fits (writes_checkpoint d) r && not was) (then_ (appends (writes_checkpoint d) r)) (writes_checkpoint d)
-      (λ t. go (appends (writes_checkpoint d) r)
-      (k.appends (core_of (writes_checkpoint d)) r (due_later d.master.logged r (neither (fits (writes_checkpoint d) r) was t) due) (checkpoint_keeps d h)))
+      (λ t. go (appends (writes_checkpoint d) r) (inr refl)
+      (k.appends (core_of (writes_checkpoint d)) r (due_later d.master.logged r (neither (fits (writes_checkpoint d) r) was t) due) names_later (checkpoint_keeps d h).0, (checkpoint_keeps d h).1, kept less refl refl))
       (λ _. checkpoint_keeps d h))
       (λ _. h))
+
+  pub logs_keeps : (d : MasterDoing) (r : Record) (then_ : MasterDoing → MasterDoing) → IsDue d.master.logged r
+      → (Asks → IsNamed d.master.logged.names d.master.logged.next_file r d.master.snapshots) → ((e : MasterDoing) → At e → At (then_ e)) → At d → At (logs d r then_)
+  logs_keeps d r then_ due named go h = logs_keeps_after d r then_ due named (λ e after. go e) h

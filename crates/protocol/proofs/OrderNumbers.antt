@@ -6,18 +6,19 @@ use Rattle.std.proofs.lemmas.Bool.{eqb-true, cases_lt}
 use Rattle.gfs_types.specs.declared.ids.Node.TheVariants as node
 use Rattle.gfs_types.specs.declared.ids.OrderNo.{OrderNo}
 use Rattle.gfs_types.specs.declared.message.Body.{Body}
+use Rattle.gfs_types.specs.declared.message.Body.TheVariants as body
 use Rattle.gfs_types.specs.declared.message.Message.{Message}
 use Rattle.gfs_types.specs.declared.record.Record.{Record}
 use Rattle.gfs_types.specs.declared.record.Record.TheVariants as log
 use Rattle.gfs_types.specs.Paths.{Path}
 use Rattle.relaxed_file.specs.Names.{Node as NameNode, Dir, File}
 use Rattle.protocol.specs.Choice.{decided_changes}
-use Rattle.protocol.specs.Sending.{message, the_server, file_id, handle_of}
+use Rattle.protocol.specs.Sending.{message, the_server, file_id, handle_of, version_of}
 use Rattle.protocol.specs.ChunkTable.{ChunkRow, ChunkTable}
 use Rattle.protocol.specs.Logged.{Logged, KeptCall, Copy, copies_given_up, LogDisk, LogChange, AppendRecord, WriteCheckpoint, first_logged, log_changed, log_changed_by_all, after_record, after_records, checkpoint_of, name_item, node_item, chunk_item, client_item, swapped_in}
 use Rattle.protocol.specs.Laws.{order_number, is_number, orders_under}
 use Rattle.protocol.proofs.Steps.{tally, count-append}
-use Rattle.protocol.proofs.MasterMoves.{Core, IsDue, Keeps, core_changed}
+use Rattle.protocol.proofs.MasterMoves.{Core, IsDue, Nothing, Keeps, core_changed}
 use Rattle.protocol.proofs.ClientMoves.{one_more}
 
 -- the state that a log leads to, before copies are given up
@@ -162,7 +163,7 @@ none_of c h e n is =
       | inr more ↦ absurd (let was = h.used e n more in let bound = was.2 in omega arith)
     ]
 
-pub numbers_keep : (start : LogDisk) (epoch before : ℕ) → Keeps (Numbers start epoch before)
+pub numbers_keep : (start : LogDisk) (epoch before : ℕ) → Keeps ⊥ Nothing (Numbers start epoch before)
 numbers_keep start epoch before =
     record {
       tells = λ c receiver b none h.
@@ -177,9 +178,10 @@ numbers_keep start epoch before =
             once = λ e n. let same = one_more c.sent node.Master receiver b none e n in let old = h.once e n in omega arith;
             used = λ e n more. let same = one_more c.sent node.Master receiver b none e n in h.used e n (omega arith);
           };
-      orders = λ c server b is h. ordered c server b is h;
-      appends = λ c r due h. appended c r due h;
-      checkpoint = λ c h. checkpointed c h;
+      orders = λ c server b is plain h. ordered c server b is h;
+      grants = λ c primary handle version until members told h. ordered c primary (λ order. body.Grant order (handle_of handle) (version_of version) until members) (λ o. refl) h;
+      appends = λ c r due names h. appended c r due h;
+      checkpoint = λ c tree h. checkpointed c h;
       less = λ c handles h.
           record { up = h.up; none = h.none; logged = h.logged; disk = h.disk; on_disk = h.on_disk; stops = h.stops; rising = h.rising; once = h.once; used = h.used };
       ends = λ c handle moment h.

@@ -1,38 +1,25 @@
 -- No two orders of the master have one number: by steps, openings and events.
-use Rattle.std.proofs.Common.{◌≡◌, ◌⊎◌, ℕ, suc, ◌+◌, ◌-◌, ◌≤◌, Bool, true, false, List, [], ◌∷◌, ◌++◌, length, take, drop, Option, Some, None, refl, sym, ap, subst, ◌∙◌, inl, inr, arith}
-use Rattle.std.specs.Prelude.{nat_lt, nat_le, ◌&&◌, not, IsTrue}
+use Rattle.std.proofs.Common.{◌≡◌, ◌⊎◌, ℕ, suc, ◌+◌, ◌≤◌, Bool, true, false, List, [], ◌∷◌, ◌++◌, take, drop, refl, sym, ap, subst, ◌∙◌, inl, inr, arith}
+use Rattle.std.specs.Prelude.{◌&&◌, not, IsTrue}
 use Rattle.std.proofs.lemmas.Bool.{eqb-true, cases_lt}
 use Rattle.gfs_types.specs.declared.config.Config.{Config}
-use Rattle.gfs_types.specs.declared.ids.Node.{Node}
-use Rattle.gfs_types.specs.declared.ids.Node.TheVariants as node
-use Rattle.gfs_types.specs.declared.call.Call.{Call}
 use Rattle.gfs_types.specs.declared.message.Message.{Message}
 use Rattle.gfs_types.specs.declared.record.Record.{Record}
 use Rattle.gfs_types.specs.declared.record.Record.TheVariants as log
-use Rattle.gfs_types.specs.declared.event.Event.{Event}
-use Rattle.gfs_types.specs.declared.event.Event.TheVariants as event
 use Rattle.gfs_types.specs.declared.event.Input.{Input}
-use Rattle.gfs_types.specs.declared.event.Input.TheVariants as input
-use Rattle.protocol.specs.Tables.{moment_limit}
 use Rattle.protocol.specs.Choice.{Choice, Ending, Goes, Lost, Stops, in_order}
 use Rattle.protocol.specs.Seen.{Taken, no_step}
 use Rattle.protocol.specs.LogSizes.{checkpoint_fits}
 use Rattle.protocol.specs.Logged.{Logged, LogDisk, LogChange, AppendRecord, WriteCheckpoint, first_logged, log_changed, log_changed_by_all, checkpoint_of}
 use Rattle.protocol.specs.Master.{MasterState, MasterDoing, stopped_master, master_begins, fits, appends, writes_checkpoint, logs_after_checkpoint, is_of_copy}
-use Rattle.protocol.specs.MasterStep.{master_at, master_goes, master_ends, master_bounded, master_step, is_within_limits, found_log, started_master, opening, has_opened, opens_as, master_restart}
-use Rattle.protocol.specs.MasterSnapshots.{first_is_true}
-use Rattle.protocol.specs.Replicas.{Replica, replica_of}
-use Rattle.protocol.specs.Server.{ServerState, ServerDoing}
-use Rattle.protocol.specs.ServerStep.{server_goes, server_ends, server_step, server_restarts, server_restart}
-use Rattle.protocol.specs.Client.{ClientState, ClientDoing}
-use Rattle.protocol.specs.ClientStep.{may_call, client_goes, client_call_goes, client_ends, client_bounded, client_step, client_call, is_client_within_limits}
-use Rattle.protocol.specs.World.{WorldState, Happened, new_world, nothing_happens, numbered_from_1, stamped, after_master, after_server, after_client, master_moves, server_moves, client_moves, moves, delivered, server_restarts_at, restarts, call_moves, rots_replica, rots_on, at_moment, happens, after_events}
+use Rattle.protocol.specs.MasterStep.{master_at, master_goes, master_ends, master_bounded, master_step, is_within_limits, found_log, started_master, opening, has_opened, opens_as, master_restart, new_master}
+use Rattle.protocol.specs.World.{stamped}
 use Rattle.protocol.specs.Laws.{order_number, is_number, orders_under, OrdersAreNumberedOnce}
 use Rattle.protocol.proofs.Steps.{on_cond, count-cons, count-append, count-in_order}
 use Rattle.protocol.proofs.MasterMoves.{core_of}
 use Rattle.protocol.proofs.MasterSteps.{goes_keeps}
-use Rattle.protocol.proofs.ServerMoves.{KeepsServer, server_goes_holds}
-use Rattle.protocol.proofs.ClientMoves.{HasNoOrder, one_more, client_goes_quiet, client_call_quiet}
+use Rattle.protocol.proofs.ClientMoves.{HasNoOrder}
+use Rattle.protocol.proofs.SentReached.{no_orders, sent_reached}
 use Rattle.protocol.proofs.OrderNumbers.{epoch_of, state-appended, checkpoint_epoch, AllStops, stops_push, changed-push, AllFound, found_same, found_stopped, Numbers, numbers_keep}
 
 -- each number once, and none past the master's
@@ -83,9 +70,6 @@ still_numbered sent ms k m quiet h =
   where
     fewer : (e n : ℕ) → 1 ≤ orders_under e n (sent ++ stamped k ms) → 1 ≤ orders_under e n sent
     fewer e n more = let same = count-silent e n k sent ms quiet in omega (arith, same, more)
-
-no_orders : HasNoOrder []
-no_orders e n = refl
 
 -- a master that is put down
 down_numbered : (sent : List Message) (k : ℕ) (m : MasterState) (disk : LogDisk) (under_way : List LogChange) → AreNumbered sent m
@@ -273,133 +257,8 @@ restart_numbered : (sent : List Message) (k : ℕ) (m : MasterState) (moment : �
     → AreNumbered (sent ++ stamped k (master_restart m moment choice).out.sent) (master_restart m moment choice).state
 restart_numbered sent k m moment choice h = opens_numbered sent k m moment choice choice.ending h
 
--- servers and clients send no order
-
-quiet_keeps : KeepsServer (λ c. HasNoOrder c.sent)
-quiet_keeps =
-    record {
-      says = λ c sender receiver b none h e n. one_more c.sent sender receiver b none e n ∙ h e n;
-      stores = λ c x is h. h;
-      takes = λ c epoch count new h. h;
-    }
-
-in_order_quiet : (order : List ℕ) (ms : List Message) → HasNoOrder ms → HasNoOrder (in_order order ms)
-in_order_quiet order ms h e n = count-in_order (λ (x : Message). is_number e n (order_number x.body)) order ms ∙ h e n
-
-server_ends_quiet : (s : ServerState) (d : ServerDoing) (choice : Choice) (e : Ending) → HasNoOrder d.sent → HasNoOrder (server_ends s d choice e).out.sent
-server_ends_quiet s d choice Goes h = in_order_quiet choice.order d.sent h
-server_ends_quiet s d choice Lost h = no_orders
-server_ends_quiet s d choice (Stops made) h = no_orders
-
-server_quiet : (s : ServerState) (moment : ℕ) (i : Input) (choice : Choice) → HasNoOrder (server_step s moment i choice).out.sent
-server_quiet s moment i choice =
-    on_cond (λ (t : Taken ServerState). HasNoOrder t.out.sent) s.up (server_ends s (server_goes s moment i) choice choice.ending) (no_step s)
-    (λ _. server_ends_quiet s (server_goes s moment i) choice choice.ending (server_goes_holds (λ c. HasNoOrder c.sent) quiet_keeps s moment i no_orders)) (λ _. no_orders)
-
-server_restarts_quiet : (s : ServerState) (moment : ℕ) (choice : Choice) (e : Ending) → HasNoOrder (server_restarts s moment choice e).out.sent
-server_restarts_quiet s moment choice Goes = no_orders
-server_restarts_quiet s moment choice Lost = no_orders
-server_restarts_quiet s moment choice (Stops made) = no_orders
-
-client_ends_quiet : (s : ClientState) (d : ClientDoing) (choice : Choice) (e : Ending) → HasNoOrder d.sent → HasNoOrder (client_ends s d choice e).out.sent
-client_ends_quiet s d choice Goes h = in_order_quiet choice.order d.sent h
-client_ends_quiet s d choice Lost h = no_orders
-client_ends_quiet s d choice (Stops made) h = no_orders
-
-client_quiet : (s : ClientState) (moment : ℕ) (i : Input) (choice : Choice) → HasNoOrder (client_step s moment i choice).out.sent
-client_quiet s moment i choice =
-    let d : ClientDoing = client_goes s moment i in
-    let quiet : Taken ClientState → Type 0 = λ t. HasNoOrder t.out.sent in
-    on_cond quiet s.up (client_bounded s d choice) (no_step s)
-    (λ _. on_cond quiet (is_client_within_limits d.client) (client_ends s d choice choice.ending) (no_step s) (λ _. client_ends_quiet s d choice choice.ending (client_goes_quiet s moment i)) (λ _. no_orders))
-    (λ _. no_orders)
-
-call_quiet : (s : ClientState) (moment : ℕ) (c : Call) (choice : Choice) → HasNoOrder (client_call s moment c choice).out.sent
-call_quiet s moment c choice =
-    on_cond (λ (t : Taken ClientState). HasNoOrder t.out.sent) (first_is_true choice.refused) _ (client_ends s (client_call_goes s moment c) choice choice.ending)
-    (λ _. client_ends_quiet s _ choice choice.ending no_orders)
-    (λ _. client_ends_quiet s (client_call_goes s moment c) choice choice.ending (client_call_quiet s moment c))
-
--- worlds
-
-abbrev IsNumbered : WorldState → Type 0
-IsNumbered w = AreNumbered w.sent w.master
-
-abbrev KeepsNumbers : Happened → Type 0
-KeepsNumbers x = IsNumbered x.world
-
-master_moves_numbered : (w : WorldState) (moment : ℕ) (i : Input) (choice : Choice) → IsNumbered w → KeepsNumbers (master_moves w moment i choice)
-master_moves_numbered w moment i choice h =
-    on_cond KeepsNumbers w.master.up (after_master w moment (master_step w.master moment i choice)) (nothing_happens w)
-    (λ _. step_numbered w.sent (suc (length w.sent)) w.master moment i choice h) (λ _. h)
-
-server_moves_numbered : (w : WorldState) (index moment : ℕ) (i : Input) (choice : Choice) (o : Option ServerState) → IsNumbered w → KeepsNumbers (server_moves w index moment i choice o)
-server_moves_numbered w index moment i choice None h = h
-server_moves_numbered w index moment i choice (Some s) h =
-    on_cond KeepsNumbers s.up (after_server w index moment (server_step s moment i choice)) (nothing_happens w)
-    (λ _. still_numbered w.sent (server_step s moment i choice).out.sent (suc (length w.sent)) w.master (server_quiet s moment i choice) h) (λ _. h)
-
-client_moves_numbered : (w : WorldState) (index moment : ℕ) (i : Input) (choice : Choice) (o : Option ClientState) → IsNumbered w → KeepsNumbers (client_moves w index moment i choice o)
-client_moves_numbered w index moment i choice None h = h
-client_moves_numbered w index moment i choice (Some s) h =
-    on_cond KeepsNumbers s.up (after_client w index moment (client_step s moment i choice)) (nothing_happens w)
-    (λ _. still_numbered w.sent (client_step s moment i choice).out.sent (suc (length w.sent)) w.master (client_quiet s moment i choice) h) (λ _. h)
-
-moves_numbered : (w : WorldState) (n : Node) (moment : ℕ) (i : Input) (choice : Choice) → IsNumbered w → KeepsNumbers (moves w n moment i choice)
-moves_numbered w node.Master moment i choice h = master_moves_numbered w moment i choice h
-moves_numbered w (node.Server s) moment i choice h = server_moves_numbered w (s.0 - 1) moment i choice (numbered_from_1 w.servers s.0) h
-moves_numbered w (node.Client c) moment i choice h = client_moves_numbered w (c.0 - 1) moment i choice (numbered_from_1 w.clients c.0) h
-
-delivered_numbered : (w : WorldState) (moment : ℕ) (choice : Choice) (o : Option Message) → IsNumbered w → KeepsNumbers (delivered w moment choice o)
-delivered_numbered w moment choice None h = h
-delivered_numbered w moment choice (Some m) h = moves_numbered w m.receiver moment (input.Deliver m) choice h
-
-server_restarts_numbered : (w : WorldState) (index moment : ℕ) (choice : Choice) (o : Option ServerState) → IsNumbered w → KeepsNumbers (server_restarts_at w index moment choice o)
-server_restarts_numbered w index moment choice None h = h
-server_restarts_numbered w index moment choice (Some s) h =
-    still_numbered w.sent (server_restart s moment choice).out.sent (suc (length w.sent)) w.master (server_restarts_quiet s moment choice choice.ending) h
-
-restarts_numbered : (w : WorldState) (n : Node) (moment : ℕ) (choice : Choice) → IsNumbered w → KeepsNumbers (restarts w n moment choice)
-restarts_numbered w node.Master moment choice h = restart_numbered w.sent (suc (length w.sent)) w.master moment choice h
-restarts_numbered w (node.Server s) moment choice h = server_restarts_numbered w (s.0 - 1) moment choice (numbered_from_1 w.servers s.0) h
-restarts_numbered w (node.Client c) moment choice h = h
-
-calls_numbered : (w : WorldState) (index moment : ℕ) (c : Call) (choice : Choice) (o : Option ClientState) → IsNumbered w → KeepsNumbers (call_moves w index moment c choice o)
-calls_numbered w index moment c choice None h = h
-calls_numbered w index moment c choice (Some s) h =
-    on_cond KeepsNumbers (may_call s moment c) _ (nothing_happens w)
-    (λ _. still_numbered w.sent (client_call s moment c choice).out.sent (suc (length w.sent)) w.master (call_quiet s moment c choice) h) (λ _. h)
-
-rots_replica_numbered : (w : WorldState) (index : ℕ) (s : ServerState) (handle place byte : ℕ) (choice : Choice) (o : Option Replica) → IsNumbered w
-    → KeepsNumbers (rots_replica w index s handle place byte choice o)
-rots_replica_numbered w index s handle place byte choice None h = h
-rots_replica_numbered w index s handle place byte choice (Some r) h = h
-
-rots_numbered : (w : WorldState) (index handle place byte : ℕ) (choice : Choice) (o : Option ServerState) → IsNumbered w → KeepsNumbers (rots_on w index handle place byte choice o)
-rots_numbered w index handle place byte choice None h = h
-rots_numbered w index handle place byte choice (Some s) h =
-    on_cond KeepsNumbers (s.up && nat_lt place w.config.chunk) (rots_replica w index s handle place byte choice (replica_of s.disk handle)) (nothing_happens w)
-    (λ _. rots_replica_numbered w index s handle place byte choice (replica_of s.disk handle) h) (λ _. h)
-
-at_moment_numbered : (w : WorldState) (moment : ℕ) (x : Happened) → IsNumbered w → KeepsNumbers x → KeepsNumbers (at_moment w moment x)
-at_moment_numbered w moment x h g = on_cond KeepsNumbers (nat_le moment moment_limit) x (nothing_happens w) (λ _. g) (λ _. h)
-
-happens_numbered : (w : WorldState) (e : Event) (choice : Choice) → IsNumbered w → KeepsNumbers (happens w e choice)
-happens_numbered w (event.Call client c now) choice h =
-    at_moment_numbered w now.0 (call_moves w (client.0 - 1) now.0 c choice (numbered_from_1 w.clients client.0)) h (calls_numbered w (client.0 - 1) now.0 c choice (numbered_from_1 w.clients client.0) h)
-happens_numbered w (event.Deliver number now) choice h =
-    at_moment_numbered w now.0 (delivered w now.0 choice (numbered_from_1 w.sent number)) h (delivered_numbered w now.0 choice (numbered_from_1 w.sent number) h)
-happens_numbered w (event.Tick n now) choice h = at_moment_numbered w now.0 (moves w n now.0 input.Tick choice) h (moves_numbered w n now.0 input.Tick choice h)
-happens_numbered w (event.Restart n now) choice h = at_moment_numbered w now.0 (restarts w n now.0 choice) h (restarts_numbered w n now.0 choice h)
-happens_numbered w (event.Rot server handle place byte) choice h = rots_numbered w (server.0 - 1) handle.0 place byte choice (numbered_from_1 w.servers server.0) h
-happens_numbered w (event.Fuse n count torn) choice h = h
-
-events_numbered : (w : WorldState) (steps : List (Event × Choice)) → IsNumbered w → IsNumbered (after_events w steps)
-events_numbered w [] h = h
-events_numbered w (step ∷ rest) h = events_numbered (happens w step.0 step.1).world rest (happens_numbered w step.0 step.1 h)
-
-new_numbered : (config : Config) (servers clients : ℕ) → IsNumbered (new_world config servers clients)
-new_numbered config servers clients =
+new_numbered : (config : Config) (servers : ℕ) → AreNumbered [] (new_master config servers)
+new_numbered config servers =
     record {
       once = λ e n. omega arith;
       bounded = λ e n more. absurd (let none : 1 ≤ 0 = more in omega (arith, none));
@@ -410,5 +269,10 @@ new_numbered config servers clients =
 
 pub orders_are_numbered_once : OrdersAreNumberedOnce
 orders_are_numbered_once config servers clients w r epoch count =
-    subst (λ (v : WorldState). orders_under epoch count v.sent ≤ 1) r.1
-    ((events_numbered (new_world config servers clients) r.0 (new_numbered config servers clients)).once epoch count)
+    (sent_reached AreNumbered
+    (record {
+      new = new_numbered;
+      quiet = still_numbered;
+      steps = λ sent k m moment i choice is h. step_numbered sent k m moment i choice h;
+      restarts = restart_numbered;
+    }) config servers clients w r).once epoch count

@@ -1,14 +1,23 @@
 -- Laws of every lawful list of events, restarts, losses and repeats included, that public functions of this crate state.
-use Rattle.std.specs.Prelude.{◌≡◌, ◌⊎◌, ℕ, ◌≤◌, ◌<◌, Bool, false, ◌==◌, ◌&&◌, List, count_by, Option, Some, None}
+use Rattle.std.specs.Prelude.{◌≡◌, ◌⊎◌, ℕ, ◌≤◌, ◌<◌, Bool, false, ◌==◌, ◌&&◌, List, count_by, Option, Some, None, IsTrue}
+use Rattle.std.specs.List.{list_any}
+use Rattle.std.specs.FinMap as table
 use Rattle.gfs_types.specs.declared.config.Config.{Config}
 use Rattle.gfs_types.specs.declared.ids.OrderNo.{OrderNo}
+use Rattle.gfs_types.specs.declared.ids.Handle.{Handle}
+use Rattle.gfs_types.specs.declared.ids.Version.{Version}
+use Rattle.gfs_types.specs.declared.ids.Moment.{Moment}
 use Rattle.gfs_types.specs.declared.event.Event.{Event}
 use Rattle.gfs_types.specs.declared.message.Message.{Message}
 use Rattle.gfs_types.specs.declared.message.Body.{Body}
 use Rattle.gfs_types.specs.declared.message.Body.TheVariants as body
-use Rattle.protocol.specs.Tables.{element_at}
+use Rattle.gfs_types.specs.Paths.{Path}
+use Rattle.relaxed_file.specs.Names.{Names, File, IsTree, node_at}
+use Rattle.protocol.specs.Tables.{element_at, has_number}
+use Rattle.protocol.specs.Sending.{the_server}
 use Rattle.protocol.specs.Choice.{Choice}
 use Rattle.protocol.specs.ChunkTable.{ChunkRow, chunk_of}
+use Rattle.protocol.specs.Logged.{Logged, replayed}
 use Rattle.protocol.specs.Server.{ServerState}
 use Rattle.protocol.specs.World.{WorldState, after_events, IsReached}
 
@@ -53,3 +62,52 @@ abbrev pub GrantedIsAtMostIssued : Type 0
 GrantedIsAtMostIssued =
     (config : Config) (servers clients : ℕ) (w : WorldState) → IsReached config servers clients w
     → (handle : ℕ) (row : ChunkRow) → chunk_of w.master.logged.table handle ≡ Some row → row.granted ≤ row.issued
+
+-- whether a message's sender tells that it has this version of a chunk: it recorded it, or reports it
+abbrev pub tells_version : ℕ → ℕ → Body → Bool
+tells_version handle version (body.Recorded h v) = (h.0 == handle) && (v.0 == version)
+tells_version handle version (body.Report replicas leases) = list_any (λ line. (line.handle.0 == handle) && (line.version.0 == version)) replicas
+tells_version handle version other = false
+
+-- one of the messages before this place is the server's, which tells so
+abbrev pub WasTold : List Message → ℕ → ℕ → ℕ → ℕ → Type 0
+WasTold sent end server handle version =
+    (place : ℕ) × (place < end) × (word : Message) × (element_at sent place ≡ Some word) × (word.sender ≡ the_server server) × IsTrue (tells_version handle version word.body)
+
+-- Before a version is granted, each member has told that it has it (section 3.1).
+abbrev pub MembersRecordedWhatIsGranted : Type 0
+MembersRecordedWhatIsGranted =
+    (config : Config) (servers clients : ℕ) (w : WorldState) → IsReached config servers clients w
+    → (place : ℕ) (grant : Message) (order : OrderNo) (handle : Handle) (version : Version) (end_moment : Moment) (members : List ℕ)
+    → element_at w.sent place ≡ Some grant → grant.body ≡ body.Grant order handle version end_moment members
+    → (member : ℕ) → IsTrue (has_number members member) → WasTold w.sent place member handle.0 version.0
+
+-- The names of a master that is up are a tree (section 4.1).
+abbrev pub MasterNamesAreATree : Type 0
+MasterNamesAreATree =
+    (config : Config) (servers clients : ℕ) (w : WorldState) → IsReached config servers clients w → IsTrue w.master.up → IsTree w.master.logged.names
+
+-- the same but for files and chunks: names, counters, epoch and the answers that are kept
+abbrev pub HaveSameNames : Logged → Logged → Type 0
+HaveSameNames l k = (l.names ≡ k.names) × (l.next_file ≡ k.next_file) × (l.next_handle ≡ k.next_handle) × (l.epoch ≡ k.epoch) × (l.kept ≡ k.kept)
+
+-- The log, replayed, has the names, counters, epoch and kept answers of a master that is up (sections 2.6.3 and 4.1).
+abbrev pub LogHasTheNames : Type 0
+LogHasTheNames =
+    (config : Config) (servers clients : ℕ) (w : WorldState) → IsReached config servers clients w → IsTrue w.master.up → HaveSameNames w.master.logged (replayed w.master.disk)
+
+-- the path is a name of the file
+abbrev pub IsNamed : Names → Path → ℕ → Type 0
+IsNamed names path file = node_at names path ≡ Some (File file)
+
+-- each file has just one name, and each name's file is there
+abbrev pub EachFileHasOneName : Logged → Type 0
+EachFileHasOneName l =
+    ((file : ℕ) → IsTrue (table.contains_key l.table.files file) → (path : Path) × IsNamed l.names path file × ((other : Path) → IsNamed l.names other file → path ≡ other))
+    × ((path : Path) (file : ℕ) → IsNamed l.names path file → IsTrue (table.contains_key l.table.files file))
+
+-- At a master that is up each file has just one name, and each name's file is there; and so in its log, replayed (sections 2.6.1 and 4.1).
+abbrev pub FilesHaveOneName : Type 0
+FilesHaveOneName =
+    (config : Config) (servers clients : ℕ) (w : WorldState) → IsReached config servers clients w → IsTrue w.master.up
+    → EachFileHasOneName w.master.logged × EachFileHasOneName (replayed w.master.disk)

@@ -1,6 +1,6 @@
 //! Laws of every lawful list of events from a new cell: calls, deliveries, losses, repeats, ticks, restarts, stops in a step, refused memory and rot.
 
-ghost use Rattle.protocol.specs.Laws.{GrantedIsAtMostIssued, OrderNumbersNeverFall, OrdersAreNumberedOnce};
+ghost use Rattle.protocol.specs.Laws.{FilesHaveOneName, GrantedIsAtMostIssued, LogHasTheNames, MasterNamesAreATree, MembersRecordedWhatIsGranted, OrderNumbersNeverFall, OrdersAreNumberedOnce};
 
 /// No two orders of the master have one number, over its restarts and stops too.
 pub fn orders_are_numbered_once()
@@ -15,4 +15,24 @@ pub fn order_numbers_never_fall()
 /// The granted version of a chunk is at most the issued one, also after each restart of the master.
 pub fn granted_is_at_most_issued()
     ensures { GrantedIsAtMostIssued }
+{}
+
+/// Before a version is granted, each member has told the master that it has it: it recorded it, or reported it.
+pub fn members_recorded_what_is_granted()
+    ensures { MembersRecordedWhatIsGranted }
+{}
+
+/// The names of a master that is up are a tree, after each of its restarts too.
+pub fn master_names_are_a_tree()
+    ensures { MasterNamesAreATree }
+{}
+
+/// The log, replayed, has the names, counters, epoch and kept answers of a master that is up. It says nothing of files and chunks.
+pub fn log_has_the_names()
+    ensures { LogHasTheNames }
+{}
+
+/// At a master that is up each file has just one name, and each name's file is there; and so in its log, replayed.
+pub fn files_have_one_name()
+    ensures { FilesHaveOneName }
 {}

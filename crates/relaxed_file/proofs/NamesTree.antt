@@ -31,63 +31,63 @@ use Rattle.relaxed_file.proofs.AskedFor.{all_pushed}
 use Rattle.relaxed_file.proofs.PathParts.{HasNoSlash, equal_paths, same_paths, other_paths, Parted, at_slash, whole, parted, parent_of, child_of_parent, IsTail, at_or_below_from, at_or_below_is}
 
 -- look-ups after a change, by the bytes of the paths
-get_inserted : (names : Names) (p : Path) (v : Node) (q : Path) → node_at (map.insert names p v) q ≡ cond (bytes_eq q p) (Some v) (node_at names q)
+pub get_inserted : (names : Names) (p : Path) (v : Node) (q : Path) → node_at (map.insert names p v) q ≡ cond (bytes_eq q p) (Some v) (node_at names q)
 get_inserted names p v q = map.get-insert nat_list_cmp_total names p v q ∙ ap (λ b. cond b (Some v) (node_at names q)) (is_eq-slice_cmp q p)
 
-get_removed : (names : Names) (p q : Path) → node_at (map.remove names p) q ≡ cond (bytes_eq q p) None (node_at names q)
+pub get_removed : (names : Names) (p q : Path) → node_at (map.remove names p) q ≡ cond (bytes_eq q p) None (node_at names q)
 get_removed names p q = map.get-remove nat_list_cmp_total names p q ∙ ap (λ b. cond b None (node_at names q)) (is_eq-slice_cmp q p)
 
-inserted_there : (names : Names) (p : Path) (v : Node) (q : Path) → q ≡ p → node_at (map.insert names p v) q ≡ Some v
+pub inserted_there : (names : Names) (p : Path) (v : Node) (q : Path) → q ≡ p → node_at (map.insert names p v) q ≡ Some v
 inserted_there names p v q same = get_inserted names p v q ∙ ap (λ b. cond b (Some v) (node_at names q)) (same_paths q p same)
 
-inserted_other : (names : Names) (p : Path) (v : Node) (q : Path) → (q ≡ p → ⊥) → node_at (map.insert names p v) q ≡ node_at names q
+pub inserted_other : (names : Names) (p : Path) (v : Node) (q : Path) → (q ≡ p → ⊥) → node_at (map.insert names p v) q ≡ node_at names q
 inserted_other names p v q other = get_inserted names p v q ∙ ap (λ b. cond b (Some v) (node_at names q)) (other_paths q p other)
 
-removed_other : (names : Names) (p q : Path) → (q ≡ p → ⊥) → node_at (map.remove names p) q ≡ node_at names q
+pub removed_other : (names : Names) (p q : Path) → (q ≡ p → ⊥) → node_at (map.remove names p) q ≡ node_at names q
 removed_other names p q other = get_removed names p q ∙ ap (λ b. cond b None (node_at names q)) (other_paths q p other)
 
-removed_there : (names : Names) (p q : Path) → q ≡ p → node_at (map.remove names p) q ≡ None
+pub removed_there : (names : Names) (p q : Path) → q ≡ p → node_at (map.remove names p) q ≡ None
 removed_there names p q same = get_removed names p q ∙ ap (λ b. cond b None (node_at names q)) (same_paths q p same)
 
-same_or_other : (q p : Path) → (q ≡ p) ⊎ (q ≡ p → ⊥)
+pub same_or_other : (q p : Path) → (q ≡ p) ⊎ (q ≡ p → ⊥)
 same_or_other q p = elim (bytes_eq q p) as (λ b. bytes_eq q p ≡ b → (q ≡ p) ⊎ (q ≡ p → ⊥)) [
   | true ↦ λ e. inl (equal_paths q p e)
   | false ↦ λ e. inr (λ same. true≢false (sym (same_paths q p same) ∙ e))
 ] refl
 
 -- what is a directory is taken
-dir_taken : (o : Option Node) → is_dir_node o ≡ true → is_some o ≡ true
+pub dir_taken : (o : Option Node) → is_dir_node o ≡ true → is_some o ≡ true
 dir_taken None h = absurd (false≢true h)
 dir_taken (Some v) h = refl
 
-dir_there : (o : Option Node) → is_dir_node o ≡ true → o ≡ Some Dir
+pub dir_there : (o : Option Node) → is_dir_node o ≡ true → o ≡ Some Dir
 dir_there None h = absurd (false≢true h)
 dir_there (Some Dir) h = refl
 dir_there (Some (File id)) h = absurd (false≢true h)
 
-taken_there : (o : Option Node) → is_some o ≡ true → (v : Node) × (o ≡ Some v)
+pub taken_there : (o : Option Node) → is_some o ≡ true → (v : Node) × (o ≡ Some v)
 taken_there None h = absurd (false≢true h)
 taken_there (Some v) h = (v, refl)
 
 -- a tree whose hidden names are files
-record Tree (names : Names) : Type 0 where
-  is : IsTree names
-  hidden_are_files : (moment id : ℕ) → is_dir names (hidden_name moment id) ≡ false
+pub record Tree (names : Names) : Type 0 where
+  pub is : IsTree names
+  pub hidden_are_files : (moment id : ℕ) → is_dir names (hidden_name moment id) ≡ false
 
 -- the two are apart where one is a directory and the other isn't
 apart : (names : Names) (p q : Path) → is_dir names p ≡ false → is_dir names q ≡ true → q ≡ p → ⊥
 apart names p q plain dir same = true≢false (sym dir ∙ ap (is_dir names) same ∙ plain)
 
-dir_kept : (names : Names) (p : Path) (v : Node) (q : Path) → (q ≡ p → v ≡ Dir) → is_dir names q ≡ true → is_dir (map.insert names p v) q ≡ true
+pub dir_kept : (names : Names) (p : Path) (v : Node) (q : Path) → (q ≡ p → v ≡ Dir) → is_dir names q ≡ true → is_dir (map.insert names p v) q ≡ true
 dir_kept names p v q dir h = ⊎_elim
     (λ same. ap is_dir_node (inserted_there names p v q same) ∙ ap (λ w. is_dir_node (Some w)) (dir same))
     (λ other. ap is_dir_node (inserted_other names p v q other) ∙ h)
     (same_or_other q p)
 
-taken_before : (names : Names) (p : Path) (v : Node) (q : Path) → is_taken (map.insert names p v) q ≡ true → (q ≡ p) ⊎ (is_taken names q ≡ true)
+pub taken_before : (names : Names) (p : Path) (v : Node) (q : Path) → is_taken (map.insert names p v) q ≡ true → (q ≡ p) ⊎ (is_taken names q ≡ true)
 taken_before names p v q h = ⊎_elim (λ same. inl same) (λ other. inr (sym (ap is_some (inserted_other names p v q other)) ∙ h)) (same_or_other q p)
 
-added : (names : Names) (p : Path) (v : Node) → Tree names → is_dir names (parent p) ≡ true → ((q : Path) → is_dir names q ≡ true → q ≡ p → v ≡ Dir)
+pub added : (names : Names) (p : Path) (v : Node) → Tree names → is_dir names (parent p) ≡ true → ((q : Path) → is_dir names q ≡ true → q ≡ p → v ≡ Dir)
     → ((moment id : ℕ) → hidden_name moment id ≡ p → is_dir_node (Some v) ≡ false) → Tree (map.insert names p v)
 added names p v tree above dirs hides = record {
   is = record {
@@ -104,7 +104,7 @@ added names p v tree above dirs hides = record {
       (same_or_other (hidden_name moment id) p);
 }
 
-removed : (names : Names) (p : Path) → Tree names → (root ≡ p → ⊥) → (trash ≡ p → ⊥) → ((q : Path) → is_taken names q ≡ true → parent q ≡ p → ⊥) → Tree (map.remove names p)
+pub removed : (names : Names) (p : Path) → Tree names → (root ≡ p → ⊥) → (trash ≡ p → ⊥) → ((q : Path) → is_taken names q ≡ true → parent q ≡ p → ⊥) → Tree (map.remove names p)
 removed names p tree no_root no_trash childless = record {
   is = record {
     root_is_dir = ap is_dir_node (removed_other names p root no_root) ∙ (tree.is).root_is_dir;
@@ -121,11 +121,11 @@ removed names p tree no_root no_trash childless = record {
       (same_or_other (hidden_name moment id) p);
 }
 
-file_removed : (names : Names) (p : Path) → Tree names → is_dir names p ≡ false → Tree (map.remove names p)
+pub file_removed : (names : Names) (p : Path) → Tree names → is_dir names p ≡ false → Tree (map.remove names p)
 file_removed names p tree plain = removed names p tree (apart names p root plain (tree.is).root_is_dir) (apart names p trash plain (tree.is).trash_is_dir)
     (λ q taken. apart names p (parent q) plain ((tree.is).parents_are_dirs q taken))
 
-file_added : (names : Names) (p : Path) (id : ℕ) → Tree names → is_dir names (parent p) ≡ true → is_dir names p ≡ false → Tree (map.insert names p (File id))
+pub file_added : (names : Names) (p : Path) (id : ℕ) → Tree names → is_dir names (parent p) ≡ true → is_dir names p ≡ false → Tree (map.insert names p (File id))
 file_added names p id tree above plain = added names p (File id) tree above (λ q dir same. absurd (apart names p q plain dir same)) (λ moment i same. refl)
 
 -- hidden names lie right below the directory of deleted files
@@ -143,26 +143,26 @@ no_slash_both : (a b : List ℕ) → HasNoSlash a → HasNoSlash b → HasNoSlas
 no_slash_both [] b h g = g
 no_slash_both (c ∷ a) b h g = (h.0, no_slash_both a b h.1 g)
 
-hidden_parent : (moment id : ℕ) → parent (hidden_name moment id) ≡ trash
+pub hidden_parent : (moment id : ℕ) → parent (hidden_name moment id) ≡ trash
 hidden_parent moment id = parent_of 47 (codes ".gone") (last_digits 10 20 moment ++ codes "-" ++ last_digits 16 16 id)
     (no_slash_both (last_digits 10 20 moment) (codes "-" ++ last_digits 16 16 id) (no_slash_digits 10 20 moment) (no_slash_both (codes "-") (last_digits 16 16 id) (refl, tt) (no_slash_digits 16 16 id)))
 
-hidden_in_trash : (moment id : ℕ) → is_in_trash (hidden_name moment id) ≡ true
+pub hidden_in_trash : (moment id : ℕ) → is_in_trash (hidden_name moment id) ≡ true
 hidden_in_trash moment id = refl
 
 -- what is not in the trash is no hidden name
-not_hidden : (p : Path) → is_in_trash p ≡ false → (moment id : ℕ) → hidden_name moment id ≡ p → ⊥
+pub not_hidden : (p : Path) → is_in_trash p ≡ false → (moment id : ℕ) → hidden_name moment id ≡ p → ⊥
 not_hidden p outside moment id same = true≢false (sym (hidden_in_trash moment id) ∙ ap is_in_trash same ∙ outside)
 
-hidden_added : (names : Names) (moment id : ℕ) → Tree names → Tree (map.insert names (hidden_name moment id) (File id))
+pub hidden_added : (names : Names) (moment id : ℕ) → Tree names → Tree (map.insert names (hidden_name moment id) (File id))
 hidden_added names moment id tree = file_added names (hidden_name moment id) id tree (ap (is_dir names) (hidden_parent moment id) ∙ (tree.is).trash_is_dir) (tree.hidden_are_files moment id)
 
 -- tests that are passed
-passed : (b : Bool) (r : Refusal) (rest : Option Refusal) → cond b (Some r) rest ≡ None → (b ≡ false) × (rest ≡ None)
+pub passed : (b : Bool) (r : Refusal) (rest : Option Refusal) → cond b (Some r) rest ≡ None → (b ≡ false) × (rest ≡ None)
 passed true r rest h = absurd (none-some r (sym h))
 passed false r rest h = (refl, h)
 
-true_from : (b : Bool) → not b ≡ false → b ≡ true
+pub true_from : (b : Bool) → not b ≡ false → b ≡ true
 true_from true h = refl
 true_from false h = absurd (true≢false h)
 
@@ -173,7 +173,7 @@ by_refusal names c (Some r) h = absurd (true≢false h)
 unrefused : (names : Names) (c : Call) (outcome : Outcome) → outcome ≡ outcome_of names c → is_refused outcome ≡ false → refusal_of names c ≡ None
 unrefused names c outcome is h = by_refusal names c (refusal_of names c) (ap is_refused (sym is) ∙ h)
 
-not_taken_no_dir : (o : Option Node) → is_some o ≡ false → is_dir_node o ≡ false
+pub not_taken_no_dir : (o : Option Node) → is_some o ≡ false → is_dir_node o ≡ false
 not_taken_no_dir None h = refl
 not_taken_no_dir (Some v) h = absurd (true≢false h)
 
@@ -192,7 +192,7 @@ no_child names p q none taken =
     let there : (v : Node) × (node_at names q ≡ Some v) = taken_there (node_at names q) taken in
     found_child p q (map.entries names) there.0 (sym (map.get-entries names q) ∙ there.1) none
 
-rmdir_tree : (names : Names) (p : Path) → Tree names → is_reserved p ≡ false → has_children names p ≡ false → Tree (map.remove names p)
+pub rmdir_tree : (names : Names) (p : Path) → Tree names → is_reserved p ≡ false → has_children names p ≡ false → Tree (map.remove names p)
 rmdir_tree names p tree reserved none =
     let outside : (bytes_eq p root ≡ false) × (is_in_trash p ≡ false) = or_parts _ _ reserved in
     let no_root : p ≡ root → ⊥ = λ same. true≢false (sym (same_paths p root same) ∙ outside.0) in
@@ -200,12 +200,12 @@ rmdir_tree names p tree reserved none =
     removed names p tree (λ same. no_root (sym same)) (λ same. true≢false (sym (same_paths p trash (sym same)) ∙ no_trash))
     (λ q taken is. true≢false (sym (child_of_parent p q no_root is) ∙ no_child names p q none taken))
 
-delete_tree : (names : Names) (p : Path) (moment : ℕ) (o : Option Node) → node_at names p ≡ o → Tree names → Tree (hidden names p moment o)
+pub delete_tree : (names : Names) (p : Path) (moment : ℕ) (o : Option Node) → node_at names p ≡ o → Tree names → Tree (hidden names p moment o)
 delete_tree names p moment None is tree = tree
 delete_tree names p moment (Some Dir) is tree = tree
 delete_tree names p moment (Some (File id)) is tree = hidden_added (map.remove names p) moment id (file_removed names p tree (ap is_dir_node is))
 
-rename_tree : (names : Names) (p q : Path) (o : Option Node) → node_at names p ≡ o → Tree names → is_dir names p ≡ false → is_dir names (parent q) ≡ true → is_taken names q ≡ false
+pub rename_tree : (names : Names) (p q : Path) (o : Option Node) → node_at names p ≡ o → Tree names → is_dir names p ≡ false → is_dir names (parent q) ≡ true → is_taken names q ≡ false
     → Tree (with_node (map.remove names p) q o)
 rename_tree names p q None is tree plain above free = file_removed names p tree plain
 rename_tree names p q (Some Dir) is tree plain above free = absurd (true≢false (sym (ap is_dir_node is) ∙ plain))
@@ -215,11 +215,11 @@ rename_tree names p q (Some (File id)) is tree plain above free =
     (⊎_elim (λ same. ap is_dir_node (removed_there names p q same)) (λ other. ap is_dir_node (removed_other names p q other) ∙ not_taken_no_dir (node_at names q) free) (same_or_other q p))
 
 -- entries, and what a snapshot copies of them
-abbrev HasAt : List (Path × Node) → Path → Node → Type 0
+abbrev pub HasAt : List (Path × Node) → Path → Node → Type 0
 HasAt [] k v = ⊥
 HasAt (e ∷ rest) k v = ((e.0 ≡ k) × (e.1 ≡ v)) ⊎ HasAt rest k v
 
-found_at : (q : Path) (es : List (Path × Node)) (v : Node) → find (slice_cmp nat_cmp) q es ≡ Some v → HasAt es q v
+pub found_at : (q : Path) (es : List (Path × Node)) (v : Node) → find (slice_cmp nat_cmp) q es ≡ Some v → HasAt es q v
 found_at q [] v h = absurd (none-some v h)
 found_at q (e ∷ es) v h =
     elim (bytes_eq q e.0) as (λ b. bytes_eq q e.0 ≡ b → cond b (Some e.1) (find (slice_cmp nat_cmp) q es) ≡ Some v → HasAt (e ∷ es) q v) [
@@ -245,7 +245,7 @@ below_each k (e ∷ es) q v below h same = ⊎_elim
     (λ later. below_each k es q v (T_parts _ _ below).1 later same) h
 
 -- an entry is what its name stands for
-entry_found : (es : List (Path × Node)) (q : Path) (v : Node) → T (is_sorted (slice_cmp nat_cmp) es) → HasAt es q v → find (slice_cmp nat_cmp) q es ≡ Some v
+pub entry_found : (es : List (Path × Node)) (q : Path) (v : Node) → T (is_sorted (slice_cmp nat_cmp) es) → HasAt es q v → find (slice_cmp nat_cmp) q es ≡ Some v
 entry_found [] q v sorted h = absurd h
 entry_found (e ∷ es) q v sorted h =
     ap (λ b. cond b (Some e.1) (find (slice_cmp nat_cmp) q es)) (is_eq-slice_cmp q e.0)
@@ -254,15 +254,15 @@ entry_found (e ∷ es) q v sorted h =
     (λ later. ap (λ b. cond b (Some e.1) (find (slice_cmp nat_cmp) q es)) (other_paths q e.0 (below_each e.0 es q v (T_parts _ _ sorted).0 later)) ∙ entry_found es q v (T_parts _ _ sorted).1 later)
     h
 
-entry_is : (names : Names) (q : Path) (v : Node) → HasAt (map.entries names) q v → node_at names q ≡ Some v
+pub entry_is : (names : Names) (q : Path) (v : Node) → HasAt (map.entries names) q v → node_at names q ≡ Some v
 entry_is names q v h = map.get-entries names q ∙ entry_found (map.entries names) q v (map.entries_sorted names) h
 
 -- copies
 module _ (from to : Path) where
-  abbrev copy : Path × Node → Path × Node
+  abbrev pub copy : Path × Node → Path × Node
   copy e = (to ++ drop (length from) e.0, e.1)
 
-  abbrev copies : List (Path × Node) → List (Path × Node)
+  abbrev pub copies : List (Path × Node) → List (Path × Node)
   copies es = list_map copy (filter (λ e. is_at_or_below from e.0) es)
 
   copy_there : (es : List (Path × Node)) (k : Path) (v : Node) → HasAt es k v → is_at_or_below from k ≡ true → HasAt (copies es) (to ++ drop (length from) k) v
@@ -285,7 +285,7 @@ module _ (from to : Path) where
       ] refl h
 
 -- names with copies of these
-copies_taken : (es : List (Path × Node)) (names : Names) (next : ℕ) (x : Path) → is_taken (with_copies names next es) x ≡ true → (is_taken names x ≡ true) ⊎ ((v : Node) × HasAt es x v)
+pub copies_taken : (es : List (Path × Node)) (names : Names) (next : ℕ) (x : Path) → is_taken (with_copies names next es) x ≡ true → (is_taken names x ≡ true) ⊎ ((v : Node) × HasAt es x v)
 copies_taken [] names next x h = inl h
 copies_taken (e ∷ es) names next x h = ⊎_elim
     (λ before. ⊎_elim (λ same. inr (e.1, inl (sym same, refl))) (λ there. inl there) (taken_before names e.0 (copy_of_node next e.1) x before))
@@ -295,7 +295,7 @@ copies_taken (e ∷ es) names next x h = ⊎_elim
 copy_dir : (next : ℕ) (v : Node) → v ≡ Dir → copy_of_node next v ≡ Dir
 copy_dir next v is = ap (copy_of_node next) is
 
-copies_dir : (es : List (Path × Node)) (names : Names) (next : ℕ) (x : Path) → ((v : Node) → HasAt es x v → v ≡ Dir) → (is_dir names x ≡ true) ⊎ HasAt es x Dir → is_dir (with_copies names next es) x ≡ true
+pub copies_dir : (es : List (Path × Node)) (names : Names) (next : ℕ) (x : Path) → ((v : Node) → HasAt es x v → v ≡ Dir) → (is_dir names x ≡ true) ⊎ HasAt es x Dir → is_dir (with_copies names next es) x ≡ true
 copies_dir [] names next x dirs (inl h) = h
 copies_dir [] names next x dirs (inr h) = absurd h
 copies_dir (e ∷ es) names next x dirs (inl h) =
@@ -307,7 +307,7 @@ copies_dir (e ∷ es) names next x dirs (inr (inl here)) =
 copies_dir (e ∷ es) names next x dirs (inr (inr later)) =
     copies_dir es (map.insert names e.0 (copy_of_node next e.1)) (id_after next e.1) x (λ v there. dirs v (inr there)) (inr later)
 
-copies_other : (es : List (Path × Node)) (names : Names) (next : ℕ) (x : Path) → ((v : Node) → HasAt es x v → ⊥) → node_at (with_copies names next es) x ≡ node_at names x
+pub copies_other : (es : List (Path × Node)) (names : Names) (next : ℕ) (x : Path) → ((v : Node) → HasAt es x v → ⊥) → node_at (with_copies names next es) x ≡ node_at names x
 copies_other [] names next x none = refl
 copies_other (e ∷ es) names next x none =
     copies_other es (map.insert names e.0 (copy_of_node next e.1)) (id_after next e.1) x (λ v there. none v (inr there))
@@ -438,7 +438,7 @@ module _ (names : Names) (c : ℕ) (p' : List ℕ) (d : ℕ) (q' : List ℕ) (ne
         ∙ tree.hidden_are_files moment id;
   }
 
-snapshot_names : (names : Names) (p q : Path) (next : ℕ) → Tree names → is_path p ≡ true → is_path q ≡ true → is_reserved p ≡ false → is_reserved q ≡ false
+pub snapshot_names : (names : Names) (p q : Path) (next : ℕ) → Tree names → is_path p ≡ true → is_path q ≡ true → is_reserved p ≡ false → is_reserved q ≡ false
     → is_dir names (parent q) ≡ true → is_taken names q ≡ false → Tree (with_copies names next (copied_entries names p q))
 snapshot_names names [] q next tree path_p path_q res_p res_q above free = absurd (false≢true path_p)
 snapshot_names names (c ∷ p') [] next tree path_p path_q res_p res_q above free = absurd (false≢true path_q)
@@ -449,8 +449,25 @@ snapshot_names names (c ∷ p') (d ∷ q') next tree path_p path_q res_p res_q a
     (λ same. true≢false (sym (same_paths (c ∷ p') root same) ∙ p_out.0)) (λ same. true≢false (sym (same_paths (d ∷ q') root same) ∙ q_out.0))
     q_out.1 above free
 
+-- what a snapshot copies lies at or below its target, where nothing was taken, and has no hidden name
+pub copies_are_new : (names : Names) (p q : Path) → Tree names → is_path p ≡ true → is_path q ≡ true → is_reserved p ≡ false → is_reserved q ≡ false
+    → is_dir names (parent q) ≡ true → is_taken names q ≡ false → (x : Path) (v : Node) → HasAt (copied_entries names p q) x v
+    → (is_at_or_below q x ≡ true) × (is_taken names x ≡ true → ⊥) × ((moment id : ℕ) → hidden_name moment id ≡ x → ⊥)
+copies_are_new names [] q tree path_p path_q res_p res_q above free x v there = absurd (false≢true path_p)
+copies_are_new names (c ∷ p') [] tree path_p path_q res_p res_q above free x v there = absurd (false≢true path_q)
+copies_are_new names (c ∷ p') (d ∷ q') tree path_p path_q res_p res_q above free x v there =
+    let p_out : (bytes_eq (c ∷ p') root ≡ false) × (is_in_trash (c ∷ p') ≡ false) = or_parts _ _ res_p in
+    let q_out : (bytes_eq (d ∷ q') root ≡ false) × (is_in_trash (d ∷ q') ≡ false) = or_parts _ _ res_q in
+    let p_top : (c ∷ p') ≡ root → ⊥ = λ same. true≢false (sym (same_paths (c ∷ p') root same) ∙ p_out.0) in
+    let q_top : (d ∷ q') ≡ root → ⊥ = λ same. true≢false (sym (same_paths (d ∷ q') root same) ∙ q_out.0) in
+    let is = copy_is names c p' d q' 0 tree p_top q_top q_out.1 above free x v there in (
+      subst (λ (y : Path). is_at_or_below (d ∷ q') y ≡ true) (sym is.2) (at_or_below_from (d ∷ q') is.0 q_top is.1),
+      not_taken_copy names c p' d q' 0 tree p_top q_top q_out.1 above free x v there,
+      λ moment id same. no_hidden_copy names c p' d q' 0 tree p_top q_top q_out.1 above free moment id is.0 is.1 (same ∙ is.2),
+    )
+
 -- all tests of a call that meets no refusal
-tests_passed : (tests : List (Bool × Refusal)) → first_refusal tests ≡ None → AllByRecursion (λ t. t.0 ≡ false) tests
+pub tests_passed : (tests : List (Bool × Refusal)) → first_refusal tests ≡ None → AllByRecursion (λ t. t.0 ≡ false) tests
 tests_passed [] h = tt
 tests_passed (t ∷ rest) h = let one : (t.0 ≡ false) × (first_refusal rest ≡ None) = passed t.0 t.1 (first_refusal rest) h in (one.0, tests_passed rest one.1)
 
@@ -488,7 +505,7 @@ tree_step m (Look client file index least last chosen) a tree = at_some (λ k. T
 tree_step m other a tree = tree
 
 -- the first names
-first_look : (q : Path) → node_at first_names q ≡ cond (bytes_eq q root) (Some Dir) (cond (bytes_eq q trash) (Some Dir) None)
+pub first_look : (q : Path) → node_at first_names q ≡ cond (bytes_eq q root) (Some Dir) (cond (bytes_eq q trash) (Some Dir) None)
 first_look q = get_inserted (map.insert (map.empty {X = Node} {R = slice_cmp nat_cmp}) trash Dir) root Dir q ∙ ap (cond (bytes_eq q root) (Some Dir)) (get_inserted (map.empty {X = Node} {R = slice_cmp nat_cmp}) trash Dir q ∙ ap (cond (bytes_eq q trash) (Some Dir)) (map.get-empty (slice_cmp nat_cmp) q))
 
 first_parent : (q : Path) → is_some (cond (bytes_eq q root) (Some Dir) (cond (bytes_eq q trash) (Some Dir) None)) ≡ true → parent q ≡ root
@@ -501,7 +518,7 @@ first_parent q h =
       ] refl
     ] refl h
 
-first_tree : Tree first_names
+pub first_tree : Tree first_names
 first_tree = record {
   is = record {
     root_is_dir = ap is_dir_node (first_look root);

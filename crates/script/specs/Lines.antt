@@ -25,6 +25,13 @@ name_call_for name path =
 abbrev pub name_call_of : List ℕ → List ℕ → Option Call
 name_call_of name word = option_and_then (name_call_for name) (path_of word)
 
+abbrev pub length_call : ℕ → Call
+length_call fd = calls.Length (record { 0 = fd })
+
+-- a call with one word: on an open file, or on a name
+abbrev pub short_call_of : List ℕ → List ℕ → Option Call
+short_call_of name word = if bytes_eq name (codes "length") then option_map length_call (number_of word) else name_call_of name word
+
 -- data that are too long to be built become an empty write that ends past each file
 abbrev pub write_call : Fd → ℕ → Data → Call
 write_call fd offset (Bytes bytes) = calls.Write fd offset bytes
@@ -42,7 +49,7 @@ range_call_of name fd offset last =
     option_and_then (λ f. option_and_then (λ o. range_call_for name (record { 0 = f }) o last) (number_of offset)) (number_of fd)
 
 abbrev pub call_of : List (List ℕ) → Option Call
-call_of (name ∷ word ∷ []) = name_call_of name word
+call_of (name ∷ word ∷ []) = short_call_of name word
 call_of (name ∷ fd ∷ offset ∷ last ∷ []) = range_call_of name fd offset last
 call_of _ = None
 

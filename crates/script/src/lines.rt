@@ -2,7 +2,7 @@
 
 ghost use Rattle.std.specs.Prelude.{◌≡◌, IfOk, map};
 ghost use Rattle.script.specs.Words.{Reads};
-ghost use Rattle.script.specs.Lines.{words_of, write_call, name_call_of, range_call_of, call_of, line_of};
+ghost use Rattle.script.specs.Lines.{words_of, write_call, name_call_of, short_call_of, range_call_of, call_of, line_of};
 
 use crate::fault::LineFault;
 use crate::nodes::client;
@@ -42,6 +42,17 @@ fn name_call(alloc: Global, name: &[u8], word: &[u8]) -> Result<Call, LineFault>
     }
 }
 
+/// A call with one word: on an open file, or on a name.
+fn short_call(alloc: Global, name: &[u8], word: &[u8]) -> Result<Call, LineFault>
+    ensures { Reads result (short_call_of name.now word.now) }
+{
+    if name == b"length".as_slice() {
+        Ok(Call::Length(Fd(number(word).ok_or(LineFault::Bad)?)))
+    } else {
+        name_call(alloc, name, word)
+    }
+}
+
 /// Data that are too long to be built become an empty write at the greatest offset, which the cell refuses for the same
 /// causes in the same order.
 fn write_call(fd: Fd, offset: u64, data: Data) -> Call
@@ -78,7 +89,7 @@ fn call(alloc: Global, words: &[&[u8]]) -> Result<Call, LineFault>
     ensures { Reads result (call_of (map (λ w. w.now) words.now)) }
 {
     match words {
-        [name, word] => name_call(alloc, name, word),
+        [name, word] => short_call(alloc, name, word),
         [name, fd, offset, last] => range_call(alloc, name, fd, offset, last),
         _ => Err(LineFault::Bad),
     }

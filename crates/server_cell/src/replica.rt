@@ -51,6 +51,13 @@ impl Replica {
         self.serial
     }
 
+    /// How many bytes are stored.
+    pub fn len(&self) -> u64
+        ensures { result ≡ length self.now.bytes }
+    {
+        self.bytes.len() as u64
+    }
+
     /// The bytes of a range, up to the end of what is stored.
     pub fn read(&self, alloc: Global, offset: u64, count: u64) -> Result<Bytes, NoMemory>
         ensures { IfOk result (λ b. b ≡ read_bytes self.now offset count) }

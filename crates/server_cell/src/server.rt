@@ -7,7 +7,7 @@ ghost use Rattle.cell_protocol.specs.Bounds.{Fits};
 ghost use Rattle.std.specs.Option.{option_copied};
 ghost use Rattle.cell_protocol.specs.Doing.{input_of, does};
 ghost use Rattle.cell_protocol.specs.Server.{new_server, server_says, server_refuses};
-ghost use Rattle.cell_protocol.specs.ServerReads.{takes_read};
+ghost use Rattle.cell_protocol.specs.ServerReads.{takes_read, takes_len};
 ghost use Rattle.cell_protocol.specs.ServerOrders.{takes_create, takes_grant, has_version};
 ghost use Rattle.cell_protocol.specs.ServerStep.{server_takes, server_at, server_goes};
 ghost use Rattle.cell_protocol.specs.Conforms.{ServerSteps};
@@ -122,6 +122,11 @@ impl Server {
                 offset,
                 count,
             } => { self.takes_read(message.sender, *number, *handle, *version, *offset, *count) }
+            Body::Len {
+                number,
+                handle,
+                version,
+            } => self.takes_len(message.sender, *number, *handle, *version),
             Body::Create {
                 order: _,
                 handle,
@@ -182,6 +187,25 @@ impl Server {
         }
         let bytes = replica.read(self.alloc, offset, count)?;
         self.says(client, Body::Bytes { number, bytes })
+    }
+
+    fn takes_len(
+        &self,
+        client: Node,
+        number: u64,
+        handle: Handle,
+        version: Version,
+    ) -> Result<Effects, NoMemory>
+        ensures { IfOk result (λ e. takes_len self.now client number handle.0 version.0 ≡ does self.now e) }
+    {
+        let Some(replica) = self.replicas.get(handle.0) else {
+            return self.refuses(client, number, Refusal::NoChunk);
+        };
+        if replica.version() == version.0 {
+            let count = replica.len();
+            return self.says(client, Body::LenIs { number, count });
+        }
+        self.refuses(client, number, Refusal::Version)
     }
 
     fn takes_create(&mut self, handle: Handle, version: Version) -> Result<Effects, NoMemory>

@@ -1,15 +1,15 @@
-//! How the chunkserver takes pushed data, and places and applies writes (sections 3.1 and 3.2).
+//! How the chunkserver takes pushed data, and places and applies mutations (sections 3.1 to 3.3).
 
 ghost use Rattle.std.specs.Prelude.{◌≡◌, ◌<◌, ◌≤◌, ◌+◌, length, Some, None, IfOk, OnOk, IsSome};
 ghost use Rattle.std.specs.FinMap as map;
-ghost use Rattle.data_push.specs.Buffers.{data_of, without_data};
-ghost use Rattle.gfs_types.specs.declared.message.Target.TheVariants as target;
 ghost use Rattle.cell_protocol.specs.Tables.{counter_limit};
 ghost use Rattle.server_cell.specs.Growing.{written_at};
 ghost use Rattle.cell_protocol.specs.Server.{Replica as ReplicaValue};
 ghost use Rattle.cell_protocol.specs.Doing.{does};
 ghost use Rattle.cell_protocol.specs.Server.{with_kept};
-ghost use Rattle.cell_protocol.specs.ServerWrites.{takes_push, takes_mutate, mutates_as, mutates_new, answers_again, refuses_attempt, is_held, writes_with, places_write, may_place};
+ghost use Rattle.cell_protocol.specs.ServerWrites.{takes_push, takes_mutate, mutates_as, mutates_new, answers_attempt, denies, refuses_attempt, is_held, bytes_of, standing_of, may_place};
+ghost use Rattle.gfs_types.specs.Mutations.{start_of};
+ghost use Rattle.server_cell.specs.Placings.{places_at, appends_at};
 
 use crate::replica::Replica;
 use crate::server::Server;
@@ -24,6 +24,9 @@ use gfs_types::mutation::Mutation;
 use gfs_types::no_memory::NoMemory;
 use gfs_types::refusal::Refusal;
 use number_map::NumberMap;
+use record_append::place;
+use record_append::placing::Placing;
+use std::alloc::Global;
 
 impl Server {
     pub(crate) fn takes_push(&mut self, id: DataId, bytes: &Bytes) -> Result<Effects, NoMemory>
@@ -79,7 +82,7 @@ impl Server {
             None => self.mutates_new(id, handle, target),
             Some(kept) => {
                 if id.seq == kept.seq {
-                    self.answers_again(id, kept.standing)
+                    self.answers_attempt(id, kept.standing)
                 } else if id.seq < kept.seq {
                     self.refuses_attempt(id, Refusal::OldRequest)
                 } else {
@@ -89,8 +92,9 @@ impl Server {
         }
     }
 
-    fn answers_again(&self, id: DataId, standing: Standing) -> Result<Effects, NoMemory>
-        ensures { IfOk result (λ e. answers_again self.now id standing ≡ does self.now e) }
+    /// The client of an attempt is told what became of it.
+    fn answers_attempt(&self, id: DataId, standing: Standing) -> Result<Effects, NoMemory>
+        ensures { IfOk result (λ e. answers_attempt self.now id standing ≡ does self.now e) }
     {
         match standing {
             Standing::Settled(place) => {
@@ -98,6 +102,17 @@ impl Server {
             }
             Standing::Denied(refusal) => self.refuses_attempt(id, refusal),
         }
+    }
+
+    /// An attempt is refused, which is kept.
+    fn denies(&mut self, id: DataId, refusal: Refusal) -> Result<Effects, NoMemory>
+        ensures { IfOk result (λ e. denies self.old id refusal ≡ does self.new e) }
+    {
+        self.kept = Some(Kept {
+            seq: id.seq,
+            standing: Standing::Denied(refusal),
+        });
+        self.refuses_attempt(id, refusal)
     }
 
     fn mutates_new(
@@ -108,52 +123,73 @@ impl Server {
     ) -> Result<Effects, NoMemory>
         ensures { IfOk result (λ e. mutates_new self.old handle.0 id target (map.get self.old.replicas handle.0) ≡ does self.new e) }
     {
-        let Target::Write(offset) = target else {
-            return Ok(Effects::none(self.alloc));
-        };
         if self.replicas.get(handle.0).is_none() {
             return Ok(Effects::none(self.alloc));
         }
-        self.writes(id, handle, offset)
+        let Some(bytes) = self.pushed.get(id) else {
+            return self.denies(id, Refusal::NoData);
+        };
+        let bytes = bytes.clone()?;
+        match target {
+            Target::Write(offset) => self.places(id, handle, Mutation::Write(offset, bytes)),
+            Target::Append => self.appends(id, handle, bytes),
+        }
     }
 
-    fn writes(&mut self, id: DataId, handle: Handle, offset: u64) -> Result<Effects, NoMemory>
-        ensures { IfOk result (λ e. mutates_new self.old handle.0 id (target.Write offset) (map.get self.old.replicas handle.0) ≡ does self.new e) }
+    /// A record goes behind the chunk's bytes, or the chunk is padded; a full one takes nothing.
+    fn appends(&mut self, id: DataId, handle: Handle, bytes: Bytes) -> Result<Effects, NoMemory>
+        ensures { IfOk result (λ e. appends_at self.old handle.0 id bytes (map.get self.old.replicas handle.0) ≡ does self.new e) }
     {
         let Some(replica) = self.replicas.get(handle.0) else {
             return Ok(Effects::none(self.alloc));
         };
-        let Some(bytes) = self.pushed.get(id) else {
-            self.kept = Some(Kept {
-                seq: id.seq,
-                standing: Standing::Denied(Refusal::NoData),
-            });
-            return self.refuses_attempt(id, Refusal::NoData);
+        let chunk = u64::from(self.config.chunk);
+        match place(replica.len(), bytes.len() as u64, chunk) {
+            Placing::At(offset) => self.places(id, handle, Mutation::Append(offset, bytes)),
+            Placing::Pad(offset) => self.places(id, handle, Mutation::Pad(offset)),
+            Placing::Full => {
+                self.pushed.take(id);
+                self.denies(id, Refusal::ChunkFull)
+            }
+            Placing::TooLong => {
+                self.pushed.take(id);
+                self.denies(id, Refusal::ServerTooLong)
+            }
+        }
+    }
+    /// A mutation that lies within the chunk takes the next serial, and is applied.
+    fn places(
+        &mut self,
+        id: DataId,
+        handle: Handle,
+        mutation: Mutation,
+    ) -> Result<Effects, NoMemory>
+        ensures { IfOk result (λ e. places_at self.old handle.0 id mutation (map.get self.old.replicas handle.0) ≡ does self.new e) }
+    {
+        let chunk = u64::from(self.config.chunk);
+        let content = content_of(self.alloc, chunk, &mutation)?;
+        let offset = start_of(&mutation);
+        let standing = standing_of(&mutation);
+        let Some(replica) = self.replicas.get(handle.0) else {
+            return Ok(Effects::none(self.alloc));
         };
-        if !self.may_place(replica, offset, bytes) {
+        if !self.may_place(replica, offset, &content) {
             return Ok(Effects::none(self.alloc));
         }
-        let bytes = bytes.clone()?;
         let numbering = Numbering {
             handle,
             version: Version(replica.version()),
             serial: Serial(replica.serial() + 1),
             data_id: id,
-            mutation: Mutation::Write(offset, bytes.clone()?),
+            mutation,
         };
-        write_at(&mut self.replicas, handle.0, offset, &bytes)?;
+        write_at(&mut self.replicas, handle.0, offset, &content)?;
         self.pushed.take(id);
         self.kept = Some(Kept {
             seq: id.seq,
-            standing: Standing::Settled(offset),
+            standing,
         });
-        let mut effects = self.says(
-            Node::Client(id.client),
-            Body::Done {
-                data: id,
-                place: offset,
-            },
-        )?;
+        let mut effects = self.answers_attempt(id, standing)?;
         effects.seen = Some(numbering);
         Ok(effects)
     }
@@ -164,6 +200,38 @@ impl Server {
         let chunk = u64::from(self.config.chunk);
         let count = bytes.len() as u64;
         offset <= chunk && count <= chunk - offset && replica.serial() < COUNTER_LIMIT
+    }
+}
+
+/// What a mutation puts into a chunk of this size.
+fn content_of(alloc: Global, chunk: u64, mutation: &Mutation) -> Result<Bytes, NoMemory>
+    ensures { IfOk result (λ b. b ≡ bytes_of chunk mutation.now) }
+{
+    match mutation {
+        Mutation::Write(_, bytes) | Mutation::Append(_, bytes) => Ok(bytes.clone()?),
+        Mutation::Pad(offset) => {
+            let count = chunk.saturating_sub(*offset);
+            let zeros = vec![in alloc; 0u8; count as usize]?;
+            Ok(Bytes::from_vec(zeros)?)
+        }
+    }
+}
+
+fn start_of(mutation: &Mutation) -> u64
+    ensures { result ≡ start_of mutation.now }
+{
+    match mutation {
+        Mutation::Write(offset, _) | Mutation::Append(offset, _) | Mutation::Pad(offset) => *offset,
+    }
+}
+
+/// What becomes of an attempt whose mutation was placed: after a pad its chunk is full.
+fn standing_of(mutation: &Mutation) -> Standing
+    ensures { result ≡ standing_of mutation.now }
+{
+    match mutation {
+        Mutation::Write(offset, _) | Mutation::Append(offset, _) => Standing::Settled(*offset),
+        Mutation::Pad(_) => Standing::Denied(Refusal::ChunkFull),
     }
 }
 

@@ -1,1 +1,4 @@
 pub mod Printing
+pub mod Idle
+pub mod Bytes
+pub mod Lines

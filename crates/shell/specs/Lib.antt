@@ -1,2 +1,4 @@
 pub mod Faults
 pub mod Printing
+pub mod Reading
+pub mod Scripts

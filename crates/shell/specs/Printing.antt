@@ -1,20 +1,18 @@
 -- What is printed of a run: a line for each answer, in order.
-use Rattle.std.specs.Prelude.{◌≡◌, ◌≤◌, ℕ, IsTrue, List, [], ◌∷◌, ◌++◌, Option, Some, None, option_map}
-use Rattle.std.specs.List.{flat_map}
+use Rattle.std.specs.Prelude.{◌≡◌, ◌≢◌, ◌≤◌, ℕ, ◌==◌, Bool, true, false, IsTrue, List, [], ◌∷◌, ◌++◌, Option, Some, None, option_map}
+use Rattle.std.specs.List.{filter, flat_map}
 use Rattle.std.specs.Io.KnownBytes.{Appends}
 use Rattle.gfs_types.specs.declared.answer.Answer.{Answer}
-use Rattle.gfs_types.specs.declared.config.Config.{Config}
 use Rattle.gfs_types.specs.declared.event.Event.{Event}
 use Rattle.gfs_types.specs.declared.event.Event.TheVariants as event
 use Rattle.gfs_types.specs.declared.ids.Node.{Node}
 use Rattle.gfs_types.specs.declared.ids.Node.TheVariants as node
-use Rattle.relaxed_file.specs.Run.{Visible, Called, Answered, Passed, IsRun}
+use Rattle.relaxed_file.specs.Run.{Visible, Called, Answered, Passed}
 use Rattle.cell_protocol.specs.Tables.{numbered_from_1}
+use Rattle.cell_protocol.specs.Sending.{only_client}
 use Rattle.cell_protocol.specs.World.{WorldState, Happened}
 use Rattle.script.specs.Answers.{answer_line}
-
-abbrev pub line_feed : ℕ
-line_feed = 10
+use Rattle.shell.specs.Reading.{line_feed}
 
 abbrev pub whole_line : ℕ → Answer → List ℕ
 whole_line client reply = answer_line client reply ++ line_feed ∷ []
@@ -26,6 +24,22 @@ line_of (Passed moment) = []
 
 abbrev pub lines_of : List Visible → List ℕ
 lines_of trace = flat_map line_of trace
+
+abbrev pub is_call : Visible → Bool
+is_call (Called client asked) = true
+is_call (Answered client reply) = false
+is_call (Passed moment) = false
+
+abbrev pub calls_of : List Visible → List Visible
+calls_of trace = filter is_call trace
+
+abbrev pub is_answer_to : ℕ → Visible → Bool
+is_answer_to client (Called who asked) = false
+is_answer_to client (Answered who reply) = client == who
+is_answer_to client (Passed moment) = false
+
+abbrev pub answers_to : ℕ → List Visible → List Visible
+answers_to client trace = filter (is_answer_to client) trace
 
 -- the node that an event is at
 abbrev pub node_of : WorldState → Event → Option Node
@@ -45,17 +59,41 @@ now_of (event.Restart n now) = now.0
 now_of (event.Rot server handle place byte) = 0
 now_of (event.Fuse n count torn) = 0
 
+-- the call that an event makes
+abbrev pub asked_by : Event → List Visible
+asked_by (event.Call client c now) = Called client.0 c ∷ []
+asked_by (event.Deliver number now) = []
+asked_by (event.Tick n now) = []
+asked_by (event.Restart n now) = []
+asked_by (event.Rot server handle place byte) = []
+asked_by (event.Fuse n count torn) = []
+
+-- the answer to the client that a node's answer is
+abbrev pub answers_at : Node → Option Answer → List Visible
+answers_at (node.Client c) (Some reply) = Answered only_client reply ∷ []
+answers_at (node.Client c) None = []
+answers_at node.Master reply = []
+answers_at (node.Server s) reply = []
+
+-- no call was seen, or just what is asked
+abbrev pub MayAsk : List Visible → List Visible → Type 0
+MayAsk seen asked = seen ≢ [] → seen ≡ asked
+
 -- a world that went on, and what is to be printed of it
-pub record Adds (old new : WorldState) (lines : List ℕ) : Type 0 where
+pub record Adds (old new : WorldState) (asked answers : List Visible) (lines : List ℕ) : Type 0 where
   pub more : List Visible
   pub trace_is : new.observer.trace ≡ old.observer.trace ++ more
+  pub asked_are : MayAsk (calls_of more) asked
+  pub answers_are : answers_to only_client more ≡ answers
   pub lines_are : lines_of more ≡ lines
   pub config_is : new.config ≡ old.config
 
--- a world that went on, and what was printed of it
-pub record Prints (old new : WorldState) (before after : Option (List ℕ)) : Type 0 where
+-- a world that went on by this call at most, what was printed of it, and whether there was an answer
+pub record Prints (old new : WorldState) (before after : Option (List ℕ)) (asked : List Visible) (is_answered : Bool) : Type 0 where
   pub more : List Visible
   pub trace_is : new.observer.trace ≡ old.observer.trace ++ more
+  pub asked_are : MayAsk (calls_of more) asked
+  pub answered : IsTrue is_answered → answers_to only_client more ≢ []
   pub printed_is : Appends before after (lines_of more)
   pub config_is : new.config ≡ old.config
 
@@ -67,20 +105,17 @@ line_at node.Master reply = []
 line_at (node.Server s) reply = []
 
 -- what an event came to, as it is seen
-pub record Shows (w : WorldState) (n : Node) (moment : ℕ) (h : Happened) : Type 0 where
+pub record Shows (w : WorldState) (n : Node) (moment : ℕ) (asked : List Visible) (h : Happened) : Type 0 where
   pub more : List Visible
   pub trace_is : h.world.observer.trace ≡ w.observer.trace ++ more
+  pub asked_are : MayAsk (calls_of more) asked
+  pub answers_are : answers_to only_client more ≡ answers_at n h.out.answer
   pub lines_are : lines_of more ≡ line_at n h.out.answer
   pub config_is : h.world.config ≡ w.config
   pub clocks : w.observer.greatest ≤ moment → IsTrue w.observer.are_clocks_kept → (h.world.observer.greatest ≤ moment) × IsTrue h.world.observer.are_clocks_kept
 
--- a world and the simulator's clock
+-- a world, the simulator's clock, and how many clients there are
 pub record Simulated : Type 0 where
   pub world : WorldState
   pub clock : ℕ
-
--- what was printed are the answers of a run of the relaxed-file machine
-pub record PrintsARun (config : Config) (before after : Option (List ℕ)) : Type 0 where
-  pub trace : List Visible
-  pub is_run : IsRun config trace
-  pub printed_is : Appends before after (lines_of trace)
+  pub clients : ℕ

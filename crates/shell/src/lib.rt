@@ -2,6 +2,7 @@
 #![tactic(auto)]
 
 pub mod fault;
+mod reading;
 pub mod run;
 pub mod simulator;
 #[cfg(test)]

@@ -1,20 +1,16 @@
 //! Runs a script, line by line.
 
-ghost use Rattle.std.specs.Prelude.{◌≡◌, OnOk};
-ghost use Rattle.shell.specs.Printing.{Prints, PrintsARun};
+ghost use Rattle.std.specs.Prelude.{◌≢◌, None, OnOk};
+ghost use Rattle.script.specs.Lines.{line_of};
+ghost use Rattle.shell.specs.Scripts.{IsIdle, Runs, RunsAll, RunsTheScript, calls_on};
 
 use crate::fault::ScriptFault;
+use crate::reading::read_line;
 use crate::simulator::Simulator;
 use command_line::options::Options;
-use script::lines::{Line, MAX_LINE, parse};
+use script::lines::{Line, parse};
 use std::alloc::{Allocator, Global};
-use std::io::{self, BufRead, Read, Write};
-
-/// Reads a line with its line feed into `line`, and no more than one byte past the longest line. At the end it reads nothing.
-fn read_line<R: BufRead>(reader: &mut R, line: &mut Vec<u8>) -> io::Result<usize> {
-    line.clear();
-    reader.take(MAX_LINE as u64 + 1).read_until(b'\n', line)
-}
+use std::io::{BufRead, Write};
 
 /// Runs the line of this number.
 fn run_line<A: Allocator + Clone, W: Write>(
@@ -24,7 +20,9 @@ fn run_line<A: Allocator + Clone, W: Write>(
     line: &[u8],
     writer: &mut W,
 ) -> Result<(), ScriptFault>
-    ensures { OnOk result (Prints simulator.old.world simulator.new.world (W.contents writer.old) (W.contents writer.new)) }
+    requires { IsIdle simulator.old.world.observer.trace }
+    ensures runs { OnOk result (Runs simulator.old.world simulator.new.world (W.contents writer.old) (W.contents writer.new) (calls_on line.now)) }
+    ensures is_line { OnOk result (line_of line.now ≢ None) }
 {
     match parse(alloc, line) {
         Err(fault) => Err(ScriptFault::of_line(fault, number)),
@@ -33,11 +31,11 @@ fn run_line<A: Allocator + Clone, W: Write>(
             if !simulator.has_client(client) {
                 return Err(ScriptFault::Line(number));
             }
-            if simulator.call(client, call, writer)? {
-                Ok(())
-            } else {
-                Err(ScriptFault::NoEnd(number))
+            if !simulator.call(client, call, writer)? {
+                return Err(ScriptFault::NoEnd(number));
             }
+            simulator.follows_the_machine();
+            Ok(())
         }
     }
 }
@@ -49,29 +47,28 @@ fn run_lines<A: Allocator + Clone, R: BufRead, W: Write>(
     reader: &mut R,
     writer: &mut W,
 ) -> Result<(), ScriptFault>
-    ensures { OnOk result (Prints simulator.old.world simulator.new.world (W.contents writer.old) (W.contents writer.new)) }
+    requires { IsIdle simulator.old.world.observer.trace }
+    ensures { OnOk result (RunsAll simulator.old.world simulator.new.world (W.contents writer.old) (W.contents writer.new) (R.remaining reader.old)) }
 {
     let mut line = Vec::new(alloc);
     for number in 1..u64::MAX {
-        let count = read_line(reader, &mut line).map_err(|e| ScriptFault::of_read(&e))?;
-        if count == 0 {
-            break;
+        match read_line(reader, &mut line) {
+            Ok(true) => run_line(alloc, simulator, number, line.as_slice(), writer)?,
+            Ok(false) => return Ok(()),
+            Err(error) => return Err(ScriptFault::of_read(&error)),
         }
-        let whole = line.as_slice();
-        let text = whole.strip_suffix(b"\n").unwrap_or(whole);
-        run_line(alloc, simulator, number, text, writer)?;
     }
-    Ok(())
+    Err(ScriptFault::Line(u64::MAX))
 }
 
 /// Runs a script on a new cell, and prints each answer when it comes. Where it ends well, what was printed are the answers of
-/// a run of the relaxed-file machine.
+/// a run of the relaxed-file machine whose calls are those of the script, each of which was answered.
 ///
 /// The cell is made before the first line is read. At a fault the lines that were printed before stay printed, and no later
 /// line is run.
 ///
 /// - `Start`: the cell can't be made.
-/// - `Line`: a line isn't in the language.
+/// - `Line`: a line isn't in the language, or is past the greatest number of lines.
 /// - `NoEnd`: a line needs too many rounds of ticks.
 /// - `NoMemory`: memory was refused outside the cell's own steps.
 /// - `Read`, `Write`: the reader or the writer failed.
@@ -81,7 +78,7 @@ pub fn run_script<R: BufRead, W: Write>(
     reader: &mut R,
     writer: &mut W,
 ) -> Result<(), ScriptFault>
-    ensures { OnOk result (PrintsARun options.now.config (W.contents writer.old) (W.contents writer.new)) }
+    ensures { OnOk result (RunsTheScript options.now.config (R.remaining reader.old) (W.contents writer.old) (W.contents writer.new)) }
 {
     let mut simulator = Simulator::new(alloc, alloc, options)?;
     run_lines(alloc, &mut simulator, reader, writer)?;

@@ -1,10 +1,10 @@
 //! A cell under the simulator's clock, which delivers its messages in the order of their numbers.
 
-ghost use Rattle.std.specs.Prelude.{◌≡◌, Some, IfOk, OnOk};
+ghost use Rattle.std.specs.Prelude.{◌≡◌, ◌≢◌, ◌&&◌, nat_le, ◌∷◌, [], Some, IfOk, OnOk, IsTrue};
 ghost use Rattle.std.specs.Io.KnownBytes.{Appends};
-ghost use Rattle.shell.specs.Printing.{Adds, Prints, line_at, node_of, now_of};
+ghost use Rattle.shell.specs.Printing.{Adds, Prints, answers_at, asked_by, line_at, node_of, now_of};
 ghost use Rattle.cell_protocol.specs.World.{new_world};
-ghost use Rattle.relaxed_file.specs.Run.{IsRun};
+ghost use Rattle.relaxed_file.specs.Run.{Called, IsRun};
 
 use crate::fault::ScriptFault;
 use cell_core::world::World;
@@ -46,7 +46,7 @@ impl<A: Allocator> Model for Simulator<A> {
 
     ghost coded = { Prim.hlevel (codes, map.code, coded_list, coded_ℕ) };
 
-    ghost view = { λ s. record { world = s.world; clock = s.clock.0 } };
+    ghost view = { λ s. record { world = s.world; clock = s.clock.0; clients = s.clients } };
 
     ghost invariant = { λ s. (s.world.observer.greatest ≤ s.clock.0) × IsTrue s.world.observer.are_clocks_kept × IsExplained s.world };
 }
@@ -57,7 +57,8 @@ impl<A: Allocator + Clone> Simulator<A> {
     /// - `Start`: a setting or a count is out of its range, or the names found no room.
     /// - `NoMemory`: another growth was refused.
     pub fn new(global: Global, alloc: A, options: &Options) -> Result<Simulator<A>, ScriptFault>
-        ensures { IfOk result (λ s. s.world ≡ new_world options.now.config) }
+        ensures world { IfOk result (λ s. s.world ≡ new_world options.now.config) }
+        ensures clients { IfOk result (λ s. s.clients ≡ options.now.clients) }
     {
         let Ok(servers) = u16::try_from(options.servers) else {
             return Err(ScriptFault::Start);
@@ -82,7 +83,10 @@ impl<A: Allocator + Clone> Simulator<A> {
         let _ = &self.world;
     }
 
-    pub fn has_client(&self, client: ClientId) -> bool {
+    /// Whether there is a client of this number, from 1 on.
+    pub fn has_client(&self, client: ClientId) -> bool
+        ensures { result ≡ (nat_le 1 client.0 && nat_le client.0 self.now.clients) }
+    {
         (1..=self.clients).contains(&client.0)
     }
 
@@ -91,7 +95,7 @@ impl<A: Allocator + Clone> Simulator<A> {
         requires node { node_of self.old.world event ≡ Some node }
         requires moment { now_of event ≡ self.old.clock }
         ensures clock { self.new.clock ≡ self.old.clock }
-        ensures adds { Adds self.old.world self.new.world (line_at node result) }
+        ensures adds { Adds self.old.world self.new.world (asked_by event) (answers_at node result) (line_at node result) }
     {
         let _ = node;
         self.world.step(event)
@@ -107,7 +111,7 @@ impl<A: Allocator + Clone> Simulator<A> {
         requires node { node_of self.old.world event ≡ Some node }
         requires moment { now_of event ≡ self.old.clock }
         ensures clock { self.new.clock ≡ self.old.clock }
-        ensures printed { OnOk result (Prints self.old.world self.new.world (W.contents writer.old) (W.contents writer.new)) }
+        ensures printed { IfOk result (Prints self.old.world self.new.world (W.contents writer.old) (W.contents writer.new) (asked_by event)) }
     {
         let answer = self.happens(node, event);
         print_answer(node, answer, writer)
@@ -116,7 +120,7 @@ impl<A: Allocator + Clone> Simulator<A> {
     /// Delivers each message that was sent and not yet delivered, and tells whether a call was answered.
     fn deliver<W: Write>(&mut self, writer: &mut W) -> Result<bool, ScriptFault>
         ensures clock { self.new.clock ≡ self.old.clock }
-        ensures printed { OnOk result (Prints self.old.world self.new.world (W.contents writer.old) (W.contents writer.new)) }
+        ensures printed { IfOk result (Prints self.old.world self.new.world (W.contents writer.old) (W.contents writer.new) []) }
     {
         let mut is_answered = false;
         for _ in 0..u64::MAX {
@@ -136,7 +140,7 @@ impl<A: Allocator + Clone> Simulator<A> {
 
     fn tick<W: Write>(&mut self, node: Node, writer: &mut W) -> Result<bool, ScriptFault>
         ensures clock { self.new.clock ≡ self.old.clock }
-        ensures printed { OnOk result (Prints self.old.world self.new.world (W.contents writer.old) (W.contents writer.new)) }
+        ensures printed { IfOk result (Prints self.old.world self.new.world (W.contents writer.old) (W.contents writer.new) []) }
     {
         let now = self.clock;
         self.take(node, Event::Tick { node, now }, writer)
@@ -144,7 +148,7 @@ impl<A: Allocator + Clone> Simulator<A> {
 
     /// A tick at each server, in rising number.
     fn tick_servers<W: Write>(&mut self, writer: &mut W) -> Result<bool, ScriptFault>
-        ensures { OnOk result (Prints self.old.world self.new.world (W.contents writer.old) (W.contents writer.new)) }
+        ensures { IfOk result (Prints self.old.world self.new.world (W.contents writer.old) (W.contents writer.new) []) }
     {
         let mut is_answered = false;
         for number in 0..self.servers {
@@ -155,7 +159,7 @@ impl<A: Allocator + Clone> Simulator<A> {
 
     /// A tick at each client, in rising number.
     fn tick_clients<W: Write>(&mut self, writer: &mut W) -> Result<bool, ScriptFault>
-        ensures { OnOk result (Prints self.old.world self.new.world (W.contents writer.old) (W.contents writer.new)) }
+        ensures { IfOk result (Prints self.old.world self.new.world (W.contents writer.old) (W.contents writer.new) []) }
     {
         let mut is_answered = false;
         for number in 0..self.clients {
@@ -166,7 +170,7 @@ impl<A: Allocator + Clone> Simulator<A> {
 
     /// A round of ticks: the servers in rising number, the master and the clients, each with the deliveries that follow.
     fn tick_round<W: Write>(&mut self, writer: &mut W) -> Result<bool, ScriptFault>
-        ensures { OnOk result (Prints self.old.world self.new.world (W.contents writer.old) (W.contents writer.new)) }
+        ensures { IfOk result (Prints self.old.world self.new.world (W.contents writer.old) (W.contents writer.new) []) }
     {
         self.clock = Moment(self.clock.0.saturating_add(ROUND_MS));
         let mut is_answered = self.tick_servers(writer)?;
@@ -185,7 +189,7 @@ impl<A: Allocator + Clone> Simulator<A> {
         call: Call,
         writer: &mut W,
     ) -> Result<bool, ScriptFault>
-        ensures { OnOk result (Prints self.old.world self.new.world (W.contents writer.old) (W.contents writer.new)) }
+        ensures { IfOk result (Prints self.old.world self.new.world (W.contents writer.old) (W.contents writer.new) (Called client.0 «call» ∷ [])) }
     {
         let now = self.clock;
         let event = Event::Call { client, call, now };
@@ -207,7 +211,8 @@ fn print_answer<W: Write>(
     answer: Option<Answer>,
     writer: &mut W,
 ) -> Result<bool, ScriptFault>
-    ensures { OnOk result (Appends (W.contents writer.old) (W.contents writer.new) (line_at node answer)) }
+    ensures printed { OnOk result (Appends (W.contents writer.old) (W.contents writer.new) (line_at node answer)) }
+    ensures answered { IfOk result (λ is_answered. IsTrue is_answered → answers_at node answer ≢ []) }
 {
     let Node::Client(client) = node else {
         return Ok(false);

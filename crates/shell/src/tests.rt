@@ -69,8 +69,48 @@ fn runs_scripts(rt: HostRuntime) -> Result<(), Fail> {
 }
 
 #[test]
+fn tells_lengths(rt: HostRuntime) -> Result<(), Fail> {
+    let alloc = rt.alloc();
+    let rows: [(&str, &str); 6] = [
+        (
+            "c1 read 1 0 10\nc1 length 1\n",
+            "c1 bytes 0 - rounds -\nc1 length 0\n",
+        ),
+        (
+            "c1 write 1 0 hello\nc1 length 1\nc1 write 1 7 x\nc1 length 01\nc1 write 1 2 y\nc1 length 1\n",
+            "c1 done\nc1 length 5\nc1 done\nc1 length 8\nc1 done\nc1 length 8\n",
+        ),
+        (
+            "c1 write 1 0 a*0\nc1 length 1\nc1 write 1 64 y\nc1 length 1\n",
+            "c1 done\nc1 length 0\nc1 refused 11 TooLong\nc1 length 0\n",
+        ),
+        // the last chunk alone counts, from where it begins
+        (
+            "c1 write 1 60 z*4\nc1 length 1\nc1 write 1 64 y\nc1 length 1\nc1 write 1 127 y\nc1 length 1\n",
+            "c1 done\nc1 length 64\nc1 done\nc1 length 65\nc1 done\nc1 length 128\n",
+        ),
+        (
+            "c1 write 1 0 x\nc1 write 1 100 zz\nc1 length 1\nc1 write 1 9 y\nc1 length 1\n",
+            "c1 done\nc1 done\nc1 length 102\nc1 done\nc1 length 102\n",
+        ),
+        (
+            "c1 length 2\nc1 length 0\nc1 create /g\nc1 open /g\nc1 write 1 0 x\nc1 length 2\nc1 length 1\n",
+            "c1 refused 12 BadFd\nc1 refused 12 BadFd\nc1 done\nc1 fd 2\nc1 done\nc1 length 0\nc1 length 1\n",
+        ),
+    ];
+    for (script, expected) in rows {
+        let whole = padded(alloc, "c1 create /f\nc1 open /f\n", b' ', 0, script)?;
+        let printed_whole = padded(alloc, "c1 done\nc1 fd 1\n", b' ', 0, expected)?;
+        let (printed, result) = outcome(alloc, &small_cell(), whole.as_slice());
+        assert_eq!(rt; result, Ok(()), "{script}");
+        assert_eq!(rt; printed.as_slice(), printed_whole.as_slice(), "{script}");
+    }
+    Ok(())
+}
+
+#[test]
 fn refuses_lines(rt: HostRuntime) {
-    let lines: [&[u8]; 40] = [
+    let lines: [&[u8]; 44] = [
         b"c1 fly /x",
         b"c1",
         b"c1 mkdir",
@@ -111,6 +151,10 @@ fn refuses_lines(rt: HostRuntime) {
         b"c1 write 1 0 \xc3\xa9",
         b"c1 write 1 0 a*18446744073709551616",
         b"c1 append 1 x",
+        b"c1 length",
+        b"c1 length x",
+        b"c1 length -1",
+        b"c1 length 1 2",
     ];
     for line in lines {
         let (printed, result) = outcome(rt.alloc(), &small_cell(), line);
@@ -371,6 +415,9 @@ fn push_good_line(numbers: &mut Numbers, script: &mut Vec<u8>) -> Result<(), All
         script.extend_from_slice(numbers.pick(&[b"mkdir", b"create", b"open", b"list"]))?;
         script.extend_from_slice(b" ")?;
         script.extend_from_slice(numbers.pick(&PATHS))?;
+    } else if numbers.below(5) == 0 {
+        script.extend_from_slice(b"length ")?;
+        script.extend_from_slice(numbers.pick(&[b"1", b"2", b"3"]))?;
     } else if numbers.below(2) == 0 {
         script.extend_from_slice(b"write ")?;
         script.extend_from_slice(numbers.pick(&[b"1", b"2", b"3"]))?;

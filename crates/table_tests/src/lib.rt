@@ -4,4 +4,16 @@
 #[cfg(test)]
 mod order;
 #[cfg(test)]
+mod plain_order;
+#[cfg(test)]
+mod plain_table;
+#[cfg(test)]
+mod random;
+#[cfg(test)]
+mod random_order;
+#[cfg(test)]
+mod random_table;
+#[cfg(test)]
+mod refused;
+#[cfg(test)]
 mod table;

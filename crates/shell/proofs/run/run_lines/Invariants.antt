@@ -1,6 +1,6 @@
-use Rattle.shell.specs.Printing.{Prints}
+use Rattle.shell.specs.Scripts.{RunsLines}
 use Rattle.shell.proofs.run.run_lines.Given as goal
 
--- what the cell went on by was printed
+-- the calls of the lines that were read
 abbrev pub invariant-loop-number : goal.invariant-loop-number
-invariant-loop-number g l = Prints l.fn.simulator.world l.simulator.world (g.W.Write.contents l.fn.writer) (g.W.Write.contents l.writer)
+invariant-loop-number g l = RunsLines l.fn.simulator.world l.simulator.world (g.W.Write.contents l.fn.writer) (g.W.Write.contents l.writer) (g.R.Read.remaining l.fn.reader) (g.R.Read.remaining l.reader)

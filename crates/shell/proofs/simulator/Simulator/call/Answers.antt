@@ -1,8 +1,8 @@
-use Rattle.shell.proofs.Printing.{prints_on}
+use Rattle.shell.proofs.Printing.{prints_on, prints_last}
 use Rattle.shell.proofs.simulator.Simulator.call.Goals as goal
 
 pub loop-init : goal.loop-init
-loop-init g c = prints_on _ _ _ _ _ _ c.in_ok-is_answered.ensures.printed c.in_ok-is_answered-2.ensures.printed
+loop-init g c = prints_on _ _ _ _ _ _ _ _ _ c.in_ok-is_answered.ensures.printed c.in_ok-is_answered-2.ensures.printed
 
 pub loop-preserved : goal.loop-preserved
-loop-preserved g c = prints_on _ _ _ _ _ _ c.loop.invariant c.in_ok-is_answered-3.ensures
+loop-preserved g c = prints_last _ _ _ _ _ _ _ _ _ c.loop.invariant c.in_ok-is_answered-3.ensures

@@ -1,4 +1,4 @@
-use Rattle.std.proofs.Common.{◌≡◌}
+use Rattle.std.proofs.Common.{◌≡◌, []}
 use Rattle.shell.specs.Printing.{Prints}
 use Rattle.shell.proofs.simulator.Simulator.deliver.Given as goal
 
@@ -6,5 +6,5 @@ use Rattle.shell.proofs.simulator.Simulator.deliver.Given as goal
 abbrev pub invariant-loop : goal.invariant-loop
 invariant-loop g l = record {
   clock : l.self.clock ≡ l.fn.self.clock;
-  printed : Prints l.fn.self.world l.self.world (g.W.Write.contents l.fn.writer) (g.W.Write.contents l.writer);
+  printed : Prints l.fn.self.world l.self.world (g.W.Write.contents l.fn.writer) (g.W.Write.contents l.writer) [] l.is_answered;
 }

@@ -1,5 +1,5 @@
 use Rattle.std.proofs.Common.{ap, sym, subst, ◌∙◌}
-use Rattle.shell.specs.Printing.{Simulated, Adds, line_at, node_of}
+use Rattle.shell.specs.Printing.{Simulated, Adds, asked_by, answers_at, line_at, node_of}
 use Rattle.shell.proofs.Printing.{adds, stays}
 use Rattle.shell.proofs.simulator.Simulator.happens.Goals as goal
 
@@ -12,5 +12,5 @@ invariant_of-self g c =
 
 pub returns-clause-adds : goal.returns-clause-adds
 returns-clause-adds g c =
-    subst (λ (s : Simulated). Adds s.world c.step.new.self (line_at c.args.node c.step.result)) c.self.view_is
+    subst (λ (s : Simulated). Adds s.world c.step.new.self (asked_by c.args.event) (answers_at c.args.node c.step.result) (line_at c.args.node c.step.result)) c.self.view_is
     (adds _ _ _ _ _ (ap (λ (s : Simulated). node_of s.world c.args.event) c.self.view_is ∙ c.requires.node) c.step.ensures.steps)

@@ -1,0 +1,4 @@
+mod OptionLemmas
+mod ProgramLemmas
+mod FaultLemmas
+mod ParseLemmas

@@ -1,0 +1,84 @@
+-- What a parse's answer says of the words.
+use Rattle.std.proofs.Common.{◌≡◌, ◌∙◌, inl, inr, Bool, true, false, true≢false, cond, List, [], ◌∷◌, refl, sym, ap, ap₂, subst, Option, Some, None, option_map, codes, ok_or, Result, Ok, Err}
+use Rattle.std.specs.Prelude.{IsErrAnd, option_and_then}
+use Rattle.clap.specs.Walk.{Row, Text, first_of}
+use Rattle.clap.specs.Simple.{App, HasMatchesOf, is_simple, subcommand_of, subcommand_rows_of}
+use Rattle.clap.specs.Kinds.{HasKind, IsAmong, Kinds}
+use Rattle.clap.specs.Faults.{fault_of, is_simple_and_free}
+use Rattle.clap.specs.Values.{kind_of}
+use Rattle.clap.specs.declared.error.Error.{Error}
+use Rattle.clap.specs.declared.parser.matches.ArgMatches.{ArgMatches}
+use Rattle.clap.specs.declared.error.kind.ErrorKind.{ErrorKind}
+use Rattle.clap.proofs.OnLiterals.{clap_on_literals}
+use Rattle.command_line.specs.Program.{option_names, program}
+use Rattle.command_line.proofs.FaultLemmas.{are_alike, faults_are_alike, first_tells}
+use Rattle.command_line.specs.Asking.{asked_by, to_be_shown, nothing, Answers, Becomes, all_numbered, faults, is_shown, options_of, run_asked, run_of}
+use Rattle.command_line.specs.declared.options.Options.{Options}
+use Rattle.command_line.specs.declared.command.CommandFault.{CommandFault}
+use Rattle.command_line.specs.declared.command.CommandFault.TheVariants.{Bad, NoMemory}
+use Rattle.command_line.specs.declared.command.Request.{Request}
+use Rattle.command_line.specs.declared.command.Request.TheVariants.{Sim, Show}
+
+is_simple_program : is_simple program ≡ true
+unfolding clap_on_literals
+is_simple_program = refl
+
+is_free_program : is_simple_and_free program ≡ true
+unfolding clap_on_literals
+is_free_program = refl
+
+pub no_fault : (a : App) (words : List Text) → a ≡ program → (is_simple_and_free a ≡ true → fault_of a words ≡ []) → faults words ≡ []
+no_fault a words is clean = ap (λ (a : App). fault_of a words) (sym is) ∙ clean (ap is_simple_and_free is ∙ is_free_program)
+
+pub a_fault : (a : App) (words : List Text) (e : Error) → a ≡ program → (is_simple_and_free a ≡ true → HasKind (fault_of a words) e) → HasKind (faults words) e
+a_fault a words e is has = subst (λ (a : App). HasKind (fault_of a words) e) is (has (ap is_simple_and_free is ∙ is_free_program))
+
+run_by_rows : (o : Option (Text × List Row)) (rows : List Row) → Some rows ≡ option_map (λ p. p.1) o → option_and_then (λ sub. run_of sub.1) o ≡ run_of rows
+run_by_rows None rows e = ap (option_and_then run_of) (sym e)
+run_by_rows (Some sub) rows e = ap (option_and_then run_of) (sym e)
+
+pub run_found : (a : App) (words : List Text) (m : ArgMatches) (rows : List Row) → a ≡ program → HasMatchesOf a words m
+    → Some rows ≡ option_map (λ p. p.1) (subcommand_rows_of m) → run_asked words ≡ run_of rows
+run_found a words m rows is has e =
+    let sub : subcommand_rows_of m ≡ subcommand_of program words = (has (ap is_simple is ∙ is_simple_program)).1 ∙ ap (λ (a : App). subcommand_of a words) is in
+    run_by_rows (subcommand_of program words) rows (e ∙ ap (option_map (λ (p : Text × List Row). p.1)) sub)
+
+pub run_is : (rows : List Row) (file : Text) → true ≡ all_numbered rows option_names → Some file ≡ first_of (codes "FILE") rows → run_of rows ≡ Some (file, options_of rows)
+run_is rows file all is =
+    ap (λ b. cond b (option_map (λ (f : Text). (f, options_of rows)) (first_of (codes "FILE") rows)) None) (sym all) ∙ ap (option_map (λ (f : Text). (f, options_of rows))) (sym is)
+
+pub no_file : (rows : List Row) → None ≡ first_of (codes "FILE") rows → run_of rows ≡ None
+no_file rows is = ap (λ o. cond (all_numbered rows option_names) (option_map (λ (f : Text). (f, options_of rows)) o) None) (sym is) ∙ go (all_numbered rows option_names)
+  where
+    go : (b : Bool) → ◌≡◌ {A = Option (Text × Options)} (cond b None None) None
+    go true = refl
+    go false = refl
+
+pub no_number : (rows : List Row) → false ≡ all_numbered rows option_names → run_of rows ≡ None
+no_number rows all = ap (λ b. cond b (option_map (λ (f : Text). (f, options_of rows)) (first_of (codes "FILE") rows)) None) (sym all)
+
+by_fault : (kinds : Kinds) (run : Option (Text × Options)) (k : ErrorKind) (b : Bool) → are_alike kinds ≡ true → IsAmong k kinds → is_shown k ≡ b
+    → asked_by kinds run ≡ cond b to_be_shown nothing
+by_fault [] run k b alike among is = absurd among
+by_fault (first ∷ rest) run k b alike among is = ap (λ b. cond b to_be_shown nothing) (sym (first_tells k first rest alike among) ∙ is)
+
+pub of_fault : (words : List Text) (e : Error) (r : Result Request CommandFault) → HasKind (faults words) e → Becomes (kind_of e) r → Answers words r
+of_fault words e (Ok (Sim file options)) h b = absurd b
+of_fault words e (Ok (Show text)) (inl is) b = absurd (true≢false (sym b ∙ ap is_shown is))
+of_fault words e (Ok (Show text)) (inr among) b = by_fault (faults words) (run_asked words) (kind_of e) true (faults_are_alike words) among b
+of_fault words e (Err Bad) (inl is) b = absurd (b.1 is)
+of_fault words e (Err Bad) (inr among) b = by_fault (faults words) (run_asked words) (kind_of e) false (faults_are_alike words) among b.0
+of_fault words e (Err NoMemory) h b = tt
+
+abbrev fault_in : {X : Type 0} → Result X CommandFault → CommandFault
+fault_in (Ok x) = Bad
+fault_in (Err fault) = fault
+
+-- what `ok_or` makes of nothing
+pub fault_of_none : {X : Type 0} (o : Option X) (fault : CommandFault) → o ≡ None → Err fault ≡ ok_or o Bad → fault ≡ Bad
+fault_of_none o fault none is = ap fault_in (is ∙ ap (λ o. ok_or o Bad) none)
+
+pub of_bad : (words : List Text) (r : Result Request CommandFault) (fault : CommandFault) → IsErrAnd r (λ e. e ≡ fault) → fault ≡ Bad → faults words ≡ []
+    → run_asked words ≡ None → Answers words r
+of_bad words (Ok x) fault is bad none run = absurd is
+of_bad words (Err e) fault is bad none run = subst (λ e. Answers words (Err e)) (sym (is ∙ bad)) (ap₂ asked_by none run)

@@ -1,0 +1,16 @@
+use Rattle.std.proofs.Common.{◌∙◌, ap, ap₂}
+use Rattle.std.proofs.lemmas.Result.{IfOk-weaker}
+use Rattle.clap.specs.Words.{Shape, app_of, with_subcommand}
+use Rattle.clap.specs.Simple.{app_of_fields}
+use Rattle.clap.proofs.SimpleLemmas.{plain_fields}
+use Rattle.command_line.proofs.ProgramLemmas.{top_is}
+use Rattle.command_line.proofs.command.command.Goals as goal
+
+pub returns : goal.returns
+returns c =
+    let top = top_is (app_of c.new.result) (app_of c.version.result) (app_of c.about.result) (app_of c.disable_help_subcommand.result) (app_of c.subcommand_required.result)
+    c.new.ensures.app (ap app_of_fields c.version.ensures) (ap app_of_fields c.about.ensures) (ap app_of_fields c.disable_help_subcommand.ensures)
+    (ap app_of_fields c.subcommand_required.ensures) in
+    let sim_is = c.in_ok-sim_command.ensures in
+    IfOk-weaker c.subcommand.result _ _ (λ r h.
+    h.shape (plain_fields c.in_ok-sim_command.field-0 (ap (λ (s : Shape). s.is_plain) sim_is)).globals ∙ ap₂ with_subcommand top sim_is) c.subcommand.ensures

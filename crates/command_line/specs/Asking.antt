@@ -1,0 +1,111 @@
+-- What the words of a command line ask for.
+use Rattle.std.specs.Prelude.{◌≡◌, ◌⊎◌, ⊤, ℕ, ◌-◌, ◌^◌, min, Bool, true, false, List, [], ◌∷◌, Option, Some, None, is_some, option_map, option_and_then, unwrap_or, if◌then◌else◌, codes, Result, Ok, Err}
+use Rattle.std.specs.List.{list_all}
+use Rattle.std.specs.Option.{option_map_or}
+use Rattle.clap.specs.Walk.{Row, Text, first_of}
+use Rattle.clap.specs.Simple.{subcommand_of}
+use Rattle.clap.specs.Kinds.{Kinds}
+use Rattle.clap.specs.Faults.{fault_of}
+use Rattle.clap.specs.declared.error.kind.ErrorKind.{ErrorKind}
+use Rattle.clap.specs.declared.error.kind.ErrorKind.TheVariants.{DisplayHelp, DisplayVersion, OutOfMemory}
+use Rattle.gfs_types.specs.Settings.{block_for, default_settings}
+use Rattle.gfs_types.specs.declared.config.Config.{Config}
+use Rattle.script.specs.Numbers.{number_of}
+use Rattle.command_line.specs.Program.{option_names, program}
+use Rattle.command_line.specs.declared.options.Options.{Options}
+use Rattle.command_line.specs.declared.command.CommandFault.{CommandFault}
+use Rattle.command_line.specs.declared.command.CommandFault.TheVariants.{Bad, NoMemory}
+use Rattle.command_line.specs.declared.command.Request.{Request}
+use Rattle.command_line.specs.declared.command.Request.TheVariants.{Sim, Show}
+
+-- ---- the options; rows are what the words gave to each name
+
+-- an option's value is a number, where one is given
+abbrev pub is_numbered : List Row → Text → Bool
+is_numbered rows name = option_map_or (λ text. is_some (number_of text)) (first_of name rows) true
+
+-- that number, or the default where none is given
+abbrev pub number_for : List Row → Text → ℕ → ℕ
+number_for rows name default = option_map_or (λ text. unwrap_or (number_of text) 0) (first_of name rows) default
+
+-- the same of a setting of 32 bits, whose greatest value stands for all above it
+abbrev pub narrow_for : List Row → Text → ℕ → ℕ
+narrow_for rows name default = min (number_for rows name default) (2 ^ 32 - 1)
+
+abbrev pub config_of : List Row → Config
+config_of rows = record {
+  chunk = narrow_for rows (codes "chunk") default_settings.chunk;
+  block = narrow_for rows (codes "block") (block_for (narrow_for rows (codes "chunk") default_settings.chunk));
+  goal = narrow_for rows (codes "goal") default_settings.goal;
+  lease_ms = number_for rows (codes "lease-ms") default_settings.lease_ms;
+  skew_ms = number_for rows (codes "skew-ms") default_settings.skew_ms;
+  attempt_ms = number_for rows (codes "attempt-ms") default_settings.attempt_ms;
+  attempts = narrow_for rows (codes "attempts") default_settings.attempts;
+  cache_entries = narrow_for rows (codes "cache-entries") default_settings.cache_entries;
+  cache_ms = number_for rows (codes "cache-ms") default_settings.cache_ms;
+  push_entries = narrow_for rows (codes "push-entries") default_settings.push_entries;
+  keep_ms = number_for rows (codes "keep-ms") default_settings.keep_ms;
+  slots = narrow_for rows (codes "slots") default_settings.slots;
+  log_bytes = number_for rows (codes "log-bytes") default_settings.log_bytes;
+  journal = narrow_for rows (codes "journal") default_settings.journal;
+}
+
+abbrev pub options_of : List Row → Options
+options_of rows = record {
+  servers = number_for rows (codes "servers") 3;
+  clients = number_for rows (codes "clients") 1;
+  config = config_of rows;
+}
+
+-- each value that is given to one of these options is a number
+abbrev pub all_numbered : List Row → List Text → Bool
+all_numbered rows names = list_all (is_numbered rows) names
+
+-- ---- the command line
+
+-- the file and the options that the rows of `sim` give
+abbrev pub run_of : List Row → Option (Text × Options)
+run_of rows = if all_numbered rows option_names then option_map (λ file. (file, options_of rows)) (first_of (codes "FILE") rows) else None
+
+-- what the words would run, where they have no fault
+abbrev pub run_asked : List Text → Option (Text × Options)
+run_asked words = option_and_then (λ sub. run_of sub.1) (subcommand_of program words)
+
+-- the faults that a parse of the words may name: the first step that fails has one kind, or a few that may come
+abbrev pub faults : List Text → Kinds
+faults words = fault_of program words
+
+-- the user asked for the help or the version
+abbrev pub is_shown : ErrorKind → Bool
+is_shown DisplayHelp = true
+is_shown DisplayVersion = true
+is_shown _ = false
+
+-- to run a script's file with options, to be shown the help or the version, or nothing
+pub data Asked : Type 0 where
+  to_run : Text → Options → Asked
+  to_be_shown : Asked
+  nothing : Asked
+
+-- faults come first; of the kinds that the first fault may have, all are to be shown or none is
+abbrev pub asked_by : Kinds → Option (Text × Options) → Asked
+asked_by [] (Some run) = to_run run.0 run.1
+asked_by [] None = nothing
+asked_by (kind ∷ kinds) run = if is_shown kind then to_be_shown else nothing
+
+abbrev pub asked : List Text → Asked
+asked words = asked_by (faults words) (run_asked words)
+
+-- the answer says what the words ask for, or memory ran out
+abbrev pub Answers : List Text → Result Request CommandFault → Type 0
+Answers words (Ok (Sim file options)) = asked words ≡ to_run file.now options
+Answers words (Ok (Show text)) = asked words ≡ to_be_shown
+Answers words (Err Bad) = asked words ≡ nothing
+Answers words (Err NoMemory) = ⊤
+
+-- what a fault of a parse becomes; a text to be shown may take memory
+abbrev pub Becomes : ErrorKind → Result Request CommandFault → Type 0
+Becomes kind (Ok (Sim file options)) = ⊥
+Becomes kind (Ok (Show text)) = is_shown kind ≡ true
+Becomes kind (Err Bad) = (is_shown kind ≡ false) × (kind ≡ OutOfMemory → ⊥)
+Becomes kind (Err NoMemory) = (is_shown kind ≡ true) ⊎ (kind ≡ OutOfMemory)

@@ -1,0 +1,200 @@
+-- In each world that is reached, a master that is up has the names, counters, epoch and kept answers of its log, and what else its records keep of them.
+use Rattle.std.proofs.Common.{◌≡◌, ℕ, suc, ◌≤◌, true, false, List, [], take, drop, refl, sym, ap, subst, ◌∙◌, arith}
+use Rattle.std.specs.Prelude.{◌&&◌, not, IsTrue}
+use Rattle.std.proofs.lemmas.Bool.{and_parts, leb-true}
+use Rattle.std.specs.FinMap as table
+use Rattle.gfs_types.specs.declared.config.Config.{Config}
+use Rattle.gfs_types.specs.declared.event.Input.{Input}
+use Rattle.gfs_types.specs.declared.record.Record.{Record}
+use Rattle.gfs_types.specs.declared.record.Record.TheVariants as log
+use Rattle.relaxed_file.specs.Names.{Names}
+use Rattle.relaxed_file.proofs.NamesTree.{Tree, first_tree}
+use Rattle.protocol.specs.Tables.{Table, counter_limit}
+use Rattle.protocol.specs.Choice.{Choice, Ending, Goes, Lost, Stops}
+use Rattle.protocol.specs.Seen.{Taken, no_step}
+use Rattle.protocol.specs.ChunkTable.{ChunkRow, changed_row}
+use Rattle.protocol.specs.LogSizes.{checkpoint_fits}
+use Rattle.protocol.specs.Logged.{Logged, LogDisk, LogChange, AppendRecord, WriteCheckpoint, first_logged, log_changed, log_changed_by_all, after_record, after_records, checkpoint_of, copies_given_up, all_copies_given_up}
+use Rattle.protocol.specs.Master.{MasterState, MasterDoing, stopped_master, master_begins, fits, appends, writes_checkpoint, logs_after_checkpoint, is_of_copy}
+use Rattle.protocol.specs.MasterStep.{master_goes, master_ends, master_bounded, master_step, is_within_limits, found_log, started_master, opening, has_opened, opens_as, new_master, first_log}
+use Rattle.protocol.specs.World.{WorldState, IsReached}
+use Rattle.protocol.proofs.Steps.{on_cond}
+use Rattle.protocol.proofs.Namespace.{IsNamespace, names_are_after}
+use Rattle.protocol.proofs.MasterMoves.{Core, core_of, IsDue, Nothing, AreNames, Keeps, core_changed}
+use Rattle.protocol.proofs.MasterSteps.{goes_named}
+use Rattle.protocol.proofs.OrderNumbers.{state_of, state-appended, AllStops, stops_push, changed-push, AllFound, found_same, found_stopped}
+use Rattle.protocol.proofs.LoggedParts.{Parts, parts_of, same_after, checkpoint_parts}
+use Rattle.protocol.proofs.MasterReached.{reached_here}
+
+-- What a fact of the logged state needs to hold in each reached world. Its names, files and copies alone count.
+pub record IsKeptByRecords (B : Logged → Type 0) : Type 0 where
+  pub new : B first_logged
+  pub epochs : (l : Logged) (epoch : ℕ) → B l → B (record l { epoch = epoch })
+  -- a record is logged where the names fit, and is replayed from the same names
+  pub records : (l k : Logged) (r : Record) → parts_of l ≡ parts_of k → IsDue l r → AreNames l r → B l → B k → B (after_record l r) × B (after_record k r)
+  pub checkpoint : (l : Logged) → Tree l.names → B l → B (after_records first_logged (checkpoint_of l))
+  pub less : (l : Logged) (handles : List ℕ) → B l → B (copies_given_up l handles)
+  pub rows : (l : Logged) (chunks : Table ChunkRow) → B l → B (record l { table = record l.table { chunks = chunks } })
+
+module _ (B : Logged → Type 0) (b : IsKeptByRecords B) where
+  abbrev IsGood : LogDisk → Type 0
+  IsGood d = Tree (state_of d).names × B (state_of d)
+
+  -- a step so far, from what was on the disk
+  record IsNaming (start : LogDisk) (c : Core) : Type 0 where
+    none : c.under_way ≡ []
+    disk : log_changed_by_all start c.changes ≡ c.disk
+    same : parts_of c.logged ≡ parts_of (state_of c.disk)
+    here : B c.logged
+    there : B (state_of c.disk)
+    stops : AllStops IsGood start c.changes
+
+  -- the disk and the state change together
+  changed : (start : LogDisk) (c : Core) (x : LogChange) (l : Logged) → parts_of l ≡ parts_of (state_of (log_changed c.disk x)) → Tree l.names → B l → B (state_of (log_changed c.disk x))
+      → IsNaming start c → IsNaming start (record (core_changed c x) { logged = l })
+  changed start c x l same tree here there h =
+      record {
+        none = h.none;
+        disk = changed-push start c.changes x ∙ ap (λ (d : LogDisk). log_changed d x) h.disk;
+        same = same;
+        here = here;
+        there = there;
+        stops = stops_push IsGood start c.changes x h.stops
+            (subst (λ (d : LogDisk). IsGood (log_changed d x)) (sym h.disk) (subst (λ (n : Names). Tree n) (ap (λ (p : Parts). p.names) same) tree, there));
+      }
+
+  appended : (start : LogDisk) (c : Core) (r : Record) → Tree (after_record c.logged r).names → B (after_record c.logged r) × B (after_record (state_of c.disk) r) → IsNaming start c
+      → IsNaming start (record (core_changed c (AppendRecord r)) { logged = after_record c.logged r })
+  appended start c r tree both h =
+      changed start c (AppendRecord r) (after_record c.logged r)
+      (same_after c.logged (state_of c.disk) r h.same ∙ sym (ap (λ (k : Logged). parts_of k) (state-appended c.disk r))) tree both.0
+      (subst (λ (k : Logged). B k) (sym (state-appended c.disk r)) both.1) h
+
+  checkpointed : (start : LogDisk) (c : Core) → Tree c.logged.names → IsNaming start c
+      → IsNaming start (record (core_changed c (WriteCheckpoint (checkpoint_of c.logged))) { logged = all_copies_given_up c.logged })
+  checkpointed start c tree h =
+      changed start c (WriteCheckpoint (checkpoint_of c.logged)) (all_copies_given_up c.logged) (sym (checkpoint_parts c.logged tree)) tree
+      (b.less c.logged (table.keys c.logged.copies) h.here) (b.checkpoint c.logged tree h.here) h
+
+  quieter : (start : LogDisk) (c : Core) (l : Logged) → parts_of l ≡ parts_of c.logged → B l → IsNaming start c → IsNaming start (record c { logged = l })
+  quieter start c l same here h = record { none = h.none; disk = h.disk; same = same ∙ h.same; here = here; there = h.there; stops = h.stops }
+
+  naming_keeps : (start : LogDisk) → Keeps (Unit {0}) Nothing (IsNaming start)
+  naming_keeps start =
+      record {
+        tells = λ c receiver body none h. record { none = h.none; disk = h.disk; same = h.same; here = h.here; there = h.there; stops = h.stops };
+        orders = λ c server body is plain h. record { none = h.none; disk = h.disk; same = h.same; here = h.here; there = h.there; stops = h.stops };
+        grants = λ c primary handle version until members told h. record { none = h.none; disk = h.disk; same = h.same; here = h.here; there = h.there; stops = h.stops };
+        appends = λ c r due names h.
+            let n : AreNames c.logged r = names tt in
+            appended start c r (subst (λ (x : Names). Tree x) (sym (names_are_after c.logged r)) n.after) (b.records c.logged (state_of c.disk) r h.same due n h.here h.there) h;
+        checkpoint = λ c tree h. checkpointed start c (tree tt) h;
+        less = λ c handles h. quieter start c (copies_given_up c.logged handles) refl (b.less c.logged handles h.here) h;
+        ends = λ c handle moment h.
+            quieter start c (record c.logged { table = record c.logged.table { chunks = changed_row c.logged.table.chunks handle (λ row. record row { lease_end = moment }) (table.get c.logged.table.chunks handle) } }) refl
+            (b.rows c.logged (changed_row c.logged.table.chunks handle (λ row. record row { lease_end = moment }) (table.get c.logged.table.chunks handle)) h.here) h;
+      }
+
+  -- of a master that is up, between its steps
+  pub record IsUpToLog (m : MasterState) : Type 0 where
+    pub idle : m.under_way ≡ []
+    pub bound : m.logged.next_file ≤ counter_limit
+    pub names : IsNamespace m.logged.names m.snapshots
+    pub same : parts_of m.logged ≡ parts_of (state_of m.disk)
+    pub here : B m.logged
+    pub there : B (state_of m.disk)
+
+  pub record IsLogged (m : MasterState) : Type 0 where
+    pub found : AllFound IsGood m.disk m.under_way
+    pub up : IsTrue m.up → IsUpToLog m
+
+  stopped : (m : MasterState) (disk : LogDisk) (under_way : List LogChange) → AllFound IsGood disk under_way → IsLogged (stopped_master m disk under_way)
+  stopped m disk under_way h = record { found = h; up = λ up. absurd (let both : false ≡ true = up in cc) }
+
+  within : (m : MasterState) → is_within_limits m ≡ true → m.logged.next_file ≤ counter_limit
+  within m h =
+      let handles = (and_parts _ _ (and_parts _ _ (and_parts _ _ h).0).0).0 in
+      leb-true m.logged.next_file counter_limit (and_parts _ _ handles).0
+
+  running : (start : LogDisk) (d : MasterDoing) → is_within_limits d.master ≡ true → IsNaming start (core_of d) → IsNamespace d.master.logged.names d.master.snapshots → IsLogged d.master
+  running start d limits g names =
+      let good : IsGood d.master.disk = (subst (λ (n : Names). Tree n) (ap (λ (p : Parts). p.names) g.same) names.tree, g.there) in
+      record {
+        found = subst (λ (xs : List LogChange). AllFound IsGood d.master.disk xs) (sym g.none) (found_same IsGood d.master.disk good);
+        up = λ _. record { idle = g.none; bound = within d.master limits; names = names; same = g.same; here = g.here; there = g.there };
+      }
+
+  ends_logged : (m : MasterState) (d : MasterDoing) (choice : Choice) (e : Ending) → is_within_limits d.master ≡ true → IsLogged m → IsNaming m.disk (core_of d)
+      → IsNamespace d.master.logged.names d.master.snapshots → IsLogged (master_ends m d choice e).state
+  ends_logged m d choice Goes limits h g names = running m.disk d limits g names
+  ends_logged m d choice Lost limits h g names = stopped m m.disk [] (found_same IsGood m.disk (h.found []))
+  ends_logged m d choice (Stops made) limits h g names =
+      stopped m (log_changed_by_all m.disk (take made d.changes)) (take 1 (drop made d.changes)) (found_stopped IsGood m.disk d.changes made g.stops)
+
+  step_logged : (m : MasterState) (moment : ℕ) (i : Input) (choice : Choice) → IsLogged m → IsLogged (master_step m moment i choice).state
+  step_logged m moment i choice h =
+      let d : MasterDoing = master_goes m moment i choice.refused in
+      let good : Taken MasterState → Type 0 = λ t. IsLogged t.state in
+      on_cond good m.up (master_bounded m d choice) (no_step m)
+      (λ up. on_cond good (is_within_limits d.master) (master_ends m d choice choice.ending) (no_step m)
+      (λ limits.
+      let u : IsUpToLog m = h.up up in
+      let end = goes_named (IsNaming m.disk) (naming_keeps m.disk) m moment i choice.refused u.bound u.names
+      (record { none = u.idle; disk = refl; same = u.same; here = u.here; there = u.there; stops = h.found [] }) in
+      ends_logged m d choice choice.ending limits h end.0 end.1)
+      (λ _. h))
+      (λ _. h)
+
+  opening_naming : (config : Config) (count : ℕ) (found : LogDisk) (moment : ℕ) → IsGood found
+      → (let d : MasterDoing = opening (started_master config count found moment) in IsNaming found (core_of d) × Tree d.master.logged.names × (d.master.snapshots ≡ []))
+  opening_naming config count found moment good =
+      let started : MasterState = started_master config count found moment in
+      let d : MasterDoing = master_begins started [] in
+      let r : Record = log.Epoch (suc d.master.logged.epoch) in
+      let kept : B started.logged = b.rows (all_copies_given_up (state_of found)) started.logged.table.chunks (b.less (state_of found) (table.keys (state_of found).copies) good.1) in
+      let first : IsNaming found (core_of d) = record { none = refl; disk = refl; same = refl; here = kept; there = good.1; stops = good } in
+      let all : MasterDoing → Type 0 = λ e. IsNaming found (core_of e) × Tree e.master.logged.names × (e.master.snapshots ≡ []) in
+      let begins : (e : MasterDoing) → all e → all (appends e r) =
+      λ e h. (
+        appended found (core_of e) r h.1 (b.epochs e.master.logged (suc d.master.logged.epoch) h.0.here, b.epochs (state_of e.master.disk) (suc d.master.logged.epoch) h.0.there) h.0,
+        h.1,
+        h.2,
+      ) in
+      let one : all d = (first, good.0, refl) in
+      let two : all (writes_checkpoint d) = (checkpointed found (core_of d) good.0 first, good.0, refl) in
+      on_cond all (fits d r) (appends d r) _ (λ _. begins d one)
+      (λ _. on_cond all (checkpoint_fits d.master.config.log_bytes (checkpoint_of d.master.logged)) (logs_after_checkpoint (writes_checkpoint d) r (is_of_copy d.master.logged r) (λ e. e)) d
+      (λ _. on_cond all (fits (writes_checkpoint d) r && not (is_of_copy d.master.logged r)) (appends (writes_checkpoint d) r) (writes_checkpoint d) (λ _. begins (writes_checkpoint d) two) (λ _. two))
+      (λ _. one))
+
+  no_snapshots : (d : MasterDoing) → Tree d.master.logged.names → d.master.snapshots ≡ [] → IsNamespace d.master.logged.names d.master.snapshots
+  no_snapshots d tree none = subst (λ ss. IsNamespace d.master.logged.names ss) (sym none) (record { tree = tree; free = tt; apart = tt })
+
+  opens_logged : (old : MasterState) (moment : ℕ) (choice : Choice) (e : Ending) → IsLogged old
+      → (let started : MasterState = started_master old.config old.server_count (found_log old choice) moment in IsLogged (opens_as old started (opening started) choice e).state)
+  opens_logged old moment choice Lost h = stopped old old.disk old.under_way h.found
+  opens_logged old moment choice (Stops made) h =
+      let found : LogDisk = found_log old choice in
+      let d : MasterDoing = opening (started_master old.config old.server_count found moment) in
+      stopped old (log_changed_by_all found (take made d.changes)) (take 1 (drop made d.changes))
+      (found_stopped IsGood found d.changes made (opening_naming old.config old.server_count found moment (h.found choice.decided)).0.stops)
+  opens_logged old moment choice Goes h =
+      let found : LogDisk = found_log old choice in
+      let started : MasterState = started_master old.config old.server_count found moment in
+      let d : MasterDoing = opening started in
+      let g = opening_naming old.config old.server_count found moment (h.found choice.decided) in
+      let good : IsGood d.master.disk = (subst (λ (n : Names). Tree n) (ap (λ (p : Parts). p.names) g.0.same) g.1, g.0.there) in
+      on_cond (λ (t : Taken MasterState). IsLogged t.state) (has_opened started d && is_within_limits d.master) _ _
+      (λ both. running found d (and_parts (has_opened started d) (is_within_limits d.master) both).1 g.0 (no_snapshots d g.1 g.2)) (λ _. stopped old d.master.disk [] (found_same IsGood d.master.disk good))
+
+  new_logged : (config : Config) (servers : ℕ) → IsLogged (new_master config servers)
+  new_logged config servers =
+      let b1 : B (record first_logged { epoch = 1 }) = b.epochs first_logged 1 b.new in
+      record {
+        found = found_same IsGood first_log (first_tree, b1);
+        up = λ _. record { idle = refl; bound = omega arith; names = record { tree = first_tree; free = tt; apart = tt }; same = refl; here = b1; there = b1 };
+      }
+
+  pub logged_reached : (config : Config) (servers clients : ℕ) (w : WorldState) → IsReached config servers clients w → IsTrue w.master.up → IsUpToLog w.master
+  logged_reached config servers clients w r =
+      (reached_here IsLogged (record { new = new_logged; steps = step_logged; restarts = λ m moment choice h. opens_logged m moment choice choice.ending h }) config servers clients w r).up

@@ -1,0 +1,83 @@
+//! The callers of the pages `CALLING.md` of `chunk_table`, `leases` and `primary_order`.
+
+ghost use Rattle.std.specs.Prelude.{◌≡◌, IfOk, OnOk, OnErr};
+ghost use Rattle.chunk_table.specs.ChunkTable.{chunk_of, row_ended, row_granted, row_issued, with_row_changed};
+ghost use Rattle.chunk_table.specs.Refusals.{version_after};
+ghost use Rattle.gfs_types.specs.declared.refusal.Refusal.TheVariants.{NoData};
+ghost use Rattle.leases.specs.LeaseHeld.{after_call, counts};
+ghost use Rattle.leases.specs.LeaseHeld.HeldCall.{Ask, Extend};
+ghost use Rattle.primary_order.specs.PrimaryOrder.{denied, known};
+
+use chunk_table::fault::TableFault;
+use chunk_table::table::Table;
+use gfs_types::ids::{ClientId, FileId, Handle, Moment, ServerId, Version};
+use gfs_types::lists::ServerList;
+use gfs_types::no_memory::NoMemory;
+use gfs_types::refusal::Refusal;
+use leases::held::Held;
+use primary_order::answer::Accept;
+use primary_order::primary::Primary;
+use std::test::Fail;
+
+/// Issues the chunk's next version and grants it to a primary and its members, until that moment.
+fn lease(
+    table: &mut Table,
+    handle: Handle,
+    primary: ServerId,
+    members: ServerList,
+    until: Moment,
+) -> Result<Version, TableFault>
+    ensures version { IfOk result (λ version. version.0 ≡ version_after (chunk_of table.old.table handle.0)) }
+    ensures granted { OnOk result (table.new ≡ with_row_changed (with_row_changed (with_row_changed table.old handle.0 row_issued) handle.0 (row_granted primary.0 members)) handle.0 (row_ended until.0)) }
+{
+    let version = table.issue(handle)?;
+    table.grant(handle, version, primary, members)?;
+    table.set_end(handle, until);
+    Ok(version)
+}
+
+/// Moves the lease's end on, and says whether it counts.
+fn renew(held: &mut Held, until: Moment, now: Moment) -> bool
+    ensures after { held.new ≡ after_call (after_call held.old (Extend until.0 now.0)) (Ask now.0) }
+    ensures counts { result ≡ counts held.new }
+{
+    held.extend(until, now);
+    held.valid(now)
+}
+
+/// Refuses an attempt whose data are not here. A repeat is answered the same from now on, also when its data come.
+fn refuse_without_data(
+    primary: &mut Primary,
+    client: ClientId,
+    seq: u64,
+) -> Result<Option<Accept>, NoMemory>
+    ensures kept { OnOk result (primary.new ≡ denied primary.old client seq NoData) }
+    ensures answer { IfOk result (λ answer. answer ≡ known (denied primary.old client seq NoData) client seq) }
+    ensures refused { OnErr result (primary.new ≡ primary.old) }
+{
+    primary.deny(client, seq, Refusal::NoData)?;
+    Ok(primary.known(client, seq))
+}
+
+#[test]
+fn a_lease_is_granted_and_renewed(rt: HostRuntime) -> Result<(), Fail> {
+    let alloc = rt.alloc();
+    let mut table = Table::new(alloc);
+    let file = table.add_file()?;
+    let chunk = table.add_chunk(file)?;
+    let members = ServerList::new(Vec::from_slice(alloc, &[1u16, 2])?);
+    let version = lease(&mut table, chunk, ServerId(1), members, Moment(60))?;
+    assert_eq!(rt; (file, version), (FileId(1), Version(1)));
+    assert_eq!(rt;
+        table.chunk(chunk).map(|c| (c.granted(), c.lease_end())),
+        Some((Version(1), Moment(60)))
+    );
+    let members = ServerList::new(Vec::from_slice(alloc, &[1u16, 2])?);
+    let mut held = Held::take(version, Moment(60), members, 10);
+    assert!(rt; renew(&mut held, Moment(90), Moment(49)));
+    assert!(rt; !renew(&mut held, Moment(120), Moment(80)));
+    let mut primary = Primary::new(alloc, held);
+    let answer = refuse_without_data(&mut primary, ClientId(1), 1)?;
+    assert_eq!(rt; answer, Some(Accept::Refused(Refusal::NoData)));
+    Ok(())
+}

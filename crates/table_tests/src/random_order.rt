@@ -1,0 +1,270 @@
+//! Random lists of calls of a held lease and of a primary's order, beside plain ones.
+
+use crate::plain_order::{PlainLease, PlainOrder};
+use crate::random::Random;
+use bytes::Bytes;
+use gfs_types::ids::{ClientId, Moment, Serial, ServerId, Version};
+use gfs_types::lists::ServerList;
+use gfs_types::mutation::Mutation;
+use gfs_types::refusal::Refusal;
+use leases::held::Held;
+use primary_order::answer::Accept;
+use primary_order::primary::Primary;
+use std::alloc::{AllocError, Global};
+use std::test::Fail;
+
+const LISTS: u64 = 400;
+
+const CALLS: u64 = 50;
+
+const UNTIL: u64 = 60;
+
+const SKEW: u64 = 10;
+
+fn held(alloc: Global) -> Result<Held, AllocError> {
+    let members = ServerList::new(Vec::from_slice(alloc, &[1u16, 2, 3])?);
+    Ok(Held::take(Version(1), Moment(UNTIL), members, SKEW))
+}
+
+// Makes one random call at both leases. Whether they answer the same, and end at the same moment.
+fn is_lease_alike(random: &mut Random, step: u64, held: &mut Held, plain: &mut PlainLease) -> bool {
+    let now = random.below(30).saturating_add(step / 2);
+    match random.below(12) {
+        0..=4 => {
+            let until = random.below(90);
+            held.extend(Moment(until), Moment(now));
+            plain.extend(until, now);
+        }
+        5 if random.below(10) == 0 => {
+            held.end();
+            plain.end();
+        }
+        _ => {
+            if held.valid(Moment(now)) != plain.valid(now) {
+                return false;
+            }
+        }
+    }
+    held.until().0 == plain.until
+}
+
+fn first_lease_difference(
+    random: &mut Random,
+    held: &mut Held,
+    plain: &mut PlainLease,
+) -> Option<u64> {
+    for step in 0..CALLS {
+        if !is_lease_alike(random, step, held, plain) {
+            return Some(step);
+        }
+    }
+    None
+}
+
+#[test]
+fn random_calls_of_a_lease(rt: HostRuntime) -> Result<(), Fail> {
+    let (mut over, mut counting) = (0u64, 0u64);
+    for seed in 0..LISTS {
+        let mut random = Random::new(seed);
+        let mut held = held(rt.alloc())?;
+        let mut plain = PlainLease::new(UNTIL, SKEW);
+        let difference = first_lease_difference(&mut random, &mut held, &mut plain);
+        assert_eq!(rt; difference, None, "list {seed}");
+        if plain.is_over {
+            over = over.saturating_add(1);
+        } else {
+            counting = counting.saturating_add(1);
+        }
+    }
+    assert!(rt; over >= 50 && counting >= 50, "{over}, {counting}");
+    Ok(())
+}
+
+// How often each answer came.
+#[derive(Clone, Copy)]
+struct Counts {
+    new: u64,
+    again: u64,
+    pending: u64,
+    refused: u64,
+    settled: u64,
+}
+
+impl Counts {
+    fn add(&mut self, answer: Accept) {
+        match answer {
+            Accept::New(_) => self.new = self.new.saturating_add(1),
+            Accept::Again(_) => self.again = self.again.saturating_add(1),
+            Accept::Pending => self.pending = self.pending.saturating_add(1),
+            Accept::Refused(_) => self.refused = self.refused.saturating_add(1),
+        }
+    }
+}
+
+fn mutation(place: Option<u64>) -> Mutation {
+    match place {
+        Some(offset) => Mutation::Write(offset, Bytes::new()),
+        None => Mutation::Pad(16),
+    }
+}
+
+// An attempt, at both.
+fn is_attempt_alike(
+    random: &mut Random,
+    now: u64,
+    alloc: Global,
+    primary: &mut Primary,
+    plain: &mut PlainOrder,
+    counts: &mut Counts,
+) -> bool {
+    let (client, seq) = (random.below(3), random.below(6));
+    let place = if random.below(4) == 0 {
+        None
+    } else {
+        Some(random.below(64))
+    };
+    let mutation = mutation(place);
+    let Ok(answer) = primary.accept(alloc, ClientId(client), seq, &mutation, Moment(now)) else {
+        return false;
+    };
+    counts.add(answer);
+    plain.accept(client, seq, place, now) == Some(answer)
+}
+
+// An acknowledgement, at both.
+fn is_acknowledgement_alike(
+    random: &mut Random,
+    now: u64,
+    primary: &mut Primary,
+    plain: &mut PlainOrder,
+    counts: &mut Counts,
+) -> bool {
+    let server = u16::try_from(random.below(5)).unwrap_or(0);
+    let serial = plain.serial.saturating_sub(random.below(4));
+    let answer = primary.ack(ServerId(server), Serial(serial), Moment(now));
+    if answer.is_some() {
+        counts.settled = counts.settled.saturating_add(1);
+    }
+    plain.ack(server, serial, now) == answer
+}
+
+// Another call, at both.
+fn is_other_alike(
+    random: &mut Random,
+    now: u64,
+    primary: &mut Primary,
+    plain: &mut PlainOrder,
+) -> bool {
+    let (client, seq) = (random.below(3), random.below(9));
+    match random.below(8) {
+        0 | 1 => {
+            let denied = primary.deny(ClientId(client), seq, Refusal::NoData);
+            return denied.is_ok() == plain.deny(client, seq, Refusal::NoData);
+        }
+        2 | 3 => {
+            let serial = plain.serial.saturating_sub(random.below(4));
+            primary.refuse(Serial(serial), Refusal::OldSerial);
+            plain.refuse(serial, Refusal::OldSerial);
+        }
+        4 => {
+            let until = random.below(90);
+            primary.extend(Moment(until), Moment(now));
+            plain.lease.extend(until, now);
+        }
+        5 if random.below(6) == 0 => {
+            primary.end();
+            plain.lease.end();
+        }
+        _ => {
+            primary.reported();
+            plain.wants_more = false;
+        }
+    }
+    true
+}
+
+// Whether both say the same of all that can be asked.
+fn is_same(primary: &Primary, plain: &PlainOrder) -> bool {
+    if primary.serial().0 != plain.serial || primary.wants_more() != plain.wants_more {
+        return false;
+    }
+    for client in 0..3 {
+        for seq in 0..10 {
+            if primary.known(ClientId(client), seq) != plain.known(client, seq) {
+                return false;
+            }
+        }
+    }
+    primary.held().until().0 == plain.lease.until
+}
+
+fn is_order_alike(
+    random: &mut Random,
+    step: u64,
+    alloc: Global,
+    primary: &mut Primary,
+    plain: &mut PlainOrder,
+    counts: &mut Counts,
+) -> bool {
+    let now = random.below(20).saturating_add(step / 2);
+    let is_answer_alike = match random.below(12) {
+        0..=2 => is_attempt_alike(random, now, alloc, primary, plain, counts),
+        3..=9 => is_acknowledgement_alike(random, now, primary, plain, counts),
+        _ => is_other_alike(random, now, primary, plain),
+    };
+    is_answer_alike && is_same(primary, plain)
+}
+
+fn first_order_difference(
+    random: &mut Random,
+    alloc: Global,
+    primary: &mut Primary,
+    plain: &mut PlainOrder,
+    counts: &mut Counts,
+) -> Option<u64> {
+    for step in 0..CALLS {
+        if !is_order_alike(random, step, alloc, primary, plain, counts) {
+            return Some(step);
+        }
+    }
+    None
+}
+
+#[test]
+fn random_calls_of_a_primary(rt: HostRuntime) -> Result<(), Fail> {
+    let alloc = rt.alloc();
+    let mut counts = Counts {
+        new: 0,
+        again: 0,
+        pending: 0,
+        refused: 0,
+        settled: 0,
+    };
+    for seed in 0..LISTS {
+        let mut random = Random::new(seed);
+        let mut primary = Primary::new(alloc, held(alloc)?);
+        let mut plain = PlainOrder::new(alloc, PlainLease::new(UNTIL, SKEW));
+        let difference = first_order_difference(
+            &mut random,
+            alloc,
+            &mut primary,
+            &mut plain,
+            &mut counts,
+        );
+        assert_eq!(rt; difference, None, "list {seed}");
+    }
+    assert!(rt;
+        counts.new >= 10 && counts.again >= 10,
+        "{} {}",
+        counts.new,
+        counts.again
+    );
+    assert!(rt;
+        counts.pending >= 10 && counts.refused >= 10,
+        "{} {}",
+        counts.pending,
+        counts.refused
+    );
+    assert!(rt; counts.settled >= 10, "{}", counts.settled);
+    Ok(())
+}
