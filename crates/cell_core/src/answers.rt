@@ -14,9 +14,9 @@ pub struct Answers {
 
 impl Model for Answers {
     ghost use Rattle.std.specs.Prelude.{◌-◌, vec_len, vec_capacity};
-    ghost use Rattle.cell_core.specs.Roomy.{RoomyAnswers};
+    ghost use Rattle.cell_core.specs.Capacity.{AnswerList};
 
-    ghost Value = { RoomyAnswers };
+    ghost Value = { AnswerList };
 
     ghost view = { λ t. record { items = t.items.items; room = vec_capacity t.items - vec_len t.items } };
 }

@@ -14,9 +14,9 @@ pub struct Placings {
 
 impl Model for Placings {
     ghost use Rattle.std.specs.Prelude.{◌-◌, vec_len, vec_capacity};
-    ghost use Rattle.cell_core.specs.Roomy.{RoomyPlacings};
+    ghost use Rattle.cell_core.specs.Capacity.{PlacingList};
 
-    ghost Value = { RoomyPlacings };
+    ghost Value = { PlacingList };
 
     ghost view = { λ p. record { items = p.placed.items; room = vec_capacity p.placed - vec_len p.placed } };
 }

@@ -31,9 +31,9 @@ pub struct Trace {
 
 impl Model for Trace {
     ghost use Rattle.std.specs.Prelude.{◌-◌, vec_len, vec_capacity};
-    ghost use Rattle.cell_core.specs.Roomy.{Roomy};
+    ghost use Rattle.cell_core.specs.Capacity.{SightList};
 
-    ghost Value = { Roomy };
+    ghost Value = { SightList };
 
     ghost view = { λ t. record { items = t.seen.items; room = vec_capacity t.seen - vec_len t.seen } };
 }

@@ -28,7 +28,7 @@ pub struct Watch {
 }
 
 impl Model for Watch {
-    ghost use Rattle.cell_core.specs.Roomy.{Watching};
+    ghost use Rattle.cell_core.specs.Capacity.{Watching};
 
     ghost Value = { Watching };
 

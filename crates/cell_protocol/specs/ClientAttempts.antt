@@ -16,7 +16,7 @@ use Rattle.gfs_types.specs.declared.message.Location.{Location}
 use Rattle.gfs_types.specs.declared.message.Holder.{Holder}
 use Rattle.gfs_types.specs.declared.message.Group.{Group}
 use Rattle.relaxed_file.specs.NameStep.{is_look}
-use Rattle.cell_protocol.specs.declared.stage.Stage.TheVariants.{AskedNames, AskedWhere, MustAskAgain, SentData, SentRead, SentLen, MustRefuse}
+use Rattle.cell_protocol.specs.declared.stage.Stage.TheVariants.{AskedNames, AskedWhere, MustAskAgain, SentData, SentRead, SentLength, MustRefuse}
 use Rattle.cell_protocol.specs.declared.stage.CurrentCall.{CurrentCall}
 use Rattle.cell_protocol.specs.declared.stage.ToldChunk.{ToldChunk}
 use Rattle.cell_protocol.specs.Sending.{file_id, moment_of, data_id, only_client, the_server}
@@ -114,7 +114,7 @@ at_told c l = record c { index = l.index }
 -- the server is asked for the length of the chunk that was told, which is the file's last
 abbrev pub measures_at : ClientState → CurrentCall → Location → Holder → Does ClientState
 measures_at s c l h =
-    goes_on (counted s) (at_told c l) (SentLen (told_at l h.server.0) (suc s.number)) (the_server h.server.0) (body.Len (suc s.number) l.handle h.version)
+    goes_on (counted s) (at_told c l) (SentLength (told_at l h.server.0) (suc s.number)) (the_server h.server.0) (body.Len (suc s.number) l.handle h.version)
 
 abbrev pub target_of : ℕ → Call → Target
 target_of chunk c = target.Write (place_in_chunk chunk c)

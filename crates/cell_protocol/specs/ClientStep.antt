@@ -10,7 +10,7 @@ use Rattle.gfs_types.specs.declared.event.Input.TheVariants as input
 use Rattle.gfs_types.specs.declared.message.Message.{Message}
 use Rattle.relaxed_file.specs.Parts.{is_range_too_long, leaves_chunk}
 use Rattle.cell_protocol.specs.declared.stage.Stage.{Stage}
-use Rattle.cell_protocol.specs.declared.stage.Stage.TheVariants.{AskedNames, AskedWhere, MustAskAgain, SentData, SentMutate, SentRead, SentLen, MustRefuse}
+use Rattle.cell_protocol.specs.declared.stage.Stage.TheVariants.{AskedNames, AskedWhere, MustAskAgain, SentData, SentMutate, SentRead, SentLength, MustRefuse}
 use Rattle.cell_protocol.specs.declared.stage.CurrentCall.{CurrentCall}
 use Rattle.cell_protocol.specs.Choice.{Choice}
 use Rattle.cell_protocol.specs.Seen.{Does, stays, Taken, ends}
@@ -94,7 +94,7 @@ ticks_at s c (AskedWhere number) = ticks_unanswered s c
 ticks_at s c (SentData at number) = ticks_unanswered s c
 ticks_at s c (SentMutate number) = ticks_unanswered s c
 ticks_at s c (SentRead at number) = ticks_unanswered s c
-ticks_at s c (SentLen at number) = ticks_unanswered s c
+ticks_at s c (SentLength at number) = ticks_unanswered s c
 
 -- A call that is to be refused is refused at the first step at which it may be answered.
 abbrev pub takes_at : ClientState → CurrentCall → Message → Stage → Does ClientState

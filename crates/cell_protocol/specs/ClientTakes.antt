@@ -14,7 +14,7 @@ use Rattle.gfs_types.specs.declared.message.Location.{Location}
 use Rattle.gfs_types.specs.declared.message.Holder.{Holder}
 use Rattle.relaxed_file.specs.Reads.{is_length_call}
 use Rattle.cell_protocol.specs.declared.stage.Stage.{Stage}
-use Rattle.cell_protocol.specs.declared.stage.Stage.TheVariants.{AskedNames, AskedWhere, MustAskAgain, SentData, SentMutate, SentRead, SentLen}
+use Rattle.cell_protocol.specs.declared.stage.Stage.TheVariants.{AskedNames, AskedWhere, MustAskAgain, SentData, SentMutate, SentRead, SentLength}
 use Rattle.cell_protocol.specs.declared.stage.CurrentCall.{CurrentCall}
 use Rattle.cell_protocol.specs.Tables.{number_limit}
 use Rattle.cell_protocol.specs.Sending.{only_client, the_server}
@@ -93,7 +93,7 @@ tells_length s found = if nat_lt found number_limit then answers s (answer.Lengt
 
 -- a LenIs
 abbrev pub takes_len_is : ClientState → CurrentCall → Stage → ℕ → ℕ → Does ClientState
-takes_len_is s c (SentLen at asked) number count = if number == asked then tells_length s (c.index * s.config.chunk + count) else stays s
+takes_len_is s c (SentLength at asked) number count = if number == asked then tells_length s (c.index * s.config.chunk + count) else stays s
 takes_len_is s c other number count = stays s
 
 -- the master's refusals of an ask complete the call
@@ -113,7 +113,7 @@ abbrev pub takes_refused : ClientState → CurrentCall → Stage → ℕ → Ref
 takes_refused s c (AskedWhere asked) number refusal = if number == asked then master_refuses s c refusal else stays s
 takes_refused s c (SentMutate asked) number refusal = if number == asked then primary_refuses s c refusal else stays s
 takes_refused s c (SentRead at asked) number refusal = if number == asked then answers s (answer.Refused NoReplica) else stays s
-takes_refused s c (SentLen at asked) number refusal = if number == asked then answers s (answer.Refused NoReplica) else stays s
+takes_refused s c (SentLength at asked) number refusal = if number == asked then answers s (answer.Refused NoReplica) else stays s
 takes_refused s c other number refusal = stays s
 
 abbrev pub client_takes : ClientState → CurrentCall → Body → Does ClientState

@@ -28,7 +28,7 @@ pub enum Stage {
     /// The server was asked to read, by an ask of this number.
     SentRead(ToldChunk, u64),
     /// The server was asked for the length of its replica, by an ask of this number.
-    SentLen(ToldChunk, u64),
+    SentLength(ToldChunk, u64),
     /// The call is to be refused, once its attempt isn't live.
     MustRefuse(Refusal),
 }

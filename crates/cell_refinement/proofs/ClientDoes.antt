@@ -149,12 +149,12 @@ module _ (k : Known) (s : ClientState) (c : CurrentCall) (oc : OpenCall) (at : I
   bytes_at_so other is number bytes said = stay
 
   -- an answered length is within what a number holds
-  tells_so : (to : ToldChunk) (number count : ℕ) → c.stage ≡ stage.SentLen to number → SaysLenIs k number count → ClientOutcome k (calls_made k.m) (tells_length s (c.index * s.config.chunk + count)) sent trace
+  tells_so : (to : ToldChunk) (number count : ℕ) → c.stage ≡ stage.SentLength to number → SaysLenIs k number count → ClientOutcome k (calls_made k.m) (tells_length s (c.index * s.config.chunk + count)) sent trace
   tells_so to number count is said = subst (λ (z : Config). ClientOutcome k (calls_made k.m) (tells_length s (c.index * z.chunk + count)) sent trace) (sym (old k s c oc at sent trace h).config)
       (by_test (nat_lt (c.index * k.config.chunk + count) number_limit) _ _ (λ e. length_so k s c oc at sent trace h to number count is said) (λ e. stay))
 
   len_is_so : (st : Stage) → c.stage ≡ st → (number count : ℕ) → SaysLenIs k number count → ClientOutcome k (calls_made k.m) (takes_len_is s c st number count) sent trace
-  len_is_so (stage.SentLen to asked) is number count said = by_test (number == asked) _ _
+  len_is_so (stage.SentLength to asked) is number count said = by_test (number == asked) _ _
       (λ e. tells_so to asked count is (subst (λ n. SaysLenIs k n count) (eqb-true number asked e) said)) (λ e. stay)
   len_is_so other is number count said = stay
 
@@ -164,7 +164,7 @@ module _ (k : Known) (s : ClientState) (c : CurrentCall) (oc : OpenCall) (at : I
   refused_so (stage.SentMutate asked) is number refusal said = by_test (number == asked) _ _
       (λ e. attempt_refused_so k s c oc at sent trace h number refusal (is ∙ ap stage.SentMutate (sym (eqb-true number asked e))) said.2) (λ e. stay)
   refused_so (stage.SentRead to asked) is number refusal said = by_test (number == asked) _ _ (λ e. read_refused_so k s c oc at sent trace h to asked is) (λ e. stay)
-  refused_so (stage.SentLen to asked) is number refusal said = by_test (number == asked) _ _ (λ e. length_refused_so k s c oc at sent trace h to asked is) (λ e. stay)
+  refused_so (stage.SentLength to asked) is number refusal said = by_test (number == asked) _ _ (λ e. length_refused_so k s c oc at sent trace h to asked is) (λ e. stay)
   refused_so other is number refusal said = stay
 
   takes_body : (b : Body) → SaysBody k b → ClientOutcome k (calls_made k.m) (client_takes s c b) sent trace
@@ -200,7 +200,7 @@ module _ (k : Known) (s : ClientState) (c : CurrentCall) (oc : OpenCall) (at : I
   ticks_so (stage.SentData to number) is = unanswered_so c.index (fits_at (stage.SentData to number) is).0.fits
   ticks_so (stage.SentMutate number) is = unanswered_so c.index (write_chunk k.config.chunk c.index c.asked (fits_at (stage.SentMutate number) is).1)
   ticks_so (stage.SentRead to number) is = unanswered_so c.index (read_chunk k.config.chunk c.index c.asked (fits_at (stage.SentRead to number) is).1)
-  ticks_so (stage.SentLen to number) is = unanswered_so 0 (length_chunk k.config.chunk c.asked (fits_at (stage.SentLen to number) is).1)
+  ticks_so (stage.SentLength to number) is = unanswered_so 0 (length_chunk k.config.chunk c.asked (fits_at (stage.SentLength to number) is).1)
 
   takes_at_so : (x : Message) → Says k x → (st : Stage) → c.stage ≡ st → ClientOutcome k (calls_made k.m) (takes_at s c x st) sent trace
   takes_at_so x said (stage.MustRefuse refusal) is = must_so refusal is

@@ -183,9 +183,9 @@ module _ (k : Known) (s : ClientState) (c : CurrentCall) (oc : OpenCall) (at : I
       (over_by c.index whole (λ seq a x up known mine. absurd (subst (λ st. HasAttempt st seq) is mine)))
 
   -- the server has told its length
-  pub length_so : (to : ToldChunk) (number count : ℕ) → c.stage ≡ stage.SentLen to number → SaysLenIs k number count → ClientOutcome k (calls_made k.m) (answers s (answer.Length (c.index * k.config.chunk + count))) sent trace
+  pub length_so : (to : ToldChunk) (number count : ℕ) → c.stage ≡ stage.SentLength to number → SaysLenIs k number count → ClientOutcome k (calls_made k.m) (answers s (answer.Length (c.index * k.config.chunk + count))) sent trace
   length_so to number count is said =
-      let fits : FitsStage k s c oc (stage.SentLen to number) = subst (FitsStage k s c oc) is at.is.stage in
+      let fits : FitsStage k s c oc (stage.SentLength to number) = subst (FitsStage k s c oc) is at.is.stage in
       let whole : IsChunkCall k.config.chunk 0 c.asked = length_chunk k.config.chunk c.asked fits.1 in
       returns_so k s c oc at sent trace h (answer.Length (c.index * k.config.chunk + count))
       (length_done k.m oc oc.asked.call (c.index * k.config.chunk + count) (subst (λ x. IsTrue (is_length_call x)) (sym at.is.asked) fits.1) (said.1 to s c oc at.up at.current is at.call))
@@ -193,9 +193,9 @@ module _ (k : Known) (s : ClientState) (c : CurrentCall) (oc : OpenCall) (at : I
       (over_by 0 whole (λ seq a x up known mine. absurd (subst (λ st. HasAttempt st seq) is mine)))
 
   -- the server refuses to tell its length
-  pub length_refused_so : (to : ToldChunk) (number : ℕ) → c.stage ≡ stage.SentLen to number → ClientOutcome k (calls_made k.m) (answers s (answer.Refused NoReplica)) sent trace
+  pub length_refused_so : (to : ToldChunk) (number : ℕ) → c.stage ≡ stage.SentLength to number → ClientOutcome k (calls_made k.m) (answers s (answer.Refused NoReplica)) sent trace
   length_refused_so to number is =
-      let fits : FitsStage k s c oc (stage.SentLen to number) = subst (FitsStage k s c oc) is at.is.stage in
+      let fits : FitsStage k s c oc (stage.SentLength to number) = subst (FitsStage k s c oc) is at.is.stage in
       let whole : IsChunkCall k.config.chunk 0 c.asked = length_chunk k.config.chunk c.asked fits.1 in
       returns_so k s c oc at sent trace h (answer.Refused NoReplica)
       (may_refuse k s c oc at sent trace h NoReplica (length_finds_none c.asked fits.1))

@@ -220,7 +220,7 @@ module _ (k : Known) (s : ClientState) (c : CurrentCall) (oc : OpenCall) (at : I
   measures_so l holder rest last long =
       let n : ℕ = suc s.number in
       let to : ToldChunk = told_at l holder.server.0 in
-      let st : Stage = stage.SentLen to n in
+      let st : Stage = stage.SentLength to n in
       let clients : ℕ → Client = noted_clients l.index in
       let c' : CurrentCall = staged (at_told c l) st false in
       let s' : ClientState = at_stage s n (at_told c l) st false in
@@ -236,8 +236,8 @@ module _ (k : Known) (s : ClientState) (c : CurrentCall) (oc : OpenCall) (at : I
       (one x _ (
         ((omega arith, omega arith), none),
         λ to' s'' c'' oc'' up' current' st' call'.
-            only_current x s' c' (λ y. y.stage ≡ stage.SentLen to' n → (to'.handle.0 ≡ l.handle.0) × (holder.version.0 ≡ 1)) refl refl
-            (λ e. (let f : to ≡ to' = (let g : stage.SentLen to n ≡ stage.SentLen to' n = e in cc) in ap (λ (t : ToldChunk). t.handle.0) (sym f), g.2))
+            only_current x s' c' (λ y. y.stage ≡ stage.SentLength to' n → (to'.handle.0 ≡ l.handle.0) × (holder.version.0 ≡ 1)) refl refl
+            (λ e. (let f : to ≡ to' = (let g : stage.SentLength to n ≡ stage.SentLength to' n = e in cc) in ap (λ (t : ToldChunk). t.handle.0) (sym f), g.2))
             s'' c'' up' current' st',
       ))
 

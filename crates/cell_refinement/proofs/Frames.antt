@@ -157,7 +157,7 @@ module _ (k l : Known) (t : Later k l) (f : SameClient k l) (s : ClientState) (c
     told_at_stays at h.2,
     waited_stays number h.3,
   )
-  fits_stays (stage.SentLen at number) is h = (
+  fits_stays (stage.SentLength at number) is h = (
     ap (λ a. a.file) g.asked ∙ h.0,
     h.1,
     told_at_stays at h.2,

@@ -51,7 +51,7 @@ pub record SameCall (c later : CurrentCall) : Type 0 where
 abbrev pub IsWaiting : Stage → ℕ → Type 0
 IsWaiting (stage.AskedWhere n) number = n ≡ number
 IsWaiting (stage.SentRead at n) number = n ≡ number
-IsWaiting (stage.SentLen at n) number = n ≡ number
+IsWaiting (stage.SentLength at n) number = n ≡ number
 IsWaiting other number = ⊥
 
 -- the client waited in that stage already
@@ -283,12 +283,12 @@ module _ (k l : Known) (t : Later k l) where
   )
 
   len_stays : (number handle version : ℕ) → SaysLen k number handle version → SaysLen l number handle version
-  len_stays number handle version h = (ask_number_stays number h.0, λ at. on_stage (stage.SentLen at number) number refl h.0.0 (λ s s' c c' oc oc' same g p. p) (h.1 at))
+  len_stays number handle version h = (ask_number_stays number h.0, λ at. on_stage (stage.SentLength at number) number refl h.0.0 (λ s s' c c' oc oc' same g p. p) (h.1 at))
 
   len_is_stays : (number count : ℕ) → SaysLenIs k number count → SaysLenIs l number count
   len_is_stays number count h = (
     t.numbers number h.0,
-    λ at. on_stage (stage.SentLen at number) number refl h.0 (λ s s' c c' oc oc' same g p.
+    λ at. on_stage (stage.SentLength at number) number refl h.0 (λ s s' c c' oc oc' same g p.
         subst (λ n. Contains oc'.lengths (n * l.config.chunk + count)) (sym same.index)
         (subst (λ (config : Config). Contains oc'.lengths (c.index * config.chunk + count)) (sym t.config) (g.lengths (c.index * k.config.chunk + count) p))) (h.1 at),
   )

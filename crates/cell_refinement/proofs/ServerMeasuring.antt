@@ -97,10 +97,10 @@ some_same {X = X} {x = x} {y = y} h = same_Some x y h
 module _ (k : Known) (s : ServerState) (up : k.server ≡ Some s) (sent : List Message) (trace : List Visible) (h : Holds k sent trace)
     (receiver : Node) (number handle : ℕ) (said : SaysLen k number handle 1) (r : Replica) (here : IsReplica k handle (Some r)) where
   -- the client waits for this length
-  answers_waited : (sc : ClientState) (c : CurrentCall) (oc : OpenCall) (at : ToldChunk) → k.client ≡ Some sc → sc.current ≡ Some c → c.stage ≡ stage.SentLen at number → open_call_of k.m ≡ Some oc → IsCurrent k sc c oc
+  answers_waited : (sc : ClientState) (c : CurrentCall) (oc : OpenCall) (at : ToldChunk) → k.client ≡ Some sc → sc.current ≡ Some c → c.stage ≡ stage.SentLength at number → open_call_of k.m ≡ Some oc → IsCurrent k sc c oc
       → ServerOutcome k (server_says s receiver (body.LenIs number (length r.bytes))) sent trace
   answers_waited sc c oc at client current at_stage call_is fits =
-      let stage_fits : FitsStage k sc c oc (stage.SentLen at number) = subst (FitsStage k sc c oc) at_stage fits.stage in
+      let stage_fits : FitsStage k sc c oc (stage.SentLength at number) = subst (FitsStage k sc c oc) at_stage fits.stage in
       let same = said.1 at sc c oc client current at_stage call_is in
       let l : Known = learning k (with_length (length_of k c)) in
       let holds : Holds l sent trace = measured_holds k sent trace h sc c oc at call_is fits stage_fits.0 stage_fits.1 stage_fits.2 stage_fits.4 in
@@ -119,10 +119,10 @@ module _ (k : Known) (s : ServerState) (up : k.server ≡ Some s) (sent : List M
       record { m = o.m; made = o.made; holds = o.holds; says = o.says }
 
   -- whether a stage waits for this length
-  stage_case : (st : Stage) → ((at : ToldChunk) × (st ≡ stage.SentLen at number)) ⊎ ((at : ToldChunk) → st ≡ stage.SentLen at number → ⊥)
-  stage_case (stage.SentLen at n) = elim (cases_eq n number) [
-    | inl e ↦ inl (at, ap (λ x. stage.SentLen at x) e)
-    | inr other ↦ inr (λ at' is. other (let e : stage.SentLen at n ≡ stage.SentLen at' number = is in cc))
+  stage_case : (st : Stage) → ((at : ToldChunk) × (st ≡ stage.SentLength at number)) ⊎ ((at : ToldChunk) → st ≡ stage.SentLength at number → ⊥)
+  stage_case (stage.SentLength at n) = elim (cases_eq n number) [
+    | inl e ↦ inl (at, ap (λ x. stage.SentLength at x) e)
+    | inr other ↦ inr (λ at' is. other (let e : stage.SentLength at n ≡ stage.SentLength at' number = is in cc))
   ]
   stage_case stage.AskedNames = inr (λ at is. cc)
   stage_case (stage.AskedWhere n) = inr (λ at is. cc)
@@ -133,7 +133,7 @@ module _ (k : Known) (s : ServerState) (up : k.server ≡ Some s) (sent : List M
   stage_case (stage.MustRefuse refusal) = inr (λ at is. cc)
 
   -- a length that nobody waits for is told without a measure
-  unwaited : ((at : ToldChunk) → OnStage k (stage.SentLen at number) (λ sc c oc. ⊥)) → ServerOutcome k (server_says s receiver (body.LenIs number (length r.bytes))) sent trace
+  unwaited : ((at : ToldChunk) → OnStage k (stage.SentLength at number) (λ sc c oc. ⊥)) → ServerOutcome k (server_says s receiver (body.LenIs number (length r.bytes))) sent trace
   unwaited never = tells k s up sent trace h _ (said.0.0, λ at sc c oc client current at_stage call. absurd (never at sc c oc client current at_stage call))
 
   by_stage : (sc : ClientState) (c : CurrentCall) → k.client ≡ Some sc → sc.current ≡ Some c → ServerOutcome k (server_says s receiver (body.LenIs number (length r.bytes))) sent trace

@@ -239,7 +239,7 @@ module _ (k : Known) (s : ServerState) (up : k.server ≡ Some s) (sent : List M
   stage_case stage.MustAskAgain = inr (λ at is. cc)
   stage_case (stage.SentData x n) = inr (λ at is. cc)
   stage_case (stage.SentMutate n) = inr (λ at is. cc)
-  stage_case (stage.SentLen x n) = inr (λ at is. cc)
+  stage_case (stage.SentLength x n) = inr (λ at is. cc)
   stage_case (stage.MustRefuse refusal) = inr (λ at is. cc)
 
   unwaited : ((at : ToldChunk) → OnStage k (stage.SentRead at number) (λ sc c oc. ⊥)) → ServerOutcome k (server_says s receiver (body.Bytes number (read_bytes r offset count))) sent trace

@@ -173,10 +173,10 @@ SaysBytes k number bytes =
     × ((at : ToldChunk) → OnStage k (stage.SentRead at number) (λ s c oc. Contains oc.pieces (record { index = c.index; bytes = bytes; round = Some 1 })))
 
 abbrev pub SaysLen : Known → ℕ → ℕ → ℕ → Type 0
-SaysLen k number handle version = IsAskNumber k number × ((at : ToldChunk) → OnStage k (stage.SentLen at number) (λ s c oc. (at.handle.0 ≡ handle) × (version ≡ 1)))
+SaysLen k number handle version = IsAskNumber k number × ((at : ToldChunk) → OnStage k (stage.SentLength at number) (λ s c oc. (at.handle.0 ≡ handle) × (version ≡ 1)))
 
 abbrev pub SaysLenIs : Known → ℕ → ℕ → Type 0
-SaysLenIs k number count = IsNumbered k number × ((at : ToldChunk) → OnStage k (stage.SentLen at number) (λ s c oc. Contains oc.lengths (c.index * k.config.chunk + count)))
+SaysLenIs k number count = IsNumbered k number × ((at : ToldChunk) → OnStage k (stage.SentLength at number) (λ s c oc. Contains oc.lengths (c.index * k.config.chunk + count)))
 
 -- of the refusal of an ask, and of an attempt
 abbrev pub IsRefusedAsk : CurrentCall → OpenCall → Refusal → Type 0

@@ -152,7 +152,7 @@ FitsStage k s c oc (stage.SentMutate seq) =
     (oc.asked.file ≡ Some c.file.0) × IsWriteOf k.config.chunk c.index c.asked × ((the_client_of k.m).notes c.file.0 c.index ≡ Some 1)
     × (a : Attempt) × IsAttemptOf k c seq a
 FitsStage k s c oc (stage.SentRead at number) = (oc.asked.file ≡ Some c.file.0) × IsReadOf k.config.chunk c.index c.asked × IsToldAt k c at × IsWaited k s number
-FitsStage k s c oc (stage.SentLen at number) =
+FitsStage k s c oc (stage.SentLength at number) =
     (oc.asked.file ≡ Some c.file.0) × IsTrue (is_length_call c.asked) × IsToldAt k c at × IsWaited k s number × IsLastOffered oc c.index
 FitsStage k s c oc (stage.MustRefuse refusal) = (refusal ≡ Failed) × IsTrue (is_write c.asked)
 

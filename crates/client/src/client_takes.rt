@@ -297,7 +297,7 @@ impl Client {
         };
         self.number = number;
         current.index = location.index;
-        let stage = Stage::SentLen(told_at(location, holder.server), number);
+        let stage = Stage::SentLength(told_at(location, holder.server), number);
         self.goes_on(current, stage, Node::Server(holder.server), body)
     }
 
@@ -364,7 +364,7 @@ impl Client {
     fn takes_len_is(&mut self, current: CurrentCall, number: u64, count: u64) -> Effects
         ensures { takes_len_is (with_current self.old current) current current.stage number count ≡ does self.new result }
     {
-        let Stage::SentLen(_, asked) = current.stage else {
+        let Stage::SentLength(_, asked) = current.stage else {
             return self.stays(current);
         };
         let chunk = u64::from(self.config.chunk);
@@ -393,7 +393,7 @@ impl Client {
                     self.stays(current)
                 }
             }
-            Stage::SentRead(_, asked) | Stage::SentLen(_, asked) => {
+            Stage::SentRead(_, asked) | Stage::SentLength(_, asked) => {
                 if number == asked {
                     self.answers(Answer::Refused(Refusal::NoReplica))
                 } else {

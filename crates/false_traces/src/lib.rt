@@ -11,7 +11,7 @@ pub fn no_skipped_record()
 
 /// No file shows what was written to another one alone. So a write to a snapshot changes no byte of the file that it was taken
 /// of, nor the other way round.
-pub fn files_stay_apart()
+pub fn no_byte_of_another_file()
     ensures files { NoByteOfAnotherFile }
     ensures copy { NoWriteThroughSnapshot }
     ensures source { NoWriteIntoSnapshot }

@@ -1,19 +1,19 @@
--- What is recorded, and how much more is sure to fit.
+-- What is recorded, and how much more is sure to fit (`room`).
 use Rattle.std.specs.Prelude.{ℕ, List}
 use Rattle.gfs_types.specs.declared.answer.Answer.{Answer}
 use Rattle.relaxed_file.specs.Run.{Visible}
 use Rattle.cell_protocol.specs.declared.observer.Placed.{Placed}
 use Rattle.cell_protocol.specs.Observer.{Observer}
 
-pub record Roomy : Type 0 where
+pub record SightList : Type 0 where
   pub items : List Visible
   pub room : ℕ
 
-pub record RoomyPlacings : Type 0 where
+pub record PlacingList : Type 0 where
   pub items : List Placed
   pub room : ℕ
 
-pub record RoomyAnswers : Type 0 where
+pub record AnswerList : Type 0 where
   pub items : List Answer
   pub room : ℕ
 

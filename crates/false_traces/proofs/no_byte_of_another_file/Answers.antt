@@ -1,5 +1,5 @@
 use Rattle.false_traces.proofs.Changed.{no_byte_of_another_file, no_write_into_snapshot, no_write_through_snapshot}
-use Rattle.false_traces.proofs.files_stay_apart.Goals as goal
+use Rattle.false_traces.proofs.no_byte_of_another_file.Goals as goal
 
 pub returns-clause-files : goal.returns-clause-files
 returns-clause-files c = no_byte_of_another_file
