@@ -23,13 +23,20 @@ use Rattle.cell_protocol.specs.Sending.{file_id, moment_of, data_id, only_client
 use Rattle.cell_protocol.specs.Seen.{Does}
 use Rattle.cell_protocol.specs.Client.{ClientState, waits, goes_on, answers, counted}
 
-abbrev pub is_write : Call → Bool
-is_write (call.Write fd offset bytes) = true
-is_write other = false
+abbrev pub is_append : Call → Bool
+is_append (call.Append fd bytes) = true
+is_append other = false
 
--- the bytes of a write
+-- a call that mutates a chunk: a write or a record append
+abbrev pub is_mutating : Call → Bool
+is_mutating (call.Write fd offset bytes) = true
+is_mutating (call.Append fd bytes) = true
+is_mutating other = false
+
+-- the bytes that it puts there
 abbrev pub bytes_to_send : Call → List ℕ
 bytes_to_send (call.Write fd offset bytes) = bytes
+bytes_to_send (call.Append fd bytes) = bytes
 bytes_to_send other = []
 
 -- where in its chunk a write or a read begins
@@ -42,9 +49,10 @@ abbrev pub count_to_read : Call → ℕ
 count_to_read (call.Read fd offset count) = count
 count_to_read other = 0
 
--- what the master is asked for
+-- what the master is asked for: by an append the last chunk, if it isn't before this index
 abbrev pub wanted_by : ℕ → Call → Wanted
 wanted_by index (call.Write fd offset bytes) = wanted.Write index
+wanted_by index (call.Append fd bytes) = wanted.Append index
 wanted_by index (call.Length fd) = wanted.Last
 wanted_by index other = wanted.Read index
 
@@ -84,9 +92,9 @@ attempts_names s c = goes_on s c AskedNames Master (request_of c)
 abbrev pub refuses_live : ClientState → CurrentCall → Refusal → Does ClientState
 refuses_live s c refusal = if nat_le c.ends.0 s.now then answers s (answer.Refused refusal) else waits s c (MustRefuse refusal)
 
--- the refusal of a write, a read or a length whose attempt ended
+-- the refusal of a call on a file's chunks whose attempt ended
 abbrev pub last_refusal : CurrentCall → Refusal
-last_refusal c = if c.is_nobody_told then NoReplica else (if is_write c.asked then Failed else Unknown)
+last_refusal c = if c.is_nobody_told then NoReplica else (if is_mutating c.asked then Failed else Unknown)
 
 abbrev pub gives_up : ClientState → CurrentCall → Does ClientState
 gives_up s c = answers s (answer.Refused (last_refusal c))
@@ -94,11 +102,15 @@ gives_up s c = answers s (answer.Refused (last_refusal c))
 abbrev pub told_at : Location → ℕ → ToldChunk
 told_at l server = record { handle = l.handle; round = l.round; server = record { 0 = server } }
 
+-- the call is on the chunk that was told
+abbrev pub at_told : CurrentCall → Location → CurrentCall
+at_told c l = record c { index = l.index }
+
 -- the data go to the primary; without one the client asks again
 abbrev pub pushes : ClientState → CurrentCall → Location → Option Group → Does ClientState
 pushes s c l None = waits s c MustAskAgain
 pushes s c l (Some g) =
-    goes_on (counted s) c (SentData (told_at l g.primary.0) (suc s.number)) (the_server g.primary.0)
+    goes_on (counted s) (at_told c l) (SentData (told_at l g.primary.0) (suc s.number)) (the_server g.primary.0)
     (body.Push (data_id only_client (suc s.number)) (bytes_to_send c.asked) [])
 
 -- the server is asked to read
@@ -107,14 +119,12 @@ reads_at s c l h =
     goes_on (counted s) c (SentRead (told_at l h.server.0) (suc s.number)) (the_server h.server.0)
     (body.Read (suc s.number) l.handle h.version (place_in_chunk s.config.chunk c.asked) (count_to_read c.asked))
 
--- the call is on the chunk that was told
-abbrev pub at_told : CurrentCall → Location → CurrentCall
-at_told c l = record c { index = l.index }
-
 -- the server is asked for the length of the chunk that was told, which is the file's last
 abbrev pub measures_at : ClientState → CurrentCall → Location → Holder → Does ClientState
 measures_at s c l h =
     goes_on (counted s) (at_told c l) (SentLength (told_at l h.server.0) (suc s.number)) (the_server h.server.0) (body.Len (suc s.number) l.handle h.version)
 
+-- where in its chunk the data go: those of an append where the server says
 abbrev pub target_of : ℕ → Call → Target
-target_of chunk c = target.Write (place_in_chunk chunk c)
+target_of chunk (call.Append fd bytes) = target.Append
+target_of chunk other = target.Write (place_in_chunk chunk other)

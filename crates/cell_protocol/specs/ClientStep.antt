@@ -32,6 +32,8 @@ calls_file s (call.Read fd offset count) file =
     if is_refused_range s offset count then answers s (answer.Refused TooLong)
     else (if count == 0 then answers s (answer.Bytes [] [])
     else asks s (new_call s (call.Read fd offset count) file (offset / s.config.chunk)))
+calls_file s (call.Append fd bytes) file =
+    if nat_lt (s.config.chunk / 4) (length bytes) then answers s (answer.Refused TooLong) else asks s (new_call s (call.Append fd bytes) file 0)
 calls_file s (call.Length fd) file = asks s (new_call s (call.Length fd) file 0)
 calls_file s other file = stays s
 
@@ -47,6 +49,7 @@ calls s (call.Open p) = attempts_names s (new_call s (call.Open p) 0 0)
 calls s (call.List p) = attempts_names s (new_call s (call.List p) 0 0)
 calls s (call.Write fd offset bytes) = calls_on s (call.Write fd offset bytes) (table.get s.descriptors fd.0)
 calls s (call.Read fd offset count) = calls_on s (call.Read fd offset count) (table.get s.descriptors fd.0)
+calls s (call.Append fd bytes) = calls_on s (call.Append fd bytes) (table.get s.descriptors fd.0)
 calls s (call.Length fd) = calls_on s (call.Length fd) (table.get s.descriptors fd.0)
 calls s other = stays s
 
@@ -58,6 +61,7 @@ is_served (call.Open p) = true
 is_served (call.List p) = true
 is_served (call.Write fd offset bytes) = true
 is_served (call.Read fd offset count) = true
+is_served (call.Append fd bytes) = true
 is_served (call.Length fd) = true
 is_served other = false
 

@@ -5,7 +5,7 @@ use Rattle.gfs_types.specs.declared.ids.DataId.{DataId}
 use Rattle.gfs_types.specs.declared.ids.FileId.{FileId}
 use Rattle.gfs_types.specs.declared.answer.Answer.TheVariants as answer
 use Rattle.gfs_types.specs.declared.refusal.Refusal.{Refusal}
-use Rattle.gfs_types.specs.declared.refusal.Refusal.TheVariants.{TooLong, Collected, NoChunk, NoLease, Failed, NoReplica}
+use Rattle.gfs_types.specs.declared.refusal.Refusal.TheVariants.{TooLong, Collected, NoChunk, NoLease, ChunkFull, Failed, NoReplica}
 use Rattle.gfs_types.specs.declared.message.NameReply.{NameReply}
 use Rattle.gfs_types.specs.declared.message.NameReply.TheVariants.{Opened, Answered}
 use Rattle.gfs_types.specs.declared.message.Body.{Body}
@@ -20,7 +20,7 @@ use Rattle.cell_protocol.specs.Tables.{number_limit}
 use Rattle.cell_protocol.specs.Sending.{only_client, the_server}
 use Rattle.cell_protocol.specs.Seen.{Does, stays}
 use Rattle.cell_protocol.specs.Client.{ClientState, waits, goes_on, answers}
-use Rattle.cell_protocol.specs.ClientAttempts.{is_write, refuses_live, pushes, reads_at, measures_at, target_of}
+use Rattle.cell_protocol.specs.ClientAttempts.{is_append, is_mutating, refuses_live, pushes, reads_at, measures_at, target_of}
 
 abbrev pub with_descriptor : ClientState → ℕ → ClientState
 with_descriptor s file = record s { fd_count = suc s.fd_count; descriptors = table.insert s.descriptors (suc s.fd_count) file }
@@ -48,13 +48,13 @@ takes_wait s c other number = stays s
 
 -- there is no such chunk: a read gets nothing, and the file is empty
 abbrev pub told_none : ClientState → CurrentCall → Does ClientState
-told_none s c = if is_write c.asked then stays s else (if is_length_call c.asked then answers s (answer.Length 0) else answers s (answer.Bytes [] []))
+told_none s c = if is_mutating c.asked then stays s else (if is_length_call c.asked then answers s (answer.Length 0) else answers s (answer.Bytes [] []))
 
 -- a chunk's location; one without any holder is taken as a Wait
 abbrev pub told_location : ClientState → CurrentCall → Location → List Holder → Does ClientState
 told_location s c l [] = waits s (told_nobody c true) MustAskAgain
 told_location s c l (h ∷ rest) =
-    if is_write c.asked then pushes s (told_nobody c false) l l.group
+    if is_mutating c.asked then pushes s (told_nobody c false) l l.group
     else (if is_length_call c.asked then measures_at s (told_nobody c false) l h else reads_at s (told_nobody c false) l h)
 
 abbrev pub told : ClientState → CurrentCall → Option Location → Does ClientState
@@ -77,10 +77,18 @@ takes_pushed s c (SentData at number) id =
     else stays s
 takes_pushed s c other id = stays s
 
+-- The offset of a record in its file. One that no number holds is not answered.
+abbrev pub tells_offset : ClientState → ℕ → Does ClientState
+tells_offset s found = if nat_lt found number_limit then answers s (answer.At found) else stays s
+
+-- the mutation is settled, at this place of its chunk
+abbrev pub succeeds : ClientState → CurrentCall → ℕ → Does ClientState
+succeeds s c place = if is_append c.asked then tells_offset s (c.index * s.config.chunk + place) else answers s answer.Done
+
 -- a Done
-abbrev pub takes_done : ClientState → CurrentCall → Stage → DataId → Does ClientState
-takes_done s c (SentMutate number) id = if is_own_data id number then answers s answer.Done else stays s
-takes_done s c other id = stays s
+abbrev pub takes_done : ClientState → CurrentCall → Stage → DataId → ℕ → Does ClientState
+takes_done s c (SentMutate number) id place = if is_own_data id number then succeeds s c place else stays s
+takes_done s c other id place = stays s
 
 -- a Bytes, which names the round that the master told
 abbrev pub takes_bytes : ClientState → CurrentCall → Stage → ℕ → List ℕ → Does ClientState
@@ -102,10 +110,19 @@ master_refuses s c TooLong = answers s (answer.Refused TooLong)
 master_refuses s c Collected = answers s (answer.Refused Collected)
 master_refuses s c other = stays s
 
+-- the call is on the chunk behind its own
+abbrev pub past_its_chunk : CurrentCall → CurrentCall
+past_its_chunk c = record c { index = suc c.index }
+
+-- An append whose chunk is full asks for a chunk behind it. One that no number holds is not asked for.
+abbrev pub looks_past : ClientState → CurrentCall → Does ClientState
+looks_past s c = if nat_lt (suc c.index) number_limit then waits s (past_its_chunk c) MustAskAgain else stays s
+
 -- An attempt that was refused for want of a lease or a replica may still be placed until it ends. Another refusal is the attempt's end.
 abbrev pub primary_refuses : ClientState → CurrentCall → Refusal → Does ClientState
 primary_refuses s c NoChunk = refuses_live s c Failed
 primary_refuses s c NoLease = refuses_live s c Failed
+primary_refuses s c ChunkFull = if is_append c.asked then looks_past s c else answers s (answer.Refused Failed)
 primary_refuses s c other = answers s (answer.Refused Failed)
 
 -- a Refused; a read or a length that the server refused has found no replica that serves
@@ -122,7 +139,7 @@ client_takes s c (body.Told number location) = takes_told s c c.stage number loc
 client_takes s c (body.Wait number) = takes_wait s c c.stage number
 client_takes s c (body.Refused number refusal) = takes_refused s c c.stage number refusal
 client_takes s c (body.Pushed id) = takes_pushed s c c.stage id
-client_takes s c (body.Done id place) = takes_done s c c.stage id
+client_takes s c (body.Done id place) = takes_done s c c.stage id place
 client_takes s c (body.Bytes number bytes) = takes_bytes s c c.stage number bytes
 client_takes s c (body.LenIs number count) = takes_len_is s c c.stage number count
 client_takes s c other = stays s

@@ -93,6 +93,8 @@ pub record Later (k l : Known) : Type 0 where
   pub anew : (number deadline : ℕ) (c : Call) (s' : MasterState) → l.master ≡ Some s' → IsAnew k number c → IsUntil k deadline → IsNameOf l number deadline c s'
   -- and so for a mutation at the server
   pub may_place : (seq : ℕ) (a : Attempt) (s' : ServerState) → l.server ≡ Some s' → k.attempts seq ≡ Some a → MayStillPlace k a → MayComeTo l seq a s'
+  -- an attempt that is over, of whose call no entry stood, gets none while the client waits for it
+  pub unplaced : (seq : ℕ) (a : Attempt) → k.attempts seq ≡ Some a → IfSome k.server (IsOver seq a) → IsUnplaced k seq → IsUnplaced l seq
 
 -- an option that was there at both moments
 some_is : {S : Type 0} (o : Option S) (P : S → Type 0) → ((s : S) → o ≡ Some s → P s) → IfSome o P

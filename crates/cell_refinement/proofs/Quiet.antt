@@ -55,6 +55,7 @@ pub record Quiet (k l : Known) : Type 0 where
   pub server : (s' : ServerState) → l.server ≡ Some s' → (s : ServerState) × (k.server ≡ Some s) × (kept_seq s.kept ≤ kept_seq s'.kept) × (s.now ≤ s'.now)
   pub anew : (number deadline : ℕ) (c : Call) (s' : MasterState) → l.master ≡ Some s' → IsAnew k number c → IsUntil k deadline → IsNameOf l number deadline c s'
   pub may_place : (seq : ℕ) (a : Attempt) (s' : ServerState) → l.server ≡ Some s' → k.attempts seq ≡ Some a → MayStillPlace k a → MayComeTo l seq a s'
+  pub unplaced : (seq : ℕ) (a : Attempt) → k.attempts seq ≡ Some a → IfSome k.server (IsOver seq a) → IsUnplaced k seq → IsUnplaced l seq
 
 module _ (k l : Known) (q : Quiet k l) where
   numbers : (number : ℕ) → IsNumbered k number → IsNumbered l number
@@ -86,6 +87,7 @@ module _ (k l : Known) (q : Quiet k l) where
     past = λ s' c' client current. inr (s', c', sym q.client ∙ client, current, refl, λ p. inl p);
     anew = q.anew;
     may_place = q.may_place;
+    unplaced = q.unplaced;
   }
 
 -- a name may still be taken where the outcomes of the open call are as they were

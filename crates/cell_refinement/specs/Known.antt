@@ -1,9 +1,13 @@
 -- What ties a world to a state of the relaxed-file machine: what each node and each message in flight knows of it.
-use Rattle.std.specs.Prelude.{◌≡◌, ℕ, ◌/◌, ◌%◌, ◌<◌, ◌≤◌, ◌==◌, List, length, All, Contains, Option, Some, None, IsTrue, IsFalse}
+use Rattle.std.specs.Prelude.{◌≡◌, ℕ, suc, ◌*◌, ◌/◌, ◌%◌, ◌<◌, ◌≤◌, ◌==◌, ◌&&◌, not, Bool, true, false, List, length, All, Contains, Option, Some, None, IsTrue, IsFalse}
 use Rattle.gfs_types.specs.declared.config.Config.{Config}
 use Rattle.gfs_types.specs.declared.call.Call.{Call}
 use Rattle.gfs_types.specs.declared.call.Call.TheVariants as call
+use Rattle.gfs_types.specs.declared.message.Target.{Target}
+use Rattle.gfs_types.specs.declared.message.Target.TheVariants as target
+use Rattle.gfs_types.specs.declared.mutation.Mutation.{Mutation}
 use Rattle.gfs_types.specs.declared.mutation.Mutation.TheVariants as mutation
+use Rattle.gfs_types.specs.Mutations.{end_of, is_pad}
 use Rattle.relaxed_file.specs.Order.{CallId, Entry}
 use Rattle.relaxed_file.specs.Machine.{Machine, Chunk, Client, OpenCall, Asked, chunk_at}
 use Rattle.relaxed_file.specs.Parts.{is_range_too_long, leaves_chunk}
@@ -20,11 +24,11 @@ pub record Spot : Type 0 where
   pub file : ℕ
   pub index : ℕ
 
--- an attempt of a write, by the number of its data: its call, where it goes, and until when
+-- an attempt of a write or an append, by the number of its data: its call, where it goes, and until when
 pub record Attempt : Type 0 where
   pub call : ℕ
   pub handle : ℕ
-  pub place : ℕ
+  pub target : Target
   pub bytes : List ℕ
   pub deadline : ℕ
 
@@ -80,10 +84,23 @@ abbrev pub IsInChunk : ℕ → ℕ → ℕ → ℕ → Type 0
 IsInChunk size index offset count =
     (index ≡ offset / size) × IsFalse (is_range_too_long offset count) × IsFalse (leaves_chunk size offset count) × (0 < count)
 
--- A write of one chunk, or a read of one; a length begins with no chunk.
+abbrev pub is_write : Call → Bool
+is_write (call.Write fd offset bytes) = true
+is_write other = false
+
+-- A write of one chunk, or a read of one; an append of at most a quarter of a chunk; a length begins with no chunk.
 abbrev pub IsWriteOf : ℕ → ℕ → Call → Type 0
 IsWriteOf size index (call.Write fd offset bytes) = IsInChunk size index offset (length bytes)
 IsWriteOf size index other = ⊥
+
+abbrev pub IsAppendOf : ℕ → Call → Type 0
+IsAppendOf size (call.Append fd bytes) = 4 * length bytes ≤ size
+IsAppendOf size other = ⊥
+
+abbrev pub IsMutationCall : ℕ → ℕ → Call → Type 0
+IsMutationCall size index (call.Write fd offset bytes) = IsInChunk size index offset (length bytes)
+IsMutationCall size index (call.Append fd bytes) = 4 * length bytes ≤ size
+IsMutationCall size index other = ⊥
 
 abbrev pub IsReadOf : ℕ → ℕ → Call → Type 0
 IsReadOf size index (call.Read fd offset count) = IsInChunk size index offset count
@@ -92,12 +109,14 @@ IsReadOf size index other = ⊥
 abbrev pub IsChunkCall : ℕ → ℕ → Call → Type 0
 IsChunkCall size index (call.Write fd offset bytes) = IsInChunk size index offset (length bytes)
 IsChunkCall size index (call.Read fd offset count) = IsInChunk size index offset count
+IsChunkCall size index (call.Append fd bytes) = 4 * length bytes ≤ size
 IsChunkCall size index (call.Length fd) = index ≡ 0
 IsChunkCall size index other = ⊥
 
 -- The data of an attempt are those of its call, and go where it says.
 abbrev pub IsMutationOf : ℕ → Attempt → Spot → Call → Type 0
-IsMutationOf size a at (call.Write fd offset bytes) = IsInChunk size at.index offset (length bytes) × (a.place ≡ offset % size) × (a.bytes ≡ bytes)
+IsMutationOf size a at (call.Write fd offset bytes) = IsInChunk size at.index offset (length bytes) × (a.target ≡ target.Write (offset % size)) × (a.bytes ≡ bytes)
+IsMutationOf size a at (call.Append fd bytes) = (4 * length bytes ≤ size) × (a.target ≡ target.Append) × (a.bytes ≡ bytes)
 IsMutationOf size a at other = ⊥
 
 -- an attempt of a call that was made
@@ -110,12 +129,30 @@ pub record IsAttempt (k : Known) (a : Attempt) : Type 0 where
   pub fits : IsMutationOf k.config.chunk a at asked.call
   pub number : a.call ≤ calls_made k.m
 
--- the attempt has its entry, which is settled
-abbrev pub HasEntry : Known → Attempt → Type 0
-HasEntry k a =
-    (at : Spot) × (k.owner a.handle ≡ Some at) × (e : Entry) × Contains (chunk_of k.m at).order e
-    × (e.call ≡ call_id a.call) × (e.round ≡ 1) × IsTrue e.settled × (e.mutation ≡ mutation.Write a.place a.bytes)
+-- what an attempt puts at a place of its chunk
+abbrev pub mutation_at : Target → ℕ → List ℕ → Mutation
+mutation_at (target.Write offset) place bytes = mutation.Write offset bytes
+mutation_at target.Append place bytes = mutation.Append place bytes
 
--- no entry of the call stands
+-- the attempt has its entry at this place, which is settled
+abbrev pub HasEntry : Known → Attempt → ℕ → Type 0
+HasEntry k a place =
+    (at : Spot) × (k.owner a.handle ≡ Some at) × (e : Entry) × Contains (chunk_of k.m at).order e
+    × (e.call ≡ call_id a.call) × (e.round ≡ 1) × IsTrue e.settled × (e.mutation ≡ mutation_at a.target place a.bytes)
+
+-- whether an entry is one of the call's, and no pad
+abbrev pub is_entry_of : ℕ → Placed → Bool
+is_entry_of number p = (p.call == number) && not (is_pad p.numbering.mutation)
+
+-- no entry of the call stands, but pads
 abbrev pub HasNoEntry : List Placed → ℕ → Type 0
-HasNoEntry placed number = All (λ (p : Placed). IsFalse (p.call == number)) placed
+HasNoEntry placed number = All (λ (p : Placed). IsFalse (is_entry_of number p)) placed
+
+-- The chunk is full: an entry ends where the chunk ends.
+abbrev pub IsFull : Known → Spot → Type 0
+IsFull k at = (e : Entry) × Contains (chunk_of k.m at).order e × (end_of k.config.chunk e.mutation ≡ k.config.chunk)
+
+-- the chunk before this index, if there is one, is full
+abbrev pub IsFullBefore : Known → ℕ → ℕ → Type 0
+IsFullBefore k file 0 = Unit {0}
+IsFullBefore k file (suc index) = IsFull k (record { file = file; index = index })

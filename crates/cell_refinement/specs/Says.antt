@@ -1,9 +1,9 @@
 -- What each message in flight says: something that was true when it was sent, and stays so.
-use Rattle.std.specs.Prelude.{◌≡◌, ℕ, suc, ◌+◌, ◌*◌, ◌<◌, ◌≤◌, List, [], ◌∷◌, Contains, Option, Some, None, IfSome, IsTrue, IsFalse, ◌⊎◌}
+use Rattle.std.specs.Prelude.{◌≡◌, ℕ, suc, ◌+◌, ◌*◌, ◌<◌, ◌≤◌, List, [], ◌∷◌, Contains, Option, Some, None, IfSome, IsTrue, IsFalse, ◌⊎◌, not, ◌||◌, Bool}
 use Rattle.gfs_types.specs.declared.ids.DataId.{DataId}
 use Rattle.gfs_types.specs.declared.call.Call.{Call}
 use Rattle.gfs_types.specs.declared.refusal.Refusal.{Refusal}
-use Rattle.gfs_types.specs.declared.refusal.Refusal.TheVariants.{TooLong, Collected, NoLease, NoChunk}
+use Rattle.gfs_types.specs.declared.refusal.Refusal.TheVariants.{TooLong, Collected, NoLease, NoChunk, ChunkFull}
 use Rattle.gfs_types.specs.declared.message.Body.{Body}
 use Rattle.gfs_types.specs.declared.message.Body.TheVariants as body
 use Rattle.gfs_types.specs.declared.message.Message.{Message}
@@ -14,7 +14,6 @@ use Rattle.gfs_types.specs.declared.message.Wanted.TheVariants as wanted
 use Rattle.gfs_types.specs.declared.message.Location.{Location}
 use Rattle.gfs_types.specs.declared.message.Holder.{Holder}
 use Rattle.gfs_types.specs.declared.message.Target.{Target}
-use Rattle.gfs_types.specs.declared.message.Target.TheVariants as target
 use Rattle.relaxed_file.specs.Machine.{OpenCall, Asked, Told, NoSuchChunk, Opens, Replies, chunk_count}
 use Rattle.relaxed_file.specs.NameStep.{is_look, is_name_call}
 use Rattle.relaxed_file.specs.Reads.{is_length_call}
@@ -26,8 +25,8 @@ use Rattle.cell_protocol.specs.Sending.{only_client, only_server}
 use Rattle.cell_protocol.specs.Server.{ServerState}
 use Rattle.cell_protocol.specs.Master.{MasterState}
 use Rattle.cell_protocol.specs.Client.{ClientState}
-use Rattle.cell_protocol.specs.ClientAttempts.{place_in_chunk, count_to_read, is_write}
-use Rattle.cell_refinement.specs.Known.{Known, Attempt, HasEntry, OnCall, IsWriteOf, IsRoundOpen, open_call_of, the_client_of, calls_made, kept_number, kept_seq, HasNoEntry}
+use Rattle.cell_protocol.specs.ClientAttempts.{place_in_chunk, count_to_read, is_append}
+use Rattle.cell_refinement.specs.Known.{Known, Spot, Attempt, HasEntry, OnCall, is_write, IsWriteOf, IsAppendOf, IsRoundOpen, IsFull, IsFullBefore, open_call_of, the_client_of, calls_made, kept_number, kept_seq, HasNoEntry}
 
 -- The client is up, and its call waits in this stage.
 abbrev pub OnStage : Known → Stage → (ClientState → CurrentCall → OpenCall → Type 0) → Type 0
@@ -80,6 +79,12 @@ IsAskedToWrite k file index =
     (number : ℕ) × (asked : Asked) × ((the_client_of k.m).calls number ≡ Some asked) × (asked.file ≡ Some file) × IsWriteOf k.config.chunk index asked.call
     × (1 ≤ file) × (file ≤ k.m.file_count)
 
+-- an append to the file was asked for, whose chunk is not before the index
+abbrev pub IsAskedToAppend : Known → ℕ → ℕ → Type 0
+IsAskedToAppend k file index =
+    (number : ℕ) × (asked : Asked) × ((the_client_of k.m).calls number ≡ Some asked) × (asked.file ≡ Some file) × IsAppendOf k.config.chunk asked.call
+    × (1 ≤ file) × (file ≤ k.m.file_count) × IsFullBefore k file index
+
 -- the file was made
 abbrev pub IsReadable : Known → ℕ → Type 0
 IsReadable k file = (1 ≤ file) × (file ≤ k.m.file_count)
@@ -89,9 +94,10 @@ SaysAsk k number file (wanted.Write index) =
     IsAskNumber k number × IsAskedToWrite k file index × OnStage k (stage.AskedWhere number) (λ s c oc. (c.file.0 ≡ file) × (c.index ≡ index) × IsWriteOf k.config.chunk index c.asked)
 SaysAsk k number file (wanted.Read index) =
     IsAskNumber k number × IsReadable k file × OnStage k (stage.AskedWhere number) (λ s c oc. (c.file.0 ≡ file) × (c.index ≡ index) × IsFalse (is_length_call c.asked))
+SaysAsk k number file (wanted.Append index) =
+    IsAskNumber k number × IsAskedToAppend k file index × OnStage k (stage.AskedWhere number) (λ s c oc. (c.file.0 ≡ file) × IsTrue (is_append c.asked))
 SaysAsk k number file wanted.Last =
     IsAskNumber k number × IsReadable k file × OnStage k (stage.AskedWhere number) (λ s c oc. (c.file.0 ≡ file) × (c.index ≡ 0) × IsTrue (is_length_call c.asked))
-SaysAsk k number file other = ⊥
 
 -- A told chunk with a holder: its round 1, at the cell's server, and an offer of the open call.
 abbrev pub IsGranted : Known → ℕ → ℕ → OpenCall → Location → List Holder → Type 0
@@ -104,14 +110,20 @@ IsGranted k file index oc l (h ∷ rest) =
 abbrev pub IsLastOffered : OpenCall → ℕ → Type 0
 IsLastOffered oc index = Contains oc.offers (Told index 1 (suc index))
 
-abbrev pub IsGrantedLast : Known → ℕ → OpenCall → Location → List Holder → Type 0
-IsGrantedLast k file oc l [] = Unit {0}
-IsGrantedLast k file oc l (h ∷ rest) = IsGranted k file l.index oc l (h ∷ rest) × IsLastOffered oc l.index
+abbrev pub IsGrantedLast : ℕ → OpenCall → List Holder → Type 0
+IsGrantedLast index oc [] = Unit {0}
+IsGrantedLast index oc (h ∷ rest) = IsLastOffered oc index
 
--- The chunk that the call asked for; of a length, one with which its file ended.
+-- whether a call says in which chunk its range lies
+abbrev pub names_its_chunk : Call → Bool
+names_its_chunk c = not (is_append c || is_length_call c)
+
+-- A chunk of the call's file: of a write or a read the one that it asked for, of a length one with which its file ended.
 abbrev pub IsToldTo : Known → CurrentCall → OpenCall → Location → Type 0
 IsToldTo k c oc l =
-    (IsFalse (is_length_call c.asked) → IsGranted k c.file.0 c.index oc l l.holders) × (IsTrue (is_length_call c.asked) → IsGrantedLast k c.file.0 oc l l.holders)
+    IsGranted k c.file.0 l.index oc l l.holders
+    × (IsTrue (names_its_chunk c.asked) → l.index ≡ c.index)
+    × (IsTrue (is_length_call c.asked) → IsGrantedLast l.index oc l.holders)
 
 abbrev pub SaysTold : Known → ℕ → Option Location → Type 0
 SaysTold k number None = IsAskNumber k number × OnStage k (stage.AskedWhere number) (λ s c oc. Contains oc.offers (NoSuchChunk c.index))
@@ -135,10 +147,6 @@ MayCome k seq a = IfSome k.server (MayComeTo k seq a)
 abbrev pub SaysPush : Known → DataId → List ℕ → Type 0
 SaysPush k id bytes = (1 ≤ id.seq) × (id.client.0 ≡ only_client) × (a : Attempt) × (k.attempts id.seq ≡ Some a) × (a.bytes ≡ bytes)
 
-abbrev pub IsTargetOf : Attempt → Target → Type 0
-IsTargetOf a (target.Write offset) = offset ≡ a.place
-IsTargetOf a target.Append = ⊥
-
 -- the stages from the request to the primary on
 abbrev pub IsPast : Stage → Type 0
 IsPast (stage.SentMutate number) = Unit {0}
@@ -156,10 +164,10 @@ IsPastWith k seq a = (s : ClientState) (c : CurrentCall) → k.client ≡ Some s
 abbrev pub SaysMutate : Known → DataId → ℕ → ℕ → Target → ℕ → Type 0
 SaysMutate k id handle version t deadline =
     (1 ≤ id.seq) × (id.client.0 ≡ only_client)
-    × (a : Attempt) × (k.attempts id.seq ≡ Some a) × (handle ≡ a.handle) × (deadline ≡ a.deadline) × IsTargetOf a t × IsPastWith k id.seq a × (a.call ≤ calls_made k.m) × MayCome k id.seq a
+    × (a : Attempt) × (k.attempts id.seq ≡ Some a) × (handle ≡ a.handle) × (deadline ≡ a.deadline) × (t ≡ a.target) × IsPastWith k id.seq a × (a.call ≤ calls_made k.m) × MayCome k id.seq a
 
-abbrev pub SaysDone : Known → DataId → Type 0
-SaysDone k id = (a : Attempt) × (k.attempts id.seq ≡ Some a) × HasEntry k a × IfSome k.server (λ s. id.seq ≤ kept_seq s.kept)
+abbrev pub SaysDone : Known → DataId → ℕ → Type 0
+SaysDone k id place = (a : Attempt) × (k.attempts id.seq ≡ Some a) × HasEntry k a place × IfSome k.server (λ s. id.seq ≤ kept_seq s.kept)
 
 abbrev pub SaysRead : Known → ℕ → ℕ → ℕ → ℕ → ℕ → Type 0
 SaysRead k number handle version offset count =
@@ -184,7 +192,16 @@ IsRefusedAsk c oc TooLong = ((count : ℕ) × (oc.asked.chunks_before ≡ Some c
 IsRefusedAsk c oc Collected = ⊥
 IsRefusedAsk c oc other = Unit {0}
 
+-- the attempt's chunk is full
+abbrev pub IsFullAt : Known → Attempt → Type 0
+IsFullAt k a = (at : Spot) × (k.owner a.handle ≡ Some at) × IsFull k at
+
+-- where the client waits for this attempt, no entry of its call stands
+abbrev pub IsUnplaced : Known → ℕ → Type 0
+IsUnplaced k seq = (s : ClientState) (c : CurrentCall) → k.client ≡ Some s → s.current ≡ Some c → c.stage ≡ stage.SentMutate seq → HasNoEntry k.placed c.number
+
 abbrev pub IsRefusedAttempt : Known → ℕ → Refusal → Type 0
+IsRefusedAttempt k number ChunkFull = (a : Attempt) → k.attempts number ≡ Some a → IfSome k.server (IsOver number a) × IsFullAt k a × IsUnplaced k number
 IsRefusedAttempt k number NoLease = Unit {0}
 IsRefusedAttempt k number NoChunk = Unit {0}
 IsRefusedAttempt k number other = (a : Attempt) → k.attempts number ≡ Some a → IfSome k.server (IsOver number a)
@@ -206,7 +223,7 @@ SaysBody k (body.Wait number) = IsNumbered k number
 SaysBody k (body.Refused number refusal) = SaysRefused k number refusal
 SaysBody k (body.Push id bytes rest) = SaysPush k id bytes
 SaysBody k (body.Mutate id handle version t deadline) = SaysMutate k id handle.0 version.0 t deadline.0
-SaysBody k (body.Done id place) = SaysDone k id
+SaysBody k (body.Done id place) = SaysDone k id place
 SaysBody k (body.Read number handle version offset count) = SaysRead k number handle.0 version.0 offset count
 SaysBody k (body.Bytes number bytes) = SaysBytes k number bytes
 SaysBody k (body.Len number handle version) = SaysLen k number handle.0 version.0

@@ -2,7 +2,7 @@
 use Rattle.std.specs.Prelude.{◌≡◌, ℕ, suc, ◌+◌, ◌<◌, ◌≤◌, List, [], length, slice_get, All, Contains, Option, Some, None, IfSome, IsTrue, IsFalse, ◌⊎◌}
 use Rattle.std.specs.FinMap as table
 use Rattle.gfs_types.specs.declared.ids.DataId.{DataId}
-use Rattle.gfs_types.specs.declared.refusal.Refusal.TheVariants.{NoData, Failed}
+use Rattle.gfs_types.specs.declared.refusal.Refusal.TheVariants.{NoData, ChunkFull, Failed}
 use Rattle.gfs_types.specs.declared.message.Message.{Message}
 use Rattle.gfs_types.specs.Image.{image}
 use Rattle.relaxed_file.specs.Names.{File, node_at}
@@ -26,11 +26,11 @@ use Rattle.cell_protocol.specs.Server.{ServerState, Replica}
 use Rattle.cell_protocol.specs.Master.{MasterState}
 use Rattle.cell_protocol.specs.MasterNames.{reply_of}
 use Rattle.cell_protocol.specs.Client.{ClientState}
-use Rattle.cell_protocol.specs.ClientAttempts.{is_write}
+use Rattle.cell_protocol.specs.ClientAttempts.{is_append, is_mutating}
 use Rattle.cell_protocol.specs.Observer.{entries_of}
 use Rattle.cell_protocol.specs.World.{WorldState}
-use Rattle.cell_refinement.specs.Known.{Known, Spot, Attempt, IsAttempt, HasEntry, HasNoEntry, OnCall, IsChunkCall, IsWriteOf, IsReadOf, IsRoundOpen, open_call_of, the_client_of, calls_made, chunk_of}
-use Rattle.cell_refinement.specs.Says.{Says, SaysPush, IsReadable, IsLastOffered, IsOver}
+use Rattle.cell_refinement.specs.Known.{Known, Spot, Attempt, IsAttempt, HasEntry, HasNoEntry, OnCall, IsChunkCall, IsMutationCall, IsReadOf, IsFullBefore, IsRoundOpen, open_call_of, the_client_of, calls_made, chunk_of}
+use Rattle.cell_refinement.specs.Says.{Says, SaysPush, IsReadable, IsLastOffered, IsOver, IsFullAt, IsUnplaced}
 
 -- A chunk before its one round, and from then on.
 abbrev pub IsBefore : Chunk → Type 0
@@ -105,7 +105,8 @@ IsLease k handle (Some l) = (l.version ≡ 1) × IsRoundOpen k handle
 
 -- what became of the last attempt that the server took
 abbrev pub Stands : Known → ℕ → Standing → Type 0
-Stands k seq (Settled place) = (a : Attempt) × (k.attempts seq ≡ Some a) × HasEntry k a
+Stands k seq (Settled place) = (a : Attempt) × (k.attempts seq ≡ Some a) × HasEntry k a place
+Stands k seq (Denied ChunkFull) = (a : Attempt) × (k.attempts seq ≡ Some a) × IsFullAt k a × IsUnplaced k seq
 Stands k seq (Denied refusal) = refusal ≡ NoData
 
 pub record IsServer (k : Known) (s : ServerState) : Type 0 where
@@ -124,11 +125,15 @@ pub record IsToldAt (k : Known) (c : CurrentCall) (at : ToldChunk) : Type 0 wher
   pub noted : (the_client_of k.m).notes c.file.0 c.index ≡ Some 1
   pub there : c.index < chunk_count k.m c.file.0
 
+-- how many chunks the file had when the call was made: no more than it has
+abbrev pub HadChunks : Known → CurrentCall → OpenCall → Type 0
+HadChunks k c oc = (count : ℕ) × (oc.asked.chunks_before ≡ Some count) × (count ≤ chunk_count k.m c.file.0)
+
 -- a call on a chunk, of which no entry stands
 pub record IsAsking (k : Known) (c : CurrentCall) (oc : OpenCall) : Type 0 where
   pub file : oc.asked.file ≡ Some c.file.0
   pub fits : IsChunkCall k.config.chunk c.index c.asked
-  pub before : (count : ℕ) × (oc.asked.chunks_before ≡ Some count) × (count ≤ chunk_count k.m c.file.0)
+  pub before : HadChunks k c oc
   pub unplaced : HasNoEntry k.placed c.number
 
 -- the attempt under this number is the call's
@@ -142,19 +147,23 @@ pub record IsAttemptOf (k : Known) (c : CurrentCall) (seq : ℕ) (a : Attempt) :
 abbrev pub IsWaited : Known → ClientState → ℕ → Type 0
 IsWaited k s number = (1 ≤ number) × (number ≤ s.number) × (k.attempts number ≡ None)
 
+-- an append asks for a chunk behind a full one
+abbrev pub LooksPastFull : Known → CurrentCall → Type 0
+LooksPastFull k c = IsTrue (is_append c.asked) → IsFullBefore k c.file.0 c.index
+
 abbrev pub FitsStage : Known → ClientState → CurrentCall → OpenCall → Stage → Type 0
 FitsStage k s c oc stage.AskedNames = IsTrue (is_name_call c.asked)
-FitsStage k s c oc (stage.AskedWhere number) = IsAsking k c oc × IsWaited k s number
-FitsStage k s c oc stage.MustAskAgain = IsAsking k c oc
+FitsStage k s c oc (stage.AskedWhere number) = IsAsking k c oc × IsWaited k s number × LooksPastFull k c
+FitsStage k s c oc stage.MustAskAgain = IsAsking k c oc × LooksPastFull k c
 FitsStage k s c oc (stage.SentData at seq) =
-    IsAsking k c oc × IsToldAt k c at × IsTrue (is_write c.asked) × (1 ≤ seq) × (a : Attempt) × IsAttemptOf k c seq a × (a.handle ≡ at.handle.0)
+    IsAsking k c oc × IsToldAt k c at × IsTrue (is_mutating c.asked) × (1 ≤ seq) × (a : Attempt) × IsAttemptOf k c seq a × (a.handle ≡ at.handle.0)
 FitsStage k s c oc (stage.SentMutate seq) =
-    (oc.asked.file ≡ Some c.file.0) × IsWriteOf k.config.chunk c.index c.asked × ((the_client_of k.m).notes c.file.0 c.index ≡ Some 1)
-    × (a : Attempt) × IsAttemptOf k c seq a
+    (oc.asked.file ≡ Some c.file.0) × IsMutationCall k.config.chunk c.index c.asked × ((the_client_of k.m).notes c.file.0 c.index ≡ Some 1)
+    × (c.index < chunk_count k.m c.file.0) × HadChunks k c oc × (a : Attempt) × IsAttemptOf k c seq a
 FitsStage k s c oc (stage.SentRead at number) = (oc.asked.file ≡ Some c.file.0) × IsReadOf k.config.chunk c.index c.asked × IsToldAt k c at × IsWaited k s number
 FitsStage k s c oc (stage.SentLength at number) =
     (oc.asked.file ≡ Some c.file.0) × IsTrue (is_length_call c.asked) × IsToldAt k c at × IsWaited k s number × IsLastOffered oc c.index
-FitsStage k s c oc (stage.MustRefuse refusal) = (refusal ≡ Failed) × IsTrue (is_write c.asked)
+FitsStage k s c oc (stage.MustRefuse refusal) = (refusal ≡ Failed) × IsTrue (is_mutating c.asked)
 
 -- which attempts a call has in a stage
 abbrev pub HasAttempt : Stage → ℕ → Type 0
