@@ -14,6 +14,8 @@ use Rattle.cell_protocol.specs.declared.stage.CurrentCall.{CurrentCall}
 use Rattle.cell_protocol.specs.declared.stage.ToldChunk.{ToldChunk}
 use Rattle.cell_protocol.specs.declared.standing.Standing.{Standing}
 use Rattle.cell_protocol.specs.declared.standing.Standing.TheVariants.{Settled, Denied}
+use Rattle.cell_protocol.specs.declared.standing.Kept.{Kept}
+use Rattle.gfs_types.specs.declared.refusal.Refusal.TheVariants.{ChunkFull}
 use Rattle.cell_protocol.specs.declared.standing.LeaseHeld.{LeaseHeld}
 use Rattle.cell_protocol.specs.declared.standing.Kept.{Kept}
 use Rattle.cell_protocol.specs.Server.{ServerState, Replica}
@@ -21,12 +23,12 @@ use Rattle.cell_protocol.specs.Master.{MasterState}
 use Rattle.cell_protocol.specs.MasterNames.{reply_of}
 use Rattle.cell_protocol.specs.Client.{ClientState}
 use Rattle.cell_protocol.specs.Observer.{entries_of}
-use Rattle.cell_refinement.specs.Known.{Known, Spot, Attempt, HasNoEntry, IsChunkCall, IsWriteOf, IsReadOf, open_call_of, the_client_of, calls_made, chunk_of}
+use Rattle.cell_refinement.specs.Known.{Known, Spot, Attempt, HasNoEntry, IsChunkCall, IsMutationCall, IsReadOf, kept_seq, open_call_of, the_client_of, calls_made, chunk_of}
 use Rattle.gfs_types.specs.declared.ids.DataId.{DataId}
 use Rattle.std.proofs.lemmas.List.Elements.{All-weaker}
-use Rattle.cell_refinement.specs.Says.{IsPast, SaysPush}
-use Rattle.cell_refinement.specs.Simulates.{AreInTurn, IsMaster, IsServer, IsClient, IsRow, IsKeptCall, IsReplica, IsLease, Stands, IsAsking, IsToldAt, IsAttemptOf, IsWaited, FitsStage, IsCurrent, AreTheSame}
-use Rattle.cell_refinement.proofs.Later.{Later, Grows, on_call, on_server, over_stays, entry_of_attempt_stays, round_stays, data_stays}
+use Rattle.cell_refinement.specs.Says.{IsPast, SaysPush, IsOver}
+use Rattle.cell_refinement.specs.Simulates.{AreInTurn, IsMaster, IsServer, IsClient, IsRow, IsKeptCall, IsReplica, IsLease, Stands, HadChunks, IsAsking, IsToldAt, IsAttemptOf, IsWaited, FitsStage, IsCurrent, AreTheSame}
+use Rattle.cell_refinement.proofs.Later.{Later, Grows, on_call, on_server, over_stays, entry_of_attempt_stays, full_at_stays, full_before_stays, round_stays, data_stays}
 
 -- the names, the chunks' handles and the rounds are as they were
 pub record SameChunks (k l : Known) : Type 0 where
@@ -74,22 +76,31 @@ pub lease_stays : (k l : Known) (handle : ℕ) (o : Option LeaseHeld) → Later 
 lease_stays k l handle None t h = tt
 lease_stays k l handle (Some x) t h = (h.0, round_stays k l t handle h.1)
 
-standing_stays : (k l : Known) (seq : ℕ) (x : Standing) → Later k l → Stands k seq x → Stands l seq x
-standing_stays k l seq (Settled place) t h = (h.0, t.attempts seq h.0 h.1, entry_of_attempt_stays k l t h.0 h.2)
-standing_stays k l seq (Denied refusal) t h = h
+-- it is of an attempt that is over
+standing_stays : (k l : Known) (seq : ℕ) (x : Standing) → Later k l → ((a : Attempt) → IfSome k.server (IsOver seq a)) → Stands k seq x → Stands l seq x
+standing_stays k l seq (Settled place) t over h = (h.0, t.attempts seq h.0 h.1, entry_of_attempt_stays k l t h.0 place h.2)
+standing_stays k l seq (Denied ChunkFull) t over h = (h.0, t.attempts seq h.0 h.1, full_at_stays k l t h.0 h.2, t.unplaced seq h.0 h.1 (over h.0) h.3)
+standing_stays k l seq (Denied other) t over h = h
 
-pub kept_stays : (k l : Known) (o : Option Kept) → Later k l → IfSome o (λ q. Stands k q.seq q.standing) → IfSome o (λ q. Stands l q.seq q.standing)
-kept_stays k l None t h = tt
-kept_stays k l (Some q) t h = standing_stays k l q.seq q.standing t h
+-- the last attempt that a server took is over there
+kept_over : (k : Known) (s : ServerState) (q : Kept) (a : Attempt) → s.kept ≡ Some q → k.server ≡ Some s → IfSome k.server (IsOver q.seq a)
+kept_over k s q a is up = subst {A = Option ServerState} (λ o. IfSome o (IsOver q.seq a)) (sym up) (inl (let same : kept_seq s.kept ≡ q.seq = ap kept_seq is in omega arith))
 
-pub server_same : (k l : Known) (s : ServerState) → Later k l → l.placed ≡ k.placed → IsServer k s → IsServer l s
-server_same k l s t e h = record {
+kept_by : (k l : Known) (s : ServerState) (o : Option Kept) → s.kept ≡ o → k.server ≡ Some s → Later k l → IfSome o (λ q. Stands k q.seq q.standing) → IfSome o (λ q. Stands l q.seq q.standing)
+kept_by k l s None is up t h = tt
+kept_by k l s (Some q) is up t h = standing_stays k l q.seq q.standing t (λ a. kept_over k s q a is up) h
+
+pub last_attempt_stays : (k l : Known) (s : ServerState) → k.server ≡ Some s → Later k l → IfSome s.kept (λ q. Stands k q.seq q.standing) → IfSome s.kept (λ q. Stands l q.seq q.standing)
+last_attempt_stays k l s up t h = kept_by k l s s.kept refl up t h
+
+pub server_same : (k l : Known) (s : ServerState) → k.server ≡ Some s → Later k l → l.placed ≡ k.placed → IsServer k s → IsServer l s
+server_same k l s up t e h = record {
   config = h.config ∙ sym t.config;
   now = let a = h.now in let b = t.greatest in omega arith;
   replicas = λ handle. replica_same k l handle (table.get s.replicas handle) t.config e (h.replicas handle);
   leases = λ handle. lease_stays k l handle (table.get s.leases handle) t (h.leases handle);
   pushed = All-weaker (λ (e : DataId × List ℕ). SaysPush k e.0 e.1) (λ (e : DataId × List ℕ). SaysPush l e.0 e.1) (λ e g. data_stays k l t e.0 e.1 g) s.pushed.entries h.pushed;
-  kept = kept_stays k l s.kept t h.kept;
+  kept = last_attempt_stays k l s up t h.kept;
 }
 
 -- the machine's open call goes on
@@ -111,11 +122,14 @@ pub record SameClient (k l : Known) : Type 0 where
   pub unplaced : (s : ClientState) (c : CurrentCall) → k.client ≡ Some s → s.current ≡ Some c → (IsPast c.stage → ⊥) → HasNoEntry k.placed c.number → HasNoEntry l.placed c.number
 
 module _ (k l : Known) (t : Later k l) (f : SameClient k l) (s : ClientState) (c : CurrentCall) (oc oc' : OpenCall) (g : Grows oc oc') (up : k.client ≡ Some s) (current : s.current ≡ Some c) where
+  had_chunks_stays : HadChunks k c oc → HadChunks l c oc'
+  had_chunks_stays h = (h.0, ap (λ a. a.chunks_before) g.asked ∙ h.1, let a = h.2 in let b = t.chunks c.file.0 in omega arith)
+
   asking_stays : (IsPast c.stage → ⊥) → IsAsking k c oc → IsAsking l c oc'
   asking_stays early h = record {
     file = ap (λ a. a.file) g.asked ∙ h.file;
     fits = subst (λ (config : Config). IsChunkCall config.chunk c.index c.asked) (sym t.config) h.fits;
-    before = (h.before.0, ap (λ a. a.chunks_before) g.asked ∙ h.before.1, let a = h.before.2 in let b = t.chunks c.file.0 in omega arith);
+    before = had_chunks_stays h.before;
     unplaced = f.unplaced s c up current early h.unplaced;
   }
 
@@ -141,15 +155,17 @@ module _ (k l : Known) (t : Later k l) (f : SameClient k l) (s : ClientState) (c
 
   fits_stays : (st : Stage) → c.stage ≡ st → FitsStage k s c oc st → FitsStage l s c oc' st
   fits_stays stage.AskedNames is h = h
-  fits_stays (stage.AskedWhere number) is h = (asking_stays (λ p. subst IsPast is p) h.0, waited_stays number h.1)
-  fits_stays stage.MustAskAgain is h = asking_stays (λ p. subst IsPast is p) h
+  fits_stays (stage.AskedWhere number) is h = (asking_stays (λ p. subst IsPast is p) h.0, waited_stays number h.1, λ append. full_before_stays k l t c.file.0 c.index (h.2 append))
+  fits_stays stage.MustAskAgain is h = (asking_stays (λ p. subst IsPast is p) h.0, λ append. full_before_stays k l t c.file.0 c.index (h.1 append))
   fits_stays (stage.SentData at seq) is h = (asking_stays (λ p. subst IsPast is p) h.0, told_at_stays at h.1, h.2, h.3, h.4, attempt_of_stays seq h.4 h.5, h.6)
   fits_stays (stage.SentMutate seq) is h = (
     ap (λ a. a.file) g.asked ∙ h.0,
-    subst (λ (config : Config). IsWriteOf config.chunk c.index c.asked) (sym t.config) h.1,
+    subst (λ (config : Config). IsMutationCall config.chunk c.index c.asked) (sym t.config) h.1,
     f.notes c.file.0 c.index ∙ h.2,
-    h.3,
-    attempt_of_stays seq h.3 h.4,
+    (let a = h.3 in let b = t.chunks c.file.0 in omega arith),
+    had_chunks_stays h.4,
+    h.5,
+    attempt_of_stays seq h.5 h.6,
   )
   fits_stays (stage.SentRead at number) is h = (
     ap (λ a. a.file) g.asked ∙ h.0,

@@ -1,12 +1,12 @@
 -- What may change from one moment to the next so that each message in flight still says what is true.
-use Rattle.std.proofs.Common.{◌≡◌, ℕ, suc, ◌+◌, ◌*◌, ◌<◌, ◌≤◌, List, [], ◌∷◌, Option, Some, None, refl, sym, ap, ◌∙◌, subst, inl, inr, arith}
+use Rattle.std.proofs.Common.{◌≡◌, ℕ, zero, suc, ◌+◌, ◌*◌, ◌<◌, ◌≤◌, List, [], ◌∷◌, Option, Some, None, refl, sym, ap, ◌∙◌, subst, inl, inr, arith}
 use Rattle.std.specs.Prelude.{All, Contains, IfSome, IsTrue, IsFalse, ◌⊎◌}
 use Rattle.std.proofs.lemmas.List.Elements.{All-weaker}
 use Rattle.gfs_types.specs.declared.config.Config.{Config}
 use Rattle.gfs_types.specs.declared.call.Call.{Call}
 use Rattle.gfs_types.specs.declared.ids.DataId.{DataId}
 use Rattle.gfs_types.specs.declared.refusal.Refusal.{Refusal}
-use Rattle.gfs_types.specs.declared.refusal.Refusal.TheVariants.{TooLong, Collected, NoLease, NoChunk}
+use Rattle.gfs_types.specs.declared.refusal.Refusal.TheVariants.{TooLong, Collected, NoLease, NoChunk, ChunkFull}
 use Rattle.gfs_types.specs.declared.message.Body.{Body}
 use Rattle.gfs_types.specs.declared.message.Body.TheVariants as body
 use Rattle.gfs_types.specs.declared.message.Message.{Message}
@@ -17,6 +17,7 @@ use Rattle.gfs_types.specs.declared.message.Wanted.TheVariants as wanted
 use Rattle.gfs_types.specs.declared.message.Location.{Location}
 use Rattle.gfs_types.specs.declared.message.Holder.{Holder}
 use Rattle.gfs_types.specs.declared.message.Target.{Target}
+use Rattle.gfs_types.specs.Mutations.{end_of}
 use Rattle.relaxed_file.specs.NameStep.{is_look}
 use Rattle.relaxed_file.specs.Reads.{is_length_call}
 use Rattle.relaxed_file.specs.Order.{Entry}
@@ -27,9 +28,9 @@ use Rattle.cell_protocol.specs.declared.stage.CurrentCall.{CurrentCall}
 use Rattle.cell_protocol.specs.Server.{ServerState}
 use Rattle.cell_protocol.specs.Master.{MasterState}
 use Rattle.cell_protocol.specs.Client.{ClientState}
-use Rattle.cell_protocol.specs.ClientAttempts.{place_in_chunk, count_to_read, is_write}
-use Rattle.cell_refinement.specs.Known.{Known, Spot, Attempt, IsWriteOf, HasEntry, OnCall, IsRoundOpen, open_call_of, the_client_of, calls_made, kept_number, kept_seq, chunk_of}
-use Rattle.cell_refinement.specs.Says.{Says, SaysBody, OnStage, IsNumbered, IsAskNumber, IsAnew, IsUntil, IsLate, IsNameOf, SaysNamed, HasReply, IsKept, SaysAsk, IsAskedToWrite, IsReadable, SaysTold, IsGranted, IsGrantedLast, IsToldTo, IsOver, MayStillPlace, MayComeTo, SaysPush, IsPast, IsPastWith, SaysMutate, SaysDone, SaysRead, SaysBytes, SaysLen, SaysLenIs, IsRefusedAsk, IsRefusedAttempt, SaysRefused}
+use Rattle.cell_protocol.specs.ClientAttempts.{place_in_chunk, count_to_read, is_append}
+use Rattle.cell_refinement.specs.Known.{Known, Spot, Attempt, is_write, IsWriteOf, IsAppendOf, IsFull, IsFullBefore, HasEntry, OnCall, IsRoundOpen, open_call_of, the_client_of, calls_made, kept_number, kept_seq, chunk_of}
+use Rattle.cell_refinement.specs.Says.{Says, SaysBody, OnStage, IsNumbered, IsAskNumber, IsAnew, IsUntil, IsLate, IsNameOf, SaysNamed, HasReply, IsKept, SaysAsk, IsAskedToWrite, IsAskedToAppend, IsReadable, names_its_chunk, IsFullAt, IsUnplaced, SaysTold, IsGranted, IsGrantedLast, IsToldTo, IsOver, MayStillPlace, MayComeTo, SaysPush, IsPast, IsPastWith, SaysMutate, SaysDone, SaysRead, SaysBytes, SaysLen, SaysLenIs, IsRefusedAsk, IsRefusedAttempt, SaysRefused}
 
 -- an open call that went on
 pub record Grows (oc later : OpenCall) : Type 0 where
@@ -134,8 +135,8 @@ module _ (k l : Known) (t : Later k l) where
   ask_number_stays : (number : ℕ) → IsAskNumber k number → IsAskNumber l number
   ask_number_stays number h = (t.numbers number h.0, t.no_attempts number h.0 h.1)
 
-  entry_stays : (a : Attempt) → HasEntry k a → HasEntry l a
-  entry_stays a h = (h.0, t.owner a.handle h.0 h.1, h.2, t.entries h.0 h.2 h.3, h.4, h.5, h.6, h.7)
+  entry_stays : (a : Attempt) (place : ℕ) → HasEntry k a place → HasEntry l a place
+  entry_stays a place h = (h.0, t.owner a.handle h.0 h.1, h.2, t.entries h.0 h.2 h.3, h.4, h.5, h.6, h.7)
 
   pub over_stays : (seq : ℕ) (a : Attempt) (s s' : ServerState) → kept_seq s.kept ≤ kept_seq s'.kept → s.now ≤ s'.now → IsOver seq a s → IsOver seq a s'
   over_stays seq a s s' kept now (inl h) = inl (omega (arith, h))
@@ -173,6 +174,28 @@ module _ (k l : Known) (t : Later k l) where
     (readable_stays file (h.5, h.6)).1,
   )
 
+  full_stays : (at : Spot) → IsFull k at → IsFull l at
+  full_stays at h = (h.0, t.entries at h.0 h.1, subst (λ (config : Config). end_of config.chunk h.0.mutation ≡ config.chunk) (sym t.config) h.2)
+
+  pub full_before_stays : (file index : ℕ) → IsFullBefore k file index → IsFullBefore l file index
+  full_before_stays file zero h = tt
+  full_before_stays file (suc index) h = full_stays (record { file = file; index = index }) h
+
+  pub full_at_stays : (a : Attempt) → IsFullAt k a → IsFullAt l a
+  full_at_stays a h = (h.0, t.owner a.handle h.0 h.1, full_stays h.0 h.2)
+
+  asked_to_append_stays : (file index : ℕ) → IsAskedToAppend k file index → IsAskedToAppend l file index
+  asked_to_append_stays file index h = (
+    h.0,
+    h.1,
+    t.calls h.0 h.1 h.2,
+    h.3,
+    subst (λ (config : Config). IsAppendOf config.chunk h.1.call) (sym t.config) h.4,
+    (readable_stays file (h.5, h.6)).0,
+    (readable_stays file (h.5, h.6)).1,
+    full_before_stays file index h.7,
+  )
+
   ask_stays : (number file : ℕ) (w : Wanted) → SaysAsk k number file w → SaysAsk l number file w
   ask_stays number file (wanted.Write index) h = (
     ask_number_stays number h.0,
@@ -188,7 +211,11 @@ module _ (k l : Known) (t : Later k l) where
     readable_stays file h.1,
     on_stage (stage.AskedWhere number) number refl h.0.0 (λ s s' c c' oc oc' same g p. (ap (λ f. f.0) same.file ∙ p.0, same.index ∙ p.1, subst (λ x. IsFalse (is_length_call x)) (sym same.asked) p.2)) h.2,
   )
-  ask_stays number file (wanted.Append after) h = h
+  ask_stays number file (wanted.Append index) h = (
+    ask_number_stays number h.0,
+    asked_to_append_stays file index h.1,
+    on_stage (stage.AskedWhere number) number refl h.0.0 (λ s s' c c' oc oc' same g p. (ap (λ f. f.0) same.file ∙ p.0, subst (λ x. IsTrue (is_append x)) (sym same.asked) p.1)) h.2,
+  )
   ask_stays number file wanted.Last h = (
     ask_number_stays number h.0,
     readable_stays file h.1,
@@ -208,14 +235,15 @@ module _ (k l : Known) (t : Later k l) where
         (let a = h.6 in let b = t.chunks file in omega arith),
       ))
 
-  granted_last_stays : (file file' : ℕ) (oc oc' : OpenCall) (x : Location) (hs : List Holder) → file' ≡ file → Grows oc oc' → IsGrantedLast k file oc x hs → IsGrantedLast l file' oc' x hs
-  granted_last_stays file file' oc oc' x [] e g h = tt
-  granted_last_stays file file' oc oc' x (holder ∷ rest) e g h = (granted_stays file x.index file' x.index oc oc' x (holder ∷ rest) e refl g h.0, g.offers (Told x.index 1 (suc x.index)) h.1)
+  granted_last_stays : (index : ℕ) (oc oc' : OpenCall) (hs : List Holder) → Grows oc oc' → IsGrantedLast index oc hs → IsGrantedLast index oc' hs
+  granted_last_stays index oc oc' [] g h = tt
+  granted_last_stays index oc oc' (holder ∷ rest) g h = g.offers (Told index 1 (suc index)) h
 
   told_to_stays : (c c' : CurrentCall) (oc oc' : OpenCall) (x : Location) → SameCall c c' → Grows oc oc' → IsToldTo k c oc x → IsToldTo l c' oc' x
   told_to_stays c c' oc oc' x same g h = (
-    λ not. granted_stays c.file.0 c.index c'.file.0 c'.index oc oc' x x.holders (ap (λ f. f.0) same.file) same.index g (h.0 (subst (λ y. IsFalse (is_length_call y)) same.asked not)),
-    λ is. granted_last_stays c.file.0 c'.file.0 oc oc' x x.holders (ap (λ f. f.0) same.file) g (h.1 (subst (λ y. IsTrue (is_length_call y)) same.asked is)),
+    granted_stays c.file.0 x.index c'.file.0 x.index oc oc' x x.holders (ap (λ f. f.0) same.file) refl g h.0,
+    λ names. h.1 (subst (λ y. IsTrue (names_its_chunk y)) same.asked names) ∙ sym same.index,
+    λ is. granted_last_stays x.index oc oc' x.holders g (h.2 (subst (λ y. IsTrue (is_length_call y)) same.asked is)),
   )
 
   told_stays : (number : ℕ) (o : Option Location) → SaysTold k number o → SaysTold l number o
@@ -263,8 +291,8 @@ module _ (k l : Known) (t : Later k l) where
     on_server (λ s s' was is kept now p. come_stays id.seq h.2 s s' is h.3 kept now p) h.9,
   )
 
-  done_stays : (id : DataId) → SaysDone k id → SaysDone l id
-  done_stays id h = (h.0, t.attempts id.seq h.0 h.1, entry_stays h.0 h.2, on_server (λ s s' was is kept now p. omega (arith, p)) h.3)
+  done_stays : (id : DataId) (place : ℕ) → SaysDone k id place → SaysDone l id place
+  done_stays id place h = (h.0, t.attempts id.seq h.0 h.1, entry_stays h.0 place h.2, on_server (λ s s' was is kept now p. omega (arith, p)) h.3)
 
   read_stays : (number handle version offset count : ℕ) → SaysRead k number handle version offset count → SaysRead l number handle version offset count
   read_stays number handle version offset count h = (
@@ -313,6 +341,10 @@ module _ (k l : Known) (t : Later k l) where
   refused_attempt_stays : (number : ℕ) (refusal : Refusal) → IsNumbered k number → IsRefusedAttempt k number refusal → IsRefusedAttempt l number refusal
   refused_attempt_stays number NoLease numbered h = tt
   refused_attempt_stays number NoChunk numbered h = tt
+  refused_attempt_stays number ChunkFull numbered h = λ a is.
+      let known : k.attempts number ≡ Some a = attempt_was number a numbered is in
+      let was : IfSome k.server (IsOver number a) × IsFullAt k a × IsUnplaced k number = h a known in
+      (on_server (λ s s' was now kept late p. over_stays number a s s' kept late p) was.0, full_at_stays a was.1, t.unplaced number a known was.0 was.2)
   refused_attempt_stays number other numbered h = λ a is. on_server (λ s s' was now kept late p. over_stays number a s s' kept late p) (h a (attempt_was number a numbered is))
 
   refused_stays : (number : ℕ) (refusal : Refusal) → SaysRefused k number refusal → SaysRefused l number refusal
@@ -335,7 +367,7 @@ module _ (k l : Known) (t : Later k l) where
   body_stays (body.Refused number refusal) h = refused_stays number refusal h
   body_stays (body.Push id bytes rest) h = push_stays id bytes h
   body_stays (body.Mutate id handle version x deadline) h = mutate_stays id handle.0 version.0 x deadline.0 h
-  body_stays (body.Done id place) h = done_stays id h
+  body_stays (body.Done id place) h = done_stays id place h
   body_stays (body.Read number handle version offset count) h = read_stays number handle.0 version.0 offset count h
   body_stays (body.Bytes number bytes) h = bytes_stay number bytes h
   body_stays (body.Len number handle version) h = len_stays number handle.0 version.0 h
@@ -351,8 +383,8 @@ module _ (k l : Known) (t : Later k l) where
   pub all_stay : (sent : List Message) → All (Says k) sent → All (Says l) sent
   all_stay sent h = All-weaker (Says k) (Says l) says_stays sent h
 
-  pub entry_of_attempt_stays : (a : Attempt) → HasEntry k a → HasEntry l a
-  entry_of_attempt_stays a h = entry_stays a h
+  pub entry_of_attempt_stays : (a : Attempt) (place : ℕ) → HasEntry k a place → HasEntry l a place
+  entry_of_attempt_stays a place h = entry_stays a place h
 
   pub data_stays : (id : DataId) (bytes : List ℕ) → SaysPush k id bytes → SaysPush l id bytes
   data_stays id bytes h = push_stays id bytes h

@@ -10,7 +10,7 @@ use Rattle.cell_protocol.specs.Server.{ServerState}
 use Rattle.cell_protocol.specs.Master.{MasterState}
 use Rattle.cell_protocol.specs.Client.{ClientState}
 use Rattle.cell_refinement.specs.Known.{Known, Spot, Attempt, HasNoEntry, open_call_of, the_client_of, calls_made, kept_number, kept_seq, chunk_of}
-use Rattle.cell_refinement.specs.Says.{IsNumbered, IsAnew, IsUntil, IsNameOf, MayStillPlace, MayComeTo}
+use Rattle.cell_refinement.specs.Says.{IsNumbered, IsAnew, IsUntil, IsNameOf, MayStillPlace, MayComeTo, IsOver, IsUnplaced}
 use Rattle.cell_refinement.proofs.Later.{Later, Grows, SameCall, WaitedBefore}
 use Rattle.cell_refinement.proofs.Frames.{GoesOn}
 
@@ -98,3 +98,6 @@ pub may_place_same : (k l : Known) (seq : ℕ) (a : Attempt) (s' : ServerState) 
 may_place_same k l seq a s' placed g h =
     let new = open_after (open_call_of k.m) (open_call_of l.m) g h.0 h.1 in
     inr (inr (new.0, new.1, new.2.number ∙ h.2, subst (λ ps. HasNoEntry ps a.call) (sym placed) h.3))
+
+pub unplaced_same : (k l : Known) (seq : ℕ) → l.placed ≡ k.placed → l.client ≡ k.client → IsUnplaced k seq → IsUnplaced l seq
+unplaced_same k l seq placed client h = λ s c up current at. subst (λ ps. HasNoEntry ps c.number) (sym placed) (h s c (sym client ∙ up) current at)

@@ -1,5 +1,5 @@
 -- What ties a world to a state of the relaxed-file machine: what each node and each message in flight knows of it.
-use Rattle.std.specs.Prelude.{◌≡◌, ℕ, suc, ◌*◌, ◌/◌, ◌%◌, ◌<◌, ◌≤◌, ◌==◌, ◌&&◌, not, Bool, true, false, List, length, All, Contains, Option, Some, None, IsTrue, IsFalse}
+use Rattle.std.specs.Prelude.{◌≡◌, ℕ, zero, suc, ◌*◌, ◌/◌, ◌%◌, ◌<◌, ◌≤◌, ◌==◌, ◌&&◌, not, Bool, true, false, List, length, All, Contains, Option, Some, None, IsTrue, IsFalse}
 use Rattle.gfs_types.specs.declared.config.Config.{Config}
 use Rattle.gfs_types.specs.declared.call.Call.{Call}
 use Rattle.gfs_types.specs.declared.call.Call.TheVariants as call
@@ -154,5 +154,5 @@ IsFull k at = (e : Entry) × Contains (chunk_of k.m at).order e × (end_of k.con
 
 -- the chunk before this index, if there is one, is full
 abbrev pub IsFullBefore : Known → ℕ → ℕ → Type 0
-IsFullBefore k file 0 = Unit {0}
+IsFullBefore k file zero = Unit {0}
 IsFullBefore k file (suc index) = IsFull k (record { file = file; index = index })
