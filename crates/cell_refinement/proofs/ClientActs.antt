@@ -1,11 +1,12 @@
 -- An event at the client: the master and the server stay as they are, and of the machine only the client's own part may change.
-use Rattle.std.proofs.Common.{◌≡◌, ℕ, ◌<◌, ◌≤◌, List, Option, Some, None, refl, sym, ap, ◌∙◌, subst, inl, inr, arith}
+use Rattle.std.proofs.Common.{◌≡◌, ℕ, zero, suc, ◌<◌, ◌≤◌, List, Option, Some, None, refl, sym, ap, ◌∙◌, subst, inl, inr, arith}
 use Rattle.std.specs.Prelude.{Contains, IfSome, ◌⊎◌}
 use Rattle.gfs_types.specs.declared.call.Call.{Call}
 use Rattle.gfs_types.specs.declared.message.Message.{Message}
 use Rattle.relaxed_file.specs.Machine.{Client, OpenCall, Asked, Opens}
 use Rattle.relaxed_file.specs.Run.{IsRunTo, Visible}
 use Rattle.cell_protocol.specs.declared.stage.Stage.{Stage}
+use Rattle.cell_protocol.specs.declared.stage.Stage.TheVariants as stage
 use Rattle.cell_protocol.specs.declared.stage.CurrentCall.{CurrentCall}
 use Rattle.std.proofs.lemmas.List.Elements.{All-weaker}
 use Rattle.cell_protocol.specs.declared.observer.Placed.{Placed}
@@ -13,8 +14,8 @@ use Rattle.cell_protocol.specs.Sending.{only_client}
 use Rattle.cell_protocol.specs.Server.{ServerState}
 use Rattle.cell_protocol.specs.Master.{MasterState}
 use Rattle.cell_protocol.specs.Client.{ClientState}
-use Rattle.cell_refinement.specs.Known.{Known, Attempt, IsAttempt, open_call_of, the_client_of, calls_made}
-use Rattle.cell_refinement.specs.Says.{IsNumbered, IsAnew, IsUntil, IsNameOf, IsPast, IsReadable, MayStillPlace, MayComeTo}
+use Rattle.cell_refinement.specs.Known.{Known, Attempt, IsAttempt, HasNoEntry, IsFullBefore, open_call_of, the_client_of, calls_made}
+use Rattle.cell_refinement.specs.Says.{IsNumbered, IsAnew, IsUntil, IsNameOf, IsPast, IsReadable, IsUnplaced, MayStillPlace, MayComeTo}
 use Rattle.cell_refinement.specs.Simulates.{AreInTurn, IsMachine, IsChunkAt, IsMaster, IsServer, IsClient, Holds}
 use Rattle.cell_refinement.proofs.Later.{Later, AreOver, Grows, IsWaiting, WaitedBefore, all_stay}
 use Rattle.cell_refinement.proofs.Frames.{SameChunks, master_same, server_same}
@@ -22,6 +23,10 @@ use Rattle.cell_refinement.proofs.Frames.{SameChunks, master_same, server_same}
 -- the world with another client, another part of the client in the machine, and other attempts
 abbrev pub acting : Known → (ℕ → Client) → (ℕ → Option Attempt) → ClientState → Known
 acting k clients attempts s' = record k { m = record k.m { clients = clients }; attempts = attempts; client = Some s' }
+
+pub full_before_acting : (k : Known) (clients : ℕ → Client) (attempts : ℕ → Option Attempt) (s' : ClientState) (file index : ℕ) → IsFullBefore k file index → IsFullBefore (acting k clients attempts s') file index
+full_before_acting k clients attempts s' file zero h = h
+full_before_acting k clients attempts s' file (suc index) h = h
 
 -- a stage that waits for no answer to an earlier ask or read
 abbrev pub IsFresh : ClientState → Stage → Type 0
@@ -46,6 +51,7 @@ pub record Acts (k : Known) (s s' : ClientState) (clients : ℕ → Client) (att
   pub past : (c' : CurrentCall) → s'.current ≡ Some c' → (calls_made k.m < c'.number) ⊎ ((c : CurrentCall) × (s.current ≡ Some c) × (c'.number ≡ c.number) × (IsPast c.stage → IsPast c'.stage ⊎ AreOver k c.number))
   pub anew : (number deadline : ℕ) (c : Call) (x : MasterState) → k.master ≡ Some x → IsAnew k number c → IsUntil k deadline → IsNameOf (acting k clients attempts s') number deadline c x
   pub may_place : (seq : ℕ) (a : Attempt) (x : ServerState) → k.server ≡ Some x → k.attempts seq ≡ Some a → MayStillPlace k a → MayComeTo (acting k clients attempts s') seq a x
+  pub unplaced : (c' : CurrentCall) (seq : ℕ) → s'.current ≡ Some c' → c'.stage ≡ stage.SentMutate seq → IsUnplaced k seq → HasNoEntry k.placed c'.number
   -- the client in the machine
   pub descriptors : (fd file : ℕ) → (clients only_client).descriptors fd ≡ Some file → IsReadable k file
   pub outcomes : (oc : OpenCall) (file : ℕ) → (clients only_client).open_call ≡ Some oc → Contains oc.outcomes (Opens file) → IsReadable k file
@@ -91,6 +97,9 @@ module _ (k : Known) (s s' : ClientState) (clients : ℕ → Client) (attempts :
         ];
     anew = t.anew;
     may_place = t.may_place;
+    unplaced = λ seq a known over none x c' client current st.
+        let e : s' ≡ x = (let h : Some s' ≡ Some x = client in cc) in
+        t.unplaced c' seq (ap (λ (y : ClientState). y.current) e ∙ current) st none;
   }
 
   same_chunks : SameChunks k (acting k clients attempts s')
@@ -122,9 +131,9 @@ module _ (k : Known) (s s' : ClientState) (clients : ℕ → Client) (attempts :
   master_acting None h = tt
   master_acting (Some x) h = master_same k (acting k clients attempts s') x later_acting same_chunks h
 
-  server_acting : (o : Option ServerState) → IfSome o (IsServer k) → IfSome o (IsServer (acting k clients attempts s'))
-  server_acting None h = tt
-  server_acting (Some x) h = server_same k (acting k clients attempts s') x later_acting refl h
+  server_acting : (o : Option ServerState) → k.server ≡ o → IfSome o (IsServer k) → IfSome o (IsServer (acting k clients attempts s'))
+  server_acting None is h = tt
+  server_acting (Some x) is h = server_same k (acting k clients attempts s') x is later_acting refl h
 
   -- the client changes, and all else holds as before
   pub acts : (sent : List Message) (trace more : List Visible) → IsRunTo k.config more (record k.m { clients = clients }) → IsClient (acting k clients attempts s') s' → Holds k sent trace → Holds (acting k clients attempts s') sent more
@@ -132,7 +141,7 @@ module _ (k : Known) (s s' : ClientState) (clients : ℕ → Client) (attempts :
     run = run;
     machine = machine_acting h.machine;
     master = master_acting k.master h.master;
-    server = server_acting k.server h.server;
+    server = server_acting k.server refl h.server;
     client = new;
     says = all_stay k (acting k clients attempts s') later_acting sent h.says;
   }

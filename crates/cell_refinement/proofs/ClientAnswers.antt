@@ -19,7 +19,7 @@ use Rattle.cell_protocol.specs.declared.stage.Stage.TheVariants as stage
 use Rattle.cell_protocol.specs.declared.stage.CurrentCall.{CurrentCall}
 use Rattle.cell_protocol.specs.Sending.{only_client}
 use Rattle.cell_protocol.specs.Client.{ClientState, answers, closed, waits}
-use Rattle.cell_protocol.specs.ClientAttempts.{is_write, gives_up, last_refusal, refuses_live}
+use Rattle.cell_protocol.specs.ClientAttempts.{is_mutating, gives_up, last_refusal, refuses_live}
 use Rattle.cell_protocol.specs.ClientTakes.{opens, with_descriptor}
 use Rattle.cell_refinement.specs.Known.{Known, IsChunkCall, the_client_of, calls_made}
 use Rattle.cell_refinement.specs.Says.{IsLate, IsReadable}
@@ -35,31 +35,37 @@ use Rattle.cell_refinement.proofs.ClientEnds.{IsOverAll, ends_so, ClosesNone, re
 pub chunk_uses : (size index : ℕ) (x : Call) → IsChunkCall size index x → IsTrue (uses_chunks x)
 chunk_uses size index (call.Write fd offset bytes) h = refl
 chunk_uses size index (call.Read fd offset count) h = refl
+chunk_uses size index (call.Append fd bytes) h = refl
 chunk_uses size index (call.Length fd) h = refl
 chunk_uses size index other h = absurd h
 
 pub chunk_no_name : (size index : ℕ) (x : Call) → IsChunkCall size index x → IsTrue (is_name_call x) → ⊥
 chunk_no_name size index (call.Write fd offset bytes) h n = let e : false ≡ true = n in cc
 chunk_no_name size index (call.Read fd offset count) h n = let e : false ≡ true = n in cc
+chunk_no_name size index (call.Append fd bytes) h n = let e : false ≡ true = n in cc
 chunk_no_name size index (call.Length fd) h n = let e : false ≡ true = n in cc
 chunk_no_name size index other h n = absurd h
 
-pub write_uses : (x : Call) → IsTrue (is_write x) → IsTrue (uses_chunks x)
-write_uses (call.Write fd offset bytes) h = refl
-write_uses other h = absurd (let e : false ≡ true = h in cc)
+pub mutating_uses : (x : Call) → IsTrue (is_mutating x) → IsTrue (uses_chunks x)
+mutating_uses (call.Write fd offset bytes) h = refl
+mutating_uses (call.Append fd bytes) h = refl
+mutating_uses other h = absurd (let e : false ≡ true = h in cc)
 
 -- what a call may be refused with where its attempt ended
-may_last : (size index : ℕ) (x : Call) (b : Bool) → IsChunkCall size index x → IsTrue (may_give_up x (if b then NoReplica else (if is_write x then Failed else Unknown)))
+may_last : (size index : ℕ) (x : Call) (b : Bool) → IsChunkCall size index x → IsTrue (may_give_up x (if b then NoReplica else (if is_mutating x then Failed else Unknown)))
 may_last size index (call.Write fd offset bytes) true h = refl
 may_last size index (call.Write fd offset bytes) false h = refl
 may_last size index (call.Read fd offset count) true h = refl
 may_last size index (call.Read fd offset count) false h = refl
+may_last size index (call.Append fd bytes) true h = refl
+may_last size index (call.Append fd bytes) false h = refl
 may_last size index (call.Length fd) true h = refl
 may_last size index (call.Length fd) false h = refl
 may_last size index other b h = absurd h
 
-may_fail : (x : Call) → IsTrue (is_write x) → IsTrue (may_give_up x Failed)
+pub may_fail : (x : Call) → IsTrue (is_mutating x) → IsTrue (may_give_up x Failed)
 may_fail (call.Write fd offset bytes) h = refl
+may_fail (call.Append fd bytes) h = refl
 may_fail other h = absurd (let e : false ≡ true = h in cc)
 
 may_not_know : (x : Call) → IsTrue (is_name_call x) → IsTrue (may_give_up x Unknown)
@@ -125,10 +131,10 @@ module _ (k : Known) (s : ClientState) (c : CurrentCall) (oc : OpenCall) (at : I
   names_end_so name ended = returns_so (answer.Refused Unknown) (may_refuse Unknown (may_not_know c.asked name)) (inl name) (late_all ended)
 
   -- a write is refused, once its attempt isn't live
-  pub refuses_live_so : IsTrue (is_write c.asked) → ClientOutcome k (calls_made k.m) (refuses_live s c Failed) sent trace
+  pub refuses_live_so : IsTrue (is_mutating c.asked) → ClientOutcome k (calls_made k.m) (refuses_live s c Failed) sent trace
   refuses_live_so write =
       elim (nat_le c.ends.0 s.now) as (λ b. nat_le c.ends.0 s.now ≡ b → ClientOutcome k (calls_made k.m) (cond b (answers s (answer.Refused Failed)) (waits s c (stage.MustRefuse Failed))) sent trace) [
-        | true ↦ λ e. returns_so (answer.Refused Failed) (may_refuse Failed (may_fail c.asked write)) (inr (write_uses c.asked write)) (late_all (let l : c.ends.0 ≤ s.now = grind (arith, e) in l))
+        | true ↦ λ e. returns_so (answer.Refused Failed) (may_refuse Failed (may_fail c.asked write)) (inr (mutating_uses c.asked write)) (late_all (let l : c.ends.0 ≤ s.now = grind (arith, e) in l))
         | false ↦ λ e. must_refuse_so k s c oc at sent trace h write
       ] refl
 

@@ -1,21 +1,24 @@
 -- A call begins at the client and at the machine.
 use Rattle.std.proofs.Common.{◌≡◌, ℕ, suc, ◌≤◌, true, false, cond, List, [], ◌∷◌, ◌++◌, Option, Some, None, refl, sym, ap, ◌∙◌, subst, inl, arith, append_assoc}
-use Rattle.std.specs.Prelude.{All, Contains, ◌==◌}
+use Rattle.std.specs.Prelude.{All, Contains, ◌==◌, ◌&&◌, not, IsFalse}
 use Rattle.std.specs.FinMap as table
-use Rattle.std.proofs.lemmas.Bool.{eqb-true}
+use Rattle.std.proofs.lemmas.Bool.{eqb-true, ne_eqb}
+use Rattle.std.proofs.lemmas.List.Elements.{All-weaker}
 use Rattle.gfs_types.specs.declared.call.Call.{Call}
 use Rattle.gfs_types.specs.declared.call.Call.TheVariants as call
 use Rattle.gfs_types.specs.declared.answer.Answer.{Answer}
 use Rattle.gfs_types.specs.declared.message.Message.{Message}
+use Rattle.gfs_types.specs.Mutations.{is_pad}
 use Rattle.relaxed_file.specs.Machine.{Machine, Client, OpenCall, Asked, Opens, put}
 use Rattle.relaxed_file.specs.Run.{IsRunTo, Visible, Called, asked_now, file_of}
 use Rattle.cell_protocol.specs.declared.stage.CurrentCall.{CurrentCall}
+use Rattle.cell_protocol.specs.declared.observer.Placed.{Placed}
 use Rattle.cell_protocol.specs.Sending.{only_client}
 use Rattle.cell_protocol.specs.Client.{ClientState}
 use Rattle.cell_protocol.specs.Observer.{answered}
-use Rattle.cell_refinement.specs.Known.{Known, open_call_of, the_client_of, calls_made}
+use Rattle.cell_refinement.specs.Known.{Known, HasNoEntry, is_entry_of, open_call_of, the_client_of, calls_made}
 use Rattle.cell_refinement.specs.Says.{Says, IsReadable}
-use Rattle.cell_refinement.specs.Simulates.{IsClient, AreTheSame, Holds}
+use Rattle.cell_refinement.specs.Simulates.{IsMachine, IsClient, AreTheSame, Holds}
 use Rattle.cell_refinement.proofs.ClientActs.{acting, IsFresh, Acts, acts, some_at}
 use Rattle.cell_refinement.proofs.ClientGoes.{ClientOutcome}
 use Rattle.cell_refinement.proofs.ClientTold.{put_self, put_other}
@@ -46,6 +49,17 @@ pub record Begins (k : Known) (s s' : ClientState) (x : Call) (clients : ℕ →
 
 nothing_in : {X : Type 0} {x : X} → Contains [] x → ⊥
 nothing_in h = let l = h.1 in absurd (omega arith)
+
+-- an entry of the client's calls so far
+abbrev IsEarlier : ℕ → Placed → Type 0
+IsEarlier made p = (p.numbering.version.0 ≡ 1) × (p.numbering.data_id.client.0 ≡ only_client) × (p.call ≤ made)
+
+earlier : (made : ℕ) (p : Placed) → p.call ≤ made → IsFalse (is_entry_of (suc made) p)
+earlier made p l = ap (λ b. b && not (is_pad p.numbering.mutation)) (ne_eqb p.call (suc made) (λ e. omega arith))
+
+-- no entry of a new call stands
+pub new_unplaced : (k : Known) → IsMachine k → HasNoEntry k.placed (suc (calls_made k.m))
+new_unplaced k h = All-weaker (IsEarlier (calls_made k.m)) (λ (p : Placed). IsFalse (is_entry_of (suc (calls_made k.m)) p)) (λ p g. earlier (calls_made k.m) p g.2) k.placed h.placed
 
 -- the file of a call is one that is open
 pub open_file : (m : Machine) (x : Call) (file : ℕ) → file_of (m.clients only_client) x ≡ Some file → (fd : ℕ) × ((m.clients only_client).descriptors fd ≡ Some file)
@@ -91,6 +105,7 @@ module _ (k : Known) (s s' : ClientState) (x : Call) (clients : ℕ → Client) 
     past = λ c is. inl (let e = (w.current c is).0 in let f = was.call_count in omega arith);
     anew = λ number deadline c y is new until. absurd (no_call new.0 new.1);
     may_place = λ seq a y is known old. absurd (no_call old.0 old.1);
+    unplaced = λ c seq is st none. subst (HasNoEntry k.placed) (sym ((w.current c is).0 ∙ ap suc was.call_count)) (new_unplaced k h.machine);
     descriptors = λ fd file is. h.machine.descriptors fd file (ap (λ f. f fd) (sym w.descriptors) ∙ is);
     outcomes = λ oc file is there. absurd (let e : oc.outcomes ≡ [] = ap (λ (y : OpenCall). y.outcomes) (sym (w.call oc is)) in nothing_in (subst (λ os. Contains os (Opens file)) e there));
     asked = λ oc is.

@@ -21,8 +21,8 @@ use Rattle.cell_protocol.specs.declared.stage.CurrentCall.{CurrentCall}
 use Rattle.cell_protocol.specs.declared.observer.Placed.{Placed}
 use Rattle.cell_protocol.specs.Sending.{only_client}
 use Rattle.cell_protocol.specs.Client.{ClientState, answers}
-use Rattle.cell_protocol.specs.ClientAttempts.{new_call, attempts_names, asks}
-use Rattle.cell_refinement.specs.Known.{Known, Spot, Attempt, IsChunkCall, HasNoEntry, open_call_of, the_client_of, calls_made, chunk_of, call_id}
+use Rattle.cell_protocol.specs.ClientAttempts.{is_append, new_call, attempts_names, asks}
+use Rattle.cell_refinement.specs.Known.{Known, Spot, Attempt, IsChunkCall, HasNoEntry, IsFullBefore, open_call_of, the_client_of, calls_made, chunk_of, call_id}
 use Rattle.cell_refinement.specs.Says.{Says, IsNameOf}
 use Rattle.cell_refinement.specs.Simulates.{IsClient, FitsStage, IsCurrent, Holds}
 use Rattle.gfs_types.specs.declared.ids.Node.TheVariants.{Master}
@@ -35,27 +35,17 @@ use Rattle.cell_refinement.proofs.ClientSteps.{one, only_current, asked_says}
 use Rattle.cell_refinement.proofs.ClientEnds.{ClosesNone, descriptors_stay}
 use Rattle.cell_refinement.proofs.ClientParts.{none_tried, none_below}
 use Rattle.cell_refinement.proofs.ClientTold.{put_self, some_of}
-use Rattle.cell_refinement.proofs.ClientBegins.{counted_call, first_call, Begins, begins, open_file}
-
-earlier : (made : ℕ) (p : Placed) → p.call ≤ made → IsFalse (p.call == suc made)
-earlier made p l = ne_eqb p.call (suc made) (λ e. omega arith)
-
-abbrev IsEarlier : ℕ → Placed → Type 0
-IsEarlier made p = (p.numbering.version.0 ≡ 1) × (p.numbering.data_id.client.0 ≡ only_client) × (p.call ≤ made)
+use Rattle.cell_refinement.proofs.ClientBegins.{counted_call, first_call, Begins, begins, new_unplaced, open_file}
 
 module _ (k : Known) (s : ClientState) (x : Call) (up : k.client ≡ Some s) (idle : s.current ≡ None) (free : open_call_of k.m ≡ None) (sent : List Message) (trace : List Visible) (h : Holds k sent trace) where
   was : IsClient k s
   was = some_at k.client (IsClient k) s up h.client
 
-  -- no entry of the new call stands
-  new_unplaced : HasNoEntry k.placed (suc (calls_made k.m))
-  new_unplaced = All-weaker (IsEarlier (calls_made k.m)) (λ (p : Placed). IsFalse (p.call == suc (calls_made k.m))) (λ p g. earlier (calls_made k.m) p g.2) k.placed h.machine.placed
-
   new_untried : (at : Spot) → tries_in (call_id (suc (calls_made k.m))) (chunk_of k.m at) ≡ 0
   new_untried at =
       elim (h.machine.chunks at) [
         | inl empty ↦ ap (λ es. tries_in (call_id (suc (calls_made k.m))) (record (chunk_of k.m at) { order = es })) empty
-        | inr owned ↦ ap (λ es. tries_in (call_id (suc (calls_made k.m))) (record (chunk_of k.m at) { order = es })) (h.machine.owned owned.0 at owned.1).order ∙ none_tried k.placed owned.0 (suc (calls_made k.m)) new_unplaced
+        | inr owned ↦ ap (λ es. tries_in (call_id (suc (calls_made k.m))) (record (chunk_of k.m at) { order = es })) (h.machine.owned owned.0 at owned.1).order ∙ none_tried k.placed owned.0 (suc (calls_made k.m)) (new_unplaced k h.machine)
       ]
 
   abbrev pub after_call : Machine
@@ -171,24 +161,26 @@ module _ (k : Known) (s : ClientState) (x : Call) (up : k.client ≡ Some s) (id
   unused_now (Some a) is = let l = some_at k.client (λ (y : ClientState). suc s.number ≤ y.number) s up (h.machine.attempts (suc s.number) a is).1 in absurd (omega arith)
 
   -- a call on a chunk asks the master
-  pub asks_new_so : (file index : ℕ) → file_of (the_client_of k.m) x ≡ Some file → IsChunkCall k.config.chunk index x → ClientOutcome k (suc (calls_made k.m)) (asks (counted_call s) (new_call (counted_call s) x file index)) sent (trace ++ Called only_client x ∷ [])
-  asks_new_so file index is fits =
+  pub asks_new_so : (file index : ℕ) → file_of (the_client_of k.m) x ≡ Some file → IsChunkCall k.config.chunk index x → (IsTrue (is_append x) → index ≡ 0) → ClientOutcome k (suc (calls_made k.m)) (asks (counted_call s) (new_call (counted_call s) x file index)) sent (trace ++ Called only_client x ∷ [])
+  asks_new_so file index is fits first =
       let n : ℕ = suc s.number in
       let c : CurrentCall = call_at file index (stage.AskedWhere n) in
       let s' : ClientState = client_of n c in
       let l : Known = acting k after_call.clients k.attempts s' in
       let none : k.attempts n ≡ None = unused_now (k.attempts n) refl in
       let fd = open_file k.m x file is in
+      let full : IsTrue (is_append x) → IsFullBefore l file index = λ append. subst (IsFullBefore l file) (sym (first append)) tt in
       begins k s s' x after_call.clients up free sent trace h (begins_new n file index (stage.AskedWhere n) (omega arith) (λ m w b. let e : n ≡ m = w in omega arith)) _ None run_called
       (current_new n file index (stage.AskedWhere n) (
         record {
           file = is;
           fits = fits;
           before = (chunk_count k.m file, chunks_before file (file_of (the_client_of k.m) x) is, omega arith);
-          unplaced = subst (HasNoEntry k.placed) (sym (ap suc was.call_count)) new_unplaced;
+          unplaced = subst (HasNoEntry k.placed) (sym (ap suc was.call_count)) (new_unplaced k h.machine);
         },
         (omega arith, omega arith, none),
+        full,
       ))
       (one l _ (asked_says l s' c n (asked_now k.m only_client x) refl refl ((omega arith, omega arith), none)
       (ap (λ m. put (suc (calls_made k.m)) (Some (asked_now k.m only_client x)) (the_client_of k.m).calls (suc m)) was.call_count ∙ put_self (suc (calls_made k.m)) (Some (asked_now k.m only_client x)) (the_client_of k.m).calls)
-      is refl (h.machine.descriptors fd.0 file fd.1) x refl fits))
+      is refl (h.machine.descriptors fd.0 file fd.1) x refl fits full))

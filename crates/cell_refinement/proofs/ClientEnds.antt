@@ -78,6 +78,7 @@ module _ (k : Known) (s s' : ClientState) (c : CurrentCall) (oc : OpenCall) (cli
             | inr late ↦ inr (inl late)
           ]
         ];
+    unplaced = λ x seq is. absurd (no_current x is);
     descriptors = w.files;
     outcomes = λ x file is. absurd (no_call x is);
     asked = λ x is. absurd (no_call x is);

@@ -6,13 +6,14 @@ use Rattle.relaxed_file.specs.NameStep.{is_name_call}
 use Rattle.gfs_types.specs.declared.message.Message.{Message}
 use Rattle.relaxed_file.specs.Machine.{Machine, Client, OpenCall, Asked, Opens}
 use Rattle.relaxed_file.specs.Run.{IsRunTo, Visible}
+use Rattle.cell_protocol.specs.declared.stage.Stage.TheVariants as stage
 use Rattle.cell_protocol.specs.declared.stage.CurrentCall.{CurrentCall}
 use Rattle.cell_protocol.specs.Sending.{only_client}
 use Rattle.cell_protocol.specs.Seen.{Does}
 use Rattle.cell_protocol.specs.Client.{ClientState}
 use Rattle.cell_protocol.specs.Observer.{answered}
-use Rattle.cell_refinement.specs.Known.{Known, Attempt, IsAttempt, open_call_of, the_client_of, calls_made}
-use Rattle.cell_refinement.specs.Says.{Says, IsPast}
+use Rattle.cell_refinement.specs.Known.{Known, Attempt, IsAttempt, HasNoEntry, open_call_of, the_client_of, calls_made}
+use Rattle.cell_refinement.specs.Says.{Says, IsPast, IsUnplaced}
 use Rattle.cell_refinement.specs.Simulates.{AreInTurn, IsClient, FitsStage, IsOwnOrOver, IsCurrent, AreTheSame, Holds}
 use Rattle.cell_refinement.proofs.Later.{Grows, AreOver}
 use Rattle.cell_refinement.proofs.ClientActs.{acting, IsFresh, Acts, acts, some_at}
@@ -58,6 +59,7 @@ pub record Proceeds (k : Known) (s s' : ClientState) (c c' : CurrentCall) (attem
   pub numbers : s.number ≤ s'.number
   pub past : IsPast c.stage → IsPast c'.stage ⊎ AreOver k c.number
   pub fresh : IsFresh s c'.stage
+  pub unplaced : (seq : ℕ) → c'.stage ≡ stage.SentMutate seq → IsUnplaced k seq → HasNoEntry k.placed c'.number
   pub in_turn : AreInTurn k.attempts k.server → AreInTurn attempts k.server
   pub old_attempts : (seq : ℕ) (a : Attempt) → k.attempts seq ≡ Some a → attempts seq ≡ Some a
   pub no_attempts : (number : ℕ) → number ≤ s.number → k.attempts number ≡ None → attempts number ≡ None
@@ -93,6 +95,7 @@ module _ (k : Known) (s s' : ClientState) (c c' : CurrentCall) (oc oc' : OpenCal
     may_place = λ seq a x is known old.
         let e : oc ≡ old.0 = (let h : Some oc ≡ Some old.0 = sym at.call ∙ old.1 in cc) in
         inr (inr (oc', w.call, w.grows.number ∙ ap (λ (y : OpenCall). y.number) e ∙ old.2, old.3));
+    unplaced = λ x seq is st none. subst (λ (y : CurrentCall). HasNoEntry k.placed y.number) (same_current x is) (p.unplaced seq (ap (λ (y : CurrentCall). y.stage) (same_current x is) ∙ st) none);
     descriptors = λ fd file is. h.machine.descriptors fd file (ap (λ f. f fd) (sym w.descriptors) ∙ is);
     outcomes = λ x file is there. h.machine.outcomes oc file at.call (subst (λ os. Contains os (Opens file)) (ap (λ (y : OpenCall). y.outcomes) (sym (same_open x is)) ∙ w.outcomes) there);
     asked = λ x is.

@@ -1,7 +1,8 @@
 -- Each call of the client, as it is taken.
-use Rattle.std.proofs.Common.{◌≡◌, ℕ, suc, ◌/◌, ◌<◌, Bool, true, false, cond, List, [], ◌∷◌, ◌++◌, length, Option, Some, None, refl, sym, ap, ◌∙◌, subst, inl, inr, arith}
-use Rattle.std.specs.Prelude.{IfSome, IsSome, IsTrue, IsFalse, ◌==◌, ◌||◌, if◌then◌else◌}
+use Rattle.std.proofs.Common.{◌≡◌, ℕ, suc, ◌*◌, ◌/◌, ◌<◌, ◌≤◌, Bool, true, false, cond, List, [], ◌∷◌, ◌++◌, length, Option, Some, None, refl, sym, ap, ◌∙◌, subst, inl, inr, arith}
+use Rattle.std.specs.Prelude.{IfSome, nat_lt, IsSome, IsTrue, IsFalse, ◌==◌, ◌||◌, if◌then◌else◌}
 use Rattle.std.specs.FinMap as table
+use Rattle.std.proofs.Math.Nat.{div-mul-le_self}
 use Rattle.std.proofs.lemmas.Bool.{eqb-true}
 use Rattle.gfs_types.specs.declared.config.Config.{Config}
 use Rattle.gfs_types.specs.declared.call.Call.{Call}
@@ -41,6 +42,10 @@ neither false false e = (refl, refl)
 not_zero : (n : ℕ) → (n == 0) ≡ false → 0 < n
 not_zero n e = grind (arith, e)
 
+-- a record that isn't longer than a quarter of a chunk
+within_quarter : (size n : ℕ) → nat_lt (size / 4) n ≡ false → 4 * n ≤ size
+within_quarter size n e = let l : n ≤ size / 4 = grind (arith, e) in let m : size / 4 * 4 ≤ size = div-mul-le_self size 4 in omega arith
+
 served_closes : (x : Call) → IsTrue (is_served x) → ClosesNone x
 served_closes (call.Mkdir p) h = inl refl
 served_closes (call.Create p) h = inl refl
@@ -48,6 +53,7 @@ served_closes (call.Open p) h = inl refl
 served_closes (call.List p) h = inl refl
 served_closes (call.Write fd offset bytes) h = inr refl
 served_closes (call.Read fd offset count) h = inr refl
+served_closes (call.Append fd bytes) h = inr refl
 served_closes (call.Length fd) h = inr refl
 served_closes other h = absurd (let e : false ≡ true = h in cc)
 
@@ -86,7 +92,7 @@ module _ (k : Known) (s : ClientState) (up : k.client ≡ Some s) (idle : s.curr
         good.0,
       ) (inr refl))
       (λ z. asks_new_so k s y up idle free sent trace h file (offset / s.config.chunk) on
-      (subst (λ (g : Config). IsInChunk g.chunk (offset / s.config.chunk) offset (length bytes)) was.config (refl, good.0, good.1, not_zero (length bytes) z))))
+      (subst (λ (g : Config). IsInChunk g.chunk (offset / s.config.chunk) offset (length bytes)) was.config (refl, good.0, good.1, not_zero (length bytes) z)) (λ append. absurd (let e : false ≡ true = append in cc))))
 
   reads_so : (x : Call) (o : Option ℕ) → file_of (the_client_of k.m) x ≡ o → (fd : Fd) (offset count : ℕ) → x ≡ call.Read fd offset count
       → ClientOutcome k (suc (calls_made k.m)) (calls_on (counted_call s) (call.Read fd offset count) o) sent (trace ++ Called only_client (call.Read fd offset count) ∷ [])
@@ -102,12 +108,22 @@ module _ (k : Known) (s : ClientState) (up : k.client ≡ Some s) (idle : s.curr
       (λ z. at_once_so k s y up idle free sent trace h (answer.Bytes [] [])
       (file, on, [], ap (λ n. has_part k.m.config.chunk offset n (offset / k.m.config.chunk)) (eqb-true count 0 z) ∙ empty_part k.m.config.chunk offset (offset / k.m.config.chunk), refl, refl, good.0) (inr refl))
       (λ z. asks_new_so k s y up idle free sent trace h file (offset / s.config.chunk) on
-      (subst (λ (g : Config). IsInChunk g.chunk (offset / s.config.chunk) offset count) was.config (refl, good.0, good.1, not_zero count z))))
+      (subst (λ (g : Config). IsInChunk g.chunk (offset / s.config.chunk) offset count) was.config (refl, good.0, good.1, not_zero count z)) (λ append. absurd (let e : false ≡ true = append in cc))))
 
   lengths_so : (x : Call) (o : Option ℕ) → file_of (the_client_of k.m) x ≡ o → (fd : Fd) → x ≡ call.Length fd
       → ClientOutcome k (suc (calls_made k.m)) (calls_on (counted_call s) (call.Length fd) o) sent (trace ++ Called only_client (call.Length fd) ∷ [])
   lengths_so x None is fd same = bad_fd_so k s (call.Length fd) up idle free sent trace h refl (ap (file_of (the_client_of k.m)) (sym same) ∙ is) (inr refl)
-  lengths_so x (Some file) is fd same = asks_new_so k s (call.Length fd) up idle free sent trace h file 0 (ap (file_of (the_client_of k.m)) (sym same) ∙ is) refl
+  lengths_so x (Some file) is fd same = asks_new_so k s (call.Length fd) up idle free sent trace h file 0 (ap (file_of (the_client_of k.m)) (sym same) ∙ is) refl (λ append. refl)
+
+  appends_so : (x : Call) (o : Option ℕ) → file_of (the_client_of k.m) x ≡ o → (fd : Fd) (bytes : List ℕ) → x ≡ call.Append fd bytes
+      → ClientOutcome k (suc (calls_made k.m)) (calls_on (counted_call s) (call.Append fd bytes) o) sent (trace ++ Called only_client (call.Append fd bytes) ∷ [])
+  appends_so x None is fd bytes same = bad_fd_so k s (call.Append fd bytes) up idle free sent trace h refl (ap (file_of (the_client_of k.m)) (sym same) ∙ is) (inr refl)
+  appends_so x (Some file) is fd bytes same =
+      let y : Call = call.Append fd bytes in
+      let on : file_of (the_client_of k.m) y ≡ Some file = ap (file_of (the_client_of k.m)) (sym same) ∙ is in
+      by_test y (nat_lt (s.config.chunk / 4) (length bytes)) _ _
+      (λ e. too_long_so k s y up idle free sent trace h file on (ap (λ (g : Config). nat_lt (g.chunk / 4) (length bytes)) same_config ∙ e) (inr refl))
+      (λ e. asks_new_so k s y up idle free sent trace h file 0 on (subst (λ (g : Config). 4 * length bytes ≤ g.chunk) was.config (within_quarter s.config.chunk (length bytes) e)) (λ append. refl))
 
   -- A call that is served keeps all.
   pub calls_so : (x : Call) → IsTrue (is_served x) → ClientOutcome k (suc (calls_made k.m)) (calls (counted_call s) x) sent (trace ++ Called only_client x ∷ [])
@@ -117,6 +133,7 @@ module _ (k : Known) (s : ClientState) (up : k.client ≡ Some s) (idle : s.curr
   calls_so (call.List p) served = name_so k s (call.List p) up idle free sent trace h refl
   calls_so (call.Write fd offset bytes) served = writes_so (call.Write fd offset bytes) (table.get s.descriptors fd.0) (sym (was.descriptors fd.0)) fd offset bytes refl
   calls_so (call.Read fd offset count) served = reads_so (call.Read fd offset count) (table.get s.descriptors fd.0) (sym (was.descriptors fd.0)) fd offset count refl
+  calls_so (call.Append fd bytes) served = appends_so (call.Append fd bytes) (table.get s.descriptors fd.0) (sym (was.descriptors fd.0)) fd bytes refl
   calls_so (call.Length fd) served = lengths_so (call.Length fd) (table.get s.descriptors fd.0) (sym (was.descriptors fd.0)) fd refl
   calls_so other served = absurd (let e : false ≡ true = served in cc)
 
