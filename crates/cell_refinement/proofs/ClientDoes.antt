@@ -26,18 +26,18 @@ use Rattle.cell_protocol.specs.Tables.{number_limit}
 use Rattle.cell_protocol.specs.Sending.{only_client, the_server}
 use Rattle.cell_protocol.specs.Seen.{Does, stays}
 use Rattle.cell_protocol.specs.Client.{ClientState, goes_on}
-use Rattle.cell_protocol.specs.ClientAttempts.{is_write, target_of, place_in_chunk, refuses_live}
-use Rattle.cell_protocol.specs.ClientTakes.{takes_named, takes_wait, told_location, told, takes_told, is_own_data, takes_pushed, takes_done, takes_bytes, tells_length, takes_len_is, takes_refused, client_takes}
+use Rattle.cell_protocol.specs.ClientAttempts.{is_append, is_mutating, target_of, refuses_live}
+use Rattle.cell_protocol.specs.ClientTakes.{takes_named, takes_wait, told_location, told, takes_told, is_own_data, takes_pushed, tells_offset, succeeds, takes_done, takes_bytes, tells_length, takes_len_is, takes_refused, client_takes}
 use Rattle.cell_protocol.specs.ClientStep.{ticks_unanswered, ticks_at, takes_at, client_does}
 use Rattle.cell_refinement.specs.Known.{Known, Attempt, IsAttempt, IsChunkCall, HasNoEntry, open_call_of, the_client_of, calls_made}
-use Rattle.cell_refinement.specs.Says.{Says, SaysBody, SaysNamed, SaysTold, SaysDone, SaysBytes, SaysLenIs, SaysRefused, IsGranted, IsGrantedLast, IsPast, MayComeTo}
+use Rattle.cell_refinement.specs.Says.{Says, SaysBody, SaysNamed, SaysTold, SaysDone, SaysBytes, SaysLenIs, SaysRefused, IsGranted, IsGrantedLast, names_its_chunk, IsPast, MayComeTo}
 use Rattle.cell_refinement.specs.Simulates.{IsClient, IsAsking, IsAttemptOf, HasAttempt, FitsStage, AreTheSame, Holds}
 use Rattle.cell_refinement.proofs.ClientActs.{acting, some_at}
 use Rattle.cell_refinement.proofs.ClientGoes.{ClientOutcome, IsAt}
 use Rattle.cell_refinement.proofs.ClientSteps.{old, staged, at_stage, one, only_current, moves, stays_so, waits_so, asks_so}
 use Rattle.cell_refinement.proofs.ClientAnswers.{gives_up_so, names_end_so, refuses_live_so, answers_so, opens_so}
-use Rattle.cell_refinement.proofs.ClientTaken.{chunk_write, write_chunk, read_chunk, length_chunk, write_no_length, done_so, bytes_so, length_so, ask_refused_so, read_refused_so, length_refused_so, attempt_refused_so}
-use Rattle.cell_refinement.proofs.ClientTold.{reads_nothing_so, measures_nothing_so, reads_so, measures_so, pushes_so, place_of, some_of}
+use Rattle.cell_refinement.proofs.ClientTaken.{chunk_mutation, mutation_chunk, chunk_read, read_chunk, length_chunk, done_so, appended_so, bytes_so, length_so, ask_refused_so, read_refused_so, length_refused_so, attempt_refused_so}
+use Rattle.cell_refinement.proofs.ClientTold.{reads_nothing_so, measures_nothing_so, reads_so, measures_so, pushes_so, target_is, read_names, some_of}
 
 -- what comes was said
 abbrev pub SaysInput : Known → Input → Type 0
@@ -78,10 +78,10 @@ module _ (k : Known) (s : ClientState) (c : CurrentCall) (oc : OpenCall) (at : I
       let made = h.machine.asked oc at.call in
       let number_is : oc.number ≡ a.call = at.is.number_is ∙ sym own.call in
       let asked_is : attempt.asked ≡ oc.asked = (let g : Some attempt.asked ≡ Some oc.asked = sym attempt.made ∙ ap (the_client_of k.m).calls (sym number_is) ∙ made.0 in cc) in
-      let place : place_in_chunk s.config.chunk c.asked ≡ a.place =
-      ap (λ (z : Config). place_in_chunk z.chunk c.asked) (old k s c oc at sent trace h).config ∙ ap (place_in_chunk k.config.chunk) (sym at.is.asked ∙ ap (λ (y : Asked). y.call) (sym asked_is)) ∙ place_of k.config.chunk a attempt.at attempt.asked.call attempt.fits in
-      moves k s c oc at sent trace h s.number st c.is_nobody_told _ (omega arith) (λ p. tt) (λ m w b. absurd w)
-      (asking.file, chunk_write k.config.chunk c.index c.asked asking.fits fits.2, fits.1.noted, a, record { known = own.known; call = own.call; owner = own.owner; deadline = own.deadline })
+      let to_place : target_of s.config.chunk c.asked ≡ a.target =
+      ap (λ (z : Config). target_of z.chunk c.asked) (old k s c oc at sent trace h).config ∙ ap (target_of k.config.chunk) (sym at.is.asked ∙ ap (λ (y : Asked). y.call) (sym asked_is)) ∙ target_is k.config.chunk a attempt.at attempt.asked.call attempt.fits in
+      moves k s c oc at sent trace h s.number st c.is_nobody_told _ (omega arith) (λ p. tt) (λ m w b. absurd w) (λ seq e. asking.unplaced)
+      (asking.file, chunk_mutation k.config.chunk c.index c.asked asking.fits fits.2, fits.1.noted, fits.1.there, asking.before, a, record { known = own.known; call = own.call; owner = own.owner; deadline = own.deadline })
       (λ seq mine. subst (λ y. HasAttempt y seq) is mine)
       (one x _ (
         let e = fits.3 in omega arith,
@@ -90,7 +90,7 @@ module _ (k : Known) (s : ClientState) (c : CurrentCall) (oc : OpenCall) (at : I
         known,
         sym (fits.6),
         sym own.deadline,
-        place,
+        to_place,
         (λ s'' c'' up' current' same'. inl (only_current x s' (staged c st c.is_nobody_told) (λ y. IsPast y.stage) refl refl tt s'' c'' up' current')),
         attempt.number,
         some_of k.server (MayComeTo x id.seq a) (λ y up. inr (inr (oc, at.call, number_is, subst (HasNoEntry k.placed) (sym own.call) asking.unplaced))),
@@ -115,33 +115,45 @@ module _ (k : Known) (s : ClientState) (c : CurrentCall) (oc : OpenCall) (at : I
 
   wait_so : (st : Stage) → c.stage ≡ st → (number : ℕ) → ClientOutcome k (calls_made k.m) (takes_wait s c st number) sent trace
   wait_so (stage.AskedWhere asked) is number = by_test (number == asked) _ _
-      (λ e. waits_so k s c oc at sent trace h false (fits_at (stage.AskedWhere asked) is).0 (early_at (stage.AskedWhere asked) is (λ p. p)) (no_attempt_at (stage.AskedWhere asked) is (λ seq own. own))) (λ e. stay)
+      (λ e. waits_so k s c oc at sent trace h false (fits_at (stage.AskedWhere asked) is).0 (fits_at (stage.AskedWhere asked) is).2 (early_at (stage.AskedWhere asked) is (λ p. p)) (no_attempt_at (stage.AskedWhere asked) is (λ seq own. own))) (λ e. stay)
   wait_so other is number = stay
 
   location_so : (number : ℕ) → c.stage ≡ stage.AskedWhere number → (l : Location) (holders : List Holder)
-      → (IsFalse (is_length_call c.asked) → IsGranted k c.file.0 c.index oc l holders) → (IsTrue (is_length_call c.asked) → IsGrantedLast k c.file.0 oc l holders) → ClientOutcome k (calls_made k.m) (told_location s c l holders) sent trace
-  location_so number is l [] g last = waits_so k s c oc at sent trace h true (fits_at (stage.AskedWhere number) is).0 (early_at (stage.AskedWhere number) is (λ p. p)) (no_attempt_at (stage.AskedWhere number) is (λ seq own. own))
-  location_so number is l (holder ∷ rest) g last = by_test (is_write c.asked) _ _
-      (λ e. let here = g (write_no_length c.asked e) in pushes_so k s c oc at sent trace h number is l holder rest here l.group here.3 e)
+      → IsGranted k c.file.0 l.index oc l holders → (IsTrue (names_its_chunk c.asked) → l.index ≡ c.index) → (IsTrue (is_length_call c.asked) → IsGrantedLast l.index oc holders) → ClientOutcome k (calls_made k.m) (told_location s c l holders) sent trace
+  location_so number is l [] g named last =
+      let fits : FitsStage k s c oc (stage.AskedWhere number) = fits_at (stage.AskedWhere number) is in
+      waits_so k s c oc at sent trace h true fits.0 fits.2 (early_at (stage.AskedWhere number) is (λ p. p)) (no_attempt_at (stage.AskedWhere number) is (λ seq own. own))
+  location_so number is l (holder ∷ rest) g named last = by_test (is_mutating c.asked) _ _
+      (λ e. pushes_so k s c oc at sent trace h number is l holder rest g named l.group g.3 e)
       (λ e. by_test (is_length_call c.asked) _ _
-      (λ f. measures_so k s c oc at sent trace h number is l holder rest (last f) f)
-      (λ f. reads_so k s c oc at sent trace h number is l holder rest (g f) e f))
+      (λ f. measures_so k s c oc at sent trace h number is l holder rest g (last f) f)
+      (λ f. let names : IsTrue (names_its_chunk c.asked) = read_names k.config.chunk c.index c.asked (chunk_read k.config.chunk c.index c.asked (fits_at (stage.AskedWhere number) is).0.fits e f) in
+      reads_so k s c oc at sent trace h number is l holder rest (subst (λ n. IsGranted k c.file.0 n oc l (holder ∷ rest)) (named names) g) e f))
 
   told_so : (number : ℕ) → c.stage ≡ stage.AskedWhere number → (o : Option Location) → SaysTold k number o → ClientOutcome k (calls_made k.m) (told s c o) sent trace
-  told_so number is None said = by_test (is_write c.asked) _ _ (λ e. stay) (λ e. by_test (is_length_call c.asked) _ _
+  told_so number is None said = by_test (is_mutating c.asked) _ _ (λ e. stay) (λ e. by_test (is_length_call c.asked) _ _
       (λ f. measures_nothing_so k s c oc at sent trace h number is f (said.1 s c oc at.up at.current is at.call))
       (λ f. reads_nothing_so k s c oc at sent trace h number is e f (said.1 s c oc at.up at.current is at.call)))
-  told_so number is (Some l) said = let to = said.1 s c oc at.up at.current is at.call in location_so number is l l.holders to.0 to.1
+  told_so number is (Some l) said = let to = said.1 s c oc at.up at.current is at.call in location_so number is l l.holders to.0 to.1 to.2
 
   told_at_so : (st : Stage) → c.stage ≡ st → (number : ℕ) (o : Option Location) → SaysTold k number o → ClientOutcome k (calls_made k.m) (takes_told s c st number o) sent trace
   told_at_so (stage.AskedWhere asked) is number o said = by_test (number == asked) _ _
       (λ e. told_so number (is ∙ ap stage.AskedWhere (sym (eqb-true number asked e))) o said) (λ e. stay)
   told_at_so other is number o said = stay
 
-  done_at_so : (st : Stage) → c.stage ≡ st → (id : DataId) → SaysDone k id → ClientOutcome k (calls_made k.m) (takes_done s c st id) sent trace
-  done_at_so (stage.SentMutate number) is id said = by_test (is_own_data id number) _ _
-      (λ e. done_so k s c oc at sent trace h number id is (eqb-true id.seq number (both_are (id.client.0 == only_client) (id.seq == number) e).1) said) (λ e. stay)
-  done_at_so other is id said = stay
+  -- an answered offset is within what a number holds
+  offset_so : (number : ℕ) (id : DataId) (place : ℕ) → c.stage ≡ stage.SentMutate number → id.seq ≡ number → SaysDone k id place → IsTrue (is_append c.asked)
+      → ClientOutcome k (calls_made k.m) (tells_offset s (c.index * s.config.chunk + place)) sent trace
+  offset_so number id place is own said append = subst (λ (z : Config). ClientOutcome k (calls_made k.m) (tells_offset s (c.index * z.chunk + place)) sent trace) (sym (old k s c oc at sent trace h).config)
+      (by_test (nat_lt (c.index * k.config.chunk + place) number_limit) _ _ (λ e. appended_so k s c oc at sent trace h number id place is own said append) (λ e. stay))
+
+  succeeds_so : (number : ℕ) (id : DataId) (place : ℕ) → c.stage ≡ stage.SentMutate number → id.seq ≡ number → SaysDone k id place → ClientOutcome k (calls_made k.m) (succeeds s c place) sent trace
+  succeeds_so number id place is own said = by_test (is_append c.asked) _ _ (λ e. offset_so number id place is own said e) (λ e. done_so k s c oc at sent trace h number id place is own said e)
+
+  done_at_so : (st : Stage) → c.stage ≡ st → (id : DataId) (place : ℕ) → SaysDone k id place → ClientOutcome k (calls_made k.m) (takes_done s c st id place) sent trace
+  done_at_so (stage.SentMutate number) is id place said = by_test (is_own_data id number) _ _
+      (λ e. succeeds_so number id place is (eqb-true id.seq number (both_are (id.client.0 == only_client) (id.seq == number) e).1) said) (λ e. stay)
+  done_at_so other is id place said = stay
 
   bytes_at_so : (st : Stage) → c.stage ≡ st → (number : ℕ) (bytes : List ℕ) → SaysBytes k number bytes → ClientOutcome k (calls_made k.m) (takes_bytes s c st number bytes) sent trace
   bytes_at_so (stage.SentRead to asked) is number bytes said = by_test (number == asked) _ _
@@ -173,7 +185,7 @@ module _ (k : Known) (s : ClientState) (c : CurrentCall) (oc : OpenCall) (at : I
   takes_body (body.Wait number) said = wait_so c.stage refl number
   takes_body (body.Refused number refusal) said = refused_so c.stage refl number refusal said
   takes_body (body.Pushed id) said = pushed_so c.stage refl id
-  takes_body (body.Done id place) said = done_at_so c.stage refl id said
+  takes_body (body.Done id place) said = done_at_so c.stage refl id place said
   takes_body (body.Bytes number bytes) said = bytes_at_so c.stage refl number bytes said
   takes_body (body.LenIs number count) said = len_is_so c.stage refl number count said
   takes_body other said = stay
@@ -194,11 +206,11 @@ module _ (k : Known) (s : ClientState) (c : CurrentCall) (oc : OpenCall) (at : I
   ticks_so stage.AskedNames is = by_test (nat_lt s.now c.ends.0) _ _ (λ e. stay) (λ e. names_end_so k s c oc at sent trace h (fits_at stage.AskedNames is) (let l : c.ends.0 ≤ s.now = grind (arith, e) in l))
   ticks_so (stage.MustRefuse refusal) is = must_so refusal is
   ticks_so stage.MustAskAgain is = by_test (nat_lt s.now c.deadline.0) _ _
-      (λ e. asks_so k s c oc at sent trace h (fits_at stage.MustAskAgain is) (early_at stage.MustAskAgain is (λ p. p)) (no_attempt_at stage.MustAskAgain is (λ seq own. own)))
-      (λ e. unanswered_so c.index (fits_at stage.MustAskAgain is).fits)
+      (λ e. asks_so k s c oc at sent trace h (fits_at stage.MustAskAgain is).0 (fits_at stage.MustAskAgain is).1 (early_at stage.MustAskAgain is (λ p. p)) (no_attempt_at stage.MustAskAgain is (λ seq own. own)))
+      (λ e. unanswered_so c.index (fits_at stage.MustAskAgain is).0.fits)
   ticks_so (stage.AskedWhere number) is = unanswered_so c.index (fits_at (stage.AskedWhere number) is).0.fits
   ticks_so (stage.SentData to number) is = unanswered_so c.index (fits_at (stage.SentData to number) is).0.fits
-  ticks_so (stage.SentMutate number) is = unanswered_so c.index (write_chunk k.config.chunk c.index c.asked (fits_at (stage.SentMutate number) is).1)
+  ticks_so (stage.SentMutate number) is = unanswered_so c.index (mutation_chunk k.config.chunk c.index c.asked (fits_at (stage.SentMutate number) is).1)
   ticks_so (stage.SentRead to number) is = unanswered_so c.index (read_chunk k.config.chunk c.index c.asked (fits_at (stage.SentRead to number) is).1)
   ticks_so (stage.SentLength to number) is = unanswered_so 0 (length_chunk k.config.chunk c.asked (fits_at (stage.SentLength to number) is).1)
 

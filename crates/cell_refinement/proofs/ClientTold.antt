@@ -1,5 +1,5 @@
 -- The client is told of a chunk: it notes the round, and sends its data or asks to read; or there is no such chunk.
-use Rattle.std.proofs.Common.{◌≡◌, ℕ, suc, ◌<◌, ◌≤◌, true, false, cond, List, [], ◌∷◌, Option, Some, None, refl, sym, ap, ◌∙◌, subst, inl, inr, arith, append-nil}
+use Rattle.std.proofs.Common.{◌≡◌, ℕ, suc, ◌<◌, ◌≤◌, length, true, false, cond, List, [], ◌∷◌, Option, Some, None, refl, sym, ap, ◌∙◌, subst, inl, inr, arith, append-nil}
 use Rattle.std.specs.Prelude.{Contains, IfSome, IsTrue, IsFalse, ◌⊎◌, ◌==◌, option_map}
 use Rattle.std.proofs.lemmas.Bool.{eq-eqb, eqb-true}
 use Rattle.std.proofs.lemmas.List.Elements.{Contains-append_right}
@@ -22,18 +22,18 @@ use Rattle.cell_protocol.specs.declared.stage.ToldChunk.{ToldChunk}
 use Rattle.cell_protocol.specs.Sending.{only_client, only_server}
 use Rattle.cell_protocol.specs.Server.{ServerState}
 use Rattle.cell_protocol.specs.Client.{ClientState, answers}
-use Rattle.cell_protocol.specs.ClientAttempts.{is_write, pushes, reads_at, measures_at, told_at, at_told, bytes_to_send, place_in_chunk, count_to_read}
+use Rattle.cell_protocol.specs.ClientAttempts.{is_append, is_mutating, pushes, reads_at, measures_at, told_at, at_told, bytes_to_send, target_of, place_in_chunk, count_to_read}
 use Rattle.cell_protocol.specs.ClientTakes.{told_nobody}
-use Rattle.cell_refinement.specs.Known.{Known, Spot, Attempt, IsAttempt, IsWriteOf, IsReadOf, IsMutationOf, the_client_of, calls_made}
-use Rattle.cell_refinement.specs.Says.{IsGranted, IsGrantedLast, IsPast, IsOver}
+use Rattle.cell_refinement.specs.Known.{Known, Spot, Attempt, IsAttempt, IsInChunk, IsChunkCall, IsReadOf, IsMutationOf, the_client_of, calls_made}
+use Rattle.cell_refinement.specs.Says.{IsGranted, IsLastOffered, names_its_chunk, IsPast, IsOver}
 use Rattle.cell_refinement.specs.Simulates.{AreInTurn, IsAsking, IsToldAt, HasAttempt, FitsStage, Holds}
 use Rattle.cell_refinement.proofs.ClientActs.{acting, IsFresh}
 use Rattle.cell_refinement.proofs.ClientGoes.{ClientOutcome, IsAt, Learns, Proceeds, goes}
-use Rattle.cell_refinement.proofs.ClientSteps.{old, staged, at_stage, one, only_current, unused, attempt_number, attempt_acting, asking_acting, proceeds, waits_so}
+use Rattle.cell_refinement.proofs.ClientSteps.{old, staged, at_stage, one, only_current, unused, attempt_number, attempt_acting, proceeds, waits_so}
 use Rattle.cell_refinement.proofs.ClientEnds.{learned, returns_after}
 use Rattle.cell_refinement.proofs.ClientAnswers.{chunk_uses}
 use Rattle.cell_refinement.proofs.ClientParts.{read_done}
-use Rattle.cell_refinement.proofs.ClientTaken.{asked_of, none_of_asked, chunk_write, chunk_read, chunk_length, length_done}
+use Rattle.cell_refinement.proofs.ClientTaken.{asked_of, none_of_asked, chunk_read, chunk_length, length_done}
 
 pub some_of : {S : Type 0} (o : Option S) (P : S → Type 0) → ((s : S) → o ≡ Some s → P s) → IfSome o P
 some_of None P h = tt
@@ -50,15 +50,27 @@ put_other k v t q other = elim (q == k) as (λ b. (q == k) ≡ b → cond b v (t
 
 -- the attempt that begins when the data are sent
 abbrev pub attempt_of : ClientState → CurrentCall → Location → Attempt
-attempt_of s c l = record { call = c.number; handle = l.handle.0; place = place_in_chunk s.config.chunk c.asked; bytes = bytes_to_send c.asked; deadline = c.deadline.0 }
+attempt_of s c l = record { call = c.number; handle = l.handle.0; target = target_of s.config.chunk c.asked; bytes = bytes_to_send c.asked; deadline = c.deadline.0 }
 
-mutation_of : (size : ℕ) (a : Attempt) (at : Spot) (x : Call) → IsWriteOf size at.index x → a.place ≡ place_in_chunk size x → a.bytes ≡ bytes_to_send x → IsMutationOf size a at x
-mutation_of size a at (call.Write fd offset bytes) h place same = (h, place, same)
-mutation_of size a at other h place same = absurd h
+mutation_of : (size : ℕ) (a : Attempt) (at : Spot) (x : Call) → IsChunkCall size at.index x → IsTrue (is_mutating x) → a.target ≡ target_of size x → a.bytes ≡ bytes_to_send x → IsMutationOf size a at x
+mutation_of size a at (call.Write fd offset bytes) h w there same = (h, there, same)
+mutation_of size a at (call.Append fd bytes) h w there same = (h, there, same)
+mutation_of size a at other h w there same = absurd (let e : false ≡ true = w in cc)
 
-pub place_of : (size : ℕ) (a : Attempt) (at : Spot) (x : Call) → IsMutationOf size a at x → place_in_chunk size x ≡ a.place
-place_of size a at (call.Write fd offset bytes) h = sym h.1
-place_of size a at other h = absurd h
+pub target_is : (size : ℕ) (a : Attempt) (at : Spot) (x : Call) → IsMutationOf size a at x → target_of size x ≡ a.target
+target_is size a at (call.Write fd offset bytes) h = sym h.1
+target_is size a at (call.Append fd bytes) h = sym h.1
+target_is size a at other h = absurd h
+
+-- the chunk that was told is one that the call asks for
+told_fits : (size index to : ℕ) (x : Call) → IsChunkCall size index x → IsTrue (is_mutating x) → (IsTrue (names_its_chunk x) → to ≡ index) → IsChunkCall size to x
+told_fits size index to (call.Write fd offset bytes) h w same = subst (λ n. IsInChunk size n offset (length bytes)) (sym (same refl)) h
+told_fits size index to (call.Append fd bytes) h w same = h
+told_fits size index to other h w same = absurd (let e : false ≡ true = w in cc)
+
+pub read_names : (size index : ℕ) (x : Call) → IsReadOf size index x → IsTrue (names_its_chunk x)
+read_names size index (call.Read fd offset count) h = refl
+read_names size index other h = absurd h
 
 -- a call gets an attempt, where each one before it is over
 in_turn_put : (n : ℕ) (a : Attempt) (t : ℕ → Option Attempt) (server : Option ServerState) → ((seq : ℕ) (b : Attempt) → t seq ≡ Some b → (seq < n) × (b.call ≡ a.call → IfSome server (IsOver seq b)))
@@ -117,7 +129,7 @@ module _ (k : Known) (s : ClientState) (c : CurrentCall) (oc : OpenCall) (at : I
     notes = h.machine.notes;
   }
 
-  pub reads_nothing_so : IsFalse (is_write c.asked) → IsFalse (is_length_call c.asked) → Contains oc.offers (NoSuchChunk c.index) → ClientOutcome k (calls_made k.m) (answers s (answer.Bytes [] [])) sent trace
+  pub reads_nothing_so : IsFalse (is_mutating c.asked) → IsFalse (is_length_call c.asked) → Contains oc.offers (NoSuchChunk c.index) → ClientOutcome k (calls_made k.m) (answers s (answer.Bytes [] [])) sent trace
   reads_nothing_so read long offer =
       returns_after k s c oc past_call past_clients at learns_past (none_of_asked k s c oc at sent trace h number is asking.fits) (answer.Bytes [] []) sent trace h
       (subst (λ t. IsRunTo k.config t (learned k past_clients)) (append-nil trace) (runs_go_on k.config trace k.m (LookPast only_client c.index) h.run (oc, at.call, offer)))
@@ -194,8 +206,10 @@ module _ (k : Known) (s : ClientState) (c : CurrentCall) (oc : OpenCall) (at : I
       (oc, at.call, (asking.file, g.5.1, some_of ((the_client_of k.m).notes c.file.0 index) (λ before. before ≤ 1) (λ before e. h.machine.notes c.file.0 index before e))))
 
   -- the call goes to the chunk that was told
-  proceeds_at : (l : Location) (n : ℕ) (st : Stage) → s.number ≤ n → IsFresh s st → Proceeds k s (at_stage s n (at_told c l) st false) c (staged (at_told c l) st false) k.attempts
-  proceeds_at l n st more fresh = record {
+  proceeds_at : (l : Location) (n : ℕ) (st : Stage) (attempts : ℕ → Option Attempt) → s.number ≤ n → IsFresh s st → ((seq : ℕ) → st ≡ stage.SentMutate seq → ⊥)
+      → ((seq : ℕ) (a : Attempt) → k.attempts seq ≡ Some a → attempts seq ≡ Some a) → ((m : ℕ) → m ≤ s.number → k.attempts m ≡ None → attempts m ≡ None) → (AreInTurn k.attempts k.server → AreInTurn attempts k.server)
+      → Proceeds k s (at_stage s n (at_told c l) st false) c (staged (at_told c l) st false) attempts
+  proceeds_at l n st attempts more fresh other olds none turn = record {
     config = refl;
     now = refl;
     call_count = refl;
@@ -209,15 +223,16 @@ module _ (k : Known) (s : ClientState) (c : CurrentCall) (oc : OpenCall) (at : I
     numbers = more;
     past = λ p. absurd (early p);
     fresh = fresh;
-    old_attempts = λ seq a e. e;
-    no_attempts = λ m used e. e;
-    in_turn = λ u. u;
+    unplaced = λ seq e old. absurd (other seq e);
+    old_attempts = olds;
+    no_attempts = none;
+    in_turn = turn;
   }
 
   -- a length asks the server
-  pub measures_so : (l : Location) (holder : Holder) (rest : List Holder) → IsGrantedLast k c.file.0 oc l (holder ∷ rest) → IsTrue (is_length_call c.asked)
+  pub measures_so : (l : Location) (holder : Holder) (rest : List Holder) → IsGranted k c.file.0 l.index oc l (holder ∷ rest) → IsLastOffered oc l.index → IsTrue (is_length_call c.asked)
       → ClientOutcome k (calls_made k.m) (measures_at s (told_nobody c false) l holder) sent trace
-  measures_so l holder rest last long =
+  measures_so l holder rest g last long =
       let n : ℕ = suc s.number in
       let to : ToldChunk = told_at l holder.server.0 in
       let st : Stage = stage.SentLength to n in
@@ -225,13 +240,12 @@ module _ (k : Known) (s : ClientState) (c : CurrentCall) (oc : OpenCall) (at : I
       let c' : CurrentCall = staged (at_told c l) st false in
       let s' : ClientState = at_stage s n (at_told c l) st false in
       let x : Known = acting k clients k.attempts s' in
-      let g = last.0 in
       let none : k.attempts n ≡ None = unused k s c oc at sent trace h n (omega arith) in
       goes k s s' c c' oc noted_call clients k.attempts at (learns_note l.index)
-      (proceeds_at l n st (omega arith) (λ m w b. let e : n ≡ m = w in absurd (omega arith)))
+      (proceeds_at l n st k.attempts (omega arith) (λ m w b. let e : n ≡ m = w in absurd (omega arith)) (λ seq e. let both : stage.SentLength to n ≡ stage.SentMutate seq = e in cc) (λ seq a e. e) (λ m used e. e) (λ u. u))
       sent _ trace h (run_noted l.index l holder rest g)
       (λ seq a e. (attempt_acting k s c oc at sent trace h clients k.attempts s' noted_call (learns_note l.index) a (h.machine.attempts seq a e).0, let b = attempt_number k s c oc at sent trace h seq a e in omega arith))
-      (asking.file, long, record { owner = g.4; round = g.0; server = g.1; noted = note_is l.index; there = g.6 }, (omega arith, omega arith, none), last.1)
+      (asking.file, long, record { owner = g.4; round = g.0; server = g.1; noted = note_is l.index; there = g.6 }, (omega arith, omega arith, none), last)
       (λ seq a e same. ((at.is.attempts seq a e same).0, inr (over_before seq a e same)))
       (one x _ (
         ((omega arith, omega arith), none),
@@ -246,7 +260,7 @@ module _ (k : Known) (s : ClientState) (c : CurrentCall) (oc : OpenCall) (at : I
     told_there attempts s' st server same = record { owner = g.4; round = g.0; server = same; noted = note_is c.index; there = g.6 }
 
     -- a read asks the server
-    pub reads_so : IsFalse (is_write c.asked) → IsFalse (is_length_call c.asked) → ClientOutcome k (calls_made k.m) (reads_at s (told_nobody c false) l holder) sent trace
+    pub reads_so : IsFalse (is_mutating c.asked) → IsFalse (is_length_call c.asked) → ClientOutcome k (calls_made k.m) (reads_at s (told_nobody c false) l holder) sent trace
     reads_so read long =
         let n : ℕ = suc s.number in
         let to : ToldChunk = told_at l holder.server.0 in
@@ -256,7 +270,7 @@ module _ (k : Known) (s : ClientState) (c : CurrentCall) (oc : OpenCall) (at : I
         let none : k.attempts n ≡ None = unused k s c oc at sent trace h n (omega arith) in
         let config = (old k s c oc at sent trace h).config in
         goes k s s' c (staged c st false) oc noted_call (noted_clients c.index) k.attempts at (learns_note c.index)
-        (proceeds k s c oc at sent trace h n st false k.attempts (omega arith) (λ p. absurd (early p)) (λ m w b. let e : n ≡ m = w in absurd (omega arith)) (λ seq a e. e) (λ m used e. e) (λ u. u))
+        (proceeds k s c oc at sent trace h n st false k.attempts (omega arith) (λ p. absurd (early p)) (λ m w b. let e : n ≡ m = w in absurd (omega arith)) (λ seq e. absurd (let both : stage.SentRead to n ≡ stage.SentMutate seq = e in cc)) (λ seq a e. e) (λ m used e. e) (λ u. u))
         sent _ trace h (run_noted c.index l holder rest g)
         (λ seq a e. (attempt_acting k s c oc at sent trace h (noted_clients c.index) k.attempts s' noted_call (learns_note c.index) a (h.machine.attempts seq a e).0, let b = attempt_number k s c oc at sent trace h seq a e in omega arith))
         (asking.file, chunk_read k.config.chunk c.index c.asked asking.fits read long, told_there k.attempts s' st holder.server.0 g.1, (omega arith, omega arith, none))
@@ -269,44 +283,47 @@ module _ (k : Known) (s : ClientState) (c : CurrentCall) (oc : OpenCall) (at : I
               s'' c'' up' current' st',
         ))
 
-    -- a write sends its data
-    pub pushes_so : (group : Option Group) → IfSome group (λ p. p.primary.0 ≡ only_server) → IsTrue (is_write c.asked) → ClientOutcome k (calls_made k.m) (pushes s (told_nobody c false) l group) sent trace
-    pushes_so None known write = waits_so k s c oc at sent trace h false asking early no_attempt
-    pushes_so (Some group) known write =
+  -- a write or an append sends its data
+  module _ (l : Location) (holder : Holder) (rest : List Holder) (g : IsGranted k c.file.0 l.index oc l (holder ∷ rest)) (named : IsTrue (names_its_chunk c.asked) → l.index ≡ c.index) where
+    pub pushes_so : (group : Option Group) → IfSome group (λ p. p.primary.0 ≡ only_server) → IsTrue (is_mutating c.asked) → ClientOutcome k (calls_made k.m) (pushes s (told_nobody c false) l group) sent trace
+    pushes_so None known mutating = waits_so k s c oc at sent trace h false asking asked_where.2 early no_attempt
+    pushes_so (Some group) known mutating =
         let n : ℕ = suc s.number in
         let to : ToldChunk = told_at l group.primary.0 in
         let st : Stage = stage.SentData to n in
-        let s' : ClientState = at_stage s n c st false in
+        let c' : CurrentCall = staged (at_told c l) st false in
+        let s' : ClientState = at_stage s n (at_told c l) st false in
         let a : Attempt = attempt_of s c l in
         let attempts : ℕ → Option Attempt = put n (Some a) k.attempts in
-        let x : Known = acting k (noted_clients c.index) attempts s' in
+        let x : Known = acting k (noted_clients l.index) attempts s' in
         let config = (old k s c oc at sent trace h).config in
         let made = h.machine.asked oc at.call in
-        let spot : Spot = record { file = c.file.0; index = c.index } in
+        let spot : Spot = record { file = c.file.0; index = l.index } in
         let own : attempts n ≡ Some a = put_self n (Some a) k.attempts in
+        let fits : IsChunkCall k.config.chunk l.index c.asked = told_fits k.config.chunk c.index l.index c.asked asking.fits mutating named in
         let new : IsAttempt x a = record {
           at = spot;
           owned = g.4;
           asked = oc.asked;
           made = ap (λ m. (the_client_of k.m).calls m) (sym at.is.number_is) ∙ made.0;
           file = asking.file;
-          fits = mutation_of k.config.chunk a spot oc.asked.call (subst (λ y. IsWriteOf k.config.chunk c.index y) (sym at.is.asked) (chunk_write k.config.chunk c.index c.asked asking.fits write))
-              (ap (λ (z : Config). place_in_chunk z.chunk c.asked) config ∙ ap (place_in_chunk k.config.chunk) (sym at.is.asked)) (ap bytes_to_send (sym at.is.asked));
+          fits = mutation_of k.config.chunk a spot oc.asked.call (subst (IsChunkCall k.config.chunk l.index) (sym at.is.asked) fits) (subst (λ y. IsTrue (is_mutating y)) (sym at.is.asked) mutating)
+              (ap (λ (z : Config). target_of z.chunk c.asked) config ∙ ap (target_of k.config.chunk) (sym at.is.asked)) (ap bytes_to_send (sym at.is.asked));
           number = let e = at.is.number_is in let f = made.1 in omega arith;
         } in
-        goes k s s' c (staged c st false) oc noted_call (noted_clients c.index) attempts at (learns_note c.index)
-        (proceeds k s c oc at sent trace h n st false attempts (omega arith) (λ p. absurd (early p)) (λ m w b. absurd w)
+        goes k s s' c c' oc noted_call (noted_clients l.index) attempts at (learns_note l.index)
+        (proceeds_at l n st attempts (omega arith) (λ m w b. absurd w) (λ seq e. let both : stage.SentData to n ≡ stage.SentMutate seq = e in cc)
         (λ seq b e. put_other n (Some a) k.attempts seq (λ same. let l = attempt_number k s c oc at sent trace h seq b e in omega arith) ∙ e)
         (λ m used e. put_other n (Some a) k.attempts m (λ same. omega arith) ∙ e)
         (in_turn_put n a k.attempts k.server (λ seq b is. (let l = attempt_number k s c oc at sent trace h seq b is in omega arith, λ same. over_before seq b is same))))
-        sent _ trace h (run_noted c.index l holder rest g)
+        sent _ trace h (run_noted l.index l holder rest g)
         (λ seq b. elim (seq == n) as (λ t. (seq == n) ≡ t → cond t (Some a) (k.attempts seq) ≡ Some b → IsAttempt x b × (seq ≤ n)) [
           | true ↦ λ e is. (subst (IsAttempt x) (let g : Some a ≡ Some b = is in cc) new, let f : seq ≡ n = eqb-true seq n e in omega arith)
-          | false ↦ λ e is. (attempt_acting k s c oc at sent trace h (noted_clients c.index) attempts s' noted_call (learns_note c.index) b (h.machine.attempts seq b is).0, let f = attempt_number k s c oc at sent trace h seq b is in omega arith)
+          | false ↦ λ e is. (attempt_acting k s c oc at sent trace h (noted_clients l.index) attempts s' noted_call (learns_note l.index) b (h.machine.attempts seq b is).0, let f = attempt_number k s c oc at sent trace h seq b is in omega arith)
         ] refl) (
-          asking_acting k s c oc at sent trace h (noted_clients c.index) attempts s' noted_call st false (learns_note c.index).grows asking,
-          told_there attempts s' st group.primary.0 known,
-          write,
+          record { file = asking.file; fits = fits; before = asking.before; unplaced = asking.unplaced },
+          record { owner = g.4; round = g.0; server = known; noted = note_is l.index; there = g.6 },
+          mutating,
           omega arith,
           a,
           record { known = own; call = refl; owner = g.4; deadline = refl },
