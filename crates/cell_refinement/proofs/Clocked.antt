@@ -75,6 +75,7 @@ module _ (k : Known) (om : Option MasterState) (oc : Option ClientState) (lm : I
     past = λ s' c' client current. inr ((lc s' client).0, c', (lc s' client).1, current_was s' c' client current, refl, λ p. inl p);
     anew = λ number deadline c x is h u. anew_left number deadline c x h u;
     may_place = λ seq a x is known h. may_place_same k l seq a x refl (goes_on_refl (open_call_of k.m)) h;
+    unplaced = λ seq a known over h x c up current at. h (lc x up).0 c (lc x up).1 (current_was x c up current) at;
   }
 
   same_chunks : SameChunks k l
@@ -139,7 +140,7 @@ module _ (k : Known) (om : Option MasterState) (oc : Option ClientState) (lm : I
     machine = machine_left h.machine;
     master = some_is om (IsMaster l) (λ x is.
         let s = lm x is in subst (IsMaster l) s.3 (master_so s.0 s.2 s.4 (master_same k l s.0 later same_chunks (some_at k.master (IsMaster k) s.0 s.1 h.master))));
-    server = some_is k.server (IsServer l) (λ x is. server_same k l x later refl (some_at k.server (IsServer k) x is h.server));
+    server = some_is k.server (IsServer l) (λ x is. server_same k l x is later refl (some_at k.server (IsServer k) x is h.server));
     client = some_is oc (IsClient l) (λ x is.
         let s = lc x is in subst (IsClient l) s.3 (client_so s.0 s.2 s.4 (client_same k l s.0 later same_client s.1 (some_at k.client (IsClient k) s.0 s.1 h.client))));
     says = all_stay k l later sent h.says;

@@ -70,6 +70,7 @@ module _ (k : Known) (om : Option MasterState) (os : Option ServerState) (oc : O
     past = λ s' c' client current. inr (s', c', was k.client oc s' lc client, current, refl, λ p. inl p);
     anew = λ number deadline c x is h u. anew_left number deadline c x h u;
     may_place = λ seq a x is known h. may_place_same k l seq a x refl (goes_on_refl (open_call_of k.m)) h;
+    unplaced = λ seq a known over h s c up current at. h s c (was k.client oc s lc up) current at;
   }
 
   same_chunks : SameChunks k l
@@ -117,7 +118,7 @@ module _ (k : Known) (om : Option MasterState) (os : Option ServerState) (oc : O
     run = h.run;
     machine = machine_left h.machine;
     master = some_is om (IsMaster l) (λ x is. master_same k l x later same_chunks (some_at k.master (IsMaster k) x (was k.master om x lm is) h.master));
-    server = some_is os (IsServer l) (λ x is. server_same k l x later refl (some_at k.server (IsServer k) x (was k.server os x ls is) h.server));
+    server = some_is os (IsServer l) (λ x is. server_same k l x (was k.server os x ls is) later refl (some_at k.server (IsServer k) x (was k.server os x ls is) h.server));
     client = some_is oc (IsClient l) (λ x is. client_same k l x later same_client (was k.client oc x lc is) (some_at k.client (IsClient k) x (was k.client oc x lc is) h.client));
     says = all_stay k l later sent h.says;
   }

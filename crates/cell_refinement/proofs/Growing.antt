@@ -14,7 +14,7 @@ use Rattle.cell_refinement.specs.Says.{IsAnew, IsUntil, IsNameOf}
 use Rattle.cell_refinement.specs.Simulates.{IsMachine, IsChunkAt, IsMaster, IsServer, IsClient, Holds}
 use Rattle.cell_refinement.proofs.Later.{Later, Grows, all_stay}
 use Rattle.cell_refinement.proofs.Frames.{GoesOn, SameChunks, SameClient, master_same, server_same, client_same}
-use Rattle.cell_refinement.proofs.Quiet.{Quiet, later_quiet, may_place_same}
+use Rattle.cell_refinement.proofs.Quiet.{Quiet, later_quiet, may_place_same, unplaced_same}
 
 -- what a call learns
 pub record Learns (change : OpenCall → OpenCall) : Type 0 where
@@ -74,6 +74,7 @@ module _ (change : OpenCall → OpenCall) (f : Learns change) where
       server = λ x is. (x, is, omega arith, omega arith);
       anew = λ number deadline c x is h u. anew_learning number deadline c x h u;
       may_place = λ seq a x is known h. may_place_same k (learning k change) seq a x refl (goes_on_by (open_call_of k.m)) h;
+      unplaced = λ seq a known over h. unplaced_same k (learning k change) seq refl refl h;
     }
 
     pub later_learning : Later k (learning k change)
@@ -130,9 +131,9 @@ module _ (change : OpenCall → OpenCall) (f : Learns change) where
     master_learning None h = tt
     master_learning (Some x) h = master_same k (learning k change) x later_learning same_chunks h
 
-    server_learning : (o : Option ServerState) → IfSome o (IsServer k) → IfSome o (IsServer (learning k change))
-    server_learning None h = tt
-    server_learning (Some x) h = server_same k (learning k change) x later_learning refl h
+    server_learning : (o : Option ServerState) → k.server ≡ o → IfSome o (IsServer k) → IfSome o (IsServer (learning k change))
+    server_learning None is h = tt
+    server_learning (Some x) is h = server_same k (learning k change) x is later_learning refl h
 
     client_learning : (o : Option ClientState) → k.client ≡ o → IfSome o (IsClient k) → IfSome o (IsClient (learning k change))
     client_learning None is h = tt
@@ -144,7 +145,7 @@ module _ (change : OpenCall → OpenCall) (f : Learns change) where
       run = run;
       machine = machine_learning h.machine;
       master = master_learning k.master h.master;
-      server = server_learning k.server h.server;
+      server = server_learning k.server refl h.server;
       client = client_learning k.client refl h.client;
       says = all_stay k (learning k change) later_learning sent h.says;
     }

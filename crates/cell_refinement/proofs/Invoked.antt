@@ -58,6 +58,7 @@ module _ (k : Known) (x : Call) (down : k.client ≡ None) (free : open_call_of 
     past = λ s c client current. gone _ s (sym down ∙ client);
     anew = λ n deadline c s is g u. gone _ g.0 (sym free ∙ g.1);
     may_place = λ seq a s is known g. gone _ g.0 (sym free ∙ g.1);
+    unplaced = λ seq a known over g s c client current at. gone _ s (sym down ∙ client);
   }
 
   same_chunks : SameChunks k made_open
@@ -108,16 +109,16 @@ module _ (k : Known) (x : Call) (down : k.client ≡ None) (free : open_call_of 
   master_made None g = tt
   master_made (Some s) g = master_same k made_open s later same_chunks g
 
-  server_made : (o : Option ServerState) → IfSome o (IsServer k) → IfSome o (IsServer made_open)
-  server_made None g = tt
-  server_made (Some s) g = server_same k made_open s later refl g
+  server_made : (o : Option ServerState) → k.server ≡ o → IfSome o (IsServer k) → IfSome o (IsServer made_open)
+  server_made None is g = tt
+  server_made (Some s) is g = server_same k made_open s is later refl g
 
   pub call_stays_open : Holds made_open sent (trace ++ Called only_client x ∷ [])
   call_stays_open = record {
     run = runs_go_on k.config trace k.m (Invoke only_client x) h.run free;
     machine = machine_made;
     master = master_made k.master h.master;
-    server = server_made k.server h.server;
+    server = server_made k.server refl h.server;
     client = subst (λ o. IfSome o (IsClient made_open)) (sym down) tt;
     says = all_stay k made_open later sent h.says;
   }

@@ -22,6 +22,7 @@ mod MasterLooks
 mod MasterNaming
 mod MasterTells
 mod MasterGrants
+mod MasterNeeds
 mod MasterAdds
 mod MasterTakes
 mod ClientActs

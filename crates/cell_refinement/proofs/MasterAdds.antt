@@ -1,16 +1,12 @@
--- The master adds a chunk at a file's end, for a write that was asked for there.
-use Rattle.std.proofs.Common.{◌≡◌, ℕ, zero, suc, ◌+◌, ◌-◌, ◌*◌, ◌/◌, ◌%◌, ◌<◌, ◌≤◌, min, Bool, true, false, List, [], ◌∷◌, ◌++◌, length, Option, Some, None, refl, sym, ap, ◌∙◌, subst, inl, inr, arith, append-nil, lt-ltb, nat_lt, length-append}
+-- The master adds a chunk at a file's end, for a call that needs one.
+use Rattle.std.proofs.Common.{◌≡◌, ℕ, zero, suc, ◌<◌, ◌≤◌, Bool, true, false, List, [], ◌∷◌, ◌++◌, length, Option, Some, None, refl, sym, ap, ◌∙◌, subst, inl, inr, arith, append-nil, length-append}
 use Rattle.std.specs.Prelude.{Contains, IsFalse, ◌⊎◌, ◌==◌, slice_get, if◌then◌else◌, option_map, unwrap_or, option_and_then}
-use Rattle.std.proofs.lemmas.Nat.{div-add-mod', mul-le}
 use Rattle.std.proofs.lemmas.List.Elements.{All-nil, All-cons}
 use Rattle.std.specs.FinMap as table
-use Rattle.gfs_types.specs.declared.config.Config.{Config}
 use Rattle.gfs_types.specs.declared.ids.Node.TheVariants as node
 use Rattle.gfs_types.specs.declared.call.Call.{Call}
-use Rattle.gfs_types.specs.declared.call.Call.TheVariants as call
 use Rattle.gfs_types.specs.declared.message.Body.TheVariants as body
 use Rattle.gfs_types.specs.declared.message.Message.{Message}
-use Rattle.relaxed_file.specs.Parts.{has_part}
 use Rattle.relaxed_file.specs.Machine.{Machine, FileState, Chunk, new_chunk, OpenCall, Asked, Opens, chunk_at, chunk_count, put}
 use Rattle.relaxed_file.specs.Chunks.{NeedsChunk, chunk_added, begun_call}
 use Rattle.relaxed_file.specs.Run.{IsRunTo, Visible, Add, after, asked_file}
@@ -20,7 +16,7 @@ use Rattle.cell_protocol.specs.Sending.{message}
 use Rattle.cell_protocol.specs.Master.{MasterState, new_row}
 use Rattle.cell_protocol.specs.MasterAsks.{Asker, with_chunk, create_message, adds_chunk}
 use Rattle.cell_protocol.specs.Observer.{entries_of}
-use Rattle.cell_refinement.specs.Known.{Known, Spot, IsWriteOf, open_call_of, the_client_of, chunk_of, call_id}
+use Rattle.cell_refinement.specs.Known.{Known, Spot, open_call_of, the_client_of, chunk_of, call_id}
 use Rattle.cell_refinement.specs.Says.{Says, IsNumbered, IsReadable, IsAnew, IsUntil, IsNameOf}
 use Rattle.cell_refinement.specs.Simulates.{IsMaster, IsChunkAt, IsBefore, IsGoing, IsFileOf, IsRow, Holds}
 use Rattle.cell_refinement.proofs.Later.{Grows}
@@ -29,31 +25,6 @@ use Rattle.cell_refinement.proofs.Serving.{at_insert}
 use Rattle.cell_refinement.proofs.MasterMoves.{moved, MasterOutcome, Builds, Moves, later_moved, moves}
 use Rattle.cell_refinement.proofs.MasterSteps.{old}
 use Rattle.cell_refinement.proofs.MasterNaming.{put_cases}
-
--- the write lies within its chunk
-part_there : (size index offset count : ℕ) → index ≡ offset / size → offset % size + count ≤ size → 0 < count → has_part size offset count index ≡ true
-part_there size index offset count is room some =
-    let e : index * size + offset % size ≡ offset = ap (λ n. n * size + offset % size) is ∙ div-add-mod' offset size in
-    lt-ltb (offset - index * size) (min ((offset + count) - index * size) size) (omega arith)
-
--- and has no part in an earlier one
-none_earlier : (size index offset count earlier : ℕ) → index ≡ offset / size → earlier < index → has_part size offset count earlier ≡ true → ⊥
-none_earlier size index offset count earlier is less has =
-    let e : index * size + offset % size ≡ offset = ap (λ n. n * size + offset % size) is ∙ div-add-mod' offset size in
-    let l : suc earlier * size ≤ index * size = mul-le (suc earlier) size index size (omega (arith, less)) (omega arith) in
-    let p : offset - earlier * size < min ((offset + count) - earlier * size) size = grind (arith, has) in
-    let q : suc earlier * size ≡ earlier * size + size = omega arith in
-    omega (arith, e, l, p, q)
-
-needs : (m : Machine) (number file index : ℕ) (c : Call) → index ≡ chunk_count m file → IsWriteOf m.config.chunk index c → NeedsChunk m (call_id number) file c
-needs m number file index (call.Write fd offset bytes) at w =
-    let there : chunk_count m file ≡ offset / m.config.chunk = sym at ∙ w.0 in
-    let room : nat_lt m.config.chunk (offset % m.config.chunk + length bytes) ≡ false = w.2 in (
-      w.1,
-      part_there m.config.chunk (chunk_count m file) offset (length bytes) there (let l : offset % m.config.chunk + length bytes ≤ m.config.chunk = grind (arith, room) in l) w.3,
-      λ earlier less has. absurd (none_earlier m.config.chunk (chunk_count m file) offset (length bytes) earlier there less has),
-    )
-needs m number file index other at w = absurd w
 
 -- the open call has begun, and is as it was in all else
 begins : (number : ℕ) (b : Bool) (oc : OpenCall) → Grows oc (if b then record oc { has_begun = true } else oc)
@@ -99,7 +70,7 @@ pushed_get (z ∷ zs) x (suc i) y is =
 
 module _ (k : Known) (s : MasterState) (up : k.master ≡ Some s) (sent : List Message) (trace : List Visible) (h : Holds k sent trace)
     (file : ℕ) (handles : List ℕ) (has : table.get s.files file ≡ Some handles) (of : IsFileOf k file handles) (number : ℕ) (asked : Asked)
-    (called : (the_client_of k.m).calls number ≡ Some asked) (on : asked.file ≡ Some file) (write : IsWriteOf k.config.chunk (length handles) asked.call) (there : IsReadable k file) where
+    (called : (the_client_of k.m).calls number ≡ Some asked) (on : asked.file ≡ Some file) (needs : NeedsChunk k.m (call_id number) file asked.call) (there : IsReadable k file) where
   was : IsMaster k s
   was = old k s up sent trace h
 
@@ -121,11 +92,9 @@ module _ (k : Known) (s : MasterState) (up : k.master ≡ Some s) (sent : List M
   run : IsRunTo k.config trace added
   run =
       let e : asked_file k.m (call_id number) ≡ Some file = ap (λ o. option_and_then (λ (a : Asked). a.file) o) called ∙ on in
-      let size : k.config.chunk ≡ k.m.config.chunk = ap (λ (c : Config). c.chunk) (sym h.machine.config) in
-      let may : NeedsChunk k.m (call_id number) file asked.call = needs k.m number file (length handles) asked.call of.count (subst (λ n. IsWriteOf n (length handles) asked.call) size write) in
       subst (IsRunTo k.config trace) (ap (λ o. unwrap_or (option_map (chunk_added k.m (call_id number)) o) k.m) e)
       (subst (λ t. IsRunTo k.config t (after k.m (Add (call_id number)))) (append-nil trace)
-      (runs_go_on k.config trace k.m (Add (call_id number)) h.run (asked, file, (called, on, h.machine.stays file, may))))
+      (runs_go_on k.config trace k.m (Add (call_id number)) h.run (asked, file, (called, on, h.machine.stays file, needs))))
 
   -- each chunk is as it was
   chunks : (at : Spot) → chunk_of added at ≡ chunk_of k.m at

@@ -17,7 +17,7 @@ use Rattle.cell_refinement.specs.Says.{Says, IsReadable, IsAnew, IsUntil, IsName
 use Rattle.cell_refinement.specs.Simulates.{IsMachine, IsBefore, IsGoing, IsChunkAt, IsMaster, IsServer, IsClient, Holds}
 use Rattle.cell_refinement.proofs.Later.{Later, all_stay}
 use Rattle.cell_refinement.proofs.Frames.{GoesOn, SameClient, server_same, client_same}
-use Rattle.cell_refinement.proofs.Quiet.{Quiet, later_quiet, open_by, may_place_same}
+use Rattle.cell_refinement.proofs.Quiet.{Quiet, later_quiet, open_by, may_place_same, unplaced_same}
 
 -- the world after a step of the master
 abbrev pub moved : Known → Machine → (ℕ → Option Spot) → MasterState → Known
@@ -79,6 +79,7 @@ module _ (k : Known) (m : Machine) (owner : ℕ → Option Spot) (s s' : MasterS
     server = λ x is. (x, is, omega arith, omega arith);
     anew = λ number deadline c x is h u. let e : s' ≡ x = (let h : Some s' ≡ Some x = is in cc) in subst (IsNameOf (moved k m owner s') number deadline c) e (v.anew number deadline c h u);
     may_place = λ seq a x is known h. may_place_same k (moved k m owner s') seq a x refl v.goes_on h;
+    unplaced = λ seq a known over h. unplaced_same k (moved k m owner s') seq refl refl h;
   }
 
   pub later_moved : Later k (moved k m owner s')
@@ -140,9 +141,9 @@ module _ (k : Known) (m : Machine) (owner : ℕ → Option Spot) (s s' : MasterS
     in_turn = h.in_turn;
   }
 
-  server_moved : (o : Option ServerState) → IfSome o (IsServer k) → IfSome o (IsServer (moved k m owner s'))
-  server_moved None h = tt
-  server_moved (Some x) h = server_same k (moved k m owner s') x later_moved refl h
+  server_moved : (o : Option ServerState) → k.server ≡ o → IfSome o (IsServer k) → IfSome o (IsServer (moved k m owner s'))
+  server_moved None is h = tt
+  server_moved (Some x) is h = server_same k (moved k m owner s') x is later_moved refl h
 
   client_moved : (o : Option ClientState) → k.client ≡ o → IfSome o (IsClient k) → IfSome o (IsClient (moved k m owner s'))
   client_moved None is h = tt
@@ -154,7 +155,7 @@ module _ (k : Known) (m : Machine) (owner : ℕ → Option Spot) (s s' : MasterS
     run = run;
     machine = machine_moved h.machine;
     master = new;
-    server = server_moved k.server h.server;
+    server = server_moved k.server refl h.server;
     client = client_moved k.client refl h.client;
     says = all_stay k (moved k m owner s') later_moved sent h.says;
   }

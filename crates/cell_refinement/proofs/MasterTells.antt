@@ -1,5 +1,5 @@
 -- The master tells the client of a chunk: the machine's open call, if it waits for that, is offered the same.
-use Rattle.std.proofs.Common.{◌≡◌, ℕ, suc, ◌-◌, ◌<◌, ◌≤◌, true, false, cond, List, [], ◌∷◌, length, Option, Some, None, refl, sym, ap, ◌∙◌, subst, inl, inr, arith, append-nil, nat_lt}
+use Rattle.std.proofs.Common.{◌≡◌, ℕ, suc, ◌-◌, ◌<◌, ◌≤◌, Bool, true, false, cond, List, [], ◌∷◌, length, Option, Some, None, refl, sym, ap, ◌∙◌, subst, inl, inr, arith, append-nil, nat_lt}
 use Rattle.std.specs.Prelude.{Contains, IfSome, IsTrue, IsFalse, ◌⊎◌, ◌==◌, slice_get, option_map}
 use Rattle.std.specs.FinMap as table
 use Rattle.gfs_types.specs.declared.call.Call.{Call}
@@ -22,10 +22,10 @@ use Rattle.cell_protocol.specs.Sending.{only_client, only_server, server_id, mes
 use Rattle.cell_protocol.specs.Master.{MasterState, has_lease, master_says}
 use Rattle.cell_protocol.specs.MasterAsks.{Asker, holders_of, group_of, location_of, tells_location, looks_at, looks_at_row, mutates_at, mutates_row, tells_to_wait}
 use Rattle.cell_protocol.specs.Client.{ClientState}
-use Rattle.cell_protocol.specs.ClientAttempts.{is_write}
-use Rattle.cell_refinement.specs.Known.{Known, Spot, IsWriteOf, open_call_of, chunk_of}
-use Rattle.cell_refinement.specs.Says.{OnStage, IsAskNumber, IsGranted, IsGrantedLast, IsToldTo, SaysTold}
-use Rattle.cell_refinement.specs.Simulates.{IsMaster, IsClient, IsCurrent, IsAsking, IsWaited, FitsStage, AreTheSame, IsFileOf, IsRow, Holds}
+use Rattle.cell_protocol.specs.ClientAttempts.{is_append}
+use Rattle.cell_refinement.specs.Known.{Known, Spot, is_write, IsWriteOf, open_call_of, chunk_of}
+use Rattle.cell_refinement.specs.Says.{OnStage, IsAskNumber, IsGranted, IsGrantedLast, IsToldTo, names_its_chunk, SaysTold}
+use Rattle.cell_refinement.specs.Simulates.{IsMaster, IsClient, IsCurrent, IsAsking, IsWaited, LooksPastFull, FitsStage, AreTheSame, IsFileOf, IsRow, Holds}
 use Rattle.cell_refinement.proofs.Growing.{Learns, stepped_call, learning, learns}
 use Rattle.cell_refinement.proofs.ServerSteps.{one}
 use Rattle.cell_refinement.proofs.MasterMoves.{moved, MasterOutcome, again, said_again}
@@ -87,23 +87,53 @@ module _ (k : Known) (sent : List Message) (trace : List Visible) (h : Holds k s
   waits_client number (Some x) is = waits_current number x is x.current refl
 
   pub asking_of : (number : ℕ) (x : ClientState) (c : CurrentCall) (oc : OpenCall) → IsCurrent k x c oc → c.stage ≡ stage.AskedWhere number → IsAsking k c oc
-  asking_of number x c oc is at = let fits : IsAsking k c oc × IsWaited k x number = subst (FitsStage k x c oc) at is.stage in fits.0
+  asking_of number x c oc is at = let fits : IsAsking k c oc × IsWaited k x number × LooksPastFull k c = subst (FitsStage k x c oc) at is.stage in fits.0
 
 -- what a Told says of the call that waits for it
 abbrev pub IsToldSo : Known → Option Location → CurrentCall → OpenCall → Type 0
 IsToldSo k None c oc = Contains oc.offers (NoSuchChunk c.index)
 IsToldSo k (Some x) c oc = IsToldTo k c oc x
 
--- a call that asks for this chunk, and a length
+-- a call that asks for this chunk, an append, and a length
 abbrev pub AsksFor : ℕ → CurrentCall → Type 0
 AsksFor index c = (c.index ≡ index) × IsFalse (is_length_call c.asked)
+
+abbrev pub AsksToAppend : CurrentCall → Type 0
+AsksToAppend c = IsTrue (is_append c.asked)
 
 abbrev pub AsksForLast : CurrentCall → Type 0
 AsksForLast c = (c.index ≡ 0) × IsTrue (is_length_call c.asked)
 
 -- Which chunk of so many such a call may be told.
 abbrev pub MayBeTold : ℕ → ℕ → CurrentCall → Type 0
-MayBeTold count index c = AsksFor index c ⊎ (IsTrue (is_length_call c.asked) × (suc index ≡ count))
+MayBeTold count index c = (IsTrue (names_its_chunk c.asked) → index ≡ c.index) × (IsTrue (is_length_call c.asked) → suc index ≡ count)
+
+length_names_none : (x : Call) → IsTrue (is_length_call x) → IsFalse (names_its_chunk x)
+length_names_none (call.Length fd) h = refl
+length_names_none other h = absurd (cc)
+
+append_names_none : (x : Call) → IsTrue (is_append x) → IsFalse (names_its_chunk x)
+append_names_none (call.Append fd bytes) h = refl
+append_names_none other h = absurd (cc)
+
+append_no_length : (x : Call) → IsTrue (is_append x) → IsFalse (is_length_call x)
+append_no_length (call.Append fd bytes) h = refl
+append_no_length other h = absurd (cc)
+
+differs : {P : Type 0} (b : Bool) → IsTrue b → IsFalse b → P
+differs b is not = absurd (let both : true ≡ false = sym is ∙ not in cc)
+
+pub may_this : (count index : ℕ) (c : CurrentCall) → AsksFor index c → MayBeTold count index c
+may_this count index c asks = (λ names. sym asks.0, λ long. differs (is_length_call c.asked) long asks.1)
+
+pub may_append : (count index : ℕ) (c : CurrentCall) → AsksToAppend c → MayBeTold count index c
+may_append count index c asks = (
+  λ names. differs (names_its_chunk c.asked) names (append_names_none c.asked asks),
+  λ long. differs (is_length_call c.asked) long (append_no_length c.asked asks),
+)
+
+may_last : (count index : ℕ) (c : CurrentCall) → AsksForLast c → suc index ≡ count → MayBeTold count index c
+may_last count index c asks last = (λ names. differs (names_its_chunk c.asked) names (length_names_none c.asked asks.1), λ long. last)
 
 says_told : (k : Known) (number : ℕ) (o : Option Location) → IsAskNumber k number → OnStage k (stage.AskedWhere number) (λ x c oc. IsToldSo k o c oc) → SaysTold k number o
 says_told k number None a b = (a, b)
@@ -184,28 +214,22 @@ module _ (k : Known) (s : MasterState) (up : k.master ≡ Some s) (sent : List M
       subst (λ n. IsGranted l file index oc (location_of s index handle row) (cond (nat_lt 0 n) (record { server = server_id only_server; version = row.granted } ∷ []) [])) (sym has.0)
       (has.0, refl, has.0, group_there row, own, (count, subst (λ n. Contains oc.offers (Told index n count)) has.1 at), there)
 
-  granted_last_so : (l : Known) (file index handle : ℕ) (row : ChunkRow) (oc : OpenCall) (round count : ℕ) → l.owner handle ≡ Some (record { file = file; index = index }) → index < chunk_count l.m file
-      → ((row.granted.0 ≡ 0) ⊎ ((row.granted.0 ≡ 1) × (round ≡ 1))) → Contains oc.offers (Told index round count) → suc index ≡ count
-      → IsGrantedLast l file oc (location_of s index handle row) (holders_of row)
-  granted_last_so l file index handle row oc round count own there (inl none) at last =
-      subst (λ n. IsGrantedLast l file oc (location_of s index handle row) (cond (nat_lt 0 n) (record { server = server_id only_server; version = row.granted } ∷ []) [])) (sym none) tt
-  granted_last_so l file index handle row oc round count own there (inr has) at last =
-      let offered : Contains oc.offers (Told index 1 count) = subst (λ n. Contains oc.offers (Told index n count)) has.1 at in
-      subst (λ n. IsGrantedLast l file oc (location_of s index handle row) (cond (nat_lt 0 n) (record { server = server_id only_server; version = row.granted } ∷ []) [])) (sym has.0)
-      ((has.0, refl, has.0, group_there row, own, (count, offered), there), subst (λ n. Contains oc.offers (Told index 1 n)) (sym last) offered)
+  granted_last_so : (index : ℕ) (row : ChunkRow) (oc : OpenCall) (round count : ℕ) → ((row.granted.0 ≡ 0) ⊎ ((row.granted.0 ≡ 1) × (round ≡ 1))) → Contains oc.offers (Told index round count) → suc index ≡ count
+      → IsGrantedLast index oc (holders_of row)
+  granted_last_so index row oc round count (inl none) at last =
+      subst (λ n. IsGrantedLast index oc (cond (nat_lt 0 n) (record { server = server_id only_server; version = row.granted } ∷ []) [])) (sym none) tt
+  granted_last_so index row oc round count (inr has) at last =
+      subst (λ n. IsGrantedLast index oc (cond (nat_lt 0 n) (record { server = server_id only_server; version = row.granted } ∷ []) [])) (sym has.0)
+      (subst (λ n. Contains oc.offers (Told index 1 n)) (sym last) (subst (λ n. Contains oc.offers (Told index n count)) has.1 at))
 
   -- what is told of a chunk to a call that may be told it
   told_to_so : (l : Known) (file index handle : ℕ) (row : ChunkRow) (c : CurrentCall) (oc : OpenCall) (round count : ℕ) → l.owner handle ≡ Some (record { file = file; index = index }) → index < chunk_count l.m file
       → ((row.granted.0 ≡ 0) ⊎ ((row.granted.0 ≡ 1) × (round ≡ 1))) → Contains oc.offers (Told index round count) → c.file.0 ≡ file → MayBeTold count index c
       → IsToldTo l c oc (location_of s index handle row)
-  told_to_so l file index handle row c oc round count own there has at same (inl asks) = (
-    (λ not. subst (λ n. IsGranted l n c.index oc (location_of s index handle row) (holders_of row)) (sym same)
-        (subst (λ n. IsGranted l file n oc (location_of s index handle row) (holders_of row)) (sym asks.0) (granted_so l file index handle row oc round count own there has at))),
-    (λ long. absurd (let both : true ≡ false = sym long ∙ asks.1 in cc)),
-  )
-  told_to_so l file index handle row c oc round count own there has at same (inr last) = (
-    (λ not. absurd (let both : true ≡ false = sym last.0 ∙ not in cc)),
-    (λ long. subst (λ n. IsGrantedLast l n oc (location_of s index handle row) (holders_of row)) (sym same) (granted_last_so l file index handle row oc round count own there has at last.1)),
+  told_to_so l file index handle row c oc round count own there has at same may = (
+    subst (λ n. IsGranted l n index oc (location_of s index handle row) (holders_of row)) (sym same) (granted_so l file index handle row oc round count own there has at),
+    may.0,
+    λ long. granted_last_so index row oc round count has at (may.1 long),
   )
 
   round_of : (row : ChunkRow) (at : Spot) → IsRow row (chunk_of k.m at) → (row.granted.0 ≡ 0) ⊎ ((row.granted.0 ≡ 1) × ((chunk_of k.m at).round ≡ 1))
@@ -236,7 +260,7 @@ module _ (k : Known) (s : MasterState) (up : k.master ≡ Some s) (sent : List M
   pub looks_at_so : (a : Asker) (file index : ℕ) (handles : List ℕ) (o : Option ℕ) → IsAskNumber k a.number → AsksThere a.number file (AsksFor index) → IsFileOf k file handles → slice_get handles index ≡ o
       → (o ≡ None → length handles ≤ index) → MasterOutcome k (looks_at s a index o) sent trace
   looks_at_so a file index handles None numbered there of is past = tells_none a file index (AsksFor index) numbered there (λ c p. p.0) (let l = past refl in let e = of.count in omega arith)
-  looks_at_so a file index handles (Some handle) numbered there of is past = looks_at_row_so a file index handle (AsksFor index) (table.get s.chunks handle) numbered there (λ c p. inl p) (of.owner index handle is) refl
+  looks_at_so a file index handles (Some handle) numbered there of is past = looks_at_row_so a file index handle (AsksFor index) (table.get s.chunks handle) numbered there (λ c p. may_this (chunk_count k.m file) index c p) (of.owner index handle is) refl
 
   -- the last chunk, if there is one
   pub looks_at_last_so : (a : Asker) (file : ℕ) (handles : List ℕ) (o : Option ℕ) → IsAskNumber k a.number → AsksThere a.number file AsksForLast → IsFileOf k file handles → slice_get handles (length handles - 1) ≡ o
@@ -248,21 +272,22 @@ module _ (k : Known) (s : MasterState) (up : k.master ≡ Some s) (sent : List M
       let own = of.owner (length handles - 1) handle is in
       let within = (h.machine.owned handle (record { file = file; index = length handles - 1 }) own).within in
       let e = of.count in
-      looks_at_row_so a file (length handles - 1) handle AsksForLast (table.get s.chunks handle) numbered there (λ c p. inr (p.1, omega arith)) own refl
+      looks_at_row_so a file (length handles - 1) handle AsksForLast (table.get s.chunks handle) numbered there (λ c p. may_last (chunk_count k.m file) (length handles - 1) c p (omega arith)) own refl
 
-  mutates_row_so : (a : Asker) (file index handle : ℕ) (o : Option ChunkRow) → IsAskNumber k a.number → AsksThere a.number file (AsksFor index) → k.owner handle ≡ Some (record { file = file; index = index })
+  mutates_row_so : (a : Asker) (file index handle : ℕ) (P : CurrentCall → Type 0) (o : Option ChunkRow) → IsAskNumber k a.number → AsksThere a.number file P
+      → ((c : CurrentCall) → P c → MayBeTold (chunk_count k.m file) index c) → k.owner handle ≡ Some (record { file = file; index = index })
       → table.get s.chunks handle ≡ o → MasterOutcome k (mutates_row s a index handle o) sent trace
-  mutates_row_so a file index handle None numbered there own has = stays_so k s up sent trace h
-  mutates_row_so a file index handle (Some row) numbered there own has =
+  mutates_row_so a file index handle P None numbered there may own has = stays_so k s up sent trace h
+  mutates_row_so a file index handle P (Some row) numbered there may own has =
       elim (has_lease s.now row) as (λ b. MasterOutcome k (cond b (tells_location s a index handle row) (tells_to_wait s a)) sent trace) [
-        | true ↦ tells_location_so a file index handle (AsksFor index) row numbered there (λ c p. inl p) own has
+        | true ↦ tells_location_so a file index handle P row numbered there may own has
         | false ↦ waits_so k s up sent trace h a numbered.0
       ]
 
-  pub mutates_at_so : (a : Asker) (file index : ℕ) (handles : List ℕ) (o : Option ℕ) → IsAskNumber k a.number → AsksThere a.number file (AsksFor index) → IsFileOf k file handles → slice_get handles index ≡ o
-      → MasterOutcome k (mutates_at s a index o) sent trace
-  mutates_at_so a file index handles None numbered there of is = stays_so k s up sent trace h
-  mutates_at_so a file index handles (Some handle) numbered there of is = mutates_row_so a file index handle (table.get s.chunks handle) numbered there (of.owner index handle is) refl
+  pub mutates_at_so : (a : Asker) (file index : ℕ) (handles : List ℕ) (P : CurrentCall → Type 0) (o : Option ℕ) → IsAskNumber k a.number → AsksThere a.number file P
+      → ((c : CurrentCall) → P c → MayBeTold (chunk_count k.m file) index c) → IsFileOf k file handles → slice_get handles index ≡ o → MasterOutcome k (mutates_at s a index o) sent trace
+  mutates_at_so a file index handles P None numbered there may of is = stays_so k s up sent trace h
+  mutates_at_so a file index handles P (Some handle) numbered there may of is = mutates_row_so a file index handle P (table.get s.chunks handle) numbered there may (of.owner index handle is) refl
 
   write_is : (size index : ℕ) (c : Call) → IsWriteOf size index c → IsTrue (is_write c)
   write_is size index (call.Write fd offset bytes) w = refl

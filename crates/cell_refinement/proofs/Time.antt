@@ -14,7 +14,7 @@ use Rattle.cell_refinement.specs.Known.{Known, Attempt, IsAttempt, open_call_of}
 use Rattle.cell_refinement.specs.Simulates.{IsMachine, IsChunkAt, IsMaster, IsServer, IsClient, Holds}
 use Rattle.cell_refinement.proofs.Later.{Later, all_stay}
 use Rattle.cell_refinement.proofs.Frames.{SameChunks, SameClient, master_same, server_same, client_same}
-use Rattle.cell_refinement.proofs.Quiet.{Quiet, later_quiet, goes_on_refl, anew_same, may_place_same}
+use Rattle.cell_refinement.proofs.Quiet.{Quiet, later_quiet, goes_on_refl, anew_same, may_place_same, unplaced_same}
 
 -- the machine at a later moment
 abbrev pub at_clock : Machine → ℕ → Machine
@@ -51,6 +51,7 @@ module _ (k : Known) (moment : ℕ) where
     server = λ s' is. (s', is, omega arith, omega arith);
     anew = λ number deadline c s' is h u. anew_same k (known_at k moment) number deadline c s' refl refl h u;
     may_place = λ seq a s' is known h. may_place_same k (known_at k moment) seq a s' refl (goes_on_refl (open_call_of k.m)) h;
+    unplaced = λ seq a known over h. unplaced_same k (known_at k moment) seq refl refl h;
   }
 
   pub later_at : Later k (known_at k moment)
@@ -99,9 +100,9 @@ module _ (k : Known) (moment : ℕ) where
   master_at_moment None h = tt
   master_at_moment (Some s) h = master_same k (known_at k moment) s later_at same_chunks h
 
-  server_at_moment : (o : Option ServerState) → IfSome o (IsServer k) → IfSome o (IsServer (known_at k moment))
-  server_at_moment None h = tt
-  server_at_moment (Some s) h = server_same k (known_at k moment) s later_at refl h
+  server_at_moment : (o : Option ServerState) → k.server ≡ o → IfSome o (IsServer k) → IfSome o (IsServer (known_at k moment))
+  server_at_moment None is h = tt
+  server_at_moment (Some s) is h = server_same k (known_at k moment) s is later_at refl h
 
   client_at_moment : (o : Option ClientState) → k.client ≡ o → IfSome o (IsClient k) → IfSome o (IsClient (known_at k moment))
   client_at_moment None is h = tt
@@ -113,7 +114,7 @@ module _ (k : Known) (moment : ℕ) where
     run = subst (λ g. IsRunTo k.config (trace ++ passed g moment) (at_clock k.m moment)) h.machine.clock (passes k.config trace k.m moment (nat_lt k.m.clock moment) refl h.run);
     machine = machine_at h.machine;
     master = master_at_moment k.master h.master;
-    server = server_at_moment k.server h.server;
+    server = server_at_moment k.server refl h.server;
     client = client_at_moment k.client refl h.client;
     says = all_stay k (known_at k moment) later_at sent h.says;
   }
