@@ -1,11 +1,13 @@
 -- The bytes of an image: a read takes a slice of them, and a write puts its own in their place.
-use Rattle.std.proofs.Common.{◌≡◌, ℕ, zero, suc, ◌+◌, ◌-◌, ◌<◌, ◌≤◌, List, [], ◌∷◌, ◌++◌, length, take, drop, refl, sym, ap, ◌∙◌, arith}
+use Rattle.std.proofs.Common.{◌≡◌, ℕ, zero, suc, ◌+◌, ◌-◌, ◌<◌, ◌≤◌, List, [], ◌∷◌, ◌++◌, length, take, drop, refl, sym, ap, ◌∙◌, subst, arith}
 use Rattle.std.specs.Prelude.{min, max, Bool, false, true, Option, Some, None, cond, slice_index, replicate, unwrap_or, option_map}
 use Rattle.gfs_types.specs.declared.mutation.Mutation.{Mutation}
 use Rattle.gfs_types.specs.Image.{image, image_length, image_slice, bytes_from, byte_at, last_that, newer}
-use Rattle.gfs_types.specs.Mutations.{covers, end_of, byte_of}
-use Rattle.gfs_types.specs.declared.mutation.Mutation.TheVariants.{Write}
+use Rattle.gfs_types.specs.Mutations.{covers, start_of, end_of, byte_of}
+use Rattle.gfs_types.specs.declared.mutation.Mutation.TheVariants.{Write, Append, Pad}
+use Rattle.std.proofs.lemmas.List.{length-replicate, get_or-replicate}
 use Rattle.cell_protocol.specs.Server.{with_bytes}
+use Rattle.cell_protocol.specs.ServerWrites.{bytes_of}
 
 newer_none : (o : Option Mutation) → newer o None ≡ newer None o
 newer_none None = refl
@@ -106,11 +108,11 @@ byte_at-inside : (size : ℕ) (ms : List Mutation) (w : Mutation) (place : ℕ) 
 byte_at-inside size ms w place h =
     ap (λ o. unwrap_or (option_map (byte_of place) o) 0) (last_that-push (covers size place) ms w ∙ ap (λ b. newer (last_that (covers size place) ms) (cond b (Some w) None)) h)
 
-before_write : (size offset : ℕ) (bytes : List ℕ) (place : ℕ) → place < offset → covers size place (Write offset bytes) ≡ false
-before_write size offset bytes place h = grind (arith, h)
+before_start : (size : ℕ) (w : Mutation) (place : ℕ) → place < start_of w → covers size place w ≡ false
+before_start size w place h = grind (arith, h)
 
-within_write : (size offset : ℕ) (bytes : List ℕ) (place : ℕ) → offset ≤ place → place < offset + length bytes → covers size place (Write offset bytes) ≡ true
-within_write size offset bytes place h l = grind (arith, h, l)
+within_range : (size : ℕ) (w : Mutation) (place : ℕ) → start_of w ≤ place → place < end_of size w → covers size place w ≡ true
+within_range size w place h l = grind (arith, h, l)
 
 -- the bytes in front of a place, with zeros behind the image
 front : (size : ℕ) (ms : List Mutation) (offset : ℕ) → bytes_from size ms 0 offset ≡ take offset (image size ms) ++ replicate (offset - length (image size ms)) 0
@@ -123,22 +125,52 @@ front size ms offset =
     ∙ ap (λ xs. take offset (image size ms) ++ xs) (bytes_from-zeros size ms (0 + min offset (image_length size ms)) (offset - image_length size ms) (λ p a b. byte_at-zero size ms p (omega arith)))
     ∙ ap (λ n. take offset (image size ms) ++ replicate (offset - n) 0) (sym long)
 
--- The image after one more write is the image with the write's bytes in their place.
-pub image-write : (size : ℕ) (ms : List Mutation) (offset : ℕ) (bytes : List ℕ) → image size (ms ++ Write offset bytes ∷ []) ≡ with_bytes (image size ms) offset bytes
-image-write size ms offset bytes =
-    let more : List Mutation = ms ++ Write offset bytes ∷ [] in
+-- a mutation puts these bytes there
+record Puts (size : ℕ) (w : Mutation) (offset : ℕ) (bytes : List ℕ) : Type 0 where
+  start : start_of w ≡ offset
+  stop : end_of size w ≡ offset + length bytes
+  each : (i : ℕ) → i < length bytes → byte_of (offset + i) w ≡ slice_index bytes i
+
+image-puts : (size : ℕ) (ms : List Mutation) (w : Mutation) (offset : ℕ) (bytes : List ℕ) → Puts size w offset bytes → image size (ms ++ w ∷ []) ≡ with_bytes (image size ms) offset bytes
+image-puts size ms w offset bytes puts =
+    let more : List Mutation = ms ++ w ∷ [] in
     let after : ℕ = offset + length bytes in
     let left : ℕ = image_length size ms - after in
-    let long : image_length size more ≡ max (image_length size ms) after = image_length-push size ms (Write offset bytes) in
+    let start : start_of w ≡ offset = puts.start in
+    let stop : end_of size w ≡ after = puts.stop in
+    let long : image_length size more ≡ max (image_length size ms) (end_of size w) = image_length-push size ms w in
     let e : image_length size more ≡ offset + length bytes + left = omega arith in
     ap (λ n. bytes_from size more 0 n) e
     ∙ bytes_from-split size more 0 (offset + length bytes) left
     ∙ ap (λ xs. xs ++ bytes_from size more (0 + (offset + length bytes)) left) (bytes_from-split size more 0 offset (length bytes))
     ∙ ap (λ xs. xs ++ bytes_from size more (0 + offset) (length bytes) ++ bytes_from size more (0 + after) left)
-    (bytes_from-same size more ms 0 offset (λ p a b. byte_at-outside size ms (Write offset bytes) p (before_write size offset bytes p (omega arith))) ∙ front size ms offset)
+    (bytes_from-same size more ms 0 offset (λ p a b. byte_at-outside size ms w p (before_start size w p (omega arith))) ∙ front size ms offset)
     ∙ ap (λ xs. take offset (image size ms) ++ replicate (offset - length (image size ms)) 0 ++ xs ++ bytes_from size more (0 + after) left)
-    (bytes_from-spells size more (0 + offset) bytes (λ i l. byte_at-inside size ms (Write offset bytes) (0 + offset + i) (within_write size offset bytes (0 + offset + i) (omega arith) (omega arith))
-    ∙ (let e : 0 + offset + i - offset ≡ i = omega arith in ap (λ n. slice_index bytes n) e)))
+    (bytes_from-spells size more (0 + offset) bytes (λ i l. byte_at-inside size ms w (0 + offset + i) (within_range size w (0 + offset + i) (omega arith) (omega arith))
+    ∙ (let e : 0 + offset + i ≡ offset + i = omega arith in ap (λ n. byte_of n w) e) ∙ puts.each i l))
     ∙ ap (λ xs. take offset (image size ms) ++ replicate (offset - length (image size ms)) 0 ++ bytes ++ xs)
-    (bytes_from-same size more ms (0 + after) left (λ p a b. byte_at-outside size ms (Write offset bytes) p (uncovered size (Write offset bytes) p (omega arith)))
+    (bytes_from-same size more ms (0 + after) left (λ p a b. byte_at-outside size ms w p (uncovered size w p (omega arith)))
     ∙ sym (drop-bytes_from size ms after 0 (image_length size ms)))
+
+-- the byte at a place, counted from the beginning of a range
+counted_from : (offset i : ℕ) (bytes : List ℕ) → slice_index bytes (offset + i - offset) ≡ slice_index bytes i
+counted_from offset i bytes = let e : offset + i - offset ≡ i = omega arith in ap (λ n. slice_index bytes n) e
+
+to_the_end : (size offset rest : ℕ) → offset ≤ size → rest ≡ size - offset → size ≡ offset + rest
+to_the_end size offset rest within long = omega arith
+
+pads : (size offset : ℕ) → offset ≤ size → Puts size (Pad offset) offset (replicate (size - offset) 0)
+pads size offset within = record {
+  start = refl;
+  stop = to_the_end size offset (length (replicate (size - offset) 0)) within (length-replicate (size - offset) 0);
+  each = λ i l. sym (get_or-replicate (size - offset) i 0 0 (subst (λ n. i < n) (length-replicate (size - offset) 0) l));
+}
+
+-- The image after one more mutation that begins in the chunk is the image with the mutation's bytes in their place.
+pub image-push : (size : ℕ) (ms : List Mutation) (w : Mutation) → start_of w ≤ size → image size (ms ++ w ∷ []) ≡ with_bytes (image size ms) (start_of w) (bytes_of size w)
+image-push size ms (Write offset bytes) within = image-puts size ms (Write offset bytes) offset bytes (record { start = refl; stop = refl; each = λ i l. counted_from offset i bytes })
+image-push size ms (Append offset bytes) within = image-puts size ms (Append offset bytes) offset bytes (record { start = refl; stop = refl; each = λ i l. counted_from offset i bytes })
+image-push size ms (Pad offset) within = image-puts size ms (Pad offset) offset (replicate (size - offset) 0) (pads size offset within)
+
+pub length-image : (size : ℕ) (ms : List Mutation) → length (image size ms) ≡ image_length size ms
+length-image size ms = length-bytes_from size ms 0 (image_length size ms)

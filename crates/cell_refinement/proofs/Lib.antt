@@ -8,9 +8,12 @@ mod ServerSteps
 mod Growing
 mod ServerReading
 mod ServerMeasuring
+mod Waited
 mod ChunkTables
 mod Writing
+mod Appending
 mod ServerWriting
+mod ServerAppending
 mod ServerTakes
 mod Down
 mod Sent

@@ -1,5 +1,5 @@
 -- The server tells the length of a replica: where the client waits for it, the machine measures the whole order.
-use Rattle.std.proofs.Common.{◌≡◌, ℕ, suc, ◌+◌, ◌*◌, ◌<◌, ◌≤◌, true, false, cond, List, [], ◌∷◌, length, Option, Some, None, refl, sym, ap, ◌∙◌, subst, inl, inr, arith, append-nil}
+use Rattle.std.proofs.Common.{◌≡◌, ℕ, suc, ◌+◌, ◌*◌, ◌≤◌, true, false, cond, List, [], ◌∷◌, length, Option, Some, None, refl, sym, ap, ◌∙◌, subst, inl, inr, arith, append-nil}
 use Rattle.std.specs.Prelude.{All, Contains, IfSome, IsTrue, ◌⊎◌, ◌==◌, option_map}
 use Rattle.std.specs.FinMap as table
 use Rattle.gfs_types.specs.declared.config.Config.{Config}
@@ -8,7 +8,7 @@ use Rattle.gfs_types.specs.declared.refusal.Refusal.{Refusal}
 use Rattle.gfs_types.specs.declared.refusal.Refusal.TheVariants.{NoChunk, Version}
 use Rattle.gfs_types.specs.declared.message.Message.{Message}
 use Rattle.gfs_types.specs.declared.message.Body.TheVariants as body
-use Rattle.gfs_types.specs.Image.{image, image_length}
+use Rattle.gfs_types.specs.Image.{image_length}
 use Rattle.relaxed_file.specs.Order.{Entry, mutations_of}
 use Rattle.relaxed_file.specs.Machine.{OpenCall, chunk_size, with_step}
 use Rattle.relaxed_file.specs.Reads.{MayMeasure, is_length_call}
@@ -26,7 +26,7 @@ use Rattle.cell_protocol.specs.ServerReads.{measures}
 use Rattle.cell_protocol.specs.Client.{ClientState}
 use Rattle.cell_protocol.specs.Observer.{entries_of}
 use Rattle.cell_refinement.specs.Known.{Known, Attempt, open_call_of, calls_made, chunk_of}
-use Rattle.cell_refinement.specs.Says.{SaysLen, SaysLenIs, SaysRefused, IsOver, OnStage, IsNumbered, IsLastOffered}
+use Rattle.cell_refinement.specs.Says.{SaysLen, SaysLenIs, SaysRefused, IsOver, OnStage, IsLastOffered}
 use Rattle.cell_refinement.specs.Simulates.{IsServer, IsReplica, IsClient, IsCurrent, IsToldAt, IsChunkAt, FitsStage, Holds}
 use Rattle.cell_refinement.proofs.ImageBytes.{length-bytes_from}
 use Rattle.cell_refinement.proofs.Serving.{serving}

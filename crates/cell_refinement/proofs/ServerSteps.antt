@@ -1,24 +1,26 @@
 -- The server's steps that place nothing: pushes, orders, reads, and attempts that are refused or answered again.
-use Rattle.std.proofs.Common.{◌≡◌, ℕ, Bool, true, false, cond, List, [], ◌∷◌, ◌++◌, Option, Some, None, refl, sym, ap, subst, arith, append-nil}
+use Rattle.std.proofs.Common.{◌≡◌, ℕ, ◌≤◌, Bool, true, false, cond, List, [], ◌∷◌, ◌++◌, Option, Some, None, refl, sym, ap, subst, arith, append-nil}
 use Rattle.std.specs.Prelude.{All, IfSome, IsTrue, ◌-◌}
 use Rattle.std.specs.FinMap as table
 use Rattle.std.specs.Map.{lookup, remove_entry}
 use Rattle.std.proofs.lemmas.List.Elements.{All-nil, All-cons, All-head, All-tail, All-take}
 use Rattle.gfs_types.specs.declared.ids.DataId.{DataId}
 use Rattle.gfs_types.specs.declared.message.Message.{Message}
+use Rattle.gfs_types.specs.declared.refusal.Refusal.{Refusal}
 use Rattle.relaxed_file.specs.Machine.{Machine}
 use Rattle.gfs_types.specs.Image.{image}
 use Rattle.relaxed_file.specs.Order.{mutations_of}
 use Rattle.relaxed_file.specs.Run.{Visible}
 use Rattle.data_push.specs.Buffers.{PushBuffer, same_id, with_data, without_data}
 use Rattle.cell_protocol.specs.Seen.{Does, stays}
-use Rattle.cell_protocol.specs.Server.{ServerState, Replica, with_pushed, with_replica}
+use Rattle.cell_protocol.specs.declared.standing.Standing.TheVariants.{Denied}
+use Rattle.cell_protocol.specs.Server.{ServerState, Replica, with_pushed, with_replica, with_kept}
 use Rattle.cell_protocol.specs.ServerOrders.{empty_replica, creates, takes_grant, with_lease, has_version}
-use Rattle.cell_protocol.specs.ServerWrites.{takes_push}
+use Rattle.cell_protocol.specs.ServerWrites.{takes_push, denies}
 use Rattle.cell_protocol.specs.Observer.{entries_of, newly_placed}
 use Rattle.cell_refinement.specs.Known.{Known, IsRoundOpen, calls_made, kept_seq}
-use Rattle.cell_refinement.specs.Says.{Says, SaysPush}
-use Rattle.cell_refinement.specs.Simulates.{IsServer, IsReplica, IsLease, Holds}
+use Rattle.cell_refinement.specs.Says.{Says, SaysPush, SaysRefused}
+use Rattle.cell_refinement.specs.Simulates.{IsServer, IsReplica, IsLease, Stands, Holds}
 use Rattle.cell_refinement.proofs.Serving.{serving, serves, at_insert}
 
 -- what a step of the server comes to
@@ -103,6 +105,24 @@ module _ (k : Known) (s : ServerState) (up : k.server ≡ Some s) (sent : List M
         pushed = All-with (λ (e : DataId × List ℕ). SaysPush k e.0 e.1) s.pushed id bytes said old.pushed;
         kept = old.kept;
       }) (one (serving k s') _ tt)
+
+  -- An attempt is refused, which is kept. Its data may be gone.
+  pub denies_so : (id : DataId) (refusal : Refusal) (b : PushBuffer) → kept_seq s.kept ≤ id.seq → All (λ (e : DataId × List ℕ). SaysPush k e.0 e.1) b.entries
+      → Stands (serving k (with_kept (with_pushed s b) id.seq (Denied refusal))) id.seq (Denied refusal)
+      → SaysRefused (serving k (with_kept (with_pushed s b) id.seq (Denied refusal))) id.seq refusal
+      → ServerOutcome k (denies (with_pushed s b) id refusal) sent trace
+  denies_so id refusal b newer pushed stands says =
+      let s' : ServerState = with_kept (with_pushed s b) id.seq (Denied refusal) in
+      unseen k s' _ sent trace
+      (serves k s s' up newer (omega arith) sent trace (record {
+        config = old.config;
+        now = old.now;
+        replicas = old.replicas;
+        leases = old.leases;
+        pushed = pushed;
+        kept = stands;
+      }) h)
+      (one (serving k s') _ says)
 
   empty_image : (handle : ℕ) → entries_of k.placed handle ≡ [] → image k.config.chunk (mutations_of (entries_of k.placed handle)) ≡ []
   empty_image handle e = ap (λ es. image k.config.chunk (mutations_of es)) e

@@ -6,11 +6,10 @@ use Rattle.std.proofs.lemmas.Bool.{eqb-true}
 use Rattle.std.proofs.lemmas.Option.{same_Some}
 use Rattle.gfs_types.specs.declared.ids.DataId.{DataId}
 use Rattle.gfs_types.specs.declared.refusal.Refusal.{Refusal}
-use Rattle.gfs_types.specs.declared.refusal.Refusal.TheVariants.{NoLease, NoData, OldRequest, Late}
+use Rattle.gfs_types.specs.declared.refusal.Refusal.TheVariants.{NoLease, NoData, OldRequest, Late, ChunkFull}
 use Rattle.gfs_types.specs.declared.message.Body.{Body}
 use Rattle.gfs_types.specs.declared.message.Body.TheVariants as body
 use Rattle.gfs_types.specs.declared.message.Message.{Message}
-use Rattle.gfs_types.specs.declared.mutation.Mutation.TheVariants as mutation
 use Rattle.gfs_types.specs.declared.message.Target.{Target}
 use Rattle.gfs_types.specs.declared.message.Target.TheVariants as target
 use Rattle.relaxed_file.specs.Run.{Visible}
@@ -18,21 +17,20 @@ use Rattle.data_push.specs.Buffers.{same_id, data_of}
 use Rattle.gfs_types.specs.declared.ids.ClientId.{ClientId}
 use Rattle.cell_protocol.specs.declared.standing.Standing.{Standing}
 use Rattle.cell_protocol.specs.declared.standing.Standing.TheVariants.{Settled, Denied}
-use Rattle.cell_protocol.specs.Seen.{stays}
 use Rattle.cell_protocol.specs.declared.standing.LeaseHeld.{LeaseHeld}
 use Rattle.cell_protocol.specs.declared.standing.Kept.{Kept}
 use Rattle.cell_protocol.specs.Server.{ServerState, Replica, with_kept}
 use Rattle.cell_protocol.specs.ServerOrders.{creates}
-use Rattle.cell_protocol.specs.ServerWrites.{takes_mutate, mutates_as, mutates_new, mutates_with, places, may_place, answers_attempt, refuses_attempt, is_held}
+use Rattle.cell_protocol.specs.ServerWrites.{takes_mutate, mutates_as, mutates_new, mutates_with, denies, answers_attempt, refuses_attempt, is_held}
 use Rattle.cell_protocol.specs.ServerStep.{server_takes}
 use Rattle.cell_refinement.specs.Known.{Known, Attempt, IsRoundOpen, kept_seq}
-use Rattle.cell_refinement.specs.Says.{SaysBody, SaysPush, SaysMutate, SaysRefused, IsNumbered, IsOver, IsTargetOf, MayStillPlace, MayComeTo, IsPastData, IsPastWith}
+use Rattle.cell_refinement.specs.Says.{SaysBody, SaysPush, SaysMutate, SaysRefused, IsNumbered, IsOver, IsFullAt, IsUnplaced, MayStillPlace, MayComeTo, IsPastData, IsPastWith}
 use Rattle.cell_refinement.specs.Simulates.{IsServer, IsReplica, IsLease, Stands, Holds}
-use Rattle.cell_refinement.proofs.Serving.{serving, serves}
-use Rattle.cell_refinement.proofs.ServerSteps.{ServerOutcome, unseen, one, found, old, stays_so, tells, pushes_so, creates_so, grants_so}
+use Rattle.cell_refinement.proofs.Serving.{serving}
+use Rattle.cell_refinement.proofs.ServerSteps.{ServerOutcome, found, old, stays_so, denies_so, tells, pushes_so, creates_so, grants_so}
 use Rattle.cell_refinement.proofs.ServerReading.{reads_so}
 use Rattle.cell_refinement.proofs.ServerMeasuring.{measures_so}
-use Rattle.cell_refinement.proofs.ServerWriting.{places_so}
+use Rattle.cell_refinement.proofs.ServerAppending.{writes_so, appends_so}
 
 some_same : {X : Type 0} {x y : X} → Some x ≡ Some y → x ≡ y
 some_same {X = X} {x = x} {y = y} h = same_Some x y h
@@ -70,7 +68,7 @@ is_higher : (x y : ℕ) → (x == y) ≡ false → nat_lt x y ≡ false → y < 
 is_higher x y e f = grind (arith, e, f)
 
 module _ (k : Known) (s : ServerState) (up : k.server ≡ Some s) (sent : List Message) (trace : List Visible) (h : Holds k sent trace)
-    (some : 0 < k.config.attempts) (clock : k.greatest ≤ s.now + k.config.skew_ms) where
+    (some : 0 < k.config.attempts) (room : 0 < k.config.chunk) (clock : k.greatest ≤ s.now + k.config.skew_ms) where
   part : IsServer k s
   part = old k s up sent trace h
 
@@ -96,12 +94,23 @@ module _ (k : Known) (s : ServerState) (up : k.server ≡ Some s) (sent : List M
     kept_is : (q : Kept) → s.kept ≡ Some q → Stands k q.seq q.standing
     kept_is q is = subst {A = Option Kept} (λ o. IfSome o (λ (x : Kept). Stands k x.seq x.standing)) is part.kept
 
+    taken : (q : Kept) → s.kept ≡ Some q → id.seq ≡ q.seq → id.seq ≤ kept_seq s.kept
+    taken q is same = let e : kept_seq s.kept ≡ q.seq = ap kept_seq is in omega arith
+
+    -- an attempt whose chunk was full
+    full_again : (q : Kept) → s.kept ≡ Some q → id.seq ≡ q.seq → Stands k q.seq (Denied ChunkFull) → (b : Attempt) → k.attempts id.seq ≡ Some b → IsOver id.seq b s × IsFullAt k b × IsUnplaced k id.seq
+    full_again q is same stands b there =
+        let e : stands.0 ≡ b = some_same (sym stands.1 ∙ ap k.attempts (sym same) ∙ there) in
+        (inl (taken q is same), subst (IsFullAt k) e stands.2, subst (IsUnplaced k) (sym same) stands.3)
+
     again : (q : Kept) (x : Standing) → s.kept ≡ Some q → id.seq ≡ q.seq → Stands k q.seq x → ServerOutcome k (answers_attempt s id x) sent trace
     again q (Settled place) is same stands =
-        tells k s up sent trace h _ (stands.0, ap k.attempts same ∙ stands.1, stands.2, (let e : kept_seq s.kept ≡ q.seq = ap kept_seq is in omega arith))
-    again q (Denied refusal) is same stands =
+        tells k s up sent trace h _ (stands.0, ap k.attempts same ∙ stands.1, stands.2, taken q is same)
+    again q (Denied ChunkFull) is same stands =
+        refuses_so ChunkFull (numbered, λ sc c oc client current at_stage call. tt, λ b there. full_again q is same stands b there)
+    again q (Denied other) is same stands =
         subst (λ r. ServerOutcome k (refuses_attempt s id r) sent trace) (sym stands)
-        (refuses_so NoData (numbered, λ sc c oc client current at_stage call. tt, of_this (λ b. IsOver id.seq b s) (inl (let e : kept_seq s.kept ≡ q.seq = ap kept_seq is in omega arith))))
+        (refuses_so NoData (numbered, λ sc c oc client current at_stage call. tt, of_this (λ b. IsOver id.seq b s) (inl (taken q is same))))
 
     module _ (newer : kept_seq s.kept < id.seq) (in_time : a.deadline ≤ s.now → ⊥) (round : IsRoundOpen k a.handle) where
       open_still : MayStillPlace k a
@@ -128,40 +137,33 @@ module _ (k : Known) (s : ServerState) (up : k.server ≡ Some s) (sent : List M
             | inr over ↦ absurd (not_over_yet (subst {A = Option ServerState} (λ o. IfSome o (IsOver id.seq a)) up over))
           ]
 
-      denied : ServerOutcome k (refuses_attempt (with_kept s id.seq (Denied NoData)) id NoData) sent trace
-      denied =
-          let s' : ServerState = with_kept s id.seq (Denied NoData) in
-          unseen k s' _ sent trace
-          (serves k s s' up (omega arith) (omega arith) sent trace (record {
-            config = part.config;
-            now = part.now;
-            replicas = part.replicas;
-            leases = part.leases;
-            pushed = part.pushed;
-            kept = refl;
-          }) h)
-          (one (serving k s') _ (numbered, λ sc c oc client current at_stage call. tt, of_this (λ b. IsOver id.seq b s') (inl (omega arith))))
+      denied : ServerOutcome k (denies s id NoData) sent trace
+      denied = denies_so k s up sent trace h id NoData s.pushed (omega arith) part.pushed refl
+          (numbered, λ sc c oc client current at_stage call. tt, of_this (λ b. IsOver id.seq b (with_kept s id.seq (Denied NoData))) (inl (omega arith)))
 
-      writes_so : (r : Replica) → table.get s.replicas a.handle ≡ Some r → (o : Option (List ℕ)) → data_of s.pushed id ≡ o → ServerOutcome k (mutates_with s a.handle r id (target.Write a.place) o) sent trace
-      writes_so r is None none = denied
-      writes_so r is (Some bytes) there =
+      -- with its own data, by where they go
+      mutates_to : (r : Replica) → table.get s.replicas a.handle ≡ Some r → (x : Target) → x ≡ a.target → ServerOutcome k (mutates_with s a.handle r id x (Some a.bytes)) sent trace
+      mutates_to r is (target.Write place) to =
+          writes_so k s up sent trace h some room id a r known said.0 said.1 past_data not_over_yet (omega arith) round (subst (IsReplica k a.handle) is (part.replicas a.handle))
+          open_still.0 open_still.1 open_still.2 open_still.3 place to
+      mutates_to r is target.Append to =
+          appends_so k s up sent trace h some room id a r known said.0 said.1 past_data not_over_yet (omega arith) round (subst (IsReplica k a.handle) is (part.replicas a.handle))
+          open_still.0 open_still.1 open_still.2 open_still.3 to
+
+      mutates_by : (r : Replica) → table.get s.replicas a.handle ≡ Some r → (x : Target) → x ≡ a.target → (o : Option (List ℕ)) → data_of s.pushed id ≡ o → ServerOutcome k (mutates_with s a.handle r id x o) sent trace
+      mutates_by r is x to None none = denied
+      mutates_by r is x to (Some bytes) there =
           let at_key = found (λ e. SaysPush k e.0 e.1) (same_id id) s.pushed.entries bytes there part.pushed in
           let e : id ≡ at_key.0 = same_id_exact id at_key.0 at_key.1 in
           let said_push : SaysPush k id bytes = subst (λ x. SaysPush k x bytes) (sym e) at_key.2 in
           let same : a.bytes ≡ bytes = ap (λ (x : Attempt). x.bytes) (some_same (sym known ∙ said_push.3)) ∙ said_push.4 in
-          subst (λ bs. ServerOutcome k (cond (may_place s r a.place bs) (places s a.handle r id (mutation.Write a.place bs)) (stays s)) sent trace) same
-          (elim (may_place s r a.place a.bytes) as (λ b. ServerOutcome k (cond b (places s a.handle r id (mutation.Write a.place a.bytes)) (stays s)) sent trace) [
-            | true ↦ places_so k s up sent trace h id a r known said.1 past_data not_over_yet
-                (omega arith) round (subst (IsReplica k a.handle) is (part.replicas a.handle)) some open_still.0 open_still.1 open_still.2 open_still.3
-            | false ↦ stays_so k s up sent trace h
-          ])
+          subst (λ bs. ServerOutcome k (mutates_with s a.handle r id x (Some bs)) sent trace) same (mutates_to r is x to)
 
-      new_so : (x : Target) → IsTargetOf a x → (o : Option Replica) → table.get s.replicas a.handle ≡ o → ServerOutcome k (mutates_new s a.handle id x o) sent trace
-      new_so x fits None is = stays_so k s up sent trace h
-      new_so target.Append fits (Some r) is = absurd fits
-      new_so (target.Write offset) fits (Some r) is = subst (λ n. ServerOutcome k (mutates_with s a.handle r id (target.Write n) (data_of s.pushed id)) sent trace) (sym fits) (writes_so r is (data_of s.pushed id) refl)
+      new_so : (x : Target) → x ≡ a.target → (o : Option Replica) → table.get s.replicas a.handle ≡ o → ServerOutcome k (mutates_new s a.handle id x o) sent trace
+      new_so x to None is = stays_so k s up sent trace h
+      new_so x to (Some r) is = mutates_by r is x to (data_of s.pushed id) refl
 
-    as_so : (in_time : a.deadline ≤ s.now → ⊥) (round : IsRoundOpen k a.handle) (o : Option Kept) → s.kept ≡ o → IsTargetOf a t → ServerOutcome k (mutates_as s a.handle id t o) sent trace
+    as_so : (in_time : a.deadline ≤ s.now → ⊥) (round : IsRoundOpen k a.handle) (o : Option Kept) → s.kept ≡ o → t ≡ a.target → ServerOutcome k (mutates_as s a.handle id t o) sent trace
     as_so in_time round None is fits = new_so (let e : kept_seq s.kept ≡ 0 = ap kept_seq is in let g = said.0 in omega arith) in_time round t fits (table.get s.replicas a.handle) refl
     as_so in_time round (Some q) is fits =
         let e : kept_seq s.kept ≡ q.seq = ap kept_seq is in
@@ -173,7 +175,7 @@ module _ (k : Known) (s : ServerState) (up : k.server ≡ Some s) (sent : List M
           ] refl
         ] refl
 
-    held_so : (o : Option LeaseHeld) → table.get s.leases a.handle ≡ o → IsTargetOf a t
+    held_so : (o : Option LeaseHeld) → table.get s.leases a.handle ≡ o → t ≡ a.target
         → ServerOutcome k (cond (is_held s version o) (cond (nat_le a.deadline s.now) (refuses_attempt s id Late) (mutates_as s a.handle id t s.kept)) (refuses_attempt s id NoLease)) sent trace
     held_so None is fits = no_lease
     held_so (Some x) is fits =
@@ -187,7 +189,7 @@ module _ (k : Known) (s : ServerState) (up : k.server ≡ Some s) (sent : List M
         ]
 
     pub mutates_so : ServerOutcome k (takes_mutate s id a.handle version t a.deadline) sent trace
-    mutates_so = held_so (table.get s.leases a.handle) refl (subst (λ x. IsTargetOf x t) (some_same (sym said.3 ∙ known)) said.6)
+    mutates_so = held_so (table.get s.leases a.handle) refl (said.6 ∙ ap (λ (x : Attempt). x.target) (some_same (sym said.3 ∙ known)))
 
   mutate_by : (id : DataId) (handle version : ℕ) (t : Target) (deadline : ℕ) → SaysMutate k id handle version t deadline → ServerOutcome k (takes_mutate s id handle version t deadline) sent trace
   mutate_by id handle version t deadline said =

@@ -1,6 +1,6 @@
--- The server places a write: the machine places it and settles it.
-use Rattle.std.proofs.Common.{◌≡◌, ℕ, ◌<◌, ◌≤◌, true, false, cond, List, [], ◌∷◌, ◌++◌, length, Option, Some, None, refl, sym, ap, ◌∙◌, subst, inl, inr, arith, append-nil}
-use Rattle.std.specs.Prelude.{Contains, IfSome, IsTrue, IsFalse, ◌⊎◌, ◌==◌, option_map, unwrap_or, nat_lt, slice_get, IsSomeAnd}
+-- The server places a mutation of an attempt: the machine places it and settles it.
+use Rattle.std.proofs.Common.{◌≡◌, ℕ, ◌<◌, ◌≤◌, Bool, true, false, cond, List, [], ◌∷◌, ◌++◌, length, Option, Some, None, refl, sym, ap, ◌∙◌, subst, inl, inr, arith, append-nil}
+use Rattle.std.specs.Prelude.{Contains, IfSome, IsTrue, IsFalse, ◌⊎◌, ◌==◌, ◌&&◌, not, option_map, unwrap_or, nat_lt, slice_get, IsSomeAnd}
 use Rattle.std.proofs.lemmas.Bool.{cases_eq, ne_eqb, eq-eqb}
 use Rattle.std.proofs.lemmas.Option.{same_Some}
 use Rattle.std.specs.FinMap as table
@@ -11,31 +11,35 @@ use Rattle.gfs_types.specs.declared.mutation.Mutation.{Mutation}
 use Rattle.gfs_types.specs.declared.mutation.Mutation.TheVariants as mutation
 use Rattle.gfs_types.specs.declared.message.Message.{Message}
 use Rattle.gfs_types.specs.Image.{image}
+use Rattle.gfs_types.specs.Mutations.{start_of, end_of, is_pad}
 use Rattle.relaxed_file.specs.Order.{Entry, mutations_of}
-use Rattle.relaxed_file.specs.Machine.{Machine, Chunk, OpenCall, Asked, Opens, chunk_at, chunk_count}
-use Rattle.relaxed_file.specs.Chunks.{MayPlace, MaySettle, placed, settled, settled_at, with_entry, tries_in}
+use Rattle.relaxed_file.specs.Machine.{Machine, Chunk, OpenCall, Opens, chunk_at, chunk_count}
+use Rattle.relaxed_file.specs.Chunks.{AsksFor, MayPlace, MaySettle, placed, settled, settled_at, with_entry}
 use Rattle.relaxed_file.specs.Run.{Visible, Place, Settle, IsRunTo, after}
 use Rattle.relaxed_file.proofs.GoingOn.{runs_go_on}
 use Rattle.data_push.specs.Buffers.{without_data}
 use Rattle.cell_protocol.specs.declared.observer.Placed.{Placed}
+use Rattle.cell_protocol.specs.declared.stage.Stage.TheVariants as stage
+use Rattle.cell_protocol.specs.declared.stage.CurrentCall.{CurrentCall}
 use Rattle.cell_protocol.specs.Sending.{only_client}
 use Rattle.cell_protocol.specs.Server.{ServerState, Replica, with_bytes, written_replica}
-use Rattle.cell_protocol.specs.ServerWrites.{places, after_mutation, numbering_of}
+use Rattle.cell_protocol.specs.ServerWrites.{places, after_mutation, numbering_of, bytes_of, standing_of, told_of}
 use Rattle.cell_protocol.specs.Master.{MasterState}
 use Rattle.cell_protocol.specs.Client.{ClientState}
 use Rattle.cell_protocol.specs.Observer.{entries_of, entry_of}
-use Rattle.cell_refinement.specs.Known.{Known, Spot, Attempt, IsAttempt, IsMutationOf, HasEntry, HasNoEntry, IsRoundOpen, open_call_of, the_client_of, calls_made, kept_seq, chunk_of, call_id}
-use Rattle.cell_refinement.specs.Says.{SaysPush, IsPastData, IsOver, MayStillPlace, MayComeTo}
-use Rattle.cell_refinement.specs.Simulates.{IsMachine, IsChunkAt, IsMaster, IsServer, IsClient, IsReplica, IsGoing, IsBefore, Holds}
+use Rattle.cell_refinement.specs.Known.{Known, Spot, Attempt, IsAttempt, HasEntry, HasNoEntry, is_entry_of, mutation_at, IsRoundOpen, open_call_of, the_client_of, calls_made, kept_seq, chunk_of, call_id}
+use Rattle.cell_refinement.specs.Says.{SaysBody, SaysPush, IsNumbered, IsPastData, IsOver, IsFullAt, IsUnplaced, MayStillPlace, MayComeTo}
+use Rattle.cell_refinement.specs.Simulates.{IsMachine, IsChunkAt, IsMaster, IsServer, IsClient, IsReplica, IsGoing, IsBefore, HasAttempt, Stands, Holds}
 use Rattle.cell_refinement.proofs.Later.{Later, all_stay, data_stays}
 use Rattle.cell_refinement.proofs.Frames.{SameChunks, SameClient, master_same, client_same, lease_stays, in_turn_stays}
 use Rattle.cell_refinement.proofs.Quiet.{Quiet, later_quiet}
 use Rattle.cell_refinement.proofs.Growing.{Learns, stepped_call, goes_on_by, learned_from}
 use Rattle.cell_refinement.proofs.Serving.{at_insert}
 use Rattle.cell_refinement.proofs.ServerSteps.{ServerOutcome, one, old, All-without}
-use Rattle.cell_refinement.proofs.ImageBytes.{image-write}
+use Rattle.cell_refinement.proofs.ImageBytes.{image-push}
 use Rattle.cell_refinement.proofs.ChunkTables.{chunk_there, chunk_elsewhere, count_kept, collected_kept, settled_last, get_last}
-use Rattle.cell_refinement.proofs.Writing.{asks_for, entries_of-push, no_tries}
+use Rattle.cell_refinement.proofs.Writing.{entries_of-push}
+use Rattle.cell_refinement.proofs.Waited.{open_one, unplaced_of, asked_as}
 
 some_same : {X : Type 0} {x y : X} → Some x ≡ Some y → x ≡ y
 some_same {X = X} {x = x} {y = y} h = same_Some x y h
@@ -67,7 +71,7 @@ spot_cases p q = elim (cases_eq p.file q.file) [
   ]
 ]
 
--- The machine after a write was placed at a spot and settled.
+-- The machine after a mutation was placed at a spot and settled.
 module _ (m : Machine) (at : Spot) (oc : OpenCall) (w : Mutation) where
   abbrev pub first : Machine
   first = placed m only_client oc at.file at.index w
@@ -126,16 +130,28 @@ module _ (m : Machine) (at : Spot) (oc : OpenCall) (w : Mutation) where
       let b : IsRunTo config trace first = subst (λ x. IsRunTo config trace x) (ap (λ o. unwrap_or (option_map (λ current. placed m only_client current at.file at.index w) o) m) is) a in
       subst (λ t. IsRunTo config t last) (append-nil trace) (runs_go_on config trace first (Settle at.file at.index (length (chunk_of m at).order)) b (may_settle may.2))
 
+-- The mutation is what its attempt puts there, or a pad.
+abbrev pub IsFor : Attempt → Mutation → Type 0
+IsFor a (mutation.Write place bytes) = mutation.Write place bytes ≡ mutation_at a.target place a.bytes
+IsFor a (mutation.Append place bytes) = mutation.Append place bytes ≡ mutation_at a.target place a.bytes
+IsFor a (mutation.Pad place) = Unit {0}
+
+-- one more of another call, or a pad, is no entry of the call
+no_more : (ps : List Placed) (p : Placed) (n : ℕ) → HasNoEntry ps n → IsFalse (is_entry_of n p) → HasNoEntry (ps ++ p ∷ []) n
+no_more ps p n none here = All-push (λ (x : Placed). IsFalse (is_entry_of n x)) ps p none here
+
+of_another : (x y : ℕ) (b : Bool) → (x ≡ y → ⊥) → IsFalse ((x == y) && b)
+of_another x y b far = ap (λ e. e && b) (ne_eqb x y far)
+
+a_pad : (b : Bool) → IsFalse (b && false)
+a_pad true = refl
+a_pad false = refl
+
 module _ (k : Known) (s : ServerState) (up : k.server ≡ Some s) (sent : List Message) (trace : List Visible) (h : Holds k sent trace)
-    (id : DataId) (a : Attempt) (r : Replica) (known : k.attempts id.seq ≡ Some a) (own : id.client.0 ≡ only_client) (past : IsPastData k a.call) (going : IsOver id.seq a s → ⊥)
-    (newer : kept_seq s.kept ≤ id.seq) (round : IsRoundOpen k a.handle) (here : IsReplica k a.handle (Some r)) (some : 0 < k.config.attempts)
-    (oc : OpenCall) (call_is : open_call_of k.m ≡ Some oc) (number : oc.number ≡ a.call) (unplaced : HasNoEntry k.placed a.call) where
-  attempt : IsAttempt k a
-  attempt = (h.machine.attempts id.seq a known).0
-
-  at : Spot
-  at = attempt.at
-
+    (id : DataId) (a : Attempt) (r : Replica) (known : k.attempts id.seq ≡ Some a) (first_is : 1 ≤ id.seq) (own : id.client.0 ≡ only_client) (past : IsPastData k a.call) (going : IsOver id.seq a s → ⊥)
+    (newer : kept_seq s.kept ≤ id.seq) (round : IsRoundOpen k a.handle) (here : IsReplica k a.handle (Some r))
+    (oc : OpenCall) (call_is : open_call_of k.m ≡ Some oc) (number : oc.number ≡ a.call) (unplaced : HasNoEntry k.placed a.call)
+    (attempt : IsAttempt k a) (w : Mutation) (fits : IsFor a w) (within : start_of w ≤ k.config.chunk) (asks : AsksFor k.m (call_id oc.number) attempt.at.file attempt.at.index oc.asked.call w) where
   chunk_is : IsChunkAt k a.handle attempt.at
   chunk_is = h.machine.owned a.handle attempt.at attempt.owned
 
@@ -144,35 +160,17 @@ module _ (k : Known) (s : ServerState) (up : k.server ≡ Some s) (sent : List M
       let e : round.0 ≡ attempt.at = some_same (sym round.1 ∙ attempt.owned) in
       (subst (λ x. (chunk_of k.m x).round ≡ 1) e round.2, subst (λ x. IsTrue (chunk_of k.m x).is_open) e round.3)
 
-  asked_is : attempt.asked ≡ oc.asked
-  asked_is = some_same (sym attempt.made ∙ ap (λ n. (the_client_of k.m).calls n) (sym number) ∙ (h.machine.asked oc call_is).0)
-
-  no_try : tries_in (call_id oc.number) (chunk_of k.m attempt.at) ≡ 0
-  no_try =
-      ap (λ es. tries_in (call_id oc.number) (record (chunk_of k.m attempt.at) { order = es })) chunk_is.order
-      ∙ no_tries k.placed a.handle oc.number (subst (λ n. HasNoEntry k.placed n) (sym number) unplaced)
-
-  may_place : MayPlace k.m only_client oc attempt.at.file attempt.at.index (mutation.Write a.place a.bytes)
-  may_place = (
-    ap (λ x. x.file) (sym asked_is) ∙ attempt.file,
-    chunk_is.within,
-    round_at.1,
-    asks_for k.m (call_id oc.number) k.config.chunk a attempt.at oc.asked.call
-        (subst (λ (x : Asked). IsMutationOf k.config.chunk a attempt.at x.call) asked_is attempt.fits)
-        (ap (λ (x : Config). x.chunk) h.machine.config) no_try (subst (λ (x : Config). 0 < x.attempts) (sym h.machine.config) some),
-  )
-
-  abbrev w : Mutation
-  w = mutation.Write a.place a.bytes
+  may_place : MayPlace k.m only_client oc attempt.at.file attempt.at.index w
+  may_place = (ap (λ x. x.file) (sym (asked_as k h.machine a attempt oc call_is number)) ∙ attempt.file, chunk_is.within, round_at.1, asks)
 
   abbrev m2 : Machine
   m2 = last k.m attempt.at oc w
 
   abbrev p : Placed
-  p = record { call = calls_made k.m; numbering = numbering_of a.handle r id (mutation.Write a.place a.bytes) }
+  p = record { call = calls_made k.m; numbering = numbering_of a.handle r id w }
 
   abbrev s' : ServerState
-  s' = after_mutation s a.handle r id (mutation.Write a.place a.bytes)
+  s' = after_mutation s a.handle r id w
 
   abbrev l : Known
   l = record k { m = m2; server = Some s'; placed = k.placed ++ p ∷ [] }
@@ -211,6 +209,27 @@ module _ (k : Known) (s : ServerState) (up : k.server ≡ Some s) (sent : List M
       let same : b.call ≡ a.call = sym may.2 ∙ sym (ap (λ (y : OpenCall). y.number) e) ∙ number in
       inl (over seq b x is there same)
 
+  no_longer : (seq : ℕ) → seq ≡ id.seq → (b : Attempt) → k.attempts seq ≡ Some b → IfSome k.server (IsOver seq b) → ⊥
+  no_longer seq same b there ended =
+      let e : b ≡ a = some_same (sym there ∙ ap k.attempts same ∙ known) in
+      going (subst (λ n. IsOver n a s) same (subst (λ x. IsOver seq x s) e (subst {A = Option ServerState} (λ o. IfSome o (IsOver seq b)) up ended)))
+
+  -- the client doesn't wait for an attempt that is over where its call's next one is placed
+  waits_not : (seq : ℕ) (b : Attempt) → k.attempts seq ≡ Some b → IfSome k.server (IsOver seq b)
+      → (sc : ClientState) (c : CurrentCall) → k.client ≡ Some sc → sc.current ≡ Some c → c.stage ≡ stage.SentMutate seq → c.number ≡ calls_made k.m → ⊥
+  waits_not seq b there ended sc c client current at_stage same =
+      let current_is = open_one k sent trace h sc c client current in
+      elim (current_is.2.attempts id.seq a known (sym number ∙ calls_is ∙ sym same)).1 [
+        | inl mine ↦ no_longer seq (sym (subst (λ st. HasAttempt st id.seq) at_stage mine)) b there ended
+        | inr over ↦ no_longer id.seq refl a known over
+      ]
+
+  unplaced_still : (seq : ℕ) (b : Attempt) → k.attempts seq ≡ Some b → IfSome k.server (IsOver seq b) → IsUnplaced k seq → IsUnplaced l seq
+  unplaced_still seq b there ended none sc c client current at_stage = elim (cases_eq c.number (calls_made k.m)) [
+    | inl e ↦ absurd (waits_not seq b there ended sc c client current at_stage e)
+    | inr far ↦ no_more k.placed p c.number (none sc c client current at_stage) (of_another (calls_made k.m) c.number (not (is_pad w)) (λ e. far (sym e)))
+  ]
+
   quiet : Quiet k l
   quiet = record {
     config = refl;
@@ -231,6 +250,7 @@ module _ (k : Known) (s : ServerState) (up : k.server ≡ Some s) (sent : List M
     anew = λ n deadline c x is may until.
         inr (inr ((stepped_call begun may.0, ap (option_map (stepped_call begun)) may.1, may.2, may.3, may.4, may.5), until));
     may_place = λ seq b x is there may. still_placing seq b x is there may;
+    unplaced = λ seq b there over none. unplaced_still seq b there over none;
   }
 
   later : Later k l
@@ -255,7 +275,7 @@ module _ (k : Known) (s : ServerState) (up : k.server ≡ Some s) (sent : List M
     attempts = λ seq. refl;
     unplaced = λ sc c is current early none. elim (cases_eq c.number (calls_made k.m)) [
       | inl e ↦ absurd (early (past sc c is current (e ∙ sym calls_is ∙ number)))
-      | inr far ↦ All-push (λ (x : Placed). IsFalse (x.call == c.number)) k.placed p none (ne_eqb (calls_made k.m) c.number (λ e. far (sym e)))
+      | inr far ↦ no_more k.placed p c.number none (of_another (calls_made k.m) c.number (not (is_pad w)) (λ e. far (sym e)))
     ];
   }
 
@@ -317,26 +337,47 @@ module _ (k : Known) (s : ServerState) (up : k.server ≡ Some s) (sent : List M
     attempts = λ seq b is. (attempt_after b (h.machine.attempts seq b is).0, (h.machine.attempts seq b is).1);
   }
 
-  has_entry : HasEntry l a
-  has_entry = (
-    attempt.at,
-    attempt.owned,
-    entry k.m attempt.at oc w,
-    subst (λ (c : Chunk). Contains c.order (entry k.m attempt.at oc w)) (sym (spot_is k.m attempt.at oc w)) (Contains-push (chunk_of k.m attempt.at).order (entry k.m attempt.at oc w)),
-    ap call_id number,
-    round_at.0,
-    refl,
-    refl,
-  )
+  entry_there : Contains (chunk_of m2 attempt.at).order (entry k.m attempt.at oc w)
+  entry_there = subst (λ (c : Chunk). Contains c.order (entry k.m attempt.at oc w)) (sym (spot_is k.m attempt.at oc w)) (Contains-push (chunk_of k.m attempt.at).order (entry k.m attempt.at oc w))
+
+  has_entry : (place : ℕ) → w ≡ mutation_at a.target place a.bytes → HasEntry l a place
+  has_entry place is = (attempt.at, attempt.owned, entry k.m attempt.at oc w, entry_there, ap call_id number, round_at.0, refl, is)
+
+  -- after a pad the chunk is full, and no entry of the call stands
+  full_after : (place : ℕ) → w ≡ mutation.Pad place → IsFullAt l a
+  full_after place is = (attempt.at, attempt.owned, (entry k.m attempt.at oc w, entry_there, ap (end_of k.config.chunk) is))
+
+  unplaced_after : (place : ℕ) → w ≡ mutation.Pad place → IsUnplaced l id.seq
+  unplaced_after place is sc c client current at_stage =
+      no_more k.placed p c.number (unplaced_of k sent trace h id.seq a known unplaced sc c client current at_stage)
+      (subst (λ x. IsFalse ((calls_made k.m == c.number) && not (is_pad x))) (sym is) (a_pad (calls_made k.m == c.number)))
+
+  stands_as : (x : Mutation) → w ≡ x → IsFor a x → Stands l id.seq (standing_of x)
+  stands_as (mutation.Write place bytes) is same = (a, known, has_entry place (is ∙ same))
+  stands_as (mutation.Append place bytes) is same = (a, known, has_entry place (is ∙ same))
+  stands_as (mutation.Pad place) is same = (a, known, full_after place is, unplaced_after place is)
+
+  numbered : IsNumbered l id.seq
+  numbered = (first_is, (h.machine.attempts id.seq a known).1)
+
+  -- what the client is told
+  full_for : (b : Attempt) → k.attempts id.seq ≡ Some b → (place : ℕ) → w ≡ mutation.Pad place → IsOver id.seq b s' × IsFullAt l b × IsUnplaced l id.seq
+  full_for b there place is = (inl (omega arith), subst (IsFullAt l) (some_same (sym known ∙ there)) (full_after place is), unplaced_after place is)
+
+  told_as : (x : Mutation) → w ≡ x → IsFor a x → SaysBody l (told_of id (standing_of x))
+  told_as (mutation.Write place bytes) is same = (a, known, has_entry place (is ∙ same), omega arith)
+  told_as (mutation.Append place bytes) is same = (a, known, has_entry place (is ∙ same), omega arith)
+  told_as (mutation.Pad place) is same = (numbered, λ sc c oc client current at_stage call. tt, λ b there. full_for b there place is)
 
   part : IsServer k s
   part = old k s up sent trace h
 
-  replica_here : IsReplica l a.handle (Some (written_replica r a.place a.bytes))
+  replica_here : IsReplica l a.handle (Some (written_replica r (start_of w) (bytes_of s.config.chunk w)))
   replica_here = (
     here.0,
-    ap (λ bs. with_bytes bs a.place a.bytes) here.1
-        ∙ sym (image-write k.config.chunk (mutations_of (entries_of k.placed a.handle)) a.place a.bytes)
+    ap (λ (x : Config). with_bytes r.bytes (start_of w) (bytes_of x.chunk w)) part.config
+        ∙ ap (λ bs. with_bytes bs (start_of w) (bytes_of k.config.chunk w)) here.1
+        ∙ sym (image-push k.config.chunk (mutations_of (entries_of k.placed a.handle)) w within)
         ∙ ap (image k.config.chunk) (sym (mutations-push (entries_of k.placed a.handle) (entry k.m attempt.at oc w)))
         ∙ ap (λ es. image k.config.chunk (mutations_of es)) (sym own_entries),
   )
@@ -349,11 +390,11 @@ module _ (k : Known) (s : ServerState) (up : k.server ≡ Some s) (sent : List M
   server_after = record {
     config = part.config;
     now = part.now;
-    replicas = at_insert (λ q o. IsReplica l q o) s.replicas a.handle (written_replica r a.place a.bytes) replica_here (λ q far. replica_there q far (table.get s.replicas q) (part.replicas q));
+    replicas = at_insert (λ q o. IsReplica l q o) s.replicas a.handle (written_replica r (start_of w) (bytes_of s.config.chunk w)) replica_here (λ q far. replica_there q far (table.get s.replicas q) (part.replicas q));
     leases = λ q. lease_stays k l q (table.get s.leases q) later (part.leases q);
     pushed = All-weaker (λ (e : DataId × List ℕ). SaysPush k e.0 e.1) (λ (e : DataId × List ℕ). SaysPush l e.0 e.1) (λ e g. data_stays k l later e.0 e.1 g) (without_data s.pushed id).entries
         (All-without (λ (e : DataId × List ℕ). SaysPush k e.0 e.1) s.pushed id part.pushed);
-    kept = (a, known, has_entry);
+    kept = stands_as w refl fits;
   }
 
   master_after : (o : Option MasterState) → IfSome o (IsMaster k) → IfSome o (IsMaster l)
@@ -364,8 +405,8 @@ module _ (k : Known) (s : ServerState) (up : k.server ≡ Some s) (sent : List M
   client_after None is g = tt
   client_after (Some x) is g = client_same k l x later same_client is g
 
-  -- The write has its place, and all holds.
-  pub places_so : ServerOutcome k (places s a.handle r id (mutation.Write a.place a.bytes)) sent trace
+  -- The mutation has its place, and all holds.
+  pub places_so : ServerOutcome k (places s a.handle r id w) sent trace
   places_so = record {
     m = m2;
     made = refl;
@@ -377,5 +418,5 @@ module _ (k : Known) (s : ServerState) (up : k.server ≡ Some s) (sent : List M
       client = client_after k.client refl h.client;
       says = all_stay k l later sent h.says;
     };
-    says = one l _ (a, known, has_entry, omega arith);
+    says = one l _ (told_as w refl fits);
   }

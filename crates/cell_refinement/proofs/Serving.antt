@@ -15,7 +15,7 @@ use Rattle.cell_refinement.specs.Known.{Known, Attempt, IsAttempt, open_call_of,
 use Rattle.cell_refinement.specs.Simulates.{IsMachine, IsChunkAt, IsMaster, IsServer, IsClient, Holds}
 use Rattle.cell_refinement.proofs.Later.{Later, all_stay}
 use Rattle.cell_refinement.proofs.Frames.{SameChunks, SameClient, master_same, client_same, in_turn_stays}
-use Rattle.cell_refinement.proofs.Quiet.{Quiet, later_quiet, goes_on_refl, anew_same, may_place_same}
+use Rattle.cell_refinement.proofs.Quiet.{Quiet, later_quiet, goes_on_refl, anew_same, may_place_same, unplaced_same}
 
 -- what a table gives after an entry was put in
 
@@ -71,6 +71,7 @@ module _ (k : Known) (s s' : ServerState) (up : k.server ≡ Some s) (kept : kep
         (s, up, subst (λ (y : ServerState). kept_seq s.kept ≤ kept_seq y.kept) e kept, subst (λ (y : ServerState). s.now ≤ y.now) e now);
     anew = λ number deadline c x is h u. anew_same k (serving k s') number deadline c x refl refl h u;
     may_place = λ seq a x is known h. may_place_same k (serving k s') seq a x refl (goes_on_refl (open_call_of k.m)) h;
+    unplaced = λ seq a known over none. unplaced_same k (serving k s') seq refl refl none;
   }
 
   pub later_serving : Later k (serving k s')
