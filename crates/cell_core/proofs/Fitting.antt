@@ -63,3 +63,7 @@ fits_ok c (Err fault) h = tt
 pub some_attempt_ok : (c : Config) (r : Result (Unit {0}) ConfigFault) → result_err r ≡ first_out_of_range c → IfOk r (λ _. 0 < c.attempts)
 some_attempt_ok c (Ok x) h = some_attempt c (sym h)
 some_attempt_ok c (Err fault) h = tt
+
+pub some_room_ok : (c : Config) (r : Result (Unit {0}) ConfigFault) → result_err r ≡ first_out_of_range c → IfOk r (λ _. 0 < c.chunk)
+some_room_ok c (Ok x) h = let f = (fits c (sym h)).some_chunk in omega arith
+some_room_ok c (Err fault) h = tt

@@ -10,11 +10,12 @@ use Rattle.cell_refinement.proofs.WorldRuns.{answers_are_a_run}
 use Rattle.cell_core.specs.Standing.{Stands}
 
 pub explained : (w : WorldState) → Stands w → IsExplained w
-explained w h = answers_are_a_run w h.reached h.some_attempt
+explained w h = answers_are_a_run w h.reached h.some_room h.some_attempt
 
 pub stands_on : (w new : WorldState) (event : Event) (answer : Option Answer) → Stands w → new.config ≡ w.config → WorldSteps w event answer new → Stands new
 stands_on w new event answer h same s = record {
   reached = reached_on w new event answer h.reached same s;
+  some_room = rw same h.some_room;
   some_attempt = rw same h.some_attempt;
 }
 

@@ -11,7 +11,8 @@ pub record Calls (old : WorldState) (moment : ℕ) (c : Call) (answer : Option A
   pub answer_is : (call_moves old moment c choice old.client).out.answer ≡ answer
   pub world_is : (call_moves old moment c choice old.client).world ≡ new
 
--- events led here from a new cell, whose calls have an attempt at least
+-- events led here from a new cell, whose chunks hold a byte at least, and whose calls have an attempt
 pub record Stands (w : WorldState) : Type 0 where
   pub reached : IsReached w
+  pub some_room : 0 < w.config.chunk
   pub some_attempt : 0 < w.config.attempts

@@ -129,6 +129,7 @@ fn copies(alloc: Global, events: &[Event]) -> Result<VecDeque<Event>, NoMemory>
 fn fitting(config: &Config) -> Result<(), ConfigFault>
     ensures check { result_err result ≡ first_out_of_range config.now }
     ensures bounds { IfOk result (λ _. Fits config.now) }
+    ensures room { IfOk result (λ _. 0 < config.now.chunk) }
     ensures attempts { IfOk result (λ _. 0 < config.now.attempts) }
 {
     config.check()

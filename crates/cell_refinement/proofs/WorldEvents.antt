@@ -53,7 +53,7 @@ numbered_contains xs n x is = elim (n == 0) as (λ b. cond b None (slice_get xs 
   | false ↦ λ h. get_contains xs (n - 1) x h
 ] is
 
-module _ (w : WorldState) (some : 0 < w.config.attempts) (sim : IsSimulated w) (moment : ℕ) where
+module _ (w : WorldState) (room : 0 < w.config.chunk) (some : 0 < w.config.attempts) (sim : IsSimulated w) (moment : ℕ) where
   clocks : IsTrue (w.observer.are_clocks_kept && nat_le w.observer.greatest (moment + w.config.skew_ms)) → w.observer.greatest ≤ moment + w.config.skew_ms
   clocks h = within w.observer.greatest (moment + w.config.skew_ms) (second_of w.observer.are_clocks_kept (nat_le w.observer.greatest (moment + w.config.skew_ms)) h)
 
@@ -69,7 +69,7 @@ module _ (w : WorldState) (some : 0 < w.config.attempts) (sim : IsSimulated w) (
     holds = left_holds (known_of w x.m x.owner x.attempts) w.master None w.client (inl refl) (inr refl) (inl refl) w.sent w.observer.trace x.holds;
     calls = x.calls;
   }
-  server_by s up i choice there Goes = λ kept. server_moved w (before kept) moment (clocks kept) s up some i (record choice { ending = Goes }) there
+  server_by s up i choice there Goes = λ kept. server_moved w (before kept) moment (clocks kept) s up room some i (record choice { ending = Goes }) there
 
   server_so : (o : Option ServerState) → w.server ≡ o → (i : Input) (choice : Choice) → IsInput w.sent i → IsSimulated (server_moves w moment i choice o).world
   server_so None is i choice there = sim
@@ -132,11 +132,11 @@ module _ (w : WorldState) (some : 0 < w.config.attempts) (sim : IsSimulated w) (
   in_limit : (h : Happened) → IsSimulated h.world → IsSimulated (at_moment w moment h).world
   in_limit h so = elim (nat_le moment moment_limit) as (λ b. IsSimulated (cond b h (nothing_happens w)).world) [ true ↦ so | false ↦ sim ]
 
-pub happens_so : (w : WorldState) → 0 < w.config.attempts → IsSimulated w → (e : Event) (choice : Choice) → IsSimulated (happens w e choice).world
-happens_so w some sim (event.Call client c now) choice =
-    in_limit w some sim now.0 _ (elim (client.0 == only_client) as (λ b. IsSimulated (cond b (call_moves w now.0 c choice w.client) (nothing_happens w)).world) [ true ↦ call_so w some sim now.0 w.client refl c choice | false ↦ sim ])
-happens_so w some sim (event.Deliver number now) choice = in_limit w some sim now.0 _ (delivered_so w some sim now.0 number choice (numbered_from_1 w.sent number) refl)
-happens_so w some sim (event.Tick n now) choice = in_limit w some sim now.0 _ (moves_so w some sim now.0 n input.Tick choice tt)
-happens_so w some sim (event.Restart n now) choice = sim
-happens_so w some sim (event.Rot server handle place byte) choice = sim
-happens_so w some sim (event.Fuse n count torn) choice = sim
+pub happens_so : (w : WorldState) → 0 < w.config.chunk → 0 < w.config.attempts → IsSimulated w → (e : Event) (choice : Choice) → IsSimulated (happens w e choice).world
+happens_so w room some sim (event.Call client c now) choice =
+    in_limit w room some sim now.0 _ (elim (client.0 == only_client) as (λ b. IsSimulated (cond b (call_moves w now.0 c choice w.client) (nothing_happens w)).world) [ true ↦ call_so w room some sim now.0 w.client refl c choice | false ↦ sim ])
+happens_so w room some sim (event.Deliver number now) choice = in_limit w room some sim now.0 _ (delivered_so w room some sim now.0 number choice (numbered_from_1 w.sent number) refl)
+happens_so w room some sim (event.Tick n now) choice = in_limit w room some sim now.0 _ (moves_so w room some sim now.0 n input.Tick choice tt)
+happens_so w room some sim (event.Restart n now) choice = sim
+happens_so w room some sim (event.Rot server handle place byte) choice = sim
+happens_so w room some sim (event.Fuse n count torn) choice = sim

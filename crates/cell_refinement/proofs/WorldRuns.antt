@@ -181,13 +181,13 @@ config_stays w (event.Restart n now) choice = refl
 config_stays w (event.Rot server handle place byte) choice = refl
 config_stays w (event.Fuse n count torn) choice = refl
 
-events_so : (w : WorldState) (steps : List (Event × Choice)) → 0 < w.config.attempts → IsSimulated w → IsSimulated (after_events w steps)
-events_so w [] some sim = sim
-events_so w (step ∷ rest) some sim =
-    events_so (happens w step.0 step.1).world rest (subst (λ (c : Config). 0 < c.attempts) (sym (config_stays w step.0 step.1)) some) (happens_so w some sim step.0 step.1)
+events_so : (w : WorldState) (steps : List (Event × Choice)) → 0 < w.config.chunk → 0 < w.config.attempts → IsSimulated w → IsSimulated (after_events w steps)
+events_so w [] room some sim = sim
+events_so w (step ∷ rest) room some sim =
+    events_so (happens w step.0 step.1).world rest (subst (λ (c : Config). 0 < c.chunk) (sym (config_stays w step.0 step.1)) room) (subst (λ (c : Config). 0 < c.attempts) (sym (config_stays w step.0 step.1)) some) (happens_so w room some sim step.0 step.1)
 
 -- For every lawful list of events with clocks kept, the calls and answers are a run of the relaxed-file machine.
-pub answers_are_a_run : (w : WorldState) → IsReached w → 0 < w.config.attempts → IsExplained w
-answers_are_a_run w reached some kept =
-    let x : Simulates w = subst IsSimulated reached.1 (events_so (new_world w.config) reached.0 some (λ _. new_simulates w.config)) kept in
+pub answers_are_a_run : (w : WorldState) → IsReached w → 0 < w.config.chunk → 0 < w.config.attempts → IsExplained w
+answers_are_a_run w reached room some kept =
+    let x : Simulates w = subst IsSimulated reached.1 (events_so (new_world w.config) reached.0 room some (λ _. new_simulates w.config)) kept in
     (x.m, x.holds.run)

@@ -60,10 +60,10 @@ module _ (w : WorldState) (x : Simulates w) (moment : ℕ) (clock : w.observer.g
     served : Holds (serving k1 s1) w.sent trace1
     served = serves k1 s s1 up (let a : kept_seq s.kept ≤ kept_seq s.kept = omega arith in a) (let a : s.now ≤ max s.now moment = omega arith in a) w.sent trace1 now_is in_time
 
-    module _ (some : 0 < w.config.attempts) where
+    module _ (room : 0 < w.config.chunk) (some : 0 < w.config.attempts) where
       outcome : (i : Input) → IsInput w.sent i → ServerOutcome (serving k1 s1) (server_does s1 i) w.sent trace1
       outcome (input.Deliver m) there =
-          takes_so (serving k1 s1) s1 refl w.sent trace1 served some (let a : max w.observer.greatest moment ≤ max s.now moment + w.config.skew_ms = omega arith in a) m m.body
+          takes_so (serving k1 s1) s1 refl w.sent trace1 served some room (let a : max w.observer.greatest moment ≤ max s.now moment + w.config.skew_ms = omega arith in a) m m.body
           (All-contains (Says (serving k1 s1)) w.sent m served.says there)
       outcome input.Tick there = stays_so (serving k1 s1) s1 refl w.sent trace1 served
 

@@ -2,6 +2,6 @@
 use Rattle.std.specs.Prelude.{◌<◌}
 use Rattle.cell_protocol.specs.World.{WorldState, IsReached, IsExplained}
 
--- For every list of calls, deliveries, losses, repeats and ticks, in each world that it leads to, the calls and answers are a run of the machine, where clocks were kept. A call has an attempt at least.
+-- For every list of calls, deliveries, losses, repeats and ticks, in each world that it leads to, the calls and answers are a run of the machine, where clocks were kept. A chunk holds a byte at least, and a call has an attempt.
 abbrev pub AnswersAreARun : Type 0
-AnswersAreARun = (w : WorldState) → IsReached w → 0 < w.config.attempts → IsExplained w
+AnswersAreARun = (w : WorldState) → IsReached w → 0 < w.config.chunk → 0 < w.config.attempts → IsExplained w
