@@ -1,12 +1,12 @@
 -- A script's lines, one after the other.
-use Rattle.std.proofs.Common.{◌≡◌, ◌+◌, ◌<◌, ℕ, Bool, true, false, List, [], ◌∷◌, ◌++◌, cond, ⊎_elim, length, Option, Some, None, refl, sym, ap, subst, ◌∙◌, arith}
+use Rattle.std.proofs.Common.{◌≡◌, ◌+◌, ◌<◌, ℕ, Bool, true, false, List, [], ◌∷◌, ◌++◌, cond, ⊎_elim, length, Option, Some, None, ◌⊎◌, inl, inr, refl, sym, ap, subst, ◌∙◌, arith}
 use Rattle.std.specs.Prelude.{◌≢◌, ◌==◌, nat_lt, IfSome}
-use Rattle.std.specs.List.{flat_map}
+use Rattle.std.specs.List.{All, flat_map}
 use Rattle.std.specs.Io.KnownBytes.{Appends}
 use Rattle.std.proofs.lemmas.Bool.{false≢true}
 use Rattle.std.proofs.lemmas.Bool.Decides.{nat_tests}
 use Rattle.std.proofs.lemmas.List.{append-nil, append_assoc, length-append}
-use Rattle.std.proofs.lemmas.List.Elements.{filter-append}
+use Rattle.std.proofs.lemmas.List.Elements.{filter-append, All-cons, All-nil}
 use Rattle.std.proofs.lemmas.List.Splits.{slice_split_none, slice_split_at}
 use Rattle.std.proofs.lemmas.Grind.{flat_map-append}
 use Rattle.gfs_types.specs.declared.call.Call.{Call}
@@ -19,7 +19,7 @@ use Rattle.script.specs.declared.lines.Line.TheVariants as line
 use Rattle.script.specs.Lines.{line_of, is_skipped, line_for, words_of}
 use Rattle.shell.specs.Printing.{line_of as printed_of, lines_of, is_call, calls_of, is_answer_to, answers_to, Prints}
 use Rattle.shell.specs.Reading.{line_feed, longest_line, HasNoFeed, EndsLine, ReadsLine}
-use Rattle.shell.specs.Scripts.{calls_for, calls_on, calls_asked, IsIdle, Runs, Leaves, RunsLines, RunsAll, RunsTheScript}
+use Rattle.shell.specs.Scripts.{calls_for, calls_on, lines_in, calls_asked, IsScript, IsIdle, Runs, Leaves, RunsLines, RunsAll, RunsTheScript}
 use Rattle.shell.proofs.Printing.{appends_none, appends_twice}
 use Rattle.shell.proofs.Idle.{call_answered}
 
@@ -66,15 +66,31 @@ too_long text long is =
     let over : nat_lt 8192 (length text) ≡ true = grind (arith, nat_tests) in
     is (ap (λ (b : Bool). cond b None (cond (is_skipped text) (Some line.Nothing) (line_for (words_of text)))) over)
 
--- the calls of a script whose first line was read
-asked_after : (xs ys text : List ℕ) → line_of text ≢ None → HasNoFeed text → EndsLine xs ys text true → calls_asked xs ≡ calls_on text ++ calls_asked ys
-asked_after xs ys text is none ends = ⊎_elim
-    (λ at. ap (λ (t : List ℕ). calls_asked t) at.0 ∙ ap (λ (ps : List (List ℕ)). flat_map calls_on ps) (slice_split_at (λ c. c == line_feed) text line_feed ys none refl))
+-- the lines of a script whose first line was read
+lines_after : (xs ys text : List ℕ) → line_of text ≢ None → HasNoFeed text → EndsLine xs ys text true → (lines_in xs ≡ text ∷ lines_in ys) ⊎ ((lines_in xs ≡ text ∷ []) × (ys ≡ []))
+lines_after xs ys text is none ends = ⊎_elim
+    (λ at. inl (ap (λ (t : List ℕ). lines_in t) at.0 ∙ slice_split_at (λ c. c == line_feed) text line_feed ys none refl))
     (λ rest. ⊎_elim
-    (λ at. ap (λ (t : List ℕ). calls_asked t) at.0 ∙ (ap (λ (ps : List (List ℕ)). flat_map calls_on ps) (slice_split_none (λ c. c == line_feed) text none)
-    ∙ ap (λ (t : List ℕ). calls_on text ++ calls_asked t) (sym at.1)))
+    (λ at. inr (ap (λ (t : List ℕ). lines_in t) at.0 ∙ slice_split_none (λ c. c == line_feed) text none, at.1))
     (λ long. absurd (too_long text long.0 is)) rest)
     ends
+
+-- its calls
+asked_after : (xs ys text : List ℕ) → (lines_in xs ≡ text ∷ lines_in ys) ⊎ ((lines_in xs ≡ text ∷ []) × (ys ≡ [])) → calls_asked xs ≡ calls_on text ++ calls_asked ys
+asked_after xs ys text lines = ⊎_elim
+    (λ at. ap (λ (ps : List (List ℕ)). flat_map calls_on ps) at)
+    (λ at. ap (λ (ps : List (List ℕ)). flat_map calls_on ps) at.0 ∙ ap (λ (t : List ℕ). calls_on text ++ calls_asked t) (sym at.1))
+    lines
+
+abbrev InLanguage : List ℕ → Type 0
+InLanguage text = line_of text ≢ None
+
+-- where the others are in the language, all are
+is_script_after : (xs ys text : List ℕ) → line_of text ≢ None → (lines_in xs ≡ text ∷ lines_in ys) ⊎ ((lines_in xs ≡ text ∷ []) × (ys ≡ [])) → IsScript ys → IsScript xs
+is_script_after xs ys text is lines others = ⊎_elim
+    (λ at. subst (λ (ps : List (List ℕ)). All InLanguage ps) (sym at) (All-cons InLanguage text (lines_in ys) is others))
+    (λ at. subst (λ (ps : List (List ℕ)). All InLanguage ps) (sym at.0) (All-cons InLanguage text [] is (All-nil InLanguage)))
+    lines
 
 at_end : (xs ys text : List ℕ) → EndsLine xs ys text false → xs ≡ []
 at_end xs ys text ends = ⊎_elim
@@ -85,20 +101,25 @@ at_end xs ys text ends = ⊎_elim
 -- nothing was read
 pub leaves_all : (known : Option (List ℕ)) → Leaves known known []
 leaves_all None = tt
-leaves_all (Some xs) = refl
+leaves_all (Some xs) = (refl, λ is. is)
 
 leaves_on : (a b c : Option (List ℕ)) (calls : List Visible) (text : List ℕ) → Leaves a b calls → ReadsLine b c text true → line_of text ≢ None → Leaves a c (calls ++ calls_on text)
 leaves_on None b c calls text h r is = tt
 leaves_on (Some xs) None c calls text h r is = absurd h
 leaves_on (Some xs) (Some ys) None calls text h r is = absurd r
 leaves_on (Some xs) (Some ys) (Some zs) calls text h r is =
-    h ∙ (ap (λ (l : List Visible). calls ++ l) (asked_after ys zs text is r.0 r.1) ∙ sym (append_assoc calls (calls_on text) (calls_asked zs)))
+    let lines : (lines_in ys ≡ text ∷ lines_in zs) ⊎ ((lines_in ys ≡ text ∷ []) × (zs ≡ [])) = lines_after ys zs text is r.0 r.1 in
+    (h.0 ∙ (ap (λ (l : List Visible). calls ++ l) (asked_after ys zs text lines) ∙ sym (append_assoc calls (calls_on text) (calls_asked zs))), λ rest. h.1 (is_script_after ys zs text is lines rest))
 
-asked_all : (a b c : Option (List ℕ)) (calls : List Visible) (text : List ℕ) → Leaves a b calls → ReadsLine b c text false → IfSome a (λ all. calls ≡ calls_asked all)
+no_lines : IsScript []
+no_lines = All-cons InLanguage [] [] (λ is. let e : Some line.Nothing ≡ None = is in cc) (All-nil InLanguage)
+
+asked_all : (a b c : Option (List ℕ)) (calls : List Visible) (text : List ℕ) → Leaves a b calls → ReadsLine b c text false → IfSome a (λ all. (calls ≡ calls_asked all) × IsScript all)
 asked_all None b c calls text h r = tt
 asked_all (Some xs) None c calls text h r = absurd h
 asked_all (Some xs) (Some ys) None calls text h r = absurd r
-asked_all (Some xs) (Some ys) (Some zs) calls text h r = sym (h ∙ (ap (λ (t : List ℕ). calls ++ calls_asked t) (at_end ys zs text r.1) ∙ append-nil calls))
+asked_all (Some xs) (Some ys) (Some zs) calls text h r =
+    (sym (h.0 ∙ (ap (λ (t : List ℕ). calls ++ calls_asked t) (at_end ys zs text r.1) ∙ append-nil calls)), h.1 (subst (λ t. IsScript t) (sym (at_end ys zs text r.1)) no_lines))
 
 -- before the first line
 pub lines_none : (w : WorldState) (known from : Option (List ℕ)) → IsIdle w.observer.trace → RunsLines w w known known from from
@@ -117,9 +138,9 @@ lines_on a b c x y z from to last text slice is_there there same p r is q = reco
 pub lines_end : (a b : WorldState) (x y from to last : Option (List ℕ)) (text : List ℕ) (is_there : Bool) → is_there ≡ false → RunsLines a b x y from to → ReadsLine to last text is_there → RunsAll a b x y from
 lines_end a b x y from to last text is_there there p r = record { calls = p.calls; runs = p.runs; asked = asked_all from to last p.calls text p.leaves (subst (λ i. ReadsLine to last text i) there r) }
 
-if_asked : (script : Option (List ℕ)) (seen calls : List Visible) → seen ≡ calls → IfSome script (λ text. calls ≡ calls_asked text) → IfSome script (λ text. seen ≡ calls_asked text)
+if_asked : (script : Option (List ℕ)) (seen calls : List Visible) → seen ≡ calls → IfSome script (λ text. (calls ≡ calls_asked text) × IsScript text) → IfSome script (λ text. (seen ≡ calls_asked text) × IsScript text)
 if_asked None seen calls same h = tt
-if_asked (Some xs) seen calls same h = same ∙ h
+if_asked (Some xs) seen calls same h = (same ∙ h.0, h.1)
 
 -- a whole script on a new cell
 pub runs_the_script : (config : Config) (w : WorldState) (before after script : Option (List ℕ)) → RunsAll (new_world config) w before after script → IsRun w.config w.observer.trace → RunsTheScript config script before after

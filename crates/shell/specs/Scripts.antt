@@ -1,6 +1,6 @@
 -- The calls of a script, and what running it comes to.
-use Rattle.std.specs.Prelude.{◌≡◌, ⊤, ℕ, ◌==◌, false, List, [], ◌∷◌, ◌++◌, length, Option, Some, None, IsFalse, IfSome}
-use Rattle.std.specs.List.{flat_map, slice_split}
+use Rattle.std.specs.Prelude.{◌≡◌, ◌≢◌, ⊤, ℕ, ◌==◌, false, List, [], ◌∷◌, ◌++◌, length, Option, Some, None, IsFalse, IfSome}
+use Rattle.std.specs.List.{All, flat_map, slice_split}
 use Rattle.std.specs.Io.KnownBytes.{Appends}
 use Rattle.gfs_types.specs.declared.config.Config.{Config}
 use Rattle.relaxed_file.specs.Run.{Visible, Called, IsRun}
@@ -22,9 +22,17 @@ calls_for (Some (line.Call client c)) = Called client.0 c ∷ []
 abbrev pub calls_on : List ℕ → List Visible
 calls_on text = calls_for (line_of text)
 
+-- a script's lines: what stands between its line feeds, and behind the last one
+abbrev pub lines_in : List ℕ → List (List ℕ)
+lines_in script = slice_split (λ c. c == line_feed) script
+
 -- the calls that a script asks for, line by line
 abbrev pub calls_asked : List ℕ → List Visible
-calls_asked script = flat_map calls_on (slice_split (λ c. c == line_feed) script)
+calls_asked script = flat_map calls_on (lines_in script)
+
+-- each line of a script is in the language
+abbrev pub IsScript : List ℕ → Type 0
+IsScript script = All (λ text. line_of text ≢ None) (lines_in script)
 
 -- the client waits for no answer at the end of a trace
 abbrev pub IsIdle : List Visible → Type 0
@@ -40,11 +48,11 @@ pub record Runs (old new : WorldState) (before after : Option (List ℕ)) (calls
   pub answered : length (answers_to only_client more) ≡ length calls
   pub is_idle : IsIdle new.observer.trace
 
--- the known bytes asked for these calls, and for those of the bytes that are left
+-- the known bytes asked for these calls, and for those of the bytes that are left; what was read is in the language
 abbrev pub Leaves : Option (List ℕ) → Option (List ℕ) → List Visible → Type 0
 Leaves None new calls = ⊤
 Leaves (Some xs) None calls = ⊥
-Leaves (Some xs) (Some ys) calls = calls_asked xs ≡ calls ++ calls_asked ys
+Leaves (Some xs) (Some ys) calls = (calls_asked xs ≡ calls ++ calls_asked ys) × (IsScript ys → IsScript xs)
 
 -- a world that went on by the calls of the lines that were read
 pub record RunsLines (old new : WorldState) (before after : Option (List ℕ)) (from to : Option (List ℕ)) : Type 0 where
@@ -56,13 +64,13 @@ pub record RunsLines (old new : WorldState) (before after : Option (List ℕ)) (
 pub record RunsAll (old new : WorldState) (before after : Option (List ℕ)) (script : Option (List ℕ)) : Type 0 where
   pub calls : List Visible
   pub runs : Runs old new before after calls
-  pub asked : IfSome script (λ text. calls ≡ calls_asked text)
+  pub asked : IfSome script (λ text. (calls ≡ calls_asked text) × IsScript text)
 
--- The calls and answers of a run of the relaxed-file machine: the calls are those of the script, each was answered, and what was
--- printed are the answers.
+-- The calls and answers of a run of the relaxed-file machine: the calls are those of the script, whose lines are all in the
+-- language, each was answered, and what was printed are the answers.
 pub record RunsTheScript (config : Config) (script : Option (List ℕ)) (before after : Option (List ℕ)) : Type 0 where
   pub trace : List Visible
   pub is_run : IsRun config trace
-  pub calls_are : IfSome script (λ text. calls_of trace ≡ calls_asked text)
+  pub calls_are : IfSome script (λ text. (calls_of trace ≡ calls_asked text) × IsScript text)
   pub answered : length (answers_to only_client trace) ≡ length (calls_of trace)
   pub printed_is : Appends before after (lines_of trace)
