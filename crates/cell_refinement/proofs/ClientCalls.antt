@@ -1,8 +1,7 @@
 -- The client's call: a name call, one that asks the master for a chunk, or one that is answered at once.
-use Rattle.std.proofs.Common.{◌≡◌, ℕ, suc, ◌+◌, ◌≤◌, true, false, cond, List, [], ◌∷◌, ◌++◌, Option, Some, None, refl, sym, ap, ◌∙◌, subst, inl, inr, arith, append_assoc}
-use Rattle.std.specs.Prelude.{IsTrue, IsFalse, ◌==◌, option_and_then, if◌then◌else◌}
-use Rattle.std.proofs.lemmas.Bool.{ne_eqb}
-use Rattle.std.proofs.lemmas.List.Elements.{All-nil, All-weaker}
+use Rattle.std.proofs.Common.{◌≡◌, ℕ, suc, ◌+◌, ◌≤◌, true, false, cond, List, [], ◌∷◌, ◌++◌, Option, Some, None, refl, sym, ap, ◌∙◌, subst, inr, arith, append_assoc}
+use Rattle.std.specs.Prelude.{IsTrue, IsFalse, option_and_then, if◌then◌else◌}
+use Rattle.std.proofs.lemmas.List.Elements.{All-nil}
 use Rattle.gfs_types.specs.declared.config.Config.{Config}
 use Rattle.gfs_types.specs.declared.call.Call.{Call}
 use Rattle.gfs_types.specs.declared.answer.Answer.{Answer}
@@ -12,17 +11,15 @@ use Rattle.gfs_types.specs.declared.message.Message.{Message}
 use Rattle.relaxed_file.specs.NameStep.{is_name_call, is_look}
 use Rattle.relaxed_file.specs.Machine.{Machine, OpenCall, put, chunk_count}
 use Rattle.relaxed_file.specs.Run.{IsRunTo, Visible, Called, Answered, Invoke, Return, invoked, asked_now, file_of}
-use Rattle.relaxed_file.specs.Chunks.{tries_in}
 use Rattle.relaxed_file.specs.Answers.{MayReturn, returned, is_too_long}
 use Rattle.relaxed_file.proofs.GoingOn.{runs_go_on}
 use Rattle.cell_protocol.specs.declared.stage.Stage.{Stage}
 use Rattle.cell_protocol.specs.declared.stage.Stage.TheVariants as stage
 use Rattle.cell_protocol.specs.declared.stage.CurrentCall.{CurrentCall}
-use Rattle.cell_protocol.specs.declared.observer.Placed.{Placed}
 use Rattle.cell_protocol.specs.Sending.{only_client}
 use Rattle.cell_protocol.specs.Client.{ClientState, answers}
 use Rattle.cell_protocol.specs.ClientAttempts.{is_append, new_call, attempts_names, asks}
-use Rattle.cell_refinement.specs.Known.{Known, Spot, Attempt, IsChunkCall, HasNoEntry, IsFullBefore, open_call_of, the_client_of, calls_made, chunk_of, call_id}
+use Rattle.cell_refinement.specs.Known.{Known, Attempt, IsChunkCall, HasNoEntry, IsFullBefore, open_call_of, the_client_of, calls_made}
 use Rattle.cell_refinement.specs.Says.{Says, IsNameOf}
 use Rattle.cell_refinement.specs.Simulates.{IsClient, FitsStage, IsCurrent, Holds}
 use Rattle.gfs_types.specs.declared.ids.Node.TheVariants.{Master}
@@ -33,20 +30,13 @@ use Rattle.cell_refinement.proofs.ClientActs.{acting, some_at}
 use Rattle.cell_refinement.proofs.ClientGoes.{ClientOutcome}
 use Rattle.cell_refinement.proofs.ClientSteps.{one, only_current, asked_says}
 use Rattle.cell_refinement.proofs.ClientEnds.{ClosesNone, descriptors_stay}
-use Rattle.cell_refinement.proofs.ClientParts.{none_tried, none_below}
+use Rattle.cell_refinement.proofs.Appending.{untried_below}
 use Rattle.cell_refinement.proofs.ClientTold.{put_self, some_of}
 use Rattle.cell_refinement.proofs.ClientBegins.{counted_call, first_call, Begins, begins, new_unplaced, open_file}
 
 module _ (k : Known) (s : ClientState) (x : Call) (up : k.client ≡ Some s) (idle : s.current ≡ None) (free : open_call_of k.m ≡ None) (sent : List Message) (trace : List Visible) (h : Holds k sent trace) where
   was : IsClient k s
   was = some_at k.client (IsClient k) s up h.client
-
-  new_untried : (at : Spot) → tries_in (call_id (suc (calls_made k.m))) (chunk_of k.m at) ≡ 0
-  new_untried at =
-      elim (h.machine.chunks at) [
-        | inl empty ↦ ap (λ es. tries_in (call_id (suc (calls_made k.m))) (record (chunk_of k.m at) { order = es })) empty
-        | inr owned ↦ ap (λ es. tries_in (call_id (suc (calls_made k.m))) (record (chunk_of k.m at) { order = es })) (h.machine.owned owned.0 at owned.1).order ∙ none_tried k.placed owned.0 (suc (calls_made k.m)) (new_unplaced k h.machine)
-      ]
 
   abbrev pub after_call : Machine
   after_call = invoked k.m only_client x
@@ -97,7 +87,7 @@ module _ (k : Known) (s : ClientState) (x : Call) (up : k.client ≡ Some s) (id
       → ClientOutcome k (suc (calls_made k.m)) (answers (counted_call s) (answer.Refused TooLong)) sent (trace ++ Called only_client x ∷ [])
   too_long_so file is long none =
       at_once_so (answer.Refused TooLong)
-      (inr (inr (file, is, long, none_below (k.m.files file).chunks (call_id (suc (calls_made k.m))) (chunk_count k.m file) (λ i. new_untried (record { file = file; index = i })))))
+      (inr (inr (file, is, long, untried_below k h.machine (suc (calls_made k.m)) (new_unplaced k h.machine) file)))
       none
 
   abbrev pub call_at : ℕ → ℕ → Stage → CurrentCall

@@ -1,6 +1,6 @@
 -- Each step of the client on a message or a tick.
 use Rattle.std.proofs.Common.{◌≡◌, ℕ, ◌+◌, ◌*◌, ◌≤◌, Bool, true, false, cond, List, [], ◌∷◌, Option, Some, None, refl, sym, ap, ◌∙◌, subst, inl, inr, arith, append-nil}
-use Rattle.std.specs.Prelude.{IsTrue, IsFalse, ◌==◌, ◌&&◌, nat_lt}
+use Rattle.std.specs.Prelude.{IsTrue, ◌==◌, ◌&&◌, nat_lt}
 use Rattle.std.proofs.lemmas.Bool.{eqb-true}
 use Rattle.std.proofs.lemmas.List.Elements.{All-nil}
 use Rattle.gfs_types.specs.declared.config.Config.{Config}

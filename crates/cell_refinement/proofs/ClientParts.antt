@@ -1,24 +1,16 @@
--- A range within one chunk has its one part there; a record's place; and a call without an entry has no try anywhere.
-use Rattle.std.proofs.Common.{◌≡◌, ℕ, zero, suc, ◌+◌, ◌-◌, ◌*◌, ◌/◌, ◌%◌, ◌<◌, ◌≤◌, Bool, true, false, cond, List, [], ◌∷◌, length, Option, Some, append-nil, refl, sym, ap, ◌∙◌, subst, arith}
-use Rattle.std.specs.List.{fold}
-use Rattle.std.specs.Prelude.{Contains, IsTrue, IsFalse, ◌==◌, ◌&&◌, ◌||◌, not, nat_lt, min, map, filter, count_by, filter_map, IfSome, IsSome, MatchBool, option_map, unwrap_or}
+-- A range within one chunk has its one part there; and a record's place.
+use Rattle.std.proofs.Common.{◌≡◌, ℕ, suc, ◌+◌, ◌-◌, ◌*◌, ◌/◌, ◌%◌, ◌<◌, ◌≤◌, Bool, true, false, List, [], ◌∷◌, length, Option, Some, append-nil, refl, sym, ap, ◌∙◌, subst, arith}
+use Rattle.std.specs.Prelude.{Contains, IsTrue, IsFalse, ◌&&◌, ◌||◌, nat_lt, min, filter_map, IfSome, IsSome, MatchBool, option_map, unwrap_or}
 use Rattle.std.proofs.Math.Nat.{mod-eq-sub-div-mul, div-mul-le_self, mul-le-mul_right, suc-mul}
-use Rattle.std.proofs.lemmas.Bool.{eq-eqb, eqb-true}
-use Rattle.std.proofs.lemmas.List.Elements.{All-head, All-tail}
 use Rattle.gfs_types.specs.declared.call.Call.{Call}
 use Rattle.gfs_types.specs.declared.call.Call.TheVariants as call
 use Rattle.gfs_types.specs.declared.answer.Answer.TheVariants as answer
-use Rattle.gfs_types.specs.Mutations.{is_pad}
-use Rattle.relaxed_file.specs.Order.{CallId, Entry, same_call}
 use Rattle.relaxed_file.specs.Parts.{has_part, part_start, part_end, part_length, is_range_too_long, leaves_chunk}
-use Rattle.relaxed_file.specs.Machine.{Machine, Chunk, OpenCall, Piece, chunk_size, chunk_count}
-use Rattle.relaxed_file.specs.Chunks.{tries_in, tries_below}
+use Rattle.relaxed_file.specs.Machine.{Machine, OpenCall, Piece, chunk_size, chunk_count}
 use Rattle.relaxed_file.specs.Answers.{IsDone, HasSuccess, IsWrite, IsAppendAt, is_too_long}
-use Rattle.cell_protocol.specs.declared.observer.Placed.{Placed}
 use Rattle.cell_protocol.specs.Sending.{only_client}
-use Rattle.cell_protocol.specs.Observer.{entries_of, entry_of}
 use Rattle.cell_protocol.specs.ClientAttempts.{is_append}
-use Rattle.cell_refinement.specs.Known.{IsInChunk, IsWriteOf, IsReadOf, HasNoEntry, is_entry_of, call_id}
+use Rattle.cell_refinement.specs.Known.{IsInChunk, IsWriteOf, IsReadOf, call_id}
 
 less : (a b : ℕ) → a < b → IsTrue (nat_lt a b)
 less a b h = grind (arith, h)
@@ -146,32 +138,3 @@ pub append_done : (m : Machine) (oc : OpenCall) (file index place : ℕ) → oc.
     → (x : Call) → IsTrue (is_append x) → IsDone m only_client oc x (answer.At (index * chunk_size m file + place))
 append_done m oc file index place on there done (call.Append fd bytes) h = (file, on, index, place, refl, there, done)
 append_done m oc file index place on there done other h = absurd (let e : false ≡ true = h in cc)
-
-by_parts : (a b c d : Bool) → (b ≡ true → d ≡ true) → (d && c) ≡ false → (a && b && c) ≡ false
-by_parts false b c d same h = refl
-by_parts true false c d same h = refl
-by_parts true true c d same h = ap (λ x. x && c) (sym (same refl)) ∙ h
-
-other_call : (n : ℕ) (p : Placed) → IsFalse (is_entry_of n p) → (same_call (call_id n) (entry_of p).call && not (is_pad (entry_of p).mutation)) ≡ false
-other_call n p h = by_parts (only_client == p.numbering.data_id.client.0) (n == p.call) (not (is_pad p.numbering.mutation)) (p.call == n) (λ e. eq-eqb p.call n (sym (eqb-true n p.call e))) h
-
-counted : (e : Entry) (es : List Entry) (n : ℕ) → (same_call (call_id n) e.call && not (is_pad e.mutation)) ≡ false
-    → count_by (λ (x : Entry). same_call (call_id n) x.call && not (is_pad x.mutation)) es ≡ 0 → count_by (λ (x : Entry). same_call (call_id n) x.call && not (is_pad x.mutation)) (e ∷ es) ≡ 0
-counted e es n never h =
-    let f : Entry → Bool = λ x. same_call (call_id n) x.call && not (is_pad x.mutation) in
-    ap (λ c. fold (λ (n : ℕ) (x : Entry). n + cond (f x) 1 0) (0 + cond c 1 0) es) never ∙ h
-
--- a call without an entry has no try in a chunk
-pub none_tried : (ps : List Placed) (handle n : ℕ) → HasNoEntry ps n → count_by (λ (e : Entry). same_call (call_id n) e.call && not (is_pad e.mutation)) (entries_of ps handle) ≡ 0
-none_tried [] handle n h = refl
-none_tried (p ∷ rest) handle n h =
-    let more = none_tried rest handle n (All-tail (λ (x : Placed). IsFalse (is_entry_of n x)) p rest h) in
-    elim (p.numbering.handle.0 == handle) as (λ b. count_by (λ (e : Entry). same_call (call_id n) e.call && not (is_pad e.mutation)) (map entry_of (cond b (p ∷ filter (λ q. q.numbering.handle.0 == handle) rest) (filter (λ q. q.numbering.handle.0 == handle) rest))) ≡ 0) [
-      | true ↦ counted (entry_of p) (entries_of rest handle) n (other_call n p (All-head (λ (x : Placed). IsFalse (is_entry_of n x)) p rest h)) more
-      | false ↦ more
-    ]
-
--- nor in any number of chunks
-pub none_below : (chunks : ℕ → Chunk) (id : CallId) (n : ℕ) → ((i : ℕ) → tries_in id (chunks i) ≡ 0) → tries_below chunks id n ≡ 0
-none_below chunks id zero h = refl
-none_below chunks id (suc n) h = let a = none_below chunks id n h in let b = h n in omega arith

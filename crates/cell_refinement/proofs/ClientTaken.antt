@@ -1,6 +1,6 @@
 -- What the client makes of the answers to its attempt or its read, and of refusals.
 use Rattle.std.proofs.Common.{◌≡◌, ℕ, suc, ◌+◌, ◌*◌, ◌≤◌, true, false, cond, List, [], ◌∷◌, Some, refl, sym, ap, ◌∙◌, subst, inl, inr, arith}
-use Rattle.std.specs.Prelude.{Contains, All, IfSome, IsTrue, IsFalse, nat_lt}
+use Rattle.std.specs.Prelude.{Contains, IfSome, IsTrue, IsFalse, nat_lt}
 use Rattle.std.proofs.lemmas.List.Elements.{All-nil}
 use Rattle.std.proofs.lemmas.Bool.{eq-eqb}
 use Rattle.gfs_types.specs.declared.config.Config.{Config}
@@ -14,10 +14,9 @@ use Rattle.gfs_types.specs.declared.refusal.Refusal.TheVariants.{NoReplica, Fail
 use Rattle.gfs_types.specs.declared.ids.DataId.{DataId}
 use Rattle.gfs_types.specs.declared.message.Message.{Message}
 use Rattle.relaxed_file.specs.Order.{CallId, same_call}
-use Rattle.relaxed_file.specs.Machine.{Machine, OpenCall, Asked, chunk_count}
+use Rattle.relaxed_file.specs.Machine.{Machine, OpenCall, Asked}
 use Rattle.relaxed_file.specs.Reads.{is_length_call}
 use Rattle.relaxed_file.specs.Run.{Visible}
-use Rattle.relaxed_file.specs.Chunks.{tries_in, tries_below}
 use Rattle.relaxed_file.specs.Answers.{IsDone, HasSuccess, IsWrite, IsAppendAt, may_give_up}
 use Rattle.cell_protocol.specs.declared.stage.Stage.TheVariants as stage
 use Rattle.cell_protocol.specs.declared.stage.CurrentCall.{CurrentCall}
@@ -38,7 +37,8 @@ use Rattle.cell_refinement.proofs.ClientGoes.{ClientOutcome, IsAt, goes}
 use Rattle.cell_refinement.proofs.ClientSteps.{stays_so, staged, at_stage, unlearned, attempt_acting, attempt_number}
 use Rattle.cell_refinement.proofs.ClientEnds.{IsOverAll}
 use Rattle.cell_refinement.proofs.ClientAnswers.{returns_so, may_refuse, may_fail, refuses_live_so, chunk_uses, chunk_no_name}
-use Rattle.cell_refinement.proofs.ClientParts.{write_done, append_done, read_done, write_too_long, none_tried, none_below}
+use Rattle.cell_refinement.proofs.ClientParts.{write_done, append_done, read_done, write_too_long}
+use Rattle.cell_refinement.proofs.Appending.{untried_below}
 
 pub mutation_chunk : (size index : ℕ) (x : Call) → IsMutationCall size index x → IsChunkCall size index x
 mutation_chunk size index (call.Write fd offset bytes) h = h
@@ -193,17 +193,6 @@ module _ (k : Known) (s : ClientState) (c : CurrentCall) (oc : OpenCall) (at : I
       (inr (chunk_uses k.config.chunk c.index c.asked whole))
       (over_by c.index whole (λ seq a x up known mine. absurd (subst (λ st. HasAttempt st seq) is mine)))
 
-  -- no entry of the call stands
-  untried : (at' : Spot) → HasNoEntry k.placed oc.number → tries_in (call_id oc.number) (chunk_of k.m at') ≡ 0
-  untried at' none =
-      elim (h.machine.chunks at') [
-        | inl empty ↦ ap (λ es. tries_in (call_id oc.number) (record (chunk_of k.m at') { order = es })) empty
-        | inr owned ↦ ap (λ es. tries_in (call_id oc.number) (record (chunk_of k.m at') { order = es })) (h.machine.owned owned.0 at' owned.1).order ∙ none_tried k.placed owned.0 oc.number none
-      ]
-
-  pub none_stands : (file : ℕ) → HasNoEntry k.placed oc.number → tries_below (k.m.files file).chunks (call_id oc.number) (chunk_count k.m file) ≡ 0
-  none_stands file none = none_below (k.m.files file).chunks (call_id oc.number) (chunk_count k.m file) (λ i. untried (record { file = file; index = i }) none)
-
   pub none_of_asked : (number : ℕ) → c.stage ≡ stage.AskedWhere number → IsChunkCall k.config.chunk c.index c.asked → IsOverAll k c oc
   none_of_asked number is whole = over_by c.index whole (λ seq a x up known mine. absurd (subst (λ st. HasAttempt st seq) is mine))
 
@@ -217,7 +206,7 @@ module _ (k : Known) (s : ClientState) (c : CurrentCall) (oc : OpenCall) (at : I
         c.file.0,
         asking.file,
         write_too_long k.m.config.chunk c.index why.0.0 oc.asked.chunks_before oc.asked.call (asked_of (λ g x. IsWriteOf g.chunk c.index x) (chunk_write k.config.chunk c.index c.asked asking.fits why.1)) why.0.1 why.0.2,
-        none_stands c.file.0 (subst (HasNoEntry k.placed) (sym at.is.number_is) asking.unplaced),
+        untried_below k h.machine oc.number (subst (HasNoEntry k.placed) (sym at.is.number_is) asking.unplaced) c.file.0,
       )))
       (inr (chunk_uses k.config.chunk c.index c.asked asking.fits))
       (none_of_asked number is asking.fits)

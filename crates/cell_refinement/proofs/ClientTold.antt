@@ -22,7 +22,7 @@ use Rattle.cell_protocol.specs.declared.stage.ToldChunk.{ToldChunk}
 use Rattle.cell_protocol.specs.Sending.{only_client, only_server}
 use Rattle.cell_protocol.specs.Server.{ServerState}
 use Rattle.cell_protocol.specs.Client.{ClientState, answers}
-use Rattle.cell_protocol.specs.ClientAttempts.{is_append, is_mutating, pushes, reads_at, measures_at, told_at, at_told, bytes_to_send, target_of, place_in_chunk, count_to_read}
+use Rattle.cell_protocol.specs.ClientAttempts.{is_mutating, pushes, reads_at, measures_at, told_at, at_told, bytes_to_send, target_of, place_in_chunk, count_to_read}
 use Rattle.cell_protocol.specs.ClientTakes.{told_nobody}
 use Rattle.cell_refinement.specs.Known.{Known, Spot, Attempt, IsAttempt, IsInChunk, IsChunkCall, IsReadOf, IsMutationOf, the_client_of, calls_made}
 use Rattle.cell_refinement.specs.Says.{IsGranted, IsLastOffered, names_its_chunk, IsPast, IsOver}
