@@ -9,7 +9,7 @@ ghost use Rattle.cell_protocol.specs.Tables.{counter_limit};
 ghost use Rattle.gfs_types.specs.declared.answer.Answer.TheVariants as answer;
 ghost use Rattle.cell_protocol.specs.Doing.{does};
 ghost use Rattle.cell_protocol.specs.Client.{answers};
-ghost use Rattle.cell_protocol.specs.ClientAttempts.{asks, attempts_names, new_call, wanted_by, request_of, is_write};
+ghost use Rattle.cell_protocol.specs.ClientAttempts.{asks, attempts_names, new_call, wanted_by, request_of, is_append, is_mutating};
 ghost use Rattle.cell_protocol.specs.ClientStep.{is_served, calls, calls_file, is_refused_range};
 
 use crate::client::Client;
@@ -38,16 +38,14 @@ impl Client {
         ensures err { OnErr result (self.new ≡ self.old) }
     {
         match &call {
-            Call::Length(fd) | Call::Write(fd, _, _) | Call::Read(fd, _, _) => match self
-                .descriptors
-                .get(fd.0)
-            {
-                None => Ok(self.answers(Answer::Refused(Refusal::BadFd))),
-                Some(file) => {
-                    let file = FileId(*file);
-                    self.begins_on(file, call)
-                }
-            },
+            Call::Length(fd) | Call::Write(fd, _, _) | Call::Append(fd, _) | Call::Read(fd, _, _) =>
+                match self.descriptors.get(fd.0) {
+                    None => Ok(self.answers(Answer::Refused(Refusal::BadFd))),
+                    Some(file) => {
+                        let file = FileId(*file);
+                        self.begins_on(file, call)
+                    }
+                },
             _ => self.begins_names(call),
         }
     }
@@ -109,6 +107,7 @@ impl Client {
         ensures ok { IfOk result (λ e. calls_file self.old call file.0 ≡ does self.new e) }
         ensures err { OnErr result (self.new ≡ self.old) }
     {
+        let chunk = u64::from(self.config.chunk);
         match &call {
             Call::Write(_, offset, bytes) => {
                 let offset = *offset;
@@ -119,7 +118,7 @@ impl Client {
                 if count == 0 {
                     return Ok(self.answers(Answer::Done));
                 }
-                self.asks_at(call, file, offset)
+                self.asks_at(call, file, offset / chunk)
             }
             Call::Read(_, offset, count) => {
                 let offset = *offset;
@@ -130,12 +129,15 @@ impl Client {
                 if count == 0 {
                     return Ok(self.answers_nothing());
                 }
-                self.asks_at(call, file, offset)
+                self.asks_at(call, file, offset / chunk)
             }
-            Call::Length(_) => {
-                let current = self.new_call(call, file, 0);
-                self.asks(current)
+            Call::Append(_, bytes) => {
+                if bytes.len() as u64 > chunk / 4 {
+                    return Ok(self.answers(Answer::Refused(Refusal::TooLong)));
+                }
+                self.asks_at(call, file, 0)
             }
+            Call::Length(_) => self.asks_at(call, file, 0),
             _ => Ok(Effects::none(self.alloc)),
         }
     }
@@ -150,12 +152,13 @@ impl Client {
         })
     }
 
-    fn asks_at(&mut self, call: Call, file: FileId, offset: u64) -> Result<Effects, NoMemory>
+    /// The master is asked for a chunk of this index, or for the last one.
+    fn asks_at(&mut self, call: Call, file: FileId, index: u64) -> Result<Effects, NoMemory>
         requires { self.old.number < counter_limit }
-        ensures ok { IfOk result (λ e. asks self.old (new_call self.old call file.0 (offset / self.old.config.chunk)) ≡ does self.new e) }
+        ensures ok { IfOk result (λ e. asks self.old (new_call self.old call file.0 index) ≡ does self.new e) }
         ensures err { OnErr result (self.new ≡ self.old) }
     {
-        let current = self.new_call(call, file, offset / u64::from(self.config.chunk));
+        let current = self.new_call(call, file, index);
         self.asks(current)
     }
 
@@ -204,14 +207,22 @@ pub(crate) fn is_served(call: &Call) -> bool
             | Call::List(_)
             | Call::Length(_)
             | Call::Write(_, _, _)
+            | Call::Append(_, _)
             | Call::Read(_, _, _)
     )
 }
 
-pub(crate) fn is_write(call: &Call) -> bool
-    ensures { result ≡ is_write call.now }
+pub(crate) fn is_append(call: &Call) -> bool
+    ensures { result ≡ is_append call.now }
 {
-    matches!(call, Call::Write(_, _, _))
+    matches!(call, Call::Append(_, _))
+}
+
+/// A write or a record append.
+pub(crate) fn is_mutating(call: &Call) -> bool
+    ensures { result ≡ is_mutating call.now }
+{
+    matches!(call, Call::Write(_, _, _) | Call::Append(_, _))
 }
 
 pub(crate) fn is_length(call: &Call) -> bool
@@ -225,6 +236,7 @@ fn wanted_by(current: &CurrentCall) -> Wanted
 {
     match &current.asked {
         Call::Write(_, _, _) => Wanted::Write(current.index),
+        Call::Append(_, _) => Wanted::Append(current.index),
         Call::Length(_) => Wanted::Last,
         _ => Wanted::Read(current.index),
     }

@@ -8,12 +8,12 @@ ghost use Rattle.cell_protocol.specs.Doing.{does};
 ghost use Rattle.cell_protocol.specs.Seen.{stays};
 ghost use Rattle.cell_protocol.specs.declared.stage.Stage.TheVariants.{MustAskAgain};
 ghost use Rattle.cell_protocol.specs.Client.{is_client_within_limits, with_current, waits, goes_on};
-ghost use Rattle.cell_protocol.specs.ClientAttempts.{told_at, place_in_chunk, count_to_read, bytes_to_send, refuses_live, pushes, reads_at, measures_at, last_refusal};
-ghost use Rattle.cell_protocol.specs.ClientTakes.{takes_named, takes_wait, takes_told, takes_pushed, takes_done, takes_bytes, takes_len_is, takes_refused, takes_reply, is_own_data, opens, told, told_none, told_location, told_nobody, master_refuses, primary_refuses};
+ghost use Rattle.cell_protocol.specs.ClientAttempts.{told_at, place_in_chunk, count_to_read, bytes_to_send, target_of, at_told, refuses_live, pushes, reads_at, measures_at, last_refusal};
+ghost use Rattle.cell_protocol.specs.ClientTakes.{takes_named, takes_wait, takes_told, takes_pushed, takes_done, succeeds, takes_bytes, takes_len_is, takes_refused, takes_reply, is_own_data, opens, told, told_none, told_location, told_nobody, master_refuses, primary_refuses, looks_past};
 ghost use Rattle.cell_protocol.specs.ClientStep.{client_does, ticks_unanswered, ticks_names};
 
 use crate::client::Client;
-use crate::client_calls::{is_length, is_write};
+use crate::client_calls::{is_append, is_length, is_mutating};
 use bytes::Bytes;
 use cell_protocol::effects::Effects;
 use cell_protocol::stage::{CurrentCall, Stage, ToldChunk};
@@ -45,7 +45,7 @@ impl Client {
                 Ok(self.takes_refused(current, *number, *refusal))
             }
             Body::Pushed { data } => self.takes_pushed(current, *data),
-            Body::Done { data, place: _ } => Ok(self.takes_done(current, *data)),
+            Body::Done { data, place } => Ok(self.takes_done(current, *data, *place)),
             Body::Bytes { number, bytes } => self.takes_bytes(current, *number, bytes),
             Body::LenIs { number, count } => Ok(self.takes_len_is(current, *number, *count)),
             _ => Ok(self.stays(current)),
@@ -201,7 +201,7 @@ impl Client {
     fn told_none(&mut self, current: CurrentCall) -> Effects
         ensures { told_none (with_current self.old current) current ≡ does self.new result }
     {
-        if is_write(&current.asked) {
+        if is_mutating(&current.asked) {
             return self.stays(current);
         }
         if is_length(&current.asked) {
@@ -224,7 +224,7 @@ impl Client {
         };
         let holder = *holder;
         current.is_nobody_told = false;
-        if is_write(&current.asked) {
+        if is_mutating(&current.asked) {
             return self.pushes(current, location);
         }
         if is_length(&current.asked) {
@@ -252,6 +252,7 @@ impl Client {
             rest: ServerList::empty(self.alloc),
         };
         self.number = number;
+        let current = at_told(current, location);
         let stage = Stage::SentData(told_at(location, primary), number);
         self.goes_on(current, stage, Node::Server(primary), body)
     }
@@ -282,7 +283,7 @@ impl Client {
     /// The server is asked for the length of the chunk that was told, which is the file's last.
     fn measures_at(
         &mut self,
-        mut current: CurrentCall,
+        current: CurrentCall,
         location: &Location,
         holder: Holder,
     ) -> Result<Effects, NoMemory>
@@ -296,7 +297,7 @@ impl Client {
             version: holder.version,
         };
         self.number = number;
-        current.index = location.index;
+        let current = at_told(current, location);
         let stage = Stage::SentLength(told_at(location, holder.server), number);
         self.goes_on(current, stage, Node::Server(holder.server), body)
     }
@@ -311,12 +312,11 @@ impl Client {
         if !is_own_data(id, number) {
             return Ok(self.stays(current));
         }
-        let place = place_in_chunk(&current.asked, u64::from(self.config.chunk));
         let body = Body::Mutate {
             data: id,
             handle: at.handle,
             version: at.round,
-            target: Target::Write(place),
+            target: target_of(&current.asked, u64::from(self.config.chunk)),
             deadline: current.deadline,
         };
         self.goes_on(
@@ -327,8 +327,8 @@ impl Client {
         )
     }
 
-    fn takes_done(&mut self, current: CurrentCall, id: DataId) -> Effects
-        ensures { takes_done (with_current self.old current) current current.stage id ≡ does self.new result }
+    fn takes_done(&mut self, current: CurrentCall, id: DataId, place: u64) -> Effects
+        ensures { takes_done (with_current self.old current) current current.stage id place ≡ does self.new result }
     {
         let Stage::SentMutate(number) = current.stage else {
             return self.stays(current);
@@ -336,7 +336,22 @@ impl Client {
         if !is_own_data(id, number) {
             return self.stays(current);
         }
-        self.answers(Answer::Done)
+        self.succeeds(current, place)
+    }
+
+    /// The mutation is settled, at this place of its chunk. An append is answered with the record's offset in its file.
+    fn succeeds(&mut self, current: CurrentCall, place: u64) -> Effects
+        ensures { succeeds (with_current self.old current) current place ≡ does self.new result }
+    {
+        if !is_append(&current.asked) {
+            return self.answers(Answer::Done);
+        }
+        let chunk = u64::from(self.config.chunk);
+        if !is_within_numbers(current.index, chunk, place) {
+            return self.stays(current);
+        }
+        let found = current.index * chunk + place;
+        self.answers(Answer::At(found))
     }
 
     /// Bytes came, and name the round that the master told.
@@ -418,13 +433,31 @@ impl Client {
     /// An attempt that was refused for want of a lease or a replica may still be placed until it ends. Another refusal is
     /// the attempt's end.
     fn primary_refuses(&mut self, current: CurrentCall, refusal: Refusal) -> Effects
-        ensures { primary_refuses self.old current refusal ≡ does self.new result }
+        ensures { primary_refuses (with_current self.old current) current refusal ≡ does self.new result }
     {
         match refusal {
             Refusal::NoChunk => self.refuses_live(current, Refusal::Failed),
             Refusal::NoLease => self.refuses_live(current, Refusal::Failed),
+            Refusal::ChunkFull => {
+                if is_append(&current.asked) {
+                    self.looks_past(current)
+                } else {
+                    self.answers(Answer::Refused(Refusal::Failed))
+                }
+            }
             _ => self.answers(Answer::Refused(Refusal::Failed)),
         }
+    }
+
+    /// An append whose chunk is full asks for a chunk behind it.
+    fn looks_past(&mut self, mut current: CurrentCall) -> Effects
+        ensures { looks_past (with_current self.old current) current ≡ does self.new result }
+    {
+        if current.index == u64::MAX {
+            return self.stays(current);
+        }
+        current.index += 1;
+        self.waits(current, Stage::MustAskAgain)
     }
 
     /// A tick of a client with or without an open call.
@@ -470,13 +503,13 @@ impl Client {
     }
 }
 
-/// The refusal of a write, a read or a length whose attempt ended.
+/// The refusal of a call on a file's chunks whose attempt ended.
 fn last_refusal(current: &CurrentCall) -> Refusal
     ensures { result ≡ last_refusal current.now }
 {
     if current.is_nobody_told {
         Refusal::NoReplica
-    } else if is_write(&current.asked) {
+    } else if is_mutating(&current.asked) {
         Refusal::Failed
     } else {
         Refusal::Unknown
@@ -493,7 +526,15 @@ fn told_at(location: &Location, server: ServerId) -> ToldChunk
     }
 }
 
-/// Whether a number holds the end of so many bytes in the chunk at an index.
+/// The call is on the chunk that was told.
+fn at_told(mut current: CurrentCall, location: &Location) -> CurrentCall
+    ensures { result ≡ at_told current location.now }
+{
+    current.index = location.index;
+    current
+}
+
+/// Whether a number holds the offset that lies so many bytes into the chunk at an index.
 fn is_within_numbers(index: u64, chunk: u64, count: u64) -> bool
     ensures { result ≡ nat_lt (index * chunk + count) number_limit }
 {
@@ -513,7 +554,7 @@ fn bytes_to_send(call: &Call) -> Result<Bytes, NoMemory>
     ensures { IfOk result (λ b. b ≡ bytes_to_send call.now) }
 {
     match call {
-        Call::Write(_, _, bytes) => Ok(bytes.clone()?),
+        Call::Write(_, _, bytes) | Call::Append(_, bytes) => Ok(bytes.clone()?),
         _ => Ok(Bytes::new()),
     }
 }
@@ -527,6 +568,17 @@ fn place_in_chunk(call: &Call, chunk: u64) -> u64
         Call::Write(_, offset, _) => *offset % chunk,
         Call::Read(_, offset, _) => *offset % chunk,
         _ => 0,
+    }
+}
+
+/// Where in its chunk the data go: those of an append where the server says.
+fn target_of(call: &Call, chunk: u64) -> Target
+    requires { 0 < chunk }
+    ensures { result ≡ target_of chunk call.now }
+{
+    match call {
+        Call::Append(_, _) => Target::Append,
+        _ => Target::Write(place_in_chunk(call, chunk)),
     }
 }
 
