@@ -34,5 +34,6 @@ fn main(rt: HostRuntime) -> Result<()> {
     show(&rt, "first.gfs", &one_server)?;
     show(&rt, "names.gfs", &one_server)?;
     show(&rt, "holes.gfs", &small_chunks)?;
-    show(&rt, "lengths.gfs", &small_chunks)
+    show(&rt, "lengths.gfs", &small_chunks)?;
+    show(&rt, "records.gfs", &small_chunks)
 }

@@ -7,17 +7,10 @@ call_of_few [] few = refl
 call_of_few (a ∷ []) few = refl
 call_of_few (a ∷ b ∷ rest) few = absurd (omega arith)
 
-pub call_of_three : (words : List (List ℕ)) → length words ≡ 3 → call_of words ≡ None
-call_of_three [] three = refl
-call_of_three (a ∷ []) three = refl
-call_of_three (a ∷ b ∷ []) three = absurd (omega arith)
-call_of_three (a ∷ b ∷ c ∷ []) three = refl
-call_of_three (a ∷ b ∷ c ∷ d ∷ rest) three = absurd (omega arith)
-
 pub call_of_many : (words : List (List ℕ)) → 4 < length words → call_of words ≡ None
 call_of_many [] many = refl
 call_of_many (a ∷ []) many = refl
 call_of_many (a ∷ b ∷ []) many = absurd (omega arith)
-call_of_many (a ∷ b ∷ c ∷ []) many = refl
+call_of_many (a ∷ b ∷ c ∷ []) many = absurd (omega arith)
 call_of_many (a ∷ b ∷ c ∷ d ∷ []) many = absurd (omega arith)
 call_of_many (a ∷ b ∷ c ∷ d ∷ e ∷ rest) many = refl

@@ -37,6 +37,17 @@ abbrev pub write_call : Fd → ℕ → Data → Call
 write_call fd offset (Bytes bytes) = calls.Write fd offset bytes
 write_call fd offset TooLong = calls.Write fd (2 ^ 64 - 1) []
 
+-- data that are too long to be built become what a write of such data becomes
+abbrev pub append_call : Fd → Data → Call
+append_call fd (Bytes bytes) = calls.Append fd bytes
+append_call fd TooLong = write_call fd 0 TooLong
+
+-- a call that appends to an open file
+abbrev pub append_call_of : List ℕ → List ℕ → List ℕ → Option Call
+append_call_of name fd last =
+    if bytes_eq name (codes "append") then option_and_then (λ f. option_map (append_call (record { 0 = f })) (data_of last)) (number_of fd)
+    else None
+
 abbrev pub range_call_for : List ℕ → Fd → ℕ → List ℕ → Option Call
 range_call_for name fd offset last =
     if bytes_eq name (codes "write") then option_map (write_call fd offset) (data_of last)
@@ -50,6 +61,7 @@ range_call_of name fd offset last =
 
 abbrev pub call_of : List (List ℕ) → Option Call
 call_of (name ∷ word ∷ []) = short_call_of name word
+call_of (name ∷ fd ∷ last ∷ []) = append_call_of name fd last
 call_of (name ∷ fd ∷ offset ∷ last ∷ []) = range_call_of name fd offset last
 call_of _ = None
 

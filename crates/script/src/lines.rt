@@ -2,7 +2,7 @@
 
 ghost use Rattle.std.specs.Prelude.{◌≡◌, IfOk, map};
 ghost use Rattle.script.specs.Words.{Reads};
-ghost use Rattle.script.specs.Lines.{words_of, write_call, name_call_of, short_call_of, range_call_of, call_of, line_of};
+ghost use Rattle.script.specs.Lines.{words_of, write_call, append_call, name_call_of, short_call_of, append_call_of, range_call_of, call_of, line_of};
 
 use crate::fault::LineFault;
 use crate::nodes::client;
@@ -64,6 +64,28 @@ fn write_call(fd: Fd, offset: u64, data: Data) -> Call
     }
 }
 
+/// A record that is too long to be built becomes what a write of such data becomes, which the cell refuses for the same
+/// causes in the same order.
+fn append_call(fd: Fd, data: Data) -> Call
+    ensures { result ≡ append_call fd «data» }
+{
+    match data {
+        Data::Bytes(bytes) => Call::Append(fd, bytes),
+        Data::TooLong => write_call(fd, 0, Data::TooLong),
+    }
+}
+
+/// A call that appends to an open file.
+fn append(alloc: Global, name: &[u8], fd: &[u8], last: &[u8]) -> Result<Call, LineFault>
+    ensures { Reads result (append_call_of name.now fd.now last.now) }
+{
+    if name != b"append".as_slice() {
+        return Err(LineFault::Bad);
+    }
+    let fd = Fd(number(fd).ok_or(LineFault::Bad)?);
+    Ok(append_call(fd, read_data(alloc, last)?))
+}
+
 /// A call on a range of an open file.
 fn range_call(
     alloc: Global,
@@ -90,6 +112,7 @@ fn call(alloc: Global, words: &[&[u8]]) -> Result<Call, LineFault>
 {
     match words {
         [name, word] => short_call(alloc, name, word),
+        [name, fd, last] => append(alloc, name, fd, last),
         [name, fd, offset, last] => range_call(alloc, name, fd, offset, last),
         _ => Err(LineFault::Bad),
     }

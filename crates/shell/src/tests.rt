@@ -4,6 +4,7 @@ use command_line::options::Options;
 use gfs_types::config::Config;
 use std::alloc::{AllocError, Global};
 use std::io::{self, BufReader, ErrorKind, Read, Write};
+use std::process::Abort;
 use std::test::Fail;
 
 /// One chunkserver, and chunks of 64 bytes in blocks of 16.
@@ -70,7 +71,6 @@ fn runs_scripts(rt: HostRuntime) -> Result<(), Fail> {
 
 #[test]
 fn tells_lengths(rt: HostRuntime) -> Result<(), Fail> {
-    let alloc = rt.alloc();
     let rows: [(&str, &str); 6] = [
         (
             "c1 read 1 0 10\nc1 length 1\n",
@@ -98,7 +98,12 @@ fn tells_lengths(rt: HostRuntime) -> Result<(), Fail> {
             "c1 refused 12 BadFd\nc1 refused 12 BadFd\nc1 done\nc1 fd 2\nc1 done\nc1 length 0\nc1 length 1\n",
         ),
     ];
-    for (script, expected) in rows {
+    after_open(&rt, rt.alloc(), &rows)
+}
+
+/// Each script after a file was made and opened, on a small cell.
+fn after_open(rt: &impl Abort, alloc: Global, rows: &[(&str, &str)]) -> Result<(), Fail> {
+    for &(script, expected) in rows {
         let whole = padded(alloc, "c1 create /f\nc1 open /f\n", b' ', 0, script)?;
         let printed_whole = padded(alloc, "c1 done\nc1 fd 1\n", b' ', 0, expected)?;
         let (printed, result) = outcome(alloc, &small_cell(), whole.as_slice());
@@ -109,8 +114,43 @@ fn tells_lengths(rt: HostRuntime) -> Result<(), Fail> {
 }
 
 #[test]
+fn appends_records(rt: HostRuntime) -> Result<(), Fail> {
+    let rows: [(&str, &str); 7] = [
+        (
+            "c1 append 1 a*17\nc1 length 1\n",
+            "c1 refused 11 TooLong\nc1 length 0\n",
+        ),
+        (
+            "c1 append 1 a*13\nc1 append 1 a*13\nc1 append 1 a*13\nc1 append 1 a*13\nc1 append 1 a*13\nc1 read 1 52 12\nc1 length 1\n",
+            "c1 at 0\nc1 at 13\nc1 at 26\nc1 at 39\nc1 at 64\nc1 bytes 12 000000000000000000000000 rounds 1\nc1 length 77\n",
+        ),
+        (
+            "c1 append 1 a*16\nc1 append 1 a*16\nc1 append 1 a*16\nc1 append 1 a*16\nc1 append 1 b\n",
+            "c1 at 0\nc1 at 16\nc1 at 32\nc1 at 48\nc1 at 64\n",
+        ),
+        (
+            "c1 write 1 0 hello\nc1 append 1 x\nc1 read 1 0 10\n",
+            "c1 done\nc1 at 5\nc1 bytes 6 68656c6c6f78 rounds 1\n",
+        ),
+        (
+            "c1 write 1 0 z*60\nc1 append 1 a*16\nc1 read 1 56 8\nc1 append 1 b\n",
+            "c1 done\nc1 at 64\nc1 bytes 8 7a7a7a7a00000000 rounds 1\nc1 at 80\n",
+        ),
+        (
+            "c1 append 1 a*0\nc1 length 1\nc1 append 1 a*0\n",
+            "c1 at 0\nc1 length 0\nc1 at 0\n",
+        ),
+        (
+            "c1 append 2 x\nc1 append 1 a*67108865\n",
+            "c1 refused 12 BadFd\nc1 refused 11 TooLong\n",
+        ),
+    ];
+    after_open(&rt, rt.alloc(), &rows)
+}
+
+#[test]
 fn refuses_lines(rt: HostRuntime) {
-    let lines: [&[u8]; 44] = [
+    let lines: [&[u8]; 46] = [
         b"c1 fly /x",
         b"c1",
         b"c1 mkdir",
@@ -150,7 +190,9 @@ fn refuses_lines(rt: HostRuntime) {
         b"c1 write 1 0 a\x7f",
         b"c1 write 1 0 \xc3\xa9",
         b"c1 write 1 0 a*18446744073709551616",
-        b"c1 append 1 x",
+        b"c1 append 1",
+        b"c1 append 1 0 x",
+        b"c1 append x y",
         b"c1 length",
         b"c1 length x",
         b"c1 length -1",
@@ -418,6 +460,11 @@ fn push_good_line(numbers: &mut Numbers, script: &mut Vec<u8>) -> Result<(), All
     } else if numbers.below(5) == 0 {
         script.extend_from_slice(b"length ")?;
         script.extend_from_slice(numbers.pick(&[b"1", b"2", b"3"]))?;
+    } else if numbers.below(5) == 0 {
+        script.extend_from_slice(b"append ")?;
+        script.extend_from_slice(numbers.pick(&[b"1", b"2", b"3"]))?;
+        script.extend_from_slice(b" ")?;
+        script.extend_from_slice(numbers.pick(&[b"hello", b"x", b"z*13", b"z*17", b"z*0"]))?;
     } else if numbers.below(2) == 0 {
         script.extend_from_slice(b"write ")?;
         script.extend_from_slice(numbers.pick(&[b"1", b"2", b"3"]))?;
