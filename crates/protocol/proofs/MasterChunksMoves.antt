@@ -226,18 +226,19 @@ module _ (Asks : Type 0) (Told : ℕ → ℕ → ℕ → Type 0) (P : Core → T
       let ended : MasterDoing = ends_at (without_attempt d handle) handle until in
       (k.grants (core_of ended) primary handle version (moment_of until) members told (k.ends (core_of d) handle until h.0), fewer_told Told d.master.attempts (handle ∷ []) h.1, h.2)
 
-  grants_to_keeps : (d : MasterDoing) (handle : ℕ) (a : VersionAttempt) (servers : List ℕ) → ((n : ℕ) → has_number servers n ≡ true → Told n handle a.version) → At Asks Told P k d
-      → At Asks Told P k (grants_to d handle a servers)
-  grants_to_keeps d handle a [] told h = h
-  grants_to_keeps d handle a (primary ∷ rest) told h =
-      logs_keeps Asks Told P k d (log.Grant (handle_of handle) (version_of a.version) (server_id primary) (primary ∷ rest)) (λ e. sends_grant e handle a.version primary (primary ∷ rest)) tt (λ asks. record { due = tt; after = h.2 asks })
+  grants_to_keeps : (d : MasterDoing) (handle : ℕ) (row : ChunkRow) (a : VersionAttempt) (servers : List ℕ) → chunk_of d.master.logged.table handle ≡ Some row
+      → ((n : ℕ) → has_number servers n ≡ true → Told n handle a.version) → At Asks Told P k d → At Asks Told P k (grants_to d handle a servers)
+  grants_to_keeps d handle row a [] is told h = h
+  grants_to_keeps d handle row a (primary ∷ rest) is told h =
+      logs_keeps Asks Told P k d (log.Grant (handle_of handle) (version_of a.version) (server_id primary) (primary ∷ rest)) (λ e. sends_grant e handle a.version primary (primary ∷ rest)) (row, is) (λ asks. record { due = tt; after = h.2 asks })
       (grant_keeps handle a.version primary (primary ∷ rest) told) h
 
-  recorded_keeps : (d : MasterDoing) (handle : ℕ) (a : VersionAttempt) → IsTold Told handle a → At Asks Told P k d → At Asks Told P k (with_recorded d handle a)
-  recorded_keeps d handle a told h =
+  recorded_keeps : (d : MasterDoing) (handle : ℕ) (row : ChunkRow) (a : VersionAttempt) → chunk_of d.master.logged.table handle ≡ Some row → IsTold Told handle a → At Asks Told P k d
+      → At Asks Told P k (with_recorded d handle a)
+  recorded_keeps d handle row a is told h =
       let now : At Asks Told P k (with_attempt d handle a) = (h.0, one_told Told d.master.attempts handle a told h.1, h.2) in
       on_cond (At Asks Told P k) (is_complete d.master a) (grants_to (with_attempt d handle a) handle a (rising a.servers)) (with_attempt d handle a)
-      (λ all. grants_to_keeps (with_attempt d handle a) handle a (rising a.servers)
+      (λ all. grants_to_keeps (with_attempt d handle a) handle row a (rising a.servers) is
       (complete_told Told handle a (both_of (same_numbers a.servers a.recorded) (nat_lt d.master.now (a.begun + d.master.config.attempt_ms)) all).0 told) now)
       (λ _. now)
 
@@ -259,18 +260,18 @@ module _ (Asks : Type 0) (Told : ℕ → ℕ → ℕ → Type 0) (P : Core → T
             ];
       }
 
-  learns_attempt_keeps : (d : MasterDoing) (server handle version : ℕ) (o : Option ChunkRow) (p : Option VersionAttempt) → table.get d.master.attempts handle ≡ p
-      → (IsServerNumber server → Told server handle version) → At Asks Told P k d → At Asks Told P k (learns_attempt d server handle version o p)
-  learns_attempt_keeps d server handle version None p is word h = h
-  learns_attempt_keeps d server handle version (Some row) None is word h = h
-  learns_attempt_keeps d server handle version (Some row) (Some a) is word h =
+  learns_attempt_keeps : (d : MasterDoing) (server handle version : ℕ) (o : Option ChunkRow) (p : Option VersionAttempt) → chunk_of d.master.logged.table handle ≡ o
+      → table.get d.master.attempts handle ≡ p → (IsServerNumber server → Told server handle version) → At Asks Told P k d → At Asks Told P k (learns_attempt d server handle version o p)
+  learns_attempt_keeps d server handle version None p row_is is word h = h
+  learns_attempt_keeps d server handle version (Some row) None row_is is word h = h
+  learns_attempt_keeps d server handle version (Some row) (Some a) row_is is word h =
       let more : VersionAttempt = record a { recorded = with_number a.recorded server } in
       on_cond (At Asks Told P k) ((a.version == version) && has_number a.servers server) (with_recorded d handle more) d
-      (λ fits. recorded_keeps d handle more (one_more_told server handle version a fits word (h.1 handle a is)) h) (λ _. h)
+      (λ fits. recorded_keeps d handle row more row_is (one_more_told server handle version a fits word (h.1 handle a is)) h) (λ _. h)
 
   learns_keeps : (d : MasterDoing) (server handle version : ℕ) → (IsServerNumber server → Told server handle version) → At Asks Told P k d → At Asks Told P k (learns d server handle version)
   learns_keeps d server handle version word h =
-      learns_attempt_keeps d server handle version (chunk_of d.master.logged.table handle) (table.get d.master.attempts handle) refl word h
+      learns_attempt_keeps d server handle version (chunk_of d.master.logged.table handle) (table.get d.master.attempts handle) refl refl word h
 
   pub takes_recorded_keeps : (d : MasterDoing) (server handle version : ℕ) → (IsServerNumber server → Told server handle version) → At Asks Told P k d
       → At Asks Told P k (takes_recorded d server handle version)

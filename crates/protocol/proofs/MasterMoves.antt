@@ -55,6 +55,7 @@ IsDue l (log.Epoch epoch) = ⊥
 IsDue l (log.Create client n file path) = file.0 ≡ l.next_file
 IsDue l (log.AddChunk file handle) = (handle.0 ≡ l.next_handle) × (table.contains_key l.table.files file.0 ≡ true)
 IsDue l (log.Issue handle version) = (row : ChunkRow) × (chunk_of l.table handle.0 ≡ Some row) × (version.0 ≡ suc row.issued)
+IsDue l (log.Grant handle version primary members) = (row : ChunkRow) × (chunk_of l.table handle.0 ≡ Some row)
 IsDue l (log.CopyStart file index handle copy copy_version) = (copy.0 ≡ l.next_handle) × (table.contains_key l.table.files file.0 ≡ true)
 IsDue l (log.Counters next_file next_handle epoch) = ⊥
 IsDue l (log.DirItem path) = ⊥
@@ -133,7 +134,7 @@ due_later l (log.Rename client n from to) h due = tt
 due_later l (log.Snapshot client n from to) h due = tt
 due_later l (log.Refused client n refusal) h due = tt
 due_later l (log.Expired file) h due = tt
-due_later l (log.Grant handle version primary members) h due = tt
+due_later l (log.Grant handle version primary members) h due = (due.0, removed_other l.table.chunks (table.keys l.copies) handle.0 (sym (table.contains_key-keys l.copies handle.0) ∙ h) ∙ due.1)
 
 neither : (a b : Bool) → a && not b ≡ true → b ≡ false
 neither true true h = absurd (let both : false ≡ true = h in cc)
