@@ -21,4 +21,5 @@ pub mod LoggedParts
 pub mod GrantedIssued
 pub mod NamesReached
 pub mod OneName
+pub mod FilesLogged
 pub mod NamesLogged

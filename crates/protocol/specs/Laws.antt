@@ -96,6 +96,11 @@ abbrev pub LogHasTheNames : Type 0
 LogHasTheNames =
     (config : Config) (servers clients : ℕ) (w : WorldState) → IsReached config servers clients w → IsTrue w.master.up → HaveSameNames w.master.logged (replayed w.master.disk)
 
+-- The log, replayed, has the files of a master that is up, with their lists of chunks (sections 2.6.1 and 2.6.3).
+abbrev pub LogHasTheFiles : Type 0
+LogHasTheFiles =
+    (config : Config) (servers clients : ℕ) (w : WorldState) → IsReached config servers clients w → IsTrue w.master.up → w.master.logged.table.files ≡ (replayed w.master.disk).table.files
+
 -- the path is a name of the file
 abbrev pub IsNamed : Names → Path → ℕ → Type 0
 IsNamed names path file = node_at names path ≡ Some (File file)
