@@ -217,7 +217,7 @@ issued_both l k handle version row at is h =
     (λ r s there other. let old = h.below handle row s at other in omega (arith, old, is)) h
 
 -- a record of a step
-pub both_record : (l k : Logged) (r : Record) → IsDue l r → Both (rows_of l) (rows_of k) → Both (rows_of (after_record l r)) (rows_of (after_record k r))
+pub both_record : (l k : Logged) (r : Record) → IsDue ⊥ l r → Both (rows_of l) (rows_of k) → Both (rows_of (after_record l r)) (rows_of (after_record k r))
 both_record l k (log.AddChunk file handle) due h =
     put_both (rows_of l) (rows_of k) handle.0 (record new_row { references = 1 }) (record new_row { references = 1 }) (omega arith) (omega arith) (omega arith) h
 both_record l k (log.CopyStart file index handle copy copy_version) due h =

@@ -24,10 +24,10 @@ use Rattle.protocol.proofs.ChunkRows.{Rows, rows_of, From, then_from, all_copied
 use Rattle.protocol.proofs.LoggedParts.{Parts, parts_of, same_after, checkpoint_parts}
 use Rattle.protocol.proofs.FilesNamed.{Files, HasFile}
 use Rattle.protocol.proofs.OneName.{HasOneName, Kept, kept_of, records_keep, less_keep, first_one_name, checkpoint_keep, checkpoint_kept, items_named, items_copies, left_copy}
-use Rattle.protocol.proofs.NamesReached.{IsKeptByLog, AreSameButEnds, without_end}
+use Rattle.protocol.proofs.NamesReached.{AreSameButEnds, without_end}
 
 -- handles of copies are below the next one
-abbrev AreNumbered : Logged → Type 0
+abbrev pub AreNumbered : Logged → Type 0
 AreNumbered l = (handle : ℕ) (c : Copy) → table.get l.copies handle ≡ Some c → handle < l.next_handle
 
 -- what a log says
@@ -36,11 +36,11 @@ pub record IsFoundLog (k : Logged) : Type 0 where
   pub numbered : AreNumbered k
 
 -- The log's copies are the state's and others.
-abbrev AreAmong : Table Copy → Table Copy → Type 0
+abbrev pub AreAmong : Table Copy → Table Copy → Type 0
 AreAmong few many = (handle : ℕ) (c : Copy) → table.get few handle ≡ Some c → table.get many handle ≡ Some c
 
 -- a copy that the log alone has is without a row
-abbrev HasNoRow : Table Copy → Table Copy → Rows → Type 0
+abbrev pub HasNoRow : Table Copy → Table Copy → Rows → Type 0
 HasNoRow few many rows = (handle : ℕ) (c : Copy) → table.get many handle ≡ Some c → table.get few handle ≡ None → table.get rows handle ≡ None
 
 pub record IsLogOf (l k : Logged) : Type 0 where
@@ -68,7 +68,7 @@ swapped_files l k handle o p same are = subst (λ (x : Option Copy). (swapped_in
     one (Some c) = ap (λ (f : Files). (swap (record { files = f; chunks = table.empty }) c.file c.index c.source handle).files) same
 
 -- a chunk with a row is copied in both or in none
-same_copy : (few many : Table Copy) (rows : Rows) (handle : ℕ) (row : ChunkRow) → table.get rows handle ≡ Some row → AreAmong few many → HasNoRow few many rows → table.get few handle ≡ table.get many handle
+pub same_copy : (few many : Table Copy) (rows : Rows) (handle : ℕ) (row : ChunkRow) → table.get rows handle ≡ Some row → AreAmong few many → HasNoRow few many rows → table.get few handle ≡ table.get many handle
 same_copy few many rows handle row is among alone = by_copy (table.get few handle) (table.get many handle) refl refl
   where
     by_copy : (o p : Option Copy) → table.get few handle ≡ o → table.get many handle ≡ p → table.get few handle ≡ table.get many handle
@@ -76,7 +76,7 @@ same_copy few many rows handle row is among alone = by_copy (table.get few handl
     by_copy None None few_is many_is = few_is ∙ sym many_is
     by_copy None (Some c) few_is many_is = none_some row (sym (alone handle c many_is few_is) ∙ is)
 
-files_after : (l k : Logged) (r : Record) → parts_of l ≡ parts_of k → IsDue l r → IsLogOf l k → (after_record l r).table.files ≡ (after_record k r).table.files
+files_after : (l k : Logged) (r : Record) → parts_of l ≡ parts_of k → IsDue (Unit {0}) l r → IsLogOf l k → (after_record l r).table.files ≡ (after_record k r).table.files
 files_after l k (log.Create client n file path) same due h = ap (λ (f : Files). table.insert f file.0 []) h.files
 files_after l k (log.Snapshot client n from to) same due h =
     copied_files l.table k.table l.next_file (copied_entries l.names from to) h.files
@@ -91,17 +91,17 @@ files_after l k other same due h = h.files
 
 -- copies after a record
 
-abbrev without_copy : Table Copy → ℕ → Option Copy → Table Copy
+abbrev pub without_copy : Table Copy → ℕ → Option Copy → Table Copy
 without_copy copies handle None = copies
 without_copy copies handle (Some c) = table.remove copies handle
 
-abbrev copies_after : Table Copy → Record → Table Copy
+abbrev pub copies_after : Table Copy → Record → Table Copy
 copies_after copies (log.Expired file) = removed_all copies (copies_for_file (record first_logged { copies = copies }) file.0)
 copies_after copies (log.Grant handle version primary members) = without_copy copies handle.0 (table.get copies handle.0)
 copies_after copies (log.CopyStart file index handle copy copy_version) = table.insert copies copy.0 (record { file = file.0; index = index; source = handle.0 })
 copies_after copies other = copies
 
-copies_are_after : (l : Logged) (r : Record) → (after_record l r).copies ≡ copies_after l.copies r
+pub copies_are_after : (l : Logged) (r : Record) → (after_record l r).copies ≡ copies_after l.copies r
 copies_are_after l (log.Grant handle version primary members) = one (table.get l.copies handle.0)
   where
     one : (o : Option Copy) → (swapped_in (record l { table = grant l.table handle.0 version.0 primary.0 members }) handle.0 o).copies ≡ without_copy l.copies handle.0 o
@@ -158,17 +158,17 @@ now_gone t (n ∷ ns) q h = by_key (eq_by_cmp nat_cmp q n) refl (now_gone (table
     by_key true is rest g = stays_gone (table.remove t n) ns q (table.get-remove nat_cmp_total t n q ∙ ap (λ (b : Bool). cond b None (table.get t q)) is)
     by_key false is rest g = rest g
 
-copy_listed : (copies : Table Copy) (q : ℕ) (c : Copy) → table.get copies q ≡ Some c → list_any (eq_by_cmp nat_cmp q) (table.keys copies) ≡ true
+pub copy_listed : (copies : Table Copy) (q : ℕ) (c : Copy) → table.get copies q ≡ Some c → list_any (eq_by_cmp nat_cmp q) (table.keys copies) ≡ true
 copy_listed copies q c is = sym (table.contains_key-keys copies q) ∙ ap is_some is
 
-no_copies : (copies : Table Copy) (q : ℕ) → table.get (removed_all copies (table.keys copies)) q ≡ None
+pub no_copies : (copies : Table Copy) (q : ℕ) → table.get (removed_all copies (table.keys copies)) q ≡ None
 no_copies copies q = by_copy (table.get copies q) refl
   where
     by_copy : (o : Option Copy) → table.get copies q ≡ o → table.get (removed_all copies (table.keys copies)) q ≡ None
     by_copy None is = stays_gone copies (table.keys copies) q is
     by_copy (Some c) is = now_gone copies (table.keys copies) q (copy_listed copies q c is)
 
-among_after : (l k : Logged) (r : Record) → IsDue l r → IsLogOf l k → AreAmong (copies_after l.copies r) (copies_after k.copies r)
+among_after : (l k : Logged) (r : Record) → IsDue (Unit {0}) l r → IsLogOf l k → AreAmong (copies_after l.copies r) (copies_after k.copies r)
 among_after l k (log.Expired file) due h = λ handle c is.
     let old = left_copy l file.0 handle c is in
     copy_stays k file.0 handle c old.0 (h.among handle c old.1)
@@ -218,7 +218,7 @@ alone_expired l k file among handle c is none = by_copy (table.get l.copies hand
         let same : x ≡ c = same_some x c (sym (among handle x here) ∙ old.1) in
         none_some x (sym none ∙ copy_stays l file handle x (λ at. old.0 (sym (ap (λ (y : Copy). y.file) same) ∙ at)) here)
 
-alone_after : (l k : Logged) (r : Record) → parts_of l ≡ parts_of k → IsDue l r → IsLogOf l k → HasNoRow (copies_after l.copies r) (copies_after k.copies r) (rows_of (after_record l r))
+alone_after : (l k : Logged) (r : Record) → parts_of l ≡ parts_of k → IsDue (Unit {0}) l r → IsLogOf l k → HasNoRow (copies_after l.copies r) (copies_after k.copies r) (rows_of (after_record l r))
 alone_after l k (log.Expired file) same due h = λ handle c is none.
     from_none (rows_of l) (rows_of (after_record l (log.Expired file))) (expired_from l file) handle
     (h.alone handle c (left_copy k file.0 handle c is).1 (alone_expired l k file.0 h.among handle c is none))
@@ -255,7 +255,7 @@ alone_after l k (log.FileItem path file handles) same due h = absurd due
 alone_after l k (log.ChunkItem chunk granted issued primary members) same due h = absurd due
 alone_after l k other same due h = h.alone
 
-numbered_after : (l k : Logged) (r : Record) → IsDue l r → AreNumbered k → AreNumbered (after_record k r)
+numbered_after : (l k : Logged) (r : Record) → IsDue (Unit {0}) l r → AreNumbered k → AreNumbered (after_record k r)
 numbered_after l k (log.Expired file) due h = λ handle c is. h handle c (removed_cases k.copies (copies_for_file k file.0) handle c is)
 numbered_after l k (log.AddChunk file chunk) due h = λ handle c is. let low = h handle c is in let more = le-max_left k.next_handle (chunk.0 + 1) in omega (arith, low, more)
 numbered_after l k (log.CopyStart file index source copy copy_version) due h = λ handle c is.
@@ -274,7 +274,7 @@ numbered_after l k (log.Grant chunk version primary members) due h = one (table.
 numbered_after l k (log.Counters next_file next_handle epoch) due h = absurd due
 numbered_after l k other due h = h
 
-records_logged : (l k : Logged) (r : Record) → parts_of l ≡ parts_of k → IsDue l r → AreNames l r → IsLogOf l k → IsLogOf (after_record l r) (after_record k r)
+pub records_logged : (l k : Logged) (r : Record) → parts_of l ≡ parts_of k → IsDue (Unit {0}) l r → AreNames l r → IsLogOf l k → IsLogOf (after_record l r) (after_record k r)
 records_logged l k r same due names h =
     let named = records_keep l k r same due names h.here h.log.one_name in
     let few : copies_after l.copies r ≡ (after_record l r).copies = sym (copies_are_after l r) in
@@ -336,22 +336,20 @@ checkpoint_files l h = ap (λ (x : Kept). x.0) (checkpoint_kept l) ∙ table.sam
         items_chunks l.table (table.entries l.names) first name.0 id (found_at name.0 (table.entries l.names) (File id) (sym (table.get-entries l.names name.0) ∙ name.1))
         ∙ ap (λ (o : Option (List ℕ)). Some (unwrap_or o [])) is ∙ sym is
 
-checkpoint_logged : (l k : Logged) → Tree l.names → IsLogOf l k → IsLogOf (all_copies_given_up l) (after_records first_logged (checkpoint_of l))
+pub checkpoint_no_copies : (l : Logged) (handle : ℕ) → table.get (after_records first_logged (checkpoint_of l)).copies handle ≡ None
+checkpoint_no_copies l handle =
+    let first : Logged = after_record first_logged (log.Counters (file_id l.next_file) (handle_of l.next_handle) l.epoch) in
+    ap (λ (x : Kept). table.get x.1 handle) (checkpoint_kept l) ∙ ap (λ (t : Table Copy). table.get t handle) (items_copies l.table (table.entries l.names) first) ∙ table.get-empty nat_cmp handle
+
+pub checkpoint_logged : (l k : Logged) → Tree l.names → IsLogOf l k → IsLogOf (all_copies_given_up l) (after_records first_logged (checkpoint_of l))
 checkpoint_logged l k tree h =
     record {
       here = less_keep l (table.keys l.copies) h.here;
-      log = record { one_name = checkpoint_keep l tree h.here; numbered = λ handle c is. none_some c (sym (none handle) ∙ is) };
+      log = record { one_name = checkpoint_keep l tree h.here; numbered = λ handle c is. none_some c (sym (checkpoint_no_copies l handle) ∙ is) };
       files = sym (checkpoint_files l h.here);
       among = λ handle c is. none_some c (sym (no_copies l.copies handle) ∙ is);
-      alone = λ handle c is gone. none_some c (sym (none handle) ∙ is);
+      alone = λ handle c is gone. none_some c (sym (checkpoint_no_copies l handle) ∙ is);
     }
-  where
-    first : Logged
-    first = after_record first_logged (log.Counters (file_id l.next_file) (handle_of l.next_handle) l.epoch)
-
-    none : (handle : ℕ) → table.get (after_records first_logged (checkpoint_of l)).copies handle ≡ None
-    none handle =
-        ap (λ (x : Kept). table.get x.1 handle) (checkpoint_kept l) ∙ ap (λ (t : Table Copy). table.get t handle) (items_copies l.table (table.entries l.names) first) ∙ table.get-empty nat_cmp handle
 
 -- copies are given up
 
@@ -362,11 +360,11 @@ less_alone l k handles alone handle c is none = by_key (list_any (eq_by_cmp nat_
     by_key true listed = now_gone (rows_of l) handles handle listed
     by_key false not_listed = removed_other (rows_of l) handles handle not_listed ∙ alone handle c is (sym (removed_other l.copies handles handle not_listed) ∙ none)
 
-less_logged : (l k : Logged) (handles : List ℕ) → IsLogOf l k → IsLogOf (copies_given_up l handles) k
+pub less_logged : (l k : Logged) (handles : List ℕ) → IsLogOf l k → IsLogOf (copies_given_up l handles) k
 less_logged l k handles h =
     record { here = less_keep l handles h.here; log = h.log; files = h.files; among = λ handle c is. h.among handle c (removed_cases l.copies handles handle c is); alone = less_alone l k handles h.alone }
 
-restart_logged : (k : Logged) → IsFoundLog k → IsLogOf (all_copies_given_up k) k
+pub restart_logged : (k : Logged) → IsFoundLog k → IsLogOf (all_copies_given_up k) k
 restart_logged k g =
     record {
       here = less_keep k (table.keys k.copies) g.one_name;
@@ -383,33 +381,32 @@ same_none t u same q none = by_row (table.get u q) (sym (same q) ∙ ap (λ (o :
     by_row None is = refl
     by_row (Some row) is = none_some (without_end row) (sym is)
 
-pub log_kept : IsKeptByLog IsFoundLog IsLogOf
-log_kept =
+pub first_log_of : IsLogOf first_logged first_logged
+first_log_of =
     record {
-      good = λ l k h. h.log;
-      new = record {
-        here = first_one_name;
-        log = record { one_name = first_one_name; numbered = λ handle c is. none_some c (sym (table.get-empty nat_cmp handle) ∙ is) };
-        files = refl;
-        among = λ handle c is. is;
-        alone = λ handle c is none. table.get-empty nat_cmp handle;
-      };
-      restart = restart_logged;
-      epochs = λ l k epoch h. record {
-        here = record { named = h.here.named; copied = h.here.copied };
-        log = record { one_name = record { named = h.log.one_name.named; copied = h.log.one_name.copied }; numbered = h.log.numbered };
-        files = h.files;
-        among = h.among;
-        alone = h.alone;
-      };
-      records = records_logged;
-      checkpoint = checkpoint_logged;
-      less = less_logged;
-      rows = λ l k chunks same h. record {
-        here = record { named = h.here.named; copied = h.here.copied };
-        log = h.log;
-        files = h.files;
-        among = h.among;
-        alone = λ handle c is none. same_none (rows_of l) chunks same handle (h.alone handle c is none);
-      };
+      here = first_one_name;
+      log = record { one_name = first_one_name; numbered = λ handle c is. none_some c (sym (table.get-empty nat_cmp handle) ∙ is) };
+      files = refl;
+      among = λ handle c is. is;
+      alone = λ handle c is none. table.get-empty nat_cmp handle;
+    }
+
+pub epochs_logged : (l k : Logged) (epoch : ℕ) → IsLogOf l k → IsLogOf (record l { epoch = epoch }) (record k { epoch = epoch })
+epochs_logged l k epoch h =
+    record {
+      here = record { named = h.here.named; copied = h.here.copied };
+      log = record { one_name = record { named = h.log.one_name.named; copied = h.log.one_name.copied }; numbered = h.log.numbered };
+      files = h.files;
+      among = h.among;
+      alone = h.alone;
+    }
+
+pub rows_logged : (l k : Logged) (chunks : Table ChunkRow) → AreSameButEnds l.table.chunks chunks → IsLogOf l k → IsLogOf (record l { table = record l.table { chunks = chunks } }) k
+rows_logged l k chunks same h =
+    record {
+      here = record { named = h.here.named; copied = h.here.copied };
+      log = h.log;
+      files = h.files;
+      among = h.among;
+      alone = λ handle c is none. same_none (rows_of l) chunks same handle (h.alone handle c is none);
     }

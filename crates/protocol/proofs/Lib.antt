@@ -1,5 +1,6 @@
 pub mod Steps
 pub mod Entries
+pub mod CopiesUnderWay
 pub mod VersionAttempts
 pub mod Namespace
 pub mod HiddenNames
@@ -22,4 +23,9 @@ pub mod GrantedIssued
 pub mod NamesReached
 pub mod OneName
 pub mod FilesLogged
+pub mod Owners
+pub mod CountsLogged
+pub mod CountsKept
+pub mod RowsSame
+pub mod RowsLogged
 pub mod NamesLogged

@@ -23,6 +23,7 @@ use Rattle.protocol.specs.MasterStep.{master_goes, master_ends, master_bounded, 
 use Rattle.protocol.specs.World.{WorldState, IsReached}
 use Rattle.protocol.proofs.Steps.{on_cond}
 use Rattle.protocol.proofs.Namespace.{IsNamespace, names_are_after}
+use Rattle.protocol.proofs.CopiesUnderWay.{AreCopied, AreSoundCopies}
 use Rattle.protocol.proofs.MasterMoves.{Core, core_of, IsDue, Nothing, AreNames, Keeps, core_changed}
 use Rattle.protocol.proofs.MasterSteps.{goes_named}
 use Rattle.protocol.proofs.OrderNumbers.{state_of, state-appended, AllStops, stops_push, changed-push, AllFound, found_same, found_stopped}
@@ -39,13 +40,14 @@ AreSameButEnds t u = (handle : ℕ) → option_map without_end (table.get t hand
 -- What is needed to hold in each reached world of what the master keeps and what its log says, with what it says of the log alone.
 pub record IsKeptByLog (G : Logged → Type 0) (R : Logged → Logged → Type 0) : Type 0 where
   pub good : (l k : Logged) → R l k → G k
+  pub sound : (l k : Logged) → R l k → AreSoundCopies l
   pub new : R first_logged first_logged
   pub restart : (k : Logged) → G k → R (all_copies_given_up k) k
   pub epochs : (l k : Logged) (epoch : ℕ) → R l k → R (record l { epoch = epoch }) (record k { epoch = epoch })
   -- a record is logged where the names fit, and is replayed from the same names
-  pub records : (l k : Logged) (r : Record) → parts_of l ≡ parts_of k → IsDue l r → AreNames l r → R l k → R (after_record l r) (after_record k r)
-  pub checkpoint : (l k : Logged) → Tree l.names → R l k → R (all_copies_given_up l) (after_records first_logged (checkpoint_of l))
-  pub less : (l k : Logged) (handles : List ℕ) → R l k → R (copies_given_up l handles) k
+  pub records : (l k : Logged) (r : Record) → parts_of l ≡ parts_of k → IsDue (Unit {0}) l r → AreNames l r → R l k → R (after_record l r) (after_record k r)
+  pub checkpoint : (l k : Logged) → parts_of l ≡ parts_of k → Tree l.names → R l k → R (all_copies_given_up l) (after_records first_logged (checkpoint_of l))
+  pub less : (l k : Logged) (handles : List ℕ) → AreCopied l handles → R l k → R (copies_given_up l handles) k
   pub rows : (l k : Logged) (chunks : Table ChunkRow) → AreSameButEnds l.table.chunks chunks → R l k → R (record l { table = record l.table { chunks = chunks } }) k
 
 -- a chunk whose lease's end is set is the same but for that
@@ -120,7 +122,7 @@ module _ (G : Logged → Type 0) (R : Logged → Logged → Type 0) (b : IsKeptB
       → IsNaming start (record (core_changed c (WriteCheckpoint (checkpoint_of c.logged))) { logged = all_copies_given_up c.logged })
   checkpointed start c tree h =
       changed start c (WriteCheckpoint (checkpoint_of c.logged)) (all_copies_given_up c.logged) (sym (checkpoint_parts c.logged tree)) tree
-      (b.checkpoint c.logged (state_of c.disk) tree h.tied) h
+      (b.checkpoint c.logged (state_of c.disk) h.same tree h.tied) h
 
   quieter : (start : LogDisk) (c : Core) (l : Logged) → parts_of l ≡ parts_of c.logged → R l (state_of c.disk) → IsNaming start c → IsNaming start (record c { logged = l })
   quieter start c l same tied h = record { none = h.none; disk = h.disk; same = same ∙ h.same; tied = tied; stops = h.stops }
@@ -135,7 +137,8 @@ module _ (G : Logged → Type 0) (R : Logged → Logged → Type 0) (b : IsKeptB
             let n : AreNames c.logged r = names tt in
             appended start c r (subst (λ (x : Names). Tree x) (sym (names_are_after c.logged r)) n.after) (b.records c.logged (state_of c.disk) r h.same due n h.tied) h;
         checkpoint = λ c tree h. checkpointed start c (tree tt) h;
-        less = λ c handles h. quieter start c (copies_given_up c.logged handles) refl (b.less c.logged (state_of c.disk) handles h.tied) h;
+        sound = λ asks c h. b.sound c.logged (state_of c.disk) h.tied;
+        less = λ c handles copied h. quieter start c (copies_given_up c.logged handles) refl (b.less c.logged (state_of c.disk) handles copied h.tied) h;
         ends = λ c handle moment h.
             quieter start c (record c.logged { table = record c.logged.table { chunks = changed_row c.logged.table.chunks handle (λ row. record row { lease_end = moment }) (table.get c.logged.table.chunks handle) } }) refl
             (b.rows c.logged (state_of c.disk) (changed_row c.logged.table.chunks handle (λ row. record row { lease_end = moment }) (table.get c.logged.table.chunks handle)) (ended_same c.logged.table.chunks handle moment) h.tied) h;

@@ -99,7 +99,7 @@ below_apart : (k : Path) (es : List (Path × Node)) → T (below_all (slice_cmp 
 below_apart k [] h = tt
 below_apart k (e ∷ es) h = let parts = both_of_T (is_lt (slice_cmp nat_cmp k e.0)) (below_all (slice_cmp nat_cmp) k es) h in (less_is_apart k e.0 parts.0, below_apart k es parts.1)
 
-sorted_distinct : (es : List (Path × Node)) → T (is_sorted (slice_cmp nat_cmp) es) → AreDistinct es
+pub sorted_distinct : (es : List (Path × Node)) → T (is_sorted (slice_cmp nat_cmp) es) → AreDistinct es
 sorted_distinct [] h = tt
 sorted_distinct (e ∷ es) h = let parts = both_of_T (below_all (slice_cmp nat_cmp) e.0 es) (is_sorted (slice_cmp nat_cmp) es) h in (below_apart e.0 es parts.0, sorted_distinct es parts.1)
 
@@ -131,7 +131,7 @@ module _ (from to : Path) (no_root : from ≡ root → ⊥) where
       on_cond (λ (fs : List (Path × Node)). AreDistinct (map (λ f. (target f.0, f.1)) fs)) (is_at_or_below from e.0) (e ∷ filter (λ f. is_at_or_below from f.0) es) (filter (λ f. is_at_or_below from f.0) es)
       (λ a. (others_copied e.0 es a h.0, copied_distinct es h.1)) (λ _. copied_distinct es h.1)
 
-all_has : (P : Path × Node → Type 0) (es : List (Path × Node)) → ((p : Path) (v : Node) → HasAt es p v → P (p, v)) → AllOf P es
+pub all_has : (P : Path × Node → Type 0) (es : List (Path × Node)) → ((p : Path) (v : Node) → HasAt es p v → P (p, v)) → AllOf P es
 all_has P [] f = tt
 all_has P (e ∷ es) f = (f e.0 e.1 (inl (refl, refl)), all_has P es (λ p v h. f p v (inr h)))
 
@@ -263,7 +263,7 @@ fit_keeps l r fit h = record { named = fit_named l r fit h; copied = fit_copied 
 
 -- what is due in the state is due in the log
 
-table_due : (l : Logged) (r : Record) → IsDue l r → IsDueOf l r
+table_due : (l : Logged) (r : Record) → IsDue (Unit {0}) l r → IsDueOf l r
 table_due l (log.Create client n file path) due = due
 table_due l (log.AddChunk file handle) due = due.1
 table_due l (log.CopyStart file index handle copy copy_version) due = due.1
@@ -290,7 +290,7 @@ other_due l k (log.ChunkItem handle granted issued primary members) same next h 
 other_due l k (log.ClientItem client n refusal) same next h g due = due
 other_due l k other same next h g due = tt
 
-pub records_keep : (l k : Logged) (r : Record) → parts_of l ≡ parts_of k → IsDue l r → AreNames l r → HasOneName l → HasOneName k → HasOneName (after_record l r) × HasOneName (after_record k r)
+pub records_keep : (l k : Logged) (r : Record) → parts_of l ≡ parts_of k → IsDue (Unit {0}) l r → AreNames l r → HasOneName l → HasOneName k → HasOneName (after_record l r) × HasOneName (after_record k r)
 records_keep l k r same due names h g =
     let same_names : l.names ≡ k.names = ap (λ (p : Parts). p.names) same in
     let same_next : l.next_file ≡ k.next_file = ap (λ (p : Parts). p.next_file) same in
