@@ -7,7 +7,7 @@ use Rattle.std.specs.Cmp.{unsigned_tied}
 use Rattle.std.proofs.lemmas.Bool.{true≢false, eqb-true, and_parts, or_right}
 use Rattle.std.specs.FinMap as table
 use Rattle.std.specs.FinMap.Entries.{find}
-use Rattle.protocol.specs.Tables.{Table, first_of_list}
+use Rattle.protocol.specs.Tables.{first_of_list}
 use Rattle.protocol.specs.ChunkTable.{ChunkRow, chunk_of}
 use Rattle.protocol.specs.Logged.{Logged, Copy, copies_that, copies_given_up}
 use Rattle.protocol.specs.MasterVersions.{copy_for}

@@ -1,5 +1,5 @@
 -- Counts, rows of copies and their places are kept by records, checkpoints, restarts and copies that are given up.
-use Rattle.std.proofs.Common.{◌≡◌, ◌⊎◌, ℕ, zero, suc, ◌+◌, ◌≤◌, ◌<◌, Bool, true, false, List, [], ◌∷◌, ◌++◌, map, Option, Some, None, is_some, refl, sym, ap, subst, ◌∙◌, inl, inr, arith}
+use Rattle.std.proofs.Common.{◌≡◌, ◌⊎◌, ℕ, zero, suc, ◌<◌, List, [], ◌∷◌, ◌++◌, map, Option, Some, None, refl, sym, ap, subst, ◌∙◌, inl, inr, arith}
 use Rattle.std.specs.Prelude.{nat_lt, filter, option_map, unwrap_or}
 use Rattle.std.specs.Ordering.{nat_cmp}
 use Rattle.std.specs.FinMap as table
@@ -8,24 +8,24 @@ use Rattle.gfs_types.specs.declared.record.Record.TheVariants as log
 use Rattle.gfs_types.specs.Paths.{Path}
 use Rattle.relaxed_file.specs.Names.{Names, Node, Dir, File, node_at, id_after, copied_entries}
 use Rattle.relaxed_file.proofs.NamesTree.{Tree, entry_is}
-use Rattle.protocol.specs.Tables.{Table, removed_all, element_at, with_at}
+use Rattle.protocol.specs.Tables.{Table, element_at, with_at}
 use Rattle.protocol.specs.Sending.{file_id, handle_of}
 use Rattle.protocol.specs.ChunkTable.{ChunkRow, ChunkTable, handles_of, grant}
-use Rattle.protocol.specs.Logged.{Logged, KeptCall, Copy, first_logged, after_record, after_records, copies_for_file, copies_given_up, all_copies_given_up, swapped_in, with_owned, with_copied_node, with_copied_nodes, checkpoint_of, name_item, node_item, chunk_item, client_item}
+use Rattle.protocol.specs.Logged.{Logged, KeptCall, Copy, first_logged, after_record, after_records, copies_for_file, copies_given_up, all_copies_given_up, swapped_in, with_copied_node, with_copied_nodes, checkpoint_of, name_item, node_item, chunk_item, client_item}
 use Rattle.protocol.specs.Laws.{times_in}
-use Rattle.protocol.proofs.Steps.{none_some, same_some, same_or_not, put_cases, put_split, put_there, put_other, gone_other, gone_split, kept_cases, removed_cases}
+use Rattle.protocol.proofs.Steps.{none_some, same_or_not, put_cases, put_split, put_there, put_other, gone_other, gone_split, kept_cases, removed_cases}
 use Rattle.protocol.proofs.Entries.{AllOf}
-use Rattle.protocol.proofs.CopiesUnderWay.{AreCopied, AreSoundCopies, keys_are_copied}
+use Rattle.protocol.proofs.CopiesUnderWay.{AreCopied, keys_are_copied}
 use Rattle.protocol.proofs.MasterMoves.{IsDue, AreNames, removed_other}
 use Rattle.protocol.proofs.OrderNumbers.{after-append}
-use Rattle.protocol.proofs.ChunkRows.{Rows, rows_of}
+use Rattle.protocol.proofs.ChunkRows.{rows_of}
 use Rattle.protocol.proofs.LoggedParts.{Parts, parts_of, checkpoint_parts}
-use Rattle.protocol.proofs.FilesNamed.{Files, HasFile, AreDistinct}
+use Rattle.protocol.proofs.FilesNamed.{Files, AreDistinct}
 use Rattle.protocol.proofs.OneName.{HasOneName, all_has, sorted_distinct, left_copy}
 use Rattle.protocol.proofs.NamesReached.{IsKeptByLog, AreSameButEnds, without_end}
 use Rattle.protocol.proofs.FilesLogged.{without_copy, copies_after, copies_are_after, same_copy, no_copies, records_logged, checkpoint_logged, checkpoint_no_copies, less_logged, restart_logged, first_log_of, epochs_logged, rows_logged}
-use Rattle.protocol.proofs.Owners.{chunks_at, times_new, references_of, refs, HasRow, owned_refs, AreCounted, none_counted, no_times, changed_refs, fewer_counted}
-use Rattle.protocol.proofs.CountsLogged.{AreApart, HaveRows, AreBelow, IsPlacedIn, ArePlaced, AreAlone, AreFilesBelow, IsCountDue, IsCopyPlaced, IsFoundCounts, IsCountedLog, apart_here, files_below, new_is_none, counted_after, fresh, apart_after, below_after, unlisted, rows_after}
+use Rattle.protocol.proofs.Owners.{chunks_at, times_new, references_of, owned_refs, AreCounted, none_counted, no_times, changed_refs, fewer_counted}
+use Rattle.protocol.proofs.CountsLogged.{AreApart, HaveRows, IsPlacedIn, ArePlaced, AreAlone, IsCountDue, IsCopyPlaced, IsFoundCounts, IsCountedLog, apart_here, files_below, new_is_none, counted_after, fresh, apart_after, below_after, unlisted, rows_after}
 
 -- places of copies after a record
 

@@ -1,23 +1,19 @@
 -- Rows have as many references as their handles stand in files, also in the log. A copy under way is for its source's place, and stands in no file.
-use Rattle.std.proofs.Common.{◌≡◌, ◌⊎◌, ℕ, zero, suc, ◌+◌, ◌-◌, ◌≤◌, ◌<◌, Bool, true, false, cond, List, [], ◌∷◌, ◌++◌, map, Option, Some, None, is_some, refl, sym, ap, subst, ◌∙◌, inl, inr, arith}
-use Rattle.std.specs.Prelude.{◌==◌, nat_le, nat_lt, max, filter, option_map, unwrap_or}
+use Rattle.std.proofs.Common.{◌≡◌, ◌⊎◌, ℕ, zero, suc, ◌+◌, ◌-◌, ◌≤◌, ◌<◌, Bool, true, false, List, [], ◌∷◌, ◌++◌, Option, Some, None, is_some, refl, sym, ap, ◌∙◌, inl, inr, arith}
+use Rattle.std.specs.Prelude.{◌==◌, nat_le}
 use Rattle.std.specs.List.{list_any}
 use Rattle.std.specs.Ordering.{nat_cmp, eq_by_cmp}
 use Rattle.std.proofs.Math.Nat.{le-max_left, le-max_right}
-use Rattle.std.proofs.lemmas.Bool.{true≢false}
 use Rattle.std.specs.FinMap as table
 use Rattle.gfs_types.specs.declared.record.Record.{Record}
 use Rattle.gfs_types.specs.declared.record.Record.TheVariants as log
 use Rattle.gfs_types.specs.Paths.{Path}
-use Rattle.relaxed_file.specs.Names.{Names, Node, Dir, File, node_at, id_after, copied_entries}
-use Rattle.relaxed_file.proofs.NamesTree.{Tree, entry_is}
+use Rattle.relaxed_file.specs.Names.{Node, Dir, File, id_after, copied_entries}
 use Rattle.protocol.specs.Tables.{Table, removed_all, element_at, with_at}
-use Rattle.protocol.specs.Sending.{file_id, handle_of}
 use Rattle.protocol.specs.ChunkTable.{ChunkRow, ChunkTable, new_row, changed_row, granted_row, grant, shared, all_shared, left_by, left, all_left, handles_of}
-use Rattle.protocol.specs.Logged.{Logged, KeptCall, Copy, first_logged, after_record, after_records, copies_for_file, copies_given_up, all_copies_given_up, swapped_in, with_owned, with_copied_node, with_copied_nodes, checkpoint_of, name_item, node_item, chunk_item, client_item}
+use Rattle.protocol.specs.Logged.{Logged, Copy, after_record, copies_for_file, swapped_in, with_copied_node, with_copied_nodes}
 use Rattle.protocol.specs.Laws.{times_in}
-use Rattle.protocol.proofs.Steps.{on_cond, none_some, same_some, count-cons, count-append, same_or_not, put_cases, put_split, put_there, put_other, gone_there, gone_other, gone_split, kept_cases, removed_cases}
-use Rattle.protocol.proofs.Entries.{AllOf}
+use Rattle.protocol.proofs.Steps.{on_cond, none_some, count-cons, count-append, same_or_not, put_cases, put_there, put_other, gone_other, gone_split, kept_cases, removed_cases}
 use Rattle.protocol.proofs.CopiesUnderWay.{listed_copied}
 use Rattle.protocol.proofs.MasterMoves.{IsDue, removed_other}
 use Rattle.protocol.proofs.ChunkRows.{Rows, rows_of}

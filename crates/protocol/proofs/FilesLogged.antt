@@ -1,17 +1,17 @@
 -- The log has the files of the state, with their chunks. It may have copies too that the state gave up: these have no row in the state.
-use Rattle.std.proofs.Common.{◌≡◌, ◌⊎◌, ◌≢◌, ⊎_elim, ℕ, ◌+◌, ◌≤◌, ◌<◌, Bool, true, false, cond, List, [], ◌∷◌, ◌++◌, map, Option, Some, None, is_some, refl, sym, ap, subst, ◌∙◌, inl, inr, arith}
-use Rattle.std.specs.Prelude.{◌==◌, ◌||◌, filter, max, option_map, unwrap_or}
+use Rattle.std.proofs.Common.{◌≡◌, ◌⊎◌, ℕ, ◌+◌, ◌<◌, Bool, true, false, cond, List, [], ◌∷◌, ◌++◌, map, Option, Some, None, is_some, refl, sym, ap, subst, ◌∙◌, inl, inr, arith}
+use Rattle.std.specs.Prelude.{◌==◌, ◌||◌, filter, option_map, unwrap_or}
 use Rattle.std.specs.List.{list_any}
 use Rattle.std.specs.Ordering.{nat_cmp, eq_by_cmp}
 use Rattle.std.specs.Cmp.{nat_cmp_total, unsigned_tied}
 use Rattle.std.proofs.Math.Nat.{le-max_left, le-max_right}
-use Rattle.std.proofs.lemmas.Bool.{true≢false, eqb-true, eqb-false}
+use Rattle.std.proofs.lemmas.Bool.{true≢false, eqb-true}
 use Rattle.std.specs.FinMap as table
 use Rattle.std.specs.FinMap.Entries.{find}
 use Rattle.gfs_types.specs.declared.record.Record.{Record}
 use Rattle.gfs_types.specs.declared.record.Record.TheVariants as log
 use Rattle.gfs_types.specs.Paths.{Path}
-use Rattle.relaxed_file.specs.Names.{Names, Node, Dir, File, node_at, id_after, copied_entries}
+use Rattle.relaxed_file.specs.Names.{Node, Dir, File, id_after, copied_entries}
 use Rattle.relaxed_file.proofs.NamesTree.{Tree, HasAt, found_at, entry_is}
 use Rattle.protocol.specs.Tables.{Table, removed_all}
 use Rattle.protocol.specs.Sending.{file_id, handle_of}
@@ -20,10 +20,10 @@ use Rattle.protocol.specs.Logged.{Logged, Copy, first_logged, after_record, afte
 use Rattle.protocol.proofs.Steps.{none_some, same_some, put_cases, put_split, put_there, put_other, gone_split, gone_other, same_or_not, kept_cases, removed_cases}
 use Rattle.protocol.proofs.Entries.{AllOf, all_found, IsFound}
 use Rattle.protocol.proofs.MasterMoves.{IsDue, AreNames, removed_other}
-use Rattle.protocol.proofs.ChunkRows.{Rows, rows_of, From, then_from, all_copied_from, swapped_from, removed_from, changed_from, expired_from}
-use Rattle.protocol.proofs.LoggedParts.{Parts, parts_of, same_after, checkpoint_parts}
-use Rattle.protocol.proofs.FilesNamed.{Files, HasFile}
-use Rattle.protocol.proofs.OneName.{HasOneName, Kept, kept_of, records_keep, less_keep, first_one_name, checkpoint_keep, checkpoint_kept, items_named, items_copies, left_copy}
+use Rattle.protocol.proofs.ChunkRows.{Rows, rows_of, From, all_copied_from, swapped_from, expired_from}
+use Rattle.protocol.proofs.LoggedParts.{Parts, parts_of}
+use Rattle.protocol.proofs.FilesNamed.{Files}
+use Rattle.protocol.proofs.OneName.{HasOneName, Kept, records_keep, less_keep, first_one_name, checkpoint_keep, checkpoint_kept, items_named, items_copies, left_copy}
 use Rattle.protocol.proofs.NamesReached.{AreSameButEnds, without_end}
 
 -- handles of copies are below the next one

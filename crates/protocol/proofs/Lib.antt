@@ -28,4 +28,5 @@ pub mod CountsLogged
 pub mod CountsKept
 pub mod RowsSame
 pub mod RowsLogged
+pub mod RowsKept
 pub mod NamesLogged

@@ -1,7 +1,7 @@
 -- What the log, replayed, has of the names and files of a master that is up, and how references are counted.
 use Rattle.std.proofs.Common.{is_some, sym, ap, ◌∙◌, arith}
 use Rattle.std.specs.FinMap as table
-use Rattle.protocol.specs.Laws.{MasterNamesAreATree, LogHasTheNames, LogHasTheFiles, EachFileHasOneName, FilesHaveOneName, HasAllReferences, ReferencesAreCounted}
+use Rattle.protocol.specs.Laws.{MasterNamesAreATree, LogHasTheNames, LogHasTheFiles, EachFileHasOneName, FilesHaveOneName, HasAllReferences, ReferencesAreCounted, LogHasTheChunks}
 use Rattle.protocol.specs.ChunkTable.{ChunkTable}
 use Rattle.protocol.specs.Logged.{Logged, replayed}
 use Rattle.protocol.proofs.LoggedParts.{Parts}
@@ -10,6 +10,8 @@ use Rattle.protocol.proofs.OrderNumbers.{state_of}
 use Rattle.protocol.proofs.OneName.{HasOneName, less_keep}
 use Rattle.protocol.proofs.CountsLogged.{IsFoundCounts, IsCountedLog}
 use Rattle.protocol.proofs.CountsKept.{counts_kept, restart_counted}
+use Rattle.protocol.proofs.RowsLogged.{IsFoundRows, IsRowedLog}
+use Rattle.protocol.proofs.RowsKept.{rows_kept, given_up_same}
 use Rattle.protocol.proofs.Owners.{references_of, has_row, AreCounted}
 
 pub master_names_are_a_tree : MasterNamesAreATree
@@ -41,3 +43,8 @@ pub references_are_counted : ReferencesAreCounted
 references_are_counted config servers clients w r up =
     let log = (logged_reached IsFoundCounts IsCountedLog counts_kept config servers clients w r up).tied in
     (all_references w.master.logged.table log.counted, all_references (replayed w.master.disk).table (restart_counted (state_of w.master.disk) log.log).counted)
+
+pub log_has_the_chunks : LogHasTheChunks
+log_has_the_chunks config servers clients w r up handle =
+    let log = (logged_reached IsFoundRows IsRowedLog rows_kept config servers clients w r up).tied in
+    given_up_same w.master.logged (state_of w.master.disk) log handle

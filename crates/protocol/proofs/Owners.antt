@@ -1,16 +1,16 @@
 -- How many times a handle stands in files, and how many references its row has: what each change of the table of chunks does to both.
 use Rattle.std.proofs.Common.{◌≡◌, ◌⊎◌, ℕ, zero, suc, ◌+◌, ◌-◌, ◌≤◌, Bool, true, false, cond, List, [], ◌∷◌, ◌++◌, length, Option, Some, None, refl, sym, ap, subst, ◌∙◌, inl, inr, arith}
-use Rattle.std.specs.Prelude.{◌==◌, ◌||◌, nat_le, count_by, unwrap_or}
+use Rattle.std.specs.Prelude.{◌==◌, nat_le, count_by, unwrap_or}
 use Rattle.std.specs.List.{list_any, sum_by}
 use Rattle.std.specs.Ordering.{nat_cmp, eq_by_cmp, is_eq}
-use Rattle.std.specs.Cmp.{nat_cmp_total, unsigned_tied}
-use Rattle.std.proofs.lemmas.Bool.{true≢false, eqb-true, leb-true, leb-false}
+use Rattle.std.specs.Cmp.{nat_cmp_total}
+use Rattle.std.proofs.lemmas.Bool.{true≢false, eqb-true, leb-true}
 use Rattle.std.proofs.lemmas.List.Sums.{sum_by-cons}
 use Rattle.std.specs.FinMap as table
 use Rattle.std.specs.FinMap.Entries.{find, put, by_order}
 use Rattle.std.specs.declared.cmp.Ordering.{Ordering}
 use Rattle.std.specs.declared.cmp.Ordering.TheVariants.{Less, Equal, Greater}
-use Rattle.protocol.specs.Tables.{Table, removed_all, element_at, with_at}
+use Rattle.protocol.specs.Tables.{removed_all, element_at, with_at}
 use Rattle.protocol.specs.ChunkTable.{ChunkRow, ChunkTable, new_row, new_chunk_table, with_owner, changed_row, shared, all_shared, left_by, left, all_left, handles_of, add_file, add_chunk, copy_file, drop_file, swap, with_row}
 use Rattle.protocol.specs.Logged.{owned_row, with_owned}
 use Rattle.protocol.specs.Laws.{times_in}

@@ -1,5 +1,5 @@
 -- The log has the rows of the state, but for the ends of leases and for the copies that one of both alone has.
-use Rattle.std.proofs.Common.{◌≡◌, ◌⊎◌, ℕ, ◌+◌, ◌≤◌, Bool, true, false, cond, List, [], Option, Some, None, refl, sym, ap, subst, ◌∙◌, inl, inr, arith}
+use Rattle.std.proofs.Common.{◌≡◌, ◌⊎◌, ℕ, Bool, true, false, List, [], Option, Some, None, refl, sym, ap, subst, ◌∙◌, inl, inr, arith}
 use Rattle.std.specs.Prelude.{◌==◌, option_map, unwrap_or}
 use Rattle.std.specs.List.{list_any}
 use Rattle.std.specs.Ordering.{nat_cmp, eq_by_cmp}
@@ -9,7 +9,7 @@ use Rattle.gfs_types.specs.declared.record.Record.TheVariants as log
 use Rattle.gfs_types.specs.Paths.{Path}
 use Rattle.relaxed_file.specs.Names.{Node, copied_entries}
 use Rattle.protocol.specs.Tables.{Table, removed_all}
-use Rattle.protocol.specs.ChunkTable.{ChunkRow, ChunkTable, new_row, changed_row, granted_row, grant, shared, all_left, handles_of}
+use Rattle.protocol.specs.ChunkTable.{ChunkRow, new_row, changed_row, granted_row, grant, shared, all_left, handles_of}
 use Rattle.protocol.specs.Logged.{Logged, Copy, after_record, copies_for_file, swapped_in, with_copied_nodes}
 use Rattle.protocol.proofs.Steps.{none_some, same_or_not, put_there, put_other, gone_other}
 use Rattle.protocol.proofs.CopiesUnderWay.{listed_copied}
@@ -21,7 +21,7 @@ use Rattle.protocol.proofs.NamesReached.{without_end}
 use Rattle.protocol.proofs.FilesLogged.{without_copy, copies_after, copies_are_after, same_copy, now_gone}
 use Rattle.protocol.proofs.CountsLogged.{IsFoundCounts, IsCountedLog}
 use Rattle.protocol.proofs.CountsKept.{counts_kept}
-use Rattle.protocol.proofs.RowsSame.{AreSameAt, IsSameRow, changed_at, changed_same, shared_same, left_same, all_left_same, put_same, snapshot_same, IsOwned, owned_look, none_owned, changed_owned, shared_owned, left_owned, all_left_owned, put_owned, snapshot_owned}
+use Rattle.protocol.proofs.RowsSame.{AreSameAt, IsSameRow, changed_same, shared_same, left_same, all_left_same, put_same, snapshot_same, IsOwned, owned_look, none_owned, changed_owned, shared_owned, left_owned, all_left_owned, put_owned, snapshot_owned}
 
 -- a row that no copy under way has is owned
 abbrev AreOwned : Logged → Type 0
@@ -168,7 +168,7 @@ owned_after l j (log.FileItem path file handles) due h q none = absurd due
 owned_after l j (log.ChunkItem chunk granted issued primary members) due h q none = absurd due
 owned_after l j other due h q none = h q none
 
-records_rowed : (l k : Logged) (r : Record) → parts_of l ≡ parts_of k → IsDue (Unit {0}) l r → AreNames l r → IsRowedLog l k → IsRowedLog (after_record l r) (after_record k r)
+pub records_rowed : (l k : Logged) (r : Record) → parts_of l ≡ parts_of k → IsDue (Unit {0}) l r → AreNames l r → IsRowedLog l k → IsRowedLog (after_record l r) (after_record k r)
 records_rowed l k r parts due names h =
     let few : (after_record l r).copies ≡ copies_after l.copies r = copies_are_after l r in
     let many : (after_record k r).copies ≡ copies_after k.copies r = copies_are_after k r in

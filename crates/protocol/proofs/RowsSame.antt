@@ -1,12 +1,11 @@
 -- Rows of two tables that are the same but for the ends of leases, after each change of both; and rows that are owned.
-use Rattle.std.proofs.Common.{◌≡◌, ◌⊎◌, ℕ, ◌+◌, ◌-◌, ◌≤◌, Bool, true, false, cond, List, [], ◌∷◌, Option, Some, None, refl, sym, ap, subst, ◌∙◌, inl, inr, arith}
+use Rattle.std.proofs.Common.{◌≡◌, ◌⊎◌, ℕ, ◌-◌, ◌≤◌, Bool, true, false, cond, List, [], ◌∷◌, Option, Some, None, refl, sym, ap, subst, ◌∙◌, inl, inr, arith}
 use Rattle.std.specs.Prelude.{◌==◌, nat_le, option_map, unwrap_or}
 use Rattle.std.specs.Cmp.{nat_cmp_total, unsigned_tied}
 use Rattle.std.proofs.lemmas.Bool.{eqb-true, eqb-false, leb-false}
 use Rattle.std.specs.FinMap as table
 use Rattle.gfs_types.specs.Paths.{Path}
 use Rattle.relaxed_file.specs.Names.{Node, Dir, File, id_after}
-use Rattle.protocol.specs.Tables.{Table}
 use Rattle.protocol.specs.ChunkTable.{ChunkRow, ChunkTable, with_owner, changed_row, shared, all_shared, left_by, left, all_left, handles_of}
 use Rattle.protocol.specs.Logged.{with_copied_node, with_copied_nodes}
 use Rattle.protocol.proofs.Steps.{on_cond, none_some, same_some, same_or_not, put_there, put_other, gone_there, gone_other}

@@ -1,5 +1,5 @@
 -- Laws of every lawful list of events, restarts, losses and repeats included, that public functions of this crate state.
-use Rattle.std.specs.Prelude.{◌≡◌, ◌⊎◌, ℕ, ◌≤◌, ◌<◌, Bool, false, ◌==◌, ◌&&◌, List, count_by, Option, Some, None, IsTrue}
+use Rattle.std.specs.Prelude.{◌≡◌, ◌⊎◌, ℕ, ◌≤◌, ◌<◌, Bool, false, ◌==◌, ◌&&◌, List, count_by, option_map, Option, Some, None, IsTrue}
 use Rattle.std.specs.List.{list_any, sum_by}
 use Rattle.std.specs.FinMap as table
 use Rattle.gfs_types.specs.declared.config.Config.{Config}
@@ -17,7 +17,7 @@ use Rattle.protocol.specs.Tables.{Table, element_at, has_number}
 use Rattle.protocol.specs.Sending.{the_server}
 use Rattle.protocol.specs.Choice.{Choice}
 use Rattle.protocol.specs.ChunkTable.{ChunkRow, ChunkTable, chunk_of}
-use Rattle.protocol.specs.Logged.{Logged, replayed}
+use Rattle.protocol.specs.Logged.{Logged, all_copies_given_up, replayed}
 use Rattle.protocol.specs.Server.{ServerState}
 use Rattle.protocol.specs.World.{WorldState, after_events, IsReached}
 
@@ -132,3 +132,16 @@ abbrev pub ReferencesAreCounted : Type 0
 ReferencesAreCounted =
     (config : Config) (servers clients : ℕ) (w : WorldState) → IsReached config servers clients w → IsTrue w.master.up
     → HasAllReferences w.master.logged.table × HasAllReferences (replayed w.master.disk).table
+
+-- a chunk's row, the end of its lease aside
+abbrev pub row_but_end : ChunkRow → ChunkRow
+row_but_end row = record row { lease_end = 0 }
+
+abbrev pub chunk_but_end : ChunkTable → ℕ → Option ChunkRow
+chunk_but_end t handle = option_map row_but_end (chunk_of t handle)
+
+-- The log, replayed, has the chunks of a master that is up, but for the ends of leases and for copies under way, which a restart gives up (sections 2.6.3 and 3.4).
+abbrev pub LogHasTheChunks : Type 0
+LogHasTheChunks =
+    (config : Config) (servers clients : ℕ) (w : WorldState) → IsReached config servers clients w → IsTrue w.master.up
+    → (handle : ℕ) → chunk_but_end (all_copies_given_up w.master.logged).table handle ≡ chunk_but_end (replayed w.master.disk).table handle
