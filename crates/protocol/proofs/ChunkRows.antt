@@ -6,6 +6,7 @@ use Rattle.std.specs.Cmp.{nat_cmp_total}
 use Rattle.std.specs.FinMap as table
 use Rattle.std.specs.FinMap.Entries.{find}
 use Rattle.std.proofs.Math.Nat.{le-max_right}
+use Rattle.gfs_types.specs.declared.ids.FileId.{FileId}
 use Rattle.gfs_types.specs.declared.record.Record.{Record}
 use Rattle.gfs_types.specs.declared.record.Record.TheVariants as log
 use Rattle.gfs_types.specs.Paths.{Path}
@@ -110,15 +111,20 @@ copied_from : (t : ChunkTable) (next : ℕ) (n : Node) → From t.chunks (with_c
 copied_from t next Dir = same_from t.chunks
 copied_from t next (File id) = all_shared_from t.chunks (handles_of t id)
 
-all_copied_from : (t : ChunkTable) (next : ℕ) (es : List (Path × Node)) → From t.chunks (with_copied_nodes t next es).chunks
+pub all_copied_from : (t : ChunkTable) (next : ℕ) (es : List (Path × Node)) → From t.chunks (with_copied_nodes t next es).chunks
 all_copied_from t next [] = same_from t.chunks
 all_copied_from t next (e ∷ es) =
     let one : ChunkTable = with_copied_node t next e.1 in
     then_from t.chunks one.chunks (with_copied_nodes one (id_after next e.1) es).chunks (copied_from t next e.1) (all_copied_from one (id_after next e.1) es)
 
-swapped_from : (l : Logged) (handle : ℕ) (o : Option Copy) → From (rows_of l) (rows_of (swapped_in l handle o))
+pub swapped_from : (l : Logged) (handle : ℕ) (o : Option Copy) → From (rows_of l) (rows_of (swapped_in l handle o))
 swapped_from l handle None = same_from (rows_of l)
 swapped_from l handle (Some c) = then_from (rows_of l) (shared (rows_of l) handle) (left (shared (rows_of l) handle) c.source) (shared_from (rows_of l) handle) (left_from (shared (rows_of l) handle) c.source)
+
+pub expired_from : (j : Logged) (file : FileId) → From (rows_of j) (rows_of (after_record j (log.Expired file)))
+expired_from j file =
+    let rest : Rows = removed_all (rows_of j) (copies_for_file j file.0) in
+    then_from (rows_of j) rest (all_left rest (handles_of j.table file.0)) (removed_from (rows_of j) (copies_for_file j file.0)) (all_left_from rest (handles_of j.table file.0))
 
 -- two tables to which one record is applied
 
@@ -211,7 +217,7 @@ issued_both l k handle version row at is h =
     (λ r s there other. let old = h.below handle row s at other in omega (arith, old, is)) h
 
 -- a record of a step
-pub both_record : (l k : Logged) (r : Record) → IsDue l r → Both (rows_of l) (rows_of k) → Both (rows_of (after_record l r)) (rows_of (after_record k r))
+pub both_record : (l k : Logged) (r : Record) → IsDue ⊥ l r → Both (rows_of l) (rows_of k) → Both (rows_of (after_record l r)) (rows_of (after_record k r))
 both_record l k (log.AddChunk file handle) due h =
     put_both (rows_of l) (rows_of k) handle.0 (record new_row { references = 1 }) (record new_row { references = 1 }) (omega arith) (omega arith) (omega arith) h
 both_record l k (log.CopyStart file index handle copy copy_version) due h =
@@ -228,12 +234,7 @@ both_record l k (log.Snapshot client n from to) due h =
     both_from (rows_of l) (rows_of k) (rows_of (after_record l (log.Snapshot client n from to))) (rows_of (after_record k (log.Snapshot client n from to)))
     (all_copied_from l.table l.next_file (copied_entries l.names from to)) (all_copied_from k.table k.next_file (copied_entries k.names from to)) h
 both_record l k (log.Expired file) due h =
-    both_from (rows_of l) (rows_of k) (rows_of (after_record l (log.Expired file))) (rows_of (after_record k (log.Expired file))) (expired_from l) (expired_from k) h
-  where
-    expired_from : (j : Logged) → From (rows_of j) (rows_of (after_record j (log.Expired file)))
-    expired_from j =
-        let rest : Rows = removed_all (rows_of j) (copies_for_file j file.0) in
-        then_from (rows_of j) rest (all_left rest (handles_of j.table file.0)) (removed_from (rows_of j) (copies_for_file j file.0)) (all_left_from rest (handles_of j.table file.0))
+    both_from (rows_of l) (rows_of k) (rows_of (after_record l (log.Expired file))) (rows_of (after_record k (log.Expired file))) (expired_from l file) (expired_from k file) h
 both_record l k (log.Epoch epoch) due h = h
 both_record l k (log.Counters next_file next_handle epoch) due h = h
 both_record l k (log.FileItem path file handles) due h = absurd due

@@ -69,7 +69,8 @@ issuing_keeps start =
       orders = λ c server b is plain h. record { none = h.none; disk = h.disk; rows = h.rows; stops = h.stops };
       appends = λ c r due names h. changed start c (AppendRecord r) (after_record c.logged r) (both_appended c.logged c.disk r (both_record c.logged (state_of c.disk) r due h.rows)) h;
       checkpoint = λ c tree h. checkpointed start c h;
-      less = λ c handles h. quieter start c (record c.logged { copies = _; table = _ }) (removed_from (rows_of c.logged) handles) h;
+      sound = λ asks. absurd asks;
+      less = λ c handles copied h. quieter start c (record c.logged { copies = _; table = _ }) (removed_from (rows_of c.logged) handles) h;
       ends = λ c handle moment h.
           quieter start c (record c.logged { table = record c.logged.table { chunks = changed_row (rows_of c.logged) handle (λ row. record row { lease_end = moment }) (table.get (rows_of c.logged) handle) } })
           (changed_from (rows_of c.logged) handle (λ row. record row { lease_end = moment }) (table.get (rows_of c.logged) handle) refl (λ r. (refl, refl))) h;

@@ -1,5 +1,6 @@
 pub mod Steps
 pub mod Entries
+pub mod CopiesUnderWay
 pub mod VersionAttempts
 pub mod Namespace
 pub mod HiddenNames
@@ -21,4 +22,11 @@ pub mod LoggedParts
 pub mod GrantedIssued
 pub mod NamesReached
 pub mod OneName
+pub mod FilesLogged
+pub mod Owners
+pub mod CountsLogged
+pub mod CountsKept
+pub mod RowsSame
+pub mod RowsLogged
+pub mod RowsKept
 pub mod NamesLogged

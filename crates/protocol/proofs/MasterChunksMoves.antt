@@ -1,8 +1,7 @@
 -- What an ask of a client and a word of a server lead to at the master.
 use Rattle.std.proofs.Common.{◌≡◌, ℕ, zero, suc, ◌+◌, Bool, true, false, cond, List, [], ◌∷◌, ◌++◌, length, map, Option, Some, None, refl, sym, subst, inl, inr, ap, is_some, ◌∙◌}
-use Rattle.std.specs.Prelude.{nat_le, nat_lt, ◌==◌, ◌&&◌}
+use Rattle.std.specs.Prelude.{nat_le, nat_lt, ◌==◌, ◌&&◌, unwrap_or}
 use Rattle.std.proofs.lemmas.Bool.{eqb-true}
-use Rattle.std.specs.Cmp.{nat_cmp_total}
 use Rattle.std.specs.FinMap as table
 use Rattle.gfs_types.specs.declared.ids.Node.{Node}
 use Rattle.gfs_types.specs.declared.ids.OrderNo.{OrderNo}
@@ -16,7 +15,7 @@ use Rattle.gfs_types.specs.declared.message.LeaseLine.{LeaseLine}
 use Rattle.gfs_types.specs.declared.record.Record.TheVariants as log
 use Rattle.protocol.specs.Tables.{Table, element_at, rising, has_number, with_number, same_numbers}
 use Rattle.protocol.specs.Sending.{the_server, server_id, file_id, handle_of, version_of, moment_of}
-use Rattle.protocol.specs.ChunkTable.{ChunkRow, chunk_of, file_of, has_ended}
+use Rattle.protocol.specs.ChunkTable.{ChunkRow, chunk_of, file_of, handles_of, has_ended}
 use Rattle.protocol.specs.Master.{MasterDoing, VersionAttempt, HeldAt, tells, orders, ends_at, with_attempt, without_attempt, gives_up_copy, holders_where, current_holders}
 use Rattle.protocol.specs.MasterSnapshots.{revokes, waits_for}
 use Rattle.protocol.specs.MasterVersions.{Asker, VersionTarget, target_servers, holder_line, group_of, tells_location, tells_holders, tells_none, tells_to_wait, version_order, sends_versions, new_attempt, sends_issued, issues_to, targets_by, recorded_holders, issues_own, is_attempted, copy_order, sends_copies, copy_targets, sends_copy_started, copies_to, begins_copy, copy_for, is_copied, wants_own, wants_own_of, issues_copy, wants_copy, wants_by, wants_primary, holder_target, sends_grant, grants_to, is_complete, with_recorded, learns_attempt, learns}
@@ -24,8 +23,9 @@ use Rattle.protocol.specs.MasterAsks.{looks_at_row, looks_at, mutates_row, mutat
 use Rattle.protocol.specs.MasterReports.{holds_now, takes_recorded, revoked_row, takes_revoked, is_useless, drops_useless, learns_all, may_extend, extends_row, extends_all, hears, takes_report}
 use Rattle.protocol.specs.Laws.{order_number}
 use Rattle.protocol.specs.Seen.{CopyStarted}
-use Rattle.protocol.proofs.Steps.{on_cond}
-use Rattle.protocol.proofs.Entries.{AllOf, same_key}
+use Rattle.protocol.proofs.Steps.{on_cond, none_some, same_some, put_there}
+use Rattle.protocol.proofs.Entries.{AllOf}
+use Rattle.protocol.proofs.CopiesUnderWay.{IsUncopied, IsFoundCopy, found_for, none_for, given_up_free, one_copied}
 use Rattle.protocol.proofs.VersionAttempts.{IsServerNumber, IsTold, fewer_told, one_told, both_of, number_passes, with_number_cases, complete_told, AreTargets, target_numbers, holder_targets, holders_servers, targets_servers, copy_servers}
 use Rattle.protocol.proofs.MasterMoves.{Core, core_of, IsNoGrant, Keeps, IsAfter, At, logs_keeps, logs_keeps_after}
 use Rattle.protocol.proofs.MasterNamesMoves.{tells_keeps, orders_keeps, copies_keeps, revokes_keeps}
@@ -50,16 +50,40 @@ no_grant_copy handle copy version (Some base) o = tt
 abbrev pub IsThere : MasterDoing → Asker → Type 0
 IsThere d a = table.contains_key d.master.logged.table.files a.file ≡ true
 
-put_there : {X : Type 0} (t : Table X) (n : ℕ) (x : X) → table.contains_key (table.insert t n x) n ≡ true
-put_there t n x = ap is_some (table.get-insert nat_cmp_total t n x n ∙ ap (λ (b : Bool). cond b (Some x) (table.get t n)) (same_key n))
+-- the handle stands at the place that is asked for
+abbrev pub IsPlaced : MasterDoing → Asker → ℕ → Type 0
+IsPlaced d a handle = IsThere d a × (element_at (handles_of d.master.logged.table a.file) a.index ≡ Some handle)
 
-added_there : (d : MasterDoing) (a : Asker) (handle : ℕ) (e : MasterDoing) → IsAfter d (log.AddChunk (file_id a.file) (handle_of handle)) e → IsThere e a
-added_there d a handle e (inl same) = subst (λ (x : MasterDoing). IsThere x a) (sym same) (put_there d.master.logged.table.files a.file _)
-added_there d a handle e (inr same) = subst (λ (x : MasterDoing). IsThere x a) (sym same) (put_there d.master.logged.table.files a.file _)
+last_element : (xs : List ℕ) (x : ℕ) → element_at (xs ++ x ∷ []) (length xs) ≡ Some x
+last_element [] x = refl
+last_element (y ∷ ys) x = last_element ys x
+
+added_placed : (d : MasterDoing) (a : Asker) (handle : ℕ) (e : MasterDoing) → a.index ≡ length (handles_of d.master.logged.table a.file) → IsAfter d (log.AddChunk (file_id a.file) (handle_of handle)) e → IsPlaced e a handle
+added_placed d a handle e last after = by_case after
+  where
+    files : Table (List ℕ)
+    files = d.master.logged.table.files
+
+    hs : List ℕ
+    hs = handles_of d.master.logged.table a.file
+
+    there : table.get (table.insert files a.file (hs ++ handle ∷ [])) a.file ≡ Some (hs ++ handle ∷ [])
+    there = put_there files a.file (hs ++ handle ∷ []) a.file refl
+
+    placed : (table.contains_key (table.insert files a.file (hs ++ handle ∷ [])) a.file ≡ true) × (element_at (unwrap_or (table.get (table.insert files a.file (hs ++ handle ∷ [])) a.file) []) a.index ≡ Some handle)
+    placed = (ap is_some there, ap (λ (o : Option (List ℕ)). element_at (unwrap_or o []) a.index) there ∙ ap (λ (n : ℕ). element_at (hs ++ handle ∷ []) n) last ∙ last_element hs handle)
+
+    by_case : IsAfter d (log.AddChunk (file_id a.file) (handle_of handle)) e → IsPlaced e a handle
+    by_case (inl same) = subst (λ (x : MasterDoing). IsPlaced x a handle) (sym same) placed
+    by_case (inr same) = subst (λ (x : MasterDoing). IsPlaced x a handle) (sym same) placed
 
 -- the server, if it is one, said that it has each of these
 abbrev pub AreLinesTold : (ℕ → ℕ → ℕ → Type 0) → ℕ → List ReplicaLine → Type 0
 AreLinesTold Told server lines = AllOf (λ line. IsServerNumber server → Told server line.handle.0 line.version.0) lines
+
+-- an element of the file's handles is placed
+placed_at : (d : MasterDoing) (a : Asker) (handles : List ℕ) → file_of d.master.logged.table a.file ≡ Some handles → (handle : ℕ) → element_at handles a.index ≡ Some handle → IsPlaced d a handle
+placed_at d a handles is handle at = (ap is_some is, ap (λ (o : Option (List ℕ)). element_at (unwrap_or o []) a.index) is ∙ at)
 
 module _ (Asks : Type 0) (Told : ℕ → ℕ → ℕ → Type 0) (P : Core → Type 0) (k : Keeps Asks Told P) where
   location_keeps : (d : MasterDoing) (a : Asker) (handle : ℕ) (row : ChunkRow) (holders : List Holder) → At Asks Told P k d → At Asks Told P k (tells_location d a handle row holders)
@@ -119,63 +143,73 @@ module _ (Asks : Type 0) (Told : ℕ → ℕ → ℕ → Type 0) (P : Core → T
       wait_keeps (sends_copies tried handle copy version targets) a
       (sends_copies_keeps tried handle copy version targets (attempt_keeps seen copy version targets (new_attempt d.master version targets) refl servers h))
 
-  copies_to_keeps : (d : MasterDoing) (a : Asker) (handle : ℕ) (row : ChunkRow) (targets : List VersionTarget) → AreTargets targets → IsThere d a → At Asks Told P k d → At Asks Told P k (copies_to d a handle row targets)
-  copies_to_keeps d a handle row [] servers there h = location_keeps d a handle row [] h
-  copies_to_keeps d a handle row (t ∷ rest) servers there h =
+  -- where copies are asked for, none is under way for the place
+  abbrev pub IsFree : MasterDoing → Asker → Type 0
+  IsFree d a = Asks → IsUncopied d.master.logged a.file a.index
+
+  copies_to_keeps : (d : MasterDoing) (a : Asker) (handle : ℕ) (row : ChunkRow) (targets : List VersionTarget) → AreTargets targets → IsPlaced d a handle → IsFree d a → At Asks Told P k d
+      → At Asks Told P k (copies_to d a handle row targets)
+  copies_to_keeps d a handle row [] servers there free h = location_keeps d a handle row [] h
+  copies_to_keeps d a handle row (t ∷ rest) servers there free h =
       let copy : ℕ = d.master.logged.next_handle in
       logs_keeps Asks Told P k d (log.CopyStart (file_id a.file) a.index (handle_of handle) (handle_of copy) (version_of (suc row.issued)))
-      (λ e. sends_copy_started e a handle copy (suc row.issued) (t ∷ rest)) (refl, there) (λ asks. record { due = tt; after = h.2 asks }) (started_keeps a handle copy (suc row.issued) (t ∷ rest) servers) h
+      (λ e. sends_copy_started e a handle copy (suc row.issued) (t ∷ rest)) (refl, there.0, there.1, free) (λ asks. record { due = tt; after = h.2 asks }) (started_keeps a handle copy (suc row.issued) (t ∷ rest) servers) h
 
-  wants_own_keeps : (d : MasterDoing) (a : Asker) (handle : ℕ) (row : ChunkRow) → chunk_of d.master.logged.table handle ≡ Some row → IsThere d a → At Asks Told P k d → At Asks Told P k (wants_own d a handle row)
-  wants_own_keeps d a handle row is there h =
-      on_cond (At Asks Told P k) (nat_lt 1 row.references) (begins_copy d a handle row) _ (λ _. copies_to_keeps d a handle row (copy_targets d.master handle row) (copy_servers d.master handle row) there h)
+  wants_own_keeps : (d : MasterDoing) (a : Asker) (handle : ℕ) (row : ChunkRow) → chunk_of d.master.logged.table handle ≡ Some row → IsPlaced d a handle → IsFree d a → At Asks Told P k d
+      → At Asks Told P k (wants_own d a handle row)
+  wants_own_keeps d a handle row is there free h =
+      on_cond (At Asks Told P k) (nat_lt 1 row.references) (begins_copy d a handle row) _ (λ _. copies_to_keeps d a handle row (copy_targets d.master handle row) (copy_servers d.master handle row) there free h)
       (λ _. on_cond (At Asks Told P k) (is_copied d.master.logged handle) (tells_to_wait d a) (issues_own d a handle row (is_attempted d.master handle)) (λ _. wait_keeps d a h)
       (λ _. own_keeps d a handle row (is_attempted d.master handle) is h))
 
-  wants_own_of_keeps : (d : MasterDoing) (a : Asker) (handle : ℕ) (o : Option ChunkRow) → chunk_of d.master.logged.table handle ≡ o → IsThere d a → At Asks Told P k d → At Asks Told P k (wants_own_of d a handle o)
-  wants_own_of_keeps d a handle None is there h = h
-  wants_own_of_keeps d a handle (Some row) is there h = wants_own_keeps d a handle row is there h
+  wants_own_of_keeps : (d : MasterDoing) (a : Asker) (handle : ℕ) (o : Option ChunkRow) → chunk_of d.master.logged.table handle ≡ o → IsPlaced d a handle → IsFree d a → At Asks Told P k d
+      → At Asks Told P k (wants_own_of d a handle o)
+  wants_own_of_keeps d a handle None is there free h = h
+  wants_own_of_keeps d a handle (Some row) is there free h = wants_own_keeps d a handle row is there free h
 
   issues_copy_keeps : (d : MasterDoing) (a : Asker) (handle : ℕ) (row : ChunkRow) (copy : ℕ) (copy_row : ChunkRow) (holders : List HeldAt)
-      → chunk_of d.master.logged.table copy ≡ Some copy_row → AreTargets (map holder_target holders) → IsThere d a → At Asks Told P k d → At Asks Told P k (issues_copy d a handle row copy copy_row holders)
-  issues_copy_keeps d a handle row copy copy_row [] is servers there h =
+      → chunk_of d.master.logged.table copy ≡ Some copy_row → AreTargets (map holder_target holders) → IsPlaced d a handle → IsFoundCopy d.master.logged a.file a.index copy → At Asks Told P k d → At Asks Told P k (issues_copy d a handle row copy copy_row holders)
+  issues_copy_keeps d a handle row copy copy_row [] is servers there found h =
       let given_up : MasterDoing = gives_up_copy d copy in
-      wants_own_of_keeps given_up a handle (chunk_of given_up.master.logged.table handle) refl there (copies_keeps Asks Told P k d (copy ∷ []) h)
-  issues_copy_keeps d a handle row copy copy_row (t ∷ rest) is servers there h = issues_keeps d a handle row copy copy_row (map holder_target (t ∷ rest)) is servers h
+      wants_own_of_keeps given_up a handle (chunk_of given_up.master.logged.table handle) refl there (λ asks. given_up_free d.master.logged a.file a.index copy found (k.sound asks (core_of d) h.0))
+      (copies_keeps Asks Told P k d (copy ∷ []) (one_copied d.master.logged a.file a.index copy found) h)
+  issues_copy_keeps d a handle row copy copy_row (t ∷ rest) is servers there found h = issues_keeps d a handle row copy copy_row (map holder_target (t ∷ rest)) is servers h
 
   wants_copy_keeps : (d : MasterDoing) (a : Asker) (handle : ℕ) (row : ChunkRow) (copy : ℕ) (o : Option ChunkRow)
-      → chunk_of d.master.logged.table handle ≡ Some row → chunk_of d.master.logged.table copy ≡ o → IsThere d a → At Asks Told P k d → At Asks Told P k (wants_copy d a handle row copy o)
-  wants_copy_keeps d a handle row copy None is copy_is there h = wants_own_keeps d a handle row is there h
-  wants_copy_keeps d a handle row copy (Some copy_row) is copy_is there h =
+      → chunk_of d.master.logged.table handle ≡ Some row → chunk_of d.master.logged.table copy ≡ o → IsPlaced d a handle → IsFoundCopy d.master.logged a.file a.index copy → At Asks Told P k d → At Asks Told P k (wants_copy d a handle row copy o)
+  wants_copy_keeps d a handle row copy None is copy_is there found h =
+      wants_own_keeps d a handle row is there (λ asks. let has = (k.sound asks (core_of d) h.0).rows copy found.copy found.at in none_some has.0 (sym copy_is ∙ has.1)) h
+  wants_copy_keeps d a handle row copy (Some copy_row) is copy_is there found h =
       on_cond (At Asks Told P k) (is_attempted d.master copy) (tells_to_wait d a) (issues_copy d a handle row copy copy_row (holders_where d.master copy (λ v. v == copy_row.issued))) (λ _. wait_keeps d a h)
       (λ _. let holders : List HeldAt = holders_where d.master copy (λ v. v == copy_row.issued) in
-      issues_copy_keeps d a handle row copy copy_row holders copy_is (holder_targets holders (holders_servers d.master copy (λ v. v == copy_row.issued))) there h)
+      issues_copy_keeps d a handle row copy copy_row holders copy_is (holder_targets holders (holders_servers d.master copy (λ v. v == copy_row.issued))) there found h)
 
-  wants_by_keeps : (d : MasterDoing) (a : Asker) (handle : ℕ) (row : ChunkRow) (o : Option ℕ) → chunk_of d.master.logged.table handle ≡ Some row → IsThere d a → At Asks Told P k d → At Asks Told P k (wants_by d a handle row o)
-  wants_by_keeps d a handle row None is there h = wants_own_keeps d a handle row is there h
-  wants_by_keeps d a handle row (Some copy) is there h = wants_copy_keeps d a handle row copy (chunk_of d.master.logged.table copy) is refl there h
+  wants_by_keeps : (d : MasterDoing) (a : Asker) (handle : ℕ) (row : ChunkRow) (o : Option ℕ) → chunk_of d.master.logged.table handle ≡ Some row → copy_for d.master.logged a.file a.index ≡ o → IsPlaced d a handle
+      → At Asks Told P k d → At Asks Told P k (wants_by d a handle row o)
+  wants_by_keeps d a handle row None is for_it there h = wants_own_keeps d a handle row is there (λ asks. none_for d.master.logged a.file a.index for_it) h
+  wants_by_keeps d a handle row (Some copy) is for_it there h = wants_copy_keeps d a handle row copy (chunk_of d.master.logged.table copy) is refl there (found_for d.master.logged a.file a.index copy for_it) h
 
-  wants_primary_keeps : (d : MasterDoing) (a : Asker) (handle : ℕ) (row : ChunkRow) → chunk_of d.master.logged.table handle ≡ Some row → IsThere d a → At Asks Told P k d → At Asks Told P k (wants_primary d a handle row)
+  wants_primary_keeps : (d : MasterDoing) (a : Asker) (handle : ℕ) (row : ChunkRow) → chunk_of d.master.logged.table handle ≡ Some row → IsPlaced d a handle → At Asks Told P k d → At Asks Told P k (wants_primary d a handle row)
   wants_primary_keeps d a handle row is there h =
       on_cond (At Asks Told P k) (waits_for d.master handle) (tells_to_wait d a) (wants_by d a handle row (copy_for d.master.logged a.file a.index)) (λ _. wait_keeps d a h)
-      (λ _. wants_by_keeps d a handle row (copy_for d.master.logged a.file a.index) is there h)
+      (λ _. wants_by_keeps d a handle row (copy_for d.master.logged a.file a.index) is refl there h)
 
-  mutates_row_keeps : (d : MasterDoing) (a : Asker) (lost : Bool) (handle : ℕ) (o : Option ChunkRow) → chunk_of d.master.logged.table handle ≡ o → IsThere d a → At Asks Told P k d → At Asks Told P k (mutates_row d a lost handle o)
+  mutates_row_keeps : (d : MasterDoing) (a : Asker) (lost : Bool) (handle : ℕ) (o : Option ChunkRow) → chunk_of d.master.logged.table handle ≡ o → IsPlaced d a handle → At Asks Told P k d → At Asks Told P k (mutates_row d a lost handle o)
   mutates_row_keeps d a lost handle None is there h = h
   mutates_row_keeps d a lost handle (Some row) is there h =
       on_cond (At Asks Told P k) (has_ended row d.master.now) (wants_primary d a handle row) (tells_holders (cond lost (revokes d handle) d) a handle row)
       (λ _. wants_primary_keeps d a handle row is there h)
       (λ _. holders_keeps (cond lost (revokes d handle) d) a handle row (on_cond (At Asks Told P k) lost (revokes d handle) d (λ _. revokes_keeps Asks Told P k d handle h) (λ _. h)))
 
-  mutates_at_keeps : (d : MasterDoing) (a : Asker) (lost : Bool) (o : Option ℕ) → IsThere d a → At Asks Told P k d → At Asks Told P k (mutates_at d a lost o)
+  mutates_at_keeps : (d : MasterDoing) (a : Asker) (lost : Bool) (o : Option ℕ) → ((handle : ℕ) → o ≡ Some handle → IsPlaced d a handle) → At Asks Told P k d → At Asks Told P k (mutates_at d a lost o)
   mutates_at_keeps d a lost None there h = h
-  mutates_at_keeps d a lost (Some handle) there h = mutates_row_keeps d a lost handle (chunk_of d.master.logged.table handle) refl there h
+  mutates_at_keeps d a lost (Some handle) there h = mutates_row_keeps d a lost handle (chunk_of d.master.logged.table handle) refl (there handle refl) h
 
-  adds_keeps : (d : MasterDoing) (a : Asker) (lost : Bool) → IsThere d a → At Asks Told P k d → At Asks Told P k (adds_chunk d a lost)
-  adds_keeps d a lost there h =
+  adds_keeps : (d : MasterDoing) (a : Asker) (lost : Bool) → IsThere d a → a.index ≡ length (handles_of d.master.logged.table a.file) → At Asks Told P k d → At Asks Told P k (adds_chunk d a lost)
+  adds_keeps d a lost there last h =
       let handle : ℕ = d.master.logged.next_handle in
       logs_keeps_after Asks Told P k d (log.AddChunk (file_id a.file) (handle_of handle)) (λ e. mutates_at e a lost (Some handle)) (refl, there) (λ asks. record { due = tt; after = h.2 asks })
-      (λ e after. mutates_at_keeps e a lost (Some handle) (added_there d a handle e after)) h
+      (λ e after. mutates_at_keeps e a lost (Some handle) (λ other same. subst (λ (n : ℕ). IsPlaced e a n) (same_some handle other same) (added_placed d a handle e last after))) h
 
   looks_row_keeps : (d : MasterDoing) (a : Asker) (handle : ℕ) (o : Option ChunkRow) → At Asks Told P k d → At Asks Told P k (looks_at_row d a handle o)
   looks_row_keeps d a handle None h = h
@@ -185,31 +219,34 @@ module _ (Asks : Type 0) (Told : ℕ → ℕ → ℕ → Type 0) (P : Core → T
   looks_keeps d a None h = none_keeps d a h
   looks_keeps d a (Some handle) h = looks_row_keeps d a handle (chunk_of d.master.logged.table handle) h
 
-  write_keeps : (d : MasterDoing) (a : Asker) (lost : Bool) (handles : List ℕ) (index : ℕ) → IsThere d a → At Asks Told P k d → At Asks Told P k (asks_to_write d a lost handles index)
-  write_keeps d a lost handles index there h =
+  write_keeps : (d : MasterDoing) (a : Asker) (lost : Bool) (handles : List ℕ) (index : ℕ) → file_of d.master.logged.table a.file ≡ Some handles → At Asks Told P k d → At Asks Told P k (asks_to_write d a lost handles index)
+  write_keeps d a lost handles index is h =
       on_cond (At Asks Told P k) (nat_lt (length handles) index) (tells d a.client (body.Refused a.number TooLong)) _ (λ _. tells_keeps Asks Told P k d a.client (body.Refused a.number TooLong) refl h)
       (λ _. on_cond (At Asks Told P k) (index == length handles) (adds_chunk d (with_index a index) lost) (mutates_at d (with_index a index) lost (element_at handles index))
-      (λ _. adds_keeps d (with_index a index) lost there h) (λ _. mutates_at_keeps d (with_index a index) lost (element_at handles index) there h))
+      (λ last. adds_keeps d (with_index a index) lost (ap is_some is) (eqb-true index (length handles) last ∙ sym (ap (λ (o : Option (List ℕ)). length (unwrap_or o [])) is)) h)
+      (λ _. mutates_at_keeps d (with_index a index) lost (element_at handles index) (placed_at d (with_index a index) handles is) h))
 
-  append_keeps : (d : MasterDoing) (a : Asker) (lost : Bool) (handles : List ℕ) (after count : ℕ) → IsThere d a → At Asks Told P k d → At Asks Told P k (asks_to_append d a lost handles after count)
-  append_keeps d a lost handles after zero there h = adds_keeps d (with_index a 0) lost there h
-  append_keeps d a lost handles after (suc last) there h =
+  append_keeps : (d : MasterDoing) (a : Asker) (lost : Bool) (handles : List ℕ) (after count : ℕ) → file_of d.master.logged.table a.file ≡ Some handles → count ≡ length handles → At Asks Told P k d
+      → At Asks Told P k (asks_to_append d a lost handles after count)
+  append_keeps d a lost handles after zero is all h = adds_keeps d (with_index a 0) lost (ap is_some is) (all ∙ sym (ap (λ (o : Option (List ℕ)). length (unwrap_or o [])) is)) h
+  append_keeps d a lost handles after (suc last) is all h =
       on_cond (At Asks Told P k) (nat_lt last after) (adds_chunk d (with_index a (suc last)) lost) (mutates_at d (with_index a last) lost (element_at handles last))
-      (λ _. adds_keeps d (with_index a (suc last)) lost there h) (λ _. mutates_at_keeps d (with_index a last) lost (element_at handles last) there h)
+      (λ _. adds_keeps d (with_index a (suc last)) lost (ap is_some is) (all ∙ sym (ap (λ (o : Option (List ℕ)). length (unwrap_or o [])) is)) h)
+      (λ _. mutates_at_keeps d (with_index a last) lost (element_at handles last) (placed_at d (with_index a last) handles is) h)
 
   last_keeps : (d : MasterDoing) (a : Asker) (handles : List ℕ) (count : ℕ) → At Asks Told P k d → At Asks Told P k (asks_for_last d a handles count)
   last_keeps d a handles zero h = none_keeps d a h
   last_keeps d a handles (suc last) h = looks_keeps d (with_index a last) (element_at handles last) h
 
-  asks_for_keeps : (d : MasterDoing) (a : Asker) (lost : Bool) (w : Wanted) (handles : List ℕ) → IsThere d a → At Asks Told P k d → At Asks Told P k (asks_for d a lost w handles)
-  asks_for_keeps d a lost (wanted.Read index) handles there h = looks_keeps d (with_index a index) (element_at handles index) h
-  asks_for_keeps d a lost (wanted.Write index) handles there h = write_keeps d a lost handles index there h
-  asks_for_keeps d a lost (wanted.Append after) handles there h = append_keeps d a lost handles after (length handles) there h
-  asks_for_keeps d a lost wanted.Last handles there h = last_keeps d a handles (length handles) h
+  asks_for_keeps : (d : MasterDoing) (a : Asker) (lost : Bool) (w : Wanted) (handles : List ℕ) → file_of d.master.logged.table a.file ≡ Some handles → At Asks Told P k d → At Asks Told P k (asks_for d a lost w handles)
+  asks_for_keeps d a lost (wanted.Read index) handles is h = looks_keeps d (with_index a index) (element_at handles index) h
+  asks_for_keeps d a lost (wanted.Write index) handles is h = write_keeps d a lost handles index is h
+  asks_for_keeps d a lost (wanted.Append after) handles is h = append_keeps d a lost handles after (length handles) is refl h
+  asks_for_keeps d a lost wanted.Last handles is h = last_keeps d a handles (length handles) h
 
   asks_of_keeps : (d : MasterDoing) (a : Asker) (lost : Bool) (w : Wanted) (o : Option (List ℕ)) → file_of d.master.logged.table a.file ≡ o → At Asks Told P k d → At Asks Told P k (asks_of d a lost w o)
   asks_of_keeps d a lost w None is h = tells_keeps Asks Told P k d a.client (body.Refused a.number Collected) refl h
-  asks_of_keeps d a lost w (Some handles) is h = asks_for_keeps d a lost w handles (ap is_some is) h
+  asks_of_keeps d a lost w (Some handles) is h = asks_for_keeps d a lost w handles is h
 
   pub ask_keeps : (d : MasterDoing) (client : Node) (number file : ℕ) (w : Wanted) (deadline : ℕ) (lost : Bool) → At Asks Told P k d → At Asks Told P k (takes_ask d client number file w deadline lost)
   ask_keeps d client number file w deadline lost h =
@@ -226,18 +263,19 @@ module _ (Asks : Type 0) (Told : ℕ → ℕ → ℕ → Type 0) (P : Core → T
       let ended : MasterDoing = ends_at (without_attempt d handle) handle until in
       (k.grants (core_of ended) primary handle version (moment_of until) members told (k.ends (core_of d) handle until h.0), fewer_told Told d.master.attempts (handle ∷ []) h.1, h.2)
 
-  grants_to_keeps : (d : MasterDoing) (handle : ℕ) (a : VersionAttempt) (servers : List ℕ) → ((n : ℕ) → has_number servers n ≡ true → Told n handle a.version) → At Asks Told P k d
-      → At Asks Told P k (grants_to d handle a servers)
-  grants_to_keeps d handle a [] told h = h
-  grants_to_keeps d handle a (primary ∷ rest) told h =
-      logs_keeps Asks Told P k d (log.Grant (handle_of handle) (version_of a.version) (server_id primary) (primary ∷ rest)) (λ e. sends_grant e handle a.version primary (primary ∷ rest)) tt (λ asks. record { due = tt; after = h.2 asks })
+  grants_to_keeps : (d : MasterDoing) (handle : ℕ) (row : ChunkRow) (a : VersionAttempt) (servers : List ℕ) → chunk_of d.master.logged.table handle ≡ Some row
+      → ((n : ℕ) → has_number servers n ≡ true → Told n handle a.version) → At Asks Told P k d → At Asks Told P k (grants_to d handle a servers)
+  grants_to_keeps d handle row a [] is told h = h
+  grants_to_keeps d handle row a (primary ∷ rest) is told h =
+      logs_keeps Asks Told P k d (log.Grant (handle_of handle) (version_of a.version) (server_id primary) (primary ∷ rest)) (λ e. sends_grant e handle a.version primary (primary ∷ rest)) (row, is) (λ asks. record { due = tt; after = h.2 asks })
       (grant_keeps handle a.version primary (primary ∷ rest) told) h
 
-  recorded_keeps : (d : MasterDoing) (handle : ℕ) (a : VersionAttempt) → IsTold Told handle a → At Asks Told P k d → At Asks Told P k (with_recorded d handle a)
-  recorded_keeps d handle a told h =
+  recorded_keeps : (d : MasterDoing) (handle : ℕ) (row : ChunkRow) (a : VersionAttempt) → chunk_of d.master.logged.table handle ≡ Some row → IsTold Told handle a → At Asks Told P k d
+      → At Asks Told P k (with_recorded d handle a)
+  recorded_keeps d handle row a is told h =
       let now : At Asks Told P k (with_attempt d handle a) = (h.0, one_told Told d.master.attempts handle a told h.1, h.2) in
       on_cond (At Asks Told P k) (is_complete d.master a) (grants_to (with_attempt d handle a) handle a (rising a.servers)) (with_attempt d handle a)
-      (λ all. grants_to_keeps (with_attempt d handle a) handle a (rising a.servers)
+      (λ all. grants_to_keeps (with_attempt d handle a) handle row a (rising a.servers) is
       (complete_told Told handle a (both_of (same_numbers a.servers a.recorded) (nat_lt d.master.now (a.begun + d.master.config.attempt_ms)) all).0 told) now)
       (λ _. now)
 
@@ -259,18 +297,18 @@ module _ (Asks : Type 0) (Told : ℕ → ℕ → ℕ → Type 0) (P : Core → T
             ];
       }
 
-  learns_attempt_keeps : (d : MasterDoing) (server handle version : ℕ) (o : Option ChunkRow) (p : Option VersionAttempt) → table.get d.master.attempts handle ≡ p
-      → (IsServerNumber server → Told server handle version) → At Asks Told P k d → At Asks Told P k (learns_attempt d server handle version o p)
-  learns_attempt_keeps d server handle version None p is word h = h
-  learns_attempt_keeps d server handle version (Some row) None is word h = h
-  learns_attempt_keeps d server handle version (Some row) (Some a) is word h =
+  learns_attempt_keeps : (d : MasterDoing) (server handle version : ℕ) (o : Option ChunkRow) (p : Option VersionAttempt) → chunk_of d.master.logged.table handle ≡ o
+      → table.get d.master.attempts handle ≡ p → (IsServerNumber server → Told server handle version) → At Asks Told P k d → At Asks Told P k (learns_attempt d server handle version o p)
+  learns_attempt_keeps d server handle version None p row_is is word h = h
+  learns_attempt_keeps d server handle version (Some row) None row_is is word h = h
+  learns_attempt_keeps d server handle version (Some row) (Some a) row_is is word h =
       let more : VersionAttempt = record a { recorded = with_number a.recorded server } in
       on_cond (At Asks Told P k) ((a.version == version) && has_number a.servers server) (with_recorded d handle more) d
-      (λ fits. recorded_keeps d handle more (one_more_told server handle version a fits word (h.1 handle a is)) h) (λ _. h)
+      (λ fits. recorded_keeps d handle row more row_is (one_more_told server handle version a fits word (h.1 handle a is)) h) (λ _. h)
 
   learns_keeps : (d : MasterDoing) (server handle version : ℕ) → (IsServerNumber server → Told server handle version) → At Asks Told P k d → At Asks Told P k (learns d server handle version)
   learns_keeps d server handle version word h =
-      learns_attempt_keeps d server handle version (chunk_of d.master.logged.table handle) (table.get d.master.attempts handle) refl word h
+      learns_attempt_keeps d server handle version (chunk_of d.master.logged.table handle) (table.get d.master.attempts handle) refl refl word h
 
   pub takes_recorded_keeps : (d : MasterDoing) (server handle version : ℕ) → (IsServerNumber server → Told server handle version) → At Asks Told P k d
       → At Asks Told P k (takes_recorded d server handle version)

@@ -14,14 +14,15 @@ use Rattle.gfs_types.specs.declared.message.Body.TheVariants as body
 use Rattle.gfs_types.specs.declared.message.Message.{Message}
 use Rattle.gfs_types.specs.declared.record.Record.{Record}
 use Rattle.gfs_types.specs.declared.record.Record.TheVariants as log
-use Rattle.protocol.specs.Tables.{Table, removed_all, has_number}
+use Rattle.protocol.specs.Tables.{Table, removed_all, element_at, has_number}
 use Rattle.protocol.specs.Sending.{message, the_server, handle_of, version_of}
-use Rattle.protocol.specs.ChunkTable.{ChunkRow, chunk_of, set_end}
+use Rattle.protocol.specs.ChunkTable.{ChunkRow, chunk_of, handles_of, set_end}
 use Rattle.protocol.specs.LogSizes.{checkpoint_fits}
 use Rattle.protocol.specs.Logged.{Logged, LogDisk, LogChange, AppendRecord, WriteCheckpoint, log_changed, after_record, checkpoint_of, copies_given_up}
 use Rattle.protocol.specs.Master.{MasterDoing, PendingSnapshot, fits, appends, writes_checkpoint, logs, logs_after_checkpoint, is_of_copy}
 use Rattle.protocol.specs.Laws.{order_number}
-use Rattle.protocol.proofs.Steps.{on_cond}
+use Rattle.protocol.proofs.Steps.{on_cond, removed_cases}
+use Rattle.protocol.proofs.CopiesUnderWay.{IsUncopied, AreCopied, AreSoundCopies}
 use Rattle.relaxed_file.specs.Names.{Names}
 use Rattle.relaxed_file.proofs.NamesTree.{Tree}
 use Rattle.protocol.proofs.VersionAttempts.{AreTold, fewer_told}
@@ -49,19 +50,21 @@ core_of d =
       order_count = d.master.order_count;
     }
 
--- what is known of a record that is logged in a step
-abbrev pub IsDue : Logged → Record → Type 0
-IsDue l (log.Epoch epoch) = ⊥
-IsDue l (log.Create client n file path) = file.0 ≡ l.next_file
-IsDue l (log.AddChunk file handle) = (handle.0 ≡ l.next_handle) × (table.contains_key l.table.files file.0 ≡ true)
-IsDue l (log.Issue handle version) = (row : ChunkRow) × (chunk_of l.table handle.0 ≡ Some row) × (version.0 ≡ suc row.issued)
-IsDue l (log.CopyStart file index handle copy copy_version) = (copy.0 ≡ l.next_handle) × (table.contains_key l.table.files file.0 ≡ true)
-IsDue l (log.Counters next_file next_handle epoch) = ⊥
-IsDue l (log.DirItem path) = ⊥
-IsDue l (log.FileItem path file handles) = ⊥
-IsDue l (log.ChunkItem handle granted issued primary members) = ⊥
-IsDue l (log.ClientItem client n refusal) = ⊥
-IsDue l other = Unit {0}
+-- what is known of a record that is logged in a step, where it is asked for that copies are sound
+abbrev pub IsDue : Type 0 → Logged → Record → Type 0
+IsDue Asks l (log.Epoch epoch) = ⊥
+IsDue Asks l (log.Create client n file path) = file.0 ≡ l.next_file
+IsDue Asks l (log.AddChunk file handle) = (handle.0 ≡ l.next_handle) × (table.contains_key l.table.files file.0 ≡ true)
+IsDue Asks l (log.Issue handle version) = (row : ChunkRow) × (chunk_of l.table handle.0 ≡ Some row) × (version.0 ≡ suc row.issued)
+IsDue Asks l (log.Grant handle version primary members) = (row : ChunkRow) × (chunk_of l.table handle.0 ≡ Some row)
+IsDue Asks l (log.CopyStart file index handle copy copy_version) =
+    (copy.0 ≡ l.next_handle) × (table.contains_key l.table.files file.0 ≡ true) × (element_at (handles_of l.table file.0) index ≡ Some handle.0) × (Asks → IsUncopied l file.0 index)
+IsDue Asks l (log.Counters next_file next_handle epoch) = ⊥
+IsDue Asks l (log.DirItem path) = ⊥
+IsDue Asks l (log.FileItem path file handles) = ⊥
+IsDue Asks l (log.ChunkItem handle granted issued primary members) = ⊥
+IsDue Asks l (log.ClientItem client n refusal) = ⊥
+IsDue Asks l other = Unit {0}
 
 abbrev pub core_changed : Core → LogChange → Core
 core_changed c change = record c { disk = log_changed c.disk change; changes = c.changes ++ change ∷ [] }
@@ -84,8 +87,10 @@ pub record AreNames (l : Logged) (r : Record) : Type 0 where
   pub before : Tree l.names
   pub after : Tree (names_after l.names l.next_file r)
 
--- What each move keeps. Told n handle version: that server said that it has this version of the chunk. Asks: whether names are asked for.
+-- What each move keeps. Told n handle version: that server said that it has this version of the chunk. Asks: whether names and copies are asked for.
 pub record Keeps (Asks : Type 0) (Told : ℕ → ℕ → ℕ → Type 0) (P : Core → Type 0) : Type 0 where
+  -- where copies are asked for, they are sound
+  pub sound : Asks → (c : Core) → P c → AreSoundCopies c.logged
   -- a message that is no order
   pub tells : (c : Core) (receiver : Node) (b : Body) → order_number b ≡ None → P c → P (record c { sent = c.sent ++ message node.Master receiver b ∷ [] })
   -- an order, under the next number
@@ -94,11 +99,11 @@ pub record Keeps (Asks : Type 0) (Told : ℕ → ℕ → ℕ → Type 0) (P : Co
   pub grants : (c : Core) (primary handle version : ℕ) (until : Moment) (members : List ℕ) → ((n : ℕ) → has_number members n ≡ true → Told n handle version) → P c
       → P (core_ordered c primary (λ order. body.Grant order (handle_of handle) (version_of version) until members))
   -- a record
-  pub appends : (c : Core) (r : Record) → IsDue c.logged r → (Asks → AreNames c.logged r) → P c → P (record (core_changed c (AppendRecord r)) { logged = after_record c.logged r })
+  pub appends : (c : Core) (r : Record) → IsDue Asks c.logged r → (Asks → AreNames c.logged r) → P c → P (record (core_changed c (AppendRecord r)) { logged = after_record c.logged r })
   -- a checkpoint, which gives up all copies
   pub checkpoint : (c : Core) → (Asks → Tree c.logged.names) → P c → P (record (core_changed c (WriteCheckpoint (checkpoint_of c.logged))) { logged = copies_given_up c.logged (table.keys c.logged.copies) })
   -- copies that are given up
-  pub less : (c : Core) (handles : List ℕ) → P c → P (record c { logged = copies_given_up c.logged handles })
+  pub less : (c : Core) (handles : List ℕ) → AreCopied c.logged handles → P c → P (record c { logged = copies_given_up c.logged handles })
   -- a lease's end
   pub ends : (c : Core) (handle moment : ℕ) → P c → P (record c { logged = record c.logged { table = set_end c.logged.table handle moment } })
 
@@ -114,26 +119,26 @@ removed_other t (n ∷ ns) q h =
     removed_other (table.remove t n) ns q parts.1 ∙ table.get-remove nat_cmp_total t n q ∙ ap (λ b. cond b None (table.get t q)) parts.0
 
 -- a record that is no copy's is still due after a checkpoint
-due_later : (l : Logged) (r : Record) → is_of_copy l r ≡ false → IsDue l r → IsDue (copies_given_up l (table.keys l.copies)) r
-due_later l (log.Epoch epoch) h due = due
-due_later l (log.Create client n file path) h due = due
-due_later l (log.AddChunk file handle) h due = due
-due_later l (log.Issue handle version) h due =
+due_later : (Asks : Type 0) (l : Logged) (r : Record) → is_of_copy l r ≡ false → IsDue Asks l r → IsDue Asks (copies_given_up l (table.keys l.copies)) r
+due_later Asks l (log.Epoch epoch) h due = due
+due_later Asks l (log.Create client n file path) h due = due
+due_later Asks l (log.AddChunk file handle) h due = due
+due_later Asks l (log.Issue handle version) h due =
     (due.0, removed_other l.table.chunks (table.keys l.copies) handle.0 (sym (table.contains_key-keys l.copies handle.0) ∙ h) ∙ due.1, due.2)
-due_later l (log.CopyStart file index handle copy copy_version) h due = due
-due_later l (log.Counters next_file next_handle epoch) h due = due
-due_later l (log.DirItem path) h due = due
-due_later l (log.FileItem path file handles) h due = due
-due_later l (log.ChunkItem handle granted issued primary members) h due = due
-due_later l (log.ClientItem client n refusal) h due = due
-due_later l (log.Mkdir client n path) h due = tt
-due_later l (log.Rmdir client n path) h due = tt
-due_later l (log.Delete client n moment path) h due = tt
-due_later l (log.Rename client n from to) h due = tt
-due_later l (log.Snapshot client n from to) h due = tt
-due_later l (log.Refused client n refusal) h due = tt
-due_later l (log.Expired file) h due = tt
-due_later l (log.Grant handle version primary members) h due = tt
+due_later Asks l (log.CopyStart file index handle copy copy_version) h due = (due.0, due.1, due.2, λ asks other c is. due.3 asks other c (removed_cases l.copies (table.keys l.copies) other c is))
+due_later Asks l (log.Counters next_file next_handle epoch) h due = due
+due_later Asks l (log.DirItem path) h due = due
+due_later Asks l (log.FileItem path file handles) h due = due
+due_later Asks l (log.ChunkItem handle granted issued primary members) h due = due
+due_later Asks l (log.ClientItem client n refusal) h due = due
+due_later Asks l (log.Mkdir client n path) h due = tt
+due_later Asks l (log.Rmdir client n path) h due = tt
+due_later Asks l (log.Delete client n moment path) h due = tt
+due_later Asks l (log.Rename client n from to) h due = tt
+due_later Asks l (log.Snapshot client n from to) h due = tt
+due_later Asks l (log.Refused client n refusal) h due = tt
+due_later Asks l (log.Expired file) h due = tt
+due_later Asks l (log.Grant handle version primary members) h due = (due.0, removed_other l.table.chunks (table.keys l.copies) handle.0 (sym (table.contains_key-keys l.copies handle.0) ∙ h) ∙ due.1)
 
 neither : (a b : Bool) → a && not b ≡ true → b ≡ false
 neither true true h = absurd (let both : false ≡ true = h in cc)
@@ -164,7 +169,7 @@ module _ (Asks : Type 0) (Told : ℕ → ℕ → ℕ → Type 0) (P : Core → T
   checkpoint_keeps d h = (k.checkpoint (core_of d) (λ asks. (h.2 asks).tree) h.0, fewer_told Told d.master.attempts (table.keys d.master.logged.copies) h.1, h.2)
 
   -- to log, from what the rest of the step keeps after it
-  pub logs_keeps_after : (d : MasterDoing) (r : Record) (then_ : MasterDoing → MasterDoing) → IsDue d.master.logged r
+  pub logs_keeps_after : (d : MasterDoing) (r : Record) (then_ : MasterDoing → MasterDoing) → IsDue Asks d.master.logged r
       → (Asks → IsNamed d.master.logged.names d.master.logged.next_file r d.master.snapshots) → ((e : MasterDoing) → IsAfter d r e → At e → At (then_ e)) → At d → At (logs d r then_)
   logs_keeps_after d r then_ due named go h =
       let kept : (l : Logged) → l.names ≡ d.master.logged.names → l.next_file ≡ d.master.logged.next_file → Asks → IsNamespace (after_record l r).names d.master.snapshots =
@@ -177,10 +182,10 @@ module _ (Asks : Type 0) (Told : ℕ → ℕ → ℕ → Type 0) (P : Core → T
       (λ _. on_cond At (checkpoint_fits d.master.config.log_bytes (checkpoint_of d.master.logged)) (logs_after_checkpoint (writes_checkpoint d) r was then_) d
       (λ _. on_cond At (fits (writes_checkpoint d) r && not was) (then_ (appends (writes_checkpoint d) r)) (writes_checkpoint d)
       (λ t. go (appends (writes_checkpoint d) r) (inr refl)
-      (k.appends (core_of (writes_checkpoint d)) r (due_later d.master.logged r (neither (fits (writes_checkpoint d) r) was t) due) names_later (checkpoint_keeps d h).0, (checkpoint_keeps d h).1, kept less refl refl))
+      (k.appends (core_of (writes_checkpoint d)) r (due_later Asks d.master.logged r (neither (fits (writes_checkpoint d) r) was t) due) names_later (checkpoint_keeps d h).0, (checkpoint_keeps d h).1, kept less refl refl))
       (λ _. checkpoint_keeps d h))
       (λ _. h))
 
-  pub logs_keeps : (d : MasterDoing) (r : Record) (then_ : MasterDoing → MasterDoing) → IsDue d.master.logged r
+  pub logs_keeps : (d : MasterDoing) (r : Record) (then_ : MasterDoing → MasterDoing) → IsDue Asks d.master.logged r
       → (Asks → IsNamed d.master.logged.names d.master.logged.next_file r d.master.snapshots) → ((e : MasterDoing) → At e → At (then_ e)) → At d → At (logs d r then_)
   logs_keeps d r then_ due named go h = logs_keeps_after d r then_ due named (λ e after. go e) h

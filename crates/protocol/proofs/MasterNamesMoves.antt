@@ -14,7 +14,7 @@ use Rattle.gfs_types.specs.declared.message.Body.TheVariants as body
 use Rattle.gfs_types.specs.declared.record.Record.{Record}
 use Rattle.gfs_types.specs.declared.record.Record.TheVariants as log
 use Rattle.relaxed_file.specs.NameStep.{needs_room, outcome_by}
-use Rattle.protocol.specs.Tables.{counter_limit}
+use Rattle.protocol.specs.Tables.{counter_limit, has_number}
 use Rattle.protocol.specs.Sending.{the_client, client_id, file_id, handle_of, version_of, moment_of}
 use Rattle.protocol.specs.ChunkTable.{ChunkRow, chunk_of}
 use Rattle.protocol.specs.Logged.{KeptCall}
@@ -26,6 +26,7 @@ use Rattle.protocol.proofs.Steps.{on_cond}
 use Rattle.protocol.proofs.Entries.{AllOf}
 use Rattle.protocol.proofs.VersionAttempts.{fewer_told}
 use Rattle.protocol.proofs.Namespace.{IsNamespace, IsNamed, IsAmong, AreAllApart, without_snapshot, filtered_namespace, all_among, all_still_among, mkdir_named, rmdir_named, create_named, delete_named, rename_named, waits_named, taken_named}
+use Rattle.protocol.proofs.CopiesUnderWay.{AreCopied, listed_copied}
 use Rattle.protocol.proofs.MasterMoves.{Core, core_of, IsDue, IsNoGrant, Keeps, logs_snapshots, At, logs_keeps}
 
 settled_snapshots : (d : MasterDoing) (client number : ℕ) (r : Record) (o : Option Refusal) (ss : List PendingSnapshot) → d.master.snapshots ≡ ss → (settles_name d client number r o).master.snapshots ≡ ss
@@ -53,8 +54,8 @@ module _ (Asks : Type 0) (Told : ℕ → ℕ → ℕ → Type 0) (P : Core → T
   pub orders_keeps : (d : MasterDoing) (server : ℕ) (b : OrderNo → Body) → ((o : OrderNo) → order_number (b o) ≡ Some o) → ((o : OrderNo) → IsNoGrant (b o)) → At Asks Told P k d → At Asks Told P k (orders d server b)
   orders_keeps d server b e plain h = (k.orders (core_of d) server b e plain h.0, h.1, h.2)
 
-  pub copies_keeps : (d : MasterDoing) (handles : List ℕ) → At Asks Told P k d → At Asks Told P k (gives_up_copies d handles)
-  copies_keeps d handles h = (k.less (core_of d) handles h.0, fewer_told Told d.master.attempts handles h.1, h.2)
+  pub copies_keeps : (d : MasterDoing) (handles : List ℕ) → AreCopied d.master.logged handles → At Asks Told P k d → At Asks Told P k (gives_up_copies d handles)
+  copies_keeps d handles copied h = (k.less (core_of d) handles copied h.0, fewer_told Told d.master.attempts handles h.1, h.2)
 
   revoked_keeps : (d : MasterDoing) (handle : ℕ) (o : Option ChunkRow) → At Asks Told P k d → At Asks Told P k (revokes_row d handle o)
   revoked_keeps d handle None h = h
@@ -75,18 +76,18 @@ module _ (Asks : Type 0) (Told : ℕ → ℕ → ℕ → Type 0) (P : Core → T
       let handles : List ℕ = snapshot_handles d.master s in
       let held : MasterDoing = without_attempts (takes_locks d s) handles in
       let files : List ℕ = copies_for_files d.master.logged (snapshot_files d.master s) in
-      revokes_all_keeps (gives_up_copies held files) handles (copies_keeps held files (h.0, fewer_told Told d.master.attempts handles h.1, waits))
+      revokes_all_keeps (gives_up_copies held files) handles (copies_keeps held files (listed_copied d.master.logged (λ c. has_number (snapshot_files d.master s) c.file)) (h.0, fewer_told Told d.master.attempts handles h.1, waits))
 
   answers_keeps : (client number : ℕ) (o : Option Refusal) (d : MasterDoing) → At Asks Told P k d → At Asks Told P k (answers_name d client number o)
   answers_keeps client number o d h = tells_keeps d (the_client client) (body.Named number (Answered (reply_of o))) refl h
 
-  settles_keeps : (d : MasterDoing) (client number : ℕ) (r : Record) (o : Option Refusal) → IsDue d.master.logged r → Named d r → At Asks Told P k d → At Asks Told P k (settles_name d client number r o)
+  settles_keeps : (d : MasterDoing) (client number : ℕ) (r : Record) (o : Option Refusal) → IsDue Asks d.master.logged r → Named d r → At Asks Told P k d → At Asks Told P k (settles_name d client number r o)
   settles_keeps d client number r o due named h = logs_keeps Asks Told P k d r (λ e. answers_name e client number o) due named (answers_keeps client number o) h
 
   refuses_keeps : (d : MasterDoing) (client number : ℕ) (refusal : Refusal) → At Asks Told P k d → At Asks Told P k (refuses_name d client number refusal)
   refuses_keeps d client number refusal h = settles_keeps d client number (log.Refused (client_id client) number refusal) (Some refusal) tt (λ asks. record { due = tt; after = h.2 asks }) h
 
-  changes_keeps : (d : MasterDoing) (client number : ℕ) (c : Call) (r : Record) → IsDue d.master.logged r → Named d r → At Asks Told P k d → At Asks Told P k (changes_names d client number c r)
+  changes_keeps : (d : MasterDoing) (client number : ℕ) (c : Call) (r : Record) → IsDue Asks d.master.logged r → Named d r → At Asks Told P k d → At Asks Told P k (changes_names d client number c r)
   changes_keeps d client number c r due named h =
       let tried : MasterDoing = record d { refused = all_but_first d.refused } in
       on_cond (At Asks Told P k) (needs_room c) _ (settles_name d client number r None)

@@ -14,9 +14,10 @@ use Rattle.protocol.specs.Tables.{Table, counter_limit}
 use Rattle.protocol.specs.MasterSnapshots.{live_snapshots}
 use Rattle.protocol.specs.Master.{MasterState, MasterDoing, VersionAttempt, master_begins, logs}
 use Rattle.protocol.specs.MasterClones.{CloneOrder, orders_clone, best_clone}
-use Rattle.protocol.specs.MasterStep.{master_ticks, is_in_time, gives_up_attempts, gives_up_lost_copies, lost_copies, expires_all, expires_old, expired_files, master_takes, master_does, master_at, master_goes}
+use Rattle.protocol.specs.MasterStep.{master_ticks, is_in_time, gives_up_attempts, gives_up_lost_copies, is_lost_copy, lost_copies, expires_all, expires_old, expired_files, master_takes, master_does, master_at, master_goes}
 use Rattle.protocol.proofs.VersionAttempts.{IsServerNumber, AreTold, kept_told}
 use Rattle.protocol.proofs.Namespace.{IsNamespace, filtered_namespace, expired_names}
+use Rattle.protocol.proofs.CopiesUnderWay.{keys_copied}
 use Rattle.protocol.proofs.MasterMoves.{Core, core_of, Nothing, Keeps, At, logs_keeps}
 use Rattle.protocol.proofs.MasterNamesMoves.{orders_keeps, copies_keeps, ready_keeps, look_keeps, name_keeps}
 use Rattle.protocol.proofs.MasterChunksMoves.{AreLinesTold, ask_keeps, takes_recorded_keeps, takes_revoked_keeps, report_keeps}
@@ -46,7 +47,7 @@ module _ (Asks : Type 0) (Told : ℕ → ℕ → ℕ → Type 0) (P : Core → T
       let a : MasterDoing = gives_up_attempts d in
       let b : MasterDoing = gives_up_lost_copies a in
       let c : MasterDoing = expires_old b in
-      clone_keeps c (best_clone c.master (table.entries c.master.logged.table.chunks)) (expires_keeps b (expired_files b.master) (copies_keeps Asks Told P k a (lost_copies a.master) (h.0, kept_told Told (is_in_time d.master) d.master.attempts h.1, h.2)))
+      clone_keeps c (best_clone c.master (table.entries c.master.logged.table.chunks)) (expires_keeps b (expired_files b.master) (copies_keeps Asks Told P k a (lost_copies a.master) (keys_copied a.master.logged (is_lost_copy a.master)) (h.0, kept_told Told (is_in_time d.master) d.master.attempts h.1, h.2)))
 
   takes_keeps : (d : MasterDoing) (m : Message) (b : Body) → IsWordTold Told (server_number m.sender) b → (Asks → d.master.logged.next_file ≤ counter_limit) → At Asks Told P k d → At Asks Told P k (master_takes d m b)
   takes_keeps d m (body.Name number deadline c) told bound h = name_keeps Asks Told P k d (client_number m.sender) number deadline.0 c bound h

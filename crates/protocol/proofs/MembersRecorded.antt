@@ -133,7 +133,8 @@ granting_keeps Told =
       grants = λ c primary handle version until members told h. all_joined (λ m. IsGrantTold Told m.body) c.sent _ h (told, tt);
       appends = λ c r due names h. h;
       checkpoint = λ c tree h. h;
-      less = λ c handles h. h;
+      less = λ c handles copied h. h;
+      sound = λ asks. absurd asks;
       ends = λ c handle moment h. h;
     }
 

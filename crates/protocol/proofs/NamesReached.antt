@@ -1,7 +1,10 @@
 -- In each world that is reached, a master that is up has the names, counters, epoch and kept answers of its log, and what else its records keep of them.
-use Rattle.std.proofs.Common.{◌≡◌, ℕ, suc, ◌≤◌, true, false, List, [], take, drop, refl, sym, ap, subst, ◌∙◌, arith}
-use Rattle.std.specs.Prelude.{◌&&◌, not, IsTrue}
-use Rattle.std.proofs.lemmas.Bool.{and_parts, leb-true}
+use Rattle.std.proofs.Common.{◌≡◌, ℕ, suc, ◌+◌, ◌≤◌, Bool, true, false, cond, List, [], ◌∷◌, map, take, drop, Option, Some, None, refl, sym, ap, subst, ◌∙◌, arith}
+use Rattle.std.specs.Prelude.{◌==◌, ◌&&◌, nat_lt, not, option_map, IsTrue}
+use Rattle.std.specs.Ordering.{nat_cmp, eq_by_cmp}
+use Rattle.std.specs.Cmp.{nat_cmp_total, unsigned_tied}
+use Rattle.std.specs.FinMap.Entries.{find}
+use Rattle.std.proofs.lemmas.Bool.{and_parts, leb-true, eqb-true}
 use Rattle.std.specs.FinMap as table
 use Rattle.gfs_types.specs.declared.config.Config.{Config}
 use Rattle.gfs_types.specs.declared.event.Input.{Input}
@@ -9,90 +12,136 @@ use Rattle.gfs_types.specs.declared.record.Record.{Record}
 use Rattle.gfs_types.specs.declared.record.Record.TheVariants as log
 use Rattle.relaxed_file.specs.Names.{Names}
 use Rattle.relaxed_file.proofs.NamesTree.{Tree, first_tree}
-use Rattle.protocol.specs.Tables.{Table, counter_limit}
+use Rattle.protocol.specs.Tables.{Table, counter_limit, map_values}
 use Rattle.protocol.specs.Choice.{Choice, Ending, Goes, Lost, Stops}
 use Rattle.protocol.specs.Seen.{Taken, no_step}
 use Rattle.protocol.specs.ChunkTable.{ChunkRow, changed_row}
 use Rattle.protocol.specs.LogSizes.{checkpoint_fits}
 use Rattle.protocol.specs.Logged.{Logged, LogDisk, LogChange, AppendRecord, WriteCheckpoint, first_logged, log_changed, log_changed_by_all, after_record, after_records, checkpoint_of, copies_given_up, all_copies_given_up}
 use Rattle.protocol.specs.Master.{MasterState, MasterDoing, stopped_master, master_begins, fits, appends, writes_checkpoint, logs_after_checkpoint, is_of_copy}
-use Rattle.protocol.specs.MasterStep.{master_goes, master_ends, master_bounded, master_step, is_within_limits, found_log, started_master, opening, has_opened, opens_as, new_master, first_log}
+use Rattle.protocol.specs.MasterStep.{master_goes, master_ends, master_bounded, master_step, is_within_limits, found_log, lease_after_restart, started_master, opening, has_opened, opens_as, new_master, first_log}
 use Rattle.protocol.specs.World.{WorldState, IsReached}
 use Rattle.protocol.proofs.Steps.{on_cond}
 use Rattle.protocol.proofs.Namespace.{IsNamespace, names_are_after}
+use Rattle.protocol.proofs.CopiesUnderWay.{AreCopied, AreSoundCopies}
 use Rattle.protocol.proofs.MasterMoves.{Core, core_of, IsDue, Nothing, AreNames, Keeps, core_changed}
 use Rattle.protocol.proofs.MasterSteps.{goes_named}
 use Rattle.protocol.proofs.OrderNumbers.{state_of, state-appended, AllStops, stops_push, changed-push, AllFound, found_same, found_stopped}
 use Rattle.protocol.proofs.LoggedParts.{Parts, parts_of, same_after, checkpoint_parts}
 use Rattle.protocol.proofs.MasterReached.{reached_here}
 
--- What a fact of the logged state needs to hold in each reached world. Its names, files and copies alone count.
-pub record IsKeptByRecords (B : Logged → Type 0) : Type 0 where
-  pub new : B first_logged
-  pub epochs : (l : Logged) (epoch : ℕ) → B l → B (record l { epoch = epoch })
-  -- a record is logged where the names fit, and is replayed from the same names
-  pub records : (l k : Logged) (r : Record) → parts_of l ≡ parts_of k → IsDue l r → AreNames l r → B l → B k → B (after_record l r) × B (after_record k r)
-  pub checkpoint : (l : Logged) → Tree l.names → B l → B (after_records first_logged (checkpoint_of l))
-  pub less : (l : Logged) (handles : List ℕ) → B l → B (copies_given_up l handles)
-  pub rows : (l : Logged) (chunks : Table ChunkRow) → B l → B (record l { table = record l.table { chunks = chunks } })
+-- the ends of leases aside
+abbrev pub without_end : ChunkRow → ChunkRow
+without_end row = record row { lease_end = 0 }
 
-module _ (B : Logged → Type 0) (b : IsKeptByRecords B) where
+abbrev pub AreSameButEnds : Table ChunkRow → Table ChunkRow → Type 0
+AreSameButEnds t u = (handle : ℕ) → option_map without_end (table.get t handle) ≡ option_map without_end (table.get u handle)
+
+-- What is needed to hold in each reached world of what the master keeps and what its log says, with what it says of the log alone.
+pub record IsKeptByLog (G : Logged → Type 0) (R : Logged → Logged → Type 0) : Type 0 where
+  pub good : (l k : Logged) → R l k → G k
+  pub sound : (l k : Logged) → R l k → AreSoundCopies l
+  pub new : R first_logged first_logged
+  pub restart : (k : Logged) → G k → R (all_copies_given_up k) k
+  pub epochs : (l k : Logged) (epoch : ℕ) → R l k → R (record l { epoch = epoch }) (record k { epoch = epoch })
+  -- a record is logged where the names fit, and is replayed from the same names
+  pub records : (l k : Logged) (r : Record) → parts_of l ≡ parts_of k → IsDue (Unit {0}) l r → AreNames l r → R l k → R (after_record l r) (after_record k r)
+  pub checkpoint : (l k : Logged) → parts_of l ≡ parts_of k → Tree l.names → R l k → R (all_copies_given_up l) (after_records first_logged (checkpoint_of l))
+  pub less : (l k : Logged) (handles : List ℕ) → AreCopied l handles → R l k → R (copies_given_up l handles) k
+  pub rows : (l k : Logged) (chunks : Table ChunkRow) → AreSameButEnds l.table.chunks chunks → R l k → R (record l { table = record l.table { chunks = chunks } }) k
+
+-- a chunk whose lease's end is set is the same but for that
+pub ended_same : (t : Table ChunkRow) (handle moment : ℕ) → AreSameButEnds t (changed_row t handle (λ row. record row { lease_end = moment }) (table.get t handle))
+ended_same t handle moment q = by_row (table.get t handle) refl
+  where
+    by_key : (row : ChunkRow) (b : Bool) → (q == handle) ≡ b → table.get t handle ≡ Some row
+        → option_map without_end (table.get t q) ≡ option_map without_end (cond b (Some (record row { lease_end = moment })) (table.get t q))
+    by_key row true e is = ap (λ (o : Option ChunkRow). option_map without_end o) (ap (λ (n : ℕ). table.get t n) (eqb-true q handle e) ∙ is)
+    by_key row false e is = refl
+
+    by_row : (o : Option ChunkRow) → table.get t handle ≡ o → option_map without_end (table.get t q) ≡ option_map without_end (table.get (changed_row t handle (λ row. record row { lease_end = moment }) o) q)
+    by_row None is = refl
+    by_row (Some row) is =
+        by_key row (q == handle) refl is
+        ∙ sym (ap (λ (o : Option ChunkRow). option_map without_end o)
+        (table.get-insert nat_cmp_total t handle (record row { lease_end = moment }) q ∙ ap (λ (b : Bool). cond b (Some (record row { lease_end = moment })) (table.get t q)) (unsigned_tied q handle)))
+
+-- chunks whose rows are the same but for the ends, as lists
+same_found : (change : ChunkRow → ChunkRow) → ((row : ChunkRow) → without_end row ≡ without_end (change row)) → (es : List (ℕ × ChunkRow)) (q : ℕ)
+    → option_map without_end (find nat_cmp q es) ≡ option_map without_end (find nat_cmp q (map (λ e. (e.0, change e.1)) es))
+same_found change same [] q = refl
+same_found change same (e ∷ es) q = by_key (eq_by_cmp nat_cmp q e.0) (same_found change same es q)
+  where
+    by_key : (b : Bool) → option_map without_end (find nat_cmp q es) ≡ option_map without_end (find nat_cmp q (map (λ x. (x.0, change x.1)) es))
+        → option_map without_end (cond b (Some e.1) (find nat_cmp q es)) ≡ option_map without_end (cond b (Some (change e.1)) (find nat_cmp q (map (λ x. (x.0, change x.1)) es)))
+    by_key true rest = ap (λ (row : ChunkRow). Some row) (same e.1)
+    by_key false rest = rest
+
+pub mapped_same : (t : Table ChunkRow) (change : ChunkRow → ChunkRow) → ((row : ChunkRow) → without_end row ≡ without_end (change row)) → AreSameButEnds t (map_values change t)
+mapped_same t change same q =
+    ap (λ (o : Option ChunkRow). option_map without_end o) (table.get-entries t q) ∙ same_found change same (table.entries t) q
+    ∙ sym (ap (λ (o : Option ChunkRow). option_map without_end o) (table.get-from_entries nat_cmp_total (map (λ e. (e.0, change e.1)) (table.entries t)) q))
+
+later_end : (config : Config) (moment : ℕ) (row : ChunkRow) → without_end row ≡ without_end (lease_after_restart config moment row)
+later_end config moment row =
+    on_cond (λ (x : ChunkRow). without_end row ≡ without_end x) (nat_lt 0 row.granted) (record row { lease_end = moment + config.skew_ms + config.lease_ms }) row (λ _. refl) (λ _. refl)
+
+module _ (G : Logged → Type 0) (R : Logged → Logged → Type 0) (b : IsKeptByLog G R) where
   abbrev IsGood : LogDisk → Type 0
-  IsGood d = Tree (state_of d).names × B (state_of d)
+  IsGood d = Tree (state_of d).names × G (state_of d)
 
   -- a step so far, from what was on the disk
   record IsNaming (start : LogDisk) (c : Core) : Type 0 where
     none : c.under_way ≡ []
     disk : log_changed_by_all start c.changes ≡ c.disk
     same : parts_of c.logged ≡ parts_of (state_of c.disk)
-    here : B c.logged
-    there : B (state_of c.disk)
+    tied : R c.logged (state_of c.disk)
     stops : AllStops IsGood start c.changes
 
   -- the disk and the state change together
-  changed : (start : LogDisk) (c : Core) (x : LogChange) (l : Logged) → parts_of l ≡ parts_of (state_of (log_changed c.disk x)) → Tree l.names → B l → B (state_of (log_changed c.disk x))
+  changed : (start : LogDisk) (c : Core) (x : LogChange) (l : Logged) → parts_of l ≡ parts_of (state_of (log_changed c.disk x)) → Tree l.names → R l (state_of (log_changed c.disk x))
       → IsNaming start c → IsNaming start (record (core_changed c x) { logged = l })
-  changed start c x l same tree here there h =
+  changed start c x l same tree tied h =
       record {
         none = h.none;
         disk = changed-push start c.changes x ∙ ap (λ (d : LogDisk). log_changed d x) h.disk;
         same = same;
-        here = here;
-        there = there;
+        tied = tied;
         stops = stops_push IsGood start c.changes x h.stops
-            (subst (λ (d : LogDisk). IsGood (log_changed d x)) (sym h.disk) (subst (λ (n : Names). Tree n) (ap (λ (p : Parts). p.names) same) tree, there));
+            (subst (λ (d : LogDisk). IsGood (log_changed d x)) (sym h.disk) (subst (λ (n : Names). Tree n) (ap (λ (p : Parts). p.names) same) tree, b.good l (state_of (log_changed c.disk x)) tied));
       }
 
-  appended : (start : LogDisk) (c : Core) (r : Record) → Tree (after_record c.logged r).names → B (after_record c.logged r) × B (after_record (state_of c.disk) r) → IsNaming start c
+  appended : (start : LogDisk) (c : Core) (r : Record) → Tree (after_record c.logged r).names → R (after_record c.logged r) (after_record (state_of c.disk) r) → IsNaming start c
       → IsNaming start (record (core_changed c (AppendRecord r)) { logged = after_record c.logged r })
-  appended start c r tree both h =
+  appended start c r tree tied h =
       changed start c (AppendRecord r) (after_record c.logged r)
-      (same_after c.logged (state_of c.disk) r h.same ∙ sym (ap (λ (k : Logged). parts_of k) (state-appended c.disk r))) tree both.0
-      (subst (λ (k : Logged). B k) (sym (state-appended c.disk r)) both.1) h
+      (same_after c.logged (state_of c.disk) r h.same ∙ sym (ap (λ (k : Logged). parts_of k) (state-appended c.disk r))) tree
+      (subst (λ (k : Logged). R (after_record c.logged r) k) (sym (state-appended c.disk r)) tied) h
 
   checkpointed : (start : LogDisk) (c : Core) → Tree c.logged.names → IsNaming start c
       → IsNaming start (record (core_changed c (WriteCheckpoint (checkpoint_of c.logged))) { logged = all_copies_given_up c.logged })
   checkpointed start c tree h =
       changed start c (WriteCheckpoint (checkpoint_of c.logged)) (all_copies_given_up c.logged) (sym (checkpoint_parts c.logged tree)) tree
-      (b.less c.logged (table.keys c.logged.copies) h.here) (b.checkpoint c.logged tree h.here) h
+      (b.checkpoint c.logged (state_of c.disk) h.same tree h.tied) h
 
-  quieter : (start : LogDisk) (c : Core) (l : Logged) → parts_of l ≡ parts_of c.logged → B l → IsNaming start c → IsNaming start (record c { logged = l })
-  quieter start c l same here h = record { none = h.none; disk = h.disk; same = same ∙ h.same; here = here; there = h.there; stops = h.stops }
+  quieter : (start : LogDisk) (c : Core) (l : Logged) → parts_of l ≡ parts_of c.logged → R l (state_of c.disk) → IsNaming start c → IsNaming start (record c { logged = l })
+  quieter start c l same tied h = record { none = h.none; disk = h.disk; same = same ∙ h.same; tied = tied; stops = h.stops }
 
   naming_keeps : (start : LogDisk) → Keeps (Unit {0}) Nothing (IsNaming start)
   naming_keeps start =
       record {
-        tells = λ c receiver body none h. record { none = h.none; disk = h.disk; same = h.same; here = h.here; there = h.there; stops = h.stops };
-        orders = λ c server body is plain h. record { none = h.none; disk = h.disk; same = h.same; here = h.here; there = h.there; stops = h.stops };
-        grants = λ c primary handle version until members told h. record { none = h.none; disk = h.disk; same = h.same; here = h.here; there = h.there; stops = h.stops };
+        tells = λ c receiver body none h. record { none = h.none; disk = h.disk; same = h.same; tied = h.tied; stops = h.stops };
+        orders = λ c server body is plain h. record { none = h.none; disk = h.disk; same = h.same; tied = h.tied; stops = h.stops };
+        grants = λ c primary handle version until members told h. record { none = h.none; disk = h.disk; same = h.same; tied = h.tied; stops = h.stops };
         appends = λ c r due names h.
             let n : AreNames c.logged r = names tt in
-            appended start c r (subst (λ (x : Names). Tree x) (sym (names_are_after c.logged r)) n.after) (b.records c.logged (state_of c.disk) r h.same due n h.here h.there) h;
+            appended start c r (subst (λ (x : Names). Tree x) (sym (names_are_after c.logged r)) n.after) (b.records c.logged (state_of c.disk) r h.same due n h.tied) h;
         checkpoint = λ c tree h. checkpointed start c (tree tt) h;
-        less = λ c handles h. quieter start c (copies_given_up c.logged handles) refl (b.less c.logged handles h.here) h;
+        sound = λ asks c h. b.sound c.logged (state_of c.disk) h.tied;
+        less = λ c handles copied h. quieter start c (copies_given_up c.logged handles) refl (b.less c.logged (state_of c.disk) handles copied h.tied) h;
         ends = λ c handle moment h.
             quieter start c (record c.logged { table = record c.logged.table { chunks = changed_row c.logged.table.chunks handle (λ row. record row { lease_end = moment }) (table.get c.logged.table.chunks handle) } }) refl
-            (b.rows c.logged (changed_row c.logged.table.chunks handle (λ row. record row { lease_end = moment }) (table.get c.logged.table.chunks handle)) h.here) h;
+            (b.rows c.logged (state_of c.disk) (changed_row c.logged.table.chunks handle (λ row. record row { lease_end = moment }) (table.get c.logged.table.chunks handle)) (ended_same c.logged.table.chunks handle moment) h.tied) h;
       }
 
   -- of a master that is up, between its steps
@@ -101,8 +150,7 @@ module _ (B : Logged → Type 0) (b : IsKeptByRecords B) where
     pub bound : m.logged.next_file ≤ counter_limit
     pub names : IsNamespace m.logged.names m.snapshots
     pub same : parts_of m.logged ≡ parts_of (state_of m.disk)
-    pub here : B m.logged
-    pub there : B (state_of m.disk)
+    pub tied : R m.logged (state_of m.disk)
 
   pub record IsLogged (m : MasterState) : Type 0 where
     pub found : AllFound IsGood m.disk m.under_way
@@ -118,10 +166,10 @@ module _ (B : Logged → Type 0) (b : IsKeptByRecords B) where
 
   running : (start : LogDisk) (d : MasterDoing) → is_within_limits d.master ≡ true → IsNaming start (core_of d) → IsNamespace d.master.logged.names d.master.snapshots → IsLogged d.master
   running start d limits g names =
-      let good : IsGood d.master.disk = (subst (λ (n : Names). Tree n) (ap (λ (p : Parts). p.names) g.same) names.tree, g.there) in
+      let good : IsGood d.master.disk = (subst (λ (n : Names). Tree n) (ap (λ (p : Parts). p.names) g.same) names.tree, b.good d.master.logged (state_of d.master.disk) g.tied) in
       record {
         found = subst (λ (xs : List LogChange). AllFound IsGood d.master.disk xs) (sym g.none) (found_same IsGood d.master.disk good);
-        up = λ _. record { idle = g.none; bound = within d.master limits; names = names; same = g.same; here = g.here; there = g.there };
+        up = λ _. record { idle = g.none; bound = within d.master limits; names = names; same = g.same; tied = g.tied };
       }
 
   ends_logged : (m : MasterState) (d : MasterDoing) (choice : Choice) (e : Ending) → is_within_limits d.master ≡ true → IsLogged m → IsNaming m.disk (core_of d)
@@ -140,7 +188,7 @@ module _ (B : Logged → Type 0) (b : IsKeptByRecords B) where
       (λ limits.
       let u : IsUpToLog m = h.up up in
       let end = goes_named (IsNaming m.disk) (naming_keeps m.disk) m moment i choice.refused u.bound u.names
-      (record { none = u.idle; disk = refl; same = u.same; here = u.here; there = u.there; stops = h.found [] }) in
+      (record { none = u.idle; disk = refl; same = u.same; tied = u.tied; stops = h.found [] }) in
       ends_logged m d choice choice.ending limits h end.0 end.1)
       (λ _. h))
       (λ _. h)
@@ -151,12 +199,14 @@ module _ (B : Logged → Type 0) (b : IsKeptByRecords B) where
       let started : MasterState = started_master config count found moment in
       let d : MasterDoing = master_begins started [] in
       let r : Record = log.Epoch (suc d.master.logged.epoch) in
-      let kept : B started.logged = b.rows (all_copies_given_up (state_of found)) started.logged.table.chunks (b.less (state_of found) (table.keys (state_of found).copies) good.1) in
-      let first : IsNaming found (core_of d) = record { none = refl; disk = refl; same = refl; here = kept; there = good.1; stops = good } in
+      let given_up : Logged = all_copies_given_up (state_of found) in
+      let kept : R started.logged (state_of found) =
+      b.rows given_up (state_of found) started.logged.table.chunks (mapped_same given_up.table.chunks (lease_after_restart config moment) (later_end config moment)) (b.restart (state_of found) good.1) in
+      let first : IsNaming found (core_of d) = record { none = refl; disk = refl; same = refl; tied = kept; stops = good } in
       let all : MasterDoing → Type 0 = λ e. IsNaming found (core_of e) × Tree e.master.logged.names × (e.master.snapshots ≡ []) in
       let begins : (e : MasterDoing) → all e → all (appends e r) =
       λ e h. (
-        appended found (core_of e) r h.1 (b.epochs e.master.logged (suc d.master.logged.epoch) h.0.here, b.epochs (state_of e.master.disk) (suc d.master.logged.epoch) h.0.there) h.0,
+        appended found (core_of e) r h.1 (b.epochs e.master.logged (state_of e.master.disk) (suc d.master.logged.epoch) h.0.tied) h.0,
         h.1,
         h.2,
       ) in
@@ -183,16 +233,17 @@ module _ (B : Logged → Type 0) (b : IsKeptByRecords B) where
       let started : MasterState = started_master old.config old.server_count found moment in
       let d : MasterDoing = opening started in
       let g = opening_naming old.config old.server_count found moment (h.found choice.decided) in
-      let good : IsGood d.master.disk = (subst (λ (n : Names). Tree n) (ap (λ (p : Parts). p.names) g.0.same) g.1, g.0.there) in
+      let good : IsGood d.master.disk = (subst (λ (n : Names). Tree n) (ap (λ (p : Parts). p.names) g.0.same) g.1, b.good d.master.logged (state_of d.master.disk) g.0.tied) in
       on_cond (λ (t : Taken MasterState). IsLogged t.state) (has_opened started d && is_within_limits d.master) _ _
       (λ both. running found d (and_parts (has_opened started d) (is_within_limits d.master) both).1 g.0 (no_snapshots d g.1 g.2)) (λ _. stopped old d.master.disk [] (found_same IsGood d.master.disk good))
 
   new_logged : (config : Config) (servers : ℕ) → IsLogged (new_master config servers)
   new_logged config servers =
-      let b1 : B (record first_logged { epoch = 1 }) = b.epochs first_logged 1 b.new in
+      let one : Logged = record first_logged { epoch = 1 } in
+      let tied : R one one = b.epochs first_logged first_logged 1 b.new in
       record {
-        found = found_same IsGood first_log (first_tree, b1);
-        up = λ _. record { idle = refl; bound = omega arith; names = record { tree = first_tree; free = tt; apart = tt }; same = refl; here = b1; there = b1 };
+        found = found_same IsGood first_log (first_tree, b.good one one tied);
+        up = λ _. record { idle = refl; bound = omega arith; names = record { tree = first_tree; free = tt; apart = tt }; same = refl; tied = tied };
       }
 
   pub logged_reached : (config : Config) (servers clients : ℕ) (w : WorldState) → IsReached config servers clients w → IsTrue w.master.up → IsUpToLog w.master

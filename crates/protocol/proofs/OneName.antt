@@ -26,7 +26,7 @@ use Rattle.relaxed_file.proofs.NamesTree.{Tree, HasAt, copy, tests_passed, true_
 use Rattle.protocol.specs.Tables.{Table, removed_all, counter_limit, has_number}
 use Rattle.protocol.specs.Sending.{file_id, handle_of}
 use Rattle.protocol.specs.ChunkTable.{ChunkRow, ChunkTable, handles_of, grant}
-use Rattle.protocol.specs.Logged.{Logged, KeptCall, Copy, first_logged, after_record, after_records, copies_for_file, swapped_in, with_copied_node, with_copied_nodes, checkpoint_of, name_item, node_item, chunk_item, client_item}
+use Rattle.protocol.specs.Logged.{Logged, KeptCall, Copy, copies_given_up, first_logged, after_record, after_records, copies_for_file, swapped_in, with_copied_node, with_copied_nodes, checkpoint_of, name_item, node_item, chunk_item, client_item}
 use Rattle.protocol.proofs.Steps.{on_cond, none_some, same_some, put_cases, kept_cases, removed_cases}
 use Rattle.protocol.proofs.Entries.{AllOf, same_number}
 use Rattle.protocol.proofs.Namespace.{IsFree, IsNameDue}
@@ -35,10 +35,9 @@ use Rattle.protocol.proofs.HiddenNames.{hidden_digits}
 use Rattle.protocol.proofs.FilesNamed.{Files, IsNameOf, HasFile, AreNamed, split_key, put_key, left_key, dir_put, dir_gone, file_put, file_moved, hidden_is_free, file_gone, put_again, IsNew, AreDistinct, copies_named}
 use Rattle.protocol.proofs.LoggedParts.{Parts, parts_of, checkpoint_parts}
 use Rattle.protocol.proofs.OrderNumbers.{after-append}
-use Rattle.protocol.proofs.NamesReached.{IsKeptByRecords}
 
 -- copies are under way for files that are there
-abbrev AreCopiesOf : Table Copy → Files → Type 0
+abbrev pub AreCopiesOf : Table Copy → Files → Type 0
 AreCopiesOf copies files = (handle : ℕ) (c : Copy) → table.get copies handle ≡ Some c → HasFile files c.file
 
 pub record HasOneName (l : Logged) : Type 0 where
@@ -100,7 +99,7 @@ below_apart : (k : Path) (es : List (Path × Node)) → T (below_all (slice_cmp 
 below_apart k [] h = tt
 below_apart k (e ∷ es) h = let parts = both_of_T (is_lt (slice_cmp nat_cmp k e.0)) (below_all (slice_cmp nat_cmp) k es) h in (less_is_apart k e.0 parts.0, below_apart k es parts.1)
 
-sorted_distinct : (es : List (Path × Node)) → T (is_sorted (slice_cmp nat_cmp) es) → AreDistinct es
+pub sorted_distinct : (es : List (Path × Node)) → T (is_sorted (slice_cmp nat_cmp) es) → AreDistinct es
 sorted_distinct [] h = tt
 sorted_distinct (e ∷ es) h = let parts = both_of_T (below_all (slice_cmp nat_cmp) e.0 es) (is_sorted (slice_cmp nat_cmp) es) h in (below_apart e.0 es parts.0, sorted_distinct es parts.1)
 
@@ -132,7 +131,7 @@ module _ (from to : Path) (no_root : from ≡ root → ⊥) where
       on_cond (λ (fs : List (Path × Node)). AreDistinct (map (λ f. (target f.0, f.1)) fs)) (is_at_or_below from e.0) (e ∷ filter (λ f. is_at_or_below from f.0) es) (filter (λ f. is_at_or_below from f.0) es)
       (λ a. (others_copied e.0 es a h.0, copied_distinct es h.1)) (λ _. copied_distinct es h.1)
 
-all_has : (P : Path × Node → Type 0) (es : List (Path × Node)) → ((p : Path) (v : Node) → HasAt es p v → P (p, v)) → AllOf P es
+pub all_has : (P : Path × Node → Type 0) (es : List (Path × Node)) → ((p : Path) (v : Node) → HasAt es p v → P (p, v)) → AllOf P es
 all_has P [] f = tt
 all_has P (e ∷ es) f = (f e.0 e.1 (inl (refl, refl)), all_has P es (λ p v h. f p v (inr h)))
 
@@ -183,7 +182,7 @@ fit_named l (log.ClientItem client n refusal) fit h = absurd fit.table
 
 -- copies after a record
 
-all_given_up : {X : Type 0} (t : Table X) (ns : List ℕ) (q : ℕ) → has_number ns q ≡ true → table.get (removed_all t ns) q ≡ None
+pub all_given_up : {X : Type 0} (t : Table X) (ns : List ℕ) (q : ℕ) → has_number ns q ≡ true → table.get (removed_all t ns) q ≡ None
 all_given_up t [] q h = absurd (true≢false (sym h))
 all_given_up {X} t (n ∷ ns) q h = by_key (n == q) refl (all_given_up (table.remove t n) ns q) h
   where
@@ -222,7 +221,7 @@ number_kept test (e ∷ es) q c h passes = by_key (eq_by_cmp nat_cmp q e.0) refl
     by_key false is rest g = more (test e.1) (rest g passes)
 
 -- a copy that is left is for another file
-left_copy : (l : Logged) (file handle : ℕ) (c : Copy) → table.get (removed_all l.copies (copies_for_file l file)) handle ≡ Some c → (c.file ≡ file → ⊥) × (table.get l.copies handle ≡ Some c)
+pub left_copy : (l : Logged) (file handle : ℕ) (c : Copy) → table.get (removed_all l.copies (copies_for_file l file)) handle ≡ Some c → (c.file ≡ file → ⊥) × (table.get l.copies handle ≡ Some c)
 left_copy l file handle c is =
     let before : table.get l.copies handle ≡ Some c = removed_cases l.copies (copies_for_file l file) handle c is in (
       λ same. none_some c (sym (all_given_up l.copies (copies_for_file l file) handle
@@ -264,7 +263,7 @@ fit_keeps l r fit h = record { named = fit_named l r fit h; copied = fit_copied 
 
 -- what is due in the state is due in the log
 
-table_due : (l : Logged) (r : Record) → IsDue l r → IsDueOf l r
+table_due : (l : Logged) (r : Record) → IsDue (Unit {0}) l r → IsDueOf l r
 table_due l (log.Create client n file path) due = due
 table_due l (log.AddChunk file handle) due = due.1
 table_due l (log.CopyStart file index handle copy copy_version) due = due.1
@@ -291,7 +290,7 @@ other_due l k (log.ChunkItem handle granted issued primary members) same next h 
 other_due l k (log.ClientItem client n refusal) same next h g due = due
 other_due l k other same next h g due = tt
 
-records_keep : (l k : Logged) (r : Record) → parts_of l ≡ parts_of k → IsDue l r → AreNames l r → HasOneName l → HasOneName k → HasOneName (after_record l r) × HasOneName (after_record k r)
+pub records_keep : (l k : Logged) (r : Record) → parts_of l ≡ parts_of k → IsDue (Unit {0}) l r → AreNames l r → HasOneName l → HasOneName k → HasOneName (after_record l r) × HasOneName (after_record k r)
 records_keep l k r same due names h g =
     let same_names : l.names ≡ k.names = ap (λ (p : Parts). p.names) same in
     let same_next : l.next_file ≡ k.next_file = ap (λ (p : Parts). p.next_file) same in
@@ -321,7 +320,7 @@ items_there t (e ∷ es) l p id (inl here) =
     (subst (λ (n : Node). HasFile (after_record l (node_item t e.0 n)).table.files id) (sym here.1) (put_key l.table.files id (handles_of t id) id (inl refl)))
 items_there t (e ∷ es) l p id (inr later) = items_there t es (after_record l (name_item t e)) p id later
 
-items_named : (t : ChunkTable) (es : List (Path × Node)) (l : Logged) (id : ℕ) → HasFile (after_records l (map (name_item t) es)).table.files id → HasFile l.table.files id ⊎ ((p : Path) × HasAt es p (File id))
+pub items_named : (t : ChunkTable) (es : List (Path × Node)) (l : Logged) (id : ℕ) → HasFile (after_records l (map (name_item t) es)).table.files id → HasFile l.table.files id ⊎ ((p : Path) × HasAt es p (File id))
 items_named t [] l id h = inl h
 items_named t (e ∷ es) l id h =
     elim (items_named t es (after_record l (name_item t e)) id h) [
@@ -336,7 +335,7 @@ items_named t (e ∷ es) l id h =
       | inr before ↦ inl before
     ]
 
-items_copies : (t : ChunkTable) (es : List (Path × Node)) (l : Logged) → (after_records l (map (name_item t) es)).copies ≡ l.copies
+pub items_copies : (t : ChunkTable) (es : List (Path × Node)) (l : Logged) → (after_records l (map (name_item t) es)).copies ≡ l.copies
 items_copies t [] l = refl
 items_copies t (e ∷ es) l = items_copies t es (after_record l (name_item t e)) ∙ one e.1
   where
@@ -345,10 +344,10 @@ items_copies t (e ∷ es) l = items_copies t es (after_record l (name_item t e))
     one (File file) = refl
 
 -- files and copies
-abbrev Kept : Type 0
+abbrev pub Kept : Type 0
 Kept = Files × Table Copy
 
-abbrev kept_of : Logged → Kept
+abbrev pub kept_of : Logged → Kept
 kept_of l = (l.table.files, l.copies)
 
 chunks_keep : (es : List (ℕ × ChunkRow)) (l : Logged) → kept_of (after_records l (map chunk_item es)) ≡ kept_of l
@@ -359,19 +358,26 @@ clients_keep : (es : List (ℕ × KeptCall)) (l : Logged) → kept_of (after_rec
 clients_keep [] l = refl
 clients_keep (e ∷ es) l = clients_keep es (after_record l (client_item e))
 
-checkpoint_keep : (l : Logged) → Tree l.names → HasOneName l → HasOneName (after_records first_logged (checkpoint_of l))
-checkpoint_keep l tree h =
-    let k : Logged = after_records first_logged (checkpoint_of l) in
+-- a checkpoint's files and copies are those of its names' items
+pub checkpoint_kept : (l : Logged)
+    → kept_of (after_records first_logged (checkpoint_of l)) ≡ kept_of (after_records (after_record first_logged (log.Counters (file_id l.next_file) (handle_of l.next_handle) l.epoch)) (map (name_item l.table) (table.entries l.names)))
+checkpoint_kept l =
     let first : Logged = after_record first_logged (log.Counters (file_id l.next_file) (handle_of l.next_handle) l.epoch) in
     let names : List Record = map (name_item l.table) (table.entries l.names) in
     let rows : List (ℕ × ChunkRow) = filter (λ e. nat_lt 0 e.1.references) (table.entries l.table.chunks) in
     let one : Logged = after_records first names in
     let two : Logged = after_records one (map chunk_item rows) in
     let to_two : after_records first (names ++ map chunk_item rows) ≡ two = after-append first names (map chunk_item rows) in
-    let same : kept_of k ≡ kept_of one =
     ap (λ (j : Logged). kept_of j) (after-append first (names ++ map chunk_item rows) (map client_item (table.entries l.kept)))
     ∙ ap (λ (j : Logged). kept_of (after_records j (map client_item (table.entries l.kept)))) to_two
-    ∙ clients_keep (table.entries l.kept) two ∙ chunks_keep rows one in
+    ∙ clients_keep (table.entries l.kept) two ∙ chunks_keep rows one
+
+pub checkpoint_keep : (l : Logged) → Tree l.names → HasOneName l → HasOneName (after_records first_logged (checkpoint_of l))
+checkpoint_keep l tree h =
+    let k : Logged = after_records first_logged (checkpoint_of l) in
+    let first : Logged = after_record first_logged (log.Counters (file_id l.next_file) (handle_of l.next_handle) l.epoch) in
+    let one : Logged = after_records first (map (name_item l.table) (table.entries l.names)) in
+    let same : kept_of k ≡ kept_of one = checkpoint_kept l in
     let files : k.table.files ≡ one.table.files = ap (λ (x : Kept). x.0) same in
     let no_copies : k.copies ≡ table.empty = ap (λ (x : Kept). x.1) same ∙ items_copies l.table (table.entries l.names) first in
     let parts : parts_of k ≡ parts_of l = checkpoint_parts l tree in
@@ -404,7 +410,7 @@ first_no_file p id is = by_root (bytes_eq p root) (bytes_eq p trash) (sym (first
     by_root false true e = no_dir e
     by_root false false e = none_some (File id) e
 
-first_one_name : HasOneName first_logged
+pub first_one_name : HasOneName first_logged
 first_one_name =
     record {
       named = record {
@@ -417,13 +423,5 @@ first_one_name =
       copied = λ handle c is. none_some c (sym (table.get-empty nat_cmp handle) ∙ is);
     }
 
-pub one_name_kept : IsKeptByRecords HasOneName
-one_name_kept =
-    record {
-      new = first_one_name;
-      epochs = λ l epoch h. record { named = h.named; copied = h.copied };
-      records = records_keep;
-      checkpoint = checkpoint_keep;
-      less = λ l handles h. record { named = h.named; copied = λ handle c is. h.copied handle c (removed_cases l.copies handles handle c is) };
-      rows = λ l chunks h. record { named = h.named; copied = h.copied };
-    }
+pub less_keep : (l : Logged) (handles : List ℕ) → HasOneName l → HasOneName (copies_given_up l handles)
+less_keep l handles h = record { named = h.named; copied = λ handle c is. h.copied handle c (removed_cases l.copies handles handle c is) }

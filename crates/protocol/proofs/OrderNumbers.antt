@@ -51,7 +51,7 @@ plain_epoch l (log.Counters next_file next_handle epoch) is = absurd is
 plain_epoch l (log.Grant handle version primary members) is = swapped_epoch _ handle.0 (table.get l.copies handle.0)
 plain_epoch l other is = refl
 
-due_plain : (l : Logged) (r : Record) → IsDue l r → IsPlain r
+due_plain : (l : Logged) (r : Record) → IsDue ⊥ l r → IsPlain r
 due_plain l (log.Epoch epoch) due = due
 due_plain l (log.Counters next_file next_handle epoch) due = due
 due_plain l other due = tt
@@ -182,7 +182,8 @@ numbers_keep start epoch before =
       grants = λ c primary handle version until members told h. ordered c primary (λ order. body.Grant order (handle_of handle) (version_of version) until members) (λ o. refl) h;
       appends = λ c r due names h. appended c r due h;
       checkpoint = λ c tree h. checkpointed c h;
-      less = λ c handles h.
+      sound = λ asks. absurd asks;
+      less = λ c handles copied h.
           record { up = h.up; none = h.none; logged = h.logged; disk = h.disk; on_disk = h.on_disk; stops = h.stops; rising = h.rising; once = h.once; used = h.used };
       ends = λ c handle moment h.
           record { up = h.up; none = h.none; logged = h.logged; disk = h.disk; on_disk = h.on_disk; stops = h.stops; rising = h.rising; once = h.once; used = h.used };
@@ -203,7 +204,7 @@ numbers_keep start epoch before =
           stops = stops_push (λ d. epoch_of d ≡ epoch) start c.changes x h.stops (subst (λ (d : LogDisk). epoch_of (log_changed d x) ≡ epoch) (sym h.disk) there);
         }
 
-    appended : (c : Core) (r : Record) → IsDue c.logged r → Numbers start epoch before c
+    appended : (c : Core) (r : Record) → IsDue ⊥ c.logged r → Numbers start epoch before c
         → Numbers start epoch before (record (core_changed c (AppendRecord r)) { logged = after_record c.logged r })
     appended c r due h =
         let plain = due_plain c.logged r due in

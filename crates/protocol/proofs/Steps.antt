@@ -40,6 +40,47 @@ kept_cases {X} t k q x h = split (q == k) refl (sym (table.get-remove nat_cmp_to
     split true e g = absurd (let none : None ≡ Some x = g in cc)
     split false e g = g
 
+pub same_or_not : (a b : ℕ) → (a ≡ b) ⊎ (a ≡ b → ⊥)
+same_or_not a b = by_test (a == b) refl
+  where
+    by_test : (t : Bool) → (a == b) ≡ t → (a ≡ b) ⊎ (a ≡ b → ⊥)
+    by_test true e = inl (eqb-true a b e)
+    by_test false e = inr (eqb-false a b e)
+
+pub put_there : {X : Type 0} (t : Table X) (k : ℕ) (v : X) (q : ℕ) → q ≡ k → table.get (table.insert t k v) q ≡ Some v
+put_there {X} t k v q same = split (q == k) refl (table.get-insert nat_cmp_total t k v q ∙ ap (λ b. cond b (Some v) (table.get t q)) (unsigned_tied q k))
+  where
+    split : (b : Bool) → (q == k) ≡ b → table.get (table.insert t k v) q ≡ cond b (Some v) (table.get t q) → table.get (table.insert t k v) q ≡ Some v
+    split true e g = g
+    split false e g = absurd (eqb-false q k e same)
+
+pub put_other : {X : Type 0} (t : Table X) (k : ℕ) (v : X) (q : ℕ) → (q ≡ k → ⊥) → table.get (table.insert t k v) q ≡ table.get t q
+put_other {X} t k v q other = split (q == k) refl (table.get-insert nat_cmp_total t k v q ∙ ap (λ b. cond b (Some v) (table.get t q)) (unsigned_tied q k))
+  where
+    split : (b : Bool) → (q == k) ≡ b → table.get (table.insert t k v) q ≡ cond b (Some v) (table.get t q) → table.get (table.insert t k v) q ≡ table.get t q
+    split true e g = absurd (other (eqb-true q k e))
+    split false e g = g
+
+pub gone_there : {X : Type 0} (t : Table X) (k q : ℕ) → q ≡ k → table.get (table.remove t k) q ≡ None
+gone_there {X} t k q same = split (q == k) refl (table.get-remove nat_cmp_total t k q ∙ ap (λ b. cond b None (table.get t q)) (unsigned_tied q k))
+  where
+    split : (b : Bool) → (q == k) ≡ b → table.get (table.remove t k) q ≡ cond b None (table.get t q) → table.get (table.remove t k) q ≡ None
+    split true e g = g
+    split false e g = absurd (eqb-false q k e same)
+
+pub gone_other : {X : Type 0} (t : Table X) (k q : ℕ) → (q ≡ k → ⊥) → table.get (table.remove t k) q ≡ table.get t q
+gone_other {X} t k q other = split (q == k) refl (table.get-remove nat_cmp_total t k q ∙ ap (λ b. cond b None (table.get t q)) (unsigned_tied q k))
+  where
+    split : (b : Bool) → (q == k) ≡ b → table.get (table.remove t k) q ≡ cond b None (table.get t q) → table.get (table.remove t k) q ≡ table.get t q
+    split true e g = absurd (other (eqb-true q k e))
+    split false e g = g
+
+pub gone_split : {X : Type 0} (t : Table X) (k q : ℕ) (x : X) → table.get (table.remove t k) q ≡ Some x → (q ≡ k → ⊥) × (table.get t q ≡ Some x)
+gone_split t k q x h = elim (same_or_not q k) [
+  | inl same ↦ none_some x (sym (gone_there t k q same) ∙ h)
+  | inr other ↦ (other, sym (gone_other t k q other) ∙ h)
+]
+
 -- what is left in a table without these numbers was there
 pub removed_cases : {X : Type 0} (t : Table X) (ns : List ℕ) (q : ℕ) (x : X) → table.get (removed_all t ns) q ≡ Some x → table.get t q ≡ Some x
 removed_cases t [] q x h = h

@@ -1,6 +1,6 @@
 -- Laws of every lawful list of events, restarts, losses and repeats included, that public functions of this crate state.
-use Rattle.std.specs.Prelude.{◌≡◌, ◌⊎◌, ℕ, ◌≤◌, ◌<◌, Bool, false, ◌==◌, ◌&&◌, List, count_by, Option, Some, None, IsTrue}
-use Rattle.std.specs.List.{list_any}
+use Rattle.std.specs.Prelude.{◌≡◌, ◌⊎◌, ℕ, ◌≤◌, ◌<◌, Bool, false, ◌==◌, ◌&&◌, List, count_by, option_map, Option, Some, None, IsTrue}
+use Rattle.std.specs.List.{list_any, sum_by}
 use Rattle.std.specs.FinMap as table
 use Rattle.gfs_types.specs.declared.config.Config.{Config}
 use Rattle.gfs_types.specs.declared.ids.OrderNo.{OrderNo}
@@ -13,11 +13,11 @@ use Rattle.gfs_types.specs.declared.message.Body.{Body}
 use Rattle.gfs_types.specs.declared.message.Body.TheVariants as body
 use Rattle.gfs_types.specs.Paths.{Path}
 use Rattle.relaxed_file.specs.Names.{Names, File, IsTree, node_at}
-use Rattle.protocol.specs.Tables.{element_at, has_number}
+use Rattle.protocol.specs.Tables.{Table, element_at, has_number}
 use Rattle.protocol.specs.Sending.{the_server}
 use Rattle.protocol.specs.Choice.{Choice}
-use Rattle.protocol.specs.ChunkTable.{ChunkRow, chunk_of}
-use Rattle.protocol.specs.Logged.{Logged, replayed}
+use Rattle.protocol.specs.ChunkTable.{ChunkRow, ChunkTable, chunk_of}
+use Rattle.protocol.specs.Logged.{Logged, all_copies_given_up, replayed}
 use Rattle.protocol.specs.Server.{ServerState}
 use Rattle.protocol.specs.World.{WorldState, after_events, IsReached}
 
@@ -96,6 +96,11 @@ abbrev pub LogHasTheNames : Type 0
 LogHasTheNames =
     (config : Config) (servers clients : ℕ) (w : WorldState) → IsReached config servers clients w → IsTrue w.master.up → HaveSameNames w.master.logged (replayed w.master.disk)
 
+-- The log, replayed, has the files of a master that is up, with their lists of chunks (sections 2.6.1 and 2.6.3).
+abbrev pub LogHasTheFiles : Type 0
+LogHasTheFiles =
+    (config : Config) (servers clients : ℕ) (w : WorldState) → IsReached config servers clients w → IsTrue w.master.up → w.master.logged.table.files ≡ (replayed w.master.disk).table.files
+
 -- the path is a name of the file
 abbrev pub IsNamed : Names → Path → ℕ → Type 0
 IsNamed names path file = node_at names path ≡ Some (File file)
@@ -111,3 +116,32 @@ abbrev pub FilesHaveOneName : Type 0
 FilesHaveOneName =
     (config : Config) (servers clients : ℕ) (w : WorldState) → IsReached config servers clients w → IsTrue w.master.up
     → EachFileHasOneName w.master.logged × EachFileHasOneName (replayed w.master.disk)
+
+-- how many times a handle stands in files
+abbrev pub times_in : Table (List ℕ) → ℕ → ℕ
+times_in files handle = sum_by (λ e. count_by (λ h. h == handle) e.1) (table.entries files)
+
+-- each chunk has as many references as its handle stands in files, and what stands in a file is a chunk
+abbrev pub HasAllReferences : ChunkTable → Type 0
+HasAllReferences t =
+    ((handle : ℕ) (row : ChunkRow) → chunk_of t handle ≡ Some row → row.references ≡ times_in t.files handle)
+    × ((handle : ℕ) → 1 ≤ times_in t.files handle → IsTrue (table.contains_key t.chunks handle))
+
+-- At a master that is up each chunk has as many references as its handle stands in files, and what stands in a file is a chunk; and so in its log, replayed (section 3.4).
+abbrev pub ReferencesAreCounted : Type 0
+ReferencesAreCounted =
+    (config : Config) (servers clients : ℕ) (w : WorldState) → IsReached config servers clients w → IsTrue w.master.up
+    → HasAllReferences w.master.logged.table × HasAllReferences (replayed w.master.disk).table
+
+-- a chunk's row, the end of its lease aside
+abbrev pub row_but_end : ChunkRow → ChunkRow
+row_but_end row = record row { lease_end = 0 }
+
+abbrev pub chunk_but_end : ChunkTable → ℕ → Option ChunkRow
+chunk_but_end t handle = option_map row_but_end (chunk_of t handle)
+
+-- The log, replayed, has the chunks of a master that is up, but for the ends of leases and for copies under way, which a restart gives up (sections 2.6.3 and 3.4).
+abbrev pub LogHasTheChunks : Type 0
+LogHasTheChunks =
+    (config : Config) (servers clients : ℕ) (w : WorldState) → IsReached config servers clients w → IsTrue w.master.up
+    → (handle : ℕ) → chunk_but_end (all_copies_given_up w.master.logged).table handle ≡ chunk_but_end (replayed w.master.disk).table handle

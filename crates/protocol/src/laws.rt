@@ -1,6 +1,6 @@
 //! Laws of every lawful list of events from a new cell: calls, deliveries, losses, repeats, ticks, restarts, stops in a step, refused memory and rot.
 
-ghost use Rattle.protocol.specs.Laws.{FilesHaveOneName, GrantedIsAtMostIssued, LogHasTheNames, MasterNamesAreATree, MembersRecordedWhatIsGranted, OrderNumbersNeverFall, OrdersAreNumberedOnce};
+ghost use Rattle.protocol.specs.Laws.{FilesHaveOneName, GrantedIsAtMostIssued, LogHasTheChunks, LogHasTheFiles, LogHasTheNames, MasterNamesAreATree, MembersRecordedWhatIsGranted, OrderNumbersNeverFall, OrdersAreNumberedOnce, ReferencesAreCounted};
 
 /// No two orders of the master have one number, over its restarts and stops too.
 pub fn orders_are_numbered_once()
@@ -27,12 +27,27 @@ pub fn master_names_are_a_tree()
     ensures { MasterNamesAreATree }
 {}
 
-/// The log, replayed, has the names, counters, epoch and kept answers of a master that is up. It says nothing of files and chunks.
+/// The log, replayed, has the names, counters, epoch and kept answers of a master that is up.
 pub fn log_has_the_names()
     ensures { LogHasTheNames }
+{}
+
+/// The log, replayed, has the files of a master that is up, with their lists of chunks.
+pub fn log_has_the_files()
+    ensures { LogHasTheFiles }
 {}
 
 /// At a master that is up each file has just one name, and each name's file is there; and so in its log, replayed.
 pub fn files_have_one_name()
     ensures { FilesHaveOneName }
+{}
+
+/// At a master that is up each chunk has as many references as its handle stands in files, and what stands in a file is a chunk; and so in its log, replayed.
+pub fn references_are_counted()
+    ensures { ReferencesAreCounted }
+{}
+
+/// The log, replayed, has the chunks of a master that is up, but for the ends of leases and for copies under way, which a restart gives up.
+pub fn log_has_the_chunks()
+    ensures { LogHasTheChunks }
 {}
