@@ -4,8 +4,8 @@ use Rattle.std.proofs.lemmas.Bool.Decides.{nat_tests}
 use Rattle.std.specs.Prelude.{suc, if◌then◌else◌, ◌==◌}
 use Rattle.gfs_types.specs.declared.answer.Answer.{Answer}
 use Rattle.gfs_types.specs.declared.call.Call.{Call}
-use Rattle.gfs_types.specs.declared.event.Input.{Input}
-use Rattle.gfs_types.specs.declared.message.Message.{Message}
+use Rattle.messages.specs.declared.event.Input.{Input}
+use Rattle.messages.specs.declared.message.Message.{Message}
 use Rattle.gfs_types.specs.declared.ids.ServerId.{ServerId}
 use Rattle.gfs_types.specs.declared.ids.ClientId.{ClientId}
 use Rattle.gfs_types.specs.declared.ids.Node.TheVariants as node

@@ -2,7 +2,7 @@
 use Rattle.std.proofs.Common.{◌≡◌, List, [], ◌∷◌, ◌++◌, Option, Some, None, refl, sym, ap, ◌∙◌, append_assoc, length, drop, arith}
 use Rattle.std.proofs.lemmas.List.{append-nil}
 use Rattle.gfs_types.specs.declared.answer.Answer.{Answer}
-use Rattle.gfs_types.specs.declared.event.Event.{Event}
+use Rattle.messages.specs.declared.event.Event.{Event}
 use Rattle.cell_protocol.specs.World.{WorldState, IsExplained}
 use Rattle.cell_protocol.specs.Conforms.{WorldSteps, WorldRuns}
 use Rattle.cell_protocol.proofs.Reached.{reached_on, runs_none, runs_step}

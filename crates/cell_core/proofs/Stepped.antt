@@ -4,16 +4,16 @@ use Rattle.std.specs.Prelude.{if◌then◌else◌, ◌==◌, nat_le}
 use Rattle.std.proofs.lemmas.Bool.Decides.{nat_tests}
 use Rattle.gfs_types.specs.declared.answer.Answer.{Answer}
 use Rattle.gfs_types.specs.declared.call.Call.{Call}
-use Rattle.gfs_types.specs.declared.message.Message.{Message}
+use Rattle.messages.specs.declared.message.Message.{Message}
 use Rattle.gfs_types.specs.declared.ids.ClientId.{ClientId}
 use Rattle.gfs_types.specs.declared.ids.Moment.{Moment}
 use Rattle.gfs_types.specs.declared.ids.Node.{Node}
 use Rattle.gfs_types.specs.declared.ids.ServerId.{ServerId}
 use Rattle.gfs_types.specs.declared.ids.Handle.{Handle}
-use Rattle.gfs_types.specs.declared.event.Torn.{Torn}
-use Rattle.gfs_types.specs.declared.event.Event.{Event}
-use Rattle.gfs_types.specs.declared.event.Event.TheVariants as event
-use Rattle.gfs_types.specs.declared.event.Input.TheVariants as input
+use Rattle.gfs_types.specs.declared.torn.Torn.{Torn}
+use Rattle.messages.specs.declared.event.Event.{Event}
+use Rattle.messages.specs.declared.event.Event.TheVariants as event
+use Rattle.messages.specs.declared.event.Input.TheVariants as input
 use Rattle.cell_protocol.specs.Tables.{moment_limit, numbered_from_1}
 use Rattle.cell_protocol.specs.Doing.{input_of, message_named}
 use Rattle.cell_protocol.specs.World.{WorldState, Happened, nothing_happens, moves, delivered, call_moves, at_moment, happens}

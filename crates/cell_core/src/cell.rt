@@ -1,7 +1,7 @@
 //! The nodes, the messages between them, and the observer.
 
 ghost use Rattle.std.specs.Prelude.{◌≡◌, ◌≤◌, ◌<◌, ◌++◌, Some, None, false, IfOk, OnOk, OnErr};
-ghost use Rattle.gfs_types.specs.declared.event.Event.TheVariants as event;
+ghost use Rattle.messages.specs.declared.event.Event.TheVariants as event;
 ghost use Rattle.gfs_types.specs.declared.ids.Node.TheVariants as node_kind;
 ghost use Rattle.cell_protocol.specs.Doing.{input_of, message_named};
 ghost use Rattle.cell_protocol.specs.Moving.{Moves};
@@ -20,7 +20,7 @@ use client::client::Client;
 use gfs_types::answer::Answer;
 use gfs_types::call::Call;
 use gfs_types::config::Config;
-use gfs_types::event::{Event, StepOut};
+use messages::event::{Event, StepOut};
 use gfs_types::ids::{Moment, Node};
 use gfs_types::no_memory::NoMemory;
 use master_cell::master::{Master, NamesFault};

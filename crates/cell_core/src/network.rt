@@ -6,8 +6,8 @@ ghost use Rattle.cell_protocol.specs.Tables.{numbered_from_1};
 ghost use Rattle.cell_protocol.specs.Doing.{message_named};
 ghost use Rattle.cell_protocol.specs.World.{all_sent, stamped};
 
-use gfs_types::message::Message;
-use gfs_types::message_lists::MessageList;
+use messages::message::Message;
+use messages::message_lists::MessageList;
 use gfs_types::no_memory::NoMemory;
 use std::alloc::Global;
 use std::marker::Model;
@@ -19,7 +19,7 @@ pub struct Network {
 
 impl Model for Network {
     ghost use Rattle.std.specs.Prelude.{List};
-    ghost use Rattle.gfs_types.specs.declared.message.Message.{Message};
+    ghost use Rattle.messages.specs.declared.message.Message.{Message};
 
     ghost Value = { List Message };
 

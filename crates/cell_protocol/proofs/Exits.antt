@@ -1,6 +1,6 @@
 -- The exits at which a node is put down for want of memory.
 use Rattle.std.proofs.Common.{ℕ, false, [], None, refl}
-use Rattle.gfs_types.specs.declared.event.Input.{Input}
+use Rattle.messages.specs.declared.event.Input.{Input}
 use Rattle.cell_protocol.specs.Choice.{Lost}
 use Rattle.cell_protocol.specs.Seen.{down_output}
 use Rattle.cell_protocol.specs.Server.{ServerState}

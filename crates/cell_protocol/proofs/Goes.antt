@@ -4,7 +4,7 @@ use Rattle.std.specs.Prelude.{is_none, ◌&&◌}
 use Rattle.gfs_types.specs.declared.call.Call.{Call}
 use Rattle.gfs_types.specs.declared.answer.Answer.TheVariants as answer
 use Rattle.gfs_types.specs.declared.refusal.Refusal.TheVariants.{NoMemory}
-use Rattle.gfs_types.specs.declared.event.Input.{Input}
+use Rattle.messages.specs.declared.event.Input.{Input}
 use Rattle.cell_protocol.specs.declared.effects.Effects.{Effects}
 use Rattle.cell_protocol.specs.Choice.{Goes}
 use Rattle.cell_protocol.specs.Seen.{Does, ends}

@@ -2,7 +2,7 @@
 use Rattle.std.proofs.Common.{◌≡◌, List, [], ◌∷◌, ◌++◌, Option, refl, sym, ap, ◌∙◌}
 use Rattle.std.specs.Option.{option_to_list}
 use Rattle.gfs_types.specs.declared.config.Config.{Config}
-use Rattle.gfs_types.specs.declared.event.Event.{Event}
+use Rattle.messages.specs.declared.event.Event.{Event}
 use Rattle.gfs_types.specs.declared.answer.Answer.{Answer}
 use Rattle.cell_protocol.specs.Choice.{Choice}
 use Rattle.cell_protocol.specs.World.{WorldState, Happened, new_world, happens, after_events, IsReached}

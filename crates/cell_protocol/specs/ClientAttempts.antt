@@ -6,15 +6,15 @@ use Rattle.gfs_types.specs.declared.call.Call.TheVariants as call
 use Rattle.gfs_types.specs.declared.answer.Answer.TheVariants as answer
 use Rattle.gfs_types.specs.declared.refusal.Refusal.{Refusal}
 use Rattle.gfs_types.specs.declared.refusal.Refusal.TheVariants.{NoReplica, Failed, Unknown}
-use Rattle.gfs_types.specs.declared.message.Body.{Body}
-use Rattle.gfs_types.specs.declared.message.Body.TheVariants as body
-use Rattle.gfs_types.specs.declared.message.Wanted.{Wanted}
-use Rattle.gfs_types.specs.declared.message.Wanted.TheVariants as wanted
-use Rattle.gfs_types.specs.declared.message.Target.{Target}
-use Rattle.gfs_types.specs.declared.message.Target.TheVariants as target
-use Rattle.gfs_types.specs.declared.message.Location.{Location}
-use Rattle.gfs_types.specs.declared.message.Holder.{Holder}
-use Rattle.gfs_types.specs.declared.message.Group.{Group}
+use Rattle.messages.specs.declared.message.Body.{Body}
+use Rattle.messages.specs.declared.message.Body.TheVariants as body
+use Rattle.messages.specs.declared.message.Wanted.{Wanted}
+use Rattle.messages.specs.declared.message.Wanted.TheVariants as wanted
+use Rattle.messages.specs.declared.message.Target.{Target}
+use Rattle.messages.specs.declared.message.Target.TheVariants as target
+use Rattle.messages.specs.declared.message.Location.{Location}
+use Rattle.messages.specs.declared.message.Holder.{Holder}
+use Rattle.messages.specs.declared.message.Group.{Group}
 use Rattle.relaxed_file.specs.NameStep.{is_look}
 use Rattle.cell_protocol.specs.declared.stage.Stage.TheVariants.{AskedNames, AskedWhere, MustAskAgain, SentData, SentRead, SentLength, MustRefuse}
 use Rattle.cell_protocol.specs.declared.stage.CurrentCall.{CurrentCall}

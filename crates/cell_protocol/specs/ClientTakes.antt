@@ -6,12 +6,12 @@ use Rattle.gfs_types.specs.declared.ids.FileId.{FileId}
 use Rattle.gfs_types.specs.declared.answer.Answer.TheVariants as answer
 use Rattle.gfs_types.specs.declared.refusal.Refusal.{Refusal}
 use Rattle.gfs_types.specs.declared.refusal.Refusal.TheVariants.{TooLong, Collected, NoChunk, NoLease, ChunkFull, Failed, NoReplica}
-use Rattle.gfs_types.specs.declared.message.NameReply.{NameReply}
-use Rattle.gfs_types.specs.declared.message.NameReply.TheVariants.{Opened, Answered}
-use Rattle.gfs_types.specs.declared.message.Body.{Body}
-use Rattle.gfs_types.specs.declared.message.Body.TheVariants as body
-use Rattle.gfs_types.specs.declared.message.Location.{Location}
-use Rattle.gfs_types.specs.declared.message.Holder.{Holder}
+use Rattle.messages.specs.declared.message.NameReply.{NameReply}
+use Rattle.messages.specs.declared.message.NameReply.TheVariants.{Opened, Answered}
+use Rattle.messages.specs.declared.message.Body.{Body}
+use Rattle.messages.specs.declared.message.Body.TheVariants as body
+use Rattle.messages.specs.declared.message.Location.{Location}
+use Rattle.messages.specs.declared.message.Holder.{Holder}
 use Rattle.relaxed_file.specs.Reads.{is_length_call}
 use Rattle.cell_protocol.specs.declared.stage.Stage.{Stage}
 use Rattle.cell_protocol.specs.declared.stage.Stage.TheVariants.{AskedNames, AskedWhere, MustAskAgain, SentData, SentMutate, SentRead, SentLength}

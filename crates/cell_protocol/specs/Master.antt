@@ -4,7 +4,7 @@ use Rattle.std.specs.FinMap as table
 use Rattle.gfs_types.specs.declared.config.Config.{Config}
 use Rattle.gfs_types.specs.declared.ids.Node.{Node}
 use Rattle.gfs_types.specs.declared.ids.Node.TheVariants as node
-use Rattle.gfs_types.specs.declared.message.Body.{Body}
+use Rattle.messages.specs.declared.message.Body.{Body}
 use Rattle.relaxed_file.specs.Names.{Names, first_names}
 use Rattle.cell_protocol.specs.declared.rows.ChunkRow.{ChunkRow}
 use Rattle.cell_protocol.specs.declared.rows.KeptCall.{KeptCall}

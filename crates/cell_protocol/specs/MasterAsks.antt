@@ -4,13 +4,13 @@ use Rattle.std.specs.FinMap as table
 use Rattle.gfs_types.specs.declared.ids.Node.{Node}
 use Rattle.gfs_types.specs.declared.ids.Node.TheVariants as node
 use Rattle.gfs_types.specs.declared.refusal.Refusal.TheVariants.{TooLong, Collected}
-use Rattle.gfs_types.specs.declared.message.Body.TheVariants as body
-use Rattle.gfs_types.specs.declared.message.Wanted.{Wanted}
-use Rattle.gfs_types.specs.declared.message.Wanted.TheVariants as wanted
-use Rattle.gfs_types.specs.declared.message.Holder.{Holder}
-use Rattle.gfs_types.specs.declared.message.Group.{Group}
-use Rattle.gfs_types.specs.declared.message.Location.{Location}
-use Rattle.gfs_types.specs.declared.message.Message.{Message}
+use Rattle.messages.specs.declared.message.Body.TheVariants as body
+use Rattle.messages.specs.declared.message.Wanted.{Wanted}
+use Rattle.messages.specs.declared.message.Wanted.TheVariants as wanted
+use Rattle.messages.specs.declared.message.Holder.{Holder}
+use Rattle.messages.specs.declared.message.Group.{Group}
+use Rattle.messages.specs.declared.message.Location.{Location}
+use Rattle.messages.specs.declared.message.Message.{Message}
 use Rattle.cell_protocol.specs.declared.rows.ChunkRow.{ChunkRow}
 use Rattle.cell_protocol.specs.Sending.{message, only_server, the_server, server_id, handle_of, version_of, order_no}
 use Rattle.cell_protocol.specs.Seen.{Does, stays}

@@ -2,8 +2,8 @@
 use Rattle.std.specs.Prelude.{ℕ, suc, ◌+◌, ◌==◌, ◌&&◌, if◌then◌else◌, [], ◌∷◌, Option, Some, None}
 use Rattle.std.specs.FinMap as table
 use Rattle.gfs_types.specs.declared.ids.Node.TheVariants as node
-use Rattle.gfs_types.specs.declared.message.Body.TheVariants as body
-use Rattle.gfs_types.specs.declared.message.Message.{Message}
+use Rattle.messages.specs.declared.message.Body.TheVariants as body
+use Rattle.messages.specs.declared.message.Message.{Message}
 use Rattle.cell_protocol.specs.declared.rows.ChunkRow.{ChunkRow}
 use Rattle.cell_protocol.specs.Sending.{message, only_server, the_server, handle_of, version_of, moment_of, order_no}
 use Rattle.cell_protocol.specs.Seen.{Does, stays, sends_one}

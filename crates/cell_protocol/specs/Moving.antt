@@ -2,7 +2,7 @@
 use Rattle.std.specs.Prelude.{◌≡◌, ℕ, Option}
 use Rattle.gfs_types.specs.declared.ids.Node.{Node}
 use Rattle.gfs_types.specs.declared.answer.Answer.{Answer}
-use Rattle.gfs_types.specs.declared.event.Input.{Input}
+use Rattle.messages.specs.declared.event.Input.{Input}
 use Rattle.cell_protocol.specs.Choice.{Choice}
 use Rattle.cell_protocol.specs.World.{WorldState, moves}
 

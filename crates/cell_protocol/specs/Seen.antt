@@ -1,8 +1,8 @@
 -- A step of a node as it was taken, and what an observer sees of it beside its messages and its answer. No node reads it.
 use Rattle.std.specs.Prelude.{true, false, List, [], ◌∷◌, Option, Some, None}
 use Rattle.gfs_types.specs.declared.answer.Answer.{Answer}
-use Rattle.gfs_types.specs.declared.message.Message.{Message}
-use Rattle.gfs_types.specs.declared.event.StepOut.{StepOut}
+use Rattle.messages.specs.declared.message.Message.{Message}
+use Rattle.messages.specs.declared.event.StepOut.{StepOut}
 use Rattle.cell_protocol.specs.Choice.{Choice, Ending, Goes, Lost, in_order}
 use Rattle.cell_protocol.specs.declared.seen.Numbering.{Numbering}
 

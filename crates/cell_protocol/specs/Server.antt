@@ -3,8 +3,8 @@ use Rattle.std.specs.Prelude.{ℕ, ◌+◌, Bool, nat_lt, max, List, [], ◌++�
 use Rattle.std.specs.FinMap as map
 use Rattle.gfs_types.specs.declared.config.Config.{Config}
 use Rattle.gfs_types.specs.declared.ids.Node.{Node}
-use Rattle.gfs_types.specs.declared.message.Body.{Body}
-use Rattle.gfs_types.specs.declared.message.Body.TheVariants as body
+use Rattle.messages.specs.declared.message.Body.{Body}
+use Rattle.messages.specs.declared.message.Body.TheVariants as body
 use Rattle.gfs_types.specs.declared.refusal.Refusal.{Refusal}
 use Rattle.data_push.specs.Buffers.{PushBuffer, push_buffer}
 use Rattle.cell_protocol.specs.Tables.{Table}

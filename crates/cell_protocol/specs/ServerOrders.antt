@@ -2,7 +2,7 @@
 use Rattle.std.specs.Prelude.{ℕ, ◌==◌, Bool, false, if◌then◌else◌, [], Option, Some, None}
 use Rattle.std.specs.FinMap as map
 use Rattle.gfs_types.specs.declared.ids.Node.TheVariants.{Master}
-use Rattle.gfs_types.specs.declared.message.Body.TheVariants as body
+use Rattle.messages.specs.declared.message.Body.TheVariants as body
 use Rattle.cell_protocol.specs.Sending.{handle_of, version_of}
 use Rattle.cell_protocol.specs.Seen.{Does, stays}
 use Rattle.cell_protocol.specs.declared.standing.LeaseHeld.{LeaseHeld}

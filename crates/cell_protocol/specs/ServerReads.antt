@@ -3,7 +3,7 @@ use Rattle.std.specs.Prelude.{ℕ, ◌==◌, if◌then◌else◌, List, take, dr
 use Rattle.std.specs.FinMap as map
 use Rattle.gfs_types.specs.declared.ids.Node.{Node}
 use Rattle.gfs_types.specs.declared.refusal.Refusal.TheVariants.{NoChunk, Version}
-use Rattle.gfs_types.specs.declared.message.Body.TheVariants as body
+use Rattle.messages.specs.declared.message.Body.TheVariants as body
 use Rattle.cell_protocol.specs.Seen.{Does}
 use Rattle.cell_protocol.specs.Server.{ServerState, Replica, server_says, server_refuses}
 

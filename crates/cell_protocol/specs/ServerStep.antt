@@ -1,10 +1,10 @@
 -- A step of a chunkserver (section 2.3).
 use Rattle.std.specs.Prelude.{ℕ, max}
-use Rattle.gfs_types.specs.declared.message.Body.{Body}
-use Rattle.gfs_types.specs.declared.message.Body.TheVariants as body
-use Rattle.gfs_types.specs.declared.message.Message.{Message}
-use Rattle.gfs_types.specs.declared.event.Input.{Input}
-use Rattle.gfs_types.specs.declared.event.Input.TheVariants as input
+use Rattle.messages.specs.declared.message.Body.{Body}
+use Rattle.messages.specs.declared.message.Body.TheVariants as body
+use Rattle.messages.specs.declared.message.Message.{Message}
+use Rattle.messages.specs.declared.event.Input.{Input}
+use Rattle.messages.specs.declared.event.Input.TheVariants as input
 use Rattle.cell_protocol.specs.Choice.{Choice}
 use Rattle.cell_protocol.specs.Seen.{Does, stays, Taken, ends}
 use Rattle.cell_protocol.specs.Server.{ServerState}

@@ -2,13 +2,13 @@
 
 ghost use Rattle.std.specs.Prelude.{◌≡◌, List, [], ◌∷◌, ◌++◌, Option, Some, None, false, true, IfOk, OnOk};
 ghost use Rattle.cell_protocol.specs.Seen.{down_output};
-ghost use Rattle.gfs_types.specs.declared.message.Message.{Message as MessageValue};
+ghost use Rattle.messages.specs.declared.message.Message.{Message as MessageValue};
 
 use crate::seen::Numbering;
 use gfs_types::answer::Answer;
-use gfs_types::event::StepOut;
-use gfs_types::message::Message;
-use gfs_types::message_lists::MessageList;
+use messages::event::StepOut;
+use messages::message::Message;
+use messages::message_lists::MessageList;
 use gfs_types::no_memory::NoMemory;
 use std::alloc::Global;
 

@@ -9,7 +9,7 @@ use Rattle.gfs_types.specs.declared.answer.Answer.TheVariants as answer
 use Rattle.gfs_types.specs.declared.refusal.Refusal.{Refusal}
 use Rattle.gfs_types.specs.declared.refusal.Refusal.TheVariants.{NoReplica, Failed, Unknown}
 use Rattle.gfs_types.specs.declared.ids.FileId.{FileId}
-use Rattle.gfs_types.specs.declared.message.Message.{Message}
+use Rattle.messages.specs.declared.message.Message.{Message}
 use Rattle.relaxed_file.specs.NameStep.{is_name_call}
 use Rattle.relaxed_file.specs.Machine.{Machine, OpenCall, Outcome, Opens, Replies, put}
 use Rattle.relaxed_file.specs.Run.{Visible, ReturnFd}

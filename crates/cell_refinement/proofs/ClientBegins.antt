@@ -7,7 +7,7 @@ use Rattle.std.proofs.lemmas.List.Elements.{All-weaker}
 use Rattle.gfs_types.specs.declared.call.Call.{Call}
 use Rattle.gfs_types.specs.declared.call.Call.TheVariants as call
 use Rattle.gfs_types.specs.declared.answer.Answer.{Answer}
-use Rattle.gfs_types.specs.declared.message.Message.{Message}
+use Rattle.messages.specs.declared.message.Message.{Message}
 use Rattle.gfs_types.specs.Mutations.{is_pad}
 use Rattle.relaxed_file.specs.Machine.{Machine, Client, OpenCall, Asked, Opens, put}
 use Rattle.relaxed_file.specs.Run.{IsRunTo, Visible, Called, asked_now, file_of}

@@ -7,7 +7,7 @@ use Rattle.gfs_types.specs.declared.call.Call.{Call}
 use Rattle.gfs_types.specs.declared.answer.Answer.{Answer}
 use Rattle.gfs_types.specs.declared.answer.Answer.TheVariants as answer
 use Rattle.gfs_types.specs.declared.refusal.Refusal.TheVariants.{TooLong, BadFd, NoMemory}
-use Rattle.gfs_types.specs.declared.message.Message.{Message}
+use Rattle.messages.specs.declared.message.Message.{Message}
 use Rattle.relaxed_file.specs.NameStep.{is_name_call, is_look}
 use Rattle.relaxed_file.specs.Machine.{Machine, OpenCall, put, chunk_count}
 use Rattle.relaxed_file.specs.Run.{IsRunTo, Visible, Called, Answered, Invoke, Return, invoked, asked_now, file_of}
@@ -23,7 +23,7 @@ use Rattle.cell_refinement.specs.Known.{Known, Attempt, IsChunkCall, HasNoEntry,
 use Rattle.cell_refinement.specs.Says.{Says, IsNameOf}
 use Rattle.cell_refinement.specs.Simulates.{IsClient, FitsStage, IsCurrent, Holds}
 use Rattle.gfs_types.specs.declared.ids.Node.TheVariants.{Master}
-use Rattle.gfs_types.specs.declared.message.Body.TheVariants as body
+use Rattle.messages.specs.declared.message.Body.TheVariants as body
 use Rattle.cell_protocol.specs.Client.{goes_on}
 use Rattle.cell_refinement.proofs.Later.{IsWaiting}
 use Rattle.cell_refinement.proofs.ClientActs.{acting, some_at}

@@ -3,7 +3,7 @@ use Rattle.std.proofs.Common.{◌≡◌, ℕ, ◌+◌, ◌≤◌, List, ◌++◌
 use Rattle.std.specs.Prelude.{All, Contains, IsTrue, ◌⊎◌}
 use Rattle.std.specs.FinMap as table
 use Rattle.relaxed_file.specs.NameStep.{is_name_call}
-use Rattle.gfs_types.specs.declared.message.Message.{Message}
+use Rattle.messages.specs.declared.message.Message.{Message}
 use Rattle.relaxed_file.specs.Machine.{Machine, Client, OpenCall, Asked, Opens}
 use Rattle.relaxed_file.specs.Run.{IsRunTo, Visible}
 use Rattle.cell_protocol.specs.declared.stage.Stage.TheVariants as stage

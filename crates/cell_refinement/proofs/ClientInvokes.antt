@@ -10,7 +10,7 @@ use Rattle.gfs_types.specs.declared.call.Call.TheVariants as call
 use Rattle.gfs_types.specs.declared.ids.Fd.{Fd}
 use Rattle.gfs_types.specs.declared.answer.Answer.TheVariants as answer
 use Rattle.gfs_types.specs.declared.refusal.Refusal.TheVariants.{NoMemory}
-use Rattle.gfs_types.specs.declared.message.Message.{Message}
+use Rattle.messages.specs.declared.message.Message.{Message}
 use Rattle.relaxed_file.specs.Parts.{has_part, is_range_too_long, leaves_chunk}
 use Rattle.relaxed_file.specs.Machine.{OpenCall}
 use Rattle.relaxed_file.specs.Run.{Visible, Called, file_of, invoked}

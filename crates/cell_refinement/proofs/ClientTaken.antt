@@ -8,11 +8,11 @@ use Rattle.gfs_types.specs.declared.call.Call.{Call}
 use Rattle.gfs_types.specs.declared.call.Call.TheVariants as call
 use Rattle.gfs_types.specs.declared.answer.Answer.TheVariants as answer
 use Rattle.gfs_types.specs.declared.mutation.Mutation.{Mutation}
-use Rattle.gfs_types.specs.declared.message.Target.{Target}
+use Rattle.messages.specs.declared.message.Target.{Target}
 use Rattle.gfs_types.specs.declared.refusal.Refusal.{Refusal}
 use Rattle.gfs_types.specs.declared.refusal.Refusal.TheVariants.{NoReplica, Failed, TooLong, Collected, NoChunk, NoLease, ChunkFull}
 use Rattle.gfs_types.specs.declared.ids.DataId.{DataId}
-use Rattle.gfs_types.specs.declared.message.Message.{Message}
+use Rattle.messages.specs.declared.message.Message.{Message}
 use Rattle.relaxed_file.specs.Order.{CallId, same_call}
 use Rattle.relaxed_file.specs.Machine.{Machine, OpenCall, Asked}
 use Rattle.relaxed_file.specs.Reads.{is_length_call}

@@ -7,10 +7,10 @@ use Rattle.gfs_types.specs.declared.config.Config.{Config}
 use Rattle.gfs_types.specs.declared.call.Call.{Call}
 use Rattle.gfs_types.specs.declared.call.Call.TheVariants as call
 use Rattle.gfs_types.specs.declared.answer.Answer.TheVariants as answer
-use Rattle.gfs_types.specs.declared.message.Message.{Message}
-use Rattle.gfs_types.specs.declared.message.Location.{Location}
-use Rattle.gfs_types.specs.declared.message.Holder.{Holder}
-use Rattle.gfs_types.specs.declared.message.Group.{Group}
+use Rattle.messages.specs.declared.message.Message.{Message}
+use Rattle.messages.specs.declared.message.Location.{Location}
+use Rattle.messages.specs.declared.message.Holder.{Holder}
+use Rattle.messages.specs.declared.message.Group.{Group}
 use Rattle.relaxed_file.specs.Machine.{Client, OpenCall, NoSuchChunk, Piece, put}
 use Rattle.relaxed_file.specs.Reads.{noted, looked_past, is_length_call, measured_none}
 use Rattle.relaxed_file.specs.Run.{IsRunTo, Visible, Note, LookPast, MeasureNone}

@@ -5,7 +5,7 @@ use Rattle.std.proofs.lemmas.Option.{same_Some}
 use Rattle.std.proofs.lemmas.Bool.{cases_eq}
 use Rattle.std.proofs.lemmas.List.Elements.{All-weaker}
 use Rattle.gfs_types.specs.declared.call.Call.{Call}
-use Rattle.gfs_types.specs.declared.message.Message.{Message}
+use Rattle.messages.specs.declared.message.Message.{Message}
 use Rattle.relaxed_file.specs.Machine.{OpenCall, Asked, Opens}
 use Rattle.relaxed_file.specs.Run.{Visible, Called, Invoke, invoked, asked_now}
 use Rattle.relaxed_file.proofs.GoingOn.{runs_go_on}

@@ -5,8 +5,8 @@ use Rattle.std.proofs.lemmas.List.Elements.{All-nil, All-cons}
 use Rattle.std.specs.FinMap as table
 use Rattle.gfs_types.specs.declared.ids.Node.TheVariants as node
 use Rattle.gfs_types.specs.declared.call.Call.{Call}
-use Rattle.gfs_types.specs.declared.message.Body.TheVariants as body
-use Rattle.gfs_types.specs.declared.message.Message.{Message}
+use Rattle.messages.specs.declared.message.Body.TheVariants as body
+use Rattle.messages.specs.declared.message.Message.{Message}
 use Rattle.relaxed_file.specs.Machine.{Machine, FileState, Chunk, new_chunk, OpenCall, Asked, Opens, chunk_at, chunk_count, put}
 use Rattle.relaxed_file.specs.Chunks.{NeedsChunk, chunk_added, begun_call}
 use Rattle.relaxed_file.specs.Run.{IsRunTo, Visible, Add, after, asked_file}

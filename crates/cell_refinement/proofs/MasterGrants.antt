@@ -2,7 +2,7 @@
 use Rattle.std.proofs.Common.{◌≡◌, ℕ, ◌<◌, ◌≤◌, true, false, cond, List, Option, Some, None, refl, sym, ap, ◌∙◌, subst, inl, inr, arith, append-nil}
 use Rattle.std.specs.Prelude.{IsFalse, ◌⊎◌, ◌==◌, ◌&&◌}
 use Rattle.std.specs.FinMap as table
-use Rattle.gfs_types.specs.declared.message.Message.{Message}
+use Rattle.messages.specs.declared.message.Message.{Message}
 use Rattle.relaxed_file.specs.Machine.{Machine, FileState, Chunk, new_chunk, chunk_count, with_chunk, put}
 use Rattle.relaxed_file.specs.Run.{IsRunTo, Visible, OpenRound}
 use Rattle.relaxed_file.proofs.GoingOn.{runs_go_on}

@@ -5,13 +5,13 @@ use Rattle.gfs_types.specs.declared.ids.Node.{Node as NodeId}
 use Rattle.gfs_types.specs.declared.call.Call.{Call}
 use Rattle.gfs_types.specs.declared.call.Call.TheVariants as call
 use Rattle.gfs_types.specs.declared.refusal.Refusal.{Refusal}
-use Rattle.gfs_types.specs.declared.message.Message.{Message}
+use Rattle.messages.specs.declared.message.Message.{Message}
 use Rattle.relaxed_file.specs.Names.{Node, Dir, File, node_at}
 use Rattle.relaxed_file.specs.Machine.{Machine, OpenCall, Outcome, Opens, Replies}
 use Rattle.relaxed_file.specs.NameStep.{is_look, is_name_call, is_refused, MayTakeEffect, performed, with_outcome, outcome_of, outcome_by, done_outcome, opened, refusal_of}
 use Rattle.relaxed_file.specs.Run.{IsRunTo, Visible}
 use Rattle.gfs_types.specs.declared.ids.Node.TheVariants as node
-use Rattle.gfs_types.specs.declared.message.Body.TheVariants as body
+use Rattle.messages.specs.declared.message.Body.TheVariants as body
 use Rattle.cell_protocol.specs.Sending.{only_client, message}
 use Rattle.cell_protocol.specs.Seen.{stays, sends_one}
 use Rattle.cell_protocol.specs.Master.{MasterState}

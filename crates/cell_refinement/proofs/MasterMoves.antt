@@ -2,7 +2,7 @@
 use Rattle.std.proofs.Common.{◌≡◌, ℕ, ◌<◌, ◌≤◌, List, [], Option, Some, None, refl, sym, ap, ◌∙◌, subst, inl, inr, arith}
 use Rattle.std.specs.Prelude.{All, Contains, IfSome, IsTrue, IsFalse, ◌⊎◌}
 use Rattle.gfs_types.specs.declared.call.Call.{Call}
-use Rattle.gfs_types.specs.declared.message.Message.{Message}
+use Rattle.messages.specs.declared.message.Message.{Message}
 use Rattle.relaxed_file.specs.Names.{File, node_at}
 use Rattle.relaxed_file.specs.Machine.{Machine, Chunk, OpenCall, Opens, new_chunk, chunk_count}
 use Rattle.relaxed_file.specs.Run.{IsRunTo, Visible}

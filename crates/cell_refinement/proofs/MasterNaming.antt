@@ -11,7 +11,7 @@ use Rattle.gfs_types.specs.declared.call.Call.TheVariants as call
 use Rattle.gfs_types.specs.declared.answer.Answer.TheVariants as answer
 use Rattle.gfs_types.specs.declared.refusal.Refusal.{Refusal}
 use Rattle.gfs_types.specs.declared.refusal.Refusal.TheVariants.{NamesFull}
-use Rattle.gfs_types.specs.declared.message.Message.{Message}
+use Rattle.messages.specs.declared.message.Message.{Message}
 use Rattle.gfs_types.specs.Paths.{Path}
 use Rattle.relaxed_file.specs.Names.{Names, Node, Dir, File, node_at}
 use Rattle.relaxed_file.specs.Machine.{Machine, FileState, new_file, OpenCall, Opens, Replies, put, chunk_count}

@@ -4,8 +4,8 @@ use Rattle.std.specs.Prelude.{IfSome, IsTrue, ◌⊎◌}
 use Rattle.std.proofs.lemmas.List.Elements.{All-nil}
 use Rattle.gfs_types.specs.declared.ids.Node.{Node}
 use Rattle.gfs_types.specs.declared.call.Call.{Call}
-use Rattle.gfs_types.specs.declared.message.Message.{Message}
-use Rattle.gfs_types.specs.declared.message.NameReply.TheVariants.{Answered}
+use Rattle.messages.specs.declared.message.Message.{Message}
+use Rattle.messages.specs.declared.message.NameReply.TheVariants.{Answered}
 use Rattle.relaxed_file.specs.NameStep.{is_look}
 use Rattle.relaxed_file.specs.Run.{Visible}
 use Rattle.cell_protocol.specs.declared.rows.KeptCall.{KeptCall}

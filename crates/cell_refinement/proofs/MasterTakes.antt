@@ -5,13 +5,13 @@ use Rattle.std.specs.FinMap as table
 use Rattle.gfs_types.specs.declared.call.Call.{Call}
 use Rattle.gfs_types.specs.declared.call.Call.TheVariants as call
 use Rattle.gfs_types.specs.declared.ids.Node.{Node}
-use Rattle.gfs_types.specs.declared.event.Input.{Input}
-use Rattle.gfs_types.specs.declared.event.Input.TheVariants as input
-use Rattle.gfs_types.specs.declared.message.Body.{Body}
-use Rattle.gfs_types.specs.declared.message.Body.TheVariants as body
-use Rattle.gfs_types.specs.declared.message.Message.{Message}
-use Rattle.gfs_types.specs.declared.message.Wanted.{Wanted}
-use Rattle.gfs_types.specs.declared.message.Wanted.TheVariants as wanted
+use Rattle.messages.specs.declared.event.Input.{Input}
+use Rattle.messages.specs.declared.event.Input.TheVariants as input
+use Rattle.messages.specs.declared.message.Body.{Body}
+use Rattle.messages.specs.declared.message.Body.TheVariants as body
+use Rattle.messages.specs.declared.message.Message.{Message}
+use Rattle.messages.specs.declared.message.Wanted.{Wanted}
+use Rattle.messages.specs.declared.message.Wanted.TheVariants as wanted
 use Rattle.gfs_types.specs.declared.refusal.Refusal.TheVariants.{TooLong}
 use Rattle.relaxed_file.specs.Machine.{chunk_count}
 use Rattle.relaxed_file.specs.Reads.{is_length_call}

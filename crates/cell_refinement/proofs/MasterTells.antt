@@ -6,10 +6,10 @@ use Rattle.gfs_types.specs.declared.call.Call.{Call}
 use Rattle.gfs_types.specs.declared.call.Call.TheVariants as call
 use Rattle.gfs_types.specs.declared.refusal.Refusal.TheVariants.{TooLong}
 use Rattle.gfs_types.specs.declared.ids.Node.TheVariants as node
-use Rattle.gfs_types.specs.declared.message.Body.TheVariants as body
-use Rattle.gfs_types.specs.declared.message.Message.{Message}
-use Rattle.gfs_types.specs.declared.message.Location.{Location}
-use Rattle.gfs_types.specs.declared.message.Group.{Group}
+use Rattle.messages.specs.declared.message.Body.TheVariants as body
+use Rattle.messages.specs.declared.message.Message.{Message}
+use Rattle.messages.specs.declared.message.Location.{Location}
+use Rattle.messages.specs.declared.message.Group.{Group}
 use Rattle.relaxed_file.specs.Machine.{Machine, OpenCall, Told, NoSuchChunk, chunk_at, chunk_count, with_step}
 use Rattle.relaxed_file.specs.Reads.{offer_of, offered, is_length_call}
 use Rattle.relaxed_file.specs.Run.{IsRunTo, Visible, Tell}

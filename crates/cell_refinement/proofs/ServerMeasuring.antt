@@ -6,8 +6,8 @@ use Rattle.gfs_types.specs.declared.config.Config.{Config}
 use Rattle.gfs_types.specs.declared.ids.Node.{Node}
 use Rattle.gfs_types.specs.declared.refusal.Refusal.{Refusal}
 use Rattle.gfs_types.specs.declared.refusal.Refusal.TheVariants.{NoChunk, Version}
-use Rattle.gfs_types.specs.declared.message.Message.{Message}
-use Rattle.gfs_types.specs.declared.message.Body.TheVariants as body
+use Rattle.messages.specs.declared.message.Message.{Message}
+use Rattle.messages.specs.declared.message.Body.TheVariants as body
 use Rattle.gfs_types.specs.Image.{image_length}
 use Rattle.relaxed_file.specs.Order.{Entry, mutations_of}
 use Rattle.relaxed_file.specs.Machine.{OpenCall, chunk_size, with_step}

@@ -9,7 +9,7 @@ use Rattle.gfs_types.specs.declared.call.Call.TheVariants as call
 use Rattle.gfs_types.specs.declared.ids.Node.{Node}
 use Rattle.gfs_types.specs.declared.refusal.Refusal.{Refusal}
 use Rattle.gfs_types.specs.declared.refusal.Refusal.TheVariants.{NoChunk, Version}
-use Rattle.gfs_types.specs.declared.message.Message.{Message}
+use Rattle.messages.specs.declared.message.Message.{Message}
 use Rattle.gfs_types.specs.Image.{image, image_slice}
 use Rattle.relaxed_file.specs.Order.{Entry, IsSelection, mutations_of}
 use Rattle.relaxed_file.specs.Parts.{has_part, part_start, part_end, part_length}
@@ -25,7 +25,7 @@ use Rattle.cell_protocol.specs.declared.stage.ToldChunk.{ToldChunk}
 use Rattle.cell_protocol.specs.declared.observer.Placed.{Placed}
 use Rattle.cell_protocol.specs.Sending.{only_client}
 use Rattle.cell_protocol.specs.Server.{ServerState, Replica, server_says}
-use Rattle.gfs_types.specs.declared.message.Body.TheVariants as body
+use Rattle.messages.specs.declared.message.Body.TheVariants as body
 use Rattle.std.proofs.lemmas.Option.{same_Some}
 use Rattle.std.proofs.lemmas.Bool.{cases_eq, eqb-true}
 use Rattle.cell_protocol.specs.ServerReads.{read_bytes, reads_from}

@@ -5,7 +5,7 @@ use Rattle.std.specs.FinMap as table
 use Rattle.std.specs.Map.{lookup, remove_entry}
 use Rattle.std.proofs.lemmas.List.Elements.{All-nil, All-cons, All-head, All-tail, All-take}
 use Rattle.gfs_types.specs.declared.ids.DataId.{DataId}
-use Rattle.gfs_types.specs.declared.message.Message.{Message}
+use Rattle.messages.specs.declared.message.Message.{Message}
 use Rattle.gfs_types.specs.declared.refusal.Refusal.{Refusal}
 use Rattle.relaxed_file.specs.Machine.{Machine}
 use Rattle.gfs_types.specs.Image.{image}

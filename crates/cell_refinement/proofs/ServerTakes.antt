@@ -7,11 +7,11 @@ use Rattle.std.proofs.lemmas.Option.{same_Some}
 use Rattle.gfs_types.specs.declared.ids.DataId.{DataId}
 use Rattle.gfs_types.specs.declared.refusal.Refusal.{Refusal}
 use Rattle.gfs_types.specs.declared.refusal.Refusal.TheVariants.{NoLease, NoData, OldRequest, Late, ChunkFull}
-use Rattle.gfs_types.specs.declared.message.Body.{Body}
-use Rattle.gfs_types.specs.declared.message.Body.TheVariants as body
-use Rattle.gfs_types.specs.declared.message.Message.{Message}
-use Rattle.gfs_types.specs.declared.message.Target.{Target}
-use Rattle.gfs_types.specs.declared.message.Target.TheVariants as target
+use Rattle.messages.specs.declared.message.Body.{Body}
+use Rattle.messages.specs.declared.message.Body.TheVariants as body
+use Rattle.messages.specs.declared.message.Message.{Message}
+use Rattle.messages.specs.declared.message.Target.{Target}
+use Rattle.messages.specs.declared.message.Target.TheVariants as target
 use Rattle.relaxed_file.specs.Run.{Visible}
 use Rattle.data_push.specs.Buffers.{same_id, data_of}
 use Rattle.gfs_types.specs.declared.ids.ClientId.{ClientId}

@@ -4,8 +4,8 @@ use Rattle.std.specs.Prelude.{IfSome, IsTrue, max}
 use Rattle.std.proofs.lemmas.List.Elements.{All-contains, All-nil}
 use Rattle.std.proofs.lemmas.Option.{same_Some}
 use Rattle.gfs_types.specs.declared.call.Call.{Call}
-use Rattle.gfs_types.specs.declared.event.Input.{Input}
-use Rattle.gfs_types.specs.declared.event.Input.TheVariants as input
+use Rattle.messages.specs.declared.event.Input.{Input}
+use Rattle.messages.specs.declared.event.Input.TheVariants as input
 use Rattle.relaxed_file.specs.Run.{invoked}
 use Rattle.cell_protocol.specs.Choice.{Choice, Goes, in_order}
 use Rattle.cell_protocol.specs.Sending.{only_client}

@@ -4,11 +4,11 @@ use Rattle.std.specs.Prelude.{Contains, IsTrue, ◌&&◌, ◌==◌, nat_le, slic
 use Rattle.gfs_types.specs.declared.call.Call.{Call}
 use Rattle.gfs_types.specs.declared.ids.Node.{Node}
 use Rattle.gfs_types.specs.declared.ids.Node.TheVariants as node
-use Rattle.gfs_types.specs.declared.message.Message.{Message}
-use Rattle.gfs_types.specs.declared.event.Event.{Event}
-use Rattle.gfs_types.specs.declared.event.Event.TheVariants as event
-use Rattle.gfs_types.specs.declared.event.Input.{Input}
-use Rattle.gfs_types.specs.declared.event.Input.TheVariants as input
+use Rattle.messages.specs.declared.message.Message.{Message}
+use Rattle.messages.specs.declared.event.Event.{Event}
+use Rattle.messages.specs.declared.event.Event.TheVariants as event
+use Rattle.messages.specs.declared.event.Input.{Input}
+use Rattle.messages.specs.declared.event.Input.TheVariants as input
 use Rattle.cell_protocol.specs.declared.stage.CurrentCall.{CurrentCall}
 use Rattle.cell_protocol.specs.Tables.{moment_limit, numbered_from_1}
 use Rattle.cell_protocol.specs.Choice.{Choice, Ending, Goes, Lost}

@@ -3,8 +3,8 @@ use Rattle.std.proofs.Common.{◌≡◌, ℕ, ◌+◌, ◌≤◌, Bool, [], Opti
 use Rattle.std.specs.Prelude.{IfSome, max}
 use Rattle.std.proofs.lemmas.List.Elements.{All-contains, All-nil}
 use Rattle.std.proofs.lemmas.Option.{same_Some}
-use Rattle.gfs_types.specs.declared.event.Input.{Input}
-use Rattle.gfs_types.specs.declared.event.Input.TheVariants as input
+use Rattle.messages.specs.declared.event.Input.{Input}
+use Rattle.messages.specs.declared.event.Input.TheVariants as input
 use Rattle.cell_protocol.specs.Choice.{Choice, Ending, Goes, Lost}
 use Rattle.cell_protocol.specs.Seen.{ends, stays}
 use Rattle.cell_protocol.specs.Master.{MasterState}

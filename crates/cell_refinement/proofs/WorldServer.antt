@@ -2,9 +2,9 @@
 use Rattle.std.proofs.Common.{◌≡◌, ℕ, ◌+◌, ◌<◌, ◌≤◌, List, ◌++◌, Option, Some, None, refl, sym, ◌∙◌, subst, inl, inr, arith}
 use Rattle.std.specs.Prelude.{Contains, IfSome, max}
 use Rattle.std.proofs.lemmas.List.Elements.{All-contains}
-use Rattle.gfs_types.specs.declared.event.Input.{Input}
-use Rattle.gfs_types.specs.declared.event.Input.TheVariants as input
-use Rattle.gfs_types.specs.declared.message.Message.{Message}
+use Rattle.messages.specs.declared.event.Input.{Input}
+use Rattle.messages.specs.declared.event.Input.TheVariants as input
+use Rattle.messages.specs.declared.message.Message.{Message}
 use Rattle.relaxed_file.specs.Run.{Visible}
 use Rattle.cell_protocol.specs.Choice.{Choice, Ending, Goes, Lost, in_order}
 use Rattle.cell_protocol.specs.Seen.{ends}

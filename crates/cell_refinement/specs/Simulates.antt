@@ -3,7 +3,7 @@ use Rattle.std.specs.Prelude.{◌≡◌, ℕ, suc, ◌+◌, ◌<◌, ◌≤◌, 
 use Rattle.std.specs.FinMap as table
 use Rattle.gfs_types.specs.declared.ids.DataId.{DataId}
 use Rattle.gfs_types.specs.declared.refusal.Refusal.TheVariants.{NoData, ChunkFull, Failed}
-use Rattle.gfs_types.specs.declared.message.Message.{Message}
+use Rattle.messages.specs.declared.message.Message.{Message}
 use Rattle.gfs_types.specs.Image.{image}
 use Rattle.relaxed_file.specs.Names.{File, node_at}
 use Rattle.relaxed_file.specs.Order.{mutations_of}

@@ -6,7 +6,7 @@ use crate::numbers::Numbers;
 use bytes::Bytes;
 use gfs_types::call::Call;
 use gfs_types::config::Config;
-use gfs_types::event::Event;
+use messages::event::Event;
 use gfs_types::ids::{ClientId, Fd, Moment, Node, ServerId};
 use gfs_types::lists::Text;
 use gfs_types::no_memory::NoMemory;

@@ -6,7 +6,7 @@ use crate::model::Model;
 use cell_core::world::World;
 use gfs_types::answer::Answer;
 use gfs_types::config::Config;
-use gfs_types::event::Event;
+use messages::event::Event;
 use gfs_types::no_memory::NoMemory;
 use std::alloc::Global;
 use std::test::Fail;

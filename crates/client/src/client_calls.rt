@@ -20,7 +20,7 @@ use gfs_types::answer::Answer;
 use gfs_types::call::Call;
 use gfs_types::ids::{ClientId, FileId, Moment, Node};
 use gfs_types::lists::RoundList;
-use gfs_types::message::{Body, Message, Wanted};
+use messages::message::{Body, Message, Wanted};
 use gfs_types::no_memory::NoMemory;
 use gfs_types::refusal::Refusal;
 use std::alloc::Global;

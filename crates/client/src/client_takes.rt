@@ -2,7 +2,7 @@
 //! ask, call or attempt.
 
 ghost use Rattle.std.specs.Prelude.{◌≡◌, ◌+◌, ◌*◌, ◌<◌, nat_lt, IfOk, IsTrue};
-ghost use Rattle.gfs_types.specs.declared.event.Input.TheVariants as input;
+ghost use Rattle.messages.specs.declared.event.Input.TheVariants as input;
 ghost use Rattle.cell_protocol.specs.Tables.{number_limit};
 ghost use Rattle.cell_protocol.specs.Doing.{does};
 ghost use Rattle.cell_protocol.specs.Seen.{stays};
@@ -21,7 +21,7 @@ use gfs_types::answer::Answer;
 use gfs_types::call::Call;
 use gfs_types::ids::{ClientId, DataId, Fd, FileId, Node, ServerId};
 use gfs_types::lists::{RoundList, ServerList};
-use gfs_types::message::{Body, Holder, Location, Message, NameReply, Target};
+use messages::message::{Body, Holder, Location, Message, NameReply, Target};
 use gfs_types::no_memory::NoMemory;
 use gfs_types::refusal::Refusal;
 

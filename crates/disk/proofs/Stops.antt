@@ -2,8 +2,8 @@
 use Rattle.std.proofs.Common.{◌≡◌, ℕ, zero, suc, ◌+◌, ◌-◌, ◌≤◌, Bool, true, false, ◌||◌, List, [], ◌∷◌, length, drop, replicate, take, refl, sym, ap, ◌∙◌, subst, arith, if◌then◌else◌, Some}
 use Rattle.std.specs.Prelude.{slice_get}
 use Rattle.std.proofs.lemmas.List.{length-drop, length-replicate, take_all}
-use Rattle.gfs_types.specs.declared.event.Torn.{Torn}
-use Rattle.gfs_types.specs.declared.event.Torn.TheVariants.{Old, New, Byte}
+use Rattle.gfs_types.specs.declared.torn.Torn.{Torn}
+use Rattle.gfs_types.specs.declared.torn.Torn.TheVariants.{Old, New, Byte}
 use Rattle.disk.specs.Device.{ChangesOnly}
 use Rattle.disk.specs.Bytes.{put_at}
 use Rattle.disk.specs.Writes.{Write, DiskState, AfterNext, AfterWrite, LeftBy, MayLeave, all_fit, bytes_before, filled, first_bytes, has_sync, settled, unsynced}

@@ -1,7 +1,7 @@
 -- A disk in memory: what a read gives, and what was written over.
 use Rattle.std.specs.Prelude.{◌≡◌, ◌⊎◌, ℕ, suc, ◌+◌, ◌-◌, ◌≤◌, nat_le, Bool, true, false, ◌&&◌, ◌||◌, if◌then◌else◌, List, [], ◌∷◌, ◌++◌, length, replicate}
-use Rattle.gfs_types.specs.declared.event.Torn.{Torn}
-use Rattle.gfs_types.specs.declared.event.Torn.TheVariants.{Old, New, Byte}
+use Rattle.gfs_types.specs.declared.torn.Torn.{Torn}
+use Rattle.gfs_types.specs.declared.torn.Torn.TheVariants.{Old, New, Byte}
 use Rattle.disk.specs.Device.{ChangesOnly, Elapses}
 use Rattle.disk.specs.Bytes.{put_at, range_at}
 

@@ -9,7 +9,7 @@ ghost use Rattle.disk.specs.Writes.{GoesOn, LeftBy, LeftSince, stopped, synced, 
 
 use crate::device::{Disk, DiskFault};
 use crate::memory::MemDisk;
-use gfs_types::event::Torn;
+use gfs_types::torn::Torn;
 use std::alloc::{Allocator, Global};
 use std::marker::Model;
 

@@ -9,7 +9,7 @@ ghost use Rattle.disk.specs.Laws.{left_now, left_only_now};
 
 use crate::device::{Disk, DiskFault};
 use crate::past_write::PastWrite;
-use gfs_types::event::Torn;
+use gfs_types::torn::Torn;
 use std::alloc::{AllocError, Allocator, Global};
 use std::marker::Model;
 

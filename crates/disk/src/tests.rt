@@ -5,7 +5,7 @@ ghost use Rattle.disk.specs.Bytes.{put_at};
 ghost use Rattle.disk.specs.Device.{Only};
 
 use crate::{Disk, DiskFault, FaultDisk, FuseDisk, MemDisk};
-use gfs_types::event::Torn;
+use gfs_types::torn::Torn;
 use linked_list_allocator::LocalHeap;
 use std::alloc::{Allocator, Global};
 use std::test::Fail;

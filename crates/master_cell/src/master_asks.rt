@@ -2,8 +2,8 @@
 
 ghost use Rattle.std.specs.Prelude.{◌≡◌, [], ◌∷◌, Some, None, IfOk, IsTrue, slice_get};
 ghost use Rattle.std.specs.FinMap as map;
-ghost use Rattle.gfs_types.specs.declared.message.Body.TheVariants as body;
-ghost use Rattle.gfs_types.specs.declared.message.Wanted.TheVariants as wanted;
+ghost use Rattle.messages.specs.declared.message.Body.TheVariants as body;
+ghost use Rattle.messages.specs.declared.message.Wanted.TheVariants as wanted;
 ghost use Rattle.gfs_types.specs.declared.ids.Node.TheVariants as node_kind;
 ghost use Rattle.cell_protocol.specs.Sending.{message};
 ghost use Rattle.cell_protocol.specs.Doing.{does};
@@ -15,8 +15,8 @@ use cell_protocol::effects::Effects;
 use cell_protocol::rows::ChunkRow;
 use gfs_types::ids::{FileId, Handle, Moment, Node, OrderNo, ServerId, Version};
 use gfs_types::lists::HandleList;
-use gfs_types::message::{Body, Group, Holder, Location, Wanted};
-use gfs_types::message_lists::{HolderList, MessageList};
+use messages::message::{Body, Group, Holder, Location, Wanted};
+use messages::message_lists::{HolderList, MessageList};
 use gfs_types::no_memory::NoMemory;
 use gfs_types::refusal::Refusal;
 use std::alloc::{Allocator, Global};

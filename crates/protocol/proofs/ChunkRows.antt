@@ -7,8 +7,8 @@ use Rattle.std.specs.FinMap as table
 use Rattle.std.specs.FinMap.Entries.{find}
 use Rattle.std.proofs.Math.Nat.{le-max_right}
 use Rattle.gfs_types.specs.declared.ids.FileId.{FileId}
-use Rattle.gfs_types.specs.declared.record.Record.{Record}
-use Rattle.gfs_types.specs.declared.record.Record.TheVariants as log
+use Rattle.log_records.specs.declared.record.Record.{Record}
+use Rattle.log_records.specs.declared.record.Record.TheVariants as log
 use Rattle.gfs_types.specs.Paths.{Path}
 use Rattle.relaxed_file.specs.Names.{Node, Dir, File, id_after, copied_entries}
 use Rattle.protocol.specs.Tables.{Table, removed_all, map_values}

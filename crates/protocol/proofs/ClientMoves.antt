@@ -13,16 +13,16 @@ use Rattle.gfs_types.specs.declared.answer.Answer.{Answer}
 use Rattle.gfs_types.specs.declared.answer.Answer.TheVariants as answer
 use Rattle.gfs_types.specs.declared.refusal.Refusal.{Refusal}
 use Rattle.gfs_types.specs.declared.refusal.Refusal.TheVariants.{TooLong, Unknown, Collected, NoChunk, NoLease, ChunkFull}
-use Rattle.gfs_types.specs.declared.message.NameReply.{NameReply}
-use Rattle.gfs_types.specs.declared.message.NameReply.TheVariants.{Opened, Answered}
-use Rattle.gfs_types.specs.declared.message.Body.{Body}
-use Rattle.gfs_types.specs.declared.message.Body.TheVariants as body
-use Rattle.gfs_types.specs.declared.message.Message.{Message}
-use Rattle.gfs_types.specs.declared.message.Location.{Location}
-use Rattle.gfs_types.specs.declared.message.Holder.{Holder}
-use Rattle.gfs_types.specs.declared.message.Group.{Group}
-use Rattle.gfs_types.specs.declared.event.Input.{Input}
-use Rattle.gfs_types.specs.declared.event.Input.TheVariants as input
+use Rattle.messages.specs.declared.message.NameReply.{NameReply}
+use Rattle.messages.specs.declared.message.NameReply.TheVariants.{Opened, Answered}
+use Rattle.messages.specs.declared.message.Body.{Body}
+use Rattle.messages.specs.declared.message.Body.TheVariants as body
+use Rattle.messages.specs.declared.message.Message.{Message}
+use Rattle.messages.specs.declared.message.Location.{Location}
+use Rattle.messages.specs.declared.message.Holder.{Holder}
+use Rattle.messages.specs.declared.message.Group.{Group}
+use Rattle.messages.specs.declared.event.Input.{Input}
+use Rattle.messages.specs.declared.event.Input.TheVariants as input
 use Rattle.relaxed_file.specs.NameStep.{is_look, is_name_call}
 use Rattle.relaxed_file.specs.Parts.{is_range_too_long}
 use Rattle.protocol.specs.Tables.{is_empty_list}

@@ -3,8 +3,8 @@ use Rattle.std.proofs.Common.{◌≡◌, ◌⊎◌, ℕ, zero, suc, ◌<◌, Lis
 use Rattle.std.specs.Prelude.{nat_lt, filter, option_map, unwrap_or}
 use Rattle.std.specs.Ordering.{nat_cmp}
 use Rattle.std.specs.FinMap as table
-use Rattle.gfs_types.specs.declared.record.Record.{Record}
-use Rattle.gfs_types.specs.declared.record.Record.TheVariants as log
+use Rattle.log_records.specs.declared.record.Record.{Record}
+use Rattle.log_records.specs.declared.record.Record.TheVariants as log
 use Rattle.gfs_types.specs.Paths.{Path}
 use Rattle.relaxed_file.specs.Names.{Names, Node, Dir, File, node_at, id_after, copied_entries}
 use Rattle.relaxed_file.proofs.NamesTree.{Tree, entry_is}

@@ -4,9 +4,9 @@ use Rattle.std.specs.Prelude.{nat_lt, ◌+◌, ◌&&◌, not, IsTrue}
 use Rattle.std.specs.Ordering.{nat_cmp}
 use Rattle.std.specs.FinMap as table
 use Rattle.gfs_types.specs.declared.config.Config.{Config}
-use Rattle.gfs_types.specs.declared.event.Input.{Input}
-use Rattle.gfs_types.specs.declared.record.Record.{Record}
-use Rattle.gfs_types.specs.declared.record.Record.TheVariants as log
+use Rattle.messages.specs.declared.event.Input.{Input}
+use Rattle.log_records.specs.declared.record.Record.{Record}
+use Rattle.log_records.specs.declared.record.Record.TheVariants as log
 use Rattle.protocol.specs.Choice.{Choice, Ending, Goes, Lost, Stops}
 use Rattle.protocol.specs.Seen.{Taken, no_step}
 use Rattle.protocol.specs.ChunkTable.{ChunkRow, changed_row}

@@ -6,13 +6,13 @@ use Rattle.std.specs.FinMap as table
 use Rattle.gfs_types.specs.declared.ids.Node.{Node}
 use Rattle.gfs_types.specs.declared.ids.OrderNo.{OrderNo}
 use Rattle.gfs_types.specs.declared.refusal.Refusal.TheVariants.{TooLong, Collected}
-use Rattle.gfs_types.specs.declared.message.Body.TheVariants as body
-use Rattle.gfs_types.specs.declared.message.Holder.{Holder}
-use Rattle.gfs_types.specs.declared.message.Wanted.{Wanted}
-use Rattle.gfs_types.specs.declared.message.Wanted.TheVariants as wanted
-use Rattle.gfs_types.specs.declared.message.ReplicaLine.{ReplicaLine}
-use Rattle.gfs_types.specs.declared.message.LeaseLine.{LeaseLine}
-use Rattle.gfs_types.specs.declared.record.Record.TheVariants as log
+use Rattle.messages.specs.declared.message.Body.TheVariants as body
+use Rattle.messages.specs.declared.message.Holder.{Holder}
+use Rattle.messages.specs.declared.message.Wanted.{Wanted}
+use Rattle.messages.specs.declared.message.Wanted.TheVariants as wanted
+use Rattle.messages.specs.declared.message.ReplicaLine.{ReplicaLine}
+use Rattle.messages.specs.declared.message.LeaseLine.{LeaseLine}
+use Rattle.log_records.specs.declared.record.Record.TheVariants as log
 use Rattle.protocol.specs.Tables.{Table, element_at, rising, has_number, with_number, same_numbers}
 use Rattle.protocol.specs.Sending.{the_server, server_id, file_id, handle_of, version_of, moment_of}
 use Rattle.protocol.specs.ChunkTable.{ChunkRow, chunk_of, file_of, handles_of, has_ended}

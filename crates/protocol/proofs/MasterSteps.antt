@@ -2,13 +2,13 @@
 use Rattle.std.proofs.Common.{◌≤◌, ℕ, Bool, List, [], ◌∷◌, Option, Some, None, refl, inr}
 use Rattle.std.specs.Prelude.{nat_lt, max}
 use Rattle.std.specs.FinMap as table
-use Rattle.gfs_types.specs.declared.event.Input.{Input}
-use Rattle.gfs_types.specs.declared.event.Input.TheVariants as input
-use Rattle.gfs_types.specs.declared.message.Message.{Message}
-use Rattle.gfs_types.specs.declared.message.Body.{Body}
-use Rattle.gfs_types.specs.declared.message.Body.TheVariants as body
-use Rattle.gfs_types.specs.declared.message.ReplicaLine.{ReplicaLine}
-use Rattle.gfs_types.specs.declared.record.Record.TheVariants as log
+use Rattle.messages.specs.declared.event.Input.{Input}
+use Rattle.messages.specs.declared.event.Input.TheVariants as input
+use Rattle.messages.specs.declared.message.Message.{Message}
+use Rattle.messages.specs.declared.message.Body.{Body}
+use Rattle.messages.specs.declared.message.Body.TheVariants as body
+use Rattle.messages.specs.declared.message.ReplicaLine.{ReplicaLine}
+use Rattle.log_records.specs.declared.record.Record.TheVariants as log
 use Rattle.protocol.specs.Sending.{client_number, server_number, server_id, file_id, handle_of, version_of}
 use Rattle.protocol.specs.Tables.{Table, counter_limit}
 use Rattle.protocol.specs.MasterSnapshots.{live_snapshots}

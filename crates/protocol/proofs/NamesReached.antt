@@ -7,9 +7,9 @@ use Rattle.std.specs.FinMap.Entries.{find}
 use Rattle.std.proofs.lemmas.Bool.{and_parts, leb-true, eqb-true}
 use Rattle.std.specs.FinMap as table
 use Rattle.gfs_types.specs.declared.config.Config.{Config}
-use Rattle.gfs_types.specs.declared.event.Input.{Input}
-use Rattle.gfs_types.specs.declared.record.Record.{Record}
-use Rattle.gfs_types.specs.declared.record.Record.TheVariants as log
+use Rattle.messages.specs.declared.event.Input.{Input}
+use Rattle.log_records.specs.declared.record.Record.{Record}
+use Rattle.log_records.specs.declared.record.Record.TheVariants as log
 use Rattle.relaxed_file.specs.Names.{Names}
 use Rattle.relaxed_file.proofs.NamesTree.{Tree, first_tree}
 use Rattle.protocol.specs.Tables.{Table, counter_limit, map_values}

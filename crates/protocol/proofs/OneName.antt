@@ -16,8 +16,8 @@ use Rattle.std.specs.FinMap as table
 use Rattle.std.specs.FinMap.Entries.{find, is_sorted, below_all}
 use Rattle.gfs_types.specs.declared.call.Call.{Call}
 use Rattle.gfs_types.specs.declared.call.Call.TheVariants as call
-use Rattle.gfs_types.specs.declared.record.Record.{Record}
-use Rattle.gfs_types.specs.declared.record.Record.TheVariants as log
+use Rattle.log_records.specs.declared.record.Record.{Record}
+use Rattle.log_records.specs.declared.record.Record.TheVariants as log
 use Rattle.gfs_types.specs.Paths.{Path, root, trash, is_at_or_below, hidden_name}
 use Rattle.relaxed_file.specs.Names.{Names, Node, Dir, File, node_at, is_dir_node, is_taken, is_dir, copied_entries, with_copies, id_after, id_after_all, first_names}
 use Rattle.relaxed_file.specs.NameStep.{path_tests, name_tests, refusal_of, is_in_trash, with_node, hidden}

@@ -3,7 +3,7 @@ use Rattle.std.specs.Prelude.{◌≡◌, ◌⊎◌, ℕ, suc, ◌/◌, ◌≤◌
 use Rattle.std.specs.FinMap as table
 use Rattle.gfs_types.specs.declared.call.Call.{Call}
 use Rattle.gfs_types.specs.declared.call.Call.TheVariants as call
-use Rattle.gfs_types.specs.declared.message.Location.{Location}
+use Rattle.messages.specs.declared.message.Location.{Location}
 use Rattle.relaxed_file.specs.Parts.{has_part, part_length}
 use Rattle.relaxed_file.specs.Machine.{Machine, OpenCall, IsOpen, Told, Piece, chunk_count}
 use Rattle.relaxed_file.specs.Answers.{MayReturn, HasSuccess, IsWrite}

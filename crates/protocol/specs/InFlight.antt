@@ -9,16 +9,16 @@ use Rattle.gfs_types.specs.declared.ids.Node.TheVariants as node
 use Rattle.gfs_types.specs.declared.ids.DataId.{DataId}
 use Rattle.gfs_types.specs.declared.refusal.Refusal.{Refusal}
 use Rattle.gfs_types.specs.declared.refusal.Refusal.TheVariants.{NoChunk, NoLease, ChunkFull}
-use Rattle.gfs_types.specs.declared.message.Message.{Message}
-use Rattle.gfs_types.specs.declared.message.Body.{Body}
-use Rattle.gfs_types.specs.declared.message.Body.TheVariants as body
-use Rattle.gfs_types.specs.declared.message.NameReply.{NameReply}
-use Rattle.gfs_types.specs.declared.message.NameReply.TheVariants.{Opened, Answered}
-use Rattle.gfs_types.specs.declared.message.Location.{Location}
-use Rattle.gfs_types.specs.declared.message.Holder.{Holder}
-use Rattle.gfs_types.specs.declared.message.Change.{Change}
-use Rattle.gfs_types.specs.declared.message.Target.{Target}
-use Rattle.gfs_types.specs.declared.message.Wanted.{Wanted}
+use Rattle.messages.specs.declared.message.Message.{Message}
+use Rattle.messages.specs.declared.message.Body.{Body}
+use Rattle.messages.specs.declared.message.Body.TheVariants as body
+use Rattle.messages.specs.declared.message.NameReply.{NameReply}
+use Rattle.messages.specs.declared.message.NameReply.TheVariants.{Opened, Answered}
+use Rattle.messages.specs.declared.message.Location.{Location}
+use Rattle.messages.specs.declared.message.Holder.{Holder}
+use Rattle.messages.specs.declared.message.Change.{Change}
+use Rattle.messages.specs.declared.message.Target.{Target}
+use Rattle.messages.specs.declared.message.Wanted.{Wanted}
 use Rattle.relaxed_file.specs.Order.{Entry, IsSelection, mutations_of}
 use Rattle.relaxed_file.specs.Machine.{Machine, Asked, OpenCall, IsOpen, Outcome, Replies, Opens, Told, NoSuchChunk, chunk_at}
 use Rattle.relaxed_file.specs.Answers.{IsCause}

@@ -1,9 +1,9 @@
 -- What servers tell the master: it asks them for their replicas and doesn't log these (sections 2.6.2, 4.4 and 4.5).
 use Rattle.std.specs.Prelude.{ℕ, ◌+◌, Bool, true, not, ◌==◌, ◌&&◌, nat_lt, if◌then◌else◌, List, [], ◌∷◌, map, Option, Some, None}
 use Rattle.std.specs.FinMap as table
-use Rattle.gfs_types.specs.declared.message.Body.TheVariants as body
-use Rattle.gfs_types.specs.declared.message.ReplicaLine.{ReplicaLine}
-use Rattle.gfs_types.specs.declared.message.LeaseLine.{LeaseLine}
+use Rattle.messages.specs.declared.message.Body.TheVariants as body
+use Rattle.messages.specs.declared.message.ReplicaLine.{ReplicaLine}
+use Rattle.messages.specs.declared.message.LeaseLine.{LeaseLine}
 use Rattle.protocol.specs.Sending.{the_server, moment_of}
 use Rattle.protocol.specs.ChunkTable.{ChunkRow, chunk_of}
 use Rattle.protocol.specs.Master.{MasterState, MasterDoing, tells, orders, ends_at, held_by, has_lease}

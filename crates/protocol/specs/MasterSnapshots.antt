@@ -7,10 +7,10 @@ use Rattle.gfs_types.specs.declared.answer.Answer.{Answer}
 use Rattle.gfs_types.specs.declared.answer.Answer.TheVariants as answer
 use Rattle.gfs_types.specs.declared.refusal.Refusal.{Refusal}
 use Rattle.gfs_types.specs.declared.refusal.Refusal.TheVariants.{NamesFull}
-use Rattle.gfs_types.specs.declared.message.NameReply.TheVariants.{Answered}
-use Rattle.gfs_types.specs.declared.message.Body.TheVariants as body
-use Rattle.gfs_types.specs.declared.record.Record.{Record}
-use Rattle.gfs_types.specs.declared.record.Record.TheVariants as log
+use Rattle.messages.specs.declared.message.NameReply.TheVariants.{Answered}
+use Rattle.messages.specs.declared.message.Body.TheVariants as body
+use Rattle.log_records.specs.declared.record.Record.{Record}
+use Rattle.log_records.specs.declared.record.Record.TheVariants as log
 use Rattle.relaxed_file.specs.Names.{Node, Dir, File, copied_entries}
 use Rattle.relaxed_file.specs.NameStep.{needs_room}
 use Rattle.protocol.specs.Tables.{has_number, rising}

@@ -3,8 +3,8 @@ use Rattle.std.specs.Prelude.{◌≡◌, ◌⊎◌, ℕ, suc, ◌≤◌, ◌<◌
 use Rattle.std.specs.FinMap as table
 use Rattle.gfs_types.specs.declared.ids.OrderNo.{OrderNo}
 use Rattle.gfs_types.specs.declared.ids.Moment.{Moment}
-use Rattle.gfs_types.specs.declared.message.Message.{Message}
-use Rattle.gfs_types.specs.declared.message.Body.TheVariants as body
+use Rattle.messages.specs.declared.message.Message.{Message}
+use Rattle.messages.specs.declared.message.Body.TheVariants as body
 use Rattle.relaxed_file.specs.Order.{AreRoundsRising}
 use Rattle.protocol.specs.Sending.{handle_of, version_of}
 use Rattle.protocol.specs.ChunkTable.{ChunkRow, chunk_of}

@@ -18,7 +18,7 @@ use cell_protocol::standing::{Kept, LeaseHeld};
 use data_push::Buffer;
 use gfs_types::config::Config;
 use gfs_types::ids::{Handle, Moment, Node, ServerId, Version};
-use gfs_types::message::{Body, Message};
+use messages::message::{Body, Message};
 use gfs_types::no_memory::NoMemory;
 use gfs_types::refusal::Refusal;
 use number_map::NumberMap;

@@ -19,7 +19,7 @@ use cell_protocol::limits::COUNTER_LIMIT;
 use cell_protocol::seen::Numbering;
 use cell_protocol::standing::{Kept, Standing};
 use gfs_types::ids::{DataId, Handle, Moment, Node, Serial, Version};
-use gfs_types::message::{Body, Target};
+use messages::message::{Body, Target};
 use gfs_types::mutation::Mutation;
 use gfs_types::no_memory::NoMemory;
 use gfs_types::refusal::Refusal;

@@ -11,7 +11,7 @@ use cell_core::world::World;
 use command_line::options::Options;
 use gfs_types::answer::Answer;
 use gfs_types::call::Call;
-use gfs_types::event::Event;
+use messages::event::Event;
 use gfs_types::ids::{ClientId, Moment, Node, ServerId};
 use script::answers::AnswerLine;
 use std::alloc::{Allocator, Global};

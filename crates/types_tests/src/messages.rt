@@ -7,13 +7,13 @@ use gfs_types::ids::{
     ClientId, DataId, Fd, FileId, Handle, Moment, Node, OrderNo, Serial, ServerId, Version,
 };
 use gfs_types::lists::{NameList, RoundList};
-use gfs_types::message::{
+use gfs_types::no_memory::NoMemory;
+use gfs_types::refusal::Refusal;
+use messages::message::{
     Body, Change, Group, Holder, LeaseLine, Location, Message, NameReply, ReplicaLine, Target,
     Wanted,
 };
-use gfs_types::message_lists::{HolderList, LeaseList, MessageList, ReplicaList};
-use gfs_types::no_memory::NoMemory;
-use gfs_types::refusal::Refusal;
+use messages::message_lists::{HolderList, LeaseList, MessageList, ReplicaList};
 use std::alloc::Global;
 use std::test::Fail;
 

@@ -2,13 +2,14 @@
 
 use crate::samples::{some_bytes, text_of, two_servers};
 use gfs_types::call::Call;
-use gfs_types::event::{Event, Torn};
 use gfs_types::ids::{ClientId, FileId, Handle, Moment, Node, ServerId, Version};
 use gfs_types::lists::HandleList;
 use gfs_types::mutation::Mutation;
 use gfs_types::no_memory::NoMemory;
-use gfs_types::record::Record;
 use gfs_types::refusal::Refusal;
+use gfs_types::torn::Torn;
+use log_records::record::Record;
+use messages::event::Event;
 use std::alloc::Global;
 use std::test::Fail;
 

@@ -1,5 +1,5 @@
 use Rattle.std.proofs.Common.{◌≡◌, List, ◌∷◌, length, ap, arith}
-use Rattle.gfs_types.specs.declared.event.Event.{Event}
+use Rattle.messages.specs.declared.event.Event.{Event}
 use Rattle.cell_core.proofs.Running.{explained, begins, in_silence, with_answer, none_first, to_its_end}
 use Rattle.cell_core.proofs.world.World.run.Goals as goal
 

@@ -1,0 +1,6 @@
+//! What the nodes of a cell send each other, and the events that a cell takes.
+#![tactic(auto)]
+
+pub mod event;
+pub mod message;
+pub mod message_lists;
