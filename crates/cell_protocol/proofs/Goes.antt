@@ -31,8 +31,12 @@ server_did old moment i e new h = record {
   seen_is = ap (λ (x : Does ServerState). x.seen) h;
 }
 
-pub master_did : (old : MasterState) (moment : ℕ) (i : Input) (refused : Bool) (e : Effects) (new : MasterState) → master_goes old moment refused i ≡ does new e → MasterSteps old moment i (record { sent = e.sent; answer = e.answer; down = false }) new
-master_did old moment i refused e new h = record { choice = record { ending = Goes; order = []; refused = refused }; gives = goes _ new e refused h }
+pub master_did : (old : MasterState) (moment : ℕ) (i : Input) (refused : Bool) (e : Effects) (new : MasterState) → master_goes old moment refused i ≡ does new e → MasterSteps old moment i (record { sent = e.sent; answer = e.answer; down = false }) e.seen new
+master_did old moment i refused e new h = record {
+  choice = record { ending = Goes; order = []; refused = refused };
+  gives = goes _ new e refused h;
+  seen_is = ap (λ (x : Does MasterState). x.seen) h;
+}
 
 pub client_did : (old : ClientState) (moment : ℕ) (i : Input) (e : Effects) (new : ClientState) → client_goes old moment i ≡ does new e → ClientSteps old moment i (record { sent = e.sent; answer = e.answer; down = false }) new
 client_did old moment i e new h = record { choice = record { ending = Goes; order = []; refused = false }; gives = goes _ new e false h }

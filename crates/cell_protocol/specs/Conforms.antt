@@ -6,7 +6,7 @@ use Rattle.gfs_types.specs.declared.answer.Answer.{Answer}
 use Rattle.messages.specs.declared.event.Event.{Event}
 use Rattle.messages.specs.declared.event.Input.{Input}
 use Rattle.messages.specs.declared.event.StepOut.{StepOut}
-use Rattle.cell_protocol.specs.declared.seen.Numbering.{Numbering}
+use Rattle.cell_protocol.specs.declared.seen.Seen.{Seen}
 use Rattle.cell_protocol.specs.Choice.{Choice}
 use Rattle.cell_protocol.specs.Seen.{Taken}
 use Rattle.cell_protocol.specs.Server.{ServerState}
@@ -26,11 +26,12 @@ pub record Gives {S : Type 0} (t : Taken S) (out : StepOut) (new : S) : Type 0 w
   pub out_is : t.out ≡ out
   pub state_is : t.state ≡ left_by out.down new
 
-pub record MasterSteps (old : MasterState) (moment : ℕ) (i : Input) (out : StepOut) (new : MasterState) : Type 0 where
+pub record MasterSteps (old : MasterState) (moment : ℕ) (i : Input) (out : StepOut) (seen : Option Seen) (new : MasterState) : Type 0 where
   pub choice : Choice
   pub gives : Gives (master_step old moment i choice) out new
+  pub seen_is : (master_step old moment i choice).seen ≡ seen
 
-pub record ServerSteps (old : ServerState) (moment : ℕ) (i : Input) (out : StepOut) (seen : Option Numbering) (new : ServerState) : Type 0 where
+pub record ServerSteps (old : ServerState) (moment : ℕ) (i : Input) (out : StepOut) (seen : Option Seen) (new : ServerState) : Type 0 where
   pub choice : Choice
   pub gives : Gives (server_step old moment i choice) out new
   pub seen_is : (server_step old moment i choice).seen ≡ seen

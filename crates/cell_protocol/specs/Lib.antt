@@ -20,5 +20,7 @@ pub mod Observer
 pub mod Doing
 pub mod Bounds
 pub mod World
+pub mod Shown
+pub mod Explained
 pub mod Moving
 pub mod Conforms

@@ -12,7 +12,9 @@ use Rattle.messages.specs.declared.message.Group.{Group}
 use Rattle.messages.specs.declared.message.Location.{Location}
 use Rattle.messages.specs.declared.message.Message.{Message}
 use Rattle.cell_protocol.specs.declared.rows.ChunkRow.{ChunkRow}
-use Rattle.cell_protocol.specs.Sending.{message, only_server, the_server, server_id, handle_of, version_of, order_no}
+use Rattle.cell_protocol.specs.declared.seen.AddedChunk.{AddedChunk}
+use Rattle.cell_protocol.specs.declared.seen.Seen.TheVariants.{Added}
+use Rattle.cell_protocol.specs.Sending.{message, only_server, the_server, server_id, file_id, handle_of, version_of, order_no}
 use Rattle.cell_protocol.specs.Seen.{Does, stays}
 use Rattle.cell_protocol.specs.Master.{MasterState, new_row, has_lease, master_says}
 
@@ -69,9 +71,18 @@ with_chunk m file handles =
 abbrev pub create_message : MasterState → Message
 create_message m = message node.Master (the_server only_server) (body.Create (order_no (suc m.order_count)) (handle_of m.next_handle) (version_of 1))
 
+-- the chunk is the next one of its file
+abbrev pub added_chunk : ℕ → ℕ → AddedChunk
+added_chunk file handle = record { file = file_id file; handle = handle_of handle }
+
 abbrev pub adds_chunk : MasterState → Asker → ℕ → List ℕ → Does MasterState
 adds_chunk m a file handles =
-    record { state = with_chunk m file handles; sent = create_message m ∷ message node.Master a.client (body.Wait a.number) ∷ []; answer = None; seen = None }
+    record {
+      state = with_chunk m file handles;
+      sent = create_message m ∷ message node.Master a.client (body.Wait a.number) ∷ [];
+      answer = None;
+      seen = Some (Added (added_chunk file m.next_handle));
+    }
 
 abbrev pub asks_to_write : MasterState → Asker → ℕ → List ℕ → ℕ → Does MasterState
 asks_to_write m a file handles index =

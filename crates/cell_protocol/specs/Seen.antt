@@ -4,14 +4,14 @@ use Rattle.gfs_types.specs.declared.answer.Answer.{Answer}
 use Rattle.messages.specs.declared.message.Message.{Message}
 use Rattle.messages.specs.declared.event.StepOut.{StepOut}
 use Rattle.cell_protocol.specs.Choice.{Choice, Ending, Goes, Lost, in_order}
-use Rattle.cell_protocol.specs.declared.seen.Numbering.{Numbering}
+use Rattle.cell_protocol.specs.declared.seen.Seen.{Seen}
 
--- A step where nothing hinders it: the node after it, its messages, its answer, and the mutation that a primary gave its serial. The primary is its chunk's one member, so a mutation is settled in the step that numbers it.
+-- A step where nothing hinders it: the node after it, its messages, its answer, and what is seen of it: the mutation that a primary gave its serial, or the chunk that the master added. The primary is its chunk's one member, so a mutation is settled in the step that numbers it.
 pub record Does (S : Type 0) : Type 0 where
   pub state : S
   pub sent : List Message
   pub answer : Option Answer
-  pub seen : Option Numbering
+  pub seen : Option Seen
 
 -- a step that sends nothing, and where the node is left like this
 abbrev pub stays : {S : Type 0} → S → Does S
@@ -24,7 +24,7 @@ sends_one s m = record { state = s; sent = m ∷ []; answer = None; seen = None 
 pub record Taken (S : Type 0) : Type 0 where
   pub state : Option S
   pub out : StepOut
-  pub seen : Option Numbering
+  pub seen : Option Seen
 
 abbrev pub no_output : StepOut
 no_output = record { sent = []; answer = None; down = false }

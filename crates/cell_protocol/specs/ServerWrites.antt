@@ -16,6 +16,7 @@ use Rattle.record_append.specs.declared.placing.Placing.TheVariants.{At, Pad, Fu
 use Rattle.record_append.specs.Placing.{placing}
 use Rattle.data_push.specs.Buffers.{data_of, with_data, without_data}
 use Rattle.cell_protocol.specs.declared.seen.Numbering.{Numbering}
+use Rattle.cell_protocol.specs.declared.seen.Seen.TheVariants.{Numbered}
 use Rattle.cell_protocol.specs.declared.standing.Standing.{Standing}
 use Rattle.cell_protocol.specs.declared.standing.Standing.TheVariants.{Settled, Denied}
 use Rattle.cell_protocol.specs.Tables.{counter_limit}
@@ -74,7 +75,7 @@ places s handle r id m =
       state = after_mutation s handle r id m;
       sent = message (the_server only_server) (the_client id.client.0) (told_of id (standing_of m)) ∷ [];
       answer = None;
-      seen = Some (numbering_of handle r id m);
+      seen = Some (Numbered (numbering_of handle r id m));
     }
 
 -- Bytes that don't lie within the chunk, and a serial past its limit, change nothing and are not answered.

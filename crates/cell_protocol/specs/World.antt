@@ -1,5 +1,5 @@
 -- The cell with its network: each message that was ever sent may come, at any time, again, and in any order, or never (section 2.3).
-use Rattle.std.specs.Prelude.{◌≡◌, ℕ, suc, ◌==◌, nat_le, if◌then◌else◌, List, [], ◌∷◌, ◌++◌, length, Option, Some, None, IsTrue}
+use Rattle.std.specs.Prelude.{◌≡◌, ℕ, suc, ◌==◌, nat_le, if◌then◌else◌, List, [], ◌∷◌, ◌++◌, length, Option, Some, None}
 use Rattle.gfs_types.specs.declared.config.Config.{Config}
 use Rattle.gfs_types.specs.declared.ids.Node.{Node}
 use Rattle.gfs_types.specs.declared.ids.Node.TheVariants as node
@@ -10,7 +10,6 @@ use Rattle.messages.specs.declared.event.Event.TheVariants as event
 use Rattle.messages.specs.declared.event.Input.{Input}
 use Rattle.messages.specs.declared.event.Input.TheVariants as input
 use Rattle.messages.specs.declared.event.StepOut.{StepOut}
-use Rattle.relaxed_file.specs.Run.{IsRun}
 use Rattle.cell_protocol.specs.Tables.{moment_limit, numbered_from_1}
 use Rattle.cell_protocol.specs.Choice.{Choice}
 use Rattle.cell_protocol.specs.Seen.{Taken, no_output}
@@ -55,10 +54,13 @@ abbrev pub all_sent : List Message → List Message → List Message
 all_sent sent more = sent ++ stamped (suc (length sent)) more
 
 -- A node that was put down at an event: the event has no other effect.
-abbrev pub after_master : WorldState → ℕ → StepOut → Option MasterState → Happened
-after_master w moment out None = record { out = out; world = record w { master = None } }
-after_master w moment out (Some m) =
-    record { out = out; world = record w { master = Some m; sent = all_sent w.sent out.sent; observer = observed_moment w.config.skew_ms w.observer moment } }
+abbrev pub after_master : WorldState → ℕ → Taken MasterState → Option MasterState → Happened
+after_master w moment t None = record { out = t.out; world = record w { master = None } }
+after_master w moment t (Some m) =
+    record {
+      out = t.out;
+      world = record w { master = Some m; sent = all_sent w.sent t.out.sent; observer = observed (observed_moment w.config.skew_ms w.observer moment) t.seen };
+    }
 
 abbrev pub after_server : WorldState → ℕ → Taken ServerState → Option ServerState → Happened
 after_server w moment t None = record { out = t.out; world = record w { server = None } }
@@ -92,7 +94,7 @@ after_call w moment number c out (Some s) =
 -- a step of the master, of the server, or of the client, on a message or a tick; one that is down takes none
 abbrev pub master_moves : WorldState → ℕ → Input → Choice → Option MasterState → Happened
 master_moves w moment i choice None = nothing_happens w
-master_moves w moment i choice (Some m) = after_master w moment (master_step m moment i choice).out (master_step m moment i choice).state
+master_moves w moment i choice (Some m) = after_master w moment (master_step m moment i choice) (master_step m moment i choice).state
 
 abbrev pub server_moves : WorldState → ℕ → Input → Choice → Option ServerState → Happened
 server_moves w moment i choice None = nothing_happens w
@@ -139,7 +141,3 @@ after_events w (step ∷ rest) = after_events (happens w step.0 step.1).world re
 -- a world that a lawful list leads to from a new cell
 abbrev pub IsReached : WorldState → Type 0
 IsReached w = (steps : List (Event × Choice)) × (after_events (new_world w.config) steps ≡ w)
-
--- Where clocks were kept, the calls and answers are a run of the machine.
-abbrev pub IsExplained : WorldState → Type 0
-IsExplained w = IsTrue w.observer.are_clocks_kept → IsRun w.config w.observer.trace

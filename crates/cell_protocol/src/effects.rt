@@ -4,7 +4,7 @@ ghost use Rattle.std.specs.Prelude.{◌≡◌, List, [], ◌∷◌, ◌++◌, Op
 ghost use Rattle.cell_protocol.specs.Seen.{down_output};
 ghost use Rattle.messages.specs.declared.message.Message.{Message as MessageValue};
 
-use crate::seen::Numbering;
+use crate::seen::Seen;
 use gfs_types::answer::Answer;
 use messages::event::StepOut;
 use messages::message::Message;
@@ -12,19 +12,19 @@ use messages::message_lists::MessageList;
 use gfs_types::no_memory::NoMemory;
 use std::alloc::Global;
 
-/// The messages, the answer, and the mutation that got its serial.
+/// The messages, the answer, and what is seen.
 #[derive(Drop)]
 pub struct Effects {
     pub sent: MessageList,
     pub answer: Option<Answer>,
-    pub seen: Option<Numbering>,
+    pub seen: Option<Seen>,
 }
 
-/// A step of a server: what it gives, and what is seen of it.
+/// A step of the master or a server: what it gives, and what is seen of it.
 #[derive(Drop)]
 pub struct Outcome {
     pub out: StepOut,
-    pub seen: Option<Numbering>,
+    pub seen: Option<Seen>,
 }
 
 impl Effects {
@@ -89,7 +89,7 @@ impl Effects {
 }
 
 impl Outcome {
-    /// What a server gives that is put down.
+    /// What a master or a server gives that is put down.
     pub fn down(alloc: Global) -> Outcome
         ensures out { result.out ≡ down_output }
         ensures seen { result.seen ≡ None }

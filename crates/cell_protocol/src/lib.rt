@@ -6,5 +6,6 @@ pub mod limits;
 pub mod observer;
 pub mod rows;
 pub mod seen;
+pub mod shown;
 pub mod stage;
 pub mod standing;
