@@ -198,12 +198,13 @@ impl<A: Allocator + Clone> Cell<A> {
             self.master = None;
             return None;
         }
-        let out = master.step(now, message);
+        let Outcome { out, seen } = master.step(now, message);
         let Ok((answer, _)) = sends(&mut self.network, self.alloc, out) else {
             self.master = None;
             return None;
         };
         self.watch.passes(self.config.skew_ms, now);
+        self.watch.sees(seen);
         answer
     }
 

@@ -5,7 +5,7 @@ mod answers;
 mod cell;
 pub mod fault;
 mod network;
-mod placings;
+mod recorded;
 mod sights;
 mod watch;
 pub mod world;

@@ -64,6 +64,16 @@ impl<A: Allocator + Clone> Master<A> {
         })
     }
 
+    /// The file that a path names.
+    pub fn file(&self, path: &Path) -> Option<FileId>
+        ensures { result ≡ option_map file_id (file_named (node_at self.now.names path.now)) }
+    {
+        match self.names.get(path)?.kind() {
+            NameKind::Dir => None,
+            NameKind::File(id) => Some(id),
+        }
+    }
+
     fn lists(&self, text: &Text) -> Result<Answer, NoMemory>
         ensures { IfOk result (λ a. Replies a ≡ outcome_of self.now.names (call.List text.now)) }
     {

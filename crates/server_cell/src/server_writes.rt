@@ -16,7 +16,7 @@ use crate::server::Server;
 use bytes::Bytes;
 use cell_protocol::effects::Effects;
 use cell_protocol::limits::COUNTER_LIMIT;
-use cell_protocol::seen::Numbering;
+use cell_protocol::seen::{Numbering, Seen};
 use cell_protocol::standing::{Kept, Standing};
 use gfs_types::ids::{DataId, Handle, Moment, Node, Serial, Version};
 use messages::message::{Body, Target};
@@ -190,7 +190,7 @@ impl Server {
             standing,
         });
         let mut effects = self.answers_attempt(id, standing)?;
-        effects.seen = Some(numbering);
+        effects.seen = Some(Seen::Numbered(numbering));
         Ok(effects)
     }
 
