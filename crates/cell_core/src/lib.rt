@@ -6,6 +6,7 @@ mod cell;
 pub mod fault;
 mod network;
 mod recorded;
+mod shown;
 mod sights;
 mod watch;
 pub mod world;

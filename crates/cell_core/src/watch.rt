@@ -1,6 +1,7 @@
 //! The observer of a cell, with room for what the next event shows. No node reads it (section 2.7).
 
-ghost use Rattle.std.specs.Prelude.{◌≡◌, ◌+◌, ◌<◌, ◌≤◌, OnOk, IfOk};
+ghost use Rattle.std.specs.Prelude.{◌≡◌, ◌+◌, ◌<◌, ◌≤◌, All, OnOk, IfOk};
+ghost use Rattle.cell_protocol.specs.Bounds.{IsWithin, AllSeenWithin};
 ghost use Rattle.cell_protocol.specs.Observer.{new_observer, observed_moment, observed_call, observed_answer, observed};
 ghost use Rattle.cell_protocol.specs.Tables.{moment_limit};
 
@@ -29,11 +30,15 @@ pub struct Watch {
 }
 
 impl Model for Watch {
+    ghost use Rattle.std.specs.Prelude.{All};
+    ghost use Rattle.cell_protocol.specs.Bounds.{IsWithin};
     ghost use Rattle.cell_core.specs.Capacity.{Watching};
 
     ghost Value = { Watching };
 
     ghost view = { λ w. record { observer = record { trace = w.trace.items; placed = w.placed.items; added = w.added.items; call_count = w.call_count; greatest = w.greatest; are_clocks_kept = w.are_clocks_kept }; sights = w.trace.room; placings = w.placed.room; additions = w.added.room } };
+
+    ghost invariant = { λ w. All (λ p. IsWithin p.numbering.mutation) w.placed.items };
 }
 
 impl Watch {
@@ -110,6 +115,7 @@ impl Watch {
     pub fn sees(&mut self, seen: Option<Seen>)
         requires placings { 0 < self.old.placings }
         requires additions { 0 < self.old.additions }
+        requires within { AllSeenWithin seen }
         ensures observer { self.new.observer ≡ observed self.old.observer seen }
         ensures sights { self.new.sights ≡ self.old.sights }
     {
@@ -125,7 +131,8 @@ impl Watch {
 
     /// The mutations of all chunks, in the order in which they were numbered.
     pub fn placed(&self) -> &[Placed]
-        ensures { result.now ≡ self.now.observer.placed }
+        ensures placed { result.now ≡ self.now.observer.placed }
+        ensures within { All (λ p. IsWithin p.numbering.mutation) result.now }
     {
         self.placed.as_slice()
     }

@@ -12,14 +12,14 @@ ghost use Rattle.cell_protocol.specs.MasterAsks.{takes_ask, asks_of, looks_at, m
 
 use crate::master::{Master, from_master, only_member};
 use cell_protocol::effects::Effects;
-use cell_protocol::seen::{AddedChunk, Seen};
 use cell_protocol::rows::ChunkRow;
+use cell_protocol::seen::{AddedChunk, Seen};
 use gfs_types::ids::{FileId, Handle, Moment, Node, OrderNo, ServerId, Version};
 use gfs_types::lists::HandleList;
-use messages::message::{Body, Group, Holder, Location, Wanted};
-use messages::message_lists::{HolderList, MessageList};
 use gfs_types::no_memory::NoMemory;
 use gfs_types::refusal::Refusal;
+use messages::message::{Body, Group, Holder, Location, Wanted};
+use messages::message_lists::{HolderList, MessageList};
 use std::alloc::{Allocator, Global};
 
 impl<A: Allocator + Clone> Master<A> {
