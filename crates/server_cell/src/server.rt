@@ -78,8 +78,9 @@ impl Server {
         ensures steps { ServerSteps self.old now.0 (input_of (option_copied message.entry)) result.out result.seen self.new }
         ensures within { AllSeenWithin result.seen }
     {
+        let alloc = self.alloc;
         let Ok(effects) = self.goes(now, message) else {
-            return Outcome::down(self.alloc);
+            return Outcome::down(alloc);
         };
         effects.into_outcome()
     }
