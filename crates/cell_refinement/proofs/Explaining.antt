@@ -1,5 +1,5 @@
 -- A state of the machine that a world simulates explains it: the names, the files' chunks with their orders, and each replica.
-use Rattle.std.proofs.Common.{◌≡◌, ℕ, zero, suc, ◌≤◌, false, true, cond, List, [], ◌∷◌, length, Option, Some, None, refl, sym, ap, ◌∙◌, subst, arith, nat_lt}
+use Rattle.std.proofs.Common.{◌≡◌, ℕ, ◌≤◌, false, true, cond, List, [], length, Option, Some, None, refl, sym, ap, ◌∙◌, subst, arith, nat_lt}
 use Rattle.std.specs.Prelude.{All, IfSome, slice_get, option_map}
 use Rattle.std.specs.Option.{option_to_list}
 use Rattle.std.specs.FinMap as table
@@ -7,17 +7,17 @@ use Rattle.std.proofs.lemmas.List.Elements.{All-nil, All-cons}
 use Rattle.gfs_types.specs.declared.ids.Handle.{Handle}
 use Rattle.gfs_types.specs.Image.{image_length}
 use Rattle.relaxed_file.specs.Order.{Entry, IsSelection, mutations_of}
-use Rattle.relaxed_file.specs.Machine.{Chunk, chunk_at, chunk_count}
+use Rattle.relaxed_file.specs.Machine.{chunk_at, chunk_count}
 use Rattle.cell_protocol.specs.declared.shown.StoredReplica.{StoredReplica}
 use Rattle.cell_protocol.specs.Sending.{handle_of}
 use Rattle.cell_protocol.specs.Server.{ServerState, Replica}
 use Rattle.cell_protocol.specs.Master.{MasterState}
 use Rattle.cell_protocol.specs.Observer.{entries_of, chunks_of}
 use Rattle.cell_protocol.specs.World.{WorldState}
-use Rattle.cell_protocol.specs.Shown.{order_at, replicas_at, stored_replica, stored_on}
+use Rattle.cell_protocol.specs.Shown.{stored_replica, stored_on}
 use Rattle.cell_protocol.specs.Explained.{order_in, IsOfSelection, Explains}
-use Rattle.cell_refinement.specs.Known.{Known, Spot, chunk_of, calls_made}
-use Rattle.cell_refinement.specs.Simulates.{IsChunkAt, IsFileOf, IsMaster, IsServer, IsReplica, known_of, Simulates}
+use Rattle.cell_refinement.specs.Known.{Known, Spot, calls_made}
+use Rattle.cell_refinement.specs.Simulates.{IsChunkAt, IsMaster, IsServer, IsReplica, known_of, Simulates}
 use Rattle.cell_refinement.proofs.ImageBytes.{length-image}
 use Rattle.cell_refinement.proofs.ServerReading.{whole, rounds_of}
 use Rattle.cell_refinement.proofs.MasterTakes.{past_none}
