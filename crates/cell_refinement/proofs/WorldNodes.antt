@@ -6,7 +6,7 @@ use Rattle.std.proofs.lemmas.Option.{same_Some}
 use Rattle.messages.specs.declared.event.Input.{Input}
 use Rattle.messages.specs.declared.event.Input.TheVariants as input
 use Rattle.cell_protocol.specs.Choice.{Choice, Ending, Goes, Lost, in_order}
-use Rattle.cell_protocol.specs.Seen.{ends, stays}
+use Rattle.cell_protocol.specs.Seen.{Does, ends, stays}
 use Rattle.cell_protocol.specs.Master.{MasterState}
 use Rattle.cell_protocol.specs.MasterStep.{master_does, master_at}
 use Rattle.cell_protocol.specs.Client.{ClientState}
@@ -65,14 +65,15 @@ module _ (w : WorldState) (x : Simulates w) (moment : ℕ) (clock : w.observer.g
       calls = x.calls;
     }
     master_goes i choice Goes there =
-        let o : MasterOutcome km (master_does s1 choice.refused i) w.sent (trace1 w x moment clock) = master_outcome choice.refused i there in
+        let d : Does MasterState = master_does s1 choice.refused i in
+        let o : MasterOutcome km d w.sent (trace1 w x moment clock) = master_outcome choice.refused i there in
         record {
           m = o.m;
           owner = o.owner;
           attempts = x.attempts;
-          holds = subst (λ ps. Holds (record (moved km o.m o.owner (w.observer.added ++ newly_added (master_does s1 choice.refused i).seen) (master_does s1 choice.refused i).state) { placed = ps }) (all_sent w.sent (in_order choice.order (master_does s1 choice.refused i).sent)) (trace1 w x moment clock))
+          holds = subst (λ ps. Holds (record (moved km o.m o.owner (w.observer.added ++ newly_added d.seen) d.state) { placed = ps }) (all_sent w.sent (in_order choice.order d.sent)) (trace1 w x moment clock))
               (sym (ap (λ ps. w.observer.placed ++ ps) (o.placed w.observer.call_count) ∙ append-nil w.observer.placed))
-              (sends_more _ w.sent (master_does s1 choice.refused i).sent choice.order (trace1 w x moment clock) o.holds o.says);
+              (sends_more _ w.sent d.sent choice.order (trace1 w x moment clock) o.holds o.says);
           calls = x.calls ∙ sym o.made;
         }
 
