@@ -1,13 +1,11 @@
 -- What becomes of reference counts and rows as files take and leave chunks.
-use Rattle.std.proofs.Common.{◌≡◌, ℕ, ◌+◌, ◌-◌, ◌<◌, ◌≤◌, Bool, true, false, cond, eqb, leb, List, [], ◌∷◌, ◌++◌, length, refl, sym, ap, ◌∙◌, subst, Some, None, Option, IfSome, is_some, arith}
+use Rattle.std.proofs.Common.{◌≡◌, ℕ, ◌+◌, ◌-◌, ◌<◌, ◌≤◌, Bool, true, false, cond, eqb, leb, List, [], ◌∷◌, refl, sym, ap, ◌∙◌, subst, Some, None, Option, IfSome, is_some, arith}
 use Rattle.std.specs.Option.{option_map}
-use Rattle.std.specs.Ordering.{nat_cmp, eq_by_cmp}
-use Rattle.std.specs.List.{sum_by, count_by}
 use Rattle.std.specs.FinMap.{get}
 use Rattle.std.proofs.lemmas.List.Sums.{sum_by-cons}
-use Rattle.std.proofs.lemmas.Bool.{eqb-true, eq-eqb, ne_eqb}
+use Rattle.std.proofs.lemmas.Bool.{eq-eqb, ne_eqb}
 use Rattle.std.proofs.lemmas.Bool.Decides.{nat_tests}
-use Rattle.chunk_table.specs.ChunkTable.{NumberTable, ChunkRow, counter_limit, changed_at, share_one, share_all, leave_one, leave_all, row_shared, row_left}
+use Rattle.chunk_table.specs.ChunkTable.{NumberTable, ChunkRow, changed_at, share_one, share_all, leave_one, leave_all, row_shared, row_left}
 use Rattle.chunk_table.specs.Owners.{times, references_in, references_at, IsSoundRow}
 use Rattle.chunk_table.proofs.Lookups.{at_key, get_changed, get_left, row_after}
 

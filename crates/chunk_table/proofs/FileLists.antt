@@ -1,5 +1,5 @@
 -- A file's list that was lent and changed.
-use Rattle.std.proofs.Common.{◌≡◌, ℕ, List, [], ◌∷◌, ◌++◌, refl, sym, ap, ◌∙◌, subst, Some, None, Option, OnSome, MutBor, Result, Ok, Err, OnOk, OnErr, unwrap_or}
+use Rattle.std.proofs.Common.{◌≡◌, ℕ, List, [], ◌∷◌, ◌++◌, sym, ap, ◌∙◌, subst, Some, Option, OnSome, MutBor, Result, Ok, Err, OnOk, OnErr, unwrap_or}
 use Rattle.std.proofs.Math.ListN.{set}
 use Rattle.std.specs.FinMap.{get, insert}
 use Rattle.chunk_table.specs.ChunkTable.{NumberTable}

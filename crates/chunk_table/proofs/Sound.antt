@@ -1,17 +1,17 @@
 -- Each change of the table keeps it sound.
-use Rattle.std.proofs.Common.{◌≡◌, ℕ, ◌+◌, ◌-◌, ◌<◌, ◌≤◌, Bool, true, false, cond, eqb, ◌==◌, List, [], ◌∷◌, ◌++◌, length, get_or, refl, sym, ap, ◌∙◌, subst, Some, None, Option, OnSome, IfSome, is_some, unwrap_or, arith, length-append}
+use Rattle.std.proofs.Common.{◌≡◌, ℕ, ◌+◌, ◌-◌, ◌<◌, ◌≤◌, true, cond, eqb, ◌==◌, List, [], ◌∷◌, ◌++◌, length, get_or, refl, sym, ap, ◌∙◌, subst, Some, None, Option, OnSome, IfSome, is_some, unwrap_or, arith, length-append}
 use Rattle.std.proofs.Math.ListN.{set, length-set}
 use Rattle.std.specs.Option.{option_map}
 use Rattle.std.specs.Ordering.{nat_cmp}
 use Rattle.std.specs.Cmp.{nat_cmp_total}
 use Rattle.std.specs.List.{sum_by}
-use Rattle.std.proofs.lemmas.List.Sums.{sum_by-append, sum_by-cons, sum_by-set, sum_by-le-sum_by, count_by-le-length}
+use Rattle.std.proofs.lemmas.List.Sums.{sum_by-append, sum_by-set, sum_by-le-sum_by, count_by-le-length}
 use Rattle.std.specs.FinMap.{get, insert, remove, empty, entries, get-empty, get-insert, get-remove, len-empty, len-entries}
 use Rattle.chunk_table.specs.ChunkTable.{NumberTable, ChunkRow, TableState, counter_limit, new_row, row_issued, row_granted, row_ended, changed_at, share_one, share_all, leave_one, leave_all}
 use Rattle.chunk_table.specs.Owners.{total, times, owners, all_owners, references_in, references_at, IsSoundRow, IsSoundFile, IsSound}
 use Rattle.chunk_table.proofs.Lookups.{at_key, get_changed, key_itself}
 use Rattle.chunk_table.proofs.Sums.{total_added, total_removed, total_replaced}
-use Rattle.chunk_table.proofs.Counts.{AllRows, AllOwned, one_at, one_here, one_there, times_more, owned_stands, references_shared, references_left, references_all_shared, references_all_left, rows_changed, rows_one_shared, rows_one_left, rows_all_shared, rows_all_left}
+use Rattle.chunk_table.proofs.Counts.{AllRows, AllOwned, one_at, one_here, one_there, times_more, references_shared, references_left, references_all_shared, references_all_left, rows_changed, rows_one_shared, rows_one_left, rows_all_shared, rows_all_left}
 
 abbrev pub Holds : NumberTable (List ℕ) → NumberTable ChunkRow → ℕ → ℕ → ℕ → Type 0
 Holds files chunks nf nh n = IsSound (record { table = record { files = files; chunks = chunks }; next_file = nf; next_handle = nh }) × (n ≡ all_owners files)
@@ -26,16 +26,17 @@ nothing_in (x ∷ es) e = absurd (omega arith)
 total_empty : (g : List ℕ → ℕ) → total g empty ≡ 0
 total_empty g = ap (sum_by (λ e. g e.1)) (nothing_in (entries (empty {X = List ℕ} {R = nat_cmp})) (sym (len-entries empty) ∙ len-empty nat_cmp (List ℕ)))
 
-pub holds_empty : (files : NumberTable (List ℕ)) (chunks : NumberTable ChunkRow) → files ≡ empty → chunks ≡ empty → Holds files chunks 1 1 0
-holds_empty files chunks ef ec = (
+pub holds_empty : (files : NumberTable (List ℕ)) (chunks : NumberTable ChunkRow) (nf nh : ℕ) → files ≡ empty → chunks ≡ empty
+    → (1 ≤ nf) × (nf ≤ counter_limit) → (1 ≤ nh) × (nh ≤ counter_limit) → Holds files chunks nf nh 0
+holds_empty files chunks nf nh ef ec file handle = (
   record {
-    files = λ f. subst (λ o. OnSome o (IsSoundFile 1 f)) (sym (ap (λ m. get m f) ef ∙ get-empty nat_cmp f)) tt;
-    chunks = λ h. subst (λ o. IfSome o (IsSoundRow 1 h)) (sym (ap (λ m. get m h) ec ∙ get-empty nat_cmp h)) tt;
+    files = λ f. subst (λ o. OnSome o (IsSoundFile nf f)) (sym (ap (λ m. get m f) ef ∙ get-empty nat_cmp f)) tt;
+    chunks = λ h. subst (λ o. IfSome o (IsSoundRow nh h)) (sym (ap (λ m. get m h) ec ∙ get-empty nat_cmp h)) tt;
     references = λ h. ap references_in (ap (λ m. get m h) ec ∙ get-empty nat_cmp h) ∙ sym (ap (total (times h)) ef ∙ total_empty (times h));
-    next_file_from_one = omega arith;
-    next_file_within_limit = omega arith;
-    next_handle_from_one = omega arith;
-    next_handle_within_limit = omega arith;
+    next_file_from_one = file.0;
+    next_file_within_limit = file.1;
+    next_handle_from_one = handle.0;
+    next_handle_within_limit = handle.1;
     owners_within_limit = (let e = ap (total (λ handles. length handles)) ef ∙ total_empty (λ handles. length handles) in omega arith);
   },
   sym (ap (total (λ handles. length handles)) ef ∙ total_empty (λ handles. length handles)),

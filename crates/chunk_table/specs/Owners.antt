@@ -1,5 +1,5 @@
 -- What holds of every table: a chunk's reference count is the number of its owners, and no number is used twice (sections 2.6.1 and 3.4).
-use Rattle.std.specs.Prelude.{◌≡◌, ℕ, ◌+◌, ◌<◌, ◌≤◌, ◌==◌, List, length, Option, Some, None, IfSome, OnSome, count_by, sum_by}
+use Rattle.std.specs.Prelude.{◌≡◌, ℕ, ◌<◌, ◌≤◌, ◌==◌, List, length, Option, Some, None, IfSome, OnSome, count_by, sum_by}
 use Rattle.std.specs.FinMap as map
 use Rattle.chunk_table.specs.ChunkTable.{NumberTable, ChunkRow, TableState, counter_limit}
 

@@ -1,6 +1,5 @@
 -- Why a change of the table is refused: the first cause that holds.
 use Rattle.std.specs.Prelude.{◌≡◌, ℕ, ◌+◌, Bool, ◌&&◌, ◌==◌, nat_lt, nat_le, if◌then◌else◌, List, length, Option, Some, None, unwrap_or, Result, MatchResult}
-use Rattle.std.specs.FinMap as map
 use Rattle.chunk_table.specs.declared.fault.TableFault.{TableFault}
 use Rattle.chunk_table.specs.declared.fault.TableFault.TheVariants.{NoFile, NoChunk, NoIndex, NotIssued, Owned, Limit, NoMemory}
 use Rattle.chunk_table.specs.ChunkTable.{ChunkRow, TableState, counter_limit, file_of, chunk_of}

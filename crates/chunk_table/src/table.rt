@@ -1,8 +1,8 @@
 //! The table of files and chunks.
 
-ghost use Rattle.std.specs.Prelude.{◌≡◌, ℕ, Some, None, IfOk, OnOk, OnErr};
+ghost use Rattle.std.specs.Prelude.{◌≡◌, ℕ, ◌<◌, ◌≤◌, Some, None, IfOk, OnOk, OnErr};
 ghost use Rattle.std.specs.Option.{option_copied};
-ghost use Rattle.chunk_table.specs.ChunkTable.{new_table, file_of, chunk_of, row_issued, row_granted, row_ended, with_file, with_chunk, with_row_changed, with_shared, with_swapped, without_file, with_copy, without_copy};
+ghost use Rattle.chunk_table.specs.ChunkTable.{counter_limit, new_table, new_chunk_table, file_of, chunk_of, row_issued, row_granted, row_ended, with_file, with_chunk, with_row_changed, with_shared, with_swapped, without_file, with_copy, without_copy};
 ghost use Rattle.chunk_table.specs.Owners.{IsSound};
 ghost use Rattle.chunk_table.specs.Refusals.{RefusedFor, RefusedExactly, add_file_refusal, add_chunk_refusal, issue_refusal, grant_refusal, share_refusal, swap_refusal, drop_refusal, start_copy_refusal, give_up_copy_refusal, version_after};
 
@@ -13,6 +13,7 @@ use crate::fault::TableFault;
 use crate::files::{push_at, set_at, share_file};
 use gfs_types::ids::{FileId, Handle, Moment, ServerId, Version};
 use gfs_types::lists::{HandleList, ServerList};
+use gfs_types::no_memory::NoMemory;
 use number_map::NumberMap;
 use std::alloc::Global;
 use std::marker::Model;
@@ -58,12 +59,21 @@ impl Table {
     pub fn new(alloc: Global) -> Table
         ensures { result ≡ new_table }
     {
+        Table::counting_from(alloc, 1, 1)
+    }
+
+    // A table without files, whose next file and next chunk take these numbers.
+    pub(crate) fn counting_from(alloc: Global, next_file: u64, next_handle: u64) -> Table
+        requires file { (1 ≤ next_file) × (next_file ≤ counter_limit) }
+        requires handle { (1 ≤ next_handle) × (next_handle ≤ counter_limit) }
+        ensures { result ≡ record { table = new_chunk_table; next_file = next_file; next_handle = next_handle } }
+    {
         Table {
             alloc,
             files: NumberMap::new(alloc),
             chunks: NumberMap::new(alloc),
-            next_file: 1,
-            next_handle: 1,
+            next_file,
+            next_handle,
             owners: 0,
         }
     }
@@ -277,13 +287,27 @@ impl Table {
             return Err(TableFault::NoChunk);
         };
         let Version(issued) = chunk.issued();
-        let handle = self.next_handle;
-        if issued >= COUNTER_LIMIT || handle >= COUNTER_LIMIT {
+        if issued >= COUNTER_LIMIT || self.next_handle >= COUNTER_LIMIT {
             return Err(TableFault::Limit);
         }
-        let copy = Chunk::new(self.alloc, Version(issued + 1), 0);
-        let Ok(()) = self.chunks.insert(handle, copy) else {
+        let Ok(copy) = self.add_copy(Version(issued + 1)) else {
             return Err(TableFault::NoMemory);
+        };
+        Ok(copy)
+    }
+
+    // A new chunk without owner, under the next handle, of which that version number is the last that was issued.
+    pub(crate) fn add_copy(&mut self, issued: Version) -> Result<Handle, NoMemory>
+        requires handle { self.old.next_handle < counter_limit }
+        requires version { issued.0 ≤ counter_limit }
+        ensures handle { IfOk result (λ handle. handle.0 ≡ self.old.next_handle) }
+        ensures ok { OnOk result (self.new ≡ with_copy self.old issued.0) }
+        ensures err { OnErr result (self.new ≡ self.old) }
+    {
+        let handle = self.next_handle;
+        let copy = Chunk::new(self.alloc, issued, 0);
+        let Ok(()) = self.chunks.insert(handle, copy) else {
+            return Err(NoMemory);
         };
         self.next_handle = handle + 1;
         Ok(Handle(handle))

@@ -4,3 +4,5 @@
 pub mod held;
 pub mod laws;
 pub mod master;
+#[cfg(test)]
+mod tests;

@@ -207,3 +207,63 @@ fn place(mutation: &Mutation) -> Option<u64>
         Mutation::Pad(_) => None,
     }
 }
+
+#[cfg(test)]
+mod tests {
+    use super::Primary;
+    use crate::COUNTER_LIMIT;
+    use crate::answer::{Accept, Settled};
+    use gfs_types::ids::{ClientId, Moment, Serial, ServerId, Version};
+    use gfs_types::lists::ServerList;
+    use gfs_types::mutation::Mutation;
+    use gfs_types::refusal::Refusal;
+    use leases::held::Held;
+    use number_map::NumberMap;
+    use std::test::Fail;
+
+    #[test]
+    fn serials_stop_at_the_limit(rt: HostRuntime) -> Result<(), Fail> {
+        let alloc = rt.alloc();
+        let (first, second) = (ClientId(1), ClientId(2));
+        let (pad, now) = (Mutation::Pad(16), Moment(10));
+        let last = Serial(4_611_686_018_427_387_903);
+        let members = ServerList::new(Vec::from_slice(alloc, &[1u16])?);
+        let mut primary = Primary {
+            held: Held::take(Version(1), Moment(60_000), members, 2_000),
+            serial: COUNTER_LIMIT - 1,
+            wants_more: false,
+            kept: NumberMap::new(alloc),
+            waiting: NumberMap::new(alloc),
+        };
+        assert_eq!(rt;
+            primary.accept(alloc, first, 1, &pad, now),
+            Ok(Accept::New(last))
+        );
+        primary.reported();
+        assert_eq!(rt;
+            primary.accept(alloc, second, 1, &pad, now),
+            Ok(Accept::Pending)
+        );
+        assert_eq!(rt;
+            primary.accept(alloc, first, 2, &pad, now),
+            Ok(Accept::Pending)
+        );
+        assert_eq!(rt; primary.serial(), last);
+        assert!(rt; !primary.wants_more());
+        assert_eq!(rt; primary.known(second, 1), None);
+        assert_eq!(rt; primary.known(first, 2), None);
+        assert_eq!(rt; primary.known(first, 1), Some(Accept::Pending));
+        let settled = Settled {
+            client: first,
+            seq: 1,
+            place: None,
+        };
+        assert_eq!(rt; primary.ack(ServerId(1), last, now), Some(settled));
+        assert_eq!(rt; primary.deny(second, 1, Refusal::NoData), Ok(()));
+        assert_eq!(rt;
+            primary.accept(alloc, second, 1, &pad, now),
+            Ok(Accept::Refused(Refusal::NoData))
+        );
+        Ok(())
+    }
+}

@@ -1,4 +1,4 @@
-use Rattle.std.proofs.Common.{◌≡◌, ◌+◌, ◌<◌, ap, sym, ◌∙◌, drop, length, get_or, arith}
+use Rattle.std.proofs.Common.{◌+◌, ◌<◌, ap, sym, ◌∙◌, drop, length, get_or, arith}
 use Rattle.std.proofs.lemmas.List.{at_drop_more}
 use Rattle.chunk_table.specs.ChunkTable.{share_all}
 use Rattle.chunk_table.specs.Owners.{references_at}

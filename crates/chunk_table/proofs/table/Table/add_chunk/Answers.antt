@@ -1,4 +1,4 @@
-use Rattle.std.proofs.Common.{◌≡◌, ◌<◌, ◌≤◌, ◌+◌, [], ap, sym, ◌∙◌, refl, Some, IsSome, unwrap_or, length, arith, rules}
+use Rattle.std.proofs.Common.{ap, ◌∙◌, refl, IsSome, arith, rules}
 use Rattle.std.specs.FinMap as map
 use Rattle.chunk_table.proofs.Sums.{put_and_removed}
 use Rattle.chunk_table.proofs.Sound.{along, same_state, some_or_nil, fresh_chunk, holds_chunk_added}

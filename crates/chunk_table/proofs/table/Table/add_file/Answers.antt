@@ -1,4 +1,4 @@
-use Rattle.std.proofs.Common.{◌≡◌, ◌<◌, ◌≤◌, ◌+◌, [], ap, sym, ◌∙◌, refl, Some, IsSome, unwrap_or, length, arith, rules}
+use Rattle.std.proofs.Common.{ap, ◌∙◌, refl, arith}
 use Rattle.std.specs.FinMap as map
 use Rattle.chunk_table.proofs.Sound.{along, holds_file_added}
 use Rattle.chunk_table.proofs.table.Table.add_file.Goals as goal

@@ -1,5 +1,4 @@
-use Rattle.std.proofs.Common.{◌≡◌, ◌<◌, ◌≤◌, ◌+◌, [], ap, sym, ◌∙◌, refl, Some, IsSome, unwrap_or, length, arith, rules}
-use Rattle.std.specs.FinMap as map
+use Rattle.std.proofs.Common.{ap, sym, ◌∙◌, arith}
 use Rattle.chunk_table.proofs.Sound.{along, holds_dropped, dropped_le}
 use Rattle.chunk_table.specs.ChunkTable.{leave_all}
 use Rattle.chunk_table.proofs.table.Table.drop_file.Goals as goal

@@ -1,5 +1,4 @@
-use Rattle.std.proofs.Common.{◌≡◌, ◌<◌, ◌≤◌, ◌+◌, [], ap, sym, ◌∙◌, refl, Some, IsSome, unwrap_or, length, arith, rules}
-use Rattle.std.specs.FinMap as map
+use Rattle.std.proofs.Common.{sym, refl, arith}
 use Rattle.chunk_table.proofs.Sound.{along, holds_copy_removed}
 use Rattle.chunk_table.proofs.table.Table.give_up_copy.Goals as goal
 

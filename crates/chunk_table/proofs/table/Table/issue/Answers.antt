@@ -1,5 +1,4 @@
-use Rattle.std.proofs.Common.{◌≡◌, ◌<◌, ◌≤◌, ◌+◌, [], ap, sym, ◌∙◌, refl, Some, IsSome, unwrap_or, length, arith, rules}
-use Rattle.std.specs.FinMap as map
+use Rattle.std.proofs.Common.{refl, arith}
 use Rattle.chunk_table.proofs.Sound.{along, holds_issued}
 use Rattle.chunk_table.proofs.table.Table.issue.Goals as goal
 

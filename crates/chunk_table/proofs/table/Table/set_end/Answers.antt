@@ -1,5 +1,4 @@
-use Rattle.std.proofs.Common.{◌≡◌, ◌<◌, ◌≤◌, ◌+◌, [], ap, sym, ◌∙◌, refl, Some, IsSome, unwrap_or, length, arith, rules}
-use Rattle.std.specs.FinMap as map
+use Rattle.std.proofs.Common.{refl}
 use Rattle.chunk_table.proofs.Sound.{along, holds_ended}
 use Rattle.chunk_table.proofs.table.Table.set_end.Goals as goal
 

@@ -1,4 +1,4 @@
-use Rattle.std.proofs.Common.{◌≡◌, ℕ, ◌<◌, ◌≤◌, ◌+◌, List, [], ap, sym, ◌∙◌, refl, subst, Some, IsSome, unwrap_or, get_or, length, arith}
+use Rattle.std.proofs.Common.{ℕ, ◌≤◌, ◌+◌, List, [], ap, sym, ◌∙◌, subst, unwrap_or, length, arith}
 use Rattle.std.specs.FinMap as map
 use Rattle.chunk_table.specs.ChunkTable.{counter_limit, share_all, with_shared}
 use Rattle.chunk_table.specs.Owners.{references_at}

@@ -1,4 +1,4 @@
-use Rattle.std.proofs.Common.{◌≡◌, ℕ, ◌<◌, ◌≤◌, ◌+◌, List, [], ap, sym, ◌∙◌, refl, subst, Some, IsSome, unwrap_or, get_or, length, arith}
+use Rattle.std.proofs.Common.{◌<◌, [], ap, sym, ◌∙◌, refl, unwrap_or, get_or, length, arith}
 use Rattle.std.specs.FinMap as map
 use Rattle.std.proofs.Math.ListN.{set}
 use Rattle.chunk_table.specs.ChunkTable.{leave_one, share_one}

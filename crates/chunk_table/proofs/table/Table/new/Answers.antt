@@ -1,5 +1,0 @@
-use Rattle.chunk_table.proofs.Sound.{holds_empty}
-use Rattle.chunk_table.proofs.table.Table.new.Goals as goal
-
-pub invariant_of-result : goal.invariant_of-result
-invariant_of-result c = holds_empty _ _ c.new.ensures c.new-2.ensures
