@@ -1,6 +1,9 @@
 -- What each step of the master keeps, with the messages that were sent, and what messages that are no orders leave as it is, holds in each world that is reached.
-use Rattle.std.proofs.Common.{◌≡◌, ℕ, suc, ◌-◌, List, [], ◌∷◌, ◌++◌, length, Option, Some, None, refl, subst, ◌∙◌}
-use Rattle.std.specs.Prelude.{nat_lt, nat_le, ◌&&◌}
+use Rattle.std.proofs.Common.{◌≡◌, ℕ, suc, ◌+◌, ◌-◌, Bool, true, List, [], ◌∷◌, ◌++◌, length, Option, Some, None, refl, ap, subst, ◌∙◌, arith}
+use Rattle.std.specs.Prelude.{◌==◌, nat_lt, nat_le, ◌&&◌, count_by}
+use Rattle.std.proofs.lemmas.Bool.{and_from}
+use Rattle.gfs_types.specs.declared.ids.OrderNo.{OrderNo}
+use Rattle.messages.specs.declared.message.Body.{Body}
 use Rattle.gfs_types.specs.declared.config.Config.{Config}
 use Rattle.gfs_types.specs.declared.ids.Node.{Node}
 use Rattle.gfs_types.specs.declared.ids.Node.TheVariants as node
@@ -23,13 +26,51 @@ use Rattle.protocol.specs.Client.{ClientState, ClientDoing}
 use Rattle.protocol.specs.ClientStep.{may_call, client_goes, client_call_goes, client_ends, client_bounded, client_step, client_call, is_client_within_limits}
 use Rattle.protocol.specs.World.{WorldState, Happened, new_world, nothing_happens, numbered_from_1, stamped, after_master, after_server, after_client, master_moves, server_moves, client_moves, moves, delivered, server_restarts_at, restarts, call_moves, rots_replica, rots_on, at_moment, happens, after_events, IsReached}
 use Rattle.protocol.specs.Laws.{order_number, is_number}
-use Rattle.protocol.proofs.Steps.{on_cond, count-in_order}
+use Rattle.protocol.proofs.Steps.{on_cond, tally, count-cons, count-append, count-in_order}
+use Rattle.protocol.proofs.Entries.{AllOf, same_number}
 use Rattle.protocol.proofs.ServerMoves.{KeepsServer, server_goes_holds}
 use Rattle.protocol.proofs.ClientMoves.{HasNoOrder, one_more, client_goes_quiet, client_call_quiet}
 use Rattle.protocol.proofs.RisingOrders.{element_numbered}
 
 pub no_orders : HasNoOrder []
 no_orders e n = refl
+
+-- each of such messages is no order
+pub without_order : (ms : List Message) → HasNoOrder ms → AllOf (λ m. order_number m.body ≡ None) ms
+without_order [] h = tt
+without_order (m ∷ ms) h = (uncounted (order_number m.body) refl, without_order ms rest)
+  where
+    rest : HasNoOrder ms
+    rest e n = let whole = count-cons (λ (x : Message). is_number e n (order_number x.body)) m ms in let none = h e n in omega (arith, whole, none)
+
+    counts : (o : OrderNo) → is_number o.epoch o.count (Some o) ≡ true
+    counts o = and_from (o.epoch == o.epoch) (o.count == o.count) (same_number o.epoch) (same_number o.count)
+
+    uncounted : (o : Option OrderNo) → order_number m.body ≡ o → order_number m.body ≡ None
+    uncounted None is = is
+    uncounted (Some order) is =
+        let whole = count-cons (λ (x : Message). is_number order.epoch order.count (order_number x.body)) m ms in
+        let none = h order.epoch order.count in
+        let one : tally (is_number order.epoch order.count (order_number m.body)) ≡ 1 = ap (λ (o : Option OrderNo). tally (is_number order.epoch order.count o)) is ∙ ap tally (counts order) in
+        absurd (omega (arith, whole, none, one))
+
+-- numbers change no count of bodies
+count-stamped : (f : Body → Bool) (k : ℕ) (ms : List Message) → count_by (λ (m : Message). f m.body) (stamped k ms) ≡ count_by (λ (m : Message). f m.body) ms
+count-stamped f k [] = refl
+count-stamped f k (m ∷ ms) =
+    let one = count-cons (λ (x : Message). f x.body) (record m { number = k }) (stamped (suc k) ms) in
+    let two = count-cons (λ (x : Message). f x.body) m ms in
+    let rest = count-stamped f (suc k) ms in
+    omega (arith, one, two, rest)
+
+-- what a step sends, in the chosen order and with its numbers
+pub count-sent : (f : Body → Bool) (k : ℕ) (sent : List Message) (order : List ℕ) (ms : List Message)
+    → count_by (λ (m : Message). f m.body) (sent ++ stamped k (in_order order ms)) ≡ count_by (λ (m : Message). f m.body) sent + count_by (λ (m : Message). f m.body) ms
+count-sent f k sent order ms =
+    let one = count-append (λ (x : Message). f x.body) sent (stamped k (in_order order ms)) in
+    let two = count-stamped f k (in_order order ms) in
+    let three = count-in_order (λ (x : Message). f x.body) order ms in
+    omega (arith, one, two, three)
 
 -- servers and clients send no order
 

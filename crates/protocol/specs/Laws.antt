@@ -82,6 +82,20 @@ MembersRecordedWhatIsGranted =
     → element_at w.sent place ≡ Some grant → grant.body ≡ body.Grant order handle version end_moment members
     → (member : ℕ) → IsTrue (has_number members member) → WasTold w.sent place member handle.0 version.0
 
+-- whether a message is a grant of this version of a chunk
+abbrev pub is_grant : ℕ → ℕ → Body → Bool
+is_grant handle version (body.Grant order h v end_moment members) = (h.0 == handle) && (v.0 == version)
+is_grant handle version other = false
+
+-- how many grants of this version of a chunk were sent
+abbrev pub grants_of : ℕ → ℕ → List Message → ℕ
+grants_of handle version sent = count_by (λ m. is_grant handle version m.body) sent
+
+-- A version of a chunk is granted at most once (section 3.1).
+abbrev pub VersionsAreGrantedOnce : Type 0
+VersionsAreGrantedOnce =
+    (config : Config) (servers clients : ℕ) (w : WorldState) → IsReached config servers clients w → (handle version : ℕ) → grants_of handle version w.sent ≤ 1
+
 -- The names of a master that is up are a tree (section 4.1).
 abbrev pub MasterNamesAreATree : Type 0
 MasterNamesAreATree =

@@ -1,6 +1,6 @@
 //! Laws of every lawful list of events from a new cell: calls, deliveries, losses, repeats, ticks, restarts, stops in a step, refused memory and rot.
 
-ghost use Rattle.protocol.specs.Laws.{FilesHaveOneName, GrantedIsAtMostIssued, LogHasTheChunks, LogHasTheFiles, LogHasTheNames, MasterNamesAreATree, MembersRecordedWhatIsGranted, OrderNumbersNeverFall, OrdersAreNumberedOnce, ReferencesAreCounted};
+ghost use Rattle.protocol.specs.Laws.{FilesHaveOneName, GrantedIsAtMostIssued, LogHasTheChunks, LogHasTheFiles, LogHasTheNames, MasterNamesAreATree, MembersRecordedWhatIsGranted, OrderNumbersNeverFall, OrdersAreNumberedOnce, ReferencesAreCounted, VersionsAreGrantedOnce};
 
 /// No two orders of the master have one number, over its restarts and stops too.
 pub fn orders_are_numbered_once()
@@ -20,6 +20,11 @@ pub fn granted_is_at_most_issued()
 /// Before a version is granted, each member has told the master that it has it: it recorded it, or reported it.
 pub fn members_recorded_what_is_granted()
     ensures { MembersRecordedWhatIsGranted }
+{}
+
+/// A version of a chunk is granted at most once, over restarts and stops of the master too: no two Grants of it are ever sent.
+pub fn versions_are_granted_once()
+    ensures { VersionsAreGrantedOnce }
 {}
 
 /// The names of a master that is up are a tree, after each of its restarts too.
