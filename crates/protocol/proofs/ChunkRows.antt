@@ -13,6 +13,7 @@ use Rattle.protocol.specs.Tables.{Table, removed_all, map_values}
 use Rattle.protocol.specs.ChunkTable.{ChunkRow, ChunkTable, with_owner, changed_row, shared, all_shared, left_by, left, all_left, handles_of}
 use Rattle.protocol.specs.Logged.{Logged, Copy, after_record, copies_for_file, swapped_in, with_copied_node, with_copied_nodes}
 use Rattle.protocol.proofs.Steps.{on_cond, none_some, same_some, put_cases, kept_cases, removed_cases}
+use Rattle.protocol.proofs.Entries.{mapped_cases}
 
 abbrev pub Rows : Type 0
 Rows = Table ChunkRow
@@ -127,25 +128,12 @@ put_issued t at new l old q r is =
       | inr before ↦ old q r before
     ]
 
--- values that are changed under their numbers
-
-found_mapped : (change : ChunkRow → ChunkRow) (es : List (ℕ × ChunkRow)) (q : ℕ) (row : ChunkRow) → find nat_cmp q (map (λ e. (e.0, change e.1)) es) ≡ Some row
-    → (old : ChunkRow) × (find nat_cmp q es ≡ Some old) × (change old ≡ row)
-found_mapped change [] q row h = none_some row h
-found_mapped change (e ∷ es) q row h = by_key (eq_by_cmp nat_cmp q e.0) refl (found_mapped change es q row) h
-  where
-    by_key : (b : Bool) → eq_by_cmp nat_cmp q e.0 ≡ b → (find nat_cmp q (map (λ x. (x.0, change x.1)) es) ≡ Some row → (old : ChunkRow) × (find nat_cmp q es ≡ Some old) × (change old ≡ row))
-        → cond b (Some (change e.1)) (find nat_cmp q (map (λ x. (x.0, change x.1)) es)) ≡ Some row
-        → (old : ChunkRow) × (find nat_cmp q (e ∷ es) ≡ Some old) × (change old ≡ row)
-    by_key true is rest g = (e.1, ap (λ (b : Bool). cond b (Some e.1) (find nat_cmp q es)) is, same_some (change e.1) row g)
-    by_key false is rest g = let r = rest g in (r.0, ap (λ (b : Bool). cond b (Some e.1) (find nat_cmp q es)) is ∙ r.1, r.2)
-
 pub mapped_from : (t : Rows) (change : ChunkRow → ChunkRow) → ((r : ChunkRow) → (r.granted ≡ (change r).granted) × (r.issued ≡ (change r).issued)) → From t (map_values change t)
 mapped_from t change same handle row h =
-    let found = found_mapped change (table.entries t) handle row (sym (table.get-from_entries nat_cmp_total (map (λ e. (e.0, change e.1)) (table.entries t)) handle) ∙ h) in
+    let found = mapped_cases change t handle row h in
     record {
       old = found.0;
-      at = table.get-entries t handle ∙ found.1;
+      at = found.1;
       granted = (same found.0).0 ∙ ap (λ (r : ChunkRow). r.granted) found.2;
       issued = (same found.0).1 ∙ ap (λ (r : ChunkRow). r.issued) found.2;
     }

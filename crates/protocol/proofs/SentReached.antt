@@ -28,8 +28,11 @@ use Rattle.protocol.specs.World.{WorldState, Happened, new_world, nothing_happen
 use Rattle.protocol.specs.Laws.{order_number, is_number}
 use Rattle.protocol.proofs.Steps.{on_cond, tally, count-cons, count-append, count-in_order}
 use Rattle.protocol.proofs.Entries.{AllOf, same_number}
-use Rattle.protocol.proofs.ServerMoves.{KeepsServer, server_goes_holds}
-use Rattle.protocol.proofs.ClientMoves.{HasNoOrder, one_more, client_goes_quiet, client_call_quiet}
+use Rattle.protocol.proofs.ServerMoves.{KeepsServer, IsCameIn, server_goes_holds}
+use Rattle.protocol.proofs.ClientMoves.{HasNoOrder, one_more, quiet_orders, client_goes_quiet, client_call_quiet}
+use Rattle.protocol.proofs.Words.{no_order}
+use Rattle.protocol.specs.Sending.{the_server}
+use Rattle.messages.specs.declared.message.Body.TheVariants as body
 use Rattle.protocol.proofs.RisingOrders.{element_numbered}
 
 pub no_orders : HasNoOrder []
@@ -74,16 +77,24 @@ count-sent f k sent order ms =
 
 -- servers and clients send no order
 
-quiet_keeps : KeepsServer (λ c. HasNoOrder c.sent)
+quiet_keeps : KeepsServer (λ b. Unit {0}) (λ c. HasNoOrder c.sent)
 quiet_keeps =
     record {
-      says = λ c sender receiver b none h e n. one_more c.sent sender receiver b none e n ∙ h e n;
+      says = λ c receiver b quiet h e n. one_more c.sent (the_server c.id) receiver b (no_order b quiet) e n ∙ h e n;
       stores = λ c x is h. h;
       takes = λ c epoch count new h. h;
+      holds = λ c leases from h. h;
+      grants = λ c order handle version end_moment members came new h. h;
+      extends = λ c handle version end_moment p came at same h. h;
+      revokes = λ c order handle version leases came new from none h e n. one_more c.sent (the_server c.id) node.Master (body.Revoked handle version) refl e n ∙ h e n;
     }
 
 in_order_quiet : (order : List ℕ) (ms : List Message) → HasNoOrder ms → HasNoOrder (in_order order ms)
 in_order_quiet order ms h e n = count-in_order (λ (x : Message). is_number e n (order_number x.body)) order ms ∙ h e n
+
+all_came : (i : Input) → IsCameIn (λ b. Unit {0}) i
+all_came (input.Deliver m) = tt
+all_came input.Tick = tt
 
 server_ends_quiet : (s : ServerState) (d : ServerDoing) (choice : Choice) (e : Ending) → HasNoOrder d.sent → HasNoOrder (server_ends s d choice e).out.sent
 server_ends_quiet s d choice Goes h = in_order_quiet choice.order d.sent h
@@ -93,7 +104,7 @@ server_ends_quiet s d choice (Stops made) h = no_orders
 server_quiet : (s : ServerState) (moment : ℕ) (i : Input) (choice : Choice) → HasNoOrder (server_step s moment i choice).out.sent
 server_quiet s moment i choice =
     on_cond (λ (t : Taken ServerState). HasNoOrder t.out.sent) s.up (server_ends s (server_goes s moment i) choice choice.ending) (no_step s)
-    (λ _. server_ends_quiet s (server_goes s moment i) choice choice.ending (server_goes_holds (λ c. HasNoOrder c.sent) quiet_keeps s moment i no_orders)) (λ _. no_orders)
+    (λ _. server_ends_quiet s (server_goes s moment i) choice choice.ending (server_goes_holds (λ b. Unit {0}) (λ c. HasNoOrder c.sent) quiet_keeps s moment i (all_came i) no_orders)) (λ _. no_orders)
 
 server_restarts_quiet : (s : ServerState) (moment : ℕ) (choice : Choice) (e : Ending) → HasNoOrder (server_restarts s moment choice e).out.sent
 server_restarts_quiet s moment choice Goes = no_orders
@@ -110,14 +121,14 @@ client_quiet s moment i choice =
     let d : ClientDoing = client_goes s moment i in
     let quiet : Taken ClientState → Type 0 = λ t. HasNoOrder t.out.sent in
     on_cond quiet s.up (client_bounded s d choice) (no_step s)
-    (λ _. on_cond quiet (is_client_within_limits d.client) (client_ends s d choice choice.ending) (no_step s) (λ _. client_ends_quiet s d choice choice.ending (client_goes_quiet s moment i)) (λ _. no_orders))
+    (λ _. on_cond quiet (is_client_within_limits d.client) (client_ends s d choice choice.ending) (no_step s) (λ _. client_ends_quiet s d choice choice.ending (quiet_orders (client_goes s moment i).sent (client_goes_quiet s moment i))) (λ _. no_orders))
     (λ _. no_orders)
 
 call_quiet : (s : ClientState) (moment : ℕ) (c : Call) (choice : Choice) → HasNoOrder (client_call s moment c choice).out.sent
 call_quiet s moment c choice =
     on_cond (λ (t : Taken ClientState). HasNoOrder t.out.sent) (first_is_true choice.refused) _ (client_ends s (client_call_goes s moment c) choice choice.ending)
     (λ _. client_ends_quiet s _ choice choice.ending no_orders)
-    (λ _. client_ends_quiet s (client_call_goes s moment c) choice choice.ending (client_call_quiet s moment c))
+    (λ _. client_ends_quiet s (client_call_goes s moment c) choice choice.ending (quiet_orders (client_call_goes s moment c).sent (client_call_quiet s moment c)))
 
 -- worlds
 
