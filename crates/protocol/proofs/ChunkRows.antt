@@ -1,10 +1,7 @@
 -- Rows of the table of chunks: their granted and issued versions, after each change.
-use Rattle.std.proofs.Common.{◌≡◌, ℕ, ◌-◌, ◌≤◌, Bool, true, false, cond, List, [], ◌∷◌, map, Option, Some, None, refl, sym, ap, subst, ◌∙◌, inl, inr, arith}
+use Rattle.std.proofs.Common.{◌≡◌, ℕ, ◌-◌, ◌≤◌, List, [], ◌∷◌, Option, Some, None, refl, ap, subst, ◌∙◌, inl, inr, arith}
 use Rattle.std.specs.Prelude.{nat_le}
-use Rattle.std.specs.Ordering.{nat_cmp, eq_by_cmp}
-use Rattle.std.specs.Cmp.{nat_cmp_total}
 use Rattle.std.specs.FinMap as table
-use Rattle.std.specs.FinMap.Entries.{find}
 use Rattle.gfs_types.specs.declared.ids.FileId.{FileId}
 use Rattle.log_records.specs.declared.record.Record.TheVariants as log
 use Rattle.gfs_types.specs.Paths.{Path}
@@ -12,7 +9,7 @@ use Rattle.relaxed_file.specs.Names.{Node, Dir, File, id_after}
 use Rattle.protocol.specs.Tables.{Table, removed_all, map_values}
 use Rattle.protocol.specs.ChunkTable.{ChunkRow, ChunkTable, with_owner, changed_row, shared, all_shared, left_by, left, all_left, handles_of}
 use Rattle.protocol.specs.Logged.{Logged, Copy, after_record, copies_for_file, swapped_in, with_copied_node, with_copied_nodes}
-use Rattle.protocol.proofs.Steps.{on_cond, none_some, same_some, put_cases, kept_cases, removed_cases}
+use Rattle.protocol.proofs.Steps.{on_cond, put_cases, kept_cases, removed_cases}
 use Rattle.protocol.proofs.Entries.{mapped_cases}
 
 abbrev pub Rows : Type 0

@@ -34,3 +34,5 @@ pub mod RowsLogged
 pub mod RowsKept
 pub mod GrantsOnce
 pub mod NamesLogged
+pub mod ScenesReached
+pub mod LeasesTold

@@ -39,18 +39,18 @@ use Rattle.protocol.proofs.SentReached.{IsInputSent, without_order, sent_reached
 
 -- places in lists
 
-kept_place : {X : Type 0} (xs ys : List X) (n : ℕ) (x : X) → element_at xs n ≡ Some x → element_at (xs ++ ys) n ≡ Some x
+pub kept_place : {X : Type 0} (xs ys : List X) (n : ℕ) (x : X) → element_at xs n ≡ Some x → element_at (xs ++ ys) n ≡ Some x
 kept_place [] ys n x h = none_some x h
 kept_place (y ∷ xs) ys zero x h = h
 kept_place (y ∷ xs) ys (suc n) x h = kept_place xs ys n x h
 
-place_below : {X : Type 0} (xs : List X) (n : ℕ) (x : X) → element_at xs n ≡ Some x → n < length xs
+pub place_below : {X : Type 0} (xs : List X) (n : ℕ) (x : X) → element_at xs n ≡ Some x → n < length xs
 place_below [] n x h = none_some x h
 place_below (y ∷ xs) zero x h = omega arith
 place_below (y ∷ xs) (suc n) x h = let below = place_below xs n x h in omega (arith, below)
 
 -- an element of the first part, or of the second
-place_cases : {X : Type 0} (xs ys : List X) (n : ℕ) (x : X) → element_at (xs ++ ys) n ≡ Some x
+pub place_cases : {X : Type 0} (xs ys : List X) (n : ℕ) (x : X) → element_at (xs ++ ys) n ≡ Some x
     → (element_at xs n ≡ Some x) ⊎ ((m : ℕ) × (length xs ≤ n) × (element_at ys m ≡ Some x))
 place_cases [] ys n x h = inr (n, omega arith, h)
 place_cases (y ∷ xs) ys zero x h = inl h
@@ -60,7 +60,7 @@ place_cases (y ∷ xs) ys (suc n) x h =
       | inr later ↦ inr (later.0, let more = later.1 in omega (arith, more), later.2)
     ]
 
-all_at : {X : Type 0} (P : X → Type 0) (xs : List X) (n : ℕ) (x : X) → AllOf P xs → element_at xs n ≡ Some x → P x
+pub all_at : {X : Type 0} (P : X → Type 0) (xs : List X) (n : ℕ) (x : X) → AllOf P xs → element_at xs n ≡ Some x → P x
 all_at P [] n x all h = none_some x h
 all_at P (y ∷ xs) zero x all h = subst P (same_some y x h) all.0
 all_at P (y ∷ xs) (suc n) x all h = all_at P xs n x all.1 h
@@ -74,7 +74,7 @@ all_picked : {X : Type 0} (P : X → Type 0) (o : Option X) (xs : List X) → ((
 all_picked P None xs one all = all
 all_picked P (Some x) xs one all = (one x refl, all)
 
-all_in_order : {X : Type 0} (P : X → Type 0) (ns : List ℕ) (xs : List X) → AllOf P xs → AllOf P (in_order ns xs)
+pub all_in_order : {X : Type 0} (P : X → Type 0) (ns : List ℕ) (xs : List X) → AllOf P xs → AllOf P (in_order ns xs)
 all_in_order P [] xs all = all
 all_in_order P (n ∷ ns) xs all =
     all_picked P (element_at xs n) (in_order ns (without_at xs n)) (λ x is. all_at P xs n x all is) (all_in_order P ns (without_at xs n) (all_without P xs n all))

@@ -44,13 +44,13 @@ IsRisen d (SetOrder epoch count) = is_new_order d epoch count ≡ true
 IsRisen d (PutReplica handle replica) = Unit {0}
 IsRisen d (DropReplica handle) = Unit {0}
 
-newer : (a b c : Bool) → a || (b && c) ≡ true → (a ≡ true) ⊎ ((b ≡ true) × (c ≡ true))
+pub newer : (a b c : Bool) → a || (b && c) ≡ true → (a ≡ true) ⊎ ((b ≡ true) × (c ≡ true))
 newer true b c h = inl refl
 newer false true true h = inr (refl, refl)
 newer false true false h = absurd (let both : false ≡ true = h in cc)
 newer false false c h = absurd (let both : false ≡ true = h in cc)
 
-risen_later : (d : ServerDisk) (x : StoreChange) → IsRisen d x → Later d (disk_changed d x)
+pub risen_later : (d : ServerDisk) (x : StoreChange) → IsRisen d x → Later d (disk_changed d x)
 risen_later d (SetOrder epoch count) h =
     elim (newer (nat_lt d.epoch epoch) (d.epoch == epoch) (nat_lt d.count count) h) [
       | inl a ↦ inl (ltb-true d.epoch epoch a)
@@ -146,7 +146,7 @@ all_of : (d : ServerDisk) (xs : List StoreChange) → AreRisen d xs → Later d 
 all_of d [] h = same_later d
 all_of d (x ∷ xs) h = then_later d (disk_changed d x) (disk_changed_by_all (disk_changed d x) xs) (risen_later d x h.0) (all_of (disk_changed d x) xs h.1)
 
-none_under_way : (s : ServerState) → s.under_way ≡ [] → IsSound s
+pub none_under_way : (s : ServerState) → s.under_way ≡ [] → IsSound s
 none_under_way s none =
     record {
       risen = subst (λ (xs : List StoreChange). AreRisen s.disk xs) (sym none) tt;
@@ -166,17 +166,17 @@ ends_as s d choice (Stops made) none h =
       later = some_later s.disk d.changes made h.0;
     }
 
-all_came : (i : Input) → IsCameIn (λ b. Unit {0}) i
+pub all_came : (i : Input) → IsCameIn (λ b. Unit {0}) i
 all_came (input.Deliver m) = tt
 all_came input.Tick = tt
 
-step_goes_on : (s : ServerState) (moment : ℕ) (i : Input) (choice : Choice) → IsSound s → Follows s (server_step s moment i choice).state
+pub step_goes_on : (s : ServerState) (moment : ℕ) (i : Input) (choice : Choice) → IsSound s → Follows s (server_step s moment i choice).state
 step_goes_on s moment i choice is =
     on_cond (λ (t : Taken ServerState). Follows s t.state) s.up (server_ends s (server_goes s moment i) choice choice.ending) (no_step s)
     (λ up. ends_as s (server_goes s moment i) choice choice.ending (is.idle up) (server_goes_holds (λ b. Unit {0}) (From s) (from_keeps s) s moment i (all_came i) (tt, refl, refl)))
     (λ _. same_goes_on s is)
 
-restarts_as : (s : ServerState) (moment : ℕ) (choice : Choice) (e : Ending) → IsSound s → Follows s (server_restarts s moment choice e).state
+pub restarts_as : (s : ServerState) (moment : ℕ) (choice : Choice) (e : Ending) → IsSound s → Follows s (server_restarts s moment choice e).state
 restarts_as s moment choice Lost is = record { sound = record { risen = is.risen; few = is.few; idle = λ up. absurd (let both : false ≡ true = up in cc) }; later = same_later s.disk }
 restarts_as s moment choice (Stops made) is =
     record { sound = record { risen = tt; few = omega arith; idle = λ up. refl }; later = found_later s.disk s.under_way choice.decided is.risen is.few }

@@ -32,7 +32,6 @@ use Rattle.protocol.specs.ServerReads.{reads_from, measures, copies_out}
 use Rattle.protocol.specs.ServerWrites.{passes_on, refuses_attempt, answers_settled, denies, forwards, settles_if, acknowledges, change_of, place_of, bytes_of, primary_applies, places, appends_as, mutates_with, mutates_new, mutates_as, mutates_under, nacks, member_applies, applies_data, applies_change, forwarded_to, acked_waiting, acked_under, nacked_waiting, nacked_under}
 use Rattle.protocol.specs.ServerOrders.{on_order, records, can_take, takes_create, raises, takes_set_version, holds_version, takes_grant, extends_held, ends_held, takes_revoke, drops_old, takes_drop, takes_clone, takes_image, copies_locally, takes_copy_local}
 use Rattle.protocol.specs.ServerStep.{replica_line, lease_line, asks_no_more, counting_leases, server_ticks, server_takes, server_does, server_at, server_goes}
-use Rattle.protocol.specs.Laws.{order_number}
 use Rattle.protocol.proofs.Steps.{on_cond, none_some, same_some, put_cases, put_there, kept_cases, gone_there}
 use Rattle.protocol.proofs.Entries.{kept_where_cases, mapped_cases}
 use Rattle.protocol.proofs.Words.{is_of_lease}

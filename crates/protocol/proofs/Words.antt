@@ -1,5 +1,5 @@
 -- Which messages speak of leases: the master's orders and Extend, and a server's Revoked.
-use Rattle.std.proofs.Common.{◌≡◌, Bool, true, false, List, Option, None, refl}
+use Rattle.std.proofs.Common.{◌≡◌, Bool, true, false, List, None, refl}
 use Rattle.messages.specs.declared.message.Body.{Body}
 use Rattle.messages.specs.declared.message.Body.TheVariants as body
 use Rattle.messages.specs.declared.message.Message.{Message}
