@@ -2,6 +2,7 @@
 import itertools
 
 from antt import apply
+from cell import GOES
 
 
 class Broken(Exception):
@@ -198,6 +199,32 @@ def check_messages(cell, used):
     used['seen'] = len(cell.messages)
 
 
+def check_within(granted, logged, where):
+    """Each granted version is at most what the chunk's row says, and its handle was used."""
+    for handle, version in granted.items():
+        row = logged['table']['chunks'].items.get(handle)
+        if handle >= logged['next_handle'] or (row and row['granted'] < version):
+            raise Broken(f'chunk {handle}: version {version} was granted, and {where} does not say so')
+
+
+def check_grants(cell, before, used):
+    """What was granted is in the state and in each log that a restart may find, and version attempts are above it."""
+    master = cell.world['master']
+    granted = {}
+    for handle, version in used.get('grants', ()):
+        granted[handle] = max(version, granted.get(handle, 0))
+    if master['up']:
+        check_within(granted, master['logged'], 'the state')
+        for handle, attempt in master['attempts'].items.items():
+            row = master['logged']['table']['chunks'].items.get(handle)
+            if attempt['version'] < 1 or (row and attempt['version'] <= row['granted']):
+                raise Broken(f'chunk {handle}: the attempt at version {attempt["version"]} is not above what was granted')
+    if master['disk'] is not before['master']['disk'] or master['under_way'] is not before['master']['under_way']:
+        for made in {False, bool(master['under_way'])}:
+            found = apply(cell.definition('MasterStep', 'found_log'), master, {**GOES, 'decided': [made]})
+            check_within(granted, apply(cell.definition('Logged', 'replayed'), found), 'the log')
+
+
 def check_new_entries(cell, before):
     """No entry is placed in a shared chunk, nor for a call that is over while its client is up."""
     if not (cell.world['master']['up'] and before['master']['up']):
@@ -263,6 +290,7 @@ def check_all(cell, before, used):
     check_chunks(cell)
     check_names(cell)
     check_messages(cell, used)
+    check_grants(cell, before, used)
     check_new_entries(cell, before)
     check_leases(cell)
     check_open_rounds(cell)

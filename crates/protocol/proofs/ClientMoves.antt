@@ -1,5 +1,5 @@
 -- A step of a client sends no order of the master.
-use Rattle.std.proofs.Common.{◌≡◌, ℕ, suc, ◌+◌, ◌*◌, Bool, true, false, List, [], ◌∷◌, ◌++◌, length, Option, Some, None, refl, ◌∙◌, arith}
+use Rattle.std.proofs.Common.{◌≡◌, ℕ, suc, ◌+◌, ◌*◌, Bool, true, false, List, [], ◌∷◌, ◌++◌, length, Option, Some, None, refl, arith}
 use Rattle.std.specs.Prelude.{nat_le, nat_lt, ◌==◌, ◌&&◌, ◌||◌, not, ◌/◌}
 use Rattle.std.specs.Option.{option_to_list}
 use Rattle.std.specs.FinMap as table
@@ -34,7 +34,9 @@ use Rattle.protocol.specs.ClientAttempts.{is_mutation, is_length, is_append, byt
 use Rattle.protocol.specs.ClientTakes.{takes_reply, takes_named, takes_wait, gets, told_none, told_location, told, takes_told, is_own_data, mutate_to, takes_pushed, less_live, succeeds, takes_done, takes_bytes, takes_len_is, master_refuses, stays_live, looks_past, primary_refuses, takes_refused, client_takes}
 use Rattle.protocol.specs.ClientStep.{new_call, calls_names, calls_file, calls_on, fd_of, calls, ticks_names, ends_unanswered, ticks_unanswered, ticks_at, takes_at, client_does, client_at, client_goes, client_call_goes}
 use Rattle.protocol.specs.Laws.{order_number, orders_under, is_number}
-use Rattle.protocol.proofs.Steps.{on_cond, tally, count-append}
+use Rattle.protocol.proofs.Steps.{on_cond, tally, count-cons, count-append}
+use Rattle.protocol.proofs.Entries.{all_joined}
+use Rattle.protocol.proofs.Words.{is_of_lease, AreQuiet, no_order}
 
 -- no order under any number
 abbrev pub HasNoOrder : List Message → Type 0
@@ -51,11 +53,20 @@ one_more sent sender receiver b none epoch count =
     let last = not_counted epoch count (order_number b) none in
     omega (arith, whole, last)
 
-abbrev Quiet : ClientDoing → Type 0
-Quiet d = HasNoOrder d.sent
+-- messages that don't speak of leases are no orders
+pub quiet_orders : (ms : List Message) → AreQuiet ms → HasNoOrder ms
+quiet_orders [] all epoch count = refl
+quiet_orders (m ∷ ms) all epoch count =
+    let whole = count-cons (λ (x : Message). is_number epoch count (order_number x.body)) m ms in
+    let first = not_counted epoch count (order_number m.body) (no_order m.body all.0) in
+    let rest = quiet_orders ms all.1 epoch count in
+    omega (arith, whole, first, rest)
 
-sends_quiet : (d : ClientDoing) (receiver : Node) (b : Body) → order_number b ≡ None → Quiet d → Quiet (sends d receiver b)
-sends_quiet d receiver b none h epoch count = one_more d.sent (the_client d.client.id) receiver b none epoch count ∙ h epoch count
+abbrev Quiet : ClientDoing → Type 0
+Quiet d = AreQuiet d.sent
+
+sends_quiet : (d : ClientDoing) (receiver : Node) (b : Body) → is_of_lease b ≡ false → Quiet d → Quiet (sends d receiver b)
+sends_quiet d receiver b quiet h = all_joined (λ m. is_of_lease m.body ≡ false) d.sent (message (the_client d.client.id) receiver b ∷ []) h (quiet, tt)
 
 -- attempts
 
@@ -287,8 +298,8 @@ does_quiet d i None h = h
 does_quiet d (input.Deliver m) (Some c) h = takes_at_quiet d c m c.stage h
 does_quiet d input.Tick (Some c) h = ticks_quiet d c c.stage h
 
-pub client_goes_quiet : (s : ClientState) (moment : ℕ) (i : Input) → HasNoOrder (client_goes s moment i).sent
-client_goes_quiet s moment i = does_quiet (client_begins (client_at s moment)) i s.current (λ epoch count. refl)
+pub client_goes_quiet : (s : ClientState) (moment : ℕ) (i : Input) → AreQuiet (client_goes s moment i).sent
+client_goes_quiet s moment i = does_quiet (client_begins (client_at s moment)) i s.current tt
 
-pub client_call_quiet : (s : ClientState) (moment : ℕ) (c : Call) → HasNoOrder (client_call_goes s moment c).sent
-client_call_quiet s moment c = calls_quiet (client_begins (client_at s moment)) c (λ epoch count. refl)
+pub client_call_quiet : (s : ClientState) (moment : ℕ) (c : Call) → AreQuiet (client_call_goes s moment c).sent
+client_call_quiet s moment c = calls_quiet (client_begins (client_at s moment)) c tt

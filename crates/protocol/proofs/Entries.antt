@@ -1,5 +1,5 @@
 -- Entries of a table: each is what the table has under its number, also where some are left out.
-use Rattle.std.proofs.Common.{◌≡◌, ℕ, Bool, true, false, cond, List, [], ◌∷◌, ◌++◌, Some, refl, sym, ap, subst, ◌∙◌}
+use Rattle.std.proofs.Common.{◌≡◌, ℕ, Bool, true, false, cond, List, [], ◌∷◌, ◌++◌, map, Some, refl, sym, ap, subst, ◌∙◌}
 use Rattle.std.specs.Prelude.{◌==◌, ◌&&◌, filter, T}
 use Rattle.std.specs.Ordering.{nat_cmp, eq_by_cmp, is_lt, is_eq}
 use Rattle.std.specs.Cmp.{nat_cmp_total, eq_by_cmp_equiv, unsigned_tied}
@@ -8,7 +8,7 @@ use Rattle.std.specs.FinMap as table
 use Rattle.std.specs.FinMap.Entries.{find, is_sorted, below_all}
 use Rattle.std.specs.declared.cmp.Ordering.{Ordering}
 use Rattle.std.specs.declared.cmp.Ordering.TheVariants.{Less, Equal, Greater}
-use Rattle.protocol.specs.Tables.{Table, kept_where}
+use Rattle.protocol.specs.Tables.{Table, kept_where, map_values}
 use Rattle.protocol.proofs.Steps.{on_cond, none_some, same_some}
 
 -- each element passes
@@ -81,3 +81,18 @@ kept_where_cases test t q x h =
     ∙ found_passes (IsFound (table.entries t)) (filter test (table.entries t)) q x
     (all_filtered (IsFound (table.entries t)) test (table.entries t) (all_found (table.entries t) (table.entries_sorted t)))
     (sym (table.get-from_entries nat_cmp_total (filter test (table.entries t)) q) ∙ h)
+
+found_mapped : {X : Type 0} (change : X → X) (es : List (ℕ × X)) (q : ℕ) (x : X) → find nat_cmp q (map (λ e. (e.0, change e.1)) es) ≡ Some x → (old : X) × (find nat_cmp q es ≡ Some old) × (change old ≡ x)
+found_mapped change [] q x h = none_some x h
+found_mapped {X} change (e ∷ es) q x h = by_key (eq_by_cmp nat_cmp q e.0) refl (found_mapped change es q x) h
+  where
+    by_key : (b : Bool) → eq_by_cmp nat_cmp q e.0 ≡ b → (find nat_cmp q (map (λ y. (y.0, change y.1)) es) ≡ Some x → (old : X) × (find nat_cmp q es ≡ Some old) × (change old ≡ x))
+        → cond b (Some (change e.1)) (find nat_cmp q (map (λ y. (y.0, change y.1)) es)) ≡ Some x → (old : X) × (find nat_cmp q (e ∷ es) ≡ Some old) × (change old ≡ x)
+    by_key true is rest g = (e.1, ap (λ (b : Bool). cond b (Some e.1) (find nat_cmp q es)) is, same_some (change e.1) x g)
+    by_key false is rest g = let r = rest g in (r.0, ap (λ (b : Bool). cond b (Some e.1) (find nat_cmp q es)) is ∙ r.1, r.2)
+
+-- values that are changed under their numbers
+pub mapped_cases : {X : Type 0} (change : X → X) (t : Table X) (q : ℕ) (x : X) → table.get (map_values change t) q ≡ Some x → (old : X) × (table.get t q ≡ Some old) × (change old ≡ x)
+mapped_cases change t q x h =
+    let found = found_mapped change (table.entries t) q x (sym (table.get-from_entries nat_cmp_total (map (λ e. (e.0, change e.1)) (table.entries t)) q) ∙ h) in
+    (found.0, table.get-entries t q ∙ found.1, found.2)

@@ -7,6 +7,7 @@ use Rattle.gfs_types.specs.declared.config.Config.{Config}
 use Rattle.messages.specs.declared.event.Input.{Input}
 use Rattle.log_records.specs.declared.record.Record.{Record}
 use Rattle.log_records.specs.declared.record.Record.TheVariants as log
+use Rattle.protocol.specs.Tables.{map_values}
 use Rattle.protocol.specs.Choice.{Choice, Ending, Goes, Lost, Stops}
 use Rattle.protocol.specs.Seen.{Taken, no_step}
 use Rattle.protocol.specs.ChunkTable.{ChunkRow, changed_row}
@@ -16,13 +17,14 @@ use Rattle.protocol.specs.Master.{MasterState, MasterDoing, stopped_master, mast
 use Rattle.protocol.specs.MasterStep.{master_goes, master_ends, master_bounded, master_step, is_within_limits, found_log, lease_after_restart, started_master, opening, has_opened, opens_as, new_master, first_log}
 use Rattle.protocol.specs.Laws.{GrantedIsAtMostIssued}
 use Rattle.protocol.proofs.Steps.{on_cond, none_some}
-use Rattle.protocol.proofs.MasterMoves.{Core, core_of, Nothing, Keeps, core_changed}
+use Rattle.protocol.proofs.MasterMoves.{Core, core_of, IsDue, Nothing, Keeps, core_changed, core_appended, core_ended, grant_record}
 use Rattle.protocol.proofs.MasterSteps.{goes_keeps}
 use Rattle.protocol.proofs.OrderNumbers.{state_of, state-appended, AllStops, stops_push, changed-push, AllFound, found_same, found_stopped}
-use Rattle.protocol.proofs.ChunkRows.{Rows, rows_of, AreIssued, From, same_from, then_from, Both, both_from, both_record, removed_from, changed_from, checkpoint_both, mapped_from}
+use Rattle.protocol.proofs.ChunkRows.{Rows, rows_of, AreIssued, From, same_from, then_from, removed_from, changed_from, mapped_from}
+use Rattle.protocol.proofs.VersionsLogged.{Both, both_from, both_record, checkpoint_both}
 use Rattle.protocol.proofs.MasterReached.{reached_here}
 
-abbrev IsGood : LogDisk → Type 0
+abbrev pub IsGood : LogDisk → Type 0
 IsGood d = AreIssued (rows_of (state_of d))
 
 -- a step so far, from what was on the disk
@@ -61,27 +63,36 @@ quieter : (start : LogDisk) (c : Core) (l : Logged) → From (rows_of c.logged) 
 quieter start c l f h =
     record { none = h.none; disk = h.disk; stops = h.stops; rows = both_from (rows_of c.logged) (rows_of (state_of c.disk)) (rows_of l) (rows_of (state_of c.disk)) f (same_from (rows_of (state_of c.disk))) h.rows }
 
+appended : (start : LogDisk) (c : Core) (r : Record) → IsDue ⊥ c.logged r → IsIssuing start c → IsIssuing start (core_appended c r)
+appended start c r due h = changed start c (AppendRecord r) (after_record c.logged r) (both_appended c.logged c.disk r (both_record c.logged (state_of c.disk) r due h.rows)) h
+
+ended : (start : LogDisk) (c : Core) (handle moment : ℕ) → IsIssuing start c → IsIssuing start (core_ended c handle moment)
+ended start c handle moment h =
+    quieter start c (record c.logged { table = record c.logged.table { chunks = changed_row (rows_of c.logged) handle (λ row. record row { lease_end = moment }) (table.get (rows_of c.logged) handle) } })
+    (changed_from (rows_of c.logged) handle (λ row. record row { lease_end = moment }) (table.get (rows_of c.logged) handle) refl (λ r. (refl, refl))) h
+
 issuing_keeps : (start : LogDisk) → Keeps ⊥ Nothing (IsIssuing start)
 issuing_keeps start =
     record {
       tells = λ c receiver b none h. record { none = h.none; disk = h.disk; rows = h.rows; stops = h.stops };
-      grants = λ c primary handle version until members told h. record { none = h.none; disk = h.disk; rows = h.rows; stops = h.stops };
+      grants = λ c handle version until primary members told due names h.
+          let r : Record = grant_record handle version primary members in
+          let g : IsIssuing start (core_ended (core_appended c r) handle until) = ended start (core_appended c r) handle until (appended start c r due h) in
+          record { none = g.none; disk = g.disk; rows = g.rows; stops = g.stops };
       orders = λ c server b is plain h. record { none = h.none; disk = h.disk; rows = h.rows; stops = h.stops };
-      appends = λ c r due names h. changed start c (AppendRecord r) (after_record c.logged r) (both_appended c.logged c.disk r (both_record c.logged (state_of c.disk) r due h.rows)) h;
+      appends = λ c r due names h. appended start c r due h;
       checkpoint = λ c tree h. checkpointed start c h;
       sound = λ asks. absurd asks;
       less = λ c handles copied h. quieter start c (record c.logged { copies = _; table = _ }) (removed_from (rows_of c.logged) handles) h;
-      ends = λ c handle moment h.
-          quieter start c (record c.logged { table = record c.logged.table { chunks = changed_row (rows_of c.logged) handle (λ row. record row { lease_end = moment }) (table.get (rows_of c.logged) handle) } })
-          (changed_from (rows_of c.logged) handle (λ row. record row { lease_end = moment }) (table.get (rows_of c.logged) handle) refl (λ r. (refl, refl))) h;
+      ends = λ c handle moment h. ended start c handle moment h;
     }
 
 -- of a master between its steps
-record IsIssued (m : MasterState) : Type 0 where
-  now : AreIssued (rows_of m.logged)
-  found : AllFound IsGood m.disk m.under_way
-  idle : IsTrue m.up → m.under_way ≡ []
-  rows : IsTrue m.up → Both (rows_of m.logged) (rows_of (state_of m.disk))
+pub record IsIssued (m : MasterState) : Type 0 where
+  pub now : AreIssued (rows_of m.logged)
+  pub found : AllFound IsGood m.disk m.under_way
+  pub idle : IsTrue m.up → m.under_way ≡ []
+  pub rows : IsTrue m.up → Both (rows_of m.logged) (rows_of (state_of m.disk))
 
 no_rows : AreIssued (table.empty)
 no_rows handle row is = none_some row (sym (table.get-empty nat_cmp handle) ∙ is)
@@ -105,7 +116,7 @@ ends_issued m d choice Lost h g = stopped m m.disk [] (found_same IsGood m.disk 
 ends_issued m d choice (Stops made) h g =
     stopped m (log_changed_by_all m.disk (take made d.changes)) (take 1 (drop made d.changes)) (found_stopped IsGood m.disk d.changes made g.stops)
 
-step_issued : (m : MasterState) (moment : ℕ) (i : Input) (choice : Choice) → IsIssued m → IsIssued (master_step m moment i choice).state
+pub step_issued : (m : MasterState) (moment : ℕ) (i : Input) (choice : Choice) → IsIssued m → IsIssued (master_step m moment i choice).state
 step_issued m moment i choice h =
     let d : MasterDoing = master_goes m moment i choice.refused in
     let good : Taken MasterState → Type 0 = λ t. IsIssued t.state in
@@ -121,14 +132,20 @@ later_ends config moment r =
     on_cond (λ (x : ChunkRow). (r.granted ≡ x.granted) × (r.issued ≡ x.issued)) (nat_lt 0 r.granted) (record r { lease_end = moment + config.skew_ms + config.lease_ms }) r
     (λ _. (refl, refl)) (λ _. (refl, refl))
 
+-- the rows of a master that has read its log
+pub started_from : (config : Config) (found : LogDisk) (moment : ℕ) → From (rows_of (state_of found)) (map_values (lease_after_restart config moment) (rows_of (replayed found)))
+started_from config found moment =
+    let rows : Rows = rows_of (state_of found) in
+    let left : Rows = rows_of (replayed found) in
+    then_from rows left (map_values (lease_after_restart config moment) left) (removed_from rows (table.keys (state_of found).copies)) (mapped_from left (lease_after_restart config moment) (later_ends config moment))
+
 opening_issuing : (config : Config) (count : ℕ) (found : LogDisk) (moment : ℕ) → IsGood found → IsIssuing found (core_of (opening (started_master config count found moment)))
 opening_issuing config count found moment good =
     let started : MasterState = started_master config count found moment in
     let d : MasterDoing = master_begins started [] in
     let r : Record = log.Epoch (suc d.master.logged.epoch) in
     let all : Rows = rows_of (state_of found) in
-    let kept : From all (rows_of started.logged) =
-    then_from all (rows_of (replayed found)) (rows_of started.logged) (removed_from all (table.keys (state_of found).copies)) (mapped_from (rows_of (replayed found)) (lease_after_restart config moment) (later_ends config moment)) in
+    let kept : From all (rows_of started.logged) = started_from config found moment in
     let first : IsIssuing found (core_of d) =
     record { none = refl; disk = refl; stops = good; rows = both_from all all (rows_of started.logged) all kept (same_from all) (record { state = good; disk = good; below = same_below all good }) } in
     let begins : (e : MasterDoing) → IsIssuing found (core_of e) → IsIssuing found (core_of (appends e r)) =
@@ -145,7 +162,7 @@ opening_issuing config count found moment good =
         issued_same : Some row ≡ Some other → row.issued ≡ other.issued
         issued_same e = cc
 
-opens_issued : (old : MasterState) (moment : ℕ) (choice : Choice) (e : Ending) → IsIssued old
+pub opens_issued : (old : MasterState) (moment : ℕ) (choice : Choice) (e : Ending) → IsIssued old
     → (let started : MasterState = started_master old.config old.server_count (found_log old choice) moment in IsIssued (opens_as old started (opening started) choice e).state)
 opens_issued old moment choice Lost h = stopped old old.disk old.under_way h.found
 opens_issued old moment choice (Stops made) h =
@@ -161,7 +178,7 @@ opens_issued old moment choice Goes h =
     on_cond (λ (t : Taken MasterState). IsIssued t.state) (has_opened started d && is_within_limits d.master) _ _
     (λ _. running found d g) (λ _. stopped old d.master.disk [] (found_same IsGood d.master.disk g.rows.disk))
 
-new_issued : (config : Config) (servers : ℕ) → IsIssued (new_master config servers)
+pub new_issued : (config : Config) (servers : ℕ) → IsIssued (new_master config servers)
 new_issued config servers =
     record {
       now = no_rows;

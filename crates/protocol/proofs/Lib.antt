@@ -1,7 +1,10 @@
 pub mod Steps
 pub mod Entries
+pub mod Words
 pub mod CopiesUnderWay
+pub mod ChunkRows
 pub mod VersionAttempts
+pub mod VersionsAhead
 pub mod Namespace
 pub mod HiddenNames
 pub mod FilesNamed
@@ -17,7 +20,7 @@ pub mod OrderNumbers
 pub mod OrdersOnce
 pub mod MembersRecorded
 pub mod MasterReached
-pub mod ChunkRows
+pub mod VersionsLogged
 pub mod LoggedParts
 pub mod GrantedIssued
 pub mod NamesReached
@@ -29,4 +32,7 @@ pub mod CountsKept
 pub mod RowsSame
 pub mod RowsLogged
 pub mod RowsKept
+pub mod GrantsOnce
 pub mod NamesLogged
+pub mod ScenesReached
+pub mod LeasesTold

@@ -1,5 +1,5 @@
 -- What an ask of a client and a word of a server lead to at the master.
-use Rattle.std.proofs.Common.{◌≡◌, ℕ, zero, suc, ◌+◌, Bool, true, false, cond, List, [], ◌∷◌, ◌++◌, length, map, Option, Some, None, refl, sym, subst, inl, inr, ap, is_some, ◌∙◌}
+use Rattle.std.proofs.Common.{◌≡◌, ℕ, zero, suc, ◌+◌, ◌≤◌, ◌<◌, arith, Bool, true, false, cond, List, [], ◌∷◌, ◌++◌, length, map, Option, Some, None, refl, sym, subst, inl, inr, ap, is_some, ◌∙◌}
 use Rattle.std.specs.Prelude.{nat_le, nat_lt, ◌==◌, ◌&&◌, unwrap_or}
 use Rattle.std.proofs.lemmas.Bool.{eqb-true}
 use Rattle.std.specs.FinMap as table
@@ -12,22 +12,27 @@ use Rattle.messages.specs.declared.message.Wanted.{Wanted}
 use Rattle.messages.specs.declared.message.Wanted.TheVariants as wanted
 use Rattle.messages.specs.declared.message.ReplicaLine.{ReplicaLine}
 use Rattle.messages.specs.declared.message.LeaseLine.{LeaseLine}
+use Rattle.log_records.specs.declared.record.Record.{Record}
 use Rattle.log_records.specs.declared.record.Record.TheVariants as log
-use Rattle.protocol.specs.Tables.{Table, element_at, rising, has_number, with_number, same_numbers}
-use Rattle.protocol.specs.Sending.{the_server, server_id, file_id, handle_of, version_of, moment_of}
-use Rattle.protocol.specs.ChunkTable.{ChunkRow, chunk_of, file_of, handles_of, has_ended}
-use Rattle.protocol.specs.Master.{MasterDoing, VersionAttempt, HeldAt, tells, orders, ends_at, with_attempt, without_attempt, gives_up_copy, holders_where, current_holders}
+use Rattle.protocol.specs.Tables.{Table, removed_all, element_at, rising, has_number, with_number, same_numbers}
+use Rattle.protocol.specs.Sending.{the_server, file_id, handle_of, version_of, moment_of}
+use Rattle.protocol.specs.Logged.{Logged, after_record, swapped_in}
+use Rattle.protocol.specs.ChunkTable.{ChunkRow, new_row, changed_row, grant, chunk_of, file_of, handles_of, has_ended}
+use Rattle.protocol.specs.Master.{MasterDoing, VersionAttempt, HeldAt, tells, orders, ends_at, with_attempt, gives_up_copy, appends, writes_checkpoint, holders_where, current_holders}
 use Rattle.protocol.specs.MasterSnapshots.{revokes, waits_for}
 use Rattle.protocol.specs.MasterVersions.{Asker, VersionTarget, target_servers, holder_line, group_of, tells_location, tells_holders, tells_none, tells_to_wait, version_order, sends_versions, new_attempt, sends_issued, issues_to, targets_by, recorded_holders, issues_own, is_attempted, copy_order, sends_copies, copy_targets, sends_copy_started, copies_to, begins_copy, copy_for, is_copied, wants_own, wants_own_of, issues_copy, wants_copy, wants_by, wants_primary, holder_target, sends_grant, grants_to, is_complete, with_recorded, learns_attempt, learns}
 use Rattle.protocol.specs.MasterAsks.{looks_at_row, looks_at, mutates_row, mutates_at, adds_chunk, with_index, asks_to_write, asks_to_append, asks_for_last, asks_for, asks_of, takes_ask}
 use Rattle.protocol.specs.MasterReports.{holds_now, takes_recorded, revoked_row, takes_revoked, is_useless, drops_useless, learns_all, may_extend, extends_row, extends_all, hears, takes_report}
 use Rattle.protocol.specs.Laws.{order_number}
 use Rattle.protocol.specs.Seen.{CopyStarted}
-use Rattle.protocol.proofs.Steps.{on_cond, none_some, same_some, put_there}
+use Rattle.protocol.proofs.Steps.{on_cond, none_some, same_some, put_there, removed_cases}
 use Rattle.protocol.proofs.Entries.{AllOf}
 use Rattle.protocol.proofs.CopiesUnderWay.{IsUncopied, IsFoundCopy, found_for, none_for, given_up_free, one_copied}
+use Rattle.protocol.proofs.ChunkRows.{Rows, rows_of, changed_from, swapped_from}
+use Rattle.protocol.proofs.VersionsAhead.{IsAhead, ahead_from, one_ahead, issued_is_ahead, grant_ahead}
+use Rattle.protocol.proofs.Namespace.{IsNamed}
 use Rattle.protocol.proofs.VersionAttempts.{IsServerNumber, IsTold, fewer_told, one_told, both_of, number_passes, with_number_cases, complete_told, AreTargets, target_numbers, holder_targets, holders_servers, targets_servers, copy_servers}
-use Rattle.protocol.proofs.MasterMoves.{Core, core_of, IsNoGrant, Keeps, IsAfter, At, logs_keeps, logs_keeps_after}
+use Rattle.protocol.proofs.MasterMoves.{Core, core_of, grant_record, IsDue, due_later, IsNoGrant, Keeps, IsAfter, At, ends_keeps, logs_from, record_names, names_later, logs_keeps_after}
 use Rattle.protocol.proofs.MasterNamesMoves.{tells_keeps, orders_keeps, copies_keeps, revokes_keeps}
 
 numbered_version : (handle version : ℕ) (base : Option ℕ) (o : OrderNo) → order_number (version_order handle version base o) ≡ Some o
@@ -86,6 +91,10 @@ placed_at : (d : MasterDoing) (a : Asker) (handles : List ℕ) → file_of d.mas
 placed_at d a handles is handle at = (ap is_some is, ap (λ (o : Option (List ℕ)). element_at (unwrap_or o []) a.index) is ∙ at)
 
 module _ (Asks : Type 0) (Told : ℕ → ℕ → ℕ → Type 0) (P : Core → Type 0) (k : Keeps Asks Told P) where
+  -- where versions are asked for, this one is above what was granted of the chunk
+  abbrev IsAbove : MasterDoing → ℕ → ℕ → Type 0
+  IsAbove d handle version = Asks → IsAhead (rows_of d.master.logged) handle version
+
   location_keeps : (d : MasterDoing) (a : Asker) (handle : ℕ) (row : ChunkRow) (holders : List Holder) → At Asks Told P k d → At Asks Told P k (tells_location d a handle row holders)
   location_keeps d a handle row holders h =
       tells_keeps Asks Told P k d a.client (body.Told a.number (Some (record { index = a.index; handle = handle_of handle; round = version_of row.granted; holders = holders; group = group_of d.master row }))) refl h
@@ -107,23 +116,44 @@ module _ (Asks : Type 0) (Told : ℕ → ℕ → ℕ → Type 0) (P : Core → T
 
   -- a new attempt, which nobody recorded yet
   attempt_keeps : (d : MasterDoing) (handle version : ℕ) (targets : List VersionTarget) (begun : VersionAttempt) → begun ≡ new_attempt d.master version targets → AreTargets targets
-      → At Asks Told P k d → At Asks Told P k (with_attempt d handle begun)
-  attempt_keeps d handle version targets begun is servers h =
+      → IsAbove d handle version → At Asks Told P k d → At Asks Told P k (with_attempt d handle begun)
+  attempt_keeps d handle version targets begun is servers above h =
       let new : IsTold Told handle (new_attempt d.master version targets) = record { servers = λ n there. inl (number_passes IsServerNumber (target_servers targets) n (target_numbers targets servers) there); recorded = λ n none. absurd (let both : false ≡ true = none in cc) } in
-      (h.0, one_told Told d.master.attempts handle begun (subst (λ (x : VersionAttempt). IsTold Told handle x) (sym is) new) h.1, h.2)
+      let rows : Rows = rows_of d.master.logged in (
+        h.0,
+        one_told Told d.master.attempts handle begun (subst (λ (x : VersionAttempt). IsTold Told handle x) (sym is) new) h.1,
+        h.2,
+        λ asks. one_ahead d.master.attempts handle begun rows (subst (λ (x : VersionAttempt). IsAhead rows handle x.version) (sym is) (above asks)) (h.3 asks),
+      )
 
-  issued_keeps : (a : Asker) (handle version : ℕ) (targets : List VersionTarget) → AreTargets targets → (d : MasterDoing) → At Asks Told P k d → At Asks Told P k (sends_issued d a handle version targets)
-  issued_keeps a handle version targets servers d h =
+  issued_keeps : (a : Asker) (handle version : ℕ) (targets : List VersionTarget) → AreTargets targets → (d : MasterDoing) → IsAbove d handle version → At Asks Told P k d
+      → At Asks Told P k (sends_issued d a handle version targets)
+  issued_keeps a handle version targets servers d above h =
       let tried : MasterDoing = with_attempt d handle (new_attempt d.master version targets) in
       wait_keeps (sends_versions tried handle version targets) a
-      (versions_keeps tried handle version targets (attempt_keeps d handle version targets (new_attempt d.master version targets) refl servers h))
+      (versions_keeps tried handle version targets (attempt_keeps d handle version targets (new_attempt d.master version targets) refl servers above h))
+
+  -- the next number is above what was granted, once it is logged
+  next_above : (d : MasterDoing) (handle : ℕ) (row : ChunkRow) → chunk_of d.master.logged.table handle ≡ Some row → At Asks Told P k d → (e : MasterDoing)
+      → IsAfter d (log.Issue (handle_of handle) (version_of (suc row.issued))) e → IsAbove e handle (suc row.issued)
+  next_above d handle row is h e after asks = by_case after
+    where
+      low : (old : ChunkRow) → table.get (rows_of d.master.logged) handle ≡ Some old → old.granted < suc row.issued
+      low old at = let same = ap (λ (x : ChunkRow). x.granted) (same_some old row (sym at ∙ is)) in let bound = (h.3 asks).issued handle row is in omega (arith, same, bound)
+
+      by_case : IsAfter d (log.Issue (handle_of handle) (version_of (suc row.issued))) e → IsAhead (rows_of e.master.logged) handle (suc row.issued)
+      by_case (inl same) = subst (λ (x : MasterDoing). IsAhead (rows_of x.master.logged) handle (suc row.issued)) (sym same) (issued_is_ahead (rows_of d.master.logged) handle (suc row.issued) low (omega arith))
+      by_case (inr same) =
+          let left : Rows = removed_all (rows_of d.master.logged) (table.keys d.master.logged.copies) in
+          subst (λ (x : MasterDoing). IsAhead (rows_of x.master.logged) handle (suc row.issued)) (sym same)
+          (issued_is_ahead left handle (suc row.issued) (λ old at. low old (removed_cases (rows_of d.master.logged) (table.keys d.master.logged.copies) handle old at)) (omega arith))
 
   issues_keeps : (d : MasterDoing) (a : Asker) (own : ℕ) (own_row : ChunkRow) (handle : ℕ) (row : ChunkRow) (targets : List VersionTarget)
       → chunk_of d.master.logged.table handle ≡ Some row → AreTargets targets → At Asks Told P k d → At Asks Told P k (issues_to d a own own_row handle row targets)
   issues_keeps d a own own_row handle row [] is servers h = location_keeps d a own own_row [] h
   issues_keeps d a own own_row handle row (t ∷ rest) is servers h =
-      logs_keeps Asks Told P k d (log.Issue (handle_of handle) (version_of (suc row.issued))) (λ e. sends_issued e a handle (suc row.issued) (t ∷ rest)) (row, is, refl) (λ asks. record { due = tt; after = h.2 asks })
-      (issued_keeps a handle (suc row.issued) (t ∷ rest) servers) h
+      logs_keeps_after Asks Told P k d (log.Issue (handle_of handle) (version_of (suc row.issued))) (λ e. sends_issued e a handle (suc row.issued) (t ∷ rest)) (row, is, refl) tt (λ asks. record { due = tt; after = h.2 asks })
+      (λ e after. issued_keeps a handle (suc row.issued) (t ∷ rest) servers e (next_above d handle row is h e after)) h
 
   own_keeps : (d : MasterDoing) (a : Asker) (handle : ℕ) (row : ChunkRow) (b : Bool) → chunk_of d.master.logged.table handle ≡ Some row → At Asks Told P k d → At Asks Told P k (issues_own d a handle row b)
   own_keeps d a handle row true is h = wait_keeps d a h
@@ -135,13 +165,30 @@ module _ (Asks : Type 0) (Told : ℕ → ℕ → ℕ → Type 0) (P : Core → T
       sends_copies_keeps (orders d t.server (copy_order handle copy version t.base)) handle copy version rest
       (orders_keeps Asks Told P k d t.server (copy_order handle copy version t.base) (numbered_copy handle copy version t.base) (no_grant_copy handle copy version t.base) h)
 
-  started_keeps : (a : Asker) (handle copy version : ℕ) (targets : List VersionTarget) → AreTargets targets → (d : MasterDoing) → At Asks Told P k d
+  started_keeps : (a : Asker) (handle copy version : ℕ) (targets : List VersionTarget) → AreTargets targets → (d : MasterDoing) → IsAbove d copy version → At Asks Told P k d
       → At Asks Told P k (sends_copy_started d a handle copy version targets)
-  started_keeps a handle copy version targets servers d h =
+  started_keeps a handle copy version targets servers d above h =
       let seen : MasterDoing = record d { seen = d.seen ++ CopyStarted handle copy ∷ [] } in
       let tried : MasterDoing = with_attempt seen copy (new_attempt d.master version targets) in
       wait_keeps (sends_copies tried handle copy version targets) a
-      (sends_copies_keeps tried handle copy version targets (attempt_keeps seen copy version targets (new_attempt d.master version targets) refl servers h))
+      (sends_copies_keeps tried handle copy version targets (attempt_keeps seen copy version targets (new_attempt d.master version targets) refl servers above h))
+
+  -- of a copy that is begun nothing was granted
+  copy_above : (d : MasterDoing) (r : Record) (copy version : ℕ) (new : ChunkRow) → new.granted ≡ 0 → ((l : Logged) → rows_of (after_record l r) ≡ table.insert (rows_of l) copy new) → 1 ≤ version → (e : MasterDoing)
+      → IsAfter d r e → IsAbove e copy version
+  copy_above d r copy version new none put one e after asks = by_case after
+    where
+      at : (l : Logged) → IsAhead (rows_of (after_record l r)) copy version
+      at l = (
+        one,
+        λ row there.
+            let same = ap (λ (x : ChunkRow). x.granted) (same_some new row (sym (put_there (rows_of l) copy new copy refl) ∙ ap (λ (rows : Rows). table.get rows copy) (sym (put l)) ∙ there)) in
+            omega (arith, same, none, one),
+      )
+
+      by_case : IsAfter d r e → IsAhead (rows_of e.master.logged) copy version
+      by_case (inl same) = subst (λ (x : MasterDoing). IsAhead (rows_of x.master.logged) copy version) (sym same) (at d.master.logged)
+      by_case (inr same) = subst (λ (x : MasterDoing). IsAhead (rows_of x.master.logged) copy version) (sym same) (at (writes_checkpoint d).master.logged)
 
   -- where copies are asked for, none is under way for the place
   abbrev pub IsFree : MasterDoing → Asker → Type 0
@@ -152,8 +199,9 @@ module _ (Asks : Type 0) (Told : ℕ → ℕ → ℕ → Type 0) (P : Core → T
   copies_to_keeps d a handle row [] servers there free h = location_keeps d a handle row [] h
   copies_to_keeps d a handle row (t ∷ rest) servers there free h =
       let copy : ℕ = d.master.logged.next_handle in
-      logs_keeps Asks Told P k d (log.CopyStart (file_id a.file) a.index (handle_of handle) (handle_of copy) (version_of (suc row.issued)))
-      (λ e. sends_copy_started e a handle copy (suc row.issued) (t ∷ rest)) (refl, there.0, there.1, free) (λ asks. record { due = tt; after = h.2 asks }) (started_keeps a handle copy (suc row.issued) (t ∷ rest) servers) h
+      let r : Record = log.CopyStart (file_id a.file) a.index (handle_of handle) (handle_of copy) (version_of (suc row.issued)) in
+      logs_keeps_after Asks Told P k d r (λ e. sends_copy_started e a handle copy (suc row.issued) (t ∷ rest)) (refl, there.0, there.1, free) tt (λ asks. record { due = tt; after = h.2 asks })
+      (λ e after. started_keeps a handle copy (suc row.issued) (t ∷ rest) servers e (copy_above d r copy (suc row.issued) (record new_row { issued = suc row.issued }) refl (λ l. refl) (omega arith) e after)) h
 
   wants_own_keeps : (d : MasterDoing) (a : Asker) (handle : ℕ) (row : ChunkRow) → chunk_of d.master.logged.table handle ≡ Some row → IsPlaced d a handle → IsFree d a → At Asks Told P k d
       → At Asks Told P k (wants_own d a handle row)
@@ -208,7 +256,7 @@ module _ (Asks : Type 0) (Told : ℕ → ℕ → ℕ → Type 0) (P : Core → T
   adds_keeps : (d : MasterDoing) (a : Asker) (lost : Bool) → IsThere d a → a.index ≡ length (handles_of d.master.logged.table a.file) → At Asks Told P k d → At Asks Told P k (adds_chunk d a lost)
   adds_keeps d a lost there last h =
       let handle : ℕ = d.master.logged.next_handle in
-      logs_keeps_after Asks Told P k d (log.AddChunk (file_id a.file) (handle_of handle)) (λ e. mutates_at e a lost (Some handle)) (refl, there) (λ asks. record { due = tt; after = h.2 asks })
+      logs_keeps_after Asks Told P k d (log.AddChunk (file_id a.file) (handle_of handle)) (λ e. mutates_at e a lost (Some handle)) (refl, there) tt (λ asks. record { due = tt; after = h.2 asks })
       (λ e after. mutates_at_keeps e a lost (Some handle) (λ other same. subst (λ (n : ℕ). IsPlaced e a n) (same_some handle other same) (added_placed d a handle e last after))) h
 
   looks_row_keeps : (d : MasterDoing) (a : Asker) (handle : ℕ) (o : Option ChunkRow) → At Asks Told P k d → At Asks Told P k (looks_at_row d a handle o)
@@ -256,27 +304,42 @@ module _ (Asks : Type 0) (Told : ℕ → ℕ → ℕ → Type 0) (P : Core → T
 
   -- grants
 
-  grant_keeps : (handle version primary : ℕ) (members : List ℕ) → ((n : ℕ) → has_number members n ≡ true → Told n handle version) → (d : MasterDoing) → At Asks Told P k d
-      → At Asks Told P k (sends_grant d handle version primary members)
-  grant_keeps handle version primary members told d h =
+  grant_keeps : (d : MasterDoing) (handle version primary : ℕ) (members : List ℕ) → ((n : ℕ) → has_number members n ≡ true → Told n handle version) → IsDue Asks d.master.logged (grant_record handle version primary members)
+      → At Asks Told P k d → At Asks Told P k (sends_grant (appends d (grant_record handle version primary members)) handle version primary members)
+  grant_keeps d handle version primary members told due h =
       let until : ℕ = d.master.now + d.master.config.lease_ms in
-      let ended : MasterDoing = ends_at (without_attempt d handle) handle until in
-      (k.grants (core_of ended) primary handle version (moment_of until) members told (k.ends (core_of d) handle until h.0), fewer_told Told d.master.attempts (handle ∷ []) h.1, h.2)
+      let r : Record = grant_record handle version primary members in
+      let l : Logged = d.master.logged in
+      let one : Logged = record l { table = grant l.table handle version primary members } in
+      let two : Logged = swapped_in one handle (table.get l.copies handle) in
+      let left : Table VersionAttempt = table.remove d.master.attempts handle in
+      let named : Asks → IsNamed l.names l.next_file r d.master.snapshots = λ asks. record { due = tt; after = h.2 asks } in (
+        k.grants (core_of d) handle version until primary members told due (record_names Asks Told P k d r named h.2) h.0,
+        fewer_told Told d.master.attempts (handle ∷ []) h.1,
+        names_later Asks Told P k d r named,
+        λ asks. ahead_from left (rows_of two) (changed_row (rows_of two) handle (λ row. record row { lease_end = until }) (table.get (rows_of two) handle))
+            (changed_from (rows_of two) handle (λ row. record row { lease_end = until }) (table.get (rows_of two) handle) refl (λ row. (refl, refl)))
+            (ahead_from left (rows_of one) (rows_of two) (swapped_from one handle (table.get l.copies handle)) (grant_ahead d.master.attempts (rows_of l) handle version primary members (h.3 asks))),
+      )
 
   grants_to_keeps : (d : MasterDoing) (handle : ℕ) (row : ChunkRow) (a : VersionAttempt) (servers : List ℕ) → chunk_of d.master.logged.table handle ≡ Some row
-      → ((n : ℕ) → has_number servers n ≡ true → Told n handle a.version) → At Asks Told P k d → At Asks Told P k (grants_to d handle a servers)
-  grants_to_keeps d handle row a [] is told h = h
-  grants_to_keeps d handle row a (primary ∷ rest) is told h =
-      logs_keeps Asks Told P k d (log.Grant (handle_of handle) (version_of a.version) (server_id primary) (primary ∷ rest)) (λ e. sends_grant e handle a.version primary (primary ∷ rest)) (row, is) (λ asks. record { due = tt; after = h.2 asks })
-      (grant_keeps handle a.version primary (primary ∷ rest) told) h
+      → ((n : ℕ) → has_number servers n ≡ true → Told n handle a.version) → IsAbove d handle a.version → At Asks Told P k d → At Asks Told P k (grants_to d handle a servers)
+  grants_to_keeps d handle row a [] is told above h = h
+  grants_to_keeps d handle row a (primary ∷ rest) is told above h =
+      let members : List ℕ = primary ∷ rest in
+      let r : Record = grant_record handle a.version primary members in
+      let due : IsDue Asks d.master.logged r = (row, is, λ asks. (above asks).1 row is) in
+      logs_from Asks Told P k d r (λ e. sends_grant e handle a.version primary members) (grant_keeps d handle a.version primary members told due)
+      (λ free. grant_keeps (writes_checkpoint d) handle a.version primary members told (due_later Asks d.master.logged r free due)) h
 
-  recorded_keeps : (d : MasterDoing) (handle : ℕ) (row : ChunkRow) (a : VersionAttempt) → chunk_of d.master.logged.table handle ≡ Some row → IsTold Told handle a → At Asks Told P k d
-      → At Asks Told P k (with_recorded d handle a)
-  recorded_keeps d handle row a is told h =
-      let now : At Asks Told P k (with_attempt d handle a) = (h.0, one_told Told d.master.attempts handle a told h.1, h.2) in
+  recorded_keeps : (d : MasterDoing) (handle : ℕ) (row : ChunkRow) (a : VersionAttempt) → chunk_of d.master.logged.table handle ≡ Some row → IsTold Told handle a → IsAbove d handle a.version
+      → At Asks Told P k d → At Asks Told P k (with_recorded d handle a)
+  recorded_keeps d handle row a is told above h =
+      let now : At Asks Told P k (with_attempt d handle a) =
+      (h.0, one_told Told d.master.attempts handle a told h.1, h.2, λ asks. one_ahead d.master.attempts handle a (rows_of d.master.logged) (above asks) (h.3 asks)) in
       on_cond (At Asks Told P k) (is_complete d.master a) (grants_to (with_attempt d handle a) handle a (rising a.servers)) (with_attempt d handle a)
       (λ all. grants_to_keeps (with_attempt d handle a) handle row a (rising a.servers) is
-      (complete_told Told handle a (both_of (same_numbers a.servers a.recorded) (nat_lt d.master.now (a.begun + d.master.config.attempt_ms)) all).0 told) now)
+      (complete_told Told handle a (both_of (same_numbers a.servers a.recorded) (nat_lt d.master.now (a.begun + d.master.config.attempt_ms)) all).0 told) above now)
       (λ _. now)
 
   -- one more that said that it recorded it
@@ -304,7 +367,7 @@ module _ (Asks : Type 0) (Told : ℕ → ℕ → ℕ → Type 0) (P : Core → T
   learns_attempt_keeps d server handle version (Some row) (Some a) row_is is word h =
       let more : VersionAttempt = record a { recorded = with_number a.recorded server } in
       on_cond (At Asks Told P k) ((a.version == version) && has_number a.servers server) (with_recorded d handle more) d
-      (λ fits. recorded_keeps d handle row more row_is (one_more_told server handle version a fits word (h.1 handle a is)) h) (λ _. h)
+      (λ fits. recorded_keeps d handle row more row_is (one_more_told server handle version a fits word (h.1 handle a is)) (λ asks. (h.3 asks).ahead handle a is) h) (λ _. h)
 
   learns_keeps : (d : MasterDoing) (server handle version : ℕ) → (IsServerNumber server → Told server handle version) → At Asks Told P k d → At Asks Told P k (learns d server handle version)
   learns_keeps d server handle version word h =
@@ -317,7 +380,7 @@ module _ (Asks : Type 0) (Told : ℕ → ℕ → ℕ → Type 0) (P : Core → T
   revoked_row_keeps : (d : MasterDoing) (server handle version : ℕ) (o : Option ChunkRow) → At Asks Told P k d → At Asks Told P k (revoked_row d server handle version o)
   revoked_row_keeps d server handle version None h = h
   revoked_row_keeps d server handle version (Some row) h =
-      on_cond (At Asks Told P k) ((row.granted == version) && (row.primary == server)) (ends_at d handle 0) d (λ _. (k.ends (core_of d) handle 0 h.0, h.1, h.2)) (λ _. h)
+      on_cond (At Asks Told P k) ((row.granted == version) && (row.primary == server)) (ends_at d handle 0) d (λ _. ends_keeps Asks Told P k d handle 0 h) (λ _. h)
 
   pub takes_revoked_keeps : (d : MasterDoing) (server handle version : ℕ) → At Asks Told P k d → At Asks Told P k (takes_revoked d server handle version)
   takes_revoked_keeps d server handle version h = revoked_row_keeps d server handle version (chunk_of d.master.logged.table handle) h
@@ -341,7 +404,7 @@ module _ (Asks : Type 0) (Told : ℕ → ℕ → ℕ → Type 0) (P : Core → T
       let until : ℕ = d.master.now + d.master.config.lease_ms in
       on_cond (At Asks Told P k) (may_extend d.master server line row && nat_lt row.lease_end until)
       (tells (ends_at d line.handle.0 until) (the_server server) (body.Extend line.handle line.version (moment_of until))) d
-      (λ _. tells_keeps Asks Told P k (ends_at d line.handle.0 until) (the_server server) (body.Extend line.handle line.version (moment_of until)) refl (k.ends (core_of d) line.handle.0 until h.0, h.1, h.2))
+      (λ _. tells_keeps Asks Told P k (ends_at d line.handle.0 until) (the_server server) (body.Extend line.handle line.version (moment_of until)) refl (ends_keeps Asks Told P k d line.handle.0 until h))
       (λ _. h)
 
   extends_all_keeps : (d : MasterDoing) (server : ℕ) (lines : List LeaseLine) → At Asks Told P k d → At Asks Told P k (extends_all d server lines)

@@ -1,5 +1,5 @@
 -- What a step of the master is made of. Whatever each of these moves keeps is kept by every step.
-use Rattle.std.proofs.Common.{◌≡◌, ℕ, suc, Bool, true, false, cond, List, [], ◌∷◌, ◌++◌, Some, None, refl, sym, ap, subst, ◌∙◌, ◌⊎◌, inl, inr}
+use Rattle.std.proofs.Common.{◌≡◌, ℕ, suc, ◌<◌, Bool, true, false, cond, List, [], ◌∷◌, ◌++◌, Some, None, refl, sym, ap, subst, ◌∙◌, ◌⊎◌, inl, inr}
 use Rattle.std.specs.Prelude.{◌&&◌, ◌||◌, not}
 use Rattle.std.specs.List.{list_any}
 use Rattle.std.specs.Ordering.{nat_cmp, eq_by_cmp}
@@ -8,24 +8,25 @@ use Rattle.std.specs.FinMap as table
 use Rattle.gfs_types.specs.declared.ids.Node.{Node}
 use Rattle.gfs_types.specs.declared.ids.Node.TheVariants as node
 use Rattle.gfs_types.specs.declared.ids.OrderNo.{OrderNo}
-use Rattle.gfs_types.specs.declared.ids.Moment.{Moment}
 use Rattle.messages.specs.declared.message.Body.{Body}
 use Rattle.messages.specs.declared.message.Body.TheVariants as body
 use Rattle.messages.specs.declared.message.Message.{Message}
 use Rattle.log_records.specs.declared.record.Record.{Record}
 use Rattle.log_records.specs.declared.record.Record.TheVariants as log
 use Rattle.protocol.specs.Tables.{Table, removed_all, element_at, has_number}
-use Rattle.protocol.specs.Sending.{message, the_server, handle_of, version_of}
-use Rattle.protocol.specs.ChunkTable.{ChunkRow, chunk_of, handles_of, set_end}
+use Rattle.protocol.specs.Sending.{message, the_server, server_id, handle_of, version_of, moment_of}
+use Rattle.protocol.specs.ChunkTable.{ChunkRow, new_row, chunk_of, handles_of, set_end}
 use Rattle.protocol.specs.LogSizes.{checkpoint_fits}
 use Rattle.protocol.specs.Logged.{Logged, LogDisk, LogChange, AppendRecord, WriteCheckpoint, log_changed, after_record, checkpoint_of, copies_given_up}
-use Rattle.protocol.specs.Master.{MasterDoing, PendingSnapshot, fits, appends, writes_checkpoint, logs, logs_after_checkpoint, is_of_copy}
+use Rattle.protocol.specs.Master.{MasterDoing, VersionAttempt, PendingSnapshot, ends_at, fits, appends, writes_checkpoint, logs, logs_after_checkpoint, is_of_copy}
 use Rattle.protocol.specs.Laws.{order_number}
 use Rattle.protocol.proofs.Steps.{on_cond, removed_cases}
 use Rattle.protocol.proofs.CopiesUnderWay.{IsUncopied, AreCopied, AreSoundCopies}
-use Rattle.relaxed_file.specs.Names.{Names}
+use Rattle.relaxed_file.specs.Names.{Names, copied_entries}
 use Rattle.relaxed_file.proofs.NamesTree.{Tree}
+use Rattle.protocol.proofs.ChunkRows.{Rows, rows_of, changed_from, all_copied_from, expired_from}
 use Rattle.protocol.proofs.VersionAttempts.{AreTold, fewer_told}
+use Rattle.protocol.proofs.VersionsAhead.{AreAhead, ahead_from, less_ahead, new_ahead, issue_ahead}
 use Rattle.protocol.proofs.Namespace.{IsNamespace, IsNamed, IsNameDue, names_after, names_are_after}
 
 -- the part of a step of the master that the laws speak of
@@ -50,13 +51,13 @@ core_of d =
       order_count = d.master.order_count;
     }
 
--- what is known of a record that is logged in a step, where it is asked for that copies are sound
+-- what is known of a record that is logged in a step, where it is asked for that copies are sound and versions above what was granted
 abbrev pub IsDue : Type 0 → Logged → Record → Type 0
 IsDue Asks l (log.Epoch epoch) = ⊥
 IsDue Asks l (log.Create client n file path) = file.0 ≡ l.next_file
 IsDue Asks l (log.AddChunk file handle) = (handle.0 ≡ l.next_handle) × (table.contains_key l.table.files file.0 ≡ true)
 IsDue Asks l (log.Issue handle version) = (row : ChunkRow) × (chunk_of l.table handle.0 ≡ Some row) × (version.0 ≡ suc row.issued)
-IsDue Asks l (log.Grant handle version primary members) = (row : ChunkRow) × (chunk_of l.table handle.0 ≡ Some row)
+IsDue Asks l (log.Grant handle version primary members) = (row : ChunkRow) × (chunk_of l.table handle.0 ≡ Some row) × (Asks → row.granted < version.0)
 IsDue Asks l (log.CopyStart file index handle copy copy_version) =
     (copy.0 ≡ l.next_handle) × (table.contains_key l.table.files file.0 ≡ true) × (element_at (handles_of l.table file.0) index ≡ Some handle.0) × (Asks → IsUncopied l file.0 index)
 IsDue Asks l (log.Counters next_file next_handle epoch) = ⊥
@@ -69,6 +70,12 @@ IsDue Asks l other = Unit {0}
 abbrev pub core_changed : Core → LogChange → Core
 core_changed c change = record c { disk = log_changed c.disk change; changes = c.changes ++ change ∷ [] }
 
+abbrev pub core_appended : Core → Record → Core
+core_appended c r = record (core_changed c (AppendRecord r)) { logged = after_record c.logged r }
+
+abbrev pub core_ended : Core → ℕ → ℕ → Core
+core_ended c handle moment = record c { logged = record c.logged { table = set_end c.logged.table handle moment } }
+
 abbrev pub IsNoGrant : Body → Type 0
 IsNoGrant (body.Grant order handle version end_moment members) = ⊥
 IsNoGrant other = Unit {0}
@@ -76,6 +83,14 @@ IsNoGrant other = Unit {0}
 abbrev pub core_ordered : Core → ℕ → (OrderNo → Body) → Core
 core_ordered c server b =
     record c { sent = c.sent ++ message node.Master (the_server server) (b (record { epoch = c.logged.epoch; count = suc c.order_count })) ∷ []; order_count = suc c.order_count }
+
+abbrev pub grant_record : ℕ → ℕ → ℕ → List ℕ → Record
+grant_record handle version primary members = log.Grant (handle_of handle) (version_of version) (server_id primary) members
+
+-- a grant: its record, then the end of its lease, then the order
+abbrev pub core_granted : Core → ℕ → ℕ → ℕ → ℕ → List ℕ → Core
+core_granted c handle version until primary members =
+    core_ordered (core_ended (core_appended c (grant_record handle version primary members)) handle until) primary (λ order. body.Grant order (handle_of handle) (version_of version) (moment_of until) members)
 
 -- where nothing is asked of what servers say
 abbrev pub Nothing : ℕ → ℕ → ℕ → Type 0
@@ -96,16 +111,16 @@ pub record Keeps (Asks : Type 0) (Told : ℕ → ℕ → ℕ → Type 0) (P : Co
   -- an order, under the next number
   pub orders : (c : Core) (server : ℕ) (b : OrderNo → Body) → ((o : OrderNo) → order_number (b o) ≡ Some o) → ((o : OrderNo) → IsNoGrant (b o)) → P c → P (core_ordered c server b)
   -- a grant, whose members all said that they have the version
-  pub grants : (c : Core) (primary handle version : ℕ) (until : Moment) (members : List ℕ) → ((n : ℕ) → has_number members n ≡ true → Told n handle version) → P c
-      → P (core_ordered c primary (λ order. body.Grant order (handle_of handle) (version_of version) until members))
+  pub grants : (c : Core) (handle version until primary : ℕ) (members : List ℕ) → ((n : ℕ) → has_number members n ≡ true → Told n handle version) → IsDue Asks c.logged (grant_record handle version primary members)
+      → (Asks → AreNames c.logged (grant_record handle version primary members)) → P c → P (core_granted c handle version until primary members)
   -- a record
-  pub appends : (c : Core) (r : Record) → IsDue Asks c.logged r → (Asks → AreNames c.logged r) → P c → P (record (core_changed c (AppendRecord r)) { logged = after_record c.logged r })
+  pub appends : (c : Core) (r : Record) → IsDue Asks c.logged r → (Asks → AreNames c.logged r) → P c → P (core_appended c r)
   -- a checkpoint, which gives up all copies
   pub checkpoint : (c : Core) → (Asks → Tree c.logged.names) → P c → P (record (core_changed c (WriteCheckpoint (checkpoint_of c.logged))) { logged = copies_given_up c.logged (table.keys c.logged.copies) })
   -- copies that are given up
   pub less : (c : Core) (handles : List ℕ) → AreCopied c.logged handles → P c → P (record c { logged = copies_given_up c.logged handles })
   -- a lease's end
-  pub ends : (c : Core) (handle moment : ℕ) → P c → P (record c { logged = record c.logged { table = set_end c.logged.table handle moment } })
+  pub ends : (c : Core) (handle moment : ℕ) → P c → P (core_ended c handle moment)
 
 either_false : (a b : Bool) → a || b ≡ false → (a ≡ false) × (b ≡ false)
 either_false true b h = absurd (cc)
@@ -119,7 +134,7 @@ removed_other t (n ∷ ns) q h =
     removed_other (table.remove t n) ns q parts.1 ∙ table.get-remove nat_cmp_total t n q ∙ ap (λ b. cond b None (table.get t q)) parts.0
 
 -- a record that is no copy's is still due after a checkpoint
-due_later : (Asks : Type 0) (l : Logged) (r : Record) → is_of_copy l r ≡ false → IsDue Asks l r → IsDue Asks (copies_given_up l (table.keys l.copies)) r
+pub due_later : (Asks : Type 0) (l : Logged) (r : Record) → is_of_copy l r ≡ false → IsDue Asks l r → IsDue Asks (copies_given_up l (table.keys l.copies)) r
 due_later Asks l (log.Epoch epoch) h due = due
 due_later Asks l (log.Create client n file path) h due = due
 due_later Asks l (log.AddChunk file handle) h due = due
@@ -138,7 +153,7 @@ due_later Asks l (log.Rename client n from to) h due = tt
 due_later Asks l (log.Snapshot client n from to) h due = tt
 due_later Asks l (log.Refused client n refusal) h due = tt
 due_later Asks l (log.Expired file) h due = tt
-due_later Asks l (log.Grant handle version primary members) h due = (due.0, removed_other l.table.chunks (table.keys l.copies) handle.0 (sym (table.contains_key-keys l.copies handle.0) ∙ h) ∙ due.1)
+due_later Asks l (log.Grant handle version primary members) h due = (due.0, removed_other l.table.chunks (table.keys l.copies) handle.0 (sym (table.contains_key-keys l.copies handle.0) ∙ h) ∙ due.1, due.2)
 
 neither : (a b : Bool) → a && not b ≡ true → b ≡ false
 neither true true h = absurd (let both : false ≡ true = h in cc)
@@ -156,36 +171,88 @@ logs_snapshots d r then_ ss go h =
     (λ _. on_cond good (fits (writes_checkpoint d) r && not was) (then_ (appends (writes_checkpoint d) r)) (writes_checkpoint d) (λ _. go (appends (writes_checkpoint d) r) h) (λ _. h))
     (λ _. h))
 
+-- to log, where the step ends there
+pub logs_alone : (good : MasterDoing → Type 0) (d : MasterDoing) (r : Record) → good d → good (appends d r) → good (writes_checkpoint d) → good (appends (writes_checkpoint d) r) → good (logs d r (λ e. e))
+logs_alone good d r as_is logged less logged_less =
+    let was : Bool = is_of_copy d.master.logged r in
+    on_cond good (fits d r) (appends d r) _ (λ _. logged)
+    (λ _. on_cond good (checkpoint_fits d.master.config.log_bytes (checkpoint_of d.master.logged)) (logs_after_checkpoint (writes_checkpoint d) r was (λ e. e)) d
+    (λ _. on_cond good (fits (writes_checkpoint d) r && not was) (appends (writes_checkpoint d) r) (writes_checkpoint d) (λ _. logged_less) (λ _. less))
+    (λ _. as_is))
+
 -- a step just after a record, which a checkpoint may have made room for
 abbrev pub IsAfter : MasterDoing → Record → MasterDoing → Type 0
 IsAfter d r e = (e ≡ appends d r) ⊎ (e ≡ appends (writes_checkpoint d) r)
 
+-- a record that grants nothing
+abbrev pub IsNoGrantRecord : Record → Type 0
+IsNoGrantRecord (log.Grant handle version primary members) = ⊥
+IsNoGrantRecord other = Unit {0}
+
+ahead_after : (Asks : Type 0) (attempts : Table VersionAttempt) (l : Logged) (r : Record) → IsDue Asks l r → IsNoGrantRecord r → AreAhead attempts (rows_of l) → AreAhead attempts (rows_of (after_record l r))
+ahead_after Asks attempts l (log.AddChunk file handle) due plain h = new_ahead attempts (rows_of l) handle.0 (record new_row { references = 1 }) refl h
+ahead_after Asks attempts l (log.CopyStart file index handle copy copy_version) due plain h = new_ahead attempts (rows_of l) copy.0 (record new_row { issued = copy_version.0 }) refl h
+ahead_after Asks attempts l (log.Issue handle version) due plain h = issue_ahead attempts (rows_of l) handle.0 version.0 due.0 due.1 due.2 h
+ahead_after Asks attempts l (log.Snapshot client n from to) due plain h =
+    ahead_from attempts (rows_of l) (rows_of (after_record l (log.Snapshot client n from to))) (all_copied_from l.table l.next_file (copied_entries l.names from to)) h
+ahead_after Asks attempts l (log.Expired file) due plain h = ahead_from attempts (rows_of l) (rows_of (after_record l (log.Expired file))) (expired_from l file) h
+ahead_after Asks attempts l (log.Grant handle version primary members) due plain h = absurd plain
+ahead_after Asks attempts l (log.FileItem path file handles) due plain h = absurd due
+ahead_after Asks attempts l (log.ChunkItem handle granted issued primary members) due plain h = absurd due
+ahead_after Asks attempts l other due plain h = h
+
 module _ (Asks : Type 0) (Told : ℕ → ℕ → ℕ → Type 0) (P : Core → Type 0) (k : Keeps Asks Told P) where
-  -- beside it, of whom an attempt says that it recorded it said so, and the names are a tree with free targets
+  -- beside it, of whom an attempt says that it recorded it said so, the names are a tree with free targets, and each attempt is above what was granted
   abbrev pub At : MasterDoing → Type 0
-  At d = P (core_of d) × AreTold Told d.master.attempts × (Asks → IsNamespace d.master.logged.names d.master.snapshots)
+  At d =
+      P (core_of d) × AreTold Told d.master.attempts × (Asks → IsNamespace d.master.logged.names d.master.snapshots) × (Asks → AreAhead d.master.attempts (rows_of d.master.logged))
 
   checkpoint_keeps : (d : MasterDoing) → At d → At (writes_checkpoint d)
-  checkpoint_keeps d h = (k.checkpoint (core_of d) (λ asks. (h.2 asks).tree) h.0, fewer_told Told d.master.attempts (table.keys d.master.logged.copies) h.1, h.2)
+  checkpoint_keeps d h =
+      let handles : List ℕ = table.keys d.master.logged.copies in
+      (k.checkpoint (core_of d) (λ asks. (h.2 asks).tree) h.0, fewer_told Told d.master.attempts handles h.1, h.2, λ asks. less_ahead d.master.attempts (rows_of d.master.logged) handles (h.3 asks))
 
-  -- to log, from what the rest of the step keeps after it
-  pub logs_keeps_after : (d : MasterDoing) (r : Record) (then_ : MasterDoing → MasterDoing) → IsDue Asks d.master.logged r
-      → (Asks → IsNamed d.master.logged.names d.master.logged.next_file r d.master.snapshots) → ((e : MasterDoing) → IsAfter d r e → At e → At (then_ e)) → At d → At (logs d r then_)
-  logs_keeps_after d r then_ due named go h =
-      let kept : (l : Logged) → l.names ≡ d.master.logged.names → l.next_file ≡ d.master.logged.next_file → Asks → IsNamespace (after_record l r).names d.master.snapshots =
-      λ l same next asks. subst (λ (n : Names). IsNamespace n d.master.snapshots) (sym (names_are_after l r ∙ ap (λ (n : Names). names_after n l.next_file r) same ∙ ap (λ (n : ℕ). names_after d.master.logged.names n r) next)) (named asks).after in
-      let names : Asks → AreNames d.master.logged r = λ asks. record { due = (named asks).due; before = (h.2 asks).tree; after = (named asks).after.tree } in
-      let less : Logged = copies_given_up d.master.logged (table.keys d.master.logged.copies) in
-      let names_later : Asks → AreNames less r = λ asks. record { due = (named asks).due; before = (h.2 asks).tree; after = (named asks).after.tree } in
+  pub ends_keeps : (d : MasterDoing) (handle moment : ℕ) → At d → At (ends_at d handle moment)
+  ends_keeps d handle moment h =
+      let rows : Rows = rows_of d.master.logged in (
+        k.ends (core_of d) handle moment h.0,
+        h.1,
+        h.2,
+        λ asks. ahead_from d.master.attempts rows (rows_of (ends_at d handle moment).master.logged) (changed_from rows handle (λ row. record row { lease_end = moment }) (table.get rows handle) refl (λ row. (refl, refl))) (h.3 asks),
+      )
+
+  -- to log, from what the record and the rest of the step keep, at once or after a checkpoint
+  pub logs_from : (d : MasterDoing) (r : Record) (then_ : MasterDoing → MasterDoing) → (At d → At (then_ (appends d r)))
+      → (is_of_copy d.master.logged r ≡ false → At (writes_checkpoint d) → At (then_ (appends (writes_checkpoint d) r))) → At d → At (logs d r then_)
+  logs_from d r then_ now later h =
       let was : Bool = is_of_copy d.master.logged r in
-      on_cond At (fits d r) (then_ (appends d r)) _ (λ _. go (appends d r) (inl refl) (k.appends (core_of d) r due names h.0, h.1, kept d.master.logged refl refl))
+      on_cond At (fits d r) (then_ (appends d r)) _ (λ _. now h)
       (λ _. on_cond At (checkpoint_fits d.master.config.log_bytes (checkpoint_of d.master.logged)) (logs_after_checkpoint (writes_checkpoint d) r was then_) d
       (λ _. on_cond At (fits (writes_checkpoint d) r && not was) (then_ (appends (writes_checkpoint d) r)) (writes_checkpoint d)
-      (λ t. go (appends (writes_checkpoint d) r) (inr refl)
-      (k.appends (core_of (writes_checkpoint d)) r (due_later Asks d.master.logged r (neither (fits (writes_checkpoint d) r) was t) due) names_later (checkpoint_keeps d h).0, (checkpoint_keeps d h).1, kept less refl refl))
-      (λ _. checkpoint_keeps d h))
+      (λ t. later (neither (fits (writes_checkpoint d) r) was t) (checkpoint_keeps d h)) (λ _. checkpoint_keeps d h))
       (λ _. h))
 
-  pub logs_keeps : (d : MasterDoing) (r : Record) (then_ : MasterDoing → MasterDoing) → IsDue Asks d.master.logged r
+  -- the names before a record and after it
+  pub record_names : (d : MasterDoing) (r : Record) → (Asks → IsNamed d.master.logged.names d.master.logged.next_file r d.master.snapshots) → (Asks → IsNamespace d.master.logged.names d.master.snapshots)
+      → Asks → AreNames d.master.logged r
+  record_names d r named before asks = record { due = (named asks).due; before = (before asks).tree; after = (named asks).after.tree }
+
+  pub names_later : (d : MasterDoing) (r : Record) → (Asks → IsNamed d.master.logged.names d.master.logged.next_file r d.master.snapshots) → Asks → IsNamespace (after_record d.master.logged r).names d.master.snapshots
+  names_later d r named asks = subst (λ (n : Names). IsNamespace n d.master.snapshots) (sym (names_are_after d.master.logged r)) (named asks).after
+
+  -- to log what is no grant, from what the rest of the step keeps after it
+  pub logs_keeps_after : (d : MasterDoing) (r : Record) (then_ : MasterDoing → MasterDoing) → IsDue Asks d.master.logged r → IsNoGrantRecord r
+      → (Asks → IsNamed d.master.logged.names d.master.logged.next_file r d.master.snapshots) → ((e : MasterDoing) → IsAfter d r e → At e → At (then_ e)) → At d → At (logs d r then_)
+  logs_keeps_after d r then_ due plain named go h =
+      let less : MasterDoing = writes_checkpoint d in
+      logs_from d r then_
+      (λ g. go (appends d r) (inl refl)
+      (k.appends (core_of d) r due (record_names d r named g.2) g.0, g.1, names_later d r named, λ asks. ahead_after Asks d.master.attempts d.master.logged r due plain (g.3 asks)))
+      (λ free g. let still = due_later Asks d.master.logged r free due in
+      go (appends less r) (inr refl)
+      (k.appends (core_of less) r still (record_names less r named g.2) g.0, g.1, names_later less r named, λ asks. ahead_after Asks less.master.attempts less.master.logged r still plain (g.3 asks)))
+      h
+
+  pub logs_keeps : (d : MasterDoing) (r : Record) (then_ : MasterDoing → MasterDoing) → IsDue Asks d.master.logged r → IsNoGrantRecord r
       → (Asks → IsNamed d.master.logged.names d.master.logged.next_file r d.master.snapshots) → ((e : MasterDoing) → At e → At (then_ e)) → At d → At (logs d r then_)
-  logs_keeps d r then_ due named go h = logs_keeps_after d r then_ due named (λ e after. go e) h
+  logs_keeps d r then_ due plain named go h = logs_keeps_after d r then_ due plain named (λ e after. go e) h

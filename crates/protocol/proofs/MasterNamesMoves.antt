@@ -24,10 +24,12 @@ use Rattle.protocol.specs.MasterNames.{master_refusal, reply_by, takes_look, per
 use Rattle.protocol.specs.Laws.{order_number}
 use Rattle.protocol.proofs.Steps.{on_cond}
 use Rattle.protocol.proofs.Entries.{AllOf}
+use Rattle.protocol.proofs.ChunkRows.{rows_of}
 use Rattle.protocol.proofs.VersionAttempts.{fewer_told}
+use Rattle.protocol.proofs.VersionsAhead.{fewer_ahead, less_ahead}
 use Rattle.protocol.proofs.Namespace.{IsNamespace, IsNamed, IsAmong, AreAllApart, without_snapshot, filtered_namespace, all_among, all_still_among, mkdir_named, rmdir_named, create_named, delete_named, rename_named, waits_named, taken_named}
 use Rattle.protocol.proofs.CopiesUnderWay.{AreCopied, listed_copied}
-use Rattle.protocol.proofs.MasterMoves.{Core, core_of, IsDue, IsNoGrant, Keeps, logs_snapshots, At, logs_keeps}
+use Rattle.protocol.proofs.MasterMoves.{Core, core_of, IsDue, IsNoGrant, IsNoGrantRecord, Keeps, logs_snapshots, At, logs_keeps}
 
 settled_snapshots : (d : MasterDoing) (client number : ℕ) (r : Record) (o : Option Refusal) (ss : List PendingSnapshot) → d.master.snapshots ≡ ss → (settles_name d client number r o).master.snapshots ≡ ss
 settled_snapshots d client number r o ss h = logs_snapshots d r (λ e. answers_name e client number o) ss (λ e is. is) h
@@ -49,13 +51,13 @@ module _ (Asks : Type 0) (Told : ℕ → ℕ → ℕ → Type 0) (P : Core → T
   Named d r = Asks → IsNamed d.master.logged.names d.master.logged.next_file r d.master.snapshots
 
   pub tells_keeps : (d : MasterDoing) (receiver : Node) (b : Body) → order_number b ≡ None → At Asks Told P k d → At Asks Told P k (tells d receiver b)
-  tells_keeps d receiver b e h = (k.tells (core_of d) receiver b e h.0, h.1, h.2)
+  tells_keeps d receiver b e h = (k.tells (core_of d) receiver b e h.0, h.1, h.2, h.3)
 
   pub orders_keeps : (d : MasterDoing) (server : ℕ) (b : OrderNo → Body) → ((o : OrderNo) → order_number (b o) ≡ Some o) → ((o : OrderNo) → IsNoGrant (b o)) → At Asks Told P k d → At Asks Told P k (orders d server b)
-  orders_keeps d server b e plain h = (k.orders (core_of d) server b e plain h.0, h.1, h.2)
+  orders_keeps d server b e plain h = (k.orders (core_of d) server b e plain h.0, h.1, h.2, h.3)
 
   pub copies_keeps : (d : MasterDoing) (handles : List ℕ) → AreCopied d.master.logged handles → At Asks Told P k d → At Asks Told P k (gives_up_copies d handles)
-  copies_keeps d handles copied h = (k.less (core_of d) handles copied h.0, fewer_told Told d.master.attempts handles h.1, h.2)
+  copies_keeps d handles copied h = (k.less (core_of d) handles copied h.0, fewer_told Told d.master.attempts handles h.1, h.2, λ asks. less_ahead d.master.attempts (rows_of d.master.logged) handles (h.3 asks))
 
   revoked_keeps : (d : MasterDoing) (handle : ℕ) (o : Option ChunkRow) → At Asks Told P k d → At Asks Told P k (revokes_row d handle o)
   revoked_keeps d handle None h = h
@@ -76,31 +78,31 @@ module _ (Asks : Type 0) (Told : ℕ → ℕ → ℕ → Type 0) (P : Core → T
       let handles : List ℕ = snapshot_handles d.master s in
       let held : MasterDoing = without_attempts (takes_locks d s) handles in
       let files : List ℕ = copies_for_files d.master.logged (snapshot_files d.master s) in
-      revokes_all_keeps (gives_up_copies held files) handles (copies_keeps held files (listed_copied d.master.logged (λ c. has_number (snapshot_files d.master s) c.file)) (h.0, fewer_told Told d.master.attempts handles h.1, waits))
+      revokes_all_keeps (gives_up_copies held files) handles (copies_keeps held files (listed_copied d.master.logged (λ c. has_number (snapshot_files d.master s) c.file)) (h.0, fewer_told Told d.master.attempts handles h.1, waits, λ asks. fewer_ahead d.master.attempts handles (rows_of d.master.logged) (h.3 asks)))
 
   answers_keeps : (client number : ℕ) (o : Option Refusal) (d : MasterDoing) → At Asks Told P k d → At Asks Told P k (answers_name d client number o)
   answers_keeps client number o d h = tells_keeps d (the_client client) (body.Named number (Answered (reply_of o))) refl h
 
-  settles_keeps : (d : MasterDoing) (client number : ℕ) (r : Record) (o : Option Refusal) → IsDue Asks d.master.logged r → Named d r → At Asks Told P k d → At Asks Told P k (settles_name d client number r o)
-  settles_keeps d client number r o due named h = logs_keeps Asks Told P k d r (λ e. answers_name e client number o) due named (answers_keeps client number o) h
+  settles_keeps : (d : MasterDoing) (client number : ℕ) (r : Record) (o : Option Refusal) → IsDue Asks d.master.logged r → IsNoGrantRecord r → Named d r → At Asks Told P k d → At Asks Told P k (settles_name d client number r o)
+  settles_keeps d client number r o due plain named h = logs_keeps Asks Told P k d r (λ e. answers_name e client number o) due plain named (answers_keeps client number o) h
 
   refuses_keeps : (d : MasterDoing) (client number : ℕ) (refusal : Refusal) → At Asks Told P k d → At Asks Told P k (refuses_name d client number refusal)
-  refuses_keeps d client number refusal h = settles_keeps d client number (log.Refused (client_id client) number refusal) (Some refusal) tt (λ asks. record { due = tt; after = h.2 asks }) h
+  refuses_keeps d client number refusal h = settles_keeps d client number (log.Refused (client_id client) number refusal) (Some refusal) tt tt (λ asks. record { due = tt; after = h.2 asks }) h
 
-  changes_keeps : (d : MasterDoing) (client number : ℕ) (c : Call) (r : Record) → IsDue Asks d.master.logged r → Named d r → At Asks Told P k d → At Asks Told P k (changes_names d client number c r)
-  changes_keeps d client number c r due named h =
+  changes_keeps : (d : MasterDoing) (client number : ℕ) (c : Call) (r : Record) → IsDue Asks d.master.logged r → IsNoGrantRecord r → Named d r → At Asks Told P k d → At Asks Told P k (changes_names d client number c r)
+  changes_keeps d client number c r due plain named h =
       let tried : MasterDoing = record d { refused = all_but_first d.refused } in
       on_cond (At Asks Told P k) (needs_room c) _ (settles_name d client number r None)
       (λ _. on_cond (At Asks Told P k) (first_is_true d.refused) (refuses_name tried client number NamesFull) (settles_name tried client number r None)
       (λ _. refuses_keeps tried client number NamesFull h)
-      (λ _. settles_keeps tried client number r None due named h))
-      (λ _. settles_keeps d client number r None due named h)
+      (λ _. settles_keeps tried client number r None due plain named h))
+      (λ _. settles_keeps d client number r None due plain named h)
 
   snapshot_keeps : (d : MasterDoing) (s : PendingSnapshot) → (Asks → IsAmong d.master.snapshots s) → At Asks Told P k d → At Asks Told P k (takes_snapshot d s)
   snapshot_keeps d s among h =
-      changes_keeps (lets_go d s) s.client s.number (call.Snapshot s.from s.to) (log.Snapshot (client_id s.client) s.number s.from s.to) tt
+      changes_keeps (lets_go d s) s.client s.number (call.Snapshot s.from s.to) (log.Snapshot (client_id s.client) s.number s.from s.to) tt tt
       (λ asks. taken_named d.master.logged.names d.master.snapshots (client_id s.client) s.number s d.master.logged.next_file (among asks) (h.2 asks))
-      (h.0, h.1, λ asks. filtered_namespace d.master.logged.names (λ t. not (is_same_snapshot s t)) d.master.snapshots (h.2 asks))
+      (h.0, h.1, λ asks. filtered_namespace d.master.logged.names (λ t. not (is_same_snapshot s t)) d.master.snapshots (h.2 asks), h.3)
 
   -- the snapshots that are left to look at wait still
   ready_in : (d : MasterDoing) (ss : List PendingSnapshot) → (Asks → AllOf (IsAmong d.master.snapshots) ss) → (Asks → AreAllApart ss) → At Asks Told P k d → At Asks Told P k (takes_ready d ss)
@@ -122,17 +124,17 @@ module _ (Asks : Type 0) (Told : ℕ → ℕ → ℕ → Type 0) (P : Core → T
   performs_keeps : (d : MasterDoing) (client number deadline : ℕ) (c : Call) → master_refusal d.master c ≡ None → is_waiting_call d.master client number ≡ false → (Asks → d.master.logged.next_file ≤ counter_limit)
       → At Asks Told P k d → At Asks Told P k (performs d client number deadline c)
   performs_keeps d client number deadline (call.Mkdir p) may new bound h =
-      changes_keeps d client number (call.Mkdir p) (log.Mkdir (client_id client) number p) tt (λ asks. mkdir_named d.master (client_id client) number p d.master.logged.next_file may (h.2 asks)) h
+      changes_keeps d client number (call.Mkdir p) (log.Mkdir (client_id client) number p) tt tt (λ asks. mkdir_named d.master (client_id client) number p d.master.logged.next_file may (h.2 asks)) h
   performs_keeps d client number deadline (call.Rmdir p) may new bound h =
-      changes_keeps d client number (call.Rmdir p) (log.Rmdir (client_id client) number p) tt (λ asks. rmdir_named d.master (client_id client) number p d.master.logged.next_file may (h.2 asks)) h
+      changes_keeps d client number (call.Rmdir p) (log.Rmdir (client_id client) number p) tt tt (λ asks. rmdir_named d.master (client_id client) number p d.master.logged.next_file may (h.2 asks)) h
   performs_keeps d client number deadline (call.Create p) may new bound h =
-      changes_keeps d client number (call.Create p) (log.Create (client_id client) number (file_id d.master.logged.next_file) p) refl
+      changes_keeps d client number (call.Create p) (log.Create (client_id client) number (file_id d.master.logged.next_file) p) refl tt
       (λ asks. create_named d.master (client_id client) number (file_id d.master.logged.next_file) p d.master.logged.next_file may (h.2 asks)) h
   performs_keeps d client number deadline (call.Delete p) may new bound h =
-      changes_keeps d client number (call.Delete p) (log.Delete (client_id client) number (moment_of d.master.now) p) tt
+      changes_keeps d client number (call.Delete p) (log.Delete (client_id client) number (moment_of d.master.now) p) tt tt
       (λ asks. delete_named d.master (client_id client) number (moment_of d.master.now) p d.master.logged.next_file (bound asks) may (h.2 asks)) h
   performs_keeps d client number deadline (call.Rename p q) may new bound h =
-      changes_keeps d client number (call.Rename p q) (log.Rename (client_id client) number p q) tt (λ asks. rename_named d.master (client_id client) number p q d.master.logged.next_file may (h.2 asks)) h
+      changes_keeps d client number (call.Rename p q) (log.Rename (client_id client) number p q) tt tt (λ asks. rename_named d.master (client_id client) number p q d.master.logged.next_file may (h.2 asks)) h
   performs_keeps d client number deadline (call.Snapshot p q) may new bound h =
       let s : PendingSnapshot = record { client = client; number = number; deadline = deadline; from = p; to = q } in
       begins_keeps d s (λ asks. waits_named d.master s may new (h.2 asks)) h

@@ -15,7 +15,9 @@ use Rattle.protocol.specs.MasterSnapshots.{live_snapshots}
 use Rattle.protocol.specs.Master.{MasterState, MasterDoing, VersionAttempt, master_begins, logs}
 use Rattle.protocol.specs.MasterClones.{CloneOrder, orders_clone, best_clone}
 use Rattle.protocol.specs.MasterStep.{master_ticks, is_in_time, gives_up_attempts, gives_up_lost_copies, is_lost_copy, lost_copies, expires_all, expires_old, expired_files, master_takes, master_does, master_at, master_goes}
+use Rattle.protocol.proofs.ChunkRows.{rows_of}
 use Rattle.protocol.proofs.VersionAttempts.{IsServerNumber, AreTold, kept_told}
+use Rattle.protocol.proofs.VersionsAhead.{AreAhead, kept_ahead}
 use Rattle.protocol.proofs.Namespace.{IsNamespace, filtered_namespace, expired_names}
 use Rattle.protocol.proofs.CopiesUnderWay.{keys_copied}
 use Rattle.protocol.proofs.MasterMoves.{Core, core_of, Nothing, Keeps, At, logs_keeps}
@@ -36,7 +38,7 @@ module _ (Asks : Type 0) (Told : ℕ → ℕ → ℕ → Type 0) (P : Core → T
   expires_keeps : (d : MasterDoing) (files : List ℕ) → At Asks Told P k d → At Asks Told P k (expires_all d files)
   expires_keeps d [] h = h
   expires_keeps d (file ∷ rest) h =
-      expires_keeps (logs d (log.Expired (file_id file)) (λ e. e)) rest (logs_keeps Asks Told P k d (log.Expired (file_id file)) (λ e. e) tt (λ asks. record { due = tt; after = expired_names d.master.logged.names file d.master.snapshots (h.2 asks) }) (λ e. λ g. g) h)
+      expires_keeps (logs d (log.Expired (file_id file)) (λ e. e)) rest (logs_keeps Asks Told P k d (log.Expired (file_id file)) (λ e. e) tt tt (λ asks. record { due = tt; after = expired_names d.master.logged.names file d.master.snapshots (h.2 asks) }) (λ e. λ g. g) h)
 
   clone_keeps : (d : MasterDoing) (o : Option CloneOrder) → At Asks Told P k d → At Asks Told P k (orders_clone d o)
   clone_keeps d None h = h
@@ -47,7 +49,7 @@ module _ (Asks : Type 0) (Told : ℕ → ℕ → ℕ → Type 0) (P : Core → T
       let a : MasterDoing = gives_up_attempts d in
       let b : MasterDoing = gives_up_lost_copies a in
       let c : MasterDoing = expires_old b in
-      clone_keeps c (best_clone c.master (table.entries c.master.logged.table.chunks)) (expires_keeps b (expired_files b.master) (copies_keeps Asks Told P k a (lost_copies a.master) (keys_copied a.master.logged (is_lost_copy a.master)) (h.0, kept_told Told (is_in_time d.master) d.master.attempts h.1, h.2)))
+      clone_keeps c (best_clone c.master (table.entries c.master.logged.table.chunks)) (expires_keeps b (expired_files b.master) (copies_keeps Asks Told P k a (lost_copies a.master) (keys_copied a.master.logged (is_lost_copy a.master)) (h.0, kept_told Told (is_in_time d.master) d.master.attempts h.1, h.2, λ asks. kept_ahead (is_in_time d.master) d.master.attempts (rows_of d.master.logged) (h.3 asks))))
 
   takes_keeps : (d : MasterDoing) (m : Message) (b : Body) → IsWordTold Told (server_number m.sender) b → (Asks → d.master.logged.next_file ≤ counter_limit) → At Asks Told P k d → At Asks Told P k (master_takes d m b)
   takes_keeps d m (body.Name number deadline c) told bound h = name_keeps Asks Told P k d (client_number m.sender) number deadline.0 c bound h
@@ -115,13 +117,14 @@ none_asked attempts handle a is = record { servers = λ n there. inr (λ h v. tt
 -- the step, where nothing is asked of words and of names
 pub goes_keeps : (P : Core → Type 0) (k : Keeps ⊥ Nothing P) (m : MasterState) (moment : ℕ) (i : Input) (refused : List Bool) → P (core_of (master_begins (master_at m moment) refused))
     → P (core_of (master_goes m moment i refused))
-goes_keeps P k m moment i refused h = (goes_told ⊥ Nothing P k m moment i refused (no_input i) (λ asks. absurd asks) (h, none_asked m.attempts, λ asks. absurd asks)).0
+goes_keeps P k m moment i refused h = (goes_told ⊥ Nothing P k m moment i refused (no_input i) (λ asks. absurd asks) (h, none_asked m.attempts, λ asks. absurd asks, λ asks. absurd asks)).0
 
 -- the step, where nothing is asked of words
 pub goes_named : (P : Core → Type 0) (k : Keeps (Unit {0}) Nothing P) (m : MasterState) (moment : ℕ) (i : Input) (refused : List Bool) → m.logged.next_file ≤ counter_limit
-    → IsNamespace m.logged.names m.snapshots → P (core_of (master_begins (master_at m moment) refused))
+    → IsNamespace m.logged.names m.snapshots → AreAhead m.attempts (rows_of m.logged) → P (core_of (master_begins (master_at m moment) refused))
     → P (core_of (master_goes m moment i refused)) × IsNamespace (master_goes m moment i refused).master.logged.names (master_goes m moment i refused).master.snapshots
-goes_named P k m moment i refused bound names h =
+    × AreAhead (master_goes m moment i refused).master.attempts (rows_of (master_goes m moment i refused).master.logged)
+goes_named P k m moment i refused bound names ahead h =
     let live : IsNamespace m.logged.names (live_snapshots (max m.now moment) m.snapshots) = filtered_namespace m.logged.names (λ s. nat_lt (max m.now moment) s.deadline) m.snapshots names in
-    let end = goes_told (Unit {0}) Nothing P k m moment i refused (no_input i) (λ asks. bound) (h, none_asked m.attempts, λ asks. live) in
-    (end.0, end.2 tt)
+    let end = goes_told (Unit {0}) Nothing P k m moment i refused (no_input i) (λ asks. bound) (h, none_asked m.attempts, λ asks. live, λ asks. ahead) in
+    (end.0, end.2 tt, end.3 tt)

@@ -27,30 +27,30 @@ use Rattle.protocol.specs.Logged.{LogDisk, LogChange, checkpoint_of}
 use Rattle.protocol.specs.Master.{MasterState, MasterDoing, stopped_master, master_begins, fits, appends, writes_checkpoint, logs_after_checkpoint, is_of_copy}
 use Rattle.protocol.specs.MasterStep.{master_goes, master_ends, master_bounded, master_step, is_within_limits, found_log, started_master, opening, has_opened, opens_as, new_master}
 use Rattle.protocol.specs.World.{stamped}
-use Rattle.protocol.specs.Laws.{order_number, is_number, tells_version, WasTold, MembersRecordedWhatIsGranted}
-use Rattle.protocol.proofs.Steps.{on_cond, none_some, same_some, tally, count-cons}
+use Rattle.protocol.specs.Laws.{order_number, tells_version, WasTold, MembersRecordedWhatIsGranted}
+use Rattle.protocol.proofs.Steps.{on_cond, none_some, same_some}
 use Rattle.protocol.proofs.Entries.{AllOf, all_joined, same_number}
 use Rattle.protocol.proofs.VersionAttempts.{IsServerNumber, AreTold, more_told, none_told, fewer_told}
 use Rattle.protocol.proofs.MasterMoves.{IsNoGrant, Keeps}
 use Rattle.protocol.proofs.MasterChunksMoves.{AreLinesTold}
 use Rattle.protocol.proofs.MasterSteps.{IsWordTold, IsInputTold, goes_told}
 use Rattle.protocol.proofs.ClientMoves.{HasNoOrder}
-use Rattle.protocol.proofs.SentReached.{IsInputSent, sent_reached}
+use Rattle.protocol.proofs.SentReached.{IsInputSent, without_order, sent_reached}
 
 -- places in lists
 
-kept_place : {X : Type 0} (xs ys : List X) (n : ℕ) (x : X) → element_at xs n ≡ Some x → element_at (xs ++ ys) n ≡ Some x
+pub kept_place : {X : Type 0} (xs ys : List X) (n : ℕ) (x : X) → element_at xs n ≡ Some x → element_at (xs ++ ys) n ≡ Some x
 kept_place [] ys n x h = none_some x h
 kept_place (y ∷ xs) ys zero x h = h
 kept_place (y ∷ xs) ys (suc n) x h = kept_place xs ys n x h
 
-place_below : {X : Type 0} (xs : List X) (n : ℕ) (x : X) → element_at xs n ≡ Some x → n < length xs
+pub place_below : {X : Type 0} (xs : List X) (n : ℕ) (x : X) → element_at xs n ≡ Some x → n < length xs
 place_below [] n x h = none_some x h
 place_below (y ∷ xs) zero x h = omega arith
 place_below (y ∷ xs) (suc n) x h = let below = place_below xs n x h in omega (arith, below)
 
 -- an element of the first part, or of the second
-place_cases : {X : Type 0} (xs ys : List X) (n : ℕ) (x : X) → element_at (xs ++ ys) n ≡ Some x
+pub place_cases : {X : Type 0} (xs ys : List X) (n : ℕ) (x : X) → element_at (xs ++ ys) n ≡ Some x
     → (element_at xs n ≡ Some x) ⊎ ((m : ℕ) × (length xs ≤ n) × (element_at ys m ≡ Some x))
 place_cases [] ys n x h = inr (n, omega arith, h)
 place_cases (y ∷ xs) ys zero x h = inl h
@@ -60,7 +60,7 @@ place_cases (y ∷ xs) ys (suc n) x h =
       | inr later ↦ inr (later.0, let more = later.1 in omega (arith, more), later.2)
     ]
 
-all_at : {X : Type 0} (P : X → Type 0) (xs : List X) (n : ℕ) (x : X) → AllOf P xs → element_at xs n ≡ Some x → P x
+pub all_at : {X : Type 0} (P : X → Type 0) (xs : List X) (n : ℕ) (x : X) → AllOf P xs → element_at xs n ≡ Some x → P x
 all_at P [] n x all h = none_some x h
 all_at P (y ∷ xs) zero x all h = subst P (same_some y x h) all.0
 all_at P (y ∷ xs) (suc n) x all h = all_at P xs n x all.1 h
@@ -74,7 +74,7 @@ all_picked : {X : Type 0} (P : X → Type 0) (o : Option X) (xs : List X) → ((
 all_picked P None xs one all = all
 all_picked P (Some x) xs one all = (one x refl, all)
 
-all_in_order : {X : Type 0} (P : X → Type 0) (ns : List ℕ) (xs : List X) → AllOf P xs → AllOf P (in_order ns xs)
+pub all_in_order : {X : Type 0} (P : X → Type 0) (ns : List ℕ) (xs : List X) → AllOf P xs → AllOf P (in_order ns xs)
 all_in_order P [] xs all = all
 all_in_order P (n ∷ ns) xs all =
     all_picked P (element_at xs n) (in_order ns (without_at xs n)) (λ x is. all_at P xs n x all is) (all_in_order P ns (without_at xs n) (all_without P xs n all))
@@ -102,23 +102,9 @@ no_grant_granted Told (body.Grant order handle version end_moment members) none 
 no_grant_granted Told other none = tt
 
 -- messages without an order have no grant
-quiet_granted : (Told : ℕ → ℕ → ℕ → Type 0) (ms : List Message) → HasNoOrder ms → AreGrantsTold Told ms
-quiet_granted Told [] h = tt
-quiet_granted Told (m ∷ ms) h = (no_order_granted Told m.body (uncounted (order_number m.body) refl), quiet_granted Told ms rest)
-  where
-    rest : HasNoOrder ms
-    rest e n = let whole = count-cons (λ (x : Message). is_number e n (order_number x.body)) m ms in let none = h e n in omega (arith, whole, none)
-
-    counts : (o : OrderNo) → is_number o.epoch o.count (Some o) ≡ true
-    counts o = and_from (o.epoch == o.epoch) (o.count == o.count) (same_number o.epoch) (same_number o.count)
-
-    uncounted : (o : Option OrderNo) → order_number m.body ≡ o → order_number m.body ≡ None
-    uncounted None is = is
-    uncounted (Some order) is =
-        let whole = count-cons (λ (x : Message). is_number order.epoch order.count (order_number x.body)) m ms in
-        let none = h order.epoch order.count in
-        let one : tally (is_number order.epoch order.count (order_number m.body)) ≡ 1 = ap (λ (o : Option OrderNo). tally (is_number order.epoch order.count o)) is ∙ ap tally (counts order) in
-        absurd (omega (arith, whole, none, one))
+quiet_granted : (Told : ℕ → ℕ → ℕ → Type 0) (ms : List Message) → AllOf (λ m. order_number m.body ≡ None) ms → AreGrantsTold Told ms
+quiet_granted Told [] all = tt
+quiet_granted Told (m ∷ ms) all = (no_order_granted Told m.body all.0, quiet_granted Told ms all.1)
 
 stamped_granted : (Told : ℕ → ℕ → ℕ → Type 0) (k : ℕ) (ms : List Message) → AreGrantsTold Told ms → AreGrantsTold Told (stamped k ms)
 stamped_granted Told k [] h = tt
@@ -130,7 +116,7 @@ granting_keeps Told =
     record {
       tells = λ c receiver b none h. all_joined (λ m. IsGrantTold Told m.body) c.sent _ h (no_order_granted Told b none, tt);
       orders = λ c server b is plain h. all_joined (λ m. IsGrantTold Told m.body) c.sent _ h (no_grant_granted Told (b _) (plain _), tt);
-      grants = λ c primary handle version until members told h. all_joined (λ m. IsGrantTold Told m.body) c.sent _ h (told, tt);
+      grants = λ c handle version until primary members told due names h. all_joined (λ m. IsGrantTold Told m.body) c.sent _ h (told, tt);
       appends = λ c r due names h. h;
       checkpoint = λ c tree h. h;
       less = λ c handles copied h. h;
@@ -164,7 +150,7 @@ more_sent sent ms m t new attempts h =
     }
 
 quiet_truthful : (sent ms : List Message) (k : ℕ) (m : MasterState) → HasNoOrder ms → IsTruthful sent m → IsTruthful (sent ++ stamped k ms) m
-quiet_truthful sent ms k m quiet h = more_sent sent (stamped k ms) m m (stamped_granted (WasTold sent (length sent)) k ms (quiet_granted (WasTold sent (length sent)) ms quiet)) h.attempts h
+quiet_truthful sent ms k m quiet h = more_sent sent (stamped k ms) m m (stamped_granted (WasTold sent (length sent)) k ms (quiet_granted (WasTold sent (length sent)) ms (without_order ms quiet))) h.attempts h
 
 -- what comes was sent, and so told
 
@@ -227,7 +213,7 @@ step_truthful sent k m moment i choice is h =
     let told : ℕ → ℕ → ℕ → Type 0 = WasTold sent (length sent) in
     on_cond good m.up (master_bounded m d choice) (no_step m)
     (λ _. on_cond good (is_within_limits d.master) (master_ends m d choice choice.ending) (no_step m)
-    (λ _. let end = goes_told ⊥ told (λ c. AreGrantsTold told c.sent) (granting_keeps told) m moment i choice.refused (input_told sent i is) (λ asks. absurd asks) (tt, h.attempts, λ asks. absurd asks) in
+    (λ _. let end = goes_told ⊥ told (λ c. AreGrantsTold told c.sent) (granting_keeps told) m moment i choice.refused (input_told sent i is) (λ asks. absurd asks) (tt, h.attempts, λ asks. absurd asks, λ asks. absurd asks) in
     ends_truthful sent k m d choice choice.ending h (end.0, end.1))
     (λ _. same_truthful sent k m h))
     (λ _. same_truthful sent k m h)

@@ -21,10 +21,13 @@ use Rattle.protocol.specs.Logged.{Logged, LogDisk, LogChange, AppendRecord, Writ
 use Rattle.protocol.specs.Master.{MasterState, MasterDoing, stopped_master, master_begins, fits, appends, writes_checkpoint, logs_after_checkpoint, is_of_copy}
 use Rattle.protocol.specs.MasterStep.{master_goes, master_ends, master_bounded, master_step, is_within_limits, found_log, lease_after_restart, started_master, opening, has_opened, opens_as, new_master, first_log}
 use Rattle.protocol.specs.World.{WorldState, IsReached}
-use Rattle.protocol.proofs.Steps.{on_cond}
+use Rattle.protocol.proofs.Steps.{on_cond, none_some}
+use Rattle.protocol.proofs.ChunkRows.{Rows, rows_of, AreIssued, issued_from}
+use Rattle.protocol.proofs.VersionsAhead.{AreAhead, none_ahead, less_ahead}
+use Rattle.protocol.proofs.GrantedIssued.{IsIssued, step_issued, opens_issued, new_issued, started_from}
 use Rattle.protocol.proofs.Namespace.{IsNamespace, names_are_after}
 use Rattle.protocol.proofs.CopiesUnderWay.{AreCopied, AreSoundCopies}
-use Rattle.protocol.proofs.MasterMoves.{Core, core_of, IsDue, Nothing, AreNames, Keeps, core_changed}
+use Rattle.protocol.proofs.MasterMoves.{Core, core_of, IsDue, Nothing, AreNames, Keeps, core_changed, core_appended, core_ended, grant_record}
 use Rattle.protocol.proofs.MasterSteps.{goes_named}
 use Rattle.protocol.proofs.OrderNumbers.{state_of, state-appended, AllStops, stops_push, changed-push, AllFound, found_same, found_stopped}
 use Rattle.protocol.proofs.LoggedParts.{Parts, parts_of, same_after, checkpoint_parts}
@@ -87,16 +90,16 @@ later_end config moment row =
     on_cond (λ (x : ChunkRow). without_end row ≡ without_end x) (nat_lt 0 row.granted) (record row { lease_end = moment + config.skew_ms + config.lease_ms }) row (λ _. refl) (λ _. refl)
 
 module _ (G : Logged → Type 0) (R : Logged → Logged → Type 0) (b : IsKeptByLog G R) where
-  abbrev IsGood : LogDisk → Type 0
+  abbrev pub IsGood : LogDisk → Type 0
   IsGood d = Tree (state_of d).names × G (state_of d)
 
   -- a step so far, from what was on the disk
-  record IsNaming (start : LogDisk) (c : Core) : Type 0 where
-    none : c.under_way ≡ []
-    disk : log_changed_by_all start c.changes ≡ c.disk
-    same : parts_of c.logged ≡ parts_of (state_of c.disk)
-    tied : R c.logged (state_of c.disk)
-    stops : AllStops IsGood start c.changes
+  pub record IsNaming (start : LogDisk) (c : Core) : Type 0 where
+    pub none : c.under_way ≡ []
+    pub disk : log_changed_by_all start c.changes ≡ c.disk
+    pub same : parts_of c.logged ≡ parts_of (state_of c.disk)
+    pub tied : R c.logged (state_of c.disk)
+    pub stops : AllStops IsGood start c.changes
 
   -- the disk and the state change together
   changed : (start : LogDisk) (c : Core) (x : LogChange) (l : Logged) → parts_of l ≡ parts_of (state_of (log_changed c.disk x)) → Tree l.names → R l (state_of (log_changed c.disk x))
@@ -127,21 +130,28 @@ module _ (G : Logged → Type 0) (R : Logged → Logged → Type 0) (b : IsKeptB
   quieter : (start : LogDisk) (c : Core) (l : Logged) → parts_of l ≡ parts_of c.logged → R l (state_of c.disk) → IsNaming start c → IsNaming start (record c { logged = l })
   quieter start c l same tied h = record { none = h.none; disk = h.disk; same = same ∙ h.same; tied = tied; stops = h.stops }
 
-  naming_keeps : (start : LogDisk) → Keeps (Unit {0}) Nothing (IsNaming start)
+  due_appended : (start : LogDisk) (c : Core) (r : Record) → IsDue (Unit {0}) c.logged r → AreNames c.logged r → IsNaming start c → IsNaming start (core_appended c r)
+  due_appended start c r due n h = appended start c r (subst (λ (x : Names). Tree x) (sym (names_are_after c.logged r)) n.after) (b.records c.logged (state_of c.disk) r h.same due n h.tied) h
+
+  ended : (start : LogDisk) (c : Core) (handle moment : ℕ) → IsNaming start c → IsNaming start (core_ended c handle moment)
+  ended start c handle moment h =
+      let rows : Table ChunkRow = changed_row c.logged.table.chunks handle (λ row. record row { lease_end = moment }) (table.get c.logged.table.chunks handle) in
+      quieter start c (record c.logged { table = record c.logged.table { chunks = rows } }) refl (b.rows c.logged (state_of c.disk) rows (ended_same c.logged.table.chunks handle moment) h.tied) h
+
+  pub naming_keeps : (start : LogDisk) → Keeps (Unit {0}) Nothing (IsNaming start)
   naming_keeps start =
       record {
         tells = λ c receiver body none h. record { none = h.none; disk = h.disk; same = h.same; tied = h.tied; stops = h.stops };
         orders = λ c server body is plain h. record { none = h.none; disk = h.disk; same = h.same; tied = h.tied; stops = h.stops };
-        grants = λ c primary handle version until members told h. record { none = h.none; disk = h.disk; same = h.same; tied = h.tied; stops = h.stops };
-        appends = λ c r due names h.
-            let n : AreNames c.logged r = names tt in
-            appended start c r (subst (λ (x : Names). Tree x) (sym (names_are_after c.logged r)) n.after) (b.records c.logged (state_of c.disk) r h.same due n h.tied) h;
+        grants = λ c handle version until primary members told due names h.
+            let r : Record = grant_record handle version primary members in
+            let g : IsNaming start (core_ended (core_appended c r) handle until) = ended start (core_appended c r) handle until (due_appended start c r due (names tt) h) in
+            record { none = g.none; disk = g.disk; same = g.same; tied = g.tied; stops = g.stops };
+        appends = λ c r due names h. due_appended start c r due (names tt) h;
         checkpoint = λ c tree h. checkpointed start c (tree tt) h;
         sound = λ asks c h. b.sound c.logged (state_of c.disk) h.tied;
         less = λ c handles copied h. quieter start c (copies_given_up c.logged handles) refl (b.less c.logged (state_of c.disk) handles copied h.tied) h;
-        ends = λ c handle moment h.
-            quieter start c (record c.logged { table = record c.logged.table { chunks = changed_row c.logged.table.chunks handle (λ row. record row { lease_end = moment }) (table.get c.logged.table.chunks handle) } }) refl
-            (b.rows c.logged (state_of c.disk) (changed_row c.logged.table.chunks handle (λ row. record row { lease_end = moment }) (table.get c.logged.table.chunks handle)) (ended_same c.logged.table.chunks handle moment) h.tied) h;
+        ends = λ c handle moment h. ended start c handle moment h;
       }
 
   -- of a master that is up, between its steps
@@ -151,6 +161,7 @@ module _ (G : Logged → Type 0) (R : Logged → Logged → Type 0) (b : IsKeptB
     pub names : IsNamespace m.logged.names m.snapshots
     pub same : parts_of m.logged ≡ parts_of (state_of m.disk)
     pub tied : R m.logged (state_of m.disk)
+    pub ahead : AreAhead m.attempts (rows_of m.logged)
 
   pub record IsLogged (m : MasterState) : Type 0 where
     pub found : AllFound IsGood m.disk m.under_way
@@ -164,22 +175,23 @@ module _ (G : Logged → Type 0) (R : Logged → Logged → Type 0) (b : IsKeptB
       let handles = (and_parts _ _ (and_parts _ _ (and_parts _ _ h).0).0).0 in
       leb-true m.logged.next_file counter_limit (and_parts _ _ handles).0
 
-  running : (start : LogDisk) (d : MasterDoing) → is_within_limits d.master ≡ true → IsNaming start (core_of d) → IsNamespace d.master.logged.names d.master.snapshots → IsLogged d.master
-  running start d limits g names =
+  running : (start : LogDisk) (d : MasterDoing) → is_within_limits d.master ≡ true → IsNaming start (core_of d) → IsNamespace d.master.logged.names d.master.snapshots
+      → AreAhead d.master.attempts (rows_of d.master.logged) → IsLogged d.master
+  running start d limits g names ahead =
       let good : IsGood d.master.disk = (subst (λ (n : Names). Tree n) (ap (λ (p : Parts). p.names) g.same) names.tree, b.good d.master.logged (state_of d.master.disk) g.tied) in
       record {
         found = subst (λ (xs : List LogChange). AllFound IsGood d.master.disk xs) (sym g.none) (found_same IsGood d.master.disk good);
-        up = λ _. record { idle = g.none; bound = within d.master limits; names = names; same = g.same; tied = g.tied };
+        up = λ _. record { idle = g.none; bound = within d.master limits; names = names; same = g.same; tied = g.tied; ahead = ahead };
       }
 
   ends_logged : (m : MasterState) (d : MasterDoing) (choice : Choice) (e : Ending) → is_within_limits d.master ≡ true → IsLogged m → IsNaming m.disk (core_of d)
-      → IsNamespace d.master.logged.names d.master.snapshots → IsLogged (master_ends m d choice e).state
-  ends_logged m d choice Goes limits h g names = running m.disk d limits g names
-  ends_logged m d choice Lost limits h g names = stopped m m.disk [] (found_same IsGood m.disk (h.found []))
-  ends_logged m d choice (Stops made) limits h g names =
+      → IsNamespace d.master.logged.names d.master.snapshots → AreAhead d.master.attempts (rows_of d.master.logged) → IsLogged (master_ends m d choice e).state
+  ends_logged m d choice Goes limits h g names ahead = running m.disk d limits g names ahead
+  ends_logged m d choice Lost limits h g names ahead = stopped m m.disk [] (found_same IsGood m.disk (h.found []))
+  ends_logged m d choice (Stops made) limits h g names ahead =
       stopped m (log_changed_by_all m.disk (take made d.changes)) (take 1 (drop made d.changes)) (found_stopped IsGood m.disk d.changes made g.stops)
 
-  step_logged : (m : MasterState) (moment : ℕ) (i : Input) (choice : Choice) → IsLogged m → IsLogged (master_step m moment i choice).state
+  pub step_logged : (m : MasterState) (moment : ℕ) (i : Input) (choice : Choice) → IsLogged m → IsLogged (master_step m moment i choice).state
   step_logged m moment i choice h =
       let d : MasterDoing = master_goes m moment i choice.refused in
       let good : Taken MasterState → Type 0 = λ t. IsLogged t.state in
@@ -187,31 +199,41 @@ module _ (G : Logged → Type 0) (R : Logged → Logged → Type 0) (b : IsKeptB
       (λ up. on_cond good (is_within_limits d.master) (master_ends m d choice choice.ending) (no_step m)
       (λ limits.
       let u : IsUpToLog m = h.up up in
-      let end = goes_named (IsNaming m.disk) (naming_keeps m.disk) m moment i choice.refused u.bound u.names
+      let end = goes_named (IsNaming m.disk) (naming_keeps m.disk) m moment i choice.refused u.bound u.names u.ahead
       (record { none = u.idle; disk = refl; same = u.same; tied = u.tied; stops = h.found [] }) in
-      ends_logged m d choice choice.ending limits h end.0 end.1)
+      ends_logged m d choice choice.ending limits h end.0 end.1 end.2)
       (λ _. h))
       (λ _. h)
 
-  opening_naming : (config : Config) (count : ℕ) (found : LogDisk) (moment : ℕ) → IsGood found
-      → (let d : MasterDoing = opening (started_master config count found moment) in IsNaming found (core_of d) × Tree d.master.logged.names × (d.master.snapshots ≡ []))
-  opening_naming config count found moment good =
+  -- a master that has read its log
+  pub opening_first : (config : Config) (count : ℕ) (found : LogDisk) (moment : ℕ) → IsGood found → IsNaming found (core_of (master_begins (started_master config count found moment) []))
+  opening_first config count found moment good =
+      let given_up : Logged = all_copies_given_up (state_of found) in
+      let rows : Rows = map_values (lease_after_restart config moment) given_up.table.chunks in
+      let kept : R (record given_up { table = record given_up.table { chunks = rows } }) (state_of found) =
+      b.rows given_up (state_of found) rows (mapped_same given_up.table.chunks (lease_after_restart config moment) (later_end config moment)) (b.restart (state_of found) good.1) in
+      record { none = refl; disk = refl; same = refl; tied = kept; stops = good }
+
+  pub opening_naming : (config : Config) (count : ℕ) (found : LogDisk) (moment : ℕ) → IsGood found → AreIssued (rows_of (state_of found))
+      → (let d : MasterDoing = opening (started_master config count found moment) in IsNaming found (core_of d) × Tree d.master.logged.names × (d.master.snapshots ≡ []) × AreAhead d.master.attempts (rows_of d.master.logged))
+  opening_naming config count found moment good issued =
       let started : MasterState = started_master config count found moment in
       let d : MasterDoing = master_begins started [] in
       let r : Record = log.Epoch (suc d.master.logged.epoch) in
       let given_up : Logged = all_copies_given_up (state_of found) in
-      let kept : R started.logged (state_of found) =
-      b.rows given_up (state_of found) started.logged.table.chunks (mapped_same given_up.table.chunks (lease_after_restart config moment) (later_end config moment)) (b.restart (state_of found) good.1) in
-      let first : IsNaming found (core_of d) = record { none = refl; disk = refl; same = refl; tied = kept; stops = good } in
-      let all : MasterDoing → Type 0 = λ e. IsNaming found (core_of e) × Tree e.master.logged.names × (e.master.snapshots ≡ []) in
+      let first : IsNaming found (core_of d) = opening_first config count found moment good in
+      let all : MasterDoing → Type 0 = λ e. IsNaming found (core_of e) × Tree e.master.logged.names × (e.master.snapshots ≡ []) × AreAhead e.master.attempts (rows_of e.master.logged) in
       let begins : (e : MasterDoing) → all e → all (appends e r) =
       λ e h. (
         appended found (core_of e) r h.1 (b.epochs e.master.logged (state_of e.master.disk) (suc d.master.logged.epoch) h.0.tied) h.0,
         h.1,
         h.2,
+        h.3,
       ) in
-      let one : all d = (first, good.0, refl) in
-      let two : all (writes_checkpoint d) = (checkpointed found (core_of d) good.0 first, good.0, refl) in
+      let rows : Rows = rows_of started.logged in
+      let ahead : AreAhead table.empty rows = none_ahead rows (issued_from (rows_of (state_of found)) rows (started_from config found moment) issued) in
+      let one : all d = (first, good.0, refl, ahead) in
+      let two : all (writes_checkpoint d) = (checkpointed found (core_of d) good.0 first, good.0, refl, less_ahead table.empty rows (table.keys started.logged.copies) ahead) in
       on_cond all (fits d r) (appends d r) _ (λ _. begins d one)
       (λ _. on_cond all (checkpoint_fits d.master.config.log_bytes (checkpoint_of d.master.logged)) (logs_after_checkpoint (writes_checkpoint d) r (is_of_copy d.master.logged r) (λ e. e)) d
       (λ _. on_cond all (fits (writes_checkpoint d) r && not (is_of_copy d.master.logged r)) (appends (writes_checkpoint d) r) (writes_checkpoint d) (λ _. begins (writes_checkpoint d) two) (λ _. two))
@@ -220,32 +242,40 @@ module _ (G : Logged → Type 0) (R : Logged → Logged → Type 0) (b : IsKeptB
   no_snapshots : (d : MasterDoing) → Tree d.master.logged.names → d.master.snapshots ≡ [] → IsNamespace d.master.logged.names d.master.snapshots
   no_snapshots d tree none = subst (λ ss. IsNamespace d.master.logged.names ss) (sym none) (record { tree = tree; free = tt; apart = tt })
 
-  opens_logged : (old : MasterState) (moment : ℕ) (choice : Choice) (e : Ending) → IsLogged old
+  pub opens_logged : (old : MasterState) (moment : ℕ) (choice : Choice) (e : Ending) → IsIssued old → IsLogged old
       → (let started : MasterState = started_master old.config old.server_count (found_log old choice) moment in IsLogged (opens_as old started (opening started) choice e).state)
-  opens_logged old moment choice Lost h = stopped old old.disk old.under_way h.found
-  opens_logged old moment choice (Stops made) h =
+  opens_logged old moment choice Lost issued h = stopped old old.disk old.under_way h.found
+  opens_logged old moment choice (Stops made) issued h =
       let found : LogDisk = found_log old choice in
       let d : MasterDoing = opening (started_master old.config old.server_count found moment) in
       stopped old (log_changed_by_all found (take made d.changes)) (take 1 (drop made d.changes))
-      (found_stopped IsGood found d.changes made (opening_naming old.config old.server_count found moment (h.found choice.decided)).0.stops)
-  opens_logged old moment choice Goes h =
+      (found_stopped IsGood found d.changes made (opening_naming old.config old.server_count found moment (h.found choice.decided) (issued.found choice.decided)).0.stops)
+  opens_logged old moment choice Goes issued h =
       let found : LogDisk = found_log old choice in
       let started : MasterState = started_master old.config old.server_count found moment in
       let d : MasterDoing = opening started in
-      let g = opening_naming old.config old.server_count found moment (h.found choice.decided) in
+      let g = opening_naming old.config old.server_count found moment (h.found choice.decided) (issued.found choice.decided) in
       let good : IsGood d.master.disk = (subst (λ (n : Names). Tree n) (ap (λ (p : Parts). p.names) g.0.same) g.1, b.good d.master.logged (state_of d.master.disk) g.0.tied) in
       on_cond (λ (t : Taken MasterState). IsLogged t.state) (has_opened started d && is_within_limits d.master) _ _
-      (λ both. running found d (and_parts (has_opened started d) (is_within_limits d.master) both).1 g.0 (no_snapshots d g.1 g.2)) (λ _. stopped old d.master.disk [] (found_same IsGood d.master.disk good))
+      (λ both. running found d (and_parts (has_opened started d) (is_within_limits d.master) both).1 g.0 (no_snapshots d g.1 g.2) g.3) (λ _. stopped old d.master.disk [] (found_same IsGood d.master.disk good))
 
-  new_logged : (config : Config) (servers : ℕ) → IsLogged (new_master config servers)
+  pub new_logged : (config : Config) (servers : ℕ) → IsLogged (new_master config servers)
   new_logged config servers =
       let one : Logged = record first_logged { epoch = 1 } in
       let tied : R one one = b.epochs first_logged first_logged 1 b.new in
       record {
         found = found_same IsGood first_log (first_tree, b.good one one tied);
-        up = λ _. record { idle = refl; bound = omega arith; names = record { tree = first_tree; free = tt; apart = tt }; same = refl; tied = tied };
+        up = λ _. record { idle = refl; bound = omega arith; names = record { tree = first_tree; free = tt; apart = tt }; same = refl; tied = tied; ahead = none_ahead table.empty (λ handle row is. none_some row (sym (table.get-empty nat_cmp handle) ∙ is)) };
       }
 
+  pub logged_here : (config : Config) (servers clients : ℕ) (w : WorldState) → IsReached config servers clients w → IsIssued w.master × IsLogged w.master
+  logged_here config servers clients w r =
+      reached_here (λ m. IsIssued m × IsLogged m)
+      (record {
+        new = λ c n. (new_issued c n, new_logged c n);
+        steps = λ m moment i choice h. (step_issued m moment i choice h.0, step_logged m moment i choice h.1);
+        restarts = λ m moment choice h. (opens_issued m moment choice choice.ending h.0, opens_logged m moment choice choice.ending h.0 h.1);
+      }) config servers clients w r
+
   pub logged_reached : (config : Config) (servers clients : ℕ) (w : WorldState) → IsReached config servers clients w → IsTrue w.master.up → IsUpToLog w.master
-  logged_reached config servers clients w r =
-      (reached_here IsLogged (record { new = new_logged; steps = step_logged; restarts = λ m moment choice h. opens_logged m moment choice choice.ending h }) config servers clients w r).up
+  logged_reached config servers clients w r = (logged_here config servers clients w r).1.up

@@ -13,12 +13,12 @@ use Rattle.log_records.specs.declared.record.Record.TheVariants as log
 use Rattle.gfs_types.specs.Paths.{Path}
 use Rattle.relaxed_file.specs.Names.{Node as NameNode, Dir, File}
 use Rattle.protocol.specs.Choice.{decided_changes}
-use Rattle.protocol.specs.Sending.{message, the_server, file_id, handle_of, version_of}
+use Rattle.protocol.specs.Sending.{message, the_server, file_id, handle_of, version_of, moment_of}
 use Rattle.protocol.specs.ChunkTable.{ChunkRow, ChunkTable}
 use Rattle.protocol.specs.Logged.{Logged, KeptCall, Copy, copies_given_up, LogDisk, LogChange, AppendRecord, WriteCheckpoint, first_logged, log_changed, log_changed_by_all, after_record, after_records, checkpoint_of, name_item, node_item, chunk_item, client_item, swapped_in}
 use Rattle.protocol.specs.Laws.{order_number, is_number, orders_under}
 use Rattle.protocol.proofs.Steps.{tally, count-append}
-use Rattle.protocol.proofs.MasterMoves.{Core, IsDue, Nothing, Keeps, core_changed}
+use Rattle.protocol.proofs.MasterMoves.{Core, IsDue, Nothing, Keeps, core_changed, core_appended, core_ended, grant_record}
 use Rattle.protocol.proofs.ClientMoves.{one_more}
 
 -- the state that a log leads to, before copies are given up
@@ -179,14 +179,15 @@ numbers_keep start epoch before =
             used = λ e n more. let same = one_more c.sent node.Master receiver b none e n in h.used e n (omega arith);
           };
       orders = λ c server b is plain h. ordered c server b is h;
-      grants = λ c primary handle version until members told h. ordered c primary (λ order. body.Grant order (handle_of handle) (version_of version) until members) (λ o. refl) h;
+      grants = λ c handle version until primary members told due names h.
+          let r : Record = grant_record handle version primary members in
+          ordered (core_ended (core_appended c r) handle until) primary (λ order. body.Grant order (handle_of handle) (version_of version) (moment_of until) members) (λ o. refl) (ended (core_appended c r) handle until (appended c r due h));
       appends = λ c r due names h. appended c r due h;
       checkpoint = λ c tree h. checkpointed c h;
       sound = λ asks. absurd asks;
       less = λ c handles copied h.
           record { up = h.up; none = h.none; logged = h.logged; disk = h.disk; on_disk = h.on_disk; stops = h.stops; rising = h.rising; once = h.once; used = h.used };
-      ends = λ c handle moment h.
-          record { up = h.up; none = h.none; logged = h.logged; disk = h.disk; on_disk = h.on_disk; stops = h.stops; rising = h.rising; once = h.once; used = h.used };
+      ends = λ c handle moment h. ended c handle moment h;
     }
   where
     changed : (c : Core) (x : LogChange) (l : Logged) → l.epoch ≡ epoch → epoch_of (log_changed c.disk x) ≡ epoch → Numbers start epoch before c
@@ -215,6 +216,10 @@ numbers_keep start epoch before =
         → Numbers start epoch before (record (core_changed c (WriteCheckpoint (checkpoint_of c.logged))) { logged = copies_given_up c.logged (table.keys c.logged.copies) })
     checkpointed c h =
         changed c (WriteCheckpoint (checkpoint_of c.logged)) (copies_given_up c.logged (table.keys c.logged.copies)) h.logged (checkpoint_epoch c.logged first_logged ∙ h.logged) h
+
+    ended : (c : Core) (handle moment : ℕ) → Numbers start epoch before c → Numbers start epoch before (core_ended c handle moment)
+    ended c handle moment h =
+        record { up = h.up; none = h.none; logged = h.logged; disk = h.disk; on_disk = h.on_disk; stops = h.stops; rising = h.rising; once = h.once; used = h.used }
 
     ordered : (c : Core) (server : ℕ) (b : OrderNo → Body) → ((o : OrderNo) → order_number (b o) ≡ Some o) → Numbers start epoch before c
         → Numbers start epoch before (record c { sent = c.sent ++ message node.Master (the_server server) (b (record { epoch = c.logged.epoch; count = suc c.order_count })) ∷ []; order_count = suc c.order_count })

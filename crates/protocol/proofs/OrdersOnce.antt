@@ -1,8 +1,9 @@
 -- No two orders of the master have one number: by steps, openings and events.
-use Rattle.std.proofs.Common.{◌≡◌, ◌⊎◌, ℕ, suc, ◌+◌, ◌≤◌, Bool, true, false, List, [], ◌∷◌, ◌++◌, take, drop, refl, sym, ap, subst, ◌∙◌, inl, inr, arith}
+use Rattle.std.proofs.Common.{◌≡◌, ◌⊎◌, ℕ, suc, ◌≤◌, Bool, true, false, List, [], ◌++◌, take, drop, refl, sym, ap, subst, ◌∙◌, inl, inr, arith}
 use Rattle.std.specs.Prelude.{◌&&◌, not, IsTrue}
 use Rattle.std.proofs.lemmas.Bool.{eqb-true, cases_lt}
 use Rattle.gfs_types.specs.declared.config.Config.{Config}
+use Rattle.messages.specs.declared.message.Body.{Body}
 use Rattle.messages.specs.declared.message.Message.{Message}
 use Rattle.log_records.specs.declared.record.Record.{Record}
 use Rattle.log_records.specs.declared.record.Record.TheVariants as log
@@ -15,12 +16,15 @@ use Rattle.protocol.specs.Master.{MasterState, MasterDoing, stopped_master, mast
 use Rattle.protocol.specs.MasterStep.{master_at, master_goes, master_ends, master_bounded, master_step, is_within_limits, found_log, started_master, opening, has_opened, opens_as, master_restart, new_master}
 use Rattle.protocol.specs.World.{stamped}
 use Rattle.protocol.specs.Laws.{order_number, is_number, orders_under, OrdersAreNumberedOnce}
-use Rattle.protocol.proofs.Steps.{on_cond, count-cons, count-append, count-in_order}
+use Rattle.protocol.proofs.Steps.{on_cond}
 use Rattle.protocol.proofs.MasterMoves.{core_of}
 use Rattle.protocol.proofs.MasterSteps.{goes_keeps}
 use Rattle.protocol.proofs.ClientMoves.{HasNoOrder}
-use Rattle.protocol.proofs.SentReached.{no_orders, sent_reached}
+use Rattle.protocol.proofs.SentReached.{no_orders, count-sent, sent_reached}
 use Rattle.protocol.proofs.OrderNumbers.{epoch_of, state-appended, checkpoint_epoch, AllStops, stops_push, changed-push, AllFound, found_same, found_stopped, Numbers, numbers_keep}
+
+abbrev is_order : ℕ → ℕ → Body → Bool
+is_order e n b = is_number e n (order_number b)
 
 -- each number once, and none past the master's
 pub record AreNumbered (sent : List Message) (m : MasterState) : Type 0 where
@@ -31,31 +35,8 @@ pub record AreNumbered (sent : List Message) (m : MasterState) : Type 0 where
   pub epoch : IsTrue m.up → epoch_of m.disk ≡ m.logged.epoch
   pub counted : IsTrue m.up → (e n : ℕ) → 1 ≤ orders_under e n sent → e ≡ m.logged.epoch → n ≤ m.order_count
 
-count-stamped : (e n k : ℕ) (ms : List Message) → orders_under e n (stamped k ms) ≡ orders_under e n ms
-count-stamped e n k [] = refl
-count-stamped e n k (m ∷ ms) =
-    let f : Message → Bool = λ x. is_number e n (order_number x.body) in
-    let one = count-cons f (record m { number = k }) (stamped (suc k) ms) in
-    let two = count-cons f m ms in
-    let rest = count-stamped e n (suc k) ms in
-    omega (arith, one, two, rest)
-
--- what a step sends, in the chosen order and with its numbers
-count-sent : (e n k : ℕ) (sent : List Message) (order : List ℕ) (ms : List Message) → orders_under e n (sent ++ stamped k (in_order order ms)) ≡ orders_under e n sent + orders_under e n ms
-count-sent e n k sent order ms =
-    let f : Message → Bool = λ x. is_number e n (order_number x.body) in
-    let one = count-append f sent (stamped k (in_order order ms)) in
-    let two = count-stamped e n k (in_order order ms) in
-    let three = count-in_order f order ms in
-    omega (arith, one, two, three)
-
 count-silent : (e n k : ℕ) (sent ms : List Message) → HasNoOrder ms → orders_under e n (sent ++ stamped k ms) ≡ orders_under e n sent
-count-silent e n k sent ms h =
-    let f : Message → Bool = λ x. is_number e n (order_number x.body) in
-    let one = count-append f sent (stamped k ms) in
-    let two = count-stamped e n k ms in
-    let three = h e n in
-    omega (arith, one, two, three)
+count-silent e n k sent ms h = let whole = count-sent (is_order e n) k sent [] ms in let none = h e n in omega (arith, whole, none)
 
 -- messages that are no orders change nothing of it
 still_numbered : (sent ms : List Message) (k : ℕ) (m : MasterState) → HasNoOrder ms → AreNumbered sent m → AreNumbered (sent ++ stamped k ms) m
@@ -92,7 +73,7 @@ module _ (sent : List Message) (m : MasterState) (h : AreNumbered sent m) (up : 
   -- an order was sent before, or in this step
   of_either : (e n k : ℕ) (order : List ℕ) → 1 ≤ orders_under e n (sent ++ stamped k (in_order order d.sent)) → (1 ≤ orders_under e n sent) ⊎ (1 ≤ orders_under e n d.sent)
   of_either e n k order more =
-      let whole = count-sent e n k sent order d.sent in
+      let whole = count-sent (is_order e n) k sent order d.sent in
       elim (cases_lt (orders_under e n sent) 1) [
         | inl less ↦ inr (omega (arith, whole, more, less))
         | inr there ↦ inl there
@@ -102,7 +83,7 @@ module _ (sent : List Message) (m : MasterState) (h : AreNumbered sent m) (up : 
   goes_numbered k order =
       record {
         once = λ e n.
-            let whole = count-sent e n k sent order d.sent in
+            let whole = count-sent (is_order e n) k sent order d.sent in
             let old = h.once e n in
             let new = g.once e n in
             elim (cases_lt (orders_under e n sent) 1) [

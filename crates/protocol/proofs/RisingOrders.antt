@@ -22,7 +22,7 @@ use Rattle.protocol.specs.Client.{ClientState}
 use Rattle.protocol.specs.World.{WorldState, Happened, new_world, nothing_happens, numbered_from_1, after_server, server_moves, client_moves, moves, delivered, server_restarts_at, restarts, call_moves, rots_replica, rots_on, at_moment, happens, after_events, IsReached}
 use Rattle.protocol.specs.Laws.{IsSameOrLater, OrderNumbersNeverFall}
 use Rattle.protocol.proofs.Steps.{on_cond, none_some, same_some}
-use Rattle.protocol.proofs.ServerMoves.{ServerCore, server_core, IsOfReplica, KeepsServer, server_goes_holds}
+use Rattle.protocol.proofs.ServerMoves.{ServerCore, server_core, store_changed, IsOfReplica, KeepsServer, IsCameIn, server_goes_holds}
 
 -- the order's number of one disk is that of another, or later
 abbrev pub Later : ServerDisk → ServerDisk → Type 0
@@ -44,13 +44,13 @@ IsRisen d (SetOrder epoch count) = is_new_order d epoch count ≡ true
 IsRisen d (PutReplica handle replica) = Unit {0}
 IsRisen d (DropReplica handle) = Unit {0}
 
-newer : (a b c : Bool) → a || (b && c) ≡ true → (a ≡ true) ⊎ ((b ≡ true) × (c ≡ true))
+pub newer : (a b c : Bool) → a || (b && c) ≡ true → (a ≡ true) ⊎ ((b ≡ true) × (c ≡ true))
 newer true b c h = inl refl
 newer false true true h = inr (refl, refl)
 newer false true false h = absurd (let both : false ≡ true = h in cc)
 newer false false c h = absurd (let both : false ≡ true = h in cc)
 
-risen_later : (d : ServerDisk) (x : StoreChange) → IsRisen d x → Later d (disk_changed d x)
+pub risen_later : (d : ServerDisk) (x : StoreChange) → IsRisen d x → Later d (disk_changed d x)
 risen_later d (SetOrder epoch count) h =
     elim (newer (nat_lt d.epoch epoch) (d.epoch == epoch) (nat_lt d.count count) h) [
       | inl a ↦ inl (ltb-true d.epoch epoch a)
@@ -118,18 +118,25 @@ pub record Follows (s t : ServerState) : Type 0 where
 abbrev From : ServerState → ServerCore → Type 0
 From s c = AreRisen s.disk c.changes × (disk_changed_by_all s.disk c.changes ≡ c.disk) × (c.under_way ≡ s.under_way)
 
-from_keeps : (s : ServerState) → KeepsServer (From s)
+from_keeps : (s : ServerState) → KeepsServer (λ b. Unit {0}) (From s)
 from_keeps s =
     record {
-      says = λ c sender receiver b e h. h;
+      says = λ c receiver b quiet h. h;
       stores = λ c x is h. (risen_push s.disk c.changes x h.0 (no_order (disk_changed_by_all s.disk c.changes) x is), all-push s.disk c.changes x ∙ ap (λ d. disk_changed d x) h.1, h.2);
-      takes = λ c epoch count new h. (
-        risen_push s.disk c.changes (SetOrder epoch count) h.0 (subst (λ (d : ServerDisk). is_new_order d epoch count ≡ true) (sym h.1) new),
-        all-push s.disk c.changes (SetOrder epoch count) ∙ ap (λ d. disk_changed d (SetOrder epoch count)) h.1,
-        h.2,
-      );
+      takes = λ c epoch count new h. taken c epoch count new h;
+      holds = λ c leases from h. h;
+      grants = λ c order handle version end_moment members came new h. taken c order.epoch order.count new h;
+      extends = λ c handle version end_moment p came at same h. h;
+      revokes = λ c order handle version leases came new from none h. taken c order.epoch order.count new h;
     }
   where
+    taken : (c : ServerCore) (epoch count : ℕ) → is_new_order c.disk epoch count ≡ true → From s c → From s (store_changed c (SetOrder epoch count))
+    taken c epoch count new h = (
+      risen_push s.disk c.changes (SetOrder epoch count) h.0 (subst (λ (d : ServerDisk). is_new_order d epoch count ≡ true) (sym h.1) new),
+      all-push s.disk c.changes (SetOrder epoch count) ∙ ap (λ d. disk_changed d (SetOrder epoch count)) h.1,
+      h.2,
+    )
+
     no_order : (d : ServerDisk) (x : StoreChange) → IsOfReplica x → IsRisen d x
     no_order d (SetOrder epoch count) is = absurd is
     no_order d (PutReplica handle replica) is = tt
@@ -139,7 +146,7 @@ all_of : (d : ServerDisk) (xs : List StoreChange) → AreRisen d xs → Later d 
 all_of d [] h = same_later d
 all_of d (x ∷ xs) h = then_later d (disk_changed d x) (disk_changed_by_all (disk_changed d x) xs) (risen_later d x h.0) (all_of (disk_changed d x) xs h.1)
 
-none_under_way : (s : ServerState) → s.under_way ≡ [] → IsSound s
+pub none_under_way : (s : ServerState) → s.under_way ≡ [] → IsSound s
 none_under_way s none =
     record {
       risen = subst (λ (xs : List StoreChange). AreRisen s.disk xs) (sym none) tt;
@@ -159,13 +166,17 @@ ends_as s d choice (Stops made) none h =
       later = some_later s.disk d.changes made h.0;
     }
 
-step_goes_on : (s : ServerState) (moment : ℕ) (i : Input) (choice : Choice) → IsSound s → Follows s (server_step s moment i choice).state
+pub all_came : (i : Input) → IsCameIn (λ b. Unit {0}) i
+all_came (input.Deliver m) = tt
+all_came input.Tick = tt
+
+pub step_goes_on : (s : ServerState) (moment : ℕ) (i : Input) (choice : Choice) → IsSound s → Follows s (server_step s moment i choice).state
 step_goes_on s moment i choice is =
     on_cond (λ (t : Taken ServerState). Follows s t.state) s.up (server_ends s (server_goes s moment i) choice choice.ending) (no_step s)
-    (λ up. ends_as s (server_goes s moment i) choice choice.ending (is.idle up) (server_goes_holds (From s) (from_keeps s) s moment i (tt, refl, refl)))
+    (λ up. ends_as s (server_goes s moment i) choice choice.ending (is.idle up) (server_goes_holds (λ b. Unit {0}) (From s) (from_keeps s) s moment i (all_came i) (tt, refl, refl)))
     (λ _. same_goes_on s is)
 
-restarts_as : (s : ServerState) (moment : ℕ) (choice : Choice) (e : Ending) → IsSound s → Follows s (server_restarts s moment choice e).state
+pub restarts_as : (s : ServerState) (moment : ℕ) (choice : Choice) (e : Ending) → IsSound s → Follows s (server_restarts s moment choice e).state
 restarts_as s moment choice Lost is = record { sound = record { risen = is.risen; few = is.few; idle = λ up. absurd (let both : false ≡ true = up in cc) }; later = same_later s.disk }
 restarts_as s moment choice (Stops made) is =
     record { sound = record { risen = tt; few = omega arith; idle = λ up. refl }; later = found_later s.disk s.under_way choice.decided is.risen is.few }

@@ -210,7 +210,7 @@ checkpoint_written l q row is more same =
     let count = chunks_refs (kept_rows l) (after_names l) q in
     chunks_written (kept_rows l) (after_names l) q row (same_items (rows_of l) (kept_rows l) q row is all) found (has_row (rows_of (after_names l)) q (omega (arith, count, same, more)))
 
-checkpoint_same : (l k : Logged) (q : ℕ) → IsRowedLog l k → IsCountedLog (all_copies_given_up l) (after_records first_logged (checkpoint_of l))
+pub checkpoint_same : (l k : Logged) (q : ℕ) → IsRowedLog l k → IsCountedLog (all_copies_given_up l) (after_records first_logged (checkpoint_of l))
     → AreSameAt (removed_all (rows_of l) (table.keys l.copies)) (rows_of (after_records first_logged (checkpoint_of l))) q
 checkpoint_same l k q h counts =
     subst (λ (rows : Rows). AreSameAt given_up rows q) (sym (checkpoint_rows l)) (by_row (table.get given_up q) refl)

@@ -1,6 +1,9 @@
 -- What each step of the master keeps, with the messages that were sent, and what messages that are no orders leave as it is, holds in each world that is reached.
-use Rattle.std.proofs.Common.{◌≡◌, ℕ, suc, ◌-◌, List, [], ◌∷◌, ◌++◌, length, Option, Some, None, refl, subst, ◌∙◌}
-use Rattle.std.specs.Prelude.{nat_lt, nat_le, ◌&&◌}
+use Rattle.std.proofs.Common.{◌≡◌, ℕ, suc, ◌+◌, ◌-◌, Bool, true, List, [], ◌∷◌, ◌++◌, length, Option, Some, None, refl, ap, subst, ◌∙◌, arith}
+use Rattle.std.specs.Prelude.{◌==◌, nat_lt, nat_le, ◌&&◌, count_by}
+use Rattle.std.proofs.lemmas.Bool.{and_from}
+use Rattle.gfs_types.specs.declared.ids.OrderNo.{OrderNo}
+use Rattle.messages.specs.declared.message.Body.{Body}
 use Rattle.gfs_types.specs.declared.config.Config.{Config}
 use Rattle.gfs_types.specs.declared.ids.Node.{Node}
 use Rattle.gfs_types.specs.declared.ids.Node.TheVariants as node
@@ -23,26 +26,75 @@ use Rattle.protocol.specs.Client.{ClientState, ClientDoing}
 use Rattle.protocol.specs.ClientStep.{may_call, client_goes, client_call_goes, client_ends, client_bounded, client_step, client_call, is_client_within_limits}
 use Rattle.protocol.specs.World.{WorldState, Happened, new_world, nothing_happens, numbered_from_1, stamped, after_master, after_server, after_client, master_moves, server_moves, client_moves, moves, delivered, server_restarts_at, restarts, call_moves, rots_replica, rots_on, at_moment, happens, after_events, IsReached}
 use Rattle.protocol.specs.Laws.{order_number, is_number}
-use Rattle.protocol.proofs.Steps.{on_cond, count-in_order}
-use Rattle.protocol.proofs.ServerMoves.{KeepsServer, server_goes_holds}
-use Rattle.protocol.proofs.ClientMoves.{HasNoOrder, one_more, client_goes_quiet, client_call_quiet}
+use Rattle.protocol.proofs.Steps.{on_cond, tally, count-cons, count-append, count-in_order}
+use Rattle.protocol.proofs.Entries.{AllOf, same_number}
+use Rattle.protocol.proofs.ServerMoves.{KeepsServer, IsCameIn, server_goes_holds}
+use Rattle.protocol.proofs.ClientMoves.{HasNoOrder, one_more, quiet_orders, client_goes_quiet, client_call_quiet}
+use Rattle.protocol.proofs.Words.{no_order}
+use Rattle.protocol.specs.Sending.{the_server}
+use Rattle.messages.specs.declared.message.Body.TheVariants as body
 use Rattle.protocol.proofs.RisingOrders.{element_numbered}
 
 pub no_orders : HasNoOrder []
 no_orders e n = refl
 
+-- each of such messages is no order
+pub without_order : (ms : List Message) → HasNoOrder ms → AllOf (λ m. order_number m.body ≡ None) ms
+without_order [] h = tt
+without_order (m ∷ ms) h = (uncounted (order_number m.body) refl, without_order ms rest)
+  where
+    rest : HasNoOrder ms
+    rest e n = let whole = count-cons (λ (x : Message). is_number e n (order_number x.body)) m ms in let none = h e n in omega (arith, whole, none)
+
+    counts : (o : OrderNo) → is_number o.epoch o.count (Some o) ≡ true
+    counts o = and_from (o.epoch == o.epoch) (o.count == o.count) (same_number o.epoch) (same_number o.count)
+
+    uncounted : (o : Option OrderNo) → order_number m.body ≡ o → order_number m.body ≡ None
+    uncounted None is = is
+    uncounted (Some order) is =
+        let whole = count-cons (λ (x : Message). is_number order.epoch order.count (order_number x.body)) m ms in
+        let none = h order.epoch order.count in
+        let one : tally (is_number order.epoch order.count (order_number m.body)) ≡ 1 = ap (λ (o : Option OrderNo). tally (is_number order.epoch order.count o)) is ∙ ap tally (counts order) in
+        absurd (omega (arith, whole, none, one))
+
+-- numbers change no count of bodies
+count-stamped : (f : Body → Bool) (k : ℕ) (ms : List Message) → count_by (λ (m : Message). f m.body) (stamped k ms) ≡ count_by (λ (m : Message). f m.body) ms
+count-stamped f k [] = refl
+count-stamped f k (m ∷ ms) =
+    let one = count-cons (λ (x : Message). f x.body) (record m { number = k }) (stamped (suc k) ms) in
+    let two = count-cons (λ (x : Message). f x.body) m ms in
+    let rest = count-stamped f (suc k) ms in
+    omega (arith, one, two, rest)
+
+-- what a step sends, in the chosen order and with its numbers
+pub count-sent : (f : Body → Bool) (k : ℕ) (sent : List Message) (order : List ℕ) (ms : List Message)
+    → count_by (λ (m : Message). f m.body) (sent ++ stamped k (in_order order ms)) ≡ count_by (λ (m : Message). f m.body) sent + count_by (λ (m : Message). f m.body) ms
+count-sent f k sent order ms =
+    let one = count-append (λ (x : Message). f x.body) sent (stamped k (in_order order ms)) in
+    let two = count-stamped f k (in_order order ms) in
+    let three = count-in_order (λ (x : Message). f x.body) order ms in
+    omega (arith, one, two, three)
+
 -- servers and clients send no order
 
-quiet_keeps : KeepsServer (λ c. HasNoOrder c.sent)
+quiet_keeps : KeepsServer (λ b. Unit {0}) (λ c. HasNoOrder c.sent)
 quiet_keeps =
     record {
-      says = λ c sender receiver b none h e n. one_more c.sent sender receiver b none e n ∙ h e n;
+      says = λ c receiver b quiet h e n. one_more c.sent (the_server c.id) receiver b (no_order b quiet) e n ∙ h e n;
       stores = λ c x is h. h;
       takes = λ c epoch count new h. h;
+      holds = λ c leases from h. h;
+      grants = λ c order handle version end_moment members came new h. h;
+      extends = λ c handle version end_moment p came at same h. h;
+      revokes = λ c order handle version leases came new from none h e n. one_more c.sent (the_server c.id) node.Master (body.Revoked handle version) refl e n ∙ h e n;
     }
 
 in_order_quiet : (order : List ℕ) (ms : List Message) → HasNoOrder ms → HasNoOrder (in_order order ms)
 in_order_quiet order ms h e n = count-in_order (λ (x : Message). is_number e n (order_number x.body)) order ms ∙ h e n
+
+all_came : (i : Input) → IsCameIn (λ b. Unit {0}) i
+all_came (input.Deliver m) = tt
+all_came input.Tick = tt
 
 server_ends_quiet : (s : ServerState) (d : ServerDoing) (choice : Choice) (e : Ending) → HasNoOrder d.sent → HasNoOrder (server_ends s d choice e).out.sent
 server_ends_quiet s d choice Goes h = in_order_quiet choice.order d.sent h
@@ -52,7 +104,7 @@ server_ends_quiet s d choice (Stops made) h = no_orders
 server_quiet : (s : ServerState) (moment : ℕ) (i : Input) (choice : Choice) → HasNoOrder (server_step s moment i choice).out.sent
 server_quiet s moment i choice =
     on_cond (λ (t : Taken ServerState). HasNoOrder t.out.sent) s.up (server_ends s (server_goes s moment i) choice choice.ending) (no_step s)
-    (λ _. server_ends_quiet s (server_goes s moment i) choice choice.ending (server_goes_holds (λ c. HasNoOrder c.sent) quiet_keeps s moment i no_orders)) (λ _. no_orders)
+    (λ _. server_ends_quiet s (server_goes s moment i) choice choice.ending (server_goes_holds (λ b. Unit {0}) (λ c. HasNoOrder c.sent) quiet_keeps s moment i (all_came i) no_orders)) (λ _. no_orders)
 
 server_restarts_quiet : (s : ServerState) (moment : ℕ) (choice : Choice) (e : Ending) → HasNoOrder (server_restarts s moment choice e).out.sent
 server_restarts_quiet s moment choice Goes = no_orders
@@ -69,14 +121,14 @@ client_quiet s moment i choice =
     let d : ClientDoing = client_goes s moment i in
     let quiet : Taken ClientState → Type 0 = λ t. HasNoOrder t.out.sent in
     on_cond quiet s.up (client_bounded s d choice) (no_step s)
-    (λ _. on_cond quiet (is_client_within_limits d.client) (client_ends s d choice choice.ending) (no_step s) (λ _. client_ends_quiet s d choice choice.ending (client_goes_quiet s moment i)) (λ _. no_orders))
+    (λ _. on_cond quiet (is_client_within_limits d.client) (client_ends s d choice choice.ending) (no_step s) (λ _. client_ends_quiet s d choice choice.ending (quiet_orders (client_goes s moment i).sent (client_goes_quiet s moment i))) (λ _. no_orders))
     (λ _. no_orders)
 
 call_quiet : (s : ClientState) (moment : ℕ) (c : Call) (choice : Choice) → HasNoOrder (client_call s moment c choice).out.sent
 call_quiet s moment c choice =
     on_cond (λ (t : Taken ClientState). HasNoOrder t.out.sent) (first_is_true choice.refused) _ (client_ends s (client_call_goes s moment c) choice choice.ending)
     (λ _. client_ends_quiet s _ choice choice.ending no_orders)
-    (λ _. client_ends_quiet s (client_call_goes s moment c) choice choice.ending (client_call_quiet s moment c))
+    (λ _. client_ends_quiet s (client_call_goes s moment c) choice choice.ending (quiet_orders (client_call_goes s moment c).sent (client_call_quiet s moment c)))
 
 -- worlds
 

@@ -1,6 +1,6 @@
 -- What a step of a chunkserver is made of. Whatever each of these moves keeps is kept by every step.
-use Rattle.std.proofs.Common.{◌≡◌, ℕ, ◌+◌, ◌-◌, Bool, true, false, List, [], ◌∷◌, ◌++◌, length, map, Option, Some, None, refl}
-use Rattle.std.specs.Prelude.{nat_le, nat_lt, ◌==◌, replicate}
+use Rattle.std.proofs.Common.{◌≡◌, ℕ, ◌+◌, ◌-◌, Bool, true, false, cond, List, [], ◌∷◌, ◌++◌, length, map, Option, Some, None, refl, sym, ap, subst, ◌∙◌, inl, inr}
+use Rattle.std.specs.Prelude.{nat_le, nat_lt, ◌==◌, ◌&&◌, replicate}
 use Rattle.std.specs.FinMap as table
 use Rattle.gfs_types.specs.declared.ids.Node.{Node}
 use Rattle.gfs_types.specs.declared.ids.Node.TheVariants.{Master}
@@ -20,31 +20,39 @@ use Rattle.gfs_types.specs.declared.mutation.Mutation.TheVariants as mutation
 use Rattle.messages.specs.declared.event.Input.{Input}
 use Rattle.messages.specs.declared.event.Input.TheVariants as input
 use Rattle.gfs_types.specs.Mutations.{start_of}
-use Rattle.protocol.specs.Tables.{counter_limit, without}
+use Rattle.protocol.specs.Tables.{Table, counter_limit, without, map_values, is_empty_list}
 use Rattle.protocol.specs.Sending.{message, the_server, the_client, handle_of, version_of, serial_of, server_number}
 use Rattle.protocol.specs.Replicas.{Replica, ServerDisk, StoreChange, SetOrder, PutReplica, DropReplica, disk_changed, is_new_order, replica_of, is_readable, read_bytes, is_copyable, is_writable, written_replica, stored_replica, raised_replica}
 use Rattle.protocol.specs.PushBuffer.{next_hop, hops_after, with_data, data_of}
-use Rattle.protocol.specs.PrimaryOrder.{Primary, IsPending, IsSettled, IsRefused, Attempted, IsNew, IsRepeat, IsOld, Waiting, attempted, denied, numbered, acknowledged, is_last_acknowledgement, refused_by_member}
+use Rattle.protocol.specs.PrimaryOrder.{Primary, Kept, Standing, new_primary, less_member, restood, with_kept, with_standing, IsPending, IsSettled, IsRefused, Attempted, IsNew, IsRepeat, IsOld, Waiting, attempted, denied, numbered, acknowledged, is_last_acknowledgement, refused_by_member}
 use Rattle.protocol.specs.RecordAppend.{Placing, PlacedAt, PaddedFrom, IsFull, IsTooLong, placing}
 use Rattle.protocol.specs.Seen.{Numbered, BecameSettled}
-use Rattle.protocol.specs.Server.{ServerState, ServerDoing, server_begins, chunk_limit, says, refuses, stores, shows, with_primary, without_lease, takes_data, drops_corrupt, primary_of}
+use Rattle.protocol.specs.Server.{ServerState, ServerDoing, server_begins, chunk_limit, says, refuses, stores, shows, with_primary, without_lease, takes_data, drops_corrupt, counting_primary, primary_of}
 use Rattle.protocol.specs.ServerReads.{reads_from, measures, copies_out}
 use Rattle.protocol.specs.ServerWrites.{passes_on, refuses_attempt, answers_settled, denies, forwards, settles_if, acknowledges, change_of, place_of, bytes_of, primary_applies, places, appends_as, mutates_with, mutates_new, mutates_as, mutates_under, nacks, member_applies, applies_data, applies_change, forwarded_to, acked_waiting, acked_under, nacked_waiting, nacked_under}
 use Rattle.protocol.specs.ServerOrders.{on_order, records, can_take, takes_create, raises, takes_set_version, holds_version, takes_grant, extends_held, ends_held, takes_revoke, drops_old, takes_drop, takes_clone, takes_image, copies_locally, takes_copy_local}
-use Rattle.protocol.specs.ServerStep.{replica_line, lease_line, counting_leases, server_ticks, server_takes, server_does, server_at, server_goes}
-use Rattle.protocol.specs.Laws.{order_number}
-use Rattle.protocol.proofs.Steps.{on_cond}
+use Rattle.protocol.specs.ServerStep.{replica_line, lease_line, asks_no_more, counting_leases, server_ticks, server_takes, server_does, server_at, server_goes}
+use Rattle.protocol.proofs.Steps.{on_cond, none_some, same_some, put_cases, put_there, kept_cases, gone_there}
+use Rattle.protocol.proofs.Entries.{kept_where_cases, mapped_cases}
+use Rattle.protocol.proofs.Words.{is_of_lease}
+use Rattle.protocol.specs.LeaseHeld.{LeaseHeld, counts_at, extended}
+use Rattle.gfs_types.specs.declared.ids.Handle.{Handle}
+use Rattle.gfs_types.specs.declared.ids.Version.{Version as VersionId}
+use Rattle.gfs_types.specs.declared.ids.Moment.{Moment}
+use Rattle.std.proofs.lemmas.Bool.{eqb-true, eqb-false}
 
 -- the part of a step of a server that the laws speak of
 pub record ServerCore : Type 0 where
+  pub id : ℕ
   pub up : Bool
+  pub leases : Table Primary
   pub under_way : List StoreChange
   pub disk : ServerDisk
   pub changes : List StoreChange
   pub sent : List Message
 
 abbrev pub server_core : ServerDoing → ServerCore
-server_core d = record { up = d.server.up; under_way = d.server.under_way; disk = d.server.disk; changes = d.changes; sent = d.sent }
+server_core d = record { id = d.server.id; up = d.server.up; leases = d.server.leases; under_way = d.server.under_way; disk = d.server.disk; changes = d.changes; sent = d.sent }
 
 -- a change that sets no order's number
 abbrev pub IsOfReplica : StoreChange → Type 0
@@ -55,21 +63,108 @@ IsOfReplica (DropReplica handle) = Unit {0}
 abbrev pub store_changed : ServerCore → StoreChange → ServerCore
 store_changed c x = record c { disk = disk_changed c.disk x; changes = c.changes ++ x ∷ [] }
 
--- What each move keeps.
-pub record KeepsServer (P : ServerCore → Type 0) : Type 0 where
-  -- a message, which is no order of the master
-  pub says : (c : ServerCore) (sender receiver : Node) (b : Body) → order_number b ≡ None → P c → P (record c { sent = c.sent ++ message sender receiver b ∷ [] })
+-- each lease was there, with the same version, end and members
+abbrev pub AreHeldFrom : Table Primary → Table Primary → Type 0
+AreHeldFrom before after = (handle : ℕ) (p : Primary) → table.get after handle ≡ Some p → (old : Primary) × (table.get before handle ≡ Some old) × (old.held ≡ p.held)
+
+-- none is of this version of the chunk
+abbrev pub HasNoLease : Table Primary → ℕ → ℕ → Type 0
+HasNoLease leases handle version = (p : Primary) → table.get leases handle ≡ Some p → p.held.version ≡ version → ⊥
+
+abbrev pub lease_of : VersionId → Moment → List ℕ → Primary
+lease_of version end_moment members = new_primary (record { version = version.0; until = end_moment.0; members = members })
+
+abbrev pub until_moment : Primary → Moment → Primary
+until_moment p end_moment = record p { held = record p.held { until = end_moment.0 } }
+
+-- What each move keeps. Came b: such a message is delivered in this step.
+pub record KeepsServer (Came : Body → Type 0) (P : ServerCore → Type 0) : Type 0 where
+  -- a message that doesn't speak of leases
+  pub says : (c : ServerCore) (receiver : Node) (b : Body) → is_of_lease b ≡ false → P c → P (record c { sent = c.sent ++ message (the_server c.id) receiver b ∷ [] })
   -- a change of a replica
   pub stores : (c : ServerCore) (x : StoreChange) → IsOfReplica x → P c → P (store_changed c x)
   -- an order's number, which is a new one
   pub takes : (c : ServerCore) (epoch count : ℕ) → is_new_order c.disk epoch count ≡ true → P c → P (store_changed c (SetOrder epoch count))
+  -- leases that were there
+  pub holds : (c : ServerCore) (leases : Table Primary) → AreHeldFrom c.leases leases → P c → P (record c { leases = leases })
+  -- a lease that was granted
+  pub grants : (c : ServerCore) (order : OrderNo) (handle : Handle) (version : VersionId) (end_moment : Moment) (members : List ℕ) → Came (body.Grant order handle version end_moment members)
+      → is_new_order c.disk order.epoch order.count ≡ true → P c → P (record (store_changed c (SetOrder order.epoch order.count)) { leases = table.insert c.leases handle.0 (lease_of version end_moment members) })
+  -- a later end of a lease
+  pub extends : (c : ServerCore) (handle : Handle) (version : VersionId) (end_moment : Moment) (p : Primary) → Came (body.Extend handle version end_moment) → table.get c.leases handle.0 ≡ Some p → p.held.version ≡ version.0 → P c
+      → P (record c { leases = table.insert c.leases handle.0 (until_moment p end_moment) })
+  -- a lease that is revoked
+  pub revokes : (c : ServerCore) (order : OrderNo) (handle : Handle) (version : VersionId) (leases : Table Primary) → Came (body.Revoke order handle version) → is_new_order c.disk order.epoch order.count ≡ true
+      → AreHeldFrom c.leases leases → HasNoLease leases handle.0 version.0 → P c
+      → P (record (store_changed c (SetOrder order.epoch order.count)) { leases = leases; sent = c.sent ++ message (the_server c.id) Master (body.Revoked handle version) ∷ [] })
 
-module _ (P : ServerCore → Type 0) (k : KeepsServer P) where
+abbrev pub IsCameIn : (Body → Type 0) → Input → Type 0
+IsCameIn Came (input.Deliver m) = Came m.body
+IsCameIn Came input.Tick = Unit {0}
+
+pub same_held : (leases : Table Primary) → AreHeldFrom leases leases
+same_held leases handle p is = (p, is, refl)
+
+removed_held : (leases : Table Primary) (handle : ℕ) → AreHeldFrom leases (table.remove leases handle)
+removed_held leases handle q p is = (p, kept_cases leases handle q p is, refl)
+
+-- a lease of this handle has this version, end and members
+abbrev IsHeld : Table Primary → ℕ → LeaseHeld → Type 0
+IsHeld leases handle held = (old : Primary) × (table.get leases handle ≡ Some old) × (old.held ≡ held)
+
+put_held : (leases : Table Primary) (handle : ℕ) (p : Primary) → IsHeld leases handle p.held → AreHeldFrom leases (table.insert leases handle p)
+put_held leases handle p at q r is =
+    elim (put_cases leases handle p q r is) [
+      | inl same ↦ (at.0, ap (λ (n : ℕ). table.get leases n) same.0 ∙ at.1, at.2 ∙ ap (λ (x : Primary). x.held) same.1)
+      | inr before ↦ (r, before, refl)
+    ]
+
+there_held : (leases : Table Primary) (handle : ℕ) (p : Primary) → table.get (table.insert leases handle p) handle ≡ Some p
+there_held leases handle p = put_there leases handle p handle refl
+
+-- a lease that counts is there
+counted_there : (s : ServerState) (version : ℕ) (o : Option Primary) (p : Primary) → counting_primary s version o ≡ Some p → o ≡ Some p
+counted_there s version None p is = none_some p is
+counted_there s version (Some q) p is = by_test ((q.held.version == version) && counts_at s.config.skew_ms q.held s.now) is
+  where
+    by_test : (b : Bool) → cond b (Some q) None ≡ Some p → Some q ≡ Some p
+    by_test true g = g
+    by_test false g = none_some p g
+
+restood_held : (seq : ℕ) (standing : Standing) (o : Option Kept) (p : Primary) (client : ℕ) → (restood seq standing o p client).held ≡ p.held
+restood_held seq standing None p client = refl
+restood_held seq standing (Some k) p client = on_cond (λ (x : Primary). x.held ≡ p.held) (k.seq == seq) (with_kept p client seq standing) p (λ _. refl) (λ _. refl)
+
+acknowledged_held : (p : Primary) (server serial : ℕ) (w : Waiting) → (acknowledged p server serial w).held ≡ p.held
+acknowledged_held p server serial w =
+    let less : Waiting = less_member w server in
+    let settled : Primary = record p { waiting = table.remove p.waiting serial } in
+    on_cond (λ (x : Primary). x.held ≡ p.held) (is_empty_list less.members) (with_standing settled less.client less.seq (IsSettled less.place)) _
+    (λ _. restood_held less.seq (IsSettled less.place) (table.get settled.kept less.client) settled less.client) (λ _. refl)
+
+-- forwarding changes no server
+forwards_server : (d : ServerDoing) (members : List ℕ) (handle version serial : ℕ) (id : DataId) (c : Change) → (forwards d members handle version serial id c).server ≡ d.server
+forwards_server d [] handle version serial id c = refl
+forwards_server d (m ∷ rest) handle version serial id c = forwards_server (says d (the_server m) (body.Forward (handle_of handle) (version_of version) (serial_of serial) id c)) rest handle version serial id c
+
+module _ (Came : Body → Type 0) (P : ServerCore → Type 0) (k : KeepsServer Came P) where
   abbrev pub Holds : ServerDoing → Type 0
   Holds d = P (server_core d)
 
-  says_holds : (d : ServerDoing) (receiver : Node) (b : Body) → order_number b ≡ None → Holds d → Holds (says d receiver b)
-  says_holds d receiver b e h = k.says (server_core d) (the_server d.server.id) receiver b e h
+  abbrev IsHere : ServerDoing → ℕ → LeaseHeld → Type 0
+  IsHere d handle held = IsHeld d.server.leases handle held
+
+  primary_here : (d : ServerDoing) (handle version : ℕ) (p : Primary) → primary_of d.server handle version ≡ Some p → IsHere d handle p.held
+  primary_here d handle version p is = (p, counted_there d.server version (table.get d.server.leases handle) p is, refl)
+
+  with_holds_primary : (d : ServerDoing) (handle : ℕ) (p : Primary) → IsHere d handle p.held → Holds d → Holds (with_primary d handle p)
+  with_holds_primary d handle p at h = k.holds (server_core d) (table.insert d.server.leases handle p) (put_held d.server.leases handle p at) h
+
+  less_holds : (d : ServerDoing) (handle : ℕ) → Holds d → Holds (without_lease d handle)
+  less_holds d handle h = k.holds (server_core d) (table.remove d.server.leases handle) (removed_held d.server.leases handle) h
+
+  says_holds : (d : ServerDoing) (receiver : Node) (b : Body) → is_of_lease b ≡ false → Holds d → Holds (says d receiver b)
+  says_holds d receiver b e h = k.says (server_core d) receiver b e h
 
   refuses_holds : (d : ServerDoing) (receiver : Node) (number : ℕ) (refusal : Refusal) → Holds d → Holds (refuses d receiver number refusal)
   refuses_holds d receiver number refusal h = says_holds d receiver (body.Refused number refusal) refl h
@@ -78,7 +173,7 @@ module _ (P : ServerCore → Type 0) (k : KeepsServer P) where
   puts_holds d handle r h = k.stores (server_core d) (PutReplica handle r) tt h
 
   corrupt_holds : (d : ServerDoing) (handle : ℕ) → Holds d → Holds (drops_corrupt d handle)
-  corrupt_holds d handle h = k.stores (server_core d) (DropReplica handle) tt h
+  corrupt_holds d handle h = less_holds (stores d (DropReplica handle)) handle (k.stores (server_core d) (DropReplica handle) tt h)
 
   -- reads
 
@@ -119,8 +214,10 @@ module _ (P : ServerCore → Type 0) (k : KeepsServer P) where
   settled_holds d id None h = attempt_holds d id ChunkFull h
   settled_holds d id (Some place) h = says_holds d (the_client id.client.0) (body.Done id place) refl h
 
-  denies_holds : (d : ServerDoing) (handle : ℕ) (p : Primary) (id : DataId) (refusal : Refusal) → Holds d → Holds (denies d handle p id refusal)
-  denies_holds d handle p id refusal h = attempt_holds (takes_data (with_primary d handle (denied p id.client.0 id.seq refusal)) id) id refusal h
+  denies_holds : (d : ServerDoing) (handle : ℕ) (p : Primary) (id : DataId) (refusal : Refusal) → IsHere d handle p.held → Holds d → Holds (denies d handle p id refusal)
+  denies_holds d handle p id refusal at h =
+      let denying : Primary = denied p id.client.0 id.seq refusal in
+      attempt_holds (takes_data (with_primary d handle denying) id) id refusal (with_holds_primary d handle denying at h)
 
   forwards_holds : (d : ServerDoing) (members : List ℕ) (handle version serial : ℕ) (id : DataId) (c : Change) → Holds d → Holds (forwards d members handle version serial id c)
   forwards_holds d [] handle version serial id c h = h
@@ -132,57 +229,63 @@ module _ (P : ServerCore → Type 0) (k : KeepsServer P) where
   settles_holds false d handle version serial w h = h
   settles_holds true d handle version serial w h = settled_holds (shows d (BecameSettled handle version serial)) (record { client = record { 0 = w.client }; seq = w.seq }) w.place h
 
-  acks_holds : (d : ServerDoing) (handle : ℕ) (p : Primary) (server serial : ℕ) (w : Waiting) → Holds d → Holds (acknowledges d handle p server serial w)
-  acks_holds d handle p server serial w h = settles_holds (is_last_acknowledgement w server) (with_primary d handle (acknowledged p server serial w)) handle p.held.version serial w h
+  acks_holds : (d : ServerDoing) (handle : ℕ) (p : Primary) (server serial : ℕ) (w : Waiting) → IsHere d handle p.held → Holds d → Holds (acknowledges d handle p server serial w)
+  acks_holds d handle p server serial w at h =
+      let new : Primary = acknowledged p server serial w in
+      settles_holds (is_last_acknowledgement w server) (with_primary d handle new) handle p.held.version serial w
+      (with_holds_primary d handle new (at.0, at.1, at.2 ∙ sym (acknowledged_held p server serial w)) h)
 
-  primary_holds : (d : ServerDoing) (handle : ℕ) (p : Primary) (r : Replica) (id : DataId) (m : Mutation) → Holds d → Holds (primary_applies d handle p r id m)
-  primary_holds d handle p r id m h =
+  primary_holds : (d : ServerDoing) (handle : ℕ) (p : Primary) (r : Replica) (id : DataId) (m : Mutation) → IsHere d handle p.held → Holds d → Holds (primary_applies d handle p r id m)
+  primary_holds d handle p r id m at h =
       let serial : ℕ = p.serial + 1 in
       let w : Waiting = record { client = id.client.0; seq = id.seq; members = p.held.members; place = place_of m } in
       let new : Replica = written_replica r serial (start_of m) (bytes_of (chunk_limit d.server handle) m) in
       let stored : ServerDoing = stores d (PutReplica handle new) in
       acks_holds (forwards stored (without p.held.members d.server.id) handle p.held.version serial id (change_of m)) handle (numbered p id.client.0 id.seq (place_of m)) d.server.id serial w
+      (subst (λ (x : ServerState). IsHeld x.leases handle p.held) (sym (forwards_server stored (without p.held.members d.server.id) handle p.held.version serial id (change_of m))) at)
       (forwards_holds stored (without p.held.members d.server.id) handle p.held.version serial id (change_of m) (puts_holds d handle new h))
 
-  places_holds : (d : ServerDoing) (handle : ℕ) (p : Primary) (r : Replica) (id : DataId) (m : Mutation) → Holds d → Holds (places d handle p r id m)
-  places_holds d handle p r id m h =
+  places_holds : (d : ServerDoing) (handle : ℕ) (p : Primary) (r : Replica) (id : DataId) (m : Mutation) → IsHere d handle p.held → Holds d → Holds (places d handle p r id m)
+  places_holds d handle p r id m at h =
+      let new : Primary = numbered p id.client.0 id.seq (place_of m) in
+      let now : Holds (with_primary d handle new) = with_holds_primary d handle new at h in
       let serial : ℕ = p.serial + 1 in
       let taken : ServerDoing = shows (takes_data (with_primary d handle (numbered p id.client.0 id.seq (place_of m))) id) (Numbered handle p.held.version serial id m) in
       on_cond Holds (nat_le counter_limit p.serial) d _ (λ _. h)
       (λ _. on_cond Holds (is_writable d.server.config.block r (start_of m) (start_of m + length (bytes_of (chunk_limit d.server handle) m))) (primary_applies taken handle p r id m)
       (refuses_attempt (drops_corrupt taken handle) id Corrupt)
-      (λ _. primary_holds taken handle p r id m h)
-      (λ _. attempt_holds (drops_corrupt taken handle) id Corrupt (corrupt_holds taken handle h)))
+      (λ _. primary_holds taken handle p r id m (new, there_held d.server.leases handle new, refl) now)
+      (λ _. attempt_holds (drops_corrupt taken handle) id Corrupt (corrupt_holds taken handle now)))
 
-  appends_holds : (d : ServerDoing) (handle : ℕ) (p : Primary) (r : Replica) (id : DataId) (bytes : List ℕ) (where_ : Placing) → Holds d → Holds (appends_as d handle p r id bytes where_)
-  appends_holds d handle p r id bytes IsTooLong h = denies_holds d handle p id ServerTooLong h
-  appends_holds d handle p r id bytes IsFull h = denies_holds d handle p id ChunkFull h
-  appends_holds d handle p r id bytes (PaddedFrom offset) h = places_holds d handle p r id (mutation.Pad offset) h
-  appends_holds d handle p r id bytes (PlacedAt offset) h = places_holds d handle p r id (mutation.Append offset bytes) h
+  appends_holds : (d : ServerDoing) (handle : ℕ) (p : Primary) (r : Replica) (id : DataId) (bytes : List ℕ) (where_ : Placing) → IsHere d handle p.held → Holds d → Holds (appends_as d handle p r id bytes where_)
+  appends_holds d handle p r id bytes IsTooLong at h = denies_holds d handle p id ServerTooLong at h
+  appends_holds d handle p r id bytes IsFull at h = denies_holds d handle p id ChunkFull at h
+  appends_holds d handle p r id bytes (PaddedFrom offset) at h = places_holds d handle p r id (mutation.Pad offset) at h
+  appends_holds d handle p r id bytes (PlacedAt offset) at h = places_holds d handle p r id (mutation.Append offset bytes) at h
 
-  with_holds : (d : ServerDoing) (handle : ℕ) (p : Primary) (r : Replica) (id : DataId) (t : Target) (bytes : List ℕ) → Holds d → Holds (mutates_with d handle p r id t bytes)
-  with_holds d handle p r id (target.Write offset) bytes h =
+  with_holds : (d : ServerDoing) (handle : ℕ) (p : Primary) (r : Replica) (id : DataId) (t : Target) (bytes : List ℕ) → IsHere d handle p.held → Holds d → Holds (mutates_with d handle p r id t bytes)
+  with_holds d handle p r id (target.Write offset) bytes at h =
       on_cond Holds (nat_lt (chunk_limit d.server handle) (offset + length bytes)) d (places d handle p r id (mutation.Write offset bytes)) (λ _. h)
-      (λ _. places_holds d handle p r id (mutation.Write offset bytes) h)
-  with_holds d handle p r id target.Append bytes h = appends_holds d handle p r id bytes (placing (length r.bytes) (length bytes) (chunk_limit d.server handle)) h
+      (λ _. places_holds d handle p r id (mutation.Write offset bytes) at h)
+  with_holds d handle p r id target.Append bytes at h = appends_holds d handle p r id bytes (placing (length r.bytes) (length bytes) (chunk_limit d.server handle)) at h
 
-  new_holds : (d : ServerDoing) (handle : ℕ) (p : Primary) (id : DataId) (t : Target) (o : Option Replica) (bytes : Option (List ℕ)) → Holds d → Holds (mutates_new d handle p id t o bytes)
-  new_holds d handle p id t None bytes h = h
-  new_holds d handle p id t (Some r) None h = denies_holds d handle p id NoData h
-  new_holds d handle p id t (Some r) (Some bytes) h = with_holds d handle p r id t bytes h
+  new_holds : (d : ServerDoing) (handle : ℕ) (p : Primary) (id : DataId) (t : Target) (o : Option Replica) (bytes : Option (List ℕ)) → IsHere d handle p.held → Holds d → Holds (mutates_new d handle p id t o bytes)
+  new_holds d handle p id t None bytes at h = h
+  new_holds d handle p id t (Some r) None at h = denies_holds d handle p id NoData at h
+  new_holds d handle p id t (Some r) (Some bytes) at h = with_holds d handle p r id t bytes at h
 
-  as_holds : (d : ServerDoing) (handle : ℕ) (p : Primary) (id : DataId) (t : Target) (a : Attempted) → Holds d → Holds (mutates_as d handle p id t a)
-  as_holds d handle p id t IsOld h = attempt_holds d id OldRequest h
-  as_holds d handle p id t (IsRepeat IsPending) h = h
-  as_holds d handle p id t (IsRepeat (IsSettled place)) h = settled_holds d id place h
-  as_holds d handle p id t (IsRepeat (IsRefused refusal)) h = attempt_holds d id refusal h
-  as_holds d handle p id t IsNew h = new_holds d handle p id t (replica_of d.server.disk handle) (data_of d.server.pushed id) h
+  as_holds : (d : ServerDoing) (handle : ℕ) (p : Primary) (id : DataId) (t : Target) (a : Attempted) → IsHere d handle p.held → Holds d → Holds (mutates_as d handle p id t a)
+  as_holds d handle p id t IsOld at h = attempt_holds d id OldRequest h
+  as_holds d handle p id t (IsRepeat IsPending) at h = h
+  as_holds d handle p id t (IsRepeat (IsSettled place)) at h = settled_holds d id place h
+  as_holds d handle p id t (IsRepeat (IsRefused refusal)) at h = attempt_holds d id refusal h
+  as_holds d handle p id t IsNew at h = new_holds d handle p id t (replica_of d.server.disk handle) (data_of d.server.pushed id) at h
 
-  under_holds : (d : ServerDoing) (handle : ℕ) (id : DataId) (t : Target) (deadline : ℕ) (o : Option Primary) → Holds d → Holds (mutates_under d handle id t deadline o)
-  under_holds d handle id t deadline None h = attempt_holds d id NoLease h
-  under_holds d handle id t deadline (Some p) h =
+  under_holds : (d : ServerDoing) (handle : ℕ) (id : DataId) (t : Target) (deadline : ℕ) (o : Option Primary) → ((p : Primary) → o ≡ Some p → IsHere d handle p.held) → Holds d → Holds (mutates_under d handle id t deadline o)
+  under_holds d handle id t deadline None at h = attempt_holds d id NoLease h
+  under_holds d handle id t deadline (Some p) at h =
       on_cond Holds (nat_le deadline d.server.now) (refuses_attempt d id Late) (mutates_as d handle p id t (attempted p id.client.0 id.seq)) (λ _. attempt_holds d id Late h)
-      (λ _. as_holds d handle p id t (attempted p id.client.0 id.seq) h)
+      (λ _. as_holds d handle p id t (attempted p id.client.0 id.seq) (at p refl) h)
 
   nacks_holds : (d : ServerDoing) (primary : Node) (handle version serial : ℕ) (refusal : Refusal) → Holds d → Holds (nacks d primary handle version serial refusal)
   nacks_holds d primary handle version serial refusal h = says_holds d primary (body.Nacked (handle_of handle) (version_of version) (serial_of serial) refusal) refl h
@@ -218,21 +321,24 @@ module _ (P : ServerCore → Type 0) (k : KeepsServer P) where
       (λ _. change_holds d primary handle r serial id c h) (λ _. nacks_holds d primary handle version serial OldSerial h))
       (λ _. nacks_holds d primary handle version serial Version h)
 
-  acked_waiting_holds : (d : ServerDoing) (handle : ℕ) (p : Primary) (server serial : ℕ) (o : Option Waiting) → Holds d → Holds (acked_waiting d handle p server serial o)
-  acked_waiting_holds d handle p server serial None h = h
-  acked_waiting_holds d handle p server serial (Some w) h = acks_holds d handle p server serial w h
+  acked_waiting_holds : (d : ServerDoing) (handle : ℕ) (p : Primary) (server serial : ℕ) (o : Option Waiting) → IsHere d handle p.held → Holds d → Holds (acked_waiting d handle p server serial o)
+  acked_waiting_holds d handle p server serial None at h = h
+  acked_waiting_holds d handle p server serial (Some w) at h = acks_holds d handle p server serial w at h
 
-  acked_holds : (d : ServerDoing) (handle server serial : ℕ) (o : Option Primary) → Holds d → Holds (acked_under d handle server serial o)
-  acked_holds d handle server serial None h = h
-  acked_holds d handle server serial (Some p) h = acked_waiting_holds d handle p server serial (table.get p.waiting serial) h
+  acked_holds : (d : ServerDoing) (handle server serial : ℕ) (o : Option Primary) → ((p : Primary) → o ≡ Some p → IsHere d handle p.held) → Holds d → Holds (acked_under d handle server serial o)
+  acked_holds d handle server serial None at h = h
+  acked_holds d handle server serial (Some p) at h = acked_waiting_holds d handle p server serial (table.get p.waiting serial) (at p refl) h
 
-  nacked_waiting_holds : (d : ServerDoing) (handle : ℕ) (p : Primary) (refusal : Refusal) (o : Option Waiting) → Holds d → Holds (nacked_waiting d handle p refusal o)
-  nacked_waiting_holds d handle p refusal None h = h
-  nacked_waiting_holds d handle p refusal (Some w) h = refuses_holds (with_primary d handle (refused_by_member p w refusal)) (the_client w.client) w.seq refusal h
+  nacked_waiting_holds : (d : ServerDoing) (handle : ℕ) (p : Primary) (refusal : Refusal) (o : Option Waiting) → IsHere d handle p.held → Holds d → Holds (nacked_waiting d handle p refusal o)
+  nacked_waiting_holds d handle p refusal None at h = h
+  nacked_waiting_holds d handle p refusal (Some w) at h =
+      let new : Primary = refused_by_member p w refusal in
+      refuses_holds (with_primary d handle new) (the_client w.client) w.seq refusal
+      (with_holds_primary d handle new (at.0, at.1, at.2 ∙ sym (restood_held w.seq (IsRefused refusal) (table.get p.kept w.client) p w.client)) h)
 
-  nacked_holds : (d : ServerDoing) (handle serial : ℕ) (refusal : Refusal) (o : Option Primary) → Holds d → Holds (nacked_under d handle serial refusal o)
-  nacked_holds d handle serial refusal None h = h
-  nacked_holds d handle serial refusal (Some p) h = nacked_waiting_holds d handle p refusal (table.get p.waiting serial) h
+  nacked_holds : (d : ServerDoing) (handle serial : ℕ) (refusal : Refusal) (o : Option Primary) → ((p : Primary) → o ≡ Some p → IsHere d handle p.held) → Holds d → Holds (nacked_under d handle serial refusal o)
+  nacked_holds d handle serial refusal None at h = h
+  nacked_holds d handle serial refusal (Some p) at h = nacked_waiting_holds d handle p refusal (table.get p.waiting serial) (at p refl) h
 
   -- orders
 
@@ -255,31 +361,53 @@ module _ (P : ServerCore → Type 0) (k : KeepsServer P) where
   raises_holds d handle version base None h = h
   raises_holds d handle version base (Some r) h =
       let raised : ServerDoing = without_lease (stores d (PutReplica handle (raised_replica r version))) handle in
-      on_cond Holds (r.version == base) (records raised handle version) d (λ _. records_holds raised handle version (puts_holds d handle (raised_replica r version) h)) (λ _. h)
+      on_cond Holds (r.version == base) (records raised handle version) d (λ _. records_holds raised handle version (less_holds (stores d (PutReplica handle (raised_replica r version))) handle (puts_holds d handle (raised_replica r version) h))) (λ _. h)
 
   set_version_holds : (handle version base : ℕ) (d : ServerDoing) → Holds d → Holds (takes_set_version d handle version base)
   set_version_holds handle version base d h = raises_holds d handle version base (replica_of d.server.disk handle) h
 
-  grant_holds : (handle version end_moment : ℕ) (members : List ℕ) (d : ServerDoing) → Holds d → Holds (takes_grant d handle version end_moment members)
-  grant_holds handle version end_moment members d h = on_cond Holds (holds_version version (replica_of d.server.disk handle)) _ d (λ _. h) (λ _. h)
+  grant_holds : (d : ServerDoing) (order : OrderNo) (handle : Handle) (version : VersionId) (end_moment : Moment) (members : List ℕ) → Came (body.Grant order handle version end_moment members) → Holds d
+      → Holds (on_order d order (λ e. takes_grant e handle.0 version.0 end_moment.0 members))
+  grant_holds d order handle version end_moment members came h =
+      let taken : ServerDoing = stores d (SetOrder order.epoch order.count) in
+      on_cond Holds (is_new_order d.server.disk order.epoch order.count) (takes_grant taken handle.0 version.0 end_moment.0 members) d
+      (λ new. on_cond Holds (holds_version version.0 (replica_of taken.server.disk handle.0)) (with_primary taken handle.0 (lease_of version end_moment members)) taken
+      (λ _. k.grants (server_core d) order handle version end_moment members came new h)
+      (λ _. k.takes (server_core d) order.epoch order.count new h))
+      (λ _. h)
 
-  extend_holds : (d : ServerDoing) (handle version end_moment : ℕ) (o : Option Primary) → Holds d → Holds (extends_held d handle version end_moment o)
-  extend_holds d handle version end_moment None h = h
-  extend_holds d handle version end_moment (Some p) h = on_cond Holds (p.held.version == version) _ d (λ _. h) (λ _. h)
+  extend_holds : (d : ServerDoing) (handle : Handle) (version : VersionId) (end_moment : Moment) (o : Option Primary) → table.get d.server.leases handle.0 ≡ o → Came (body.Extend handle version end_moment) → Holds d
+      → Holds (extends_held d handle.0 version.0 end_moment.0 o)
+  extend_holds d handle version end_moment None at came h = h
+  extend_holds d handle version end_moment (Some p) at came h =
+      let skew : ℕ = d.server.config.skew_ms in
+      on_cond Holds (p.held.version == version.0) (with_primary d handle.0 (record p { held = extended skew p.held end_moment.0 d.server.now })) d
+      (λ same. on_cond (λ (held : LeaseHeld). Holds (with_primary d handle.0 (record p { held = held }))) (counts_at skew p.held d.server.now && nat_lt p.held.until end_moment.0) (record p.held { until = end_moment.0 }) p.held
+      (λ _. k.extends (server_core d) handle version end_moment p came at (eqb-true p.held.version version.0 same) h)
+      (λ _. with_holds_primary d handle.0 p (p, at, refl) h))
+      (λ _. h)
 
-  ends_holds : (d : ServerDoing) (handle version : ℕ) (o : Option Primary) → Holds d → Holds (ends_held d handle version o)
-  ends_holds d handle version None h = h
-  ends_holds d handle version (Some p) h = on_cond Holds (p.held.version == version) (without_lease d handle) d (λ _. h) (λ _. h)
+  revoke_holds : (d : ServerDoing) (order : OrderNo) (handle : Handle) (version : VersionId) → Came (body.Revoke order handle version) → Holds d → Holds (on_order d order (λ e. takes_revoke e handle.0 version.0))
+  revoke_holds d order handle version came h =
+      let taken : ServerDoing = stores d (SetOrder order.epoch order.count) in
+      on_cond Holds (is_new_order d.server.disk order.epoch order.count) (takes_revoke taken handle.0 version.0) d (λ new. by_lease new (table.get d.server.leases handle.0) refl) (λ _. h)
+    where
+      taken : ServerDoing
+      taken = stores d (SetOrder order.epoch order.count)
 
-  revoke_holds : (handle version : ℕ) (d : ServerDoing) → Holds d → Holds (takes_revoke d handle version)
-  revoke_holds handle version d h =
-      let held : Option Primary = table.get d.server.leases handle in
-      says_holds (ends_held d handle version held) Master (body.Revoked (handle_of handle) (version_of version)) refl (ends_holds d handle version held h)
+      by_lease : is_new_order d.server.disk order.epoch order.count ≡ true → (o : Option Primary) → table.get d.server.leases handle.0 ≡ o → Holds (says (ends_held taken handle.0 version.0 o) Master (body.Revoked handle version))
+      by_lease new None at = k.revokes (server_core d) order handle version d.server.leases came new (same_held d.server.leases) (λ p is. none_some p (sym at ∙ is)) h
+      by_lease new (Some q) at =
+          on_cond (λ (e : ServerDoing). Holds (says e Master (body.Revoked handle version))) (q.held.version == version.0) (without_lease taken handle.0) taken
+          (λ _. k.revokes (server_core d) order handle version (table.remove d.server.leases handle.0) came new (removed_held d.server.leases handle.0)
+          (λ p is. none_some p (sym (gone_there d.server.leases handle.0 handle.0 refl) ∙ is)) h)
+          (λ other. k.revokes (server_core d) order handle version d.server.leases came new (same_held d.server.leases)
+          (λ p is same. eqb-false q.held.version version.0 other (ap (λ (x : Primary). x.held.version) (same_some q p (sym at ∙ is)) ∙ same)) h)
 
   drops_holds : (d : ServerDoing) (handle version : ℕ) (o : Option Replica) → Holds d → Holds (drops_old d handle version o)
   drops_holds d handle version None h = h
   drops_holds d handle version (Some r) h =
-      on_cond Holds (nat_le r.version version) (without_lease (stores d (DropReplica handle)) handle) d (λ _. k.stores (server_core d) (DropReplica handle) tt h) (λ _. h)
+      on_cond Holds (nat_le r.version version) (without_lease (stores d (DropReplica handle)) handle) d (λ _. corrupt_holds d handle h) (λ _. h)
 
   drop_holds : (handle version : ℕ) (d : ServerDoing) → Holds d → Holds (takes_drop d handle version)
   drop_holds handle version d h = drops_holds d handle version (replica_of d.server.disk handle) h
@@ -313,49 +441,52 @@ module _ (P : ServerCore → Type 0) (k : KeepsServer P) where
 
   tick_holds : (d : ServerDoing) → Holds d → Holds (server_ticks d)
   tick_holds d h =
-      says_holds d Master (body.Report (map replica_line (table.entries d.server.disk.replicas)) (map lease_line (table.entries (counting_leases d.server)))) refl h
+      let left : Table Primary = counting_leases d.server in
+      let report : Body = body.Report (map replica_line (table.entries d.server.disk.replicas)) (map lease_line (table.entries left)) in
+      k.holds (server_core (says d Master report)) (map_values asks_no_more left)
+      (λ handle p is. let was = mapped_cases asks_no_more left handle p is in (was.0, kept_where_cases (λ e. counts_at d.server.config.skew_ms e.1.held d.server.now) d.server.leases handle was.0 was.1, ap (λ (x : Primary). x.held) was.2))
+      (says_holds d Master report refl h)
 
-  takes_holds : (d : ServerDoing) (m : Message) (b : Body) → Holds d → Holds (server_takes d m b)
-  takes_holds d m (body.Push id bytes rest) h =
+  takes_holds : (d : ServerDoing) (m : Message) (b : Body) → Came b → Holds d → Holds (server_takes d m b)
+  takes_holds d m (body.Push id bytes rest) came h =
       pass_holds (record d { server = record d.server { pushed = with_data d.server.config.push_entries d.server.pushed id bytes } }) id bytes rest (next_hop rest d.server.id) h
-  takes_holds d m (body.Mutate id handle version t deadline) h = under_holds d handle.0 id t deadline.0 (primary_of d.server handle.0 version.0) h
-  takes_holds d m (body.Read number handle version offset count) h = read_holds d m.sender number handle.0 version.0 offset count (replica_of d.server.disk handle.0) h
-  takes_holds d m (body.Len number handle version) h = measure_holds d m.sender number version.0 (replica_of d.server.disk handle.0) h
-  takes_holds d m (body.Forward handle version serial id c) h = forwarded_holds d m.sender handle.0 version.0 serial.0 id c (replica_of d.server.disk handle.0) h
-  takes_holds d m (body.Acked handle version serial) h = acked_holds d handle.0 (server_number m.sender) serial.0 (primary_of d.server handle.0 version.0) h
-  takes_holds d m (body.Nacked handle version serial refusal) h = nacked_holds d handle.0 serial.0 refusal (primary_of d.server handle.0 version.0) h
-  takes_holds d m (body.Create order handle version) h = order_holds d order (λ e. takes_create e handle.0 version.0) (create_holds handle.0 version.0) h
-  takes_holds d m (body.SetVersion order handle version base) h = order_holds d order (λ e. takes_set_version e handle.0 version.0 base.0) (set_version_holds handle.0 version.0 base.0) h
-  takes_holds d m (body.Grant order handle version end_moment members) h =
-      order_holds d order (λ e. takes_grant e handle.0 version.0 end_moment.0 members) (grant_holds handle.0 version.0 end_moment.0 members) h
-  takes_holds d m (body.Revoke order handle version) h = order_holds d order (λ e. takes_revoke e handle.0 version.0) (revoke_holds handle.0 version.0) h
-  takes_holds d m (body.Drop order handle version) h = order_holds d order (λ e. takes_drop e handle.0 version.0) (drop_holds handle.0 version.0) h
-  takes_holds d m (body.Clone order handle version source) h = order_holds d order (λ e. takes_clone e handle.0 version.0 source.0) (clone_holds handle.0 version.0 source.0) h
-  takes_holds d m (body.CopyLocal order handle version copy copy_version) h =
+  takes_holds d m (body.Mutate id handle version t deadline) came h = under_holds d handle.0 id t deadline.0 (primary_of d.server handle.0 version.0) (λ p is. primary_here d handle.0 version.0 p is) h
+  takes_holds d m (body.Read number handle version offset count) came h = read_holds d m.sender number handle.0 version.0 offset count (replica_of d.server.disk handle.0) h
+  takes_holds d m (body.Len number handle version) came h = measure_holds d m.sender number version.0 (replica_of d.server.disk handle.0) h
+  takes_holds d m (body.Forward handle version serial id c) came h = forwarded_holds d m.sender handle.0 version.0 serial.0 id c (replica_of d.server.disk handle.0) h
+  takes_holds d m (body.Acked handle version serial) came h = acked_holds d handle.0 (server_number m.sender) serial.0 (primary_of d.server handle.0 version.0) (λ p is. primary_here d handle.0 version.0 p is) h
+  takes_holds d m (body.Nacked handle version serial refusal) came h = nacked_holds d handle.0 serial.0 refusal (primary_of d.server handle.0 version.0) (λ p is. primary_here d handle.0 version.0 p is) h
+  takes_holds d m (body.Create order handle version) came h = order_holds d order (λ e. takes_create e handle.0 version.0) (create_holds handle.0 version.0) h
+  takes_holds d m (body.SetVersion order handle version base) came h = order_holds d order (λ e. takes_set_version e handle.0 version.0 base.0) (set_version_holds handle.0 version.0 base.0) h
+  takes_holds d m (body.Grant order handle version end_moment members) came h = grant_holds d order handle version end_moment members came h
+  takes_holds d m (body.Revoke order handle version) came h = revoke_holds d order handle version came h
+  takes_holds d m (body.Drop order handle version) came h = order_holds d order (λ e. takes_drop e handle.0 version.0) (drop_holds handle.0 version.0) h
+  takes_holds d m (body.Clone order handle version source) came h = order_holds d order (λ e. takes_clone e handle.0 version.0 source.0) (clone_holds handle.0 version.0 source.0) h
+  takes_holds d m (body.CopyLocal order handle version copy copy_version) came h =
       order_holds d order (λ e. takes_copy_local e handle.0 version.0 copy.0 copy_version.0) (copy_local_holds handle.0 version.0 copy.0 copy_version.0) h
-  takes_holds d m (body.Extend handle version end_moment) h = extend_holds d handle.0 version.0 end_moment.0 (table.get d.server.leases handle.0) h
-  takes_holds d m (body.CopyAsk handle version) h = copy_out_holds d m.sender handle.0 version.0 (replica_of d.server.disk handle.0) h
-  takes_holds d m (body.Image handle version serial bytes) h = image_holds d handle.0 version.0 serial.0 bytes h
-  takes_holds d m (body.Name number deadline c) h = h
-  takes_holds d m (body.Look number c) h = h
-  takes_holds d m (body.Ask number file wanted deadline lost) h = h
-  takes_holds d m (body.Named number reply) h = h
-  takes_holds d m (body.Told number location) h = h
-  takes_holds d m (body.Wait number) h = h
-  takes_holds d m (body.Refused number refusal) h = h
-  takes_holds d m (body.Pushed id) h = h
-  takes_holds d m (body.Done id place) h = h
-  takes_holds d m (body.Bytes number bytes) h = h
-  takes_holds d m (body.LenIs number count) h = h
-  takes_holds d m (body.Recorded handle version) h = h
-  takes_holds d m (body.Revoked handle version) h = h
-  takes_holds d m (body.Cloned handle version) h = h
-  takes_holds d m (body.Report replicas leases) h = h
+  takes_holds d m (body.Extend handle version end_moment) came h = extend_holds d handle version end_moment (table.get d.server.leases handle.0) refl came h
+  takes_holds d m (body.CopyAsk handle version) came h = copy_out_holds d m.sender handle.0 version.0 (replica_of d.server.disk handle.0) h
+  takes_holds d m (body.Image handle version serial bytes) came h = image_holds d handle.0 version.0 serial.0 bytes h
+  takes_holds d m (body.Name number deadline c) came h = h
+  takes_holds d m (body.Look number c) came h = h
+  takes_holds d m (body.Ask number file wanted deadline lost) came h = h
+  takes_holds d m (body.Named number reply) came h = h
+  takes_holds d m (body.Told number location) came h = h
+  takes_holds d m (body.Wait number) came h = h
+  takes_holds d m (body.Refused number refusal) came h = h
+  takes_holds d m (body.Pushed id) came h = h
+  takes_holds d m (body.Done id place) came h = h
+  takes_holds d m (body.Bytes number bytes) came h = h
+  takes_holds d m (body.LenIs number count) came h = h
+  takes_holds d m (body.Recorded handle version) came h = h
+  takes_holds d m (body.Revoked handle version) came h = h
+  takes_holds d m (body.Cloned handle version) came h = h
+  takes_holds d m (body.Report replicas leases) came h = h
 
-  does_holds : (d : ServerDoing) (i : Input) → Holds d → Holds (server_does d i)
-  does_holds d (input.Deliver m) h = takes_holds d m m.body h
-  does_holds d input.Tick h = tick_holds d h
+  does_holds : (d : ServerDoing) (i : Input) → IsCameIn Came i → Holds d → Holds (server_does d i)
+  does_holds d (input.Deliver m) came h = takes_holds d m m.body came h
+  does_holds d input.Tick came h = tick_holds d h
 
   -- the step of a server that is up, where nothing hinders it
-  pub server_goes_holds : (s : ServerState) (moment : ℕ) (i : Input) → Holds (server_begins (server_at s moment)) → Holds (server_goes s moment i)
-  server_goes_holds s moment i h = does_holds (server_begins (server_at s moment)) i h
+  pub server_goes_holds : (s : ServerState) (moment : ℕ) (i : Input) → IsCameIn Came i → Holds (server_begins (server_at s moment)) → Holds (server_goes s moment i)
+  server_goes_holds s moment i came h = does_holds (server_begins (server_at s moment)) i came h

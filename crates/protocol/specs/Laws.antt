@@ -1,5 +1,5 @@
 -- Laws of every lawful list of events, restarts, losses and repeats included, that public functions of this crate state.
-use Rattle.std.specs.Prelude.{◌≡◌, ◌⊎◌, ℕ, ◌≤◌, ◌<◌, Bool, false, ◌==◌, ◌&&◌, List, count_by, option_map, Option, Some, None, IsTrue}
+use Rattle.std.specs.Prelude.{◌≡◌, ◌⊎◌, ℕ, suc, ◌≤◌, ◌<◌, Bool, false, ◌==◌, ◌&&◌, List, count_by, option_map, Option, Some, None, IsTrue}
 use Rattle.std.specs.List.{list_any, sum_by}
 use Rattle.std.specs.FinMap as table
 use Rattle.gfs_types.specs.declared.config.Config.{Config}
@@ -14,10 +14,12 @@ use Rattle.messages.specs.declared.message.Body.TheVariants as body
 use Rattle.gfs_types.specs.Paths.{Path}
 use Rattle.relaxed_file.specs.Names.{Names, File, IsTree, node_at}
 use Rattle.protocol.specs.Tables.{Table, element_at, has_number}
-use Rattle.protocol.specs.Sending.{the_server}
+use Rattle.protocol.specs.Sending.{the_server, handle_of, version_of}
 use Rattle.protocol.specs.Choice.{Choice}
 use Rattle.protocol.specs.ChunkTable.{ChunkRow, ChunkTable, chunk_of}
 use Rattle.protocol.specs.Logged.{Logged, all_copies_given_up, replayed}
+use Rattle.protocol.specs.LeaseHeld.{LeaseHeld}
+use Rattle.protocol.specs.PrimaryOrder.{Primary}
 use Rattle.protocol.specs.Server.{ServerState}
 use Rattle.protocol.specs.World.{WorldState, after_events, IsReached}
 
@@ -81,6 +83,50 @@ MembersRecordedWhatIsGranted =
     → (place : ℕ) (grant : Message) (order : OrderNo) (handle : Handle) (version : Version) (end_moment : Moment) (members : List ℕ)
     → element_at w.sent place ≡ Some grant → grant.body ≡ body.Grant order handle version end_moment members
     → (member : ℕ) → IsTrue (has_number members member) → WasTold w.sent place member handle.0 version.0
+
+-- whether a message is a grant of this version of a chunk
+abbrev pub is_grant : ℕ → ℕ → Body → Bool
+is_grant handle version (body.Grant order h v end_moment members) = (h.0 == handle) && (v.0 == version)
+is_grant handle version other = false
+
+-- how many grants of this version of a chunk were sent
+abbrev pub grants_of : ℕ → ℕ → List Message → ℕ
+grants_of handle version sent = count_by (λ m. is_grant handle version m.body) sent
+
+-- A version of a chunk is granted at most once (section 3.1).
+abbrev pub VersionsAreGrantedOnce : Type 0
+VersionsAreGrantedOnce =
+    (config : Config) (servers clients : ℕ) (w : WorldState) → IsReached config servers clients w → (handle version : ℕ) → grants_of handle version w.sent ≤ 1
+
+-- one of the messages is the grant of this lease to this server
+abbrev pub WasGranted : List Message → ℕ → ℕ → LeaseHeld → Type 0
+WasGranted sent server handle held =
+    (place : ℕ) × (grant : Message) × (element_at sent place ≡ Some grant) × (grant.receiver ≡ the_server server) × (order : OrderNo) × (end_moment : Moment)
+    × (grant.body ≡ body.Grant order (handle_of handle) (version_of held.version) end_moment held.members)
+
+-- whether a message tells that the lease of this version of a chunk ends at this moment
+abbrev pub tells_end : ℕ → ℕ → ℕ → Body → Bool
+tells_end handle version until (body.Grant order h v end_moment members) = (h.0 == handle) && (v.0 == version) && (end_moment.0 == until)
+tells_end handle version until (body.Extend h v end_moment) = (h.0 == handle) && (v.0 == version) && (end_moment.0 == until)
+tells_end handle version until other = false
+
+-- one of the messages tells so
+abbrev pub WasEndTold : List Message → ℕ → ℕ → ℕ → Type 0
+WasEndTold sent handle version until = (place : ℕ) × (word : Message) × (element_at sent place ≡ Some word) × IsTrue (tells_end handle version until word.body)
+
+-- A lease that a server holds was granted to it, with its members, and ends as the master told (section 3.1).
+abbrev pub LeasesAreTold : Type 0
+LeasesAreTold =
+    (config : Config) (servers clients : ℕ) (w : WorldState) → IsReached config servers clients w
+    → (index : ℕ) (s : ServerState) → element_at w.servers index ≡ Some s → (handle : ℕ) (p : Primary) → table.get s.leases handle ≡ Some p
+    → WasGranted w.sent (suc index) handle p.held × WasEndTold w.sent handle p.held.version p.held.until
+
+-- The lease of a version of a chunk is held by one server at most (section 3.1).
+abbrev pub VersionsHaveOnePrimary : Type 0
+VersionsHaveOnePrimary =
+    (config : Config) (servers clients : ℕ) (w : WorldState) → IsReached config servers clients w
+    → (index other : ℕ) (s t : ServerState) → element_at w.servers index ≡ Some s → element_at w.servers other ≡ Some t
+    → (handle : ℕ) (p q : Primary) → table.get s.leases handle ≡ Some p → table.get t.leases handle ≡ Some q → p.held.version ≡ q.held.version → index ≡ other
 
 -- The names of a master that is up are a tree (section 4.1).
 abbrev pub MasterNamesAreATree : Type 0

@@ -1,6 +1,6 @@
 //! Laws of every lawful list of events from a new cell: calls, deliveries, losses, repeats, ticks, restarts, stops in a step, refused memory and rot.
 
-ghost use Rattle.protocol.specs.Laws.{FilesHaveOneName, GrantedIsAtMostIssued, LogHasTheChunks, LogHasTheFiles, LogHasTheNames, MasterNamesAreATree, MembersRecordedWhatIsGranted, OrderNumbersNeverFall, OrdersAreNumberedOnce, ReferencesAreCounted};
+ghost use Rattle.protocol.specs.Laws.{FilesHaveOneName, GrantedIsAtMostIssued, LeasesAreTold, LogHasTheChunks, LogHasTheFiles, LogHasTheNames, MasterNamesAreATree, MembersRecordedWhatIsGranted, OrderNumbersNeverFall, OrdersAreNumberedOnce, ReferencesAreCounted, VersionsAreGrantedOnce, VersionsHaveOnePrimary};
 
 /// No two orders of the master have one number, over its restarts and stops too.
 pub fn orders_are_numbered_once()
@@ -20,6 +20,21 @@ pub fn granted_is_at_most_issued()
 /// Before a version is granted, each member has told the master that it has it: it recorded it, or reported it.
 pub fn members_recorded_what_is_granted()
     ensures { MembersRecordedWhatIsGranted }
+{}
+
+/// A version of a chunk is granted at most once, over restarts and stops of the master too: no two Grants of it are ever sent.
+pub fn versions_are_granted_once()
+    ensures { VersionsAreGrantedOnce }
+{}
+
+/// A lease that a server holds was granted to it, with its members, and ends as a Grant or an Extend of its version told.
+pub fn leases_are_told()
+    ensures { LeasesAreTold }
+{}
+
+/// The lease of a version of a chunk is held by one server at most.
+pub fn versions_have_one_primary()
+    ensures { VersionsHaveOnePrimary }
 {}
 
 /// The names of a master that is up are a tree, after each of its restarts too.
