@@ -1,13 +1,12 @@
-//! What a chunk may be read as: the image of a selection of its order (section 2.7.1 of the Google File System paper).
+//! What may stand in a file's chunks: for each chunk its mutations in order (section 2.7.1 of the Google File System paper).
 
 ghost use Rattle.std.specs.Prelude.{◌<◌, ◌^◌, All, IsTrue};
 ghost use Rattle.gfs_types.specs.Mutations as change;
 
-use bytes::Bytes;
 use gfs_types::mutation::Mutation;
 use gfs_types::no_memory::NoMemory;
 use plain_programs::entry::Entry;
-use plain_programs::image::image;
+use plain_programs::image::{image, length};
 use plain_programs::regions::regions;
 use plain_programs::selection::is_selection;
 use relaxed_file::region::Region;
@@ -16,130 +15,158 @@ use std::alloc::Global;
 /// The one round of a chunk.
 const ROUND: u64 = 1;
 
-/// A write that was answered. One that was refused may stand in the order or not.
-#[derive(Drop)]
-struct PlainWrite {
-    call_number: u64,
-    mutation: Mutation,
-    is_settled: bool,
+/// The mutations of a chunk, in order. With one replica each that stands is stored, whatever its call was answered.
+#[derive(Clone, Debug, PartialEq, Eq, Drop)]
+struct PlainChunk {
+    mutations: Vec<Mutation>,
+    /// For each mutation whether its call was refused.
+    are_refused: Vec<bool>,
 }
 
-impl PlainWrite {
-    fn entry(&self) -> Result<Entry, NoMemory> {
-        let mutation = self.mutation.copy()?;
-        Ok(Entry::new(1, self.call_number, ROUND, mutation, self.is_settled))
+impl PlainChunk {
+    fn has_refused(&self) -> bool {
+        self.are_refused.contains(&true)
+    }
+
+    /// The mutations as entries, numbered by their places, or those alone whose calls succeeded. What was refused doesn't
+    /// count as settled.
+    fn entries(&self, alloc: Global, with_refused: bool) -> Result<Vec<Entry>, NoMemory> {
+        let mut entries = Vec::new(alloc);
+        let mut place: u64 = 0;
+        for (mutation, is_refused) in self.mutations.iter().zip(self.are_refused.as_slice()) {
+            let is_refused = *is_refused;
+            place = place.saturating_add(1);
+            if with_refused || !is_refused {
+                entries.push(Entry::new(1, place, ROUND, mutation.copy()?, !is_refused))?;
+            }
+        }
+        Ok(entries)
     }
 }
 
-/// What a read of a chunk was found to be.
-#[derive(Clone, Copy, Debug, PartialEq, Eq)]
-pub enum Reading {
-    /// The image of no selection.
-    Wrong,
-    /// It shows each settled write, and no other.
-    Settled,
-    /// It shows a write that was refused.
-    ShowsRefused,
+/// What may stand in the chunks of a file.
+#[derive(Clone, Debug, PartialEq, Eq, Drop)]
+pub struct FileOrder {
+    alloc: Global,
+    /// The bytes that a chunk may hold.
+    size: u64,
+    chunks: Vec<PlainChunk>,
 }
 
-/// The writes of a chunk, in the order of their calls.
-#[derive(Drop)]
-pub struct PlainChunk {
-    writes: Vec<PlainWrite>,
+impl FileOrder {
+    /// No chunks.
+    pub fn new(alloc: Global, size: u64) -> FileOrder {
+        FileOrder {
+            alloc,
+            size,
+            chunks: Vec::new(alloc),
+        }
+    }
+
+    pub fn copy(&self) -> Result<FileOrder, NoMemory> {
+        Ok(self.clone()?)
+    }
+
+    /// How many chunks there are.
+    pub fn count(&self) -> u64 {
+        self.chunks.len() as u64
+    }
+
+    /// The order with one more chunk, which is empty.
+    pub fn with_chunk(&self) -> Result<FileOrder, NoMemory> {
+        let mut order = self.copy()?;
+        order.chunks.push(PlainChunk {
+            mutations: Vec::new(self.alloc),
+            are_refused: Vec::new(self.alloc),
+        })?;
+        Ok(order)
+    }
+
+    /// A mutation stands behind those of its chunk.
+    pub fn put(
+        &mut self,
+        index: u64,
+        mutation: Mutation,
+        is_refused: bool,
+    ) -> Result<(), NoMemory> {
+        if let Some(chunk) = self.chunks.get_mut(index as usize) {
+            chunk.mutations.push(mutation)?;
+            chunk.are_refused.push(is_refused)?;
+        }
+        Ok(())
+    }
+
+    /// Where the last chunk begins in the file.
+    pub fn last_start(&self) -> u64 {
+        self.count().saturating_sub(1).saturating_mul(self.size)
+    }
+
+    /// How far the last chunk's bytes reach; 0 without chunks.
+    pub fn last_length(&self) -> u64 {
+        let Some(chunk) = self.chunks.last() else {
+            return 0;
+        };
+        if are_small(self.size, chunk.mutations.as_slice()) {
+            length(self.size, chunk.mutations.as_slice())
+        } else {
+            u64::MAX
+        }
+    }
+
+    /// How far the file's bytes reach.
+    pub fn length(&self) -> u64 {
+        self.last_start().saturating_add(self.last_length())
+    }
+
+    /// Whether a mutation of a refused call stands in this chunk.
+    pub fn has_refused(&self, index: u64) -> bool {
+        match self.chunks.get(index as usize) {
+            None => false,
+            Some(chunk) => chunk.has_refused(),
+        }
+    }
+
+    /// Whether part of a chunk reads so.
+    pub fn reads(&self, index: u64, part: &Part) -> Result<bool, NoMemory> {
+        let Some(chunk) = self.chunks.get(index as usize) else {
+            return Ok(false);
+        };
+        let mutations = chunk.mutations.as_slice();
+        if !are_small(self.size, mutations) {
+            return Ok(false);
+        }
+        let image = image(self.alloc, self.size, mutations)?;
+        if slice_of(image.as_slice(), part.from, part.count) != part.bytes {
+            return Ok(false);
+        }
+        self.is_right_where_determined(chunk, part)
+    }
+
+    /// Whether the part has in each determined region what the successful calls alone leave there.
+    fn is_right_where_determined(&self, chunk: &PlainChunk, part: &Part) -> Result<bool, NoMemory> {
+        let order = chunk.entries(self.alloc, true)?;
+        let settled = chunk.entries(self.alloc, false)?;
+        if !is_selection(ROUND, order.as_slice(), settled.as_slice())
+            || !are_small_entries(self.size, order.as_slice())
+        {
+            return Ok(false);
+        }
+        let mutations = mutations_of(self.alloc, settled.as_slice())?;
+        if !are_small(self.size, mutations.as_slice()) {
+            return Ok(false);
+        }
+        let regions = regions(self.alloc, self.size, order.as_slice())?;
+        let image = image(self.alloc, self.size, mutations.as_slice())?;
+        Ok(is_right_in(regions.as_slice(), image.as_slice(), part))
+    }
 }
 
 /// Part of a chunk that was read.
 #[derive(Clone, Copy)]
 pub struct Part<'a> {
-    pub chunk: u64,
     pub from: usize,
     pub count: usize,
     pub bytes: &'a [u8],
-}
-
-impl PlainChunk {
-    pub fn new(alloc: Global) -> PlainChunk {
-        PlainChunk {
-            writes: Vec::new(alloc),
-        }
-    }
-
-    pub fn push(
-        &mut self,
-        call_number: u64,
-        offset: u64,
-        bytes: &Bytes,
-        is_settled: bool,
-    ) -> Result<(), NoMemory> {
-        let mutation = Mutation::Write(offset, bytes.clone()?);
-        self.writes.push(PlainWrite {
-            call_number,
-            mutation,
-            is_settled,
-        })?;
-        Ok(())
-    }
-
-    /// Whether a refused write may stand.
-    pub fn has_refused(&self) -> bool {
-        self.writes.iter().any(|write| !write.is_settled)
-    }
-
-    /// In how many ways the refused writes may stand or not.
-    fn choices(&self) -> u64 {
-        let mut choices: u64 = 1;
-        for write in &self.writes {
-            if !write.is_settled {
-                choices = choices.saturating_mul(2);
-            }
-        }
-        choices
-    }
-
-    /// The entries of one choice: its binary digits tell which refused writes stand.
-    fn chosen(&self, alloc: Global, choice: u64) -> Result<Vec<Entry>, NoMemory> {
-        let mut left = choice;
-        let mut chosen = Vec::new(alloc);
-        for write in &self.writes {
-            if write.is_settled {
-                chosen.push(write.entry()?)?;
-            } else {
-                if left % 2 == 1 {
-                    chosen.push(write.entry()?)?;
-                }
-                left /= 2;
-            }
-        }
-        Ok(chosen)
-    }
-
-    /// All writes as entries.
-    fn order(&self, alloc: Global) -> Result<Vec<Entry>, NoMemory> {
-        let mut order = Vec::new(alloc);
-        for write in &self.writes {
-            order.push(write.entry()?)?;
-        }
-        Ok(order)
-    }
-
-    /// What a read is: `choices` counts up from the settled writes alone.
-    pub fn reading(&self, alloc: Global, part: &Part) -> Result<Reading, NoMemory> {
-        let order = self.order(alloc)?;
-        if !is_right_where_determined(alloc, order.as_slice(), part)? {
-            return Ok(Reading::Wrong);
-        }
-        for choice in 0..self.choices() {
-            let chosen = self.chosen(alloc, choice)?;
-            if is_image(alloc, order.as_slice(), chosen.as_slice(), part)? {
-                return Ok(if choice == 0 {
-                    Reading::Settled
-                } else {
-                    Reading::ShowsRefused
-                });
-            }
-        }
-        Ok(Reading::Wrong)
-    }
 }
 
 /// Whether a mutation is as small as those of these tests.
@@ -176,14 +203,21 @@ fn mutations_of(alloc: Global, entries: &[Entry]) -> Result<Vec<Mutation>, NoMem
     Ok(mutations)
 }
 
-/// The bytes of a chunk after the entries.
-fn image_of(alloc: Global, chunk: u64, entries: &[Entry]) -> Result<Vec<u8>, NoMemory> {
-    let mutations = mutations_of(alloc, entries)?;
-    if are_small(chunk, mutations.as_slice()) {
-        Ok(image(alloc, chunk, mutations.as_slice())?)
-    } else {
-        Err(NoMemory)
+/// Whether the part has these bytes in each determined region; behind them it has zeros there.
+fn is_right_in(regions: &[Region], image: &[u8], part: &Part) -> bool {
+    let mut place = part.from;
+    for byte in part.bytes {
+        let expected = image.get(place).copied().unwrap_or(0);
+        if is_determined(regions, place as u64) && *byte != expected {
+            return false;
+        }
+        place = place.saturating_add(1);
     }
+    true
+}
+
+fn is_determined(regions: &[Region], place: u64) -> bool {
+    regions.iter().any(|region| region.determined && region.from <= place && place < region.to)
 }
 
 /// At most `count` bytes from a place on.
@@ -194,51 +228,4 @@ fn slice_of(bytes: &[u8], from: usize, count: usize) -> &[u8] {
     let rest = &bytes[from..];
     let end = rest.len().min(count);
     &rest[..end]
-}
-
-/// Whether the chosen entries are a selection, and the part is of their image.
-fn is_image(
-    alloc: Global,
-    order: &[Entry],
-    chosen: &[Entry],
-    part: &Part,
-) -> Result<bool, NoMemory> {
-    if !is_selection(ROUND, order, chosen) {
-        return Ok(false);
-    }
-    let image = image_of(alloc, part.chunk, chosen)?;
-    Ok(slice_of(image.as_slice(), part.from, part.count) == part.bytes)
-}
-
-/// Whether the part has the one byte that each place of a determined region may have. The regions end where the order does.
-fn is_right_where_determined(
-    alloc: Global,
-    order: &[Entry],
-    part: &Part,
-) -> Result<bool, NoMemory> {
-    if !are_small_entries(part.chunk, order) {
-        return Err(NoMemory);
-    }
-    let regions = regions(alloc, part.chunk, order)?;
-    let image = image_of(alloc, part.chunk, order)?;
-    Ok(is_right_in(regions.as_slice(), image.as_slice(), part))
-}
-
-fn is_right_in(regions: &[Region], image: &[u8], part: &Part) -> bool {
-    let mut place = part.from as u64;
-    for (read, whole) in part
-        .bytes
-        .iter()
-        .zip(slice_of(image, part.from, part.count))
-    {
-        if is_determined(regions, place) && read != whole {
-            return false;
-        }
-        place = place.saturating_add(1);
-    }
-    true
-}
-
-fn is_determined(regions: &[Region], place: u64) -> bool {
-    regions.iter().any(|region| region.determined && region.from <= place && place < region.to)
 }

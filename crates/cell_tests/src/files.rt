@@ -1,118 +1,221 @@
-//! The chunks of a file, and how many there may be.
+//! A file by all that may stand in its chunks.
 
-use crate::chunks::{Part, PlainChunk, Reading};
+use crate::appends::{Appending, Outcomes};
+use crate::chunks::{FileOrder, Part};
+use crate::late::LateChunks;
 use bytes::Bytes;
+use gfs_types::mutation::Mutation;
 use gfs_types::no_memory::NoMemory;
 use std::alloc::Global;
+
+/// What a read tells of calls that were refused.
+#[derive(Clone, Copy, Debug, PartialEq, Eq)]
+pub enum Reading {
+    /// Nothing that may stand reads so.
+    Wrong,
+    /// No refused call left anything in this chunk, and none might have.
+    Plain,
+    /// A refused call might have left something in this chunk, and did not.
+    Hidden,
+    /// A refused call left something in this chunk.
+    ShowsRefused,
+    /// A refused call may have left something in this chunk or not.
+    Open,
+}
 
 /// A file is known by its path, since none is deleted or renamed.
 #[derive(Drop)]
 pub struct PlainFile {
     alloc: Global,
-    /// The chunks that may be there. One is added only for a write, at the file's end.
-    chunks: Vec<PlainChunk>,
-    /// The chunks that a write asked for, where they were beyond the file's end.
-    asked: Vec<u64>,
-    /// How many chunks are there for sure.
-    least: u64,
+    /// The bytes that a chunk may hold.
+    size: u64,
+    /// Each order that may stand.
+    orders: Vec<FileOrder>,
+    late: LateChunks,
 }
 
 impl PlainFile {
-    pub fn new(alloc: Global) -> PlainFile {
-        PlainFile {
+    pub fn new(alloc: Global, size: u64) -> Result<PlainFile, NoMemory> {
+        let mut orders = Vec::new(alloc);
+        orders.push(FileOrder::new(alloc, size))?;
+        Ok(PlainFile {
             alloc,
-            chunks: Vec::new(alloc),
-            asked: Vec::new(alloc),
-            least: 0,
+            size,
+            orders,
+            late: LateChunks::new(alloc),
+        })
+    }
+
+    /// How many orders may stand.
+    pub fn order_count(&self) -> usize {
+        self.orders.len()
+    }
+
+    /// Whether some order may stand.
+    fn is_explained(&self) -> bool {
+        !self.orders.is_empty()
+    }
+
+    /// One more order may stand.
+    fn add(&mut self, order: FileOrder) -> Result<(), NoMemory> {
+        if !self.orders.contains(&order) {
+            self.orders.push(order)?;
         }
+        Ok(())
     }
 
-    /// How many chunks there may be.
-    fn most(&self) -> u64 {
-        self.chunks.len() as u64
+    /// Late requests may have added chunks.
+    pub fn may_grow(&mut self) -> Result<(), NoMemory> {
+        if self.late.is_empty() {
+            return Ok(());
+        }
+        for order in self.longer_orders()? {
+            self.add(order)?;
+        }
+        Ok(())
     }
 
-    /// A write asked for this chunk. A request that came too early may come again, and add it later.
+    fn longer_orders(&self) -> Result<Vec<FileOrder>, NoMemory> {
+        let mut longer = Vec::new(self.alloc);
+        for order in &self.orders {
+            for found in self.late.orders_of(self.alloc, order.copy()?)? {
+                longer.push(found)?;
+            }
+        }
+        Ok(longer)
+    }
+
+    /// A write asks for this chunk.
     pub fn asks(&mut self, index: u64) -> Result<(), NoMemory> {
-        if index >= self.most() {
-            self.asked.push(index)?;
-        }
-        for _ in 0..self.asked.len() {
-            self.adds_asked()?;
-        }
-        Ok(())
+        self.late.push(index)?;
+        self.may_grow()
     }
 
-    /// The chunk at the file's end, if a write asked for it.
-    fn adds_asked(&mut self) -> Result<(), NoMemory> {
-        let next = self.most();
-        if self.asked.contains(&next) {
-            self.chunks.push(PlainChunk::new(self.alloc))?;
-        }
-        Ok(())
-    }
-
-    fn is_sure(&mut self, index: u64) {
-        self.least = self.least.max(index.saturating_add(1));
-    }
-
-    /// A write that succeeded stands in its chunk's order from now on.
+    /// A write that succeeded stands in its chunk.
     pub fn accepts_done(
         &mut self,
-        call_number: u64,
         index: u64,
-        place: u64,
+        start: u64,
         bytes: &Bytes,
     ) -> Result<bool, NoMemory> {
-        self.is_sure(index);
-        self.takes(call_number, index, place, bytes, true)
+        self.late.pop();
+        self.orders.retain(|order| order.count() > index);
+        for order in self.orders.iter_mut() {
+            order.put(index, Mutation::Write(start, bytes.clone()?), false)?;
+        }
+        Ok(self.is_explained())
     }
 
-    /// A write that failed may stand in its chunk's order.
+    /// A write that failed may stand in its chunk.
     pub fn accepts_failed(
         &mut self,
-        call_number: u64,
         index: u64,
-        place: u64,
+        start: u64,
         bytes: &Bytes,
     ) -> Result<bool, NoMemory> {
-        if index >= self.most() {
-            return Ok(true);
+        self.late.pop();
+        for order in self.written_orders(index, start, bytes)? {
+            self.add(order)?;
         }
-        self.takes(call_number, index, place, bytes, false)
-    }
-
-    fn takes(
-        &mut self,
-        call_number: u64,
-        index: u64,
-        place: u64,
-        bytes: &Bytes,
-        is_settled: bool,
-    ) -> Result<bool, NoMemory> {
-        let Some(chunk) = self.chunks.get_mut(index as usize) else {
-            return Ok(false);
-        };
-        chunk.push(call_number, place, bytes, is_settled)?;
         Ok(true)
     }
 
-    /// Whether a write of this chunk may be told that the file is too short.
-    pub fn may_be_short_of(&self, index: u64) -> bool {
-        self.least < index
+    fn written_orders(
+        &self,
+        index: u64,
+        start: u64,
+        bytes: &Bytes,
+    ) -> Result<Vec<FileOrder>, NoMemory> {
+        let mut written = Vec::new(self.alloc);
+        for order in &self.orders {
+            if order.count() > index {
+                let mut next = order.copy()?;
+                next.put(index, Mutation::Write(start, bytes.clone()?), true)?;
+                written.push(next)?;
+            }
+        }
+        Ok(written)
     }
 
-    /// Whether a read may be told that there is no such chunk.
-    pub fn may_lack(&self, index: u64) -> bool {
-        self.least <= index
+    /// A write of this chunk was told that the file is too short. Its request may come again, and add the chunk.
+    pub fn accepts_too_short(&mut self, index: u64) -> bool {
+        self.orders.retain(|order| order.count() < index);
+        self.is_explained()
     }
 
-    /// What a read of a chunk is, and whether a refused write of it might have been shown.
-    pub fn reading(&mut self, index: u64, part: &Part) -> Result<(Reading, bool), NoMemory> {
-        self.is_sure(index);
-        let Some(chunk) = self.chunks.get(index as usize) else {
-            return Ok((Reading::Wrong, false));
+    fn outcomes(&self, record: &Bytes, is_refused: bool) -> Result<Outcomes, NoMemory> {
+        let appending = Appending {
+            alloc: self.alloc,
+            size: self.size,
+            record,
+            is_refused,
+            late: &self.late,
         };
-        Ok((chunk.reading(self.alloc, part)?, chunk.has_refused()))
+        appending.outcomes(self.orders.as_slice())
+    }
+
+    /// A record stands at this offset of the file.
+    pub fn accepts_record(&mut self, record: &Bytes, offset: u64) -> Result<bool, NoMemory> {
+        let outcomes = self.outcomes(record, false)?;
+        self.orders = Vec::new(self.alloc);
+        for placed in outcomes.with {
+            if placed.offset == offset {
+                self.add(placed.order)?;
+            }
+        }
+        Ok(self.is_explained())
+    }
+
+    /// A record that failed may stand, and so may what comes before it.
+    pub fn accepts_failed_record(&mut self, record: &Bytes) -> Result<bool, NoMemory> {
+        let outcomes = self.outcomes(record, true)?;
+        for order in outcomes.without {
+            self.add(order)?;
+        }
+        for placed in outcomes.with {
+            self.add(placed.order)?;
+        }
+        Ok(true)
+    }
+
+    /// The file has this length.
+    pub fn accepts_length(&mut self, length: u64) -> bool {
+        self.orders.retain(|order| order.length() == length);
+        self.is_explained()
+    }
+
+    /// A read was told that there is no such chunk.
+    pub fn accepts_none(&mut self, index: u64) -> bool {
+        self.orders.retain(|order| order.count() <= index);
+        self.is_explained()
+    }
+
+    /// Part of a chunk was read.
+    pub fn accepts_part(&mut self, index: u64, part: &Part) -> Result<Reading, NoMemory> {
+        let might_show = self.orders.iter().any(|order| order.has_refused(index));
+        self.orders = self.orders_that_read(index, part)?;
+        let may_show = self.orders.iter().any(|order| order.has_refused(index));
+        let must_show = self.orders.iter().all(|order| order.has_refused(index));
+        Ok(if !self.is_explained() {
+            Reading::Wrong
+        } else if must_show {
+            Reading::ShowsRefused
+        } else if may_show {
+            Reading::Open
+        } else if might_show {
+            Reading::Hidden
+        } else {
+            Reading::Plain
+        })
+    }
+
+    fn orders_that_read(&self, index: u64, part: &Part) -> Result<Vec<FileOrder>, NoMemory> {
+        let mut found = Vec::new(self.alloc);
+        for order in &self.orders {
+            if order.reads(index, part)? {
+                found.push(order.copy()?)?;
+            }
+        }
+        Ok(found)
     }
 }

@@ -6,10 +6,10 @@ use crate::numbers::Numbers;
 use bytes::Bytes;
 use gfs_types::call::Call;
 use gfs_types::config::Config;
-use messages::event::Event;
 use gfs_types::ids::{ClientId, Fd, Moment, Node, ServerId};
 use gfs_types::lists::Text;
 use gfs_types::no_memory::NoMemory;
+use messages::event::Event;
 use std::alloc::Global;
 
 const CLIENT: ClientId = ClientId(1);
@@ -218,11 +218,12 @@ impl EventSource {
             self.numbers.below(descriptors.saturating_add(3))
         };
         let offset = self.offset();
-        if self.numbers.chance(50) {
-            Ok(Call::Write(Fd(fd), offset, self.bytes()?))
-        } else {
-            Ok(Call::Read(Fd(fd), offset, self.numbers.below(68)))
-        }
+        Ok(match self.numbers.below(20) {
+            0..5 => Call::Write(Fd(fd), offset, self.bytes()?),
+            5..12 => Call::Append(Fd(fd), self.record()?),
+            12..17 => Call::Read(Fd(fd), offset, self.numbers.below(68)),
+            _ => Call::Length(Fd(fd)),
+        })
     }
 
     /// A place in one of the first chunks, mostly in the first one.
@@ -240,13 +241,28 @@ impl EventSource {
         index.saturating_mul(64).saturating_add(start)
     }
 
-    /// Up to nine equal bytes, seldom as many as a chunk and more.
+    /// Up to nine bytes, seldom as many as a chunk and more.
     fn bytes(&mut self) -> Result<Bytes, NoMemory> {
-        let length = if self.numbers.chance(90) {
+        let length = if self.numbers.chance(80) {
             self.numbers.below(10)
         } else {
             self.numbers.below(66)
         };
+        self.filled(length)
+    }
+
+    /// A record, most times one that is not too long.
+    fn record(&mut self) -> Result<Bytes, NoMemory> {
+        let length = match self.numbers.below(20) {
+            0 => self.numbers.below(30),
+            1..8 => self.numbers.below(17),
+            _ => self.numbers.below(5).saturating_add(12),
+        };
+        self.filled(length)
+    }
+
+    /// So many equal bytes.
+    fn filled(&mut self, length: u64) -> Result<Bytes, NoMemory> {
         let byte = u8::try_from(self.numbers.below(256)).unwrap_or(0);
         let filled = vec![in self.alloc; byte; length as usize]?;
         Ok(Bytes::copy_from_slice(self.alloc, filled.as_slice())?)

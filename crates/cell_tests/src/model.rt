@@ -1,12 +1,13 @@
 //! A plain model of the cell for one client, which judges each answer by what is allowed.
 //!
 //! A name call that was refused as unknown may have been done or not, so the model keeps each list of names that the cell
-//! may have. Once it is refused its request comes too late, so no later step does it. A write that was refused may stand in
-//! its chunk's order or not; one that succeeded stands there, and no read leaves it out.
+//! may have. Once it is refused its request comes too late, so no later step does it. A write or append that was refused may
+//! stand in its chunk's order or not; one that succeeded stands there. So the model keeps each order that may stand, and
+//! each answer leaves those that explain it.
 
-use crate::chunks::{Part, Reading};
+use crate::chunks::Part;
 use crate::counts::{Counts, count};
-use crate::files::PlainFile;
+use crate::files::{PlainFile, Reading};
 use crate::names::PlainNames;
 use bytes::Bytes;
 use gfs_types::answer::Answer;
@@ -35,7 +36,6 @@ pub struct Model {
     /// The files of the descriptors from 1, by their places in `files`.
     opened: Vec<usize>,
     current: Option<Call>,
-    call_count: u64,
     pub counts: Counts,
 }
 
@@ -50,7 +50,6 @@ impl Model {
             files: Vec::new(alloc),
             opened: Vec::new(alloc),
             current: None,
-            call_count: 0,
             counts,
         })
     }
@@ -69,7 +68,6 @@ impl Model {
     pub fn calls(&mut self, call: Call) {
         if self.current.is_none() {
             self.current = Some(call);
-            self.call_count = self.call_count.saturating_add(1);
         }
     }
 
@@ -81,6 +79,8 @@ impl Model {
         match &call {
             Call::Write(fd, offset, bytes) => self.accepts_write(*fd, *offset, bytes, answer),
             Call::Read(fd, offset, count) => self.accepts_read(*fd, *offset, *count, answer),
+            Call::Append(fd, record) => self.accepts_append(*fd, record, answer),
+            Call::Length(fd) => self.accepts_length(*fd, answer),
             _ => self.accepts_name(&call, answer),
         }
     }
@@ -165,7 +165,7 @@ impl Model {
             None => {
                 self.files.push(KnownFile {
                     path: path.copy(self.alloc)?,
-                    file: PlainFile::new(self.alloc),
+                    file: PlainFile::new(self.alloc, self.chunk)?,
                 })?;
                 self.files.len() - 1
             }
@@ -232,7 +232,6 @@ impl Model {
         answer: &Answer,
     ) -> Result<bool, NoMemory> {
         let (index, start) = self.place_of(offset);
-        let number = self.call_count;
         let Some(known) = self.files.get_mut(place) else {
             return Ok(false);
         };
@@ -240,15 +239,97 @@ impl Model {
         match answer {
             Answer::Done => {
                 count(&mut self.counts.written);
-                known.file.accepts_done(number, index, start, bytes)
+                known.file.accepts_done(index, start, bytes)
             }
             Answer::Refused(Refusal::Failed | Refusal::NoReplica) => {
                 count(&mut self.counts.failed);
-                known.file.accepts_failed(number, index, start, bytes)
+                known.file.accepts_failed(index, start, bytes)
             }
             Answer::Refused(Refusal::TooLong) => {
                 count(&mut self.counts.refused);
-                Ok(known.file.may_be_short_of(index))
+                Ok(known.file.accepts_too_short(index))
+            }
+            _ => Ok(false),
+        }
+    }
+
+    fn accepts_append(
+        &mut self,
+        fd: Fd,
+        record: &Bytes,
+        answer: &Answer,
+    ) -> Result<bool, NoMemory> {
+        let Some(place) = self.file_of(fd) else {
+            count(&mut self.counts.refused);
+            return Ok(*answer == Answer::Refused(Refusal::BadFd));
+        };
+        if record.len() as u64 > self.chunk / 4 {
+            count(&mut self.counts.refused);
+            return Ok(*answer == Answer::Refused(Refusal::TooLong));
+        }
+        self.accepts_asked_append(place, record, answer)
+    }
+
+    /// An append that asked the master for the last chunk.
+    fn accepts_asked_append(
+        &mut self,
+        place: usize,
+        record: &Bytes,
+        answer: &Answer,
+    ) -> Result<bool, NoMemory> {
+        let Some(known) = self.files.get_mut(place) else {
+            return Ok(false);
+        };
+        known.file.may_grow()?;
+        let before = known.file.order_count();
+        let is_accepted = match answer {
+            Answer::At(offset) => {
+                count(&mut self.counts.appended);
+                if *offset >= self.chunk {
+                    count(&mut self.counts.in_later_chunks);
+                }
+                known.file.accepts_record(record, *offset)?
+            }
+            Answer::Refused(Refusal::Failed | Refusal::NoReplica) => {
+                count(&mut self.counts.failed);
+                known.file.accepts_failed_record(record)?
+            }
+            _ => false,
+        };
+        let after = known.file.order_count();
+        self.counts_orders(before, after);
+        Ok(is_accepted)
+    }
+
+    /// An answer leaves so many orders of those before.
+    fn counts_orders(&mut self, before: usize, after: usize) {
+        if after < before {
+            count(&mut self.counts.decided);
+        }
+        self.counts.most_orders = self.counts.most_orders.max(after as u64);
+    }
+
+    fn accepts_length(&mut self, fd: Fd, answer: &Answer) -> Result<bool, NoMemory> {
+        let Some(place) = self.file_of(fd) else {
+            count(&mut self.counts.refused);
+            return Ok(*answer == Answer::Refused(Refusal::BadFd));
+        };
+        let Some(known) = self.files.get_mut(place) else {
+            return Ok(false);
+        };
+        known.file.may_grow()?;
+        match answer {
+            Answer::Length(length) => {
+                count(&mut self.counts.measured);
+                let before = known.file.order_count();
+                let is_accepted = known.file.accepts_length(*length);
+                let after = known.file.order_count();
+                self.counts_orders(before, after);
+                Ok(is_accepted)
+            }
+            Answer::Refused(Refusal::Unknown | Refusal::NoReplica) => {
+                count(&mut self.counts.unanswered);
+                Ok(true)
             }
             _ => Ok(false),
         }
@@ -294,29 +375,31 @@ impl Model {
         let Some(known) = self.files.get_mut(place) else {
             return Ok(false);
         };
+        if count_asked == 0 {
+            return Ok(bytes.is_empty() && rounds.is_empty());
+        }
+        known.file.may_grow()?;
         if rounds.is_empty() {
-            let may_be_none = count_asked == 0 || known.file.may_lack(index);
-            return Ok(bytes.is_empty() && may_be_none);
+            return Ok(bytes.is_empty() && known.file.accepts_none(index));
         }
         let part = Part {
-            chunk: self.chunk,
             from: start as usize,
             count: count_asked as usize,
             bytes: bytes.as_slice(),
         };
-        let (reading, has_refused) = known.file.reading(index, &part)?;
-        self.counts_reading(reading, has_refused, bytes.is_empty());
-        Ok(rounds == [1].as_slice() && count_asked > 0 && reading != Reading::Wrong)
+        let reading = known.file.accepts_part(index, &part)?;
+        self.counts_reading(reading, bytes.is_empty());
+        Ok(rounds == [1].as_slice() && reading != Reading::Wrong)
     }
 
-    fn counts_reading(&mut self, reading: Reading, has_refused: bool, is_empty: bool) {
+    fn counts_reading(&mut self, reading: Reading, is_empty: bool) {
         if !is_empty {
             count(&mut self.counts.read);
         }
         match reading {
             Reading::ShowsRefused => count(&mut self.counts.shown),
-            Reading::Settled if has_refused => count(&mut self.counts.hidden),
-            _ => {}
+            Reading::Hidden => count(&mut self.counts.hidden),
+            Reading::Wrong | Reading::Plain | Reading::Open => {}
         }
     }
 }

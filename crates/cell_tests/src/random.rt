@@ -6,13 +6,13 @@ use crate::model::Model;
 use cell_core::world::World;
 use gfs_types::answer::Answer;
 use gfs_types::config::Config;
-use messages::event::Event;
 use gfs_types::no_memory::NoMemory;
+use messages::event::Event;
 use std::alloc::Global;
 use std::test::Fail;
 
 /// The events of one list.
-const EVENTS: u64 = 120;
+const EVENTS: u64 = 160;
 
 /// The lists of one test.
 const LISTS: u64 = 500;

@@ -1,0 +1,71 @@
+//! A chunk as the list of its mutations.
+
+ghost use Rattle.std.specs.Prelude.{◌<◌, ◌^◌, All, IsTrue};
+ghost use Rattle.gfs_types.specs.Mutations as change;
+
+use gfs_types::mutation::Mutation;
+use gfs_types::no_memory::NoMemory;
+use plain_programs::image::{image, length};
+use std::alloc::Global;
+
+/// The mutations of a chunk, in order. All are settled, since no message is lost.
+#[derive(Drop)]
+pub struct PlainChunk {
+    alloc: Global,
+    /// The bytes that the chunk may hold.
+    size: u64,
+    mutations: Vec<Mutation>,
+}
+
+impl PlainChunk {
+    pub fn new(alloc: Global, size: u64) -> PlainChunk {
+        PlainChunk {
+            alloc,
+            size,
+            mutations: Vec::new(alloc),
+        }
+    }
+
+    pub fn push(&mut self, mutation: Mutation) -> Result<(), NoMemory> {
+        self.mutations.push(mutation)?;
+        Ok(())
+    }
+
+    /// How far its bytes reach. None where a mutation is greater than those of these tests.
+    pub fn length(&self) -> Option<u64> {
+        let mutations = self.mutations.as_slice();
+        if are_small(self.size, mutations) {
+            Some(length(self.size, mutations))
+        } else {
+            None
+        }
+    }
+
+    /// Its bytes. None where a mutation is greater than those of these tests.
+    pub fn bytes(&self) -> Result<Option<Vec<u8>>, NoMemory> {
+        let mutations = self.mutations.as_slice();
+        if are_small(self.size, mutations) {
+            Ok(Some(image(self.alloc, self.size, mutations)?))
+        } else {
+            Ok(None)
+        }
+    }
+}
+
+/// Whether a mutation is as small as those of these tests.
+fn is_small(chunk: u64, mutation: &Mutation) -> bool
+    ensures { IsTrue result → change.end_of chunk mutation.now < 2 ^ 64 }
+{
+    match mutation {
+        Mutation::Write(offset, bytes) | Mutation::Append(offset, bytes) => {
+            *offset <= 4_096 && bytes.len() <= 4_096
+        }
+        Mutation::Pad(_) => chunk <= 4_096,
+    }
+}
+
+fn are_small(chunk: u64, mutations: &[Mutation]) -> bool
+    ensures { IsTrue result → All (λ m. change.end_of chunk m < 2 ^ 64) mutations.now }
+{
+    mutations.iter().all(|mutation| is_small(chunk, mutation))
+}

@@ -1,0 +1,174 @@
+//! Random calls.
+
+use crate::numbers::Numbers;
+use bytes::Bytes;
+use gfs_types::call::Call;
+use gfs_types::ids::Fd;
+use gfs_types::lists::Text;
+use gfs_types::no_memory::NoMemory;
+use std::alloc::Global;
+
+/// What most name calls are on.
+const PATHS: [&str; 7] = ["/f", "/f", "/g", "/a", "/a", "/a/b", "/a/b/c"];
+
+/// Names that are there from the beginning, or that no call makes.
+const ODD_PATHS: [&str; 7] = ["/", "/.gone", "/.gone/x", "/a/", "a", "/x/y", "/a//b"];
+
+const DIRECTORIES: [&str; 5] = ["/", "/", "/a", "/a/b", "/f"];
+
+/// Draws the calls of a script one after another, from its seed.
+#[derive(Drop)]
+pub struct CallSource {
+    alloc: Global,
+    numbers: Numbers,
+    /// The bytes that a chunk may hold.
+    size: u64,
+}
+
+impl CallSource {
+    pub fn new(alloc: Global, seed: u64) -> CallSource {
+        let mut numbers = Numbers::new(seed);
+        let size = if numbers.chance(50) { 64 } else { 80 };
+        CallSource {
+            alloc,
+            numbers,
+            size,
+        }
+    }
+
+    /// The bytes that a chunk of this script's cell may hold.
+    pub fn size(&self) -> u64 {
+        self.size
+    }
+
+    /// How many lines the script has.
+    pub fn line_count(&mut self) -> u64 {
+        self.numbers.below(11).saturating_add(10)
+    }
+
+    /// The next call, where so many descriptors are open.
+    pub fn next(&mut self, descriptors: u64) -> Result<Call, NoMemory> {
+        let uses_file = if descriptors == 0 { 5 } else { 80 };
+        if descriptors == 0 && self.numbers.chance(85) {
+            self.first_call()
+        } else if self.numbers.chance(uses_file) {
+            self.file_call(descriptors)
+        } else {
+            self.name_call()
+        }
+    }
+
+    /// What leads to an open file.
+    fn first_call(&mut self) -> Result<Call, NoMemory> {
+        let path = Text::from_str("/f", self.alloc)?;
+        Ok(if self.numbers.chance(60) {
+            Call::Create(path)
+        } else {
+            Call::Open(path)
+        })
+    }
+
+    fn name_call(&mut self) -> Result<Call, NoMemory> {
+        let path = if self.numbers.chance(85) {
+            self.numbers.pick(&PATHS)
+        } else {
+            self.numbers.pick(&ODD_PATHS)
+        };
+        let path = Text::from_str(path, self.alloc)?;
+        Ok(match self.numbers.below(10) {
+            0..2 => Call::Mkdir(path),
+            2..5 => Call::Create(path),
+            5..8 => Call::Open(path),
+            _ => {
+                let directory = self.numbers.pick(&DIRECTORIES);
+                Call::List(Text::from_str(directory, self.alloc)?)
+            }
+        })
+    }
+
+    fn file_call(&mut self, descriptors: u64) -> Result<Call, NoMemory> {
+        let fd = if self.numbers.chance(95) {
+            Fd(self.numbers.below(descriptors).saturating_add(1))
+        } else {
+            Fd(self.numbers.below(descriptors.saturating_add(3)))
+        };
+        Ok(match self.numbers.below(10) {
+            0..4 => Call::Append(fd, self.record()?),
+            4..6 => Call::Write(fd, self.offset(), self.bytes()?),
+            6 => Call::Length(fd),
+            _ => Call::Read(fd, self.offset(), self.count()),
+        })
+    }
+
+    /// A place in one of the first chunks, mostly in the first one, and seldom a very great one.
+    fn offset(&mut self) -> u64 {
+        let index = match self.numbers.below(10) {
+            0..7 => 0,
+            7..9 => 1,
+            _ => self.numbers.below(5),
+        };
+        let start = match self.numbers.below(10) {
+            0..5 => 0,
+            5..8 => self.numbers.below(20),
+            _ => self.numbers.below(self.size),
+        };
+        match self.numbers.below(50) {
+            0 => u64::MAX,
+            1 => 9_007_199_254_740_991,
+            _ => self.size.saturating_mul(index).saturating_add(start),
+        }
+    }
+
+    /// Up to a chunk and more, seldom a very great count.
+    fn count(&mut self) -> u64 {
+        match self.numbers.below(50) {
+            0 => u64::MAX,
+            1 => 0,
+            2..4 => self.numbers.below(100),
+            4..10 => self.size,
+            _ => self.numbers.below(20),
+        }
+    }
+
+    /// Data of a write: a few bytes, seldom as many as a chunk and more.
+    fn bytes(&mut self) -> Result<Bytes, NoMemory> {
+        let length = match self.numbers.below(10) {
+            0..2 => self.numbers.below(84),
+            2 => 0,
+            _ => self.numbers.below(12),
+        };
+        self.data(length)
+    }
+
+    /// A record, most times one that is not too long.
+    fn record(&mut self) -> Result<Bytes, NoMemory> {
+        let length = match self.numbers.below(20) {
+            0 => 0,
+            1 => self.numbers.below(30),
+            2..8 => self.size / 4,
+            _ => self.numbers.below(17),
+        };
+        self.data(length)
+    }
+
+    /// So many equal bytes, or any bytes that a script's word may have but the `*` of the short form.
+    fn data(&mut self, length: u64) -> Result<Bytes, NoMemory> {
+        let are_equal = self.numbers.chance(50);
+        let mut byte = self.printable();
+        let mut data = Vec::new(self.alloc);
+        for _ in 0..length {
+            if !are_equal {
+                byte = self.printable();
+            }
+            data.push(byte)?;
+        }
+        Ok(Bytes::copy_from_slice(self.alloc, data.as_slice())?)
+    }
+
+    fn printable(&mut self) -> u8 {
+        match u8::try_from(self.numbers.below(94).saturating_add(33)) {
+            Ok(b'*') | Err(_) => b'+',
+            Ok(byte) => byte,
+        }
+    }
+}
