@@ -2,15 +2,7 @@
 #![tactic(auto)]
 
 #[cfg(test)]
-mod appends;
-#[cfg(test)]
-mod chunks;
-#[cfg(test)]
 mod counts;
-#[cfg(test)]
-mod files;
-#[cfg(test)]
-mod late;
 #[cfg(test)]
 mod lists;
 #[cfg(test)]
