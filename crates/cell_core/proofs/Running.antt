@@ -3,7 +3,8 @@ use Rattle.std.proofs.Common.{◌≡◌, List, [], ◌∷◌, ◌++◌, Option, 
 use Rattle.std.proofs.lemmas.List.{append-nil}
 use Rattle.gfs_types.specs.declared.answer.Answer.{Answer}
 use Rattle.messages.specs.declared.event.Event.{Event}
-use Rattle.cell_protocol.specs.World.{WorldState, IsExplained}
+use Rattle.cell_protocol.specs.World.{WorldState}
+use Rattle.cell_protocol.specs.Explained.{IsExplained}
 use Rattle.cell_protocol.specs.Conforms.{WorldSteps, WorldRuns}
 use Rattle.cell_protocol.proofs.Reached.{reached_on, runs_none, runs_step}
 use Rattle.cell_refinement.proofs.WorldRuns.{answers_are_a_run}

@@ -1,6 +1,8 @@
 //! The nodes, the messages between them, and the observer.
 
-ghost use Rattle.std.specs.Prelude.{◌≡◌, ◌≤◌, ◌<◌, ◌++◌, Some, None, false, IfOk, OnOk, OnErr};
+ghost use Rattle.std.specs.Prelude.{◌≡◌, ◌≤◌, ◌<◌, ◌++◌, Some, None, false, IfOk, OnOk, OnErr, option_map};
+ghost use Rattle.cell_protocol.specs.Sending.{file_id};
+ghost use Rattle.cell_protocol.specs.Shown.{file_at, regions_at, replicas_at};
 ghost use Rattle.messages.specs.declared.event.Event.TheVariants as event;
 ghost use Rattle.gfs_types.specs.declared.ids.Node.TheVariants as node_kind;
 ghost use Rattle.cell_protocol.specs.Doing.{input_of, message_named};
@@ -13,17 +15,21 @@ ghost use Rattle.cell_protocol.specs.Conforms.{WorldSteps};
 ghost use Rattle.cell_core.specs.Standing.{Calls};
 
 use crate::network::Network;
+use crate::shown::{handle_at, regions};
 use crate::watch::Watch;
 use cell_protocol::effects::Outcome;
 use cell_protocol::limits::MOMENT_LIMIT;
+use cell_protocol::shown::StoredReplica;
 use client::client::Client;
 use gfs_types::answer::Answer;
 use gfs_types::call::Call;
 use gfs_types::config::Config;
-use messages::event::{Event, StepOut};
-use gfs_types::ids::{Moment, Node};
+use gfs_types::ids::{FileId, Handle, Moment, Node};
 use gfs_types::no_memory::NoMemory;
+use gfs_types::path::Path;
 use master_cell::master::{Master, NamesFault};
+use messages::event::{Event, StepOut};
+use relaxed_file::region::Region;
 use server_cell::server::Server;
 use std::alloc::{Allocator, Global};
 use std::marker::Model;
@@ -84,6 +90,50 @@ impl<A: Allocator + Clone> Cell<A> {
         ensures { result.now ≡ self.now.sent }
     {
         &self.network
+    }
+
+    /// The file that a path names, while the master is up.
+    pub fn file(&self, path: &Path) -> Option<FileId>
+        ensures { result ≡ option_map file_id (file_at self.now path.now) }
+    {
+        self.master.as_ref()?.file(path)
+    }
+
+    /// The regions of a file's chunk of this index, if it has one.
+    pub fn regions(
+        &self,
+        alloc: Global,
+        file: FileId,
+        index: u64,
+    ) -> Result<Option<Vec<Region>>, NoMemory>
+        ensures { IfOk result (λ found. option_map (λ v. v.items) found ≡ regions_at self.now file.0 index) }
+    {
+        let Some(handle) = handle_at(self.watch.added(), file, index) else {
+            return Ok(None);
+        };
+        let chunk = u64::from(self.config.chunk);
+        Ok(Some(regions(alloc, chunk, self.watch.placed(), handle)?))
+    }
+
+    /// The handle of a file's chunk of this index, if it has one, and the replicas on servers that are up.
+    pub fn replicas(
+        &self,
+        alloc: Global,
+        file: FileId,
+        index: u64,
+    ) -> Result<Option<(Handle, Vec<StoredReplica>)>, NoMemory>
+        ensures { IfOk result (λ found. option_map (λ c. (c.0, c.1.items)) found ≡ replicas_at self.now file.0 index) }
+    {
+        let Some(handle) = handle_at(self.watch.added(), file, index) else {
+            return Ok(None);
+        };
+        let mut stored = Vec::new(alloc);
+        if let Some(server) = &self.server {
+            if let Some(replica) = server.stored(handle) {
+                stored.push(replica)?;
+            }
+        }
+        Ok(Some((handle, stored)))
     }
 
     /// One event. One that names no such node, message or moment, or a node that is down, changes nothing.
@@ -198,12 +248,13 @@ impl<A: Allocator + Clone> Cell<A> {
             self.master = None;
             return None;
         }
-        let out = master.step(now, message);
+        let Outcome { out, seen } = master.step(now, message);
         let Ok((answer, _)) = sends(&mut self.network, self.alloc, out) else {
             self.master = None;
             return None;
         };
         self.watch.passes(self.config.skew_ms, now);
+        self.watch.sees(seen);
         answer
     }
 

@@ -6,9 +6,9 @@ ghost use Rattle.cell_protocol.specs.Tables.{numbered_from_1};
 ghost use Rattle.cell_protocol.specs.Doing.{message_named};
 ghost use Rattle.cell_protocol.specs.World.{all_sent, stamped};
 
+use gfs_types::no_memory::NoMemory;
 use messages::message::Message;
 use messages::message_lists::MessageList;
-use gfs_types::no_memory::NoMemory;
 use std::alloc::Global;
 use std::marker::Model;
 

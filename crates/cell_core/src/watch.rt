@@ -1,13 +1,14 @@
 //! The observer of a cell, with room for what the next event shows. No node reads it (section 2.7).
 
-ghost use Rattle.std.specs.Prelude.{◌≡◌, ◌+◌, ◌<◌, ◌≤◌, OnOk, IfOk};
+ghost use Rattle.std.specs.Prelude.{◌≡◌, ◌+◌, ◌<◌, ◌≤◌, All, OnOk, IfOk};
+ghost use Rattle.cell_protocol.specs.Bounds.{IsWithin, AllSeenWithin};
 ghost use Rattle.cell_protocol.specs.Observer.{new_observer, observed_moment, observed_call, observed_answer, observed};
 ghost use Rattle.cell_protocol.specs.Tables.{moment_limit};
 
-use crate::placings::Placings;
+use crate::recorded::Recorded;
 use crate::sights::Trace;
 use cell_protocol::observer::{Placed, Sight};
-use cell_protocol::seen::Numbering;
+use cell_protocol::seen::{AddedChunk, Seen};
 use gfs_types::answer::Answer;
 use gfs_types::call::Call;
 use gfs_types::ids::{ClientId, Moment};
@@ -21,18 +22,23 @@ const MOST_SIGHTS: usize = 4;
 #[derive(Drop)]
 pub struct Watch {
     trace: Trace,
-    placed: Placings,
+    placed: Recorded<Placed>,
+    added: Recorded<AddedChunk>,
     call_count: u64,
     greatest: u64,
     are_clocks_kept: bool,
 }
 
 impl Model for Watch {
+    ghost use Rattle.std.specs.Prelude.{All};
+    ghost use Rattle.cell_protocol.specs.Bounds.{IsWithin};
     ghost use Rattle.cell_core.specs.Capacity.{Watching};
 
     ghost Value = { Watching };
 
-    ghost view = { λ w. record { observer = record { trace = w.trace.items; placed = w.placed.items; call_count = w.call_count; greatest = w.greatest; are_clocks_kept = w.are_clocks_kept }; sights = w.trace.room; placings = w.placed.room } };
+    ghost view = { λ w. record { observer = record { trace = w.trace.items; placed = w.placed.items; added = w.added.items; call_count = w.call_count; greatest = w.greatest; are_clocks_kept = w.are_clocks_kept }; sights = w.trace.room; placings = w.placed.room; additions = w.added.room } };
+
+    ghost invariant = { λ w. All (λ p. IsWithin p.numbering.mutation) w.placed.items };
 }
 
 impl Watch {
@@ -43,7 +49,8 @@ impl Watch {
     {
         Ok(Watch {
             trace: Trace::new(alloc)?,
-            placed: Placings::new(alloc),
+            placed: Recorded::new(alloc),
+            added: Recorded::new(alloc),
             call_count: 0,
             greatest: 0,
             are_clocks_kept: true,
@@ -55,10 +62,12 @@ impl Watch {
         ensures observer { self.new.observer ≡ self.old.observer }
         ensures sights { OnOk result (4 ≤ self.new.sights) }
         ensures placings { OnOk result (0 < self.new.placings) }
+        ensures additions { OnOk result (0 < self.new.additions) }
         ensures room { self.old.sights ≤ self.new.sights }
     {
         self.trace.reserve(MOST_SIGHTS)?;
         self.placed.reserve()?;
+        self.added.reserve()?;
         Ok(())
     }
 
@@ -70,6 +79,7 @@ impl Watch {
         ensures observer { self.new.observer ≡ observed_moment skew_ms self.old.observer now.0 }
         ensures sights { self.old.sights ≤ self.new.sights + 1 }
         ensures placings { self.new.placings ≡ self.old.placings }
+        ensures additions { self.new.additions ≡ self.old.additions }
     {
         if self.greatest > now.0 + skew_ms {
             self.are_clocks_kept = false;
@@ -101,17 +111,36 @@ impl Watch {
         }
     }
 
-    /// A mutation got its place, if there is one.
-    pub fn sees(&mut self, numbering: Option<Numbering>)
-        requires { 0 < self.old.placings }
-        ensures observer { self.new.observer ≡ observed self.old.observer numbering }
+    /// A mutation got its place, or a chunk was added, if anything was seen.
+    pub fn sees(&mut self, seen: Option<Seen>)
+        requires placings { 0 < self.old.placings }
+        requires additions { 0 < self.old.additions }
+        requires within { AllSeenWithin seen }
+        ensures observer { self.new.observer ≡ observed self.old.observer seen }
         ensures sights { self.new.sights ≡ self.old.sights }
     {
-        if let Some(numbering) = numbering {
-            self.placed.push(Placed {
+        match seen {
+            Some(Seen::Numbered(numbering)) => self.placed.push(Placed {
                 call: self.call_count,
                 numbering,
-            });
+            }),
+            Some(Seen::Added(chunk)) => self.added.push(chunk),
+            None => {}
         }
+    }
+
+    /// The mutations of all chunks, in the order in which they were numbered.
+    pub fn placed(&self) -> &[Placed]
+        ensures placed { result.now ≡ self.now.observer.placed }
+        ensures within { All (λ p. IsWithin p.numbering.mutation) result.now }
+    {
+        self.placed.as_slice()
+    }
+
+    /// The chunks of all files, in the order in which they were added.
+    pub fn added(&self) -> &[AddedChunk]
+        ensures { result.now ≡ self.now.observer.added }
+    {
+        self.added.as_slice()
     }
 }

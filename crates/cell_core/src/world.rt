@@ -1,24 +1,31 @@
 //! A cell that a list of events led to.
 
-ghost use Rattle.std.specs.Prelude.{◌≡◌, ◌<◌, None, IfOk, OnOk, IfErr, OnErr, length};
+ghost use Rattle.std.specs.Prelude.{◌≡◌, ◌<◌, None, IfOk, OnOk, IfErr, OnErr, length, option_map};
 ghost use Rattle.std.specs.Result.{result_err};
 ghost use Rattle.gfs_types.specs.Settings.{first_out_of_range};
 ghost use Rattle.cell_core.specs.Starting.{IsWhy};
 ghost use Rattle.std.specs.Option.{option_copied};
 ghost use Rattle.cell_protocol.specs.Tables.{numbered_from_1};
 ghost use Rattle.cell_protocol.specs.Bounds.{Fits};
-ghost use Rattle.cell_protocol.specs.World.{new_world, IsExplained};
+ghost use Rattle.cell_protocol.specs.World.{new_world};
+ghost use Rattle.cell_protocol.specs.Explained.{IsExplained};
+ghost use Rattle.cell_protocol.specs.Sending.{file_id};
+ghost use Rattle.cell_protocol.specs.Shown.{file_at, regions_at, replicas_at};
 ghost use Rattle.cell_protocol.specs.Conforms.{WorldSteps, WorldRuns};
 
 use crate::answers::Answers;
 use crate::cell::Cell;
 use crate::fault::{RunFault, StartFault};
+use cell_protocol::shown::StoredReplica;
 use gfs_types::answer::Answer;
 use gfs_types::config::{Config, ConfigFault};
+use gfs_types::ids::{FileId, Handle};
+use gfs_types::no_memory::NoMemory;
+use gfs_types::path::Path;
+use master_cell::master::NamesFault;
 use messages::event::Event;
 use messages::message::Message;
-use gfs_types::no_memory::NoMemory;
-use master_cell::master::NamesFault;
+use relaxed_file::region::Region;
 use std::alloc::{Allocator, Global};
 use std::collections::VecDeque;
 use std::marker::Model;
@@ -98,6 +105,40 @@ impl<A: Allocator + Clone> World<A> {
             }
         }
         Ok(answers.into_vec())
+    }
+
+    /// The file that a path names; none where it names no file, and while the master is down.
+    pub fn file(&self, path: &Path) -> Option<FileId>
+        ensures { result ≡ option_map file_id (file_at self.now path.now) }
+    {
+        self.cell.file(path)
+    }
+
+    /// The regions of a file's chunk of this index, from 0: the maximal ranges below the greatest end of its mutations whose
+    /// bytes are all determined or all undetermined. None: the file has no such chunk. `NoMemory`: an allocator refused the
+    /// list (section 2.7.1).
+    pub fn regions(
+        &self,
+        alloc: Global,
+        file: FileId,
+        index: u64,
+    ) -> Result<Option<Vec<Region>>, NoMemory>
+        ensures { IfOk result (λ found. option_map (λ v. v.items) found ≡ regions_at self.now file.0 index) }
+    {
+        self.cell.regions(alloc, file, index)
+    }
+
+    /// The handle of a file's chunk of this index, from 0, and each replica that is stored on a server that is up, by rising
+    /// server. None: the file has no such chunk. `NoMemory`: an allocator refused the list.
+    pub fn replicas(
+        &self,
+        alloc: Global,
+        file: FileId,
+        index: u64,
+    ) -> Result<Option<(Handle, Vec<StoredReplica>)>, NoMemory>
+        ensures { IfOk result (λ found. option_map (λ c. (c.0, c.1.items)) found ≡ replicas_at self.now file.0 index) }
+    {
+        self.cell.replicas(alloc, file, index)
     }
 
     /// How many messages were sent so far, which is the last one's number.

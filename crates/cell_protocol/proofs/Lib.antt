@@ -1,3 +1,4 @@
 pub mod Reached
 pub mod Exits
 pub mod Goes
+pub mod Within

@@ -103,7 +103,7 @@ module _ (k : Known) (s s' : ClientState) (clients : ℕ → Client) (attempts :
   }
 
   same_chunks : SameChunks k (acting k clients attempts s')
-  same_chunks = record { names = refl; file_count = refl; counts = λ file. refl; owner = λ handle. refl; rounds = λ at. (refl, refl) }
+  same_chunks = record { names = refl; file_count = refl; counts = λ file. refl; added = refl; owner = λ handle. refl; rounds = λ at. (refl, refl) }
 
   machine_acting : IsMachine k → IsMachine (acting k clients attempts s')
   machine_acting h = record {
@@ -121,6 +121,7 @@ module _ (k : Known) (s s' : ClientState) (clients : ℕ → Client) (attempts :
     chunks = h.chunks;
     placed = All-weaker (IsEarlier (calls_made k.m)) (IsEarlier (clients only_client).call_count) (λ p h. (h.0, h.1, let a = h.2 in let b = t.made in omega arith)) k.placed h.placed;
     in_turn = t.in_turn h.in_turn;
+    added = h.added;
     unmade = h.unmade;
     untouched = h.untouched;
     unowned = h.unowned;

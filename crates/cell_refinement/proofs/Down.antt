@@ -74,7 +74,7 @@ module _ (k : Known) (om : Option MasterState) (os : Option ServerState) (oc : O
   }
 
   same_chunks : SameChunks k l
-  same_chunks = record { names = refl; file_count = refl; counts = λ file. refl; owner = λ handle. refl; rounds = λ at. (refl, refl) }
+  same_chunks = record { names = refl; file_count = refl; counts = λ file. refl; added = refl; owner = λ handle. refl; rounds = λ at. (refl, refl) }
 
   same_client : SameClient k l
   same_client = record {
@@ -106,6 +106,7 @@ module _ (k : Known) (om : Option MasterState) (os : Option ServerState) (oc : O
     chunks = h.chunks;
     placed = h.placed;
     in_turn = in_turn_stays k l later (λ seq. refl) h.in_turn;
+    added = h.added;
     unmade = h.unmade;
     untouched = h.untouched;
     unowned = h.unowned;

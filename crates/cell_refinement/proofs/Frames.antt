@@ -22,7 +22,7 @@ use Rattle.cell_protocol.specs.Server.{ServerState, Replica}
 use Rattle.cell_protocol.specs.Master.{MasterState}
 use Rattle.cell_protocol.specs.MasterNames.{reply_of}
 use Rattle.cell_protocol.specs.Client.{ClientState}
-use Rattle.cell_protocol.specs.Observer.{entries_of}
+use Rattle.cell_protocol.specs.Observer.{entries_of, chunks_of}
 use Rattle.cell_refinement.specs.Known.{Known, Spot, Attempt, HasNoEntry, IsChunkCall, IsMutationCall, IsReadOf, kept_seq, open_call_of, the_client_of, calls_made, chunk_of}
 use Rattle.gfs_types.specs.declared.ids.DataId.{DataId}
 use Rattle.std.proofs.lemmas.List.Elements.{All-weaker}
@@ -35,6 +35,7 @@ pub record SameChunks (k l : Known) : Type 0 where
   pub names : l.m.names ≡ k.m.names
   pub file_count : l.m.file_count ≡ k.m.file_count
   pub counts : (file : ℕ) → chunk_count l.m file ≡ chunk_count k.m file
+  pub added : l.added ≡ k.added
   pub owner : (handle : ℕ) → l.owner handle ≡ k.owner handle
   pub rounds : (at : Spot) → ((chunk_of l.m at).round ≡ (chunk_of k.m at).round) × ((chunk_of l.m at).is_open ≡ (chunk_of k.m at).is_open)
 
@@ -56,8 +57,7 @@ master_same k l s t f h = record {
   names = h.names ∙ sym f.names;
   next_file = h.next_file ∙ sym (ap suc f.file_count);
   files = λ file there.
-      let old = h.files file (there.0, let a = there.1 in let b = f.file_count in omega arith) in
-      (old.0, old.1, record { count = old.2.count ∙ sym (f.counts file); owner = λ index handle is. f.owner handle ∙ old.2.owner index handle is });
+      h.files file (there.0, let a = there.1 in let b = f.file_count in omega arith) ∙ ap (λ chunks. Some (chunks_of chunks file)) (sym f.added);
   rows = λ handle row is.
       let old = h.rows handle row is in
       (old.0, f.owner handle ∙ old.1, row_same row (chunk_of k.m old.0) (chunk_of l.m old.0) (f.rounds old.0).0 (f.rounds old.0).1 old.2);

@@ -81,7 +81,7 @@ module _ (change : OpenCall → OpenCall) (f : Learns change) where
     later_learning = later_quiet k (learning k change) quiet
 
     same_chunks : SameChunks k (learning k change)
-    same_chunks = record { names = refl; file_count = refl; counts = λ file. refl; owner = λ handle. refl; rounds = λ at. (refl, refl) }
+    same_chunks = record { names = refl; file_count = refl; counts = λ file. refl; added = refl; owner = λ handle. refl; rounds = λ at. (refl, refl) }
 
     same_client : SameClient k (learning k change)
     same_client = record {
@@ -122,6 +122,7 @@ module _ (change : OpenCall → OpenCall) (f : Learns change) where
       placed = h.placed;
       in_turn = h.in_turn;
       attempts = λ seq a is. (attempt_learning a (h.attempts seq a is).0, (h.attempts seq a is).1);
+      added = h.added;
       unmade = h.unmade;
       untouched = h.untouched;
       unowned = h.unowned;

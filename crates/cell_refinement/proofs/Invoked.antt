@@ -62,7 +62,7 @@ module _ (k : Known) (x : Call) (down : k.client ≡ None) (free : open_call_of 
   }
 
   same_chunks : SameChunks k made_open
-  same_chunks = record { names = refl; file_count = refl; counts = λ file. refl; owner = λ handle. refl; rounds = λ at. (refl, refl) }
+  same_chunks = record { names = refl; file_count = refl; counts = λ file. refl; added = refl; owner = λ handle. refl; rounds = λ at. (refl, refl) }
 
   attempt_made : (a : Attempt) → IsAttempt k a → IsAttempt made_open a
   attempt_made a g = record { at = g.at; owned = g.owned; asked = g.asked; made = old_call a.call g.asked g.made; file = g.file; fits = g.fits; number = let l = g.number in omega arith }
@@ -99,6 +99,7 @@ module _ (k : Known) (x : Call) (down : k.client ≡ None) (free : open_call_of 
     placed = All-weaker (λ (p : Placed). (p.numbering.version.0 ≡ 1) × (p.numbering.data_id.client.0 ≡ only_client) × (p.call ≤ calls_made k.m)) (λ (p : Placed). (p.numbering.version.0 ≡ 1) × (p.numbering.data_id.client.0 ≡ only_client) × (p.call ≤ suc (calls_made k.m)))
         (λ p g. (g.0, g.1, let l = g.2 in omega arith)) k.placed h.machine.placed;
     in_turn = h.machine.in_turn;
+    added = h.machine.added;
     unmade = h.machine.unmade;
     untouched = h.machine.untouched;
     unowned = h.machine.unowned;

@@ -26,6 +26,7 @@ mod MasterNaming
 mod MasterTells
 mod MasterGrants
 mod MasterNeeds
+mod Adding
 mod MasterAdds
 mod MasterTakes
 mod ClientActs
@@ -45,4 +46,5 @@ mod ClientInvokes
 mod Invoked
 mod WorldClient
 mod WorldEvents
+mod Explaining
 pub mod WorldRuns

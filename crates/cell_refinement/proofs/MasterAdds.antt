@@ -2,6 +2,7 @@
 use Rattle.std.proofs.Common.{◌≡◌, ℕ, zero, suc, ◌<◌, ◌≤◌, Bool, true, false, List, [], ◌∷◌, ◌++◌, length, Option, Some, None, refl, sym, ap, ◌∙◌, subst, inl, inr, arith, append-nil, length-append}
 use Rattle.std.specs.Prelude.{Contains, IsFalse, ◌⊎◌, ◌==◌, slice_get, if◌then◌else◌, option_map, unwrap_or, option_and_then}
 use Rattle.std.proofs.lemmas.List.Elements.{All-nil, All-cons}
+use Rattle.std.proofs.lemmas.Bool.{cases_eq}
 use Rattle.std.specs.FinMap as table
 use Rattle.gfs_types.specs.declared.ids.Node.TheVariants as node
 use Rattle.gfs_types.specs.declared.call.Call.{Call}
@@ -14,13 +15,15 @@ use Rattle.relaxed_file.proofs.GoingOn.{runs_go_on}
 use Rattle.cell_protocol.specs.declared.rows.ChunkRow.{ChunkRow}
 use Rattle.cell_protocol.specs.Sending.{message}
 use Rattle.cell_protocol.specs.Master.{MasterState, new_row}
-use Rattle.cell_protocol.specs.MasterAsks.{Asker, with_chunk, create_message, adds_chunk}
-use Rattle.cell_protocol.specs.Observer.{entries_of}
+use Rattle.cell_protocol.specs.declared.seen.AddedChunk.{AddedChunk}
+use Rattle.cell_protocol.specs.MasterAsks.{Asker, with_chunk, create_message, added_chunk, adds_chunk}
+use Rattle.cell_protocol.specs.Observer.{entries_of, chunks_of}
 use Rattle.cell_refinement.specs.Known.{Known, Spot, open_call_of, the_client_of, chunk_of, call_id}
 use Rattle.cell_refinement.specs.Says.{Says, IsNumbered, IsReadable, IsAnew, IsUntil, IsNameOf}
 use Rattle.cell_refinement.specs.Simulates.{IsMaster, IsChunkAt, IsBefore, IsGoing, IsFileOf, IsRow, Holds}
 use Rattle.cell_refinement.proofs.Later.{Grows}
 use Rattle.cell_refinement.proofs.Frames.{GoesOn, kept_call_same}
+use Rattle.cell_refinement.proofs.Adding.{one_more_chunk, other_chunks}
 use Rattle.cell_refinement.proofs.Serving.{at_insert}
 use Rattle.cell_refinement.proofs.MasterMoves.{moved, MasterOutcome, Builds, Moves, later_moved, moves}
 use Rattle.cell_refinement.proofs.MasterSteps.{old}
@@ -69,7 +72,7 @@ pushed_get (z ∷ zs) x (suc i) y is =
     ]
 
 module _ (k : Known) (s : MasterState) (up : k.master ≡ Some s) (sent : List Message) (trace : List Visible) (h : Holds k sent trace)
-    (file : ℕ) (handles : List ℕ) (has : table.get s.files file ≡ Some handles) (of : IsFileOf k file handles) (number : ℕ) (asked : Asked)
+    (file : ℕ) (handles : List ℕ) (all : handles ≡ chunks_of k.added file) (of : IsFileOf k file handles) (number : ℕ) (asked : Asked)
     (called : (the_client_of k.m).calls number ≡ Some asked) (on : asked.file ≡ Some file) (needs : NeedsChunk k.m (call_id number) file asked.call) (there : IsReadable k file) where
   was : IsMaster k s
   was = old k s up sent trace h
@@ -88,6 +91,9 @@ module _ (k : Known) (s : MasterState) (up : k.master ≡ Some s) (sent : List M
 
   abbrev s' : MasterState
   s' = with_chunk s file handles
+
+  abbrev more : List AddedChunk
+  more = k.added ++ added_chunk file s.next_handle ∷ []
 
   run : IsRunTo k.config trace added
   run =
@@ -131,14 +137,14 @@ module _ (k : Known) (s : MasterState) (up : k.master ≡ Some s) (sent : List M
   new_there : chunk_of added to ≡ new_chunk
   new_there = chunks to ∙ h.machine.untouched to (omega arith)
 
-  chunk_here : (handle : ℕ) (at : Spot) → handle ≡ s.next_handle → to ≡ at → IsChunkAt (moved k added owner s') handle at
-  chunk_here handle at e f = subst (IsChunkAt (moved k added owner s') handle) f (record {
+  chunk_here : (handle : ℕ) (at : Spot) → handle ≡ s.next_handle → to ≡ at → IsChunkAt (moved k added owner more s') handle at
+  chunk_here handle at e f = subst (IsChunkAt (moved k added owner more s') handle) f (record {
     within = (let c = count_more in omega arith);
     order = ap (λ (c : Chunk). c.order) new_there ∙ sym (h.machine.unowned handle (ap k.owner e ∙ fresh));
     round = inl (subst IsBefore (sym new_there) (refl, refl, refl));
   })
 
-  chunk_there : (handle : ℕ) (at : Spot) → k.owner handle ≡ Some at → IsChunkAt (moved k added owner s') handle at
+  chunk_there : (handle : ℕ) (at : Spot) → k.owner handle ≡ Some at → IsChunkAt (moved k added owner more s') handle at
   chunk_there handle at is =
       let x : IsChunkAt k handle at = h.machine.owned handle at is in
       record {
@@ -163,30 +169,56 @@ module _ (k : Known) (s : MasterState) (up : k.master ≡ Some s) (sent : List M
       (λ e' y. absurd (not_there f at x (let z : Some to ≡ Some at = y in cc)))
       (λ other' y. h.machine.owners f g at x y))
 
-  builds : Builds k added owner s'
+  chunks_here : chunks_of more file ≡ handles ++ s.next_handle ∷ []
+  chunks_here = one_more_chunk k.added (added_chunk file s.next_handle) ∙ ap (λ hs. hs ++ s.next_handle ∷ []) (sym all)
+
+  chunks_there : (q : ℕ) → (q ≡ file → ⊥) → chunks_of more q ≡ chunks_of k.added q
+  chunks_there q other = other_chunks k.added (added_chunk file s.next_handle) q other
+
+  file_here : IsFileOf (moved k added owner more s') file (handles ++ s.next_handle ∷ [])
+  file_here = record {
+    count = (let a = of.count in let b = count_more in let c = length-append handles (s.next_handle ∷ []) in omega arith);
+    owned = λ index handle is. elim (pushed_get handles s.next_handle index handle is) [
+      | inl x ↦ owner_stays handle (record { file = file; index = index }) (of.owned index handle x)
+      | inr x ↦ ap owner (sym x.1) ∙ new_owner ∙ ap (λ n. Some (record { file = file; index = n })) (sym (x.0 ∙ of.count))
+    ];
+  }
+
+  file_there : (q : ℕ) (hs : List ℕ) → (q ≡ file → ⊥) → IsFileOf k q hs → IsFileOf (moved k added owner more s') q hs
+  file_there q hs other x = record { count = x.count ∙ sym (count_other q other); owned = λ index handle is. owner_stays handle (record { file = q; index = index }) (x.owned index handle is) }
+
+  -- each file's chunks are those that were seen added
+  file_after : (q : ℕ) → IsFileOf (moved k added owner more s') q (chunks_of more q)
+  file_after q = elim (cases_eq q file) [
+    | inl e ↦ subst (λ n. IsFileOf (moved k added owner more s') n (chunks_of more n)) (sym e) (subst (IsFileOf (moved k added owner more s') file) (sym chunks_here) file_here)
+    | inr other ↦ subst (IsFileOf (moved k added owner more s') q) (sym (chunks_there q other)) (file_there q (chunks_of k.added q) other (h.machine.added q))
+  ]
+
+  builds : Builds k added owner more s'
   builds = record {
     names = h.machine.names;
     files = omega arith;
     counts = counts;
     stays = λ q. put_cases (λ (f : FileState). IsFalse f.is_collected) file state k.m.files q (λ e. h.machine.stays file) (λ e. h.machine.stays q);
     owner_stays = owner_stays;
-    owned = λ handle at. put_cases (λ o. o ≡ Some at → IsChunkAt (moved k added owner s') handle at) s.next_handle (Some to) k.owner handle
+    owned = λ handle at. put_cases (λ o. o ≡ Some at → IsChunkAt (moved k added owner more s') handle at) s.next_handle (Some to) k.owner handle
         (λ e x. chunk_here handle at e (let z : Some to ≡ Some at = x in cc)) (λ other x. chunk_there handle at x);
     owners = owners;
     orders = λ at. ap (λ (c : Chunk). c.order) (chunks at);
     rounds = λ at a b. (ap (λ (c : Chunk). c.round) (chunks at) ∙ a, ap (λ (c : Chunk). c.is_open) (chunks at) ∙ b);
+    chunks = file_after;
     unmade = λ q past. count_other q (λ e. let a = there.1 in omega (arith, a, e, past)) ∙ h.machine.unmade q past;
     untouched = λ at past. chunks at ∙ h.machine.untouched at (let c = counts at.file in omega arith);
     unowned = λ handle. put_cases (λ o. o ≡ None → entries_of k.placed handle ≡ []) s.next_handle (Some to) k.owner handle
         (λ e x. absurd (let z : Some to ≡ None = x in cc)) (λ other x. h.machine.unowned handle x);
   }
 
-  anew_added : (number' deadline : ℕ) (c : Call) → IsAnew k number' c → IsUntil k deadline → IsNameOf (moved k added owner s') number' deadline c s'
+  anew_added : (number' deadline : ℕ) (c : Call) → IsAnew k number' c → IsUntil k deadline → IsNameOf (moved k added owner more s') number' deadline c s'
   anew_added number' deadline c x u =
       let now = begun_at number (open_call_of k.m) x.0 x.1 in
       inr (inr ((now.0, now.1, now.3.number ∙ x.2, ap (λ (a : Asked). a.call) now.3.asked ∙ x.3, now.2 ∙ x.4, x.5), u))
 
-  changes : Moves k added owner s s'
+  changes : Moves k added owner more s s'
   changes = record {
     config = refl;
     clock = refl;
@@ -201,23 +233,11 @@ module _ (k : Known) (s : MasterState) (up : k.master ≡ Some s) (sent : List M
     anew = anew_added;
   }
 
-  file_here : IsFileOf (moved k added owner s') file (handles ++ s.next_handle ∷ [])
-  file_here = record {
-    count = (let a = of.count in let b = count_more in let c = length-append handles (s.next_handle ∷ []) in omega arith);
-    owner = λ index handle is. elim (pushed_get handles s.next_handle index handle is) [
-      | inl x ↦ owner_stays handle (record { file = file; index = index }) (of.owner index handle x)
-      | inr x ↦ ap owner (sym x.1) ∙ new_owner ∙ ap (λ n. Some (record { file = file; index = n })) (sym (x.0 ∙ of.count))
-    ];
-  }
-
-  file_there : (q : ℕ) (hs : List ℕ) → (q ≡ file → ⊥) → IsFileOf k q hs → IsFileOf (moved k added owner s') q hs
-  file_there q hs other x = record { count = x.count ∙ sym (count_other q other); owner = λ index handle is. owner_stays handle (record { file = q; index = index }) (x.owner index handle is) }
-
-  files_after : (q : ℕ) → IsReadable k q → (hs : List ℕ) × (table.get (table.insert s.files file (handles ++ s.next_handle ∷ [])) q ≡ Some hs) × IsFileOf (moved k added owner s') q hs
+  files_after : (q : ℕ) → IsReadable k q → table.get (table.insert s.files file (handles ++ s.next_handle ∷ [])) q ≡ Some (chunks_of more q)
   files_after q =
-      at_insert (λ q o. IsReadable k q → (hs : List ℕ) × (o ≡ Some hs) × IsFileOf (moved k added owner s') q hs) s.files file (handles ++ s.next_handle ∷ [])
-      (λ r. (handles ++ s.next_handle ∷ [], refl, file_here))
-      (λ q other r. let x = was.files q r in (x.0, x.1, file_there q x.0 other x.2))
+      at_insert (λ q o. IsReadable k q → o ≡ Some (chunks_of more q)) s.files file (handles ++ s.next_handle ∷ [])
+      (λ r. ap Some (sym chunks_here))
+      (λ q other r. was.files q r ∙ ap Some (sym (chunks_there q other)))
       q
 
   rows_after : (q : ℕ) (row : ChunkRow) → table.get (table.insert s.chunks s.next_handle new_row) q ≡ Some row → (at : Spot) × (owner q ≡ Some at) × IsRow row (chunk_of added at)
@@ -227,7 +247,7 @@ module _ (k : Known) (s : MasterState) (up : k.master ≡ Some s) (sent : List M
       (λ q other row is. let x = was.rows q row is in (x.0, owner_stays q x.0 x.1, subst (IsRow row) (sym (chunks x.0)) x.2))
       q
 
-  master_after : IsMaster (moved k added owner s') s'
+  master_after : IsMaster (moved k added owner more s') s'
   master_after = record {
     config = was.config;
     now = was.now;
@@ -236,7 +256,7 @@ module _ (k : Known) (s : MasterState) (up : k.master ≡ Some s) (sent : List M
     files = files_after;
     rows = rows_after;
     fresh = λ handle at. put_cases (λ o. o ≡ Some at → handle < suc s.next_handle) s.next_handle (Some to) k.owner handle (λ e x. omega (arith, e)) (λ other x. let a = was.fresh handle at x in omega arith);
-    kept = kept_call_same k (moved k added owner s') (later_moved k added owner s s' up builds changes) s.kept was.kept;
+    kept = kept_call_same k (moved k added owner more s') (later_moved k added owner more s s' up builds changes) s.kept was.kept;
   }
 
   pub adds_so : (a : Asker) → IsNumbered k a.number → MasterOutcome k (adds_chunk s a file handles) sent trace
@@ -244,7 +264,8 @@ module _ (k : Known) (s : MasterState) (up : k.master ≡ Some s) (sent : List M
     m = added;
     owner = owner;
     made = refl;
-    holds = moves k added owner s s' up builds changes sent trace run master_after h;
-    says = All-cons (Says (moved k added owner s')) (create_message s) (message node.Master a.client (body.Wait a.number) ∷ []) refl
-        (All-cons (Says (moved k added owner s')) (message node.Master a.client (body.Wait a.number)) [] numbered (All-nil (Says (moved k added owner s'))));
+    placed = λ number. refl;
+    holds = moves k added owner more s s' up builds changes sent trace run master_after h;
+    says = All-cons (Says (moved k added owner more s')) (create_message s) (message node.Master a.client (body.Wait a.number) ∷ []) refl
+        (All-cons (Says (moved k added owner more s')) (message node.Master a.client (body.Wait a.number)) [] numbered (All-nil (Says (moved k added owner more s'))));
   }

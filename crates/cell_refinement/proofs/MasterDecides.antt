@@ -52,7 +52,7 @@ has_gained outcome o oc' is = let old = gained_from outcome o oc' is in subst (�
 -- All that the machine's client sees is one more outcome.
 pub moves_decided : (k : Known) (s s' : MasterState) (names : Names) (count : ℕ) (files : ℕ → FileState) (outcome : Outcome) → IsMachine k → k.m.file_count ≤ count
     → ((file : ℕ) → outcome ≡ Opens file → (1 ≤ file) × (file ≤ count)) → kept_number s.kept ≤ kept_number s'.kept
-    → ((number : ℕ) (c : Call) → IsAnew k number c → number ≤ kept_number s'.kept) → Moves k (decided k.m names count files outcome) k.owner s s'
+    → ((number : ℕ) (c : Call) → IsAnew k number c → number ≤ kept_number s'.kept) → Moves k (decided k.m names count files outcome) k.owner k.added s s'
 moves_decided k s s' names count files outcome h more opens kept anew = record {
   config = refl;
   clock = refl;

@@ -1,5 +1,5 @@
 -- The master takes a Recorded: it grants the chunk's lease, and the machine opens the chunk's round 1.
-use Rattle.std.proofs.Common.{◌≡◌, ℕ, ◌<◌, ◌≤◌, true, false, cond, List, Option, Some, None, refl, sym, ap, ◌∙◌, subst, inl, inr, arith, append-nil}
+use Rattle.std.proofs.Common.{◌≡◌, ℕ, ◌<◌, ◌≤◌, true, false, cond, List, [], ◌∷◌, Option, Some, None, refl, sym, ap, ◌∙◌, subst, inl, inr, arith, append-nil}
 use Rattle.std.specs.Prelude.{IsFalse, ◌⊎◌, ◌==◌, ◌&&◌}
 use Rattle.std.specs.FinMap as table
 use Rattle.messages.specs.declared.message.Message.{Message}
@@ -11,12 +11,12 @@ use Rattle.cell_protocol.specs.Seen.{stays}
 use Rattle.cell_protocol.specs.Master.{MasterState}
 use Rattle.cell_protocol.specs.MasterVersions.{granted_row, with_granted, grant_message, grants, learns, takes_recorded}
 use Rattle.cell_refinement.specs.Known.{Known, Spot, open_call_of, chunk_of}
-use Rattle.cell_refinement.specs.Simulates.{IsMaster, IsChunkAt, IsBefore, IsGoing, IsFileOf, IsRow, Holds}
+use Rattle.cell_refinement.specs.Simulates.{IsMaster, IsChunkAt, IsBefore, IsGoing, IsRow, Holds}
 use Rattle.cell_refinement.proofs.Frames.{kept_call_same}
 use Rattle.cell_refinement.proofs.Quiet.{goes_on_refl, anew_same}
 use Rattle.cell_refinement.proofs.Serving.{at_insert}
 use Rattle.cell_refinement.proofs.ServerSteps.{one}
-use Rattle.cell_refinement.proofs.MasterMoves.{moved, MasterOutcome, Builds, Moves, later_moved, moves}
+use Rattle.cell_refinement.proofs.MasterMoves.{moved, MasterOutcome, unseen, Builds, Moves, later_moved, moves}
 use Rattle.cell_refinement.proofs.MasterSteps.{old, stays_so}
 use Rattle.cell_refinement.proofs.MasterNaming.{put_cases}
 
@@ -64,7 +64,7 @@ module _ (k : Known) (s : MasterState) (up : k.master ≡ Some s) (sent : List M
   goes at (inr h) = chunk_cases IsGoing k.m to at opened (λ e. (refl, refl)) (λ other. h)
   goes at (inl e) = chunk_cases IsGoing k.m to at opened (λ e. (refl, refl)) (λ other. absurd (other e))
 
-  chunk_there : (handle' : ℕ) (at : Spot) → k.owner handle' ≡ Some at → IsChunkAt (moved k after k.owner s') handle' at
+  chunk_there : (handle' : ℕ) (at : Spot) → k.owner handle' ≡ Some at → IsChunkAt (moved k after k.owner k.added s') handle' at
   chunk_there handle' at is =
       let x : IsChunkAt k handle' at = h.machine.owned handle' at is in
       record {
@@ -73,7 +73,7 @@ module _ (k : Known) (s : MasterState) (up : k.master ≡ Some s) (sent : List M
         round = chunk_cases (λ c. IsBefore c ⊎ IsGoing c) k.m to at opened (λ e. inr (refl, refl)) (λ other. x.round);
       }
 
-  builds : Builds k after k.owner s'
+  builds : Builds k after k.owner k.added s'
   builds = record {
     names = h.machine.names;
     files = omega arith;
@@ -84,6 +84,7 @@ module _ (k : Known) (s : MasterState) (up : k.master ≡ Some s) (sent : List M
     owners = h.machine.owners;
     orders = orders;
     rounds = λ at a b. goes at (inr (a, b));
+    chunks = λ file. record { count = (h.machine.added file).count ∙ sym (count_same k.m to opened file); owned = (h.machine.added file).owned };
     unmade = λ file past. count_same k.m to opened file ∙ h.machine.unmade file past;
     untouched = λ at past.
         let l : chunk_count k.m at.file ≤ at.index = (let e = count_same k.m to opened at.file in omega arith) in
@@ -93,7 +94,7 @@ module _ (k : Known) (s : MasterState) (up : k.master ≡ Some s) (sent : List M
     unowned = h.machine.unowned;
   }
 
-  changes : Moves k after k.owner s s'
+  changes : Moves k after k.owner k.added s s'
   changes = record {
     config = refl;
     clock = refl;
@@ -105,7 +106,7 @@ module _ (k : Known) (s : MasterState) (up : k.master ≡ Some s) (sent : List M
     goes_on = goes_on_refl (open_call_of k.m);
     outcomes = h.machine.outcomes;
     kept = omega arith;
-    anew = λ number deadline c x u. anew_same k (moved k after k.owner s') number deadline c s' refl refl x u;
+    anew = λ number deadline c x u. anew_same k (moved k after k.owner k.added s') number deadline c s' refl refl x u;
   }
 
   rows_after : (q : ℕ) (row : ChunkRow) → table.get (table.insert s.chunks handle (granted_row s)) q ≡ Some row → (at : Spot) × (k.owner q ≡ Some at) × IsRow row (chunk_of after at)
@@ -117,31 +118,25 @@ module _ (k : Known) (s : MasterState) (up : k.master ≡ Some s) (sent : List M
       (x.0, x.1, chunk_cases (IsRow row) k.m to x.0 opened (λ e. absurd (other (h.machine.owners q handle to (x.1 ∙ ap Some e) own))) (λ differs. x.2)))
       q
 
-  file_there : (file : ℕ) (handles : List ℕ) → IsFileOf k file handles → IsFileOf (moved k after k.owner s') file handles
-  file_there file handles x = record { count = x.count ∙ sym (count_same k.m to opened file); owner = x.owner }
-
-  master_after : IsMaster (moved k after k.owner s') s'
+  master_after : IsMaster (moved k after k.owner k.added s') s'
   master_after = record {
     config = was.config;
     now = was.now;
     names = was.names;
     next_file = was.next_file;
-    files = λ file there. let x = was.files file there in (x.0, x.1, file_there file x.0 x.2);
+    files = was.files;
     rows = rows_after;
     fresh = was.fresh;
-    kept = kept_call_same k (moved k after k.owner s') (later_moved k after k.owner s s' up builds changes) s.kept was.kept;
+    kept = kept_call_same k (moved k after k.owner k.added s') (later_moved k after k.owner k.added s s' up builds changes) s.kept was.kept;
   }
 
   grants_now : MasterOutcome k (grants s handle) sent trace
-  grants_now = record {
-    m = after;
-    owner = k.owner;
-    made = refl;
-    holds = moves k after k.owner s s' up builds changes sent trace
-        (subst (λ t. IsRunTo k.config t after) (append-nil trace) (runs_go_on k.config trace k.m (OpenRound to.file to.index 1) h.run (within, before.1, let e = before.0 in omega arith)))
-        master_after h;
-    says = one (moved k after k.owner s') (grant_message s handle) (refl, (to, own, (goes to (inl refl)).0, (goes to (inl refl)).1));
-  }
+  grants_now =
+      unseen k after k.owner s' (grant_message s handle ∷ []) sent trace refl
+      (moves k after k.owner k.added s s' up builds changes sent trace
+      (subst (λ t. IsRunTo k.config t after) (append-nil trace) (runs_go_on k.config trace k.m (OpenRound to.file to.index 1) h.run (within, before.1, let e = before.0 in omega arith)))
+      master_after h)
+      (one (moved k after k.owner k.added s') (grant_message s handle) (refl, (to, own, (goes to (inl refl)).0, (goes to (inl refl)).1)))
 
 module _ (k : Known) (s : MasterState) (up : k.master ≡ Some s) (sent : List Message) (trace : List Visible) (h : Holds k sent trace) where
   was_before : (row : ChunkRow) (handle : ℕ) (at : Spot) → k.owner handle ≡ Some at → row.granted.0 ≡ 0 → IsRow row (chunk_of k.m at) → IsBefore (chunk_of k.m at) ⊎ IsGoing (chunk_of k.m at) → IsBefore (chunk_of k.m at)

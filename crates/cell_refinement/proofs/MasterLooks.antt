@@ -1,5 +1,5 @@
 -- The master takes a Look: the machine's open call, if it is that call, takes its name step.
-use Rattle.std.proofs.Common.{◌≡◌, ℕ, Bool, true, false, cond, List, Option, Some, None, refl, sym, ap, ◌∙◌, subst, inl, arith}
+use Rattle.std.proofs.Common.{◌≡◌, ℕ, Bool, true, false, cond, List, [], ◌∷◌, Option, Some, None, refl, sym, ap, ◌∙◌, subst, inl, arith}
 use Rattle.std.specs.Prelude.{Contains, IsTrue, ◌==◌, if◌then◌else◌}
 use Rattle.gfs_types.specs.declared.ids.Node.{Node as NodeId}
 use Rattle.gfs_types.specs.declared.call.Call.{Call}
@@ -21,7 +21,7 @@ use Rattle.cell_refinement.specs.Says.{Says, IsReadable, IsAnew, SaysLook, HasRe
 use Rattle.cell_refinement.specs.Simulates.{IsMachine, IsMaster, Holds}
 use Rattle.cell_refinement.proofs.Frames.{master_same}
 use Rattle.cell_refinement.proofs.ServerSteps.{one}
-use Rattle.cell_refinement.proofs.MasterMoves.{moved, MasterOutcome, Builds, Moves, builds_same, later_moved, moves}
+use Rattle.cell_refinement.proofs.MasterMoves.{moved, MasterOutcome, unseen, Builds, Moves, builds_same, later_moved, moves}
 use Rattle.cell_refinement.proofs.MasterSteps.{old, stays_so, tells}
 use Rattle.cell_refinement.proofs.MasterDecides.{decided, gained_from, has_gained, moves_decided, may_step, steps}
 
@@ -78,7 +78,7 @@ module _ (k : Known) (s : MasterState) (up : k.master ≡ Some s) (sent : List M
   came_is : came ≡ outcome_of k.m.names c
   came_is = ap (λ ns. outcome_of ns c) was.names
 
-  builds : Builds k after k.owner s
+  builds : Builds k after k.owner k.added s
   builds = builds_same k after s h.machine.names (omega arith) (λ file. refl) (λ at. refl) h.machine.stays h.machine
 
   call_is : (number' : ℕ) (c' : Call) (oc : OpenCall) → open_call_of k.m ≡ Some oc → oc.number ≡ number → IsAnew k number' c' → ⊥
@@ -87,7 +87,7 @@ module _ (k : Known) (s : MasterState) (up : k.master ≡ Some s) (sent : List M
       let f : c ≡ c' = sym (said.1 oc is same) ∙ ap (λ (y : OpenCall). y.asked.call) e ∙ x.3 in
       let g : true ≡ false = sym look ∙ ap is_look f ∙ x.5 in cc
 
-  changes : (oc : OpenCall) → open_call_of k.m ≡ Some oc → oc.number ≡ number → Moves k after k.owner s s
+  changes : (oc : OpenCall) → open_call_of k.m ≡ Some oc → oc.number ≡ number → Moves k after k.owner k.added s s
   changes oc is same = moves_decided k s s k.m.names k.m.file_count k.m.files came h.machine (omega arith)
       (λ file e. outcome_opens k c (refusal_of k.m.names c) file h.machine (sym came_is ∙ e)) (omega arith) (λ number' c' x. absurd (call_is number' c' oc is same x))
 
@@ -101,7 +101,7 @@ module _ (k : Known) (s : MasterState) (up : k.master ≡ Some s) (sent : List M
   abbrev answer : Message
   answer = message node.Master client (body.Named number (reply_by came))
 
-  says : Says (moved k after k.owner s) answer
+  says : Says (moved k after k.owner k.added s) answer
   says = (
     said.0,
     λ oc' now same.
@@ -111,15 +111,12 @@ module _ (k : Known) (s : MasterState) (up : k.master ≡ Some s) (sent : List M
   )
 
   looks_now : (oc : OpenCall) → open_call_of k.m ≡ Some oc → oc.number ≡ number → MasterOutcome k (sends_one s answer) sent trace
-  looks_now oc is same = record {
-    m = after;
-    owner = k.owner;
-    made = refl;
-    holds = moves k after k.owner s s up builds (changes oc is same) sent trace (run oc is same)
-        (master_same k (moved k after k.owner s) s (later_moved k after k.owner s s up builds (changes oc is same))
-        (record { names = refl; file_count = refl; counts = λ file. refl; owner = λ handle. refl; rounds = λ at. (refl, refl) }) was) h;
-    says = one (moved k after k.owner s) answer says;
-  }
+  looks_now oc is same =
+      unseen k after k.owner s (answer ∷ []) sent trace refl
+      (moves k after k.owner k.added s s up builds (changes oc is same) sent trace (run oc is same)
+      (master_same k (moved k after k.owner k.added s) s (later_moved k after k.owner k.added s s up builds (changes oc is same))
+      (record { names = refl; file_count = refl; counts = λ file. refl; added = refl; owner = λ handle. refl; rounds = λ at. (refl, refl) }) was) h)
+      (one (moved k after k.owner k.added s) answer says)
 
   -- a Look of another call says nothing
   looks_past : ((oc : OpenCall) → open_call_of k.m ≡ Some oc → oc.number ≡ number → ⊥) → MasterOutcome k (sends_one s answer) sent trace

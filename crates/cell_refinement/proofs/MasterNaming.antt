@@ -1,5 +1,5 @@
 -- The master takes a Name: it answers again what it kept, or the machine's open call takes its name step.
-use Rattle.std.proofs.Common.{◌≡◌, ℕ, suc, ◌+◌, ◌<◌, ◌≤◌, Bool, true, false, cond, List, [], Option, Some, None, refl, sym, ap, ◌∙◌, subst, inl, inr, arith, append-nil, nat_lt}
+use Rattle.std.proofs.Common.{◌≡◌, ℕ, suc, ◌+◌, ◌<◌, ◌≤◌, Bool, true, false, cond, List, [], ◌∷◌, length, Option, Some, None, refl, sym, ap, ◌∙◌, subst, inl, inr, arith, append-nil, nat_lt}
 use Rattle.std.specs.Prelude.{IfSome, IsTrue, IsFalse, ◌⊎◌, ◌==◌, nat_le}
 use Rattle.std.specs.Ordering.{eq_by_cmp, nat_cmp}
 use Rattle.std.specs.Cmp.Lexicographic.{slice_cmp}
@@ -23,12 +23,13 @@ use Rattle.cell_protocol.specs.Sending.{only_client}
 use Rattle.cell_protocol.specs.Seen.{stays}
 use Rattle.cell_protocol.specs.Master.{MasterState}
 use Rattle.cell_protocol.specs.MasterNames as names
+use Rattle.cell_protocol.specs.Observer.{chunks_of}
 use Rattle.cell_refinement.specs.Known.{Known, Spot, open_call_of, calls_made, kept_number, chunk_of}
 use Rattle.cell_refinement.specs.Says.{IsReadable, IsAnew, IsNameOf, SaysName}
-use Rattle.cell_refinement.specs.Simulates.{IsMaster, IsKeptCall, IsFileOf, IsRow, Holds}
+use Rattle.cell_refinement.specs.Simulates.{IsMaster, IsKeptCall, IsRow, Holds}
 use Rattle.cell_refinement.proofs.Serving.{at_insert}
 use Rattle.cell_refinement.proofs.ServerSteps.{one}
-use Rattle.cell_refinement.proofs.MasterMoves.{moved, MasterOutcome, Builds, builds_same, moves}
+use Rattle.cell_refinement.proofs.MasterMoves.{moved, MasterOutcome, unseen, Builds, builds_same, moves}
 use Rattle.cell_refinement.proofs.MasterSteps.{old, stays_so, answers_again}
 use Rattle.cell_refinement.proofs.MasterDecides.{decided, has_gained, moves_decided, may_step, steps}
 use Rattle.cell_refinement.proofs.MasterLooks.{same_some}
@@ -72,6 +73,10 @@ put_cases P key value f q here there =
       | false ↦ λ e. there (λ is. grind (arith, e, is))
     ] refl
 
+no_element : {X : Type 0} (xs : List X) → length xs ≡ 0 → xs ≡ []
+no_element [] e = refl
+no_element (x ∷ xs) e = absurd (omega (arith, e))
+
 module _ (k : Known) (s : MasterState) (up : k.master ≡ Some s) (sent : List Message) (trace : List Visible) (h : Holds k sent trace) (client : NodeId) (number : ℕ) where
   was : IsMaster k s
   was = old k s up sent trace h
@@ -83,36 +88,32 @@ module _ (k : Known) (s : MasterState) (up : k.master ≡ Some s) (sent : List M
   after ns count files refusal = decided k.m ns count files (Replies (names.reply_of refusal))
 
   settles_so : (c : Call) → IsAnew k number c → kept_number s.kept < number → (s0 : MasterState) (refusal : Option Refusal) (ns : Names) (count : ℕ) (files : ℕ → FileState) → k.m.file_count ≤ count
-      → Builds k (after ns count files refusal) k.owner (names.with_kept_call s0 number refusal) → IsRunTo k.config trace (after ns count files refusal)
-      → (IsKeptCall (moved k (after ns count files refusal) k.owner (names.with_kept_call s0 number refusal)) (kept_by refusal) → IsMaster (moved k (after ns count files refusal) k.owner (names.with_kept_call s0 number refusal)) (names.with_kept_call s0 number refusal))
+      → Builds k (after ns count files refusal) k.owner k.added (names.with_kept_call s0 number refusal) → IsRunTo k.config trace (after ns count files refusal)
+      → (IsKeptCall (moved k (after ns count files refusal) k.owner k.added (names.with_kept_call s0 number refusal)) (kept_by refusal) → IsMaster (moved k (after ns count files refusal) k.owner k.added (names.with_kept_call s0 number refusal)) (names.with_kept_call s0 number refusal))
       → MasterOutcome k (names.settles_name s0 client number refusal) sent trace
   settles_so c x rises s0 refusal ns count files more builds run new =
       let made : number ≤ calls_made k.m = (let a = (h.machine.asked x.0 x.1).1 in let b = x.2 in omega arith) in
-      record {
-        m = after ns count files refusal;
-        owner = k.owner;
-        made = refl;
-        holds = moves k (after ns count files refusal) k.owner s (names.with_kept_call s0 number refusal) up builds
-            (moves_decided k s (names.with_kept_call s0 number refusal) ns count files (Replies (names.reply_of refusal)) h.machine more
-            (λ file e. absurd (let f : Replies (names.reply_of refusal) ≡ Opens file = e in cc)) (omega (arith, rises))
-            (λ number' c' y. let e : x.0 ≡ y.0 = same_some (open_call_of k.m) x.0 y.0 x.1 y.1 in let f : number ≡ number' = sym x.2 ∙ ap (λ (oc : OpenCall). oc.number) e ∙ y.2 in omega arith))
-            sent trace run (new (made, λ oc' now same. has_gained (Replies (names.reply_of refusal)) (open_call_of k.m) oc' now)) h;
-        says = one (moved k (after ns count files refusal) k.owner (names.with_kept_call s0 number refusal)) _
-            (made, λ oc' now same. (has_gained (Replies (names.reply_of refusal)) (open_call_of k.m) oc' now, inr (omega arith)));
-      }
+      unseen k (after ns count files refusal) k.owner (names.with_kept_call s0 number refusal) _ sent trace refl
+      (moves k (after ns count files refusal) k.owner k.added s (names.with_kept_call s0 number refusal) up builds
+      (moves_decided k s (names.with_kept_call s0 number refusal) ns count files (Replies (names.reply_of refusal)) h.machine more
+      (λ file e. absurd (let f : Replies (names.reply_of refusal) ≡ Opens file = e in cc)) (omega (arith, rises))
+      (λ number' c' y. let e : x.0 ≡ y.0 = same_some (open_call_of k.m) x.0 y.0 x.1 y.1 in let f : number ≡ number' = sym x.2 ∙ ap (λ (oc : OpenCall). oc.number) e ∙ y.2 in omega arith))
+      sent trace run (new (made, λ oc' now same. has_gained (Replies (names.reply_of refusal)) (open_call_of k.m) oc' now)) h)
+      (one (moved k (after ns count files refusal) k.owner k.added (names.with_kept_call s0 number refusal)) _
+      (made, λ oc' now same. (has_gained (Replies (names.reply_of refusal)) (open_call_of k.m) oc' now, inr (omega arith))))
 
   -- the names change at most
-  builds_named : (ns : Names) (refusal : Option Refusal) (s' : MasterState) → ((path : List ℕ) (id : ℕ) → node_at ns path ≡ Some (File id) → IsReadable k id) → Builds k (after ns k.m.file_count k.m.files refusal) k.owner s'
+  builds_named : (ns : Names) (refusal : Option Refusal) (s' : MasterState) → ((path : List ℕ) (id : ℕ) → node_at ns path ≡ Some (File id) → IsReadable k id) → Builds k (after ns k.m.file_count k.m.files refusal) k.owner k.added s'
   builds_named ns refusal s' files = builds_same k (after ns k.m.file_count k.m.files refusal) s' files (omega arith) (λ file. refl) (λ at. refl) h.machine.stays h.machine
 
-  master_named : (ns ns' : Names) (refusal : Option Refusal) → ns' ≡ ns → IsKeptCall (moved k (after ns k.m.file_count k.m.files refusal) k.owner (named s ns' (Some (kept_by refusal)))) (kept_by refusal)
-      → IsMaster (moved k (after ns k.m.file_count k.m.files refusal) k.owner (named s ns' (Some (kept_by refusal)))) (named s ns' (Some (kept_by refusal)))
+  master_named : (ns ns' : Names) (refusal : Option Refusal) → ns' ≡ ns → IsKeptCall (moved k (after ns k.m.file_count k.m.files refusal) k.owner k.added (named s ns' (Some (kept_by refusal)))) (kept_by refusal)
+      → IsMaster (moved k (after ns k.m.file_count k.m.files refusal) k.owner k.added (named s ns' (Some (kept_by refusal)))) (named s ns' (Some (kept_by refusal)))
   master_named ns ns' refusal same kept = record {
     config = was.config;
     now = was.now;
     names = same;
     next_file = was.next_file;
-    files = λ file there. let x = was.files file there in (x.0, x.1, record { count = x.2.count; owner = x.2.owner });
+    files = was.files;
     rows = was.rows;
     fresh = was.fresh;
     kept = kept;
@@ -174,15 +175,15 @@ module _ (k : Known) (s : MasterState) (up : k.master ≡ Some s) (sent : List M
   readable_after : (id : ℕ) → IsReadable k id → (1 ≤ id) × (id ≤ suc k.m.file_count)
   readable_after id there = (there.0, let a = there.1 in omega arith)
 
-  file_after : (p : Path) (s' : MasterState) (next file : ℕ) → next ≡ suc k.m.file_count → (1 ≤ file) × (file ≤ suc k.m.file_count)
-      → (handles : List ℕ) × (table.get (table.insert s.files next []) file ≡ Some handles) × IsFileOf (moved k (created (table.insert k.m.names p (File (suc k.m.file_count)))) k.owner s') file handles
-  file_after p s' next file is =
-      at_insert (λ q o. (1 ≤ q) × (q ≤ suc k.m.file_count) → (handles : List ℕ) × (o ≡ Some handles) × IsFileOf (moved k (created (table.insert k.m.names p (File (suc k.m.file_count)))) k.owner s') q handles)
-      s.files next []
-      (λ there. ([], refl, record { count = sym (counts_after next ∙ h.machine.unmade next (omega arith)); owner = λ index handle e. absurd (let f : None ≡ Some handle = e in cc) }))
-      (λ q other there.
-      let x = was.files q (there.0, let a = there.1 in let n : q ≡ next → ⊥ = other in grind (arith, a, n, is)) in
-      (x.0, x.1, record { count = x.2.count ∙ sym (counts_after q); owner = x.2.owner }))
+  -- no chunk was added to a file that wasn't made
+  none_added : (file : ℕ) → k.m.file_count < file → chunks_of k.added file ≡ []
+  none_added file past = no_element (chunks_of k.added file) ((h.machine.added file).count ∙ h.machine.unmade file past)
+
+  file_after : (next file : ℕ) → next ≡ suc k.m.file_count → (1 ≤ file) × (file ≤ suc k.m.file_count) → table.get (table.insert s.files next []) file ≡ Some (chunks_of k.added file)
+  file_after next file is =
+      at_insert (λ q o. (1 ≤ q) × (q ≤ suc k.m.file_count) → o ≡ Some (chunks_of k.added q)) s.files next []
+      (λ there. ap Some (sym (none_added next (omega arith))))
+      (λ q other there. was.files q (there.0, let a = there.1 in let n : q ≡ next → ⊥ = other in grind (arith, a, n, is)))
       file
 
   makes_file : (p : Path) → IsAnew k number (call.Create p) → kept_number s.kept < number → refusal_of s.names (call.Create p) ≡ None → MasterOutcome k (names.settles_name (names.with_new_file s p) client number None) sent trace
@@ -201,7 +202,7 @@ module _ (k : Known) (s : MasterState) (up : k.master ≡ Some s) (sent : List M
         now = was.now;
         names = ap (λ ns. table.insert ns p (File s.next_file)) was.names ∙ ap (λ n. table.insert k.m.names p (File n)) was.next_file;
         next_file = ap suc was.next_file;
-        files = λ file there. file_after p (names.with_kept_call (names.with_new_file s p) number None) s.next_file file was.next_file there;
+        files = λ file there. file_after s.next_file file was.next_file there;
         rows = λ handle row e. let x = was.rows handle row e in (x.0, x.1, subst (IsRow row) (sym (chunks_after x.0)) x.2);
         fresh = was.fresh;
         kept = kept;

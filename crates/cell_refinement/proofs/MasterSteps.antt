@@ -1,5 +1,5 @@
 -- The master's steps that the machine does not see: nothing is done, or something is said that is so already.
-use Rattle.std.proofs.Common.{◌≡◌, ℕ, ◌≤◌, List, Option, Some, refl, sym, ap, subst, inr, arith}
+use Rattle.std.proofs.Common.{◌≡◌, ℕ, ◌≤◌, List, [], ◌∷◌, Option, Some, refl, sym, ap, subst, inr, arith}
 use Rattle.std.specs.Prelude.{IfSome, IsTrue, ◌⊎◌}
 use Rattle.std.proofs.lemmas.List.Elements.{All-nil}
 use Rattle.gfs_types.specs.declared.ids.Node.{Node}
@@ -17,24 +17,18 @@ use Rattle.cell_refinement.specs.Known.{Known, kept_number}
 use Rattle.cell_refinement.specs.Says.{Says, IsNumbered, IsKept, SaysNamed}
 use Rattle.cell_refinement.specs.Simulates.{IsMaster, IsKeptCall, Holds}
 use Rattle.cell_refinement.proofs.ServerSteps.{one}
-use Rattle.cell_refinement.proofs.MasterMoves.{moved, MasterOutcome, again, said_again}
+use Rattle.cell_refinement.proofs.MasterMoves.{moved, MasterOutcome, unseen, again, said_again}
 
 module _ (k : Known) (s : MasterState) (up : k.master ≡ Some s) (sent : List Message) (trace : List Visible) (h : Holds k sent trace) where
   pub old : IsMaster k s
   old = subst {A = Option MasterState} (λ o. IfSome o (IsMaster k)) up h.master
 
   pub stays_so : MasterOutcome k (stays s) sent trace
-  stays_so = record { m = k.m; owner = k.owner; made = refl; holds = again k s sent trace up h; says = All-nil (Says (moved k k.m k.owner s)) }
+  stays_so = unseen k k.m k.owner s [] sent trace refl (again k s sent trace up h) (All-nil (Says (moved k k.m k.owner k.added s)))
 
   -- the master only says something
   pub tells : (x : Message) → Says k x → MasterOutcome k (sends_one s x) sent trace
-  tells x says = record {
-    m = k.m;
-    owner = k.owner;
-    made = refl;
-    holds = again k s sent trace up h;
-    says = one (moved k k.m k.owner s) x (said_again k s x up says);
-  }
+  tells x says = unseen k k.m k.owner s (x ∷ []) sent trace refl (again k s sent trace up h) (one (moved k k.m k.owner k.added s) x (said_again k s x up says))
 
   pub waits_so : (a : Asker) → IsNumbered k a.number → MasterOutcome k (tells_to_wait s a) sent trace
   waits_so a numbered = tells _ numbered

@@ -20,6 +20,7 @@ use Rattle.cell_protocol.specs.Seen.{stays}
 use Rattle.cell_protocol.specs.Master.{MasterState, master_says}
 use Rattle.cell_protocol.specs.MasterAsks.{Asker, asks_to_write, asks_to_append, asks_of, takes_ask, adds_chunk, mutates_at}
 use Rattle.cell_protocol.specs.MasterStep.{master_takes, master_does}
+use Rattle.cell_protocol.specs.Observer.{chunks_of}
 use Rattle.cell_refinement.specs.Known.{Known, IsWriteOf}
 use Rattle.cell_refinement.specs.Says.{Says, SaysBody, SaysAsk, IsReadable}
 use Rattle.cell_refinement.specs.Simulates.{IsFileOf, Holds}
@@ -32,7 +33,7 @@ use Rattle.cell_refinement.proofs.MasterGrants.{recorded_so}
 use Rattle.cell_refinement.proofs.MasterNeeds.{write_needs, append_needs}
 use Rattle.cell_refinement.proofs.MasterAdds.{adds_so}
 
-past_none : {X : Type 0} (xs : List X) (i : ℕ) → slice_get xs i ≡ None → length xs ≤ i
+pub past_none : {X : Type 0} (xs : List X) (i : ℕ) → slice_get xs i ≡ None → length xs ≤ i
 past_none [] i is = omega arith
 past_none (x ∷ xs) zero is = absurd (let e : Some x ≡ None = is in cc)
 past_none (x ∷ xs) (suc i) is = let l = past_none xs i is in omega arith
@@ -42,10 +43,11 @@ write_no_length size index (call.Write fd offset bytes) h = refl
 write_no_length size index other h = absurd h
 
 module _ (k : Known) (s : MasterState) (up : k.master ≡ Some s) (sent : List Message) (trace : List Visible) (h : Holds k sent trace) where
+  chunks_are : (file : ℕ) (handles : List ℕ) → IsReadable k file → table.get s.files file ≡ Some handles → handles ≡ chunks_of k.added file
+  chunks_are file handles there is = same_some (table.get s.files file) handles (chunks_of k.added file) is ((old k s up sent trace h).files file there)
+
   file_is : (file : ℕ) (handles : List ℕ) → IsReadable k file → table.get s.files file ≡ Some handles → IsFileOf k file handles
-  file_is file handles there is =
-      let x = (old k s up sent trace h).files file there in
-      subst (IsFileOf k file) (same_some (table.get s.files file) x.0 handles x.1 is) x.2
+  file_is file handles there is = subst (IsFileOf k file) (sym (chunks_are file handles there is)) (h.machine.added file)
 
   writes_so : (a : Asker) (file index : ℕ) (handles : List ℕ) → table.get s.files file ≡ Some handles → SaysAsk k a.number file (wanted.Write index) → MasterOutcome k (asks_to_write s a file handles index) sent trace
   writes_so a file index handles is said =
@@ -57,7 +59,7 @@ module _ (k : Known) (s : MasterState) (up : k.master ≡ Some s) (sent : List M
         | false ↦ λ e. elim (index == length handles) as (λ b. (index == length handles) ≡ b → MasterOutcome k (cond b (adds_chunk s a file handles) (mutates_at s a index (slice_get handles index))) sent trace) [
           | true ↦ λ f.
               let l : index ≡ length handles = grind (arith, f) in
-              adds_so k s up sent trace h file handles is of said.1.0 said.1.1 said.1.2 said.1.3 (write_needs k h.machine said.1.0 file index said.1.1.call (l ∙ of.count) said.1.4) there a said.0.0
+              adds_so k s up sent trace h file handles (chunks_are file handles there is) of said.1.0 said.1.1 said.1.2 said.1.3 (write_needs k h.machine said.1.0 file index said.1.1.call (l ∙ of.count) said.1.4) there a said.0.0
           | false ↦ λ f. mutates_at_so k s up sent trace h a file index handles (AsksFor index) (slice_get handles index) said.0
               (λ x c oc client current at call. let y = said.2 x c oc client current at call in (y.0, (y.1, write_no_length k.config.chunk index c.asked y.2))) (λ c p. may_this (chunk_count k.m file) index c p) of refl
         ] refl
@@ -73,20 +75,20 @@ module _ (k : Known) (s : MasterState) (up : k.master ≡ Some s) (sent : List M
         | true ↦ λ e.
             let l : length handles ≤ index = grind (arith, e) in
             let past : chunk_count k.m file ≤ index = (let c = of.count in omega arith) in
-            adds_so k s up sent trace h file handles is of said.1.0 said.1.1 said.1.2 said.1.3 (append_needs k h.machine said.1.0 file index said.1.1.call past said.1.4 said.1.7) there a said.0.0
+            adds_so k s up sent trace h file handles (chunks_are file handles there is) of said.1.0 said.1.1 said.1.2 said.1.3 (append_needs k h.machine said.1.0 file index said.1.1.call past said.1.4 said.1.7) there a said.0.0
         | false ↦ λ e. mutates_at_so k s up sent trace h a file (length handles - 1) handles AsksToAppend (slice_get handles (length handles - 1)) said.0
             (λ x c oc client current at call. said.2 x c oc client current at call) (λ c p. may_append (chunk_count k.m file) (length handles - 1) c p) of refl
       ] refl
 
   asks_by : (a : Asker) (file : ℕ) (w : Wanted) (o : Option (List ℕ)) → table.get s.files file ≡ o → SaysAsk k a.number file w → MasterOutcome k (asks_of s a file w o) sent trace
-  asks_by a file (wanted.Write index) None is said = absurd (let x = (old k s up sent trace h).files file (said.1.5, said.1.6) in let e : None ≡ Some x.0 = sym is ∙ x.1 in cc)
-  asks_by a file (wanted.Append index) None is said = absurd (let x = (old k s up sent trace h).files file (said.1.5, said.1.6) in let e : None ≡ Some x.0 = sym is ∙ x.1 in cc)
-  asks_by a file (wanted.Read index) None is said = absurd (let x = (old k s up sent trace h).files file said.1 in let e : None ≡ Some x.0 = sym is ∙ x.1 in cc)
+  asks_by a file (wanted.Write index) None is said = absurd (let x = (old k s up sent trace h).files file (said.1.5, said.1.6) in let e : None ≡ Some (chunks_of k.added file) = sym is ∙ x in cc)
+  asks_by a file (wanted.Append index) None is said = absurd (let x = (old k s up sent trace h).files file (said.1.5, said.1.6) in let e : None ≡ Some (chunks_of k.added file) = sym is ∙ x in cc)
+  asks_by a file (wanted.Read index) None is said = absurd (let x = (old k s up sent trace h).files file said.1 in let e : None ≡ Some (chunks_of k.added file) = sym is ∙ x in cc)
   asks_by a file (wanted.Write index) (Some handles) is said = writes_so a file index handles is said
   asks_by a file (wanted.Append index) (Some handles) is said = appends_so a file index handles is said
   asks_by a file (wanted.Read index) (Some handles) is said =
       looks_at_so k s up sent trace h a file index handles (slice_get handles index) said.0 (λ x c oc client current at call. let y = said.2 x c oc client current at call in (y.0, (y.1, y.2))) (file_is file handles said.1 is) refl (λ e. past_none handles index e)
-  asks_by a file wanted.Last None is said = absurd (let x = (old k s up sent trace h).files file said.1 in let e : None ≡ Some x.0 = sym is ∙ x.1 in cc)
+  asks_by a file wanted.Last None is said = absurd (let x = (old k s up sent trace h).files file said.1 in let e : None ≡ Some (chunks_of k.added file) = sym is ∙ x in cc)
   asks_by a file wanted.Last (Some handles) is said =
       looks_at_last_so k s up sent trace h a file handles (slice_get handles (length handles - 1)) said.0 (λ x c oc client current at call. let y = said.2 x c oc client current at call in (y.0, (y.1, y.2))) (file_is file handles said.1 is) refl (λ e. past_none handles (length handles - 1) e)
 

@@ -28,7 +28,7 @@ use Rattle.cell_refinement.specs.Says.{OnStage, IsAskNumber, IsGranted, IsGrante
 use Rattle.cell_refinement.specs.Simulates.{IsMaster, IsClient, IsCurrent, IsAsking, IsWaited, LooksPastFull, FitsStage, AreTheSame, IsFileOf, IsRow, Holds}
 use Rattle.cell_refinement.proofs.Growing.{Learns, stepped_call, learning, learns}
 use Rattle.cell_refinement.proofs.ServerSteps.{one}
-use Rattle.cell_refinement.proofs.MasterMoves.{moved, MasterOutcome, again, said_again}
+use Rattle.cell_refinement.proofs.MasterMoves.{moved, MasterOutcome, unseen, again, said_again}
 use Rattle.cell_refinement.proofs.MasterSteps.{old, stays_so, tells, waits_so}
 use Rattle.cell_refinement.proofs.MasterDecides.{contains_head, contains_more}
 use Rattle.cell_refinement.proofs.MasterLooks.{same_some}
@@ -176,17 +176,13 @@ module _ (k : Known) (s : MasterState) (up : k.master ≡ Some s) (sent : List M
       let on : w.oc.asked.file ≡ Some file = (asking_of k sent trace h a.number w.x w.c w.oc w.is w.stage).file ∙ ap Some spot.0 in
       let run : IsRunTo k.config trace (with_step k.m only_client change) =
       subst (λ t. IsRunTo k.config t (offered k.m only_client file index)) (append-nil trace) (runs_go_on k.config trace k.m (Tell only_client file index) h.run (w.oc, w.call, (on, h.machine.stays file))) in
-      record {
-        m = with_step k.m only_client change;
-        owner = k.owner;
-        made = refl;
-        holds = again (learning k change) s sent trace up (learns change (offers_more k.m file index) k sent trace run h);
-        says = one (moved k (with_step k.m only_client change) k.owner s) told (said_again (learning k change) s told up
-            (says_told (learning k change) a.number o numbered (λ x' c' oc' client' current' at call'.
-            let e : w.x ≡ x' = same_some k.client w.x x' w.client client' in
-            let f : w.c ≡ c' = same_some w.x.current w.c c' w.current (ap (λ (y : ClientState). y.current) e ∙ current') in
-            so c' oc' (ap (λ (y : CurrentCall). y.file.0) (sym f) ∙ spot.0) (subst P f spot.1) (has_offer k.m file index (open_call_of k.m) oc' call'))));
-      }
+      unseen k (with_step k.m only_client change) k.owner s (told ∷ []) sent trace refl
+      (again (learning k change) s sent trace up (learns change (offers_more k.m file index) k sent trace run h))
+      (one (moved k (with_step k.m only_client change) k.owner k.added s) told (said_again (learning k change) s told up
+      (says_told (learning k change) a.number o numbered (λ x' c' oc' client' current' at call'.
+      let e : w.x ≡ x' = same_some k.client w.x x' w.client client' in
+      let f : w.c ≡ c' = same_some w.x.current w.c c' w.current (ap (λ (y : ClientState). y.current) e ∙ current') in
+      so c' oc' (ap (λ (y : CurrentCall). y.file.0) (sym f) ∙ spot.0) (subst P f spot.1) (has_offer k.m file index (open_call_of k.m) oc' call')))))
 
   tell_by : (a : Asker) (file index : ℕ) (P : CurrentCall → Type 0) (o : Option Location) → IsAskNumber k a.number → AsksThere a.number file P → Waits k a.number ⊎ WaitsNot k a.number
       → ((c : CurrentCall) (oc : OpenCall) → c.file.0 ≡ file → P c → Contains oc.offers (offer_of k.m file index) → IsToldSo (learning k (offering k.m file index)) o c oc)
@@ -260,7 +256,7 @@ module _ (k : Known) (s : MasterState) (up : k.master ≡ Some s) (sent : List M
   pub looks_at_so : (a : Asker) (file index : ℕ) (handles : List ℕ) (o : Option ℕ) → IsAskNumber k a.number → AsksThere a.number file (AsksFor index) → IsFileOf k file handles → slice_get handles index ≡ o
       → (o ≡ None → length handles ≤ index) → MasterOutcome k (looks_at s a index o) sent trace
   looks_at_so a file index handles None numbered there of is past = tells_none a file index (AsksFor index) numbered there (λ c p. p.0) (let l = past refl in let e = of.count in omega arith)
-  looks_at_so a file index handles (Some handle) numbered there of is past = looks_at_row_so a file index handle (AsksFor index) (table.get s.chunks handle) numbered there (λ c p. may_this (chunk_count k.m file) index c p) (of.owner index handle is) refl
+  looks_at_so a file index handles (Some handle) numbered there of is past = looks_at_row_so a file index handle (AsksFor index) (table.get s.chunks handle) numbered there (λ c p. may_this (chunk_count k.m file) index c p) (of.owned index handle is) refl
 
   -- the last chunk, if there is one
   pub looks_at_last_so : (a : Asker) (file : ℕ) (handles : List ℕ) (o : Option ℕ) → IsAskNumber k a.number → AsksThere a.number file AsksForLast → IsFileOf k file handles → slice_get handles (length handles - 1) ≡ o
@@ -269,7 +265,7 @@ module _ (k : Known) (s : MasterState) (up : k.master ≡ Some s) (sent : List M
       let l = past refl in let e = of.count in
       tells_none a file (length handles - 1) AsksForLast numbered there (λ c p. let q = p.0 in omega arith) (omega arith)
   looks_at_last_so a file handles (Some handle) numbered there of is past =
-      let own = of.owner (length handles - 1) handle is in
+      let own = of.owned (length handles - 1) handle is in
       let within = (h.machine.owned handle (record { file = file; index = length handles - 1 }) own).within in
       let e = of.count in
       looks_at_row_so a file (length handles - 1) handle AsksForLast (table.get s.chunks handle) numbered there (λ c p. may_last (chunk_count k.m file) (length handles - 1) c p (omega arith)) own refl
@@ -287,7 +283,7 @@ module _ (k : Known) (s : MasterState) (up : k.master ≡ Some s) (sent : List M
   pub mutates_at_so : (a : Asker) (file index : ℕ) (handles : List ℕ) (P : CurrentCall → Type 0) (o : Option ℕ) → IsAskNumber k a.number → AsksThere a.number file P
       → ((c : CurrentCall) → P c → MayBeTold (chunk_count k.m file) index c) → IsFileOf k file handles → slice_get handles index ≡ o → MasterOutcome k (mutates_at s a index o) sent trace
   mutates_at_so a file index handles P None numbered there may of is = stays_so k s up sent trace h
-  mutates_at_so a file index handles P (Some handle) numbered there may of is = mutates_row_so a file index handle P (table.get s.chunks handle) numbered there may (of.owner index handle is) refl
+  mutates_at_so a file index handles P (Some handle) numbered there may of is = mutates_row_so a file index handle P (table.get s.chunks handle) numbered there may (of.owned index handle is) refl
 
   write_is : (size index : ℕ) (c : Call) → IsWriteOf size index c → IsTrue (is_write c)
   write_is size index (call.Write fd offset bytes) w = refl

@@ -116,7 +116,7 @@ module _ (k : Known) (s : ServerState) (up : k.server ≡ Some s) (sent : List M
             (0, omega arith, found ∙ ap (λ (x : CurrentCall). x.index * k.config.chunk + length r.bytes) e_c),
       ) in
       let o = tells l s up sent trace holds _ told in
-      record { m = o.m; made = o.made; holds = o.holds; says = o.says }
+      record { m = o.m; made = o.made; added = o.added; holds = o.holds; says = o.says }
 
   -- whether a stage waits for this length
   stage_case : (st : Stage) → ((at : ToldChunk) × (st ≡ stage.SentLength at number)) ⊎ ((at : ToldChunk) → st ≡ stage.SentLength at number → ⊥)

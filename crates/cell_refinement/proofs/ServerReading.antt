@@ -226,7 +226,7 @@ module _ (k : Known) (s : ServerState) (up : k.server ≡ Some s) (sent : List M
             (0, omega arith, ap (λ bs. record piece { bytes = bs }) bytes_is ∙ ap (λ (x : CurrentCall). record { index = x.index; bytes = read_bytes r offset count; round = Some 1 }) e_c),
       ) in
       let o = tells l s up sent trace holds _ told in
-      record { m = o.m; made = o.made; holds = o.holds; says = o.says }
+      record { m = o.m; made = o.made; added = o.added; holds = o.holds; says = o.says }
 
   -- whether a stage waits for this read
   stage_case : (st : Stage) → ((at : ToldChunk) × (st ≡ stage.SentRead at number)) ⊎ ((at : ToldChunk) → st ≡ stage.SentRead at number → ⊥)

@@ -17,7 +17,7 @@ use Rattle.cell_protocol.specs.declared.standing.Standing.TheVariants.{Denied}
 use Rattle.cell_protocol.specs.Server.{ServerState, Replica, with_pushed, with_replica, with_kept}
 use Rattle.cell_protocol.specs.ServerOrders.{empty_replica, creates, takes_grant, with_lease, has_version}
 use Rattle.cell_protocol.specs.ServerWrites.{takes_push, denies}
-use Rattle.cell_protocol.specs.Observer.{entries_of, newly_placed}
+use Rattle.cell_protocol.specs.Observer.{entries_of, newly_placed, newly_added}
 use Rattle.cell_refinement.specs.Known.{Known, IsRoundOpen, calls_made, kept_seq}
 use Rattle.cell_refinement.specs.Says.{Says, SaysPush, SaysRefused}
 use Rattle.cell_refinement.specs.Simulates.{IsServer, IsReplica, IsLease, Stands, Holds}
@@ -27,6 +27,7 @@ use Rattle.cell_refinement.proofs.Serving.{serving, serves, at_insert}
 pub record ServerOutcome (k : Known) (d : Does ServerState) (sent : List Message) (trace : List Visible) : Type 0 where
   pub m : Machine
   pub made : calls_made m ≡ calls_made k.m
+  pub added : newly_added d.seen ≡ []
   pub holds : Holds (record k { m = m; server = Some d.state; placed = k.placed ++ newly_placed (calls_made k.m) d.seen }) sent trace
   pub says : All (Says (record k { m = m; server = Some d.state; placed = k.placed ++ newly_placed (calls_made k.m) d.seen })) d.sent
 
@@ -36,6 +37,7 @@ pub unseen : (k : Known) (s' : ServerState) (more sent : List Message) (trace : 
 unseen k s' more sent trace h says = record {
   m = k.m;
   made = refl;
+  added = refl;
   holds = subst (λ ps. Holds (record k { m = k.m; server = Some s'; placed = ps }) sent trace) (sym (append-nil k.placed)) h;
   says = subst (λ ps. All (Says (record k { m = k.m; server = Some s'; placed = ps })) more) (sym (append-nil k.placed)) says;
 }

@@ -261,6 +261,7 @@ module _ (k : Known) (s : ServerState) (up : k.server ≡ Some s) (sent : List M
     names = refl;
     file_count = refl;
     counts = counts_are k.m attempt.at oc w;
+    added = refl;
     owner = λ handle. refl;
     rounds = at_spot k.m attempt.at oc w (λ q c. (c.round ≡ (chunk_of k.m q).round) × (c.is_open ≡ (chunk_of k.m q).is_open)) (refl, refl) (λ q. (refl, refl));
   }
@@ -328,6 +329,7 @@ module _ (k : Known) (s : ServerState) (up : k.server ≡ Some s) (sent : List M
     chunks = at_spot k.m attempt.at oc w (λ q c. (c.order ≡ []) ⊎ ((handle : ℕ) × (k.owner handle ≡ Some q))) (inr (a.handle, attempt.owned)) h.machine.chunks;
     placed = All-push (λ (x : Placed). (x.numbering.version.0 ≡ 1) × (x.numbering.data_id.client.0 ≡ only_client) × (x.call ≤ calls_made k.m)) k.placed p h.machine.placed (here.0, own, omega arith);
     in_turn = in_turn_stays k l later (λ seq. refl) h.machine.in_turn;
+    added = λ file. record { count = (h.machine.added file).count ∙ sym (counts_are k.m attempt.at oc w file); owned = (h.machine.added file).owned };
     unmade = λ file l. counts_are k.m attempt.at oc w file ∙ h.machine.unmade file l;
     untouched = λ q beyond.
         let n : chunk_count m2 q.file ≡ chunk_count k.m q.file = counts_are k.m attempt.at oc w q.file in
@@ -410,6 +412,7 @@ module _ (k : Known) (s : ServerState) (up : k.server ≡ Some s) (sent : List M
   places_so = record {
     m = m2;
     made = refl;
+    added = refl;
     holds = record {
       run = run_places k.m attempt.at oc w k.config trace call_is may_place h.run;
       machine = machine_after;

@@ -78,7 +78,7 @@ module _ (k : Known) (s s' : ServerState) (up : k.server ≡ Some s) (kept : kep
   later_serving = later_quiet k (serving k s') quiet
 
   same_chunks : SameChunks k (serving k s')
-  same_chunks = record { names = refl; file_count = refl; counts = λ file. refl; owner = λ handle. refl; rounds = λ at. (refl, refl) }
+  same_chunks = record { names = refl; file_count = refl; counts = λ file. refl; added = refl; owner = λ handle. refl; rounds = λ at. (refl, refl) }
 
   same_client : SameClient k (serving k s')
   same_client = record {
@@ -111,6 +111,7 @@ module _ (k : Known) (s s' : ServerState) (up : k.server ≡ Some s) (kept : kep
     placed = h.placed;
     in_turn = in_turn_stays k (serving k s') later_serving (λ seq. refl) h.in_turn;
     attempts = λ seq a is. (attempt_serving a (h.attempts seq a is).0, (h.attempts seq a is).1);
+    added = h.added;
     unmade = h.unmade;
     untouched = h.untouched;
     unowned = h.unowned;

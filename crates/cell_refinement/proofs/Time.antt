@@ -58,7 +58,7 @@ module _ (k : Known) (moment : ℕ) where
   later_at = later_quiet k (known_at k moment) later_quietly
 
   same_chunks : SameChunks k (known_at k moment)
-  same_chunks = record { names = refl; file_count = refl; counts = λ file. refl; owner = λ handle. refl; rounds = λ at. (refl, refl) }
+  same_chunks = record { names = refl; file_count = refl; counts = λ file. refl; added = refl; owner = λ handle. refl; rounds = λ at. (refl, refl) }
 
   same_client : SameClient k (known_at k moment)
   same_client = record {
@@ -91,6 +91,7 @@ module _ (k : Known) (moment : ℕ) where
     placed = h.placed;
     in_turn = h.in_turn;
     attempts = λ seq a is. (attempt_at a (h.attempts seq a is).0, (h.attempts seq a is).1);
+    added = h.added;
     unmade = h.unmade;
     untouched = h.untouched;
     unowned = h.unowned;

@@ -76,7 +76,7 @@ module _ (w : WorldState) (room : 0 < w.config.chunk) (some : 0 < w.config.attem
   server_so (Some s) is i choice there = server_by s is i choice there choice.ending
 
   master_by : (s : MasterState) → w.master ≡ Some s → (i : Input) (choice : Choice) → IsInput w.sent i → (b : Bool) (e : Ending)
-      → IsSimulated (after_master w moment (ends (cond b (master_does (master_at s moment) choice.refused i) (stays s)) choice e).out (ends (cond b (master_does (master_at s moment) choice.refused i) (stays s)) choice e).state).world
+      → IsSimulated (after_master w moment (ends (cond b (master_does (master_at s moment) choice.refused i) (stays s)) choice e) (ends (cond b (master_does (master_at s moment) choice.refused i) (stays s)) choice e).state).world
   master_by s up i choice there b Lost = λ kept. let x = sim kept in record {
     m = x.m;
     owner = x.owner;

@@ -28,11 +28,13 @@ use Rattle.cell_protocol.specs.Choice.{Choice}
 use Rattle.cell_protocol.specs.Server.{ServerState, new_server}
 use Rattle.cell_protocol.specs.Master.{MasterState, new_master}
 use Rattle.cell_protocol.specs.Client.{ClientState, new_client}
-use Rattle.cell_protocol.specs.World.{WorldState, new_world, Happened, after_master, after_server, after_client, after_call, master_moves, server_moves, client_moves, moves, delivered, call_moves, happens, after_events, IsReached, IsExplained}
+use Rattle.cell_protocol.specs.World.{WorldState, new_world, Happened, after_master, after_server, after_client, after_call, master_moves, server_moves, client_moves, moves, delivered, call_moves, happens, after_events, IsReached}
+use Rattle.cell_protocol.specs.Explained.{IsExplained}
 use Rattle.cell_refinement.specs.Known.{Known}
 use Rattle.cell_refinement.specs.Says.{Says}
 use Rattle.cell_refinement.specs.Simulates.{IsMachine, IsMaster, IsServer, IsClient, IsReplica, IsLease, known_of, Simulates}
 use Rattle.cell_refinement.proofs.WorldEvents.{IsSimulated, happens_so}
+use Rattle.cell_refinement.proofs.Explaining.{explains}
 
 gone : {X : Type 0} (P : Type 0) (x : X) → None ≡ Some x → P
 gone P x h = absurd (let both : None ≡ Some x = h in cc)
@@ -68,6 +70,7 @@ module _ (config : Config) where
     chunks = λ at. inl refl;
     placed = All-nil _;
     in_turn = λ seq other a b is. gone _ a is;
+    added = λ file. record { count = refl; owned = λ index handle is. gone _ handle is };
     unmade = λ file l. refl;
     untouched = λ at l. refl;
     unowned = λ handle is. refl;
@@ -131,9 +134,9 @@ same_if : (w : WorldState) (b : Bool) (h g : Happened) → Same w h → Same w g
 same_if w true h g x y = x
 same_if w false h g x y = y
 
-master_same : (w : WorldState) (moment : ℕ) (out : StepOut) (o : Option MasterState) → Same w (after_master w moment out o)
-master_same w moment out None = refl
-master_same w moment out (Some s) = refl
+master_same : (w : WorldState) (moment : ℕ) (t : Taken MasterState) (o : Option MasterState) → Same w (after_master w moment t o)
+master_same w moment t None = refl
+master_same w moment t (Some s) = refl
 
 server_same : (w : WorldState) (moment : ℕ) (t : Taken ServerState) (o : Option ServerState) → Same w (after_server w moment t o)
 server_same w moment t None = refl
@@ -149,7 +152,7 @@ call_same w moment number c out (Some s) = refl
 
 master_moves_same : (w : WorldState) (moment : ℕ) (i : Input) (choice : Choice) (o : Option MasterState) → Same w (master_moves w moment i choice o)
 master_moves_same w moment i choice None = refl
-master_moves_same w moment i choice (Some s) = master_same w moment (master_step s moment i choice).out (master_step s moment i choice).state
+master_moves_same w moment i choice (Some s) = master_same w moment (master_step s moment i choice) (master_step s moment i choice).state
 
 server_moves_same : (w : WorldState) (moment : ℕ) (i : Input) (choice : Choice) (o : Option ServerState) → Same w (server_moves w moment i choice o)
 server_moves_same w moment i choice None = refl
@@ -186,8 +189,8 @@ events_so w [] room some sim = sim
 events_so w (step ∷ rest) room some sim =
     events_so (happens w step.0 step.1).world rest (subst (λ (c : Config). 0 < c.chunk) (sym (config_stays w step.0 step.1)) room) (subst (λ (c : Config). 0 < c.attempts) (sym (config_stays w step.0 step.1)) some) (happens_so w room some sim step.0 step.1)
 
--- For every lawful list of events with clocks kept, the calls and answers are a run of the relaxed-file machine.
+-- For every lawful list of events with clocks kept, a run of the relaxed-file machine explains the world.
 pub answers_are_a_run : (w : WorldState) → IsReached w → 0 < w.config.chunk → 0 < w.config.attempts → IsExplained w
 answers_are_a_run w reached room some kept =
     let x : Simulates w = subst IsSimulated reached.1 (events_so (new_world w.config) reached.0 room some (λ _. new_simulates w.config)) kept in
-    (x.m, x.holds.run)
+    (x.m, explains w x)

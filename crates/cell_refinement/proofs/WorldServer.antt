@@ -1,5 +1,5 @@
 -- An event at the server: a run of the machine still explains the world.
-use Rattle.std.proofs.Common.{◌≡◌, ℕ, ◌+◌, ◌<◌, ◌≤◌, List, ◌++◌, Option, Some, None, refl, sym, ◌∙◌, subst, inl, inr, arith}
+use Rattle.std.proofs.Common.{◌≡◌, ℕ, ◌+◌, ◌<◌, ◌≤◌, List, ◌++◌, Option, Some, None, refl, sym, ap, ◌∙◌, subst, inl, inr, arith, append-nil}
 use Rattle.std.specs.Prelude.{Contains, IfSome, max}
 use Rattle.std.proofs.lemmas.List.Elements.{All-contains}
 use Rattle.messages.specs.declared.event.Input.{Input}
@@ -7,7 +7,7 @@ use Rattle.messages.specs.declared.event.Input.TheVariants as input
 use Rattle.messages.specs.declared.message.Message.{Message}
 use Rattle.relaxed_file.specs.Run.{Visible}
 use Rattle.cell_protocol.specs.Choice.{Choice, Ending, Goes, Lost, in_order}
-use Rattle.cell_protocol.specs.Seen.{ends}
+use Rattle.cell_protocol.specs.Seen.{Does, ends}
 use Rattle.cell_protocol.specs.Server.{ServerState}
 use Rattle.cell_protocol.specs.ServerStep.{server_step, server_does, server_at}
 use Rattle.cell_protocol.specs.Observer.{passed, newly_placed}
@@ -77,13 +77,16 @@ module _ (w : WorldState) (x : Simulates w) (moment : ℕ) (clock : w.observer.g
         calls = x.calls;
       }
       after_by i choice Goes there =
-          let o : ServerOutcome (serving k1 s1) (server_does s1 i) w.sent trace1 = outcome i there in
+          let d : Does ServerState = server_does s1 i in
+          let o : ServerOutcome (serving k1 s1) d w.sent trace1 = outcome i there in
           record {
             m = o.m;
             owner = x.owner;
             attempts = x.attempts;
-            holds = subst (λ n. Holds (record (serving k1 s1) { m = o.m; server = Some (server_does s1 i).state; placed = w.observer.placed ++ newly_placed n (server_does s1 i).seen }) (all_sent w.sent (in_order choice.order (server_does s1 i).sent)) trace1) (sym x.calls)
-                (sends_more _ w.sent (server_does s1 i).sent choice.order trace1 o.holds o.says);
+            holds = subst (λ added. Holds (record (serving k1 s1) { m = o.m; server = Some d.state; placed = w.observer.placed ++ newly_placed w.observer.call_count d.seen; added = added }) (all_sent w.sent (in_order choice.order d.sent)) trace1)
+                (sym (ap (λ chunks. w.observer.added ++ chunks) o.added ∙ append-nil w.observer.added))
+                (subst (λ n. Holds (record (serving k1 s1) { m = o.m; server = Some d.state; placed = w.observer.placed ++ newly_placed n d.seen }) (all_sent w.sent (in_order choice.order d.sent)) trace1) (sym x.calls)
+                (sends_more _ w.sent d.sent choice.order trace1 o.holds o.says));
             calls = x.calls ∙ sym o.made;
           }
 

@@ -13,6 +13,7 @@ use Rattle.relaxed_file.specs.Machine.{Machine, Chunk, Client, OpenCall, Asked, 
 use Rattle.relaxed_file.specs.Parts.{is_range_too_long, leaves_chunk}
 use Rattle.cell_protocol.specs.declared.rows.KeptCall.{KeptCall}
 use Rattle.cell_protocol.specs.declared.observer.Placed.{Placed}
+use Rattle.cell_protocol.specs.declared.seen.AddedChunk.{AddedChunk}
 use Rattle.cell_protocol.specs.Sending.{only_client}
 use Rattle.cell_protocol.specs.declared.standing.Kept.{Kept}
 use Rattle.cell_protocol.specs.Server.{ServerState}
@@ -32,13 +33,14 @@ pub record Attempt : Type 0 where
   pub bytes : List ℕ
   pub deadline : ℕ
 
--- What messages and nodes speak of: the machine, the chunks' handles, the attempts, and the nodes.
+-- What messages and nodes speak of: the machine, the chunks' handles, the attempts, what an observer kept, and the nodes.
 pub record Known : Type 0 where
   pub config : Config
   pub m : Machine
   pub owner : ℕ → Option Spot
   pub attempts : ℕ → Option Attempt
   pub placed : List Placed
+  pub added : List AddedChunk
   pub greatest : ℕ
   pub master : Option MasterState
   pub server : Option ServerState

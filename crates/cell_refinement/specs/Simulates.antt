@@ -27,7 +27,7 @@ use Rattle.cell_protocol.specs.Master.{MasterState}
 use Rattle.cell_protocol.specs.MasterNames.{reply_of}
 use Rattle.cell_protocol.specs.Client.{ClientState}
 use Rattle.cell_protocol.specs.ClientAttempts.{is_append, is_mutating}
-use Rattle.cell_protocol.specs.Observer.{entries_of}
+use Rattle.cell_protocol.specs.Observer.{entries_of, chunks_of}
 use Rattle.cell_protocol.specs.World.{WorldState}
 use Rattle.cell_refinement.specs.Known.{Known, Spot, Attempt, IsAttempt, HasEntry, HasNoEntry, OnCall, IsChunkCall, IsMutationCall, IsReadOf, IsFullBefore, IsRoundOpen, open_call_of, the_client_of, calls_made, chunk_of}
 use Rattle.cell_refinement.specs.Says.{Says, SaysPush, IsReadable, IsLastOffered, IsOver, IsFullAt, IsUnplaced}
@@ -44,6 +44,15 @@ pub record IsChunkAt (k : Known) (handle : ℕ) (at : Spot) : Type 0 where
   pub within : at.index < chunk_count k.m at.file
   pub order : (chunk_of k.m at).order ≡ entries_of k.placed handle
   pub round : IsBefore (chunk_of k.m at) ⊎ IsGoing (chunk_of k.m at)
+
+-- These handles are a file's chunks, so many, each at its index.
+pub record AreChunks (owner : ℕ → Option Spot) (number file : ℕ) (handles : List ℕ) : Type 0 where
+  pub count : length handles ≡ number
+  pub owned : (index handle : ℕ) → slice_get handles index ≡ Some handle → owner handle ≡ Some (record { file = file; index = index })
+
+-- the handles of a file, in the order of the machine's chunks
+abbrev pub IsFileOf : Known → ℕ → List ℕ → Type 0
+IsFileOf k file handles = AreChunks k.owner (chunk_count k.m file) file handles
 
 -- of two attempts of a call the earlier one is over at the server, while that is up
 abbrev pub AreInTurn : (ℕ → Option Attempt) → Option ServerState → Type 0
@@ -66,6 +75,8 @@ pub record IsMachine (k : Known) : Type 0 where
   pub placed : All (λ (p : Placed). (p.numbering.version.0 ≡ 1) × (p.numbering.data_id.client.0 ≡ only_client) × (p.call ≤ calls_made k.m)) k.placed
   pub in_turn : AreInTurn k.attempts k.server
   pub attempts : (seq : ℕ) (a : Attempt) → k.attempts seq ≡ Some a → IsAttempt k a × IfSome k.client (λ s. seq ≤ s.number)
+  -- each file's chunks are those that were seen added
+  pub added : (file : ℕ) → IsFileOf k file (chunks_of k.added file)
   -- files that were not made, chunks past a file's end, and handles that no chunk has
   pub unmade : (file : ℕ) → k.m.file_count < file → chunk_count k.m file ≡ 0
   pub untouched : (at : Spot) → chunk_count k.m at.file ≤ at.index → chunk_of k.m at ≡ new_chunk
@@ -74,11 +85,6 @@ pub record IsMachine (k : Known) : Type 0 where
 -- a row of the master's table: the granted version is the machine's round
 abbrev pub IsRow : ChunkRow → Chunk → Type 0
 IsRow row c = ((row.granted.0 ≡ 0) × (c.round ≡ 0)) ⊎ ((row.granted.0 ≡ 1) × IsGoing c)
-
--- the handles of a file, in the order of its chunks
-pub record IsFileOf (k : Known) (file : ℕ) (handles : List ℕ) : Type 0 where
-  pub count : length handles ≡ chunk_count k.m file
-  pub owner : (index handle : ℕ) → slice_get handles index ≡ Some handle → k.owner handle ≡ Some (record { file = file; index = index })
 
 -- the master's kept answer is an outcome of its call, while that is open
 abbrev pub IsKeptCall : Known → KeptCall → Type 0
@@ -89,7 +95,7 @@ pub record IsMaster (k : Known) (s : MasterState) : Type 0 where
   pub now : s.now ≤ k.greatest
   pub names : s.names ≡ k.m.names
   pub next_file : s.next_file ≡ suc k.m.file_count
-  pub files : (file : ℕ) → IsReadable k file → (handles : List ℕ) × (table.get s.files file ≡ Some handles) × IsFileOf k file handles
+  pub files : (file : ℕ) → IsReadable k file → table.get s.files file ≡ Some (chunks_of k.added file)
   pub rows : (handle : ℕ) (row : ChunkRow) → table.get s.chunks handle ≡ Some row → (at : Spot) × (k.owner handle ≡ Some at) × IsRow row (chunk_of k.m at)
   pub fresh : (handle : ℕ) (at : Spot) → k.owner handle ≡ Some at → handle < s.next_handle
   pub kept : IfSome s.kept (IsKeptCall k)
@@ -216,6 +222,7 @@ known_of w m owner attempts =
       owner = owner;
       attempts = attempts;
       placed = w.observer.placed;
+      added = w.observer.added;
       greatest = w.observer.greatest;
       master = w.master;
       server = w.server;

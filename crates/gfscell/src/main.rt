@@ -1,6 +1,10 @@
 //! `gfscell`: a Google File System cell that runs scripts.
 #![tactic(auto)]
 
+ghost use Rattle.std.specs.Prelude.{◌≡◌};
+ghost use Rattle.std.specs.Process.{exit_status};
+ghost use Rattle.gfscell.specs.Status.{status_of};
+
 use command_line::command::{CommandFault, Request, parse};
 use command_line::options::Options;
 use shell::fault::ScriptFault;
@@ -21,7 +25,9 @@ enum ProgramFault {
 }
 
 impl ProgramFault {
-    fn exit_code(&self) -> ExitCode {
+    fn exit_code(&self) -> ExitCode
+        ensures { exit_status result ≡ status_of self.now }
+    {
         match self {
             ProgramFault::Command(CommandFault::Bad) => ExitCode::from(2),
             ProgramFault::Command(CommandFault::NoMemory) | ProgramFault::Script(_) => {

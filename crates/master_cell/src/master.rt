@@ -14,16 +14,15 @@ ghost use Rattle.cell_protocol.specs.MasterStep.{master_takes, master_at};
 ghost use Rattle.cell_protocol.specs.Conforms.{MasterSteps};
 
 use crate::names::NameNode;
-use cell_protocol::effects::{Effects, down};
+use cell_protocol::effects::{Effects, Outcome};
 use cell_protocol::limits::COUNTER_LIMIT;
 use cell_protocol::rows::{ChunkRow, KeptCall};
 use gfs_types::config::Config;
-use messages::event::StepOut;
 use gfs_types::ids::{Handle, Moment, Node, OrderNo, ServerId, Version};
 use gfs_types::lists::{HandleList, ServerList};
-use messages::message::{Body, Message};
 use gfs_types::no_memory::NoMemory;
 use gfs_types::path::Path;
+use messages::message::{Body, Message};
 use number_map::NumberMap;
 use path_trie::trie::Trie;
 use std::alloc::{Allocator, Global};
@@ -104,14 +103,14 @@ impl<A: Allocator + Clone> Master<A> {
     }
 
     /// A step on a message, or on a tick.
-    pub fn step(&mut self, now: Moment, message: Option<&Message>) -> StepOut
+    pub fn step(&mut self, now: Moment, message: Option<&Message>) -> Outcome
         requires { now.0 ≤ moment_limit }
-        ensures { MasterSteps self.old now.0 (input_of (option_copied message.entry)) result self.new }
+        ensures { MasterSteps self.old now.0 (input_of (option_copied message.entry)) result.out result.seen self.new }
     {
         let Ok(effects) = self.goes(now, message) else {
-            return down(self.alloc);
+            return Outcome::down(self.alloc);
         };
-        effects.into_out()
+        effects.into_outcome()
     }
 
     fn goes(&mut self, now: Moment, message: Option<&Message>) -> Result<Effects, NoMemory>

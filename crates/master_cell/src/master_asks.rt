@@ -13,12 +13,13 @@ ghost use Rattle.cell_protocol.specs.MasterAsks.{takes_ask, asks_of, looks_at, m
 use crate::master::{Master, from_master, only_member};
 use cell_protocol::effects::Effects;
 use cell_protocol::rows::ChunkRow;
+use cell_protocol::seen::{AddedChunk, Seen};
 use gfs_types::ids::{FileId, Handle, Moment, Node, OrderNo, ServerId, Version};
 use gfs_types::lists::HandleList;
-use messages::message::{Body, Group, Holder, Location, Wanted};
-use messages::message_lists::{HolderList, MessageList};
 use gfs_types::no_memory::NoMemory;
 use gfs_types::refusal::Refusal;
+use messages::message::{Body, Group, Holder, Location, Wanted};
+use messages::message_lists::{HolderList, MessageList};
 use std::alloc::{Allocator, Global};
 
 impl<A: Allocator + Clone> Master<A> {
@@ -192,7 +193,11 @@ impl<A: Allocator + Clone> Master<A> {
         requires { IsTrue (is_master_within_limits self.old) }
         ensures { IfOk result (λ e. adds_chunk self.old (record { client = client; number = number }) file.0 handles ≡ does self.new e) }
     {
-        let effects = self.orders_create(client, number)?;
+        let mut effects = self.orders_create(client, number)?;
+        effects.seen = Some(Seen::Added(AddedChunk {
+            file,
+            handle: Handle(self.next_handle),
+        }));
         handles.push(self.next_handle)?;
         self.files.insert(file.0, handles)?;
         self.chunks.insert(self.next_handle, new_row())?;

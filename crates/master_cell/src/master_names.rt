@@ -1,8 +1,10 @@
 //! Name calls at the master: the first refusal in order, else the effect (section 4.1).
 
-ghost use Rattle.std.specs.Prelude.{◌≡◌, if◌then◌else◌, IfOk, IsTrue};
+ghost use Rattle.std.specs.Prelude.{◌≡◌, if◌then◌else◌, option_map, IfOk, IsTrue};
 ghost use Rattle.std.specs.FinMap as map;
-ghost use Rattle.relaxed_file.specs.Names.{listing, is_dir};
+ghost use Rattle.relaxed_file.specs.Names.{listing, is_dir, node_at};
+ghost use Rattle.cell_protocol.specs.Sending.{file_id};
+ghost use Rattle.cell_protocol.specs.Shown.{file_named};
 ghost use Rattle.relaxed_file.specs.NameStep.{outcome_of, refusal_of, is_in_trash};
 ghost use Rattle.gfs_types.specs.declared.call.Call.TheVariants as call;
 ghost use Rattle.gfs_types.specs.declared.answer.Answer.TheVariants as answer;
@@ -23,10 +25,10 @@ use gfs_types::answer::Answer;
 use gfs_types::call::Call;
 use gfs_types::ids::{FileId, Moment, Node};
 use gfs_types::lists::{HandleList, NameList, Text};
-use messages::message::{Body, NameReply};
 use gfs_types::no_memory::NoMemory;
 use gfs_types::path::{Path, PathFault};
 use gfs_types::refusal::Refusal;
+use messages::message::{Body, NameReply};
 use std::alloc::{Allocator, Global};
 
 impl<A: Allocator + Clone> Master<A> {
@@ -62,6 +64,16 @@ impl<A: Allocator + Clone> Master<A> {
                 NameKind::File(id) => NameReply::Opened(id),
             },
         })
+    }
+
+    /// The file that a path names.
+    pub fn file(&self, path: &Path) -> Option<FileId>
+        ensures { result ≡ option_map file_id (file_named (node_at self.now.names path.now)) }
+    {
+        match self.names.get(path)?.kind() {
+            NameKind::Dir => None,
+            NameKind::File(id) => Some(id),
+        }
     }
 
     fn lists(&self, text: &Text) -> Result<Answer, NoMemory>

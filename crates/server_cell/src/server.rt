@@ -3,8 +3,9 @@
 ghost use Rattle.std.specs.Prelude.{◌≡◌, ◌≤◌, Some, None, IfOk};
 ghost use Rattle.std.specs.FinMap as map;
 ghost use Rattle.cell_protocol.specs.Tables.{moment_limit};
-ghost use Rattle.cell_protocol.specs.Bounds.{Fits};
-ghost use Rattle.std.specs.Option.{option_copied};
+ghost use Rattle.cell_protocol.specs.Bounds.{Fits, AllSeenWithin};
+ghost use Rattle.cell_protocol.specs.Shown.{stored_on};
+ghost use Rattle.std.specs.Option.{option_copied, option_to_list};
 ghost use Rattle.cell_protocol.specs.Doing.{input_of, does};
 ghost use Rattle.cell_protocol.specs.Server.{new_server, server_says, server_refuses};
 ghost use Rattle.cell_protocol.specs.ServerReads.{takes_read, takes_len};
@@ -14,13 +15,14 @@ ghost use Rattle.cell_protocol.specs.Conforms.{ServerSteps};
 
 use crate::replica::Replica;
 use cell_protocol::effects::{Effects, Outcome};
+use cell_protocol::shown::StoredReplica;
 use cell_protocol::standing::{Kept, LeaseHeld};
 use data_push::Buffer;
 use gfs_types::config::Config;
 use gfs_types::ids::{Handle, Moment, Node, ServerId, Version};
-use messages::message::{Body, Message};
 use gfs_types::no_memory::NoMemory;
 use gfs_types::refusal::Refusal;
+use messages::message::{Body, Message};
 use number_map::NumberMap;
 use std::alloc::Global;
 use std::marker::Model;
@@ -73,12 +75,26 @@ impl Server {
     /// A step on a message, or on a tick.
     pub fn step(&mut self, now: Moment, message: Option<&Message>) -> Outcome
         requires { now.0 ≤ moment_limit }
-        ensures { ServerSteps self.old now.0 (input_of (option_copied message.entry)) result.out result.seen self.new }
+        ensures steps { ServerSteps self.old now.0 (input_of (option_copied message.entry)) result.out result.seen self.new }
+        ensures within { AllSeenWithin result.seen }
     {
+        let alloc = self.alloc;
         let Ok(effects) = self.goes(now, message) else {
-            return Outcome::down(self.alloc);
+            return Outcome::down(alloc);
         };
         effects.into_outcome()
+    }
+
+    /// The replica of a handle, as it is stored.
+    pub fn stored(&self, handle: Handle) -> Option<StoredReplica>
+        ensures { option_to_list result ≡ stored_on (Some self.now) handle.0 }
+    {
+        let replica = self.replicas.get(handle.0)?;
+        Some(StoredReplica {
+            server: ServerId(1),
+            version: Version(replica.version()),
+            length: replica.len(),
+        })
     }
 
     fn goes(&mut self, now: Moment, message: Option<&Message>) -> Result<Effects, NoMemory>

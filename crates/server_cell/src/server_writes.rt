@@ -16,13 +16,13 @@ use crate::server::Server;
 use bytes::Bytes;
 use cell_protocol::effects::Effects;
 use cell_protocol::limits::COUNTER_LIMIT;
-use cell_protocol::seen::Numbering;
+use cell_protocol::seen::{Numbering, Seen};
 use cell_protocol::standing::{Kept, Standing};
 use gfs_types::ids::{DataId, Handle, Moment, Node, Serial, Version};
-use messages::message::{Body, Target};
 use gfs_types::mutation::Mutation;
 use gfs_types::no_memory::NoMemory;
 use gfs_types::refusal::Refusal;
+use messages::message::{Body, Target};
 use number_map::NumberMap;
 use record_append::place;
 use record_append::placing::Placing;
@@ -190,7 +190,7 @@ impl Server {
             standing,
         });
         let mut effects = self.answers_attempt(id, standing)?;
-        effects.seen = Some(numbering);
+        effects.seen = Some(Seen::Numbered(numbering));
         Ok(effects)
     }
 

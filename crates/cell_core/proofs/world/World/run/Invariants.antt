@@ -1,5 +1,5 @@
 use Rattle.std.proofs.Common.{◌≤◌, length}
-use Rattle.cell_protocol.specs.World.{IsExplained}
+use Rattle.cell_protocol.specs.Explained.{IsExplained}
 use Rattle.cell_core.proofs.Running.{GoesOn}
 use Rattle.cell_core.proofs.world.World.run.Given as goal
 
