@@ -10,7 +10,7 @@ use Rattle.cell_protocol.specs.Bounds.{largest_chunk, IsWithin}
 use Rattle.cell_protocol.specs.declared.observer.Placed.{Placed}
 use Rattle.cell_protocol.specs.Observer.{entry_of, entries_of}
 
-abbrev HasEnd : ℕ → Entry → Type 0
+abbrev pub HasEnd : ℕ → Entry → Type 0
 HasEnd chunk e = end_of chunk e.mutation < 2 ^ 64
 
 abbrev LiesWithin : Placed → Type 0

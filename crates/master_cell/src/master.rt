@@ -3,7 +3,7 @@
 ghost use Rattle.std.specs.Prelude.{◌≡◌, ◌≤◌, [], ◌∷◌, Some, None, IfOk, IsTrue};
 ghost use Rattle.std.specs.FinMap as map;
 ghost use Rattle.cell_protocol.specs.Tables.{moment_limit};
-ghost use Rattle.cell_protocol.specs.Bounds.{Fits};
+ghost use Rattle.cell_protocol.specs.Bounds.{Fits, AllSeenWithin};
 ghost use Rattle.gfs_types.specs.declared.ids.Node.TheVariants as node_kind;
 ghost use Rattle.std.specs.Option.{option_copied};
 ghost use Rattle.cell_protocol.specs.Doing.{input_of, does, TakesSo, GoesSo};
@@ -105,7 +105,8 @@ impl<A: Allocator + Clone> Master<A> {
     /// A step on a message, or on a tick.
     pub fn step(&mut self, now: Moment, message: Option<&Message>) -> Outcome
         requires { now.0 ≤ moment_limit }
-        ensures { MasterSteps self.old now.0 (input_of (option_copied message.entry)) result.out result.seen self.new }
+        ensures steps { MasterSteps self.old now.0 (input_of (option_copied message.entry)) result.out result.seen self.new }
+        ensures within { AllSeenWithin result.seen }
     {
         let Ok(effects) = self.goes(now, message) else {
             return Outcome::down(self.alloc);
