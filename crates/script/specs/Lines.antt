@@ -7,11 +7,12 @@ use Rattle.gfs_types.specs.declared.call.Call.{Call}
 use Rattle.gfs_types.specs.declared.call.Call.TheVariants as calls
 use Rattle.script.specs.declared.words.Data.{Data}
 use Rattle.script.specs.declared.words.Data.TheVariants.{Bytes, TooLong}
+use Rattle.script.specs.declared.lines.FileChunk.{FileChunk}
 use Rattle.script.specs.declared.lines.Line.{Line}
 use Rattle.script.specs.declared.lines.Line.TheVariants as lines
 use Rattle.script.specs.Numbers.{number_of}
 use Rattle.script.specs.Nodes.{client_of}
-use Rattle.script.specs.Words.{path_of, data_of}
+use Rattle.script.specs.Words.{path_of, full_path_of, data_of}
 
 abbrev pub name_call_for : List ℕ → List ℕ → Option Call
 name_call_for name path =
@@ -65,9 +66,21 @@ call_of (name ∷ fd ∷ last ∷ []) = append_call_of name fd last
 call_of (name ∷ fd ∷ offset ∷ last ∷ []) = range_call_of name fd offset last
 call_of _ = None
 
+abbrev pub client_line : List ℕ → List (List ℕ) → Option Line
+client_line client call = option_and_then (λ c. option_map (lines.Call c) (call_of call)) (client_of client)
+
+-- a chunk, by the full path of its file and its index
+abbrev pub chunk_of : List (List ℕ) → Option FileChunk
+chunk_of (path ∷ index ∷ []) = option_and_then (λ p. option_map (λ i. record { path = p; index = i }) (number_of index)) (full_path_of path)
+chunk_of _ = None
+
+-- a look at a chunk's regions or replicas, or a client's call
 abbrev pub line_for : List (List ℕ) → Option Line
 line_for [] = None
-line_for (first ∷ rest) = option_and_then (λ client. option_map (λ call. lines.Call client call) (call_of rest)) (client_of first)
+line_for (first ∷ rest) =
+    if bytes_eq first (codes "regions") then option_map lines.Regions (chunk_of rest)
+    else if bytes_eq first (codes "replicas") then option_map lines.Replicas (chunk_of rest)
+    else client_line first rest
 
 -- what stands between spaces
 abbrev pub words_of : List ℕ → List (List ℕ)

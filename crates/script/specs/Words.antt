@@ -1,7 +1,10 @@
 -- Words that stand for a path or for data.
-use Rattle.std.specs.Prelude.{◌≡◌, ⊤, ℕ, Bool, not, ◌&&◌, ◌==◌, nat_lt, nat_le, if◌then◌else◌, List, length, drop, slice_index, replicate, Option, Some, None, Result, Ok, Err}
+use Rattle.std.specs.Prelude.{◌≡◌, ⊤, ℕ, Bool, not, ◌&&◌, ◌==◌, nat_lt, nat_le, if◌then◌else◌, List, length, drop, slice_index, replicate, Option, Some, None, option_and_then, Result, Ok, Err}
 use Rattle.std.specs.List.{list_all, list_any}
 use Rattle.std.specs.Str.{byte, is_utf8}
+use Rattle.gfs_types.specs.declared.path.PathFault.{PathFault}
+use Rattle.gfs_types.specs.declared.path.PathFault.TheVariants as path_faults
+use Rattle.gfs_types.specs.Paths.{Path, is_path}
 use Rattle.script.specs.declared.fault.LineFault.{LineFault}
 use Rattle.script.specs.declared.fault.LineFault.TheVariants.{Bad, NoMemory}
 use Rattle.script.specs.declared.words.Data.{Data}
@@ -20,6 +23,17 @@ text_of word = if is_utf8 word then Some word else None
 -- any text without NUL and carriage return
 abbrev pub path_of : List ℕ → Option (List ℕ)
 path_of word = if nat_lt 0 (length word) && not (list_any (λ c. c == 0) word) && not (list_any (λ c. c == 13) word) then text_of word else None
+
+abbrev pub full_path_for : List ℕ → Option Path
+full_path_for text = if is_path text then Some text else None
+
+-- such a text that is a full path
+abbrev pub full_path_of : List ℕ → Option Path
+full_path_of word = option_and_then full_path_for (path_of word)
+
+abbrev pub path_fault : PathFault → LineFault
+path_fault path_faults.BadPath = Bad
+path_fault path_faults.NoMemory = NoMemory
 
 abbrev pub is_printable : ℕ → Bool
 is_printable c = nat_le 33 c && nat_le c 126

@@ -2,7 +2,9 @@
 
 ghost use Rattle.std.specs.Prelude.{◌≡◌};
 ghost use Rattle.script.specs.declared.fault.LineFault.TheVariants.{NoMemory};
+ghost use Rattle.script.specs.Words.{path_fault};
 
+use gfs_types::path::PathFault;
 use std::alloc::{AllocError, AllocFailed};
 use thiserror::Error;
 
@@ -29,5 +31,16 @@ impl<T: Drop> From<AllocFailed<T>> for LineFault {
 
     fn from(_error: AllocFailed<T>) -> LineFault {
         LineFault::NoMemory
+    }
+}
+
+impl From<PathFault> for LineFault {
+    ghost from_gives = { λ fault e. e ≡ path_fault fault };
+
+    fn from(fault: PathFault) -> LineFault {
+        match fault {
+            PathFault::BadPath => LineFault::Bad,
+            PathFault::NoMemory => LineFault::NoMemory,
+        }
     }
 }

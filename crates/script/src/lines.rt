@@ -2,19 +2,27 @@
 
 ghost use Rattle.std.specs.Prelude.{◌≡◌, IfOk, map};
 ghost use Rattle.script.specs.Words.{Reads};
-ghost use Rattle.script.specs.Lines.{words_of, write_call, append_call, name_call_of, short_call_of, append_call_of, range_call_of, call_of, line_of};
+ghost use Rattle.script.specs.Lines.{words_of, write_call, append_call, name_call_of, short_call_of, append_call_of, range_call_of, call_of, client_line, chunk_of, line_for, line_of};
 
 use crate::fault::LineFault;
 use crate::nodes::client;
 use crate::numbers::number;
-use crate::words::{Data, read_data, read_path};
+use crate::words::{Data, read_data, read_full_path, read_path};
 use bytes::Bytes;
 use gfs_types::call::Call;
 use gfs_types::ids::{ClientId, Fd};
+use gfs_types::path::Path;
 use std::alloc::{AllocError, Global};
 
 /// The bytes of a line before its line feed, at most.
 pub const MAX_LINE: usize = 8_192;
+
+/// A chunk, by the path of its file and its index in it, from 0.
+#[derive(Drop)]
+pub struct FileChunk {
+    pub path: Path,
+    pub index: u64,
+}
 
 /// What a line asks for.
 #[derive(Drop)]
@@ -22,6 +30,10 @@ pub enum Line {
     /// An empty line or a comment.
     Nothing,
     Call { client: ClientId, call: Call },
+    /// To print a chunk's regions.
+    Regions(FileChunk),
+    /// To print a chunk's replicas.
+    Replicas(FileChunk),
 }
 
 /// A call on a name.
@@ -118,6 +130,44 @@ fn call(alloc: Global, words: &[&[u8]]) -> Result<Call, LineFault>
     }
 }
 
+/// A client's call.
+fn client_line(alloc: Global, name: &[u8], words: &[&[u8]]) -> Result<Line, LineFault>
+    ensures { Reads result (client_line name.now (map (λ w. w.now) words.now)) }
+{
+    let client = client(name).ok_or(LineFault::Bad)?;
+    let call = call(alloc, words)?;
+    Ok(Line::Call { client, call })
+}
+
+/// A path and an index.
+fn file_chunk(alloc: Global, words: &[&[u8]]) -> Result<FileChunk, LineFault>
+    ensures { Reads result (chunk_of (map (λ w. w.now) words.now)) }
+{
+    match words {
+        [path, index] => {
+            let path = read_full_path(alloc, path)?;
+            let index = number(index).ok_or(LineFault::Bad)?;
+            Ok(FileChunk { path, index })
+        }
+        _ => Err(LineFault::Bad),
+    }
+}
+
+fn line_for(alloc: Global, words: &[&[u8]]) -> Result<Line, LineFault>
+    ensures { Reads result (line_for (map (λ w. w.now) words.now)) }
+{
+    let Some((first, rest)) = words.split_first() else {
+        return Err(LineFault::Bad);
+    };
+    if *first == b"regions".as_slice() {
+        Ok(Line::Regions(file_chunk(alloc, rest)?))
+    } else if *first == b"replicas".as_slice() {
+        Ok(Line::Replicas(file_chunk(alloc, rest)?))
+    } else {
+        client_line(alloc, first, rest)
+    }
+}
+
 /// The words of a line, which one space separates.
 fn split_words(alloc: Global, line: &[u8]) -> Result<Vec<&[u8]>, AllocError>
     ensures { IfOk result (λ v. map (λ w. w.now) v.items ≡ words_of line.now) }
@@ -139,10 +189,5 @@ pub fn parse(alloc: Global, line: &[u8]) -> Result<Line, LineFault>
         return Ok(Line::Nothing);
     }
     let words = split_words(alloc, line)?;
-    let Some((first, rest)) = words.as_slice().split_first() else {
-        return Err(LineFault::Bad);
-    };
-    let client = client(first).ok_or(LineFault::Bad)?;
-    let call = call(alloc, rest)?;
-    Ok(Line::Call { client, call })
+    line_for(alloc, words.as_slice())
 }

@@ -1,12 +1,13 @@
 //! Words that stand for a path or for data.
 
 ghost use Rattle.std.specs.Prelude.{◌≡◌, ◌<◌, IfOk, IsTrue, length, option_map};
-ghost use Rattle.script.specs.Words.{Reads, all_printable, is_repeated, text_of, path_of, data_of, repeated_of};
+ghost use Rattle.script.specs.Words.{Reads, all_printable, is_repeated, text_of, path_of, full_path_of, data_of, repeated_of};
 
 use crate::fault::LineFault;
 use crate::numbers::{is_numeral, number};
 use bytes::Bytes;
 use gfs_types::lists::Text;
+use gfs_types::path::Path;
 use std::alloc::{AllocError, Global};
 use std::str;
 
@@ -31,15 +32,32 @@ fn text(word: &[u8]) -> Option<&str>
     }
 }
 
-/// A path: any text without NUL and carriage return. Whether it is a full path is the master's to say.
+/// The text of a path: any text without NUL and carriage return.
+fn path_text(word: &[u8]) -> Option<&str>
+    ensures { option_map (λ t. t.now) result ≡ path_of word.now }
+{
+    if word.is_empty() || word.contains(&0) || word.contains(&b'\r') {
+        return None;
+    }
+    text(word)
+}
+
+/// A path of a call, which need not be a full path: that is the master's to say.
 pub fn read_path(alloc: Global, word: &[u8]) -> Result<Text, LineFault>
     ensures { Reads result (path_of word.now) }
 {
-    if word.is_empty() || word.contains(&0) || word.contains(&b'\r') {
-        return Err(LineFault::Bad);
-    }
-    match text(word) {
+    match path_text(word) {
         Some(text) => Ok(Text::new(String::from_str(alloc, text)?)),
+        None => Err(LineFault::Bad),
+    }
+}
+
+/// The path of a file whose chunk is asked for: a full path.
+pub fn read_full_path(alloc: Global, word: &[u8]) -> Result<Path, LineFault>
+    ensures { Reads result (full_path_of word.now) }
+{
+    match path_text(word) {
+        Some(text) => Ok(Path::parse(text, alloc)?),
         None => Err(LineFault::Bad),
     }
 }

@@ -1,6 +1,6 @@
 -- What an event adds to the trace is what is printed of it, and clocks that were kept stay so.
-use Rattle.std.proofs.Common.{◌≡◌, ◌≤◌, ◌+◌, ℕ, suc, Bool, true, false, cond, List, [], ◌∷◌, ◌++◌, ◌⊎◌, inl, inr, ⊎_elim, Option, Some, None, refl, sym, ap, ◌∙◌, subst, arith}
-use Rattle.std.specs.Prelude.{◌≢◌, option_map, nat_lt, nat_le, ◌&&◌, ◌||◌, ◌==◌, IsTrue}
+use Rattle.std.proofs.Common.{◌≡◌, ◌≤◌, ◌+◌, ℕ, zero, suc, Bool, true, false, cond, List, [], ◌∷◌, ◌++◌, ◌⊎◌, inl, inr, ⊎_elim, Option, Some, None, refl, sym, ap, ◌∙◌, subst, arith}
+use Rattle.std.specs.Prelude.{◌≢◌, option_map, nat_lt, nat_le, ◌&&◌, ◌||◌, ◌==◌, IsTrue, IfSome, All}
 use Rattle.std.specs.Io.KnownBytes.{Appends, Keeps}
 use Rattle.std.proofs.lemmas.List.{append-nil, append_assoc}
 use Rattle.std.proofs.lemmas.List.Elements.{filter-append}
@@ -16,7 +16,7 @@ use Rattle.messages.specs.declared.event.Input.TheVariants as input
 use Rattle.gfs_types.specs.declared.ids.Node.{Node}
 use Rattle.gfs_types.specs.declared.ids.Node.TheVariants as node
 use Rattle.messages.specs.declared.message.Message.{Message}
-use Rattle.relaxed_file.specs.Machine.{new_machine}
+use Rattle.relaxed_file.specs.Machine.{new_machine, chunk_at}
 use Rattle.relaxed_file.specs.Run.{Visible, Called, Passed}
 use Rattle.cell_protocol.specs.Tables.{moment_limit, numbered_from_1}
 use Rattle.cell_protocol.specs.Choice.{Choice, Ending, Goes, Lost}
@@ -28,8 +28,10 @@ use Rattle.cell_protocol.specs.Client.{ClientState}
 use Rattle.cell_protocol.specs.ClientStep.{may_call, client_call}
 use Rattle.cell_protocol.specs.Observer.{Observer, passed, answered, observed_moment}
 use Rattle.cell_protocol.specs.Conforms.{WorldSteps}
-use Rattle.cell_protocol.specs.World.{IsExplained, new_world, WorldState, Happened, nothing_happens, after_master, after_server, after_client, after_call, master_moves, server_moves, client_moves, moves, delivered, call_moves, at_moment, happens}
-use Rattle.shell.specs.Printing.{whole_line, line_of, lines_of, is_call, calls_of, is_answer_to, answers_to, line_at, answers_at, asked_by, MayAsk, node_of, now_of, Shows, Adds, Prints, Simulated}
+use Rattle.cell_protocol.specs.Shown.{order_at, replicas_at}
+use Rattle.cell_protocol.specs.Explained.{order_in, IsOfSelection, Explains, IsExplained}
+use Rattle.cell_protocol.specs.World.{new_world, after_events, WorldState, Happened, nothing_happens, after_master, after_server, after_client, after_call, master_moves, server_moves, client_moves, moves, delivered, call_moves, at_moment, happens}
+use Rattle.shell.specs.Printing.{Reaches, Follows, whole_line, line_of, lines_of, is_call, calls_of, is_answer_to, answers_to, line_at, answers_at, asked_by, MayAsk, node_of, now_of, Shows, Adds, Prints, Simulated}
 
 no_line : (n : Node) → [] ≡ line_at n None
 no_line node.Master = refl
@@ -102,7 +104,7 @@ lines_then : (greatest moment : ℕ) (rest : List Visible) → lines_of (passed 
 lines_then greatest moment rest = flat_map-append line_of (passed greatest moment) rest ∙ ap (λ (l : List ℕ). l ++ lines_of rest) (lines_of_passed greatest moment)
 
 -- the master and the server answer no client
-by_master : (w : WorldState) (m : MasterState) (d : Does MasterState) (moment : ℕ) (choice : Choice) (ending : Ending) → Shows w node.Master moment [] (after_master w moment (ends d choice ending).out (ends d choice ending).state)
+by_master : (w : WorldState) (m : MasterState) (d : Does MasterState) (moment : ℕ) (choice : Choice) (ending : Ending) → Shows w node.Master moment [] (after_master w moment (ends d choice ending) (ends d choice ending).state)
 by_master w m d moment choice Goes = record { more = passed w.observer.greatest moment; trace_is = refl; asked_are = only_passed w.observer.greatest moment []; answers_are = answers_of_passed w.observer.greatest moment; lines_are = lines_of_passed w.observer.greatest moment; config_is = refl; clocks = clocks_go w.config.skew_ms w.observer moment }
 by_master w m d moment choice Lost = record { more = []; trace_is = sym (append-nil w.observer.trace); asked_are = none_asked []; answers_are = refl; lines_are = refl; config_is = refl; clocks = λ le kept. (le, kept) }
 
@@ -208,8 +210,17 @@ pub appends_none : (a : Option (List ℕ)) → Appends a a []
 appends_none None = tt
 appends_none (Some x) = sym (append-nil x)
 
+-- further events
+events_on : (w : WorldState) (first later : List (Event × Choice)) → after_events w (first ++ later) ≡ after_events (after_events w first) later
+events_on w [] later = refl
+events_on w (step ∷ first) later = events_on (happens w step.0 step.1).world first later
+
+pub reaches_on : (a b c : WorldState) → Reaches a b → Reaches b c → Reaches a c
+reaches_on a b c p q = (p.0 ++ q.0, events_on a p.0 q.0 ∙ (ap (λ (w : WorldState). after_events w q.0) p.1 ∙ q.1))
+
 pub prints_none : (w : WorldState) (known : Option (List ℕ)) (asked : List Visible) → Prints w w known known asked false
 prints_none w known asked = record {
+  reached = ([], refl);
   more = [];
   trace_is = sym (append-nil w.observer.trace);
   asked_are = none_asked asked;
@@ -238,6 +249,7 @@ one_of false b = λ yes. inr yes
 -- A call's event and others after it, which call nothing.
 pub prints_on : (a b c : WorldState) (x y z : Option (List ℕ)) (asked : List Visible) (i j : Bool) → Prints a b x y asked i → Prints b c y z [] j → Prints a c x z asked (i || j)
 prints_on a b c x y z asked i j p q = record {
+  reached = reaches_on a b c p.reached q.reached;
   more = p.more ++ q.more;
   trace_is = q.trace_is ∙ (ap (λ (l : List Visible). l ++ q.more) p.trace_is ∙ append_assoc a.observer.trace p.more q.more);
   asked_are = subst (λ l. MayAsk l asked) (sym (filter-append is_call p.more q.more ∙ ap (λ (l : List Visible). calls_of p.more ++ l) (asks_none (calls_of q.more) q.asked_are) ∙ append-nil (calls_of p.more))) p.asked_are;
@@ -251,21 +263,33 @@ prints_on a b c x y z asked i j p q = record {
 
 -- the same after what was printed and went unanswered, or was answered before
 pub prints_last : (a b c : WorldState) (x y z : Option (List ℕ)) (asked : List Visible) (i j : Bool) → Prints a b x y asked i → Prints b c y z [] j → Prints a c x z asked j
-prints_last a b c x y z asked i j p q = prints_on a b c x y z asked false j (record { more = p.more; trace_is = p.trace_is; asked_are = p.asked_are; answered = λ yes. absurd (cc); printed_is = p.printed_is; config_is = p.config_is }) q
+prints_last a b c x y z asked i j p q = prints_on a b c x y z asked false j (record { reached = p.reached; more = p.more; trace_is = p.trace_is; asked_are = p.asked_are; answered = λ yes. absurd (cc); printed_is = p.printed_is; config_is = p.config_is }) q
 
 -- the same from the world of a simulator
 pub prints_from : (s t : Simulated) (new : WorldState) (before after : Option (List ℕ)) (asked : List Visible) (i : Bool) → s ≡ t → Prints s.world new before after asked i → Prints t.world new before after asked i
 prints_from s t new before after asked i same p = subst (λ (x : Simulated). Prints x.world new before after asked i) same p
 
--- a new world, whose trace is empty
+-- a new world shows no chunk
+no_chunk : (config : Config) (file index : ℕ) → order_at (new_world config) file index ≡ order_in (new_machine config) file index
+no_chunk config file index =
+    let none : nat_lt index 0 ≡ false = grind (arith, nat_tests) in
+    ap (λ (b : Bool). cond b (Some (chunk_at (new_machine config) file index).order) None) (sym none)
+
+no_replica : (config : Config) (file index : ℕ) → IfSome (replicas_at (new_world config) file index) (λ c. All (IsOfSelection config.chunk (chunk_at (new_machine config) file index).order) c.1)
+no_replica config file index = tt
+
+new_follows : (config : Config) → Follows (new_world config)
+new_follows config = (new_machine config, record { run = ([], tt, refl, refl); names = refl; orders = no_chunk config; replicas = no_replica config })
+
 pub starts : (config : Config) (w : WorldState) → w ≡ new_world config → (w.observer.greatest ≤ 0) × IsTrue w.observer.are_clocks_kept × IsExplained w
-starts config w is = subst (λ (x : WorldState). (x.observer.greatest ≤ 0) × IsTrue x.observer.are_clocks_kept × IsExplained x) (sym is) (omega arith, refl, λ _. (new_machine config, ([], tt, refl, refl)))
+starts config w is = subst (λ (x : WorldState). (x.observer.greatest ≤ 0) × IsTrue x.observer.are_clocks_kept × IsExplained x) (sym is) (omega arith, refl, λ _. new_follows config)
 
 -- what an event adds
 pub adds : (old new : WorldState) (e : Event) (n : Node) (answer : Option Answer) → node_of old e ≡ Some n → WorldSteps old e answer new → Adds old new (asked_by e) (answers_at n answer) (line_at n answer)
 adds old new e n answer at s =
     let shown : Shows old n (now_of e) (asked_by e) (happens old e s.choice) = shows_event old e n s.choice at in
     record {
+      reached = ((e, s.choice) ∷ [], s.world_is);
       more = shown.more;
       trace_is = ap (λ (w : WorldState). w.observer.trace) (sym s.world_is) ∙ shown.trace_is;
       asked_are = shown.asked_are;
@@ -294,6 +318,7 @@ appends_kept (Some x) (Some y) (Some z) xs h k = k ∙ h
 pub prints_lines : (old new : WorldState) (before after : Option (List ℕ)) (asked answers : List Visible) (lines : List ℕ) (is_answered : Bool) → Adds old new asked answers lines → Appends before after lines → (IsTrue is_answered → answers ≢ [])
     → Prints old new before after asked is_answered
 prints_lines old new before after asked answers lines is_answered a h some = record {
+  reached = a.reached;
   more = a.more;
   trace_is = a.trace_is;
   asked_are = a.asked_are;

@@ -1,3 +1,4 @@
+pub mod Chunks
 pub mod Faults
 pub mod Printing
 pub mod Reading

@@ -7,15 +7,26 @@ use Rattle.messages.specs.declared.event.Event.{Event}
 use Rattle.messages.specs.declared.event.Event.TheVariants as event
 use Rattle.gfs_types.specs.declared.ids.Node.{Node}
 use Rattle.gfs_types.specs.declared.ids.Node.TheVariants as node
+use Rattle.relaxed_file.specs.Machine.{Machine}
 use Rattle.relaxed_file.specs.Run.{Visible, Called, Answered, Passed}
+use Rattle.cell_protocol.specs.Choice.{Choice}
+use Rattle.cell_protocol.specs.Explained.{Explains}
 use Rattle.cell_protocol.specs.Tables.{numbered_from_1}
 use Rattle.cell_protocol.specs.Sending.{only_client}
-use Rattle.cell_protocol.specs.World.{WorldState, Happened}
+use Rattle.cell_protocol.specs.World.{WorldState, Happened, after_events}
 use Rattle.script.specs.Answers.{answer_line}
-use Rattle.shell.specs.Reading.{line_feed}
+use Rattle.shell.specs.Reading.{with_feed}
+
+-- events lead from one world to the other
+abbrev pub Reaches : WorldState → WorldState → Type 0
+Reaches old new = (steps : List (Event × Choice)) × (after_events old steps ≡ new)
+
+-- a run of the machine explains the world
+abbrev pub Follows : WorldState → Type 0
+Follows w = (m : Machine) × Explains w m
 
 abbrev pub whole_line : ℕ → Answer → List ℕ
-whole_line client reply = answer_line client reply ++ line_feed ∷ []
+whole_line client reply = with_feed (answer_line client reply)
 
 abbrev pub line_of : Visible → List ℕ
 line_of (Called client asked) = []
@@ -81,6 +92,7 @@ MayAsk seen asked = seen ≢ [] → seen ≡ asked
 
 -- a world that went on, and what is to be printed of it
 pub record Adds (old new : WorldState) (asked answers : List Visible) (lines : List ℕ) : Type 0 where
+  pub reached : Reaches old new
   pub more : List Visible
   pub trace_is : new.observer.trace ≡ old.observer.trace ++ more
   pub asked_are : MayAsk (calls_of more) asked
@@ -90,6 +102,7 @@ pub record Adds (old new : WorldState) (asked answers : List Visible) (lines : L
 
 -- a world that went on by this call at most, what was printed of it, and whether there was an answer
 pub record Prints (old new : WorldState) (before after : Option (List ℕ)) (asked : List Visible) (is_answered : Bool) : Type 0 where
+  pub reached : Reaches old new
   pub more : List Visible
   pub trace_is : new.observer.trace ≡ old.observer.trace ++ more
   pub asked_are : MayAsk (calls_of more) asked

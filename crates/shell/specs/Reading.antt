@@ -5,6 +5,9 @@ use Rattle.std.specs.List.{All}
 abbrev pub line_feed : ℕ
 line_feed = 10
 
+abbrev pub with_feed : List ℕ → List ℕ
+with_feed line = line ++ line_feed ∷ []
+
 -- the bytes of a line before its line feed, at most
 abbrev pub longest_line : ℕ
 longest_line = 8192

@@ -5,6 +5,7 @@ ghost use Rattle.std.specs.IoError.{error_kind};
 ghost use Rattle.shell.specs.Faults.{start_fault, line_fault};
 
 use cell_core::fault::StartFault;
+use gfs_types::no_memory::NoMemory;
 use script::fault::LineFault;
 use std::io::{self, ErrorKind};
 use thiserror::Error;
@@ -12,7 +13,8 @@ use thiserror::Error;
 /// Why a script comes to no end.
 #[derive(Clone, Copy, Debug, PartialEq, Eq, Error)]
 pub enum ScriptFault {
-    /// The line of this number isn't in the language, or names a node that the cell doesn't have. Lines count from 1.
+    /// The line of this number isn't in the language, or names a node, a file or a chunk that the cell doesn't have. Lines
+    /// count from 1.
     #[error("line {0}: bad line")]
     Line(u64),
     /// The line of this number needs more than a million rounds of ticks.
@@ -27,6 +29,12 @@ pub enum ScriptFault {
     Read,
     #[error("cannot write")]
     Write,
+}
+
+impl From<NoMemory> for ScriptFault {
+    fn from(_fault: NoMemory) -> ScriptFault {
+        ScriptFault::NoMemory
+    }
 }
 
 impl ScriptFault {

@@ -1,6 +1,7 @@
 //! Runs scripts on a simulated cell.
 #![tactic(auto)]
 
+mod chunk_lines;
 pub mod fault;
 mod reading;
 pub mod run;

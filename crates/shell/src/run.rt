@@ -2,7 +2,7 @@
 
 ghost use Rattle.std.specs.Prelude.{◌≢◌, None, OnOk};
 ghost use Rattle.script.specs.Lines.{line_of};
-ghost use Rattle.shell.specs.Scripts.{IsIdle, Runs, RunsAll, RunsTheScript, calls_on};
+ghost use Rattle.shell.specs.Scripts.{IsIdle, Runs, RunsAll, RunsTheScript, asked_on};
 
 use crate::fault::ScriptFault;
 use crate::reading::read_line;
@@ -21,7 +21,7 @@ fn run_line<A: Allocator + Clone, W: Write>(
     writer: &mut W,
 ) -> Result<(), ScriptFault>
     requires { IsIdle simulator.old.world.observer.trace }
-    ensures runs { OnOk result (Runs simulator.old.world simulator.new.world (W.contents writer.old) (W.contents writer.new) (calls_on line.now)) }
+    ensures runs { OnOk result (Runs simulator.old.world simulator.new.world (W.contents writer.old) (W.contents writer.new) (asked_on line.now)) }
     ensures is_line { OnOk result (line_of line.now ≢ None) }
 {
     match parse(alloc, line) {
@@ -33,6 +33,20 @@ fn run_line<A: Allocator + Clone, W: Write>(
             }
             if !simulator.call(client, call, writer)? {
                 return Err(ScriptFault::NoEnd(number));
+            }
+            simulator.follows_the_machine();
+            Ok(())
+        }
+        Ok(Line::Regions(chunk)) => {
+            if !simulator.print_regions(alloc, &chunk, writer)? {
+                return Err(ScriptFault::Line(number));
+            }
+            simulator.follows_the_machine();
+            Ok(())
+        }
+        Ok(Line::Replicas(chunk)) => {
+            if !simulator.print_replicas(alloc, &chunk, writer)? {
+                return Err(ScriptFault::Line(number));
             }
             simulator.follows_the_machine();
             Ok(())
@@ -61,14 +75,16 @@ fn run_lines<A: Allocator + Clone, R: BufRead, W: Write>(
     Err(ScriptFault::Line(u64::MAX))
 }
 
-/// Runs a script on a new cell, and prints each answer when it comes. Where it ends well, what was printed are the answers of
-/// a run of the relaxed-file machine whose calls are those of the script, each of which was answered.
+/// Runs a script on a new cell, and prints each answer when it comes, and a chunk's regions or replicas as they then stand.
+/// Where it ends well, each call of the script was answered, and the calls and answers are those of a run of the relaxed-file
+/// machine.
 ///
 /// The cell is made before the first line is read. At a fault the lines that were printed before stay printed, and no later
 /// line is run.
 ///
 /// - `Start`: the cell can't be made.
-/// - `Line`: a line isn't in the language, or is past the greatest number of lines.
+/// - `Line`: a line isn't in the language, names a client, a file or a chunk that isn't there, or is past the greatest number
+///   of lines.
 /// - `NoEnd`: a line needs too many rounds of ticks.
 /// - `NoMemory`: memory was refused outside the cell's own steps.
 /// - `Read`, `Write`: the reader or the writer failed.

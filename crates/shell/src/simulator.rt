@@ -1,20 +1,26 @@
 //! A cell under the simulator's clock, which delivers its messages in the order of their numbers.
 
-ghost use Rattle.std.specs.Prelude.{◌≡◌, ◌≢◌, ◌&&◌, nat_le, ◌∷◌, [], Some, IfOk, OnOk, IsTrue};
+ghost use Rattle.std.specs.Prelude.{◌≡◌, ◌≢◌, ◌&&◌, nat_le, ◌∷◌, [], Some, IfSome, IfOk, OnOk, IsTrue};
+ghost use Rattle.std.specs.Option.{is_some};
 ghost use Rattle.std.specs.Io.KnownBytes.{Appends};
-ghost use Rattle.shell.specs.Printing.{Adds, Prints, answers_at, asked_by, line_at, node_of, now_of};
+ghost use Rattle.shell.specs.Chunks.{regions_shown, replicas_shown};
+ghost use Rattle.shell.specs.Printing.{Adds, Follows, Prints, answers_at, asked_by, line_at, node_of, now_of};
+ghost use Rattle.shell.specs.Reading.{with_feed};
 ghost use Rattle.cell_protocol.specs.World.{new_world};
-ghost use Rattle.relaxed_file.specs.Run.{Called, IsRun};
+ghost use Rattle.relaxed_file.specs.Run.{Called};
 
+use crate::chunk_lines::{RegionsLine, ReplicasLine};
 use crate::fault::ScriptFault;
 use cell_core::world::World;
 use command_line::options::Options;
 use gfs_types::answer::Answer;
 use gfs_types::call::Call;
-use messages::event::Event;
 use gfs_types::ids::{ClientId, Moment, Node, ServerId};
+use messages::event::Event;
 use script::answers::AnswerLine;
+use script::lines::FileChunk;
 use std::alloc::{Allocator, Global};
+use std::fmt;
 use std::io::Write;
 use std::marker::Model;
 
@@ -39,7 +45,7 @@ impl<A: Allocator> Model for Simulator<A> {
     ghost use Rattle.std.specs.Prelude.{◌≤◌, IsTrue};
     ghost use Rattle.std.specs.Coded.{codes, coded_ℕ, coded_list};
     ghost use Rattle.std.specs.FinMap as map;
-    ghost use Rattle.cell_protocol.specs.World.{IsExplained};
+    ghost use Rattle.cell_protocol.specs.Explained.{IsExplained};
     ghost use Rattle.shell.specs.Printing.{Simulated};
 
     ghost Value = { Simulated };
@@ -76,9 +82,9 @@ impl<A: Allocator + Clone> Simulator<A> {
         }
     }
 
-    /// The calls and answers so far are a run of the relaxed-file machine.
+    /// A run of the relaxed-file machine has the calls and answers so far, and explains the world.
     pub fn follows_the_machine(&self)
-        ensures { IsRun self.now.world.config self.now.world.observer.trace }
+        ensures { Follows self.now.world }
     {
         let _ = &self.world;
     }
@@ -203,6 +209,50 @@ impl<A: Allocator + Clone> Simulator<A> {
         }
         Ok(is_answered)
     }
+
+    /// Prints the regions of a chunk, and tells whether there is such a file and chunk.
+    pub fn print_regions<W: Write>(
+        &self,
+        alloc: Global,
+        chunk: &FileChunk,
+        writer: &mut W,
+    ) -> Result<bool, ScriptFault>
+        ensures there { IfOk result (λ is_there. is_there ≡ is_some (regions_shown self.now.world chunk.now)) }
+        ensures printed { OnOk result (IfSome (regions_shown self.now.world chunk.now) (λ text. Appends (W.contents writer.old) (W.contents writer.new) text)) }
+    {
+        let Some(file) = self.world.file(&chunk.path) else {
+            return Ok(false);
+        };
+        let Some(regions) = self.world.regions(alloc, file, chunk.index)? else {
+            return Ok(false);
+        };
+        print_line(&RegionsLine(regions.as_slice()), writer)?;
+        Ok(true)
+    }
+
+    /// Prints the handle and the replicas of a chunk, and tells whether there is such a file and chunk.
+    pub fn print_replicas<W: Write>(
+        &self,
+        alloc: Global,
+        chunk: &FileChunk,
+        writer: &mut W,
+    ) -> Result<bool, ScriptFault>
+        ensures there { IfOk result (λ is_there. is_there ≡ is_some (replicas_shown self.now.world chunk.now)) }
+        ensures printed { OnOk result (IfSome (replicas_shown self.now.world chunk.now) (λ text. Appends (W.contents writer.old) (W.contents writer.new) text)) }
+    {
+        let Some(file) = self.world.file(&chunk.path) else {
+            return Ok(false);
+        };
+        let Some((handle, replicas)) = self.world.replicas(alloc, file, chunk.index)? else {
+            return Ok(false);
+        };
+        let line = ReplicasLine {
+            handle,
+            replicas: replicas.as_slice(),
+        };
+        print_line(&line, writer)?;
+        Ok(true)
+    }
 }
 
 /// Prints a client's answer, if there is one, and tells whether there was.
@@ -224,7 +274,13 @@ fn print_answer<W: Write>(
         client,
         answer: &answer,
     };
-    writeln!(writer, "{line}").map_err(|e| ScriptFault::of_write(&e))?;
-    writer.flush().map_err(|e| ScriptFault::of_write(&e))?;
+    print_line(&line, writer)?;
     Ok(true)
+}
+
+fn print_line<L: fmt::Display, W: Write>(line: &L, writer: &mut W) -> Result<(), ScriptFault>
+    ensures { OnOk result (IfSome (L.output line.now) (λ text. Appends (W.contents writer.old) (W.contents writer.new) (with_feed text))) }
+{
+    writeln!(writer, "{line}").map_err(|e| ScriptFault::of_write(&e))?;
+    writer.flush().map_err(|e| ScriptFault::of_write(&e))
 }

@@ -149,6 +149,100 @@ fn appends_records(rt: HostRuntime) -> Result<(), Fail> {
 }
 
 #[test]
+fn shows_chunks(rt: HostRuntime) -> Result<(), Fail> {
+    let rows: [(&str, &str); 8] = [
+        (
+            "c1 append 1 a*16\nreplicas /f 0\n",
+            "c1 at 0\nreplicas 1 s1 v1 16\n",
+        ),
+        (
+            "c1 append 1 a*13\nc1 append 1 a*13\nc1 append 1 a*13\nc1 append 1 a*13\nc1 append 1 a*13\nc1 read 1 52 12\nregions /f 0\n",
+            "c1 at 0\nc1 at 13\nc1 at 26\nc1 at 39\nc1 at 64\nc1 bytes 12 000000000000000000000000 rounds 1\nregions 0-64 determined\n",
+        ),
+        // the chunk behind a pad
+        (
+            "c1 write 1 0 z*60\nc1 append 1 a*16\nregions /f 0\nregions /f 1\nreplicas /f 0\nreplicas /f 1",
+            "c1 done\nc1 at 64\nregions 0-64 determined\nregions 0-16 determined\nreplicas 1 s1 v1 64\nreplicas 2 s1 v1 16\n",
+        ),
+        // a hole is determined
+        (
+            "c1 write 1 10 x\nregions /f 0\nreplicas /f 0\n",
+            "c1 done\nregions 0-11 determined\nreplicas 1 s1 v1 11\n",
+        ),
+        // a chunk with an empty record alone
+        (
+            "c1 append 1 a*0\nregions /f 0\nreplicas /f 0\n",
+            "c1 at 0\nregions -\nreplicas 1 s1 v1 0\n",
+        ),
+        // as they stand when the line is run
+        (
+            "c1 append 1 a\nregions /f 0\nc1 append 1 b*2\nregions /f 00\nregions /f 0\nc1 length 1\n",
+            "c1 at 0\nregions 0-1 determined\nc1 at 1\nregions 0-3 determined\nregions 0-3 determined\nc1 length 3\n",
+        ),
+        // of the file of that path
+        (
+            "c1 create /g\nc1 open /g\nc1 write 2 0 hello\nc1 append 1 x\nreplicas /f 0\nreplicas /g 0\nregions /g 0\n",
+            "c1 done\nc1 fd 2\nc1 done\nc1 at 0\nreplicas 2 s1 v1 1\nreplicas 1 s1 v1 5\nregions 0-5 determined\n",
+        ),
+        (
+            "c1 mkdir /d\nc1 create /d/\u{e9}\nc1 open /d/\u{e9}\nc1 append 2 xy\nregions /d/\u{e9} 0\n",
+            "c1 done\nc1 done\nc1 fd 2\nc1 at 0\nregions 0-2 determined\n",
+        ),
+    ];
+    after_open(&rt, rt.alloc(), &rows)
+}
+
+#[test]
+fn refuses_chunks(rt: HostRuntime) -> Result<(), Fail> {
+    let alloc = rt.alloc();
+    let lines = [
+        // no such file or chunk
+        "regions /f 1",
+        "replicas /f 1",
+        "regions /f 18446744073709551615",
+        "regions /g 0",
+        "replicas /g 0",
+        "regions / 0",
+        "replicas /.gone 0",
+        "regions /f/x 0",
+        // no path
+        "regions f 0",
+        "replicas /f/ 0",
+        "regions //f 0",
+        // not in the language
+        "regions",
+        "regions /f",
+        "regions /f 0 0",
+        "replicas /f 0 1",
+        "regions /f x",
+        "regions /f -1",
+        "regions /f +0",
+        "replicas /f 18446744073709551616",
+        "regions /f 0 ",
+        "regions  /f 0",
+        " regions /f 0",
+        "regions /f 0\r",
+        "Regions /f 0",
+        "region /f 0",
+        "c1 regions /f 0",
+        "s1 replicas /f 0",
+        "master regions /f 0",
+    ];
+    for line in lines {
+        let first = "c1 create /f\nc1 open /f\nc1 append 1 a\nregions /f 0\n";
+        let script = padded(alloc, first, b' ', 0, line)?;
+        let (printed, result) = outcome(alloc, &small_cell(), script.as_slice());
+        assert_eq!(rt; result, Err(ScriptFault::Line(5)), "{line}");
+        assert_eq!(rt;
+            printed.as_slice(),
+            b"c1 done\nc1 fd 1\nc1 at 0\nregions 0-1 determined\n".as_slice(),
+            "{line}"
+        );
+    }
+    Ok(())
+}
+
+#[test]
 fn refuses_lines(rt: HostRuntime) {
     let lines: [&[u8]; 46] = [
         b"c1 fly /x",
