@@ -1,4 +1,5 @@
 mod Images
+mod Marked
 mod NameSteps
 mod Selections
 mod Sorted

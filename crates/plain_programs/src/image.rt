@@ -7,6 +7,15 @@ ghost use Rattle.gfs_types.specs.Mutations as change;
 use gfs_types::mutation::Mutation;
 use std::alloc::{AllocError, Global};
 
+/// The first place of a mutation.
+pub fn start_of(mutation: &Mutation) -> u64
+    ensures { result ≡ change.start_of mutation.now }
+{
+    match mutation {
+        Mutation::Write(offset, _) | Mutation::Append(offset, _) | Mutation::Pad(offset) => *offset,
+    }
+}
+
 /// The first place past a mutation, in a chunk of this size.
 pub fn end_of(chunk: u64, mutation: &Mutation) -> u64
     requires { change.end_of chunk mutation.now < 2 ^ 64 }
@@ -36,10 +45,7 @@ pub fn covers(chunk: u64, place: u64, mutation: &Mutation) -> bool
     requires { change.end_of chunk mutation.now < 2 ^ 64 }
     ensures { result ≡ change.covers chunk place mutation.now }
 {
-    let start = match mutation {
-        Mutation::Write(offset, _) | Mutation::Append(offset, _) | Mutation::Pad(offset) => *offset,
-    };
-    start <= place && place < end_of(chunk, mutation)
+    start_of(mutation) <= place && place < end_of(chunk, mutation)
 }
 
 /// The byte at a place: that of the last mutation that covers it, and 0 where none does.

@@ -4,10 +4,10 @@ ghost use Rattle.std.specs.Prelude.{◌≡◌, ◌<◌, ◌^◌, All, IfOk, OnOk
 ghost use Rattle.gfs_types.specs.Mutations as change;
 ghost use Rattle.relaxed_file.specs.Order as order;
 ghost use Rattle.relaxed_file.specs.Regions as spec;
-ghost use Rattle.std.specs.Prelude.{◌-◌, reverse};
+ghost use Rattle.std.specs.Prelude.{◌-◌, ◌&&◌, ℕ, get_or, if◌then◌else◌, length, nat_le, nat_lt, reverse, true};
 
 use crate::entry::Entry;
-use crate::image::{covers, end_of};
+use crate::image::{covers, end_of, start_of};
 use relaxed_file::region::Region;
 use std::alloc::{AllocError, Global};
 
@@ -35,6 +35,31 @@ pub fn is_determined(chunk: u64, entries: &[Entry], place: u64) -> bool
         }
     }
     settled.unwrap_or(true)
+}
+
+/// Overwrites the marks of a range's places, of which some may lie past the last mark.
+fn paint(marks: &mut [bool], start: u64, end: u64, settled: bool)
+    ensures length { length marks.new ≡ length marks.old }
+    ensures marks { (place : ℕ) → place < length marks.old → get_or marks.new place true ≡ if nat_le start place && nat_lt place end then settled else get_or marks.old place true }
+{
+    for place in start..end.min(marks.len() as u64) {
+        marks[place as usize] = settled;
+    }
+}
+
+/// Whether each place below an end is determined: all are until the entries, in order, overwrite their ranges.
+fn marks(alloc: Global, chunk: u64, entries: &[Entry], end: u64) -> Result<Vec<bool>, AllocError>
+    requires { All (λ e. change.end_of chunk e.mutation < 2 ^ 64) entries.now }
+    ensures length { IfOk result (λ marks. length marks.items ≡ end) }
+    ensures marks { IfOk result (λ marks. (place : ℕ) → place < end → get_or marks.items place true ≡ spec.is_determined chunk entries.now place) }
+{
+    let mut marks = vec![in alloc; true; end as usize]?;
+    for entry in entries {
+        let start = start_of(entry.mutation());
+        let end = end_of(chunk, entry.mutation());
+        paint(&mut marks, start, end, entry.is_settled());
+    }
+    Ok(marks)
 }
 
 /// Puts a place before the regions of those behind it. The first region is the list's last.
@@ -68,9 +93,10 @@ pub fn regions(alloc: Global, chunk: u64, entries: &[Entry]) -> Result<Vec<Regio
 {
     let mut regions = Vec::new(alloc);
     let end = order_length(chunk, entries);
+    let marks = marks(alloc, chunk, entries, end)?;
     for passed in 0..end {
         let place = end - 1 - passed;
-        join_before(&mut regions, place, is_determined(chunk, entries, place))?;
+        join_before(&mut regions, place, marks[place as usize])?;
     }
     regions.reverse();
     Ok(regions)
