@@ -2,7 +2,7 @@
 #![tactic(auto)]
 
 #[cfg(test)]
-mod messages;
+mod message_copies;
 #[cfg(test)]
 mod records;
 #[cfg(test)]
