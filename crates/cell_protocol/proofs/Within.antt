@@ -51,7 +51,7 @@ within chunk (mutation.Pad offset) h k = omega arith
 placed : (s : ServerState) (handle : ℕ) (r : Replica) (id : DataId) (m : Mutation) → s.config.chunk ≤ largest_chunk → IsGood (places_within s handle r id m)
 placed s handle r id m h =
     either (may_place s r (start_of m) (bytes_of s.config.chunk m)) (places s handle r id m) (stays s)
-      (λ may. within s.config.chunk m (at_most _ _ (and_left _ _ may)) h) tt
+    (λ may. within s.config.chunk m (at_most _ _ (and_left _ _ may)) h) tt
 
 appended : (s : ServerState) (handle : ℕ) (r : Replica) (id : DataId) (bytes : List ℕ) (p : Placing) → s.config.chunk ≤ largest_chunk → IsGood (appends_as s handle r id bytes p)
 appended s handle r id bytes (At offset) h = placed s handle r id (mutation.Append offset bytes) h

@@ -6,10 +6,10 @@ ghost use Rattle.messages.specs.declared.message.Message.{Message as MessageValu
 
 use crate::seen::Seen;
 use gfs_types::answer::Answer;
+use gfs_types::no_memory::NoMemory;
 use messages::event::StepOut;
 use messages::message::Message;
 use messages::message_lists::MessageList;
-use gfs_types::no_memory::NoMemory;
 use std::alloc::Global;
 
 /// The messages, the answer, and what is seen.

@@ -20,9 +20,9 @@ use gfs_types::answer::Answer;
 use gfs_types::call::Call;
 use gfs_types::ids::{ClientId, FileId, Moment, Node};
 use gfs_types::lists::RoundList;
-use messages::message::{Body, Message, Wanted};
 use gfs_types::no_memory::NoMemory;
 use gfs_types::refusal::Refusal;
+use messages::message::{Body, Message, Wanted};
 use std::alloc::Global;
 
 const LONGEST_RANGE: u64 = 67_108_864;

@@ -21,9 +21,9 @@ use gfs_types::answer::Answer;
 use gfs_types::call::Call;
 use gfs_types::ids::{ClientId, DataId, Fd, FileId, Node, ServerId};
 use gfs_types::lists::{RoundList, ServerList};
-use messages::message::{Body, Holder, Location, Message, NameReply, Target};
 use gfs_types::no_memory::NoMemory;
 use gfs_types::refusal::Refusal;
+use messages::message::{Body, Holder, Location, Message, NameReply, Target};
 
 impl Client {
     /// A message comes to a client with or without an open call.

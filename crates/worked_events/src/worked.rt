@@ -6,11 +6,11 @@ use cell_core::world::World;
 use gfs_types::answer::Answer;
 use gfs_types::call::Call;
 use gfs_types::config::Config;
-use messages::event::Event;
 use gfs_types::ids::{ClientId, Fd, Moment, Node};
 use gfs_types::lists::Text;
 use gfs_types::no_memory::NoMemory;
 use gfs_types::refusal::Refusal;
+use messages::event::Event;
 use std::alloc::Global;
 use std::test::Fail;
 
