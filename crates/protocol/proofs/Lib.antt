@@ -33,6 +33,9 @@ pub mod RowsSame
 pub mod RowsLogged
 pub mod RowsKept
 pub mod GrantsOnce
+pub mod MessagesSent
+pub mod RowsFit
+pub mod RevokesNumbered
 pub mod NamesLogged
 pub mod ScenesReached
 pub mod LeasesTold

@@ -27,8 +27,8 @@ use Rattle.protocol.proofs.VersionsAhead.{AreAhead, none_ahead, less_ahead}
 use Rattle.protocol.proofs.GrantedIssued.{IsIssued, step_issued, opens_issued, new_issued, started_from}
 use Rattle.protocol.proofs.Namespace.{IsNamespace, names_are_after}
 use Rattle.protocol.proofs.CopiesUnderWay.{AreCopied, AreSoundCopies}
-use Rattle.protocol.proofs.MasterMoves.{Core, core_of, IsDue, Nothing, AreNames, Keeps, core_changed, core_appended, core_ended, grant_record}
-use Rattle.protocol.proofs.MasterSteps.{goes_named}
+use Rattle.protocol.proofs.MasterMoves.{Core, core_of, IsDue, Nothing, NoneEnded, AreNames, Keeps, core_changed, core_appended, core_ended, grant_record}
+use Rattle.protocol.proofs.MasterSteps.{no_input, goes_named}
 use Rattle.protocol.proofs.OrderNumbers.{state_of, state-appended, AllStops, stops_push, changed-push, AllFound, found_same, found_stopped}
 use Rattle.protocol.proofs.LoggedParts.{Parts, parts_of, same_after, checkpoint_parts}
 use Rattle.protocol.proofs.MasterReached.{reached_here}
@@ -138,12 +138,13 @@ module _ (G : Logged → Type 0) (R : Logged → Logged → Type 0) (b : IsKeptB
       let rows : Table ChunkRow = changed_row c.logged.table.chunks handle (λ row. record row { lease_end = moment }) (table.get c.logged.table.chunks handle) in
       quieter start c (record c.logged { table = record c.logged.table { chunks = rows } }) refl (b.rows c.logged (state_of c.disk) rows (ended_same c.logged.table.chunks handle moment) h.tied) h
 
-  pub naming_keeps : (start : LogDisk) → Keeps (Unit {0}) Nothing (IsNaming start)
-  naming_keeps start =
+  pub naming_keeps : (start : LogDisk) → (Ended : ℕ → ℕ → Type 0) → Keeps (Unit {0}) Nothing Ended (IsNaming start)
+  naming_keeps start Ended =
       record {
-        tells = λ c receiver body none h. record { none = h.none; disk = h.disk; same = h.same; tied = h.tied; stops = h.stops };
+        tells = λ c receiver body quiet h. record { none = h.none; disk = h.disk; same = h.same; tied = h.tied; stops = h.stops };
+        revokes = λ c handle row is h. record { none = h.none; disk = h.disk; same = h.same; tied = h.tied; stops = h.stops };
         orders = λ c server body is plain h. record { none = h.none; disk = h.disk; same = h.same; tied = h.tied; stops = h.stops };
-        grants = λ c handle version until primary members told due names h.
+        grants = λ c handle version until primary members told due names from h.
             let r : Record = grant_record handle version primary members in
             let g : IsNaming start (core_ended (core_appended c r) handle until) = ended start (core_appended c r) handle until (due_appended start c r due (names tt) h) in
             record { none = g.none; disk = g.disk; same = g.same; tied = g.tied; stops = g.stops };
@@ -151,7 +152,8 @@ module _ (G : Logged → Type 0) (R : Logged → Logged → Type 0) (b : IsKeptB
         checkpoint = λ c tree h. checkpointed start c (tree tt) h;
         sound = λ asks c h. b.sound c.logged (state_of c.disk) h.tied;
         less = λ c handles copied h. quieter start c (copies_given_up c.logged handles) refl (b.less c.logged (state_of c.disk) handles copied h.tied) h;
-        ends = λ c handle moment h. ended start c handle moment h;
+        ends = λ c handle row is word h. ended start c handle 0 h;
+        extends = λ c handle until row is lasts later from h. let g : IsNaming start (core_ended c handle until) = ended start c handle until h in record { none = g.none; disk = g.disk; same = g.same; tied = g.tied; stops = g.stops };
       }
 
   -- of a master that is up, between its steps
@@ -199,7 +201,7 @@ module _ (G : Logged → Type 0) (R : Logged → Logged → Type 0) (b : IsKeptB
       (λ up. on_cond good (is_within_limits d.master) (master_ends m d choice choice.ending) (no_step m)
       (λ limits.
       let u : IsUpToLog m = h.up up in
-      let end = goes_named (IsNaming m.disk) (naming_keeps m.disk) m moment i choice.refused u.bound u.names u.ahead
+      let end = goes_named NoneEnded (IsNaming m.disk) (naming_keeps m.disk NoneEnded) m moment i choice.refused (no_input i) u.bound u.names u.ahead
       (record { none = u.idle; disk = refl; same = u.same; tied = u.tied; stops = h.found [] }) in
       ends_logged m d choice choice.ending limits h end.0 end.1 end.2)
       (λ _. h))
