@@ -39,3 +39,4 @@ pub mod RevokesNumbered
 pub mod NamesLogged
 pub mod ScenesReached
 pub mod LeasesTold
+pub mod RevokedLeases
