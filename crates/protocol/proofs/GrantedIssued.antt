@@ -75,13 +75,13 @@ issuing_keeps : (start : LogDisk) → Keeps ⊥ Nothing NoneEnded (IsIssuing sta
 issuing_keeps start =
     record {
       tells = λ c receiver b quiet h. record { none = h.none; disk = h.disk; rows = h.rows; stops = h.stops };
-      grants = λ c handle version until primary members told due names from h.
+      grants = λ c handle version until primary members told due names from idle h.
           let r : Record = grant_record handle version primary members in
           let g : IsIssuing start (core_ended (core_appended c r) handle until) = ended start (core_appended c r) handle until (appended start c r due h) in
           record { none = g.none; disk = g.disk; rows = g.rows; stops = g.stops };
       revokes = λ c handle row is h. record { none = h.none; disk = h.disk; rows = h.rows; stops = h.stops };
       orders = λ c server b is plain h. record { none = h.none; disk = h.disk; rows = h.rows; stops = h.stops };
-      appends = λ c r due names h. appended start c r due h;
+      appends = λ c r due plain names h. appended start c r due h;
       checkpoint = λ c tree h. checkpointed start c h;
       sound = λ asks. absurd asks;
       less = λ c handles copied h. quieter start c (record c.logged { copies = _; table = _ }) (removed_from (rows_of c.logged) handles) h;

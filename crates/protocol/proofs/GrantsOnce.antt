@@ -356,8 +356,8 @@ granting_keeps before start =
       tells = λ c receiver b quiet h. (base.tells c receiver b quiet h.0, sends before start c _ c.order_count (λ q v. no_order_grants q v b (no_order b quiet)) h.1);
       orders = λ c server b is plain h. (base.orders c server b is plain h.0, sends before start c _ (suc c.order_count) (λ q v. plain_grants q v (b _) (plain _)) h.1);
       revokes = λ c handle row is h. (base.revokes c handle row is h.0, sends before start c _ (suc c.order_count) (λ q v. refl) h.1);
-      grants = λ c handle version until primary members told due names from h. (base.grants c handle version until primary members told due names from h.0, granted before start c handle version until primary members due h.0 h.1);
-      appends = λ c r due names h. (base.appends c r due names h.0, appended before start c r due h.0 h.1);
+      grants = λ c handle version until primary members told due names from idle h. (base.grants c handle version until primary members told due names from idle h.0, granted before start c handle version until primary members due h.0 h.1);
+      appends = λ c r due plain names h. (base.appends c r due plain names h.0, appended before start c r due h.0 h.1);
       checkpoint = λ c tree h. (base.checkpoint c tree h.0, checkpointed before start c (tree tt) h.0 h.1);
       sound = λ asks c h. base.sound asks c h.0;
       less = λ c handles copied h. (base.less c handles copied h.0, quieter before start c (copies_given_up c.logged handles) (removed_from (rows_of c.logged) handles) (omega arith) h.1);
@@ -454,7 +454,7 @@ step_granted sent k m moment i choice logged h =
       disk = within_fewer (granted_before sent) (granted_by sent []) (state_of m.disk) some (h.found []);
       stops = h.found [];
     } in
-    let end = goes_named NoneEnded (λ c. IsRowing m.disk c × IsGranting sent m.disk c) (granting_keeps sent m.disk) m moment i choice.refused (no_input i) u.bound u.names u.ahead
+    let end = goes_named NoneEnded (λ c. IsRowing m.disk c × IsGranting sent m.disk c) (granting_keeps sent m.disk) m moment i choice.refused (no_input i) u.bound u.names u.ready
     (record { none = u.idle; disk = refl; same = u.same; tied = u.tied; stops = logged.found [] }, begun) in
     ends_granted sent k m d choice choice.ending h end.0.0 end.0.1)
     (λ _. same))

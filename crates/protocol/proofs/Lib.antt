@@ -5,6 +5,7 @@ pub mod CopiesUnderWay
 pub mod ChunkRows
 pub mod VersionAttempts
 pub mod VersionsAhead
+pub mod LeasesEnded
 pub mod Namespace
 pub mod HiddenNames
 pub mod FilesNamed
@@ -40,3 +41,4 @@ pub mod NamesLogged
 pub mod ScenesReached
 pub mod LeasesTold
 pub mod RevokedLeases
+pub mod LeaseEnds

@@ -25,9 +25,8 @@ use Rattle.protocol.specs.Laws.{order_number}
 use Rattle.protocol.proofs.Steps.{on_cond}
 use Rattle.protocol.proofs.Entries.{AllOf}
 use Rattle.protocol.proofs.Words.{is_of_lease}
-use Rattle.protocol.proofs.ChunkRows.{rows_of}
 use Rattle.protocol.proofs.VersionAttempts.{fewer_told}
-use Rattle.protocol.proofs.VersionsAhead.{fewer_ahead, less_ahead}
+use Rattle.protocol.proofs.LeasesEnded.{fewer_ready, less_ready}
 use Rattle.protocol.proofs.Namespace.{IsNamespace, IsNamed, IsAmong, AreAllApart, without_snapshot, filtered_namespace, all_among, all_still_among, mkdir_named, rmdir_named, create_named, delete_named, rename_named, waits_named, taken_named}
 use Rattle.protocol.proofs.CopiesUnderWay.{AreCopied, listed_copied}
 use Rattle.protocol.proofs.MasterMoves.{Core, core_of, IsDue, IsPlainOrder, IsNoGrantRecord, Keeps, logs_snapshots, At, logs_keeps}
@@ -58,7 +57,7 @@ module _ (Asks : Type 0) (Told : ℕ → ℕ → ℕ → Type 0) (Ended : ℕ �
   orders_keeps d server b e plain h = (k.orders (core_of d) server b e plain h.0, h.1, h.2, h.3)
 
   pub copies_keeps : (d : MasterDoing) (handles : List ℕ) → AreCopied d.master.logged handles → At Asks Told Ended P k d → At Asks Told Ended P k (gives_up_copies d handles)
-  copies_keeps d handles copied h = (k.less (core_of d) handles copied h.0, fewer_told Told d.master.attempts handles h.1, h.2, λ asks. less_ahead d.master.attempts (rows_of d.master.logged) handles (h.3 asks))
+  copies_keeps d handles copied h = (k.less (core_of d) handles copied h.0, fewer_told Told d.master.attempts handles h.1, h.2, λ asks. less_ready d.master.now d.master.attempts d.master.logged handles (h.3 asks))
 
   revoked_keeps : (d : MasterDoing) (handle : ℕ) (o : Option ChunkRow) → chunk_of d.master.logged.table handle ≡ o → At Asks Told Ended P k d → At Asks Told Ended P k (revokes_row d handle o)
   revoked_keeps d handle None is h = h
@@ -78,7 +77,7 @@ module _ (Asks : Type 0) (Told : ℕ → ℕ → ℕ → Type 0) (Ended : ℕ �
       let handles : List ℕ = snapshot_handles d.master s in
       let held : MasterDoing = without_attempts (takes_locks d s) handles in
       let files : List ℕ = copies_for_files d.master.logged (snapshot_files d.master s) in
-      revokes_all_keeps (gives_up_copies held files) handles (copies_keeps held files (listed_copied d.master.logged (λ c. has_number (snapshot_files d.master s) c.file)) (h.0, fewer_told Told d.master.attempts handles h.1, waits, λ asks. fewer_ahead d.master.attempts handles (rows_of d.master.logged) (h.3 asks)))
+      revokes_all_keeps (gives_up_copies held files) handles (copies_keeps held files (listed_copied d.master.logged (λ c. has_number (snapshot_files d.master s) c.file)) (h.0, fewer_told Told d.master.attempts handles h.1, waits, λ asks. fewer_ready d.master.now d.master.attempts handles d.master.logged (h.3 asks)))
 
   answers_keeps : (client number : ℕ) (o : Option Refusal) (d : MasterDoing) → At Asks Told Ended P k d → At Asks Told Ended P k (answers_name d client number o)
   answers_keeps client number o d h = tells_keeps d (the_client client) (body.Named number (Answered (reply_of o))) refl h

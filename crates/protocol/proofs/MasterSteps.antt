@@ -2,6 +2,7 @@
 use Rattle.std.proofs.Common.{◌≤◌, ℕ, Bool, List, [], ◌∷◌, Option, Some, None, refl, inr}
 use Rattle.std.specs.Prelude.{nat_lt, max}
 use Rattle.std.specs.FinMap as table
+use Rattle.std.proofs.Math.Nat.{le-max_left}
 use Rattle.messages.specs.declared.event.Input.{Input}
 use Rattle.messages.specs.declared.event.Input.TheVariants as input
 use Rattle.messages.specs.declared.message.Message.{Message}
@@ -15,9 +16,8 @@ use Rattle.protocol.specs.MasterSnapshots.{live_snapshots}
 use Rattle.protocol.specs.Master.{MasterState, MasterDoing, VersionAttempt, master_begins, logs}
 use Rattle.protocol.specs.MasterClones.{CloneOrder, orders_clone, best_clone}
 use Rattle.protocol.specs.MasterStep.{master_ticks, is_in_time, gives_up_attempts, gives_up_lost_copies, is_lost_copy, lost_copies, expires_all, expires_old, expired_files, master_takes, master_does, master_at, master_goes}
-use Rattle.protocol.proofs.ChunkRows.{rows_of}
 use Rattle.protocol.proofs.VersionAttempts.{IsServerNumber, AreTold, kept_told}
-use Rattle.protocol.proofs.VersionsAhead.{AreAhead, kept_ahead}
+use Rattle.protocol.proofs.LeasesEnded.{AreReady, later_ready, kept_ready}
 use Rattle.protocol.proofs.Namespace.{IsNamespace, filtered_namespace, expired_names}
 use Rattle.protocol.proofs.CopiesUnderWay.{keys_copied}
 use Rattle.protocol.proofs.MasterMoves.{Core, core_of, Nothing, NoneEnded, Keeps, At, logs_keeps}
@@ -50,7 +50,7 @@ module _ (Asks : Type 0) (Told : ℕ → ℕ → ℕ → Type 0) (Ended : ℕ �
       let a : MasterDoing = gives_up_attempts d in
       let b : MasterDoing = gives_up_lost_copies a in
       let c : MasterDoing = expires_old b in
-      clone_keeps c (best_clone c.master (table.entries c.master.logged.table.chunks)) (expires_keeps b (expired_files b.master) (copies_keeps Asks Told Ended P k a (lost_copies a.master) (keys_copied a.master.logged (is_lost_copy a.master)) (h.0, kept_told Told (is_in_time d.master) d.master.attempts h.1, h.2, λ asks. kept_ahead (is_in_time d.master) d.master.attempts (rows_of d.master.logged) (h.3 asks))))
+      clone_keeps c (best_clone c.master (table.entries c.master.logged.table.chunks)) (expires_keeps b (expired_files b.master) (copies_keeps Asks Told Ended P k a (lost_copies a.master) (keys_copied a.master.logged (is_lost_copy a.master)) (h.0, kept_told Told (is_in_time d.master) d.master.attempts h.1, h.2, λ asks. kept_ready d.master.now (is_in_time d.master) d.master.attempts d.master.logged (h.3 asks))))
 
   takes_keeps : (d : MasterDoing) (m : Message) (b : Body) → IsWordTold Told Ended (server_number m.sender) b → (Asks → d.master.logged.next_file ≤ counter_limit) → At Asks Told Ended P k d → At Asks Told Ended P k (master_takes d m b)
   takes_keeps d m (body.Name number deadline c) told bound h = name_keeps Asks Told Ended P k d (client_number m.sender) number deadline.0 c bound h
@@ -122,10 +122,10 @@ goes_keeps P k m moment i refused h = (goes_told ⊥ Nothing NoneEnded P k m mom
 
 -- the step, where names are asked for
 pub goes_named : (Ended : ℕ → ℕ → Type 0) (P : Core → Type 0) (k : Keeps (Unit {0}) Nothing Ended P) (m : MasterState) (moment : ℕ) (i : Input) (refused : List Bool) → IsInputTold Nothing Ended i → m.logged.next_file ≤ counter_limit
-    → IsNamespace m.logged.names m.snapshots → AreAhead m.attempts (rows_of m.logged) → P (core_of (master_begins (master_at m moment) refused))
+    → IsNamespace m.logged.names m.snapshots → AreReady m.now m.attempts m.logged → P (core_of (master_begins (master_at m moment) refused))
     → P (core_of (master_goes m moment i refused)) × IsNamespace (master_goes m moment i refused).master.logged.names (master_goes m moment i refused).master.snapshots
-    × AreAhead (master_goes m moment i refused).master.attempts (rows_of (master_goes m moment i refused).master.logged)
-goes_named Ended P k m moment i refused told bound names ahead h =
+    × AreReady (master_goes m moment i refused).master.now (master_goes m moment i refused).master.attempts (master_goes m moment i refused).master.logged
+goes_named Ended P k m moment i refused told bound names ready h =
     let live : IsNamespace m.logged.names (live_snapshots (max m.now moment) m.snapshots) = filtered_namespace m.logged.names (λ s. nat_lt (max m.now moment) s.deadline) m.snapshots names in
-    let end = goes_told (Unit {0}) Nothing Ended P k m moment i refused told (λ asks. bound) (h, none_asked m.attempts, λ asks. live, λ asks. ahead) in
+    let end = goes_told (Unit {0}) Nothing Ended P k m moment i refused told (λ asks. bound) (h, none_asked m.attempts, λ asks. live, λ asks. later_ready m.now (max m.now moment) m.attempts m.logged (le-max_left m.now moment) ready) in
     (end.0, end.2 tt, end.3 tt)

@@ -171,10 +171,10 @@ numbers_keep start epoch before =
       tells = λ c receiver b quiet h. told c receiver b (no_order b quiet) h;
       orders = λ c server b is plain h. ordered c server b is h;
       revokes = λ c handle row is h. ordered c row.primary (λ order. body.Revoke order (handle_of handle) (version_of row.granted)) (λ o. refl) h;
-      grants = λ c handle version until primary members told due names from h.
+      grants = λ c handle version until primary members told due names from idle h.
           let r : Record = grant_record handle version primary members in
           ordered (core_ended (core_appended c r) handle until) primary (λ order. body.Grant order (handle_of handle) (version_of version) (moment_of until) members) (λ o. refl) (ended (core_appended c r) handle until (appended c r due h));
-      appends = λ c r due names h. appended c r due h;
+      appends = λ c r due plain names h. appended c r due h;
       checkpoint = λ c tree h. checkpointed c h;
       sound = λ asks. absurd asks;
       less = λ c handles copied h.

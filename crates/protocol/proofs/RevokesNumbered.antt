@@ -85,7 +85,7 @@ abbrev pub ArePaired : List Message → Type 0
 ArePaired ms = (g r : Message) → IsSent ms g → IsSent ms r → IsPaired g r
 
 -- each of these messages is one of those, but for its number
-abbrev AreAmong : List Message → List Message → Type 0
+abbrev pub AreAmong : List Message → List Message → Type 0
 AreAmong less ms = (m : Message) → IsSent less m → (x : Message) × IsSent ms x × IsSameMessage x m
 
 used_more : (next more : ℕ) (m : Message) → next ≤ more → IsUsed next m → IsUsed more m
@@ -165,10 +165,10 @@ granted_to_after k handle version primary members =
 
 -- one message more
 
-abbrev IsOneMore : List Message → Message → List Message → Type 0
+abbrev pub IsOneMore : List Message → Message → List Message → Type 0
 IsOneMore ms m more = (x : Message) → IsSent more x → IsSent ms x ⊎ (m ≡ x)
 
-one_more : (before sent : List Message) (m : Message) → IsOneMore (before ++ sent) m (before ++ (sent ++ m ∷ []))
+pub one_more : (before sent : List Message) (m : Message) → IsOneMore (before ++ sent) m (before ++ (sent ++ m ∷ []))
 one_more before sent m x h =
     elim (sent_cases before (sent ++ m ∷ []) x h) [
       | inl old ↦ inl (sent_before before sent x old)
@@ -227,7 +227,7 @@ plain_paired ms more m one plain h =
 
 -- a step so far
 
-abbrev IsRowing : LogDisk → Core → Type 0
+abbrev pub IsRowing : LogDisk → Core → Type 0
 IsRowing start c = IsNaming IsFoundRows IsRowedLog rows_kept start c
 
 record IsRevoking (before : List Message) (start : LogDisk) (c : Core) : Type 0 where
@@ -236,7 +236,7 @@ record IsRevoking (before : List Message) (start : LogDisk) (c : Core) : Type 0 
   disk : Agrees (before ++ c.sent) (state_of c.disk)
   stops : AllStops (λ d. Agrees before (state_of d)) start c.changes
 
-before_among : (before sent : List Message) → AreAmong before (before ++ sent)
+pub before_among : (before sent : List Message) → AreAmong before (before ++ sent)
 before_among before sent m s = (m, sent_before before sent m s, (refl, refl, refl))
 
 -- the disk and the state change together
@@ -527,12 +527,12 @@ revoking_keeps before start epoch count numbered =
       tells = λ c receiver b quiet h. (base.tells c receiver b quiet h.0, numbers.tells c receiver b quiet h.1, sends before start c _ c.order_count (quiet_plain b quiet) h.2);
       orders = λ c server b is plain h. (base.orders c server b is plain h.0, numbers.orders c server b is plain h.1, sends before start c _ (suc c.order_count) (plain _) h.2);
       revokes = λ c handle row is h. (base.revokes c handle row is h.0, numbers.revokes c handle row is h.1, revoked before start epoch count numbered c handle row is h.0 h.1 h.2);
-      grants = λ c handle version until primary members told due names from h. (
-        base.grants c handle version until primary members told due names from h.0,
-        numbers.grants c handle version until primary members told (due_less c.logged (grant_record handle version primary members) due) (λ asks. absurd asks) from h.1,
+      grants = λ c handle version until primary members told due names from idle h. (
+        base.grants c handle version until primary members told due names from idle h.0,
+        numbers.grants c handle version until primary members told (due_less c.logged (grant_record handle version primary members) due) (λ asks. absurd asks) from (λ asks. absurd asks) h.1,
         granted before start c handle version until primary members due h.0 h.2,
       );
-      appends = λ c r due names h. (base.appends c r due names h.0, numbers.appends c r (due_less c.logged r due) (λ asks. absurd asks) h.1, appended before start c r due h.0 h.2);
+      appends = λ c r due plain names h. (base.appends c r due plain names h.0, numbers.appends c r (due_less c.logged r due) plain (λ asks. absurd asks) h.1, appended before start c r due h.0 h.2);
       checkpoint = λ c tree h. (base.checkpoint c tree h.0, numbers.checkpoint c (λ asks. absurd asks) h.1, checkpointed before start c (tree tt) h.0 h.2);
       less = λ c handles copied h. (base.less c handles copied h.0, numbers.less c handles copied h.1, quieter before start c (copies_given_up c.logged handles) (removed_from (rows_of c.logged) handles) (omega arith) h.2);
       ends = λ c handle row is word h. (base.ends c handle row is word h.0, numbers.ends c handle row is word h.1, ended before start c handle 0 h.2);
@@ -659,7 +659,7 @@ step_revokes sent k m moment i choice logged numbered h =
     let first : Core = core_of (master_begins (master_at m moment) choice.refused) in
     let now : IsRevoking sent m.disk first = begins_revoking sent m.disk first refl refl h.pairs (h.up up) (h.found []) (h.found []) in
     let end = goes_named NoneEnded (λ c. IsRowing m.disk c × Numbers m.disk epoch m.order_count c × IsRevoking sent m.disk c)
-    (revoking_keeps sent m.disk epoch m.order_count (numbered_before sent m numbered up)) m moment i choice.refused (no_input i) u.bound u.names u.ahead
+    (revoking_keeps sent m.disk epoch m.order_count (numbered_before sent m numbered up)) m moment i choice.refused (no_input i) u.bound u.names u.ready
     (record { none = u.idle; disk = refl; same = u.same; tied = u.tied; stops = logged.found [] }, begun sent m moment choice.refused numbered up, now) in
     ends_revokes sent k m d choice choice.ending h (end.0).0 (end.0).2)
     (λ _. same))

@@ -20,6 +20,10 @@ AreFit F rows = (handle : ℕ) (row : ChunkRow) → table.get rows handle ≡ So
 abbrev pub granted_logged : Logged → ℕ → ℕ → ℕ → List ℕ → Logged
 granted_logged k handle version primary members = record k { table = record k.table { chunks = changed_row (rows_of k) handle (granted_row version primary members) (table.get (rows_of k) handle) } }
 
+pub same_row : (o p : Option ChunkRow) (row : ChunkRow) → IsSameRow o p → p ≡ Some row → (old : ChunkRow) × (o ≡ Some old) × (without_end old ≡ without_end row)
+same_row None p row same is = none_some (without_end row) (same ∙ ap (λ (x : Option ChunkRow). option_map without_end x) is)
+same_row (Some old) p row same is = (old, refl, same_some (without_end old) (without_end row) (same ∙ ap (λ (x : Option ChunkRow). option_map without_end x) is))
+
 module _ (F : ℕ → ℕ → ℕ → Type 0) where
   moved : (handle : ℕ) (old row : ChunkRow) → old.granted ≡ row.granted → old.primary ≡ row.primary → F handle old.granted old.primary → F handle row.granted row.primary
   moved handle old row granted primary h = subst (λ (n : ℕ). F handle n row.primary) granted (subst (λ (n : ℕ). F handle old.granted n) primary h)
@@ -41,10 +45,6 @@ module _ (F : ℕ → ℕ → ℕ → Type 0) where
         | inl now ↦ subst (λ (r : ChunkRow). F handle r.granted r.primary) now.3 (subst (λ (q : ℕ). F q (change now.0).granted (change now.0).primary) (sym now.1) (fits now.0 now.2))
         | inr before ↦ h handle row before.1
       ]
-
-  same_row : (o p : Option ChunkRow) (row : ChunkRow) → IsSameRow o p → p ≡ Some row → (old : ChunkRow) × (o ≡ Some old) × (without_end old ≡ without_end row)
-  same_row None p row same is = none_some (without_end row) (same ∙ ap (λ (x : Option ChunkRow). option_map without_end x) is)
-  same_row (Some old) p row same is = (old, refl, same_some (without_end old) (without_end row) (same ∙ ap (λ (x : Option ChunkRow). option_map without_end x) is))
 
   pub fit_same : (t u : Rows) → ((q : ℕ) → AreSameAt t u q) → AreFit F t → AreFit F u
   fit_same t u same h handle row is =
