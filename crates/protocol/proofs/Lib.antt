@@ -42,3 +42,4 @@ pub mod ScenesReached
 pub mod LeasesTold
 pub mod RevokedLeases
 pub mod LeaseEnds
+pub mod LeasesTimed
