@@ -117,6 +117,8 @@ def check_leases(cell):
             if master['up'] and row and greatest < primary['held']['until']:
                 if row['granted'] != primary['held']['version'] or row['lease_end'] < primary['held']['until']:
                     raise Broken(f'chunk {handle}: a lease that may count ended at the master')
+                if row['primary'] != server['id'] or row['members'] != primary['held']['members']:
+                    raise Broken(f'chunk {handle}: a lease that may count is of another primary or of other members than the master logged')
                 if row['references'] > 1:
                     raise Broken(f'chunk {handle}: shared, and a lease of it may count')
 

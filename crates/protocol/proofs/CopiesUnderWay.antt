@@ -7,11 +7,11 @@ use Rattle.std.specs.Cmp.{unsigned_tied}
 use Rattle.std.proofs.lemmas.Bool.{true≢false, eqb-true, and_parts, or_right}
 use Rattle.std.specs.FinMap as table
 use Rattle.std.specs.FinMap.Entries.{find}
-use Rattle.protocol.specs.Tables.{first_of_list}
+use Rattle.protocol.specs.Tables.{Table, removed_all, first_of_list}
 use Rattle.protocol.specs.ChunkTable.{ChunkRow, chunk_of}
 use Rattle.protocol.specs.Logged.{Logged, Copy, copies_that, copies_given_up}
 use Rattle.protocol.specs.MasterVersions.{copy_for}
-use Rattle.protocol.proofs.Steps.{none_some, same_some, gone_split}
+use Rattle.protocol.proofs.Steps.{none_some, same_some, gone_split, stays_gone, now_gone}
 use Rattle.protocol.proofs.Entries.{AllOf, IsFound, all_found, same_number}
 
 -- no copy is under way for this chunk of this file
@@ -135,3 +135,15 @@ keys_copied l test q is = key_copied (table.get l.copies q) (table.contains_key-
 
 pub keys_are_copied : (l : Logged) → AreCopied l (table.keys l.copies)
 keys_are_copied l q is = key_copied (table.get l.copies q) (table.contains_key-keys l.copies q ∙ is)
+
+-- copies that are all given up
+
+pub copy_listed : (copies : Table Copy) (q : ℕ) (c : Copy) → table.get copies q ≡ Some c → list_any (eq_by_cmp nat_cmp q) (table.keys copies) ≡ true
+copy_listed copies q c is = sym (table.contains_key-keys copies q) ∙ ap is_some is
+
+pub no_copies : (copies : Table Copy) (q : ℕ) → table.get (removed_all copies (table.keys copies)) q ≡ None
+no_copies copies q = by_copy (table.get copies q) refl
+  where
+    by_copy : (o : Option Copy) → table.get copies q ≡ o → table.get (removed_all copies (table.keys copies)) q ≡ None
+    by_copy None is = stays_gone copies (table.keys copies) q is
+    by_copy (Some c) is = now_gone copies (table.keys copies) q (copy_listed copies q c is)

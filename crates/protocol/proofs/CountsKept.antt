@@ -15,7 +15,7 @@ use Rattle.protocol.specs.Logged.{Logged, KeptCall, Copy, first_logged, after_re
 use Rattle.protocol.specs.Laws.{times_in}
 use Rattle.protocol.proofs.Steps.{none_some, same_or_not, put_cases, put_split, put_there, put_other, gone_other, gone_split, kept_cases, removed_cases}
 use Rattle.protocol.proofs.Entries.{AllOf}
-use Rattle.protocol.proofs.CopiesUnderWay.{AreCopied, keys_are_copied}
+use Rattle.protocol.proofs.CopiesUnderWay.{AreCopied, keys_are_copied, no_copies}
 use Rattle.protocol.proofs.MasterMoves.{IsDue, AreNames, removed_other}
 use Rattle.protocol.proofs.OrderNumbers.{after-append}
 use Rattle.protocol.proofs.ChunkRows.{rows_of}
@@ -23,7 +23,7 @@ use Rattle.protocol.proofs.LoggedParts.{Parts, parts_of, checkpoint_parts}
 use Rattle.protocol.proofs.FilesNamed.{Files, AreDistinct}
 use Rattle.protocol.proofs.OneName.{HasOneName, all_has, sorted_distinct, left_copy}
 use Rattle.protocol.proofs.NamesReached.{IsKeptByLog, AreSameButEnds, without_end}
-use Rattle.protocol.proofs.FilesLogged.{without_copy, copies_after, copies_are_after, same_copy, no_copies, records_logged, checkpoint_logged, checkpoint_no_copies, less_logged, restart_logged, first_log_of, epochs_logged, rows_logged}
+use Rattle.protocol.proofs.FilesLogged.{without_copy, copies_after, copies_are_after, same_copy, records_logged, checkpoint_logged, checkpoint_no_copies, less_logged, restart_logged, first_log_of, epochs_logged, rows_logged}
 use Rattle.protocol.proofs.Owners.{chunks_at, times_new, references_of, owned_refs, AreCounted, none_counted, no_times, changed_refs, fewer_counted}
 use Rattle.protocol.proofs.CountsLogged.{AreApart, HaveRows, IsPlacedIn, ArePlaced, AreAlone, IsCountDue, IsCopyPlaced, IsFoundCounts, IsCountedLog, apart_here, files_below, new_is_none, counted_after, fresh, apart_after, below_after, unlisted, rows_after}
 

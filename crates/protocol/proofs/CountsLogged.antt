@@ -13,14 +13,14 @@ use Rattle.protocol.specs.Tables.{Table, removed_all, element_at, with_at}
 use Rattle.protocol.specs.ChunkTable.{ChunkRow, ChunkTable, new_row, changed_row, granted_row, grant, shared, all_shared, left_by, left, all_left, handles_of}
 use Rattle.protocol.specs.Logged.{Logged, Copy, after_record, copies_for_file, swapped_in, with_copied_node, with_copied_nodes}
 use Rattle.protocol.specs.Laws.{times_in}
-use Rattle.protocol.proofs.Steps.{on_cond, none_some, count-cons, count-append, same_or_not, put_cases, put_there, put_other, gone_other, gone_split, kept_cases, removed_cases}
+use Rattle.protocol.proofs.Steps.{on_cond, none_some, count-cons, count-append, same_or_not, put_cases, put_there, put_other, gone_other, gone_split, kept_cases, removed_cases, now_gone}
 use Rattle.protocol.proofs.CopiesUnderWay.{listed_copied}
 use Rattle.protocol.proofs.MasterMoves.{IsDue, removed_other}
 use Rattle.protocol.proofs.ChunkRows.{Rows, rows_of}
 use Rattle.protocol.proofs.LoggedParts.{Parts, parts_of}
 use Rattle.protocol.proofs.FilesNamed.{Files, HasFile}
 use Rattle.protocol.proofs.OneName.{HasOneName}
-use Rattle.protocol.proofs.FilesLogged.{IsFoundLog, IsLogOf, without_copy, copies_after, now_gone}
+use Rattle.protocol.proofs.FilesLogged.{IsFoundLog, IsLogOf, without_copy, copies_after}
 use Rattle.protocol.proofs.Owners.{stands, chunks_at, times_put, times_gone, times_at_least, HasRow, tally_same, tally_other, shared_row, AreCounted, file_counted, copied_counted, dropped_counted, added_counted, unowned_counted, changed_refs, fewer_counted, placed_stands, swapped_counted}
 
 -- a copy's handle stands in no file

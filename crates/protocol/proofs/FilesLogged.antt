@@ -17,9 +17,10 @@ use Rattle.protocol.specs.Tables.{Table, removed_all}
 use Rattle.protocol.specs.Sending.{file_id, handle_of}
 use Rattle.protocol.specs.ChunkTable.{ChunkRow, ChunkTable, handles_of, new_row, changed_row, granted_row, grant, swap}
 use Rattle.protocol.specs.Logged.{Logged, Copy, first_logged, after_record, after_records, copies_for_file, copies_given_up, all_copies_given_up, swapped_in, with_copied_node, with_copied_nodes, checkpoint_of, name_item, node_item}
-use Rattle.protocol.proofs.Steps.{none_some, same_some, put_cases, put_split, put_there, put_other, gone_split, gone_other, same_or_not, kept_cases, removed_cases}
+use Rattle.protocol.proofs.Steps.{none_some, same_some, put_cases, put_split, put_there, put_other, gone_split, gone_other, same_or_not, kept_cases, removed_cases, now_gone}
 use Rattle.protocol.proofs.Entries.{AllOf, all_found, IsFound}
 use Rattle.protocol.proofs.MasterMoves.{IsDue, AreNames, removed_other}
+use Rattle.protocol.proofs.CopiesUnderWay.{copy_listed, no_copies}
 use Rattle.protocol.proofs.ChunkRows.{Rows, rows_of, From, all_copied_from, swapped_from, expired_from}
 use Rattle.protocol.proofs.LoggedParts.{Parts, parts_of}
 use Rattle.protocol.proofs.FilesNamed.{Files}
@@ -140,33 +141,6 @@ copy_stays l file handle c other is =
     (not_among (λ x. x.file == file) (table.entries l.copies) (table.entries l.copies) handle c (all_found (table.entries l.copies) (table.entries_sorted l.copies)) (sym (table.get-entries l.copies handle) ∙ is)
     (other_number c.file file other))
     ∙ is
-
--- a number that is taken out is gone
-stays_gone : {X : Type 0} (t : Table X) (ns : List ℕ) (q : ℕ) → table.get t q ≡ None → table.get (removed_all t ns) q ≡ None
-stays_gone {X} t ns q none = by_value (table.get (removed_all t ns) q) refl
-  where
-    by_value : (o : Option X) → table.get (removed_all t ns) q ≡ o → o ≡ None
-    by_value None is = refl
-    by_value (Some x) is = none_some x (sym none ∙ removed_cases t ns q x is)
-
-pub now_gone : {X : Type 0} (t : Table X) (ns : List ℕ) (q : ℕ) → list_any (eq_by_cmp nat_cmp q) ns ≡ true → table.get (removed_all t ns) q ≡ None
-now_gone t [] q h = absurd (true≢false (sym h))
-now_gone t (n ∷ ns) q h = by_key (eq_by_cmp nat_cmp q n) refl (now_gone (table.remove t n) ns q) h
-  where
-    by_key : (b : Bool) → eq_by_cmp nat_cmp q n ≡ b → (list_any (eq_by_cmp nat_cmp q) ns ≡ true → table.get (removed_all (table.remove t n) ns) q ≡ None) → b || list_any (eq_by_cmp nat_cmp q) ns ≡ true
-        → table.get (removed_all (table.remove t n) ns) q ≡ None
-    by_key true is rest g = stays_gone (table.remove t n) ns q (table.get-remove nat_cmp_total t n q ∙ ap (λ (b : Bool). cond b None (table.get t q)) is)
-    by_key false is rest g = rest g
-
-pub copy_listed : (copies : Table Copy) (q : ℕ) (c : Copy) → table.get copies q ≡ Some c → list_any (eq_by_cmp nat_cmp q) (table.keys copies) ≡ true
-copy_listed copies q c is = sym (table.contains_key-keys copies q) ∙ ap is_some is
-
-pub no_copies : (copies : Table Copy) (q : ℕ) → table.get (removed_all copies (table.keys copies)) q ≡ None
-no_copies copies q = by_copy (table.get copies q) refl
-  where
-    by_copy : (o : Option Copy) → table.get copies q ≡ o → table.get (removed_all copies (table.keys copies)) q ≡ None
-    by_copy None is = stays_gone copies (table.keys copies) q is
-    by_copy (Some c) is = now_gone copies (table.keys copies) q (copy_listed copies q c is)
 
 among_after : (l k : Logged) (r : Record) → IsDue (Unit {0}) l r → IsLogOf l k → AreAmong (copies_after l.copies r) (copies_after k.copies r)
 among_after l k (log.Expired file) due h = λ handle c is.

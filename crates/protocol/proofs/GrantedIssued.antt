@@ -17,10 +17,10 @@ use Rattle.protocol.specs.Master.{MasterState, MasterDoing, stopped_master, mast
 use Rattle.protocol.specs.MasterStep.{master_goes, master_ends, master_bounded, master_step, is_within_limits, found_log, lease_after_restart, started_master, opening, has_opened, opens_as, new_master, first_log}
 use Rattle.protocol.specs.Laws.{GrantedIsAtMostIssued}
 use Rattle.protocol.proofs.Steps.{on_cond, none_some}
-use Rattle.protocol.proofs.MasterMoves.{Core, core_of, IsDue, Nothing, Keeps, core_changed, core_appended, core_ended, grant_record}
+use Rattle.protocol.proofs.MasterMoves.{Core, core_of, IsDue, Nothing, NoneEnded, Keeps, core_changed, core_appended, core_ended, grant_record}
 use Rattle.protocol.proofs.MasterSteps.{goes_keeps}
 use Rattle.protocol.proofs.OrderNumbers.{state_of, state-appended, AllStops, stops_push, changed-push, AllFound, found_same, found_stopped}
-use Rattle.protocol.proofs.ChunkRows.{Rows, rows_of, AreIssued, From, same_from, then_from, removed_from, changed_from, mapped_from}
+use Rattle.protocol.proofs.ChunkRows.{Rows, rows_of, AreIssued, HaveSameVersions, From, same_from, then_from, removed_from, changed_from, mapped_from}
 use Rattle.protocol.proofs.VersionsLogged.{Both, both_from, both_record, checkpoint_both}
 use Rattle.protocol.proofs.MasterReached.{reached_here}
 
@@ -69,22 +69,24 @@ appended start c r due h = changed start c (AppendRecord r) (after_record c.logg
 ended : (start : LogDisk) (c : Core) (handle moment : ℕ) → IsIssuing start c → IsIssuing start (core_ended c handle moment)
 ended start c handle moment h =
     quieter start c (record c.logged { table = record c.logged.table { chunks = changed_row (rows_of c.logged) handle (λ row. record row { lease_end = moment }) (table.get (rows_of c.logged) handle) } })
-    (changed_from (rows_of c.logged) handle (λ row. record row { lease_end = moment }) (table.get (rows_of c.logged) handle) refl (λ r. (refl, refl))) h
+    (changed_from (rows_of c.logged) handle (λ row. record row { lease_end = moment }) (table.get (rows_of c.logged) handle) refl (λ r. (refl, refl, refl))) h
 
-issuing_keeps : (start : LogDisk) → Keeps ⊥ Nothing (IsIssuing start)
+issuing_keeps : (start : LogDisk) → Keeps ⊥ Nothing NoneEnded (IsIssuing start)
 issuing_keeps start =
     record {
-      tells = λ c receiver b none h. record { none = h.none; disk = h.disk; rows = h.rows; stops = h.stops };
-      grants = λ c handle version until primary members told due names h.
+      tells = λ c receiver b quiet h. record { none = h.none; disk = h.disk; rows = h.rows; stops = h.stops };
+      grants = λ c handle version until primary members told due names from idle h.
           let r : Record = grant_record handle version primary members in
           let g : IsIssuing start (core_ended (core_appended c r) handle until) = ended start (core_appended c r) handle until (appended start c r due h) in
           record { none = g.none; disk = g.disk; rows = g.rows; stops = g.stops };
+      revokes = λ c handle row is h. record { none = h.none; disk = h.disk; rows = h.rows; stops = h.stops };
       orders = λ c server b is plain h. record { none = h.none; disk = h.disk; rows = h.rows; stops = h.stops };
-      appends = λ c r due names h. appended start c r due h;
+      appends = λ c r due plain names h. appended start c r due h;
       checkpoint = λ c tree h. checkpointed start c h;
       sound = λ asks. absurd asks;
       less = λ c handles copied h. quieter start c (record c.logged { copies = _; table = _ }) (removed_from (rows_of c.logged) handles) h;
-      ends = λ c handle moment h. ended start c handle moment h;
+      ends = λ c handle row is word h. ended start c handle 0 h;
+      extends = λ c handle until row is lasts later from h. let g : IsIssuing start (core_ended c handle until) = ended start c handle until h in record { none = g.none; disk = g.disk; rows = g.rows; stops = g.stops };
     }
 
 -- of a master between its steps
@@ -127,10 +129,10 @@ step_issued m moment i choice h =
     (λ _. h))
     (λ _. h)
 
-later_ends : (config : Config) (moment : ℕ) (r : ChunkRow) → (r.granted ≡ (lease_after_restart config moment r).granted) × (r.issued ≡ (lease_after_restart config moment r).issued)
+later_ends : (config : Config) (moment : ℕ) (r : ChunkRow) → HaveSameVersions r (lease_after_restart config moment r)
 later_ends config moment r =
-    on_cond (λ (x : ChunkRow). (r.granted ≡ x.granted) × (r.issued ≡ x.issued)) (nat_lt 0 r.granted) (record r { lease_end = moment + config.skew_ms + config.lease_ms }) r
-    (λ _. (refl, refl)) (λ _. (refl, refl))
+    on_cond (λ (x : ChunkRow). HaveSameVersions r x) (nat_lt 0 r.granted) (record r { lease_end = moment + config.skew_ms + config.lease_ms }) r
+    (λ _. (refl, refl, refl)) (λ _. (refl, refl, refl))
 
 -- the rows of a master that has read its log
 pub started_from : (config : Config) (found : LogDisk) (moment : ℕ) → From (rows_of (state_of found)) (map_values (lease_after_restart config moment) (rows_of (replayed found)))

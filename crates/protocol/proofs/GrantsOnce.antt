@@ -24,9 +24,10 @@ use Rattle.protocol.proofs.Steps.{on_cond, none_some, same_some, tally, put_case
 use Rattle.protocol.proofs.Entries.{AllOf}
 use Rattle.protocol.proofs.ChunkRows.{Rows, rows_of, From, removed_from, changed_from, all_copied_from, swapped_from, expired_from}
 use Rattle.protocol.proofs.VersionsAhead.{changed_cases}
-use Rattle.protocol.proofs.MasterMoves.{Core, core_of, IsDue, IsNoGrant, Nothing, Keeps, core_changed, core_appended, core_ended, core_granted, grant_record, logs_alone}
-use Rattle.protocol.proofs.MasterSteps.{goes_named}
+use Rattle.protocol.proofs.MasterMoves.{Core, core_of, IsDue, IsPlainOrder, Nothing, NoneEnded, Keeps, core_changed, core_appended, core_ended, core_granted, grant_record, logs_alone}
+use Rattle.protocol.proofs.MasterSteps.{no_input, goes_named}
 use Rattle.protocol.proofs.ClientMoves.{HasNoOrder}
+use Rattle.protocol.proofs.Words.{no_order}
 use Rattle.protocol.proofs.SentReached.{no_orders, without_order, count-sent, sent_reached}
 use Rattle.protocol.proofs.OrderNumbers.{state_of, state-appended, AllStops, stops_push, AllFound, found_same, found_stopped}
 use Rattle.protocol.proofs.LoggedParts.{Parts, parts_of, checkpoint_parts}
@@ -161,7 +162,7 @@ granted_after k handle version primary members =
 
 -- handles of rows were used
 
-row_below : (l k : Logged) → parts_of l ≡ parts_of k → IsRowedLog l k → (q : ℕ) (row : ChunkRow) → table.get (rows_of l) q ≡ Some row → q < l.next_handle
+pub row_below : (l k : Logged) → parts_of l ≡ parts_of k → IsRowedLog l k → (q : ℕ) (row : ChunkRow) → table.get (rows_of l) q ≡ Some row → q < l.next_handle
 row_below l k parts h q row is = by_copy (table.get l.copies q) refl
   where
     next : l.next_handle ≡ k.next_handle
@@ -244,7 +245,7 @@ quieter before start c l f more h = record { once = h.once; state = within_from 
 ended : (before : List Message) (start : LogDisk) (c : Core) (handle moment : ℕ) → IsGranting before start c → IsGranting before start (core_ended c handle moment)
 ended before start c handle moment h =
     let rows : Rows = rows_of c.logged in
-    quieter before start c (core_ended c handle moment).logged (changed_from rows handle (λ row. record row { lease_end = moment }) (table.get rows handle) refl (λ row. (refl, refl))) (omega arith) h
+    quieter before start c (core_ended c handle moment).logged (changed_from rows handle (λ row. record row { lease_end = moment }) (table.get rows handle) refl (λ row. (refl, refl, refl))) (omega arith) h
 
 -- messages
 
@@ -252,7 +253,7 @@ no_order_grants : (handle version : ℕ) (b : Body) → order_number b ≡ None 
 no_order_grants handle version (body.Grant order h v end_moment members) none = none_some order (sym none)
 no_order_grants handle version other none = refl
 
-plain_grants : (handle version : ℕ) (b : Body) → IsNoGrant b → is_grant handle version b ≡ false
+plain_grants : (handle version : ℕ) (b : Body) → IsPlainOrder b → is_grant handle version b ≡ false
 plain_grants handle version (body.Grant order h v end_moment members) plain = absurd plain
 plain_grants handle version other plain = refl
 
@@ -344,22 +345,24 @@ granted before start c handle version until primary members due n h =
       | inr some ↦ absurd (let bound = (h.state handle version some).1 due.0 due.1 in let above = due.2 tt in omega (arith, bound, above))
     ] in
     grant_sent before start two _ _ handle version (λ q v. refl) none (omega (arith, low, grown)) (omega (arith, low, log_grown, next, log_next))
-    (granted_from one.logged two.logged handle version (changed_from rows handle (λ row. record row { lease_end = until }) (table.get rows handle) refl (λ row. (refl, refl))) (granted_after c.logged handle version primary members))
+    (granted_from one.logged two.logged handle version (changed_from rows handle (λ row. record row { lease_end = until }) (table.get rows handle) refl (λ row. (refl, refl, refl))) (granted_after c.logged handle version primary members))
     (subst (λ (k : Logged). IsGrantedAt k handle version) (sym (state-appended c.disk r)) (granted_after (state_of c.disk) handle version primary members))
     (ended before start one handle until (appended before start c r due n h))
 
-granting_keeps : (before : List Message) (start : LogDisk) → Keeps (Unit {0}) Nothing (λ c. IsRowing start c × IsGranting before start c)
+granting_keeps : (before : List Message) (start : LogDisk) → Keeps (Unit {0}) Nothing NoneEnded (λ c. IsRowing start c × IsGranting before start c)
 granting_keeps before start =
-    let base : Keeps (Unit {0}) Nothing (IsRowing start) = naming_keeps IsFoundRows IsRowedLog rows_kept start in
+    let base : Keeps (Unit {0}) Nothing NoneEnded (IsRowing start) = naming_keeps IsFoundRows IsRowedLog rows_kept start NoneEnded in
     record {
-      tells = λ c receiver b none h. (base.tells c receiver b none h.0, sends before start c _ c.order_count (λ q v. no_order_grants q v b none) h.1);
+      tells = λ c receiver b quiet h. (base.tells c receiver b quiet h.0, sends before start c _ c.order_count (λ q v. no_order_grants q v b (no_order b quiet)) h.1);
       orders = λ c server b is plain h. (base.orders c server b is plain h.0, sends before start c _ (suc c.order_count) (λ q v. plain_grants q v (b _) (plain _)) h.1);
-      grants = λ c handle version until primary members told due names h. (base.grants c handle version until primary members told due names h.0, granted before start c handle version until primary members due h.0 h.1);
-      appends = λ c r due names h. (base.appends c r due names h.0, appended before start c r due h.0 h.1);
+      revokes = λ c handle row is h. (base.revokes c handle row is h.0, sends before start c _ (suc c.order_count) (λ q v. refl) h.1);
+      grants = λ c handle version until primary members told due names from idle h. (base.grants c handle version until primary members told due names from idle h.0, granted before start c handle version until primary members due h.0 h.1);
+      appends = λ c r due plain names h. (base.appends c r due plain names h.0, appended before start c r due h.0 h.1);
       checkpoint = λ c tree h. (base.checkpoint c tree h.0, checkpointed before start c (tree tt) h.0 h.1);
       sound = λ asks c h. base.sound asks c h.0;
       less = λ c handles copied h. (base.less c handles copied h.0, quieter before start c (copies_given_up c.logged handles) (removed_from (rows_of c.logged) handles) (omega arith) h.1);
-      ends = λ c handle moment h. (base.ends c handle moment h.0, ended before start c handle moment h.1);
+      ends = λ c handle row is word h. (base.ends c handle row is word h.0, ended before start c handle 0 h.1);
+      extends = λ c handle until row is lasts later from h. (base.extends c handle until row is lasts later from h.0, sends before start (core_ended c handle until) _ c.order_count (λ q v. refl) (ended before start c handle until h.1));
     }
 
 -- of what was sent, and the master between its steps
@@ -451,7 +454,7 @@ step_granted sent k m moment i choice logged h =
       disk = within_fewer (granted_before sent) (granted_by sent []) (state_of m.disk) some (h.found []);
       stops = h.found [];
     } in
-    let end = goes_named (λ c. IsRowing m.disk c × IsGranting sent m.disk c) (granting_keeps sent m.disk) m moment i choice.refused u.bound u.names u.ahead
+    let end = goes_named NoneEnded (λ c. IsRowing m.disk c × IsGranting sent m.disk c) (granting_keeps sent m.disk) m moment i choice.refused (no_input i) u.bound u.names u.ready
     (record { none = u.idle; disk = refl; same = u.same; tied = u.tied; stops = logged.found [] }, begun) in
     ends_granted sent k m d choice choice.ending h end.0.0 end.0.1)
     (λ _. same))
@@ -468,7 +471,7 @@ opening_granting sent config count found moment good within once n =
     let some : (handle version : ℕ) → 1 ≤ granted_by sent [] handle version → 1 ≤ granted_before sent handle version = λ handle version one. omega (arith, one) in
     let read : AreWithin (granted_by sent []) (state_of found) = within_fewer (granted_before sent) (granted_by sent []) (state_of found) some within in
     let row : IsRowing found (core_of d) = opening_first IsFoundRows IsRowedLog rows_kept config count found moment good in
-    let base : Keeps (Unit {0}) Nothing (IsRowing found) = naming_keeps IsFoundRows IsRowedLog rows_kept found in
+    let base : Keeps (Unit {0}) Nothing NoneEnded (IsRowing found) = naming_keeps IsFoundRows IsRowedLog rows_kept found NoneEnded in
     let first : IsGranting sent found (core_of d) =
     record {
       once = λ handle version. let one = once handle version in omega (arith, one);

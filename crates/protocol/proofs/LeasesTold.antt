@@ -53,7 +53,7 @@ new_not_stale d order new stale =
           elim (stale) [ inl low ↦ absurd (omega (arith, same, low)) | inr is ↦ absurd (let few = is.1 in omega (arith, less, few)) ]
     ]
 
-replica_later : (d : ServerDisk) (x : StoreChange) → IsOfReplica x → Later d (disk_changed d x)
+pub replica_later : (d : ServerDisk) (x : StoreChange) → IsOfReplica x → Later d (disk_changed d x)
 replica_later d (SetOrder epoch count) is = absurd is
 replica_later d (PutReplica handle replica) is = same_later d
 replica_later d (DropReplica handle) is = same_later d

@@ -5,6 +5,7 @@ pub mod CopiesUnderWay
 pub mod ChunkRows
 pub mod VersionAttempts
 pub mod VersionsAhead
+pub mod LeasesEnded
 pub mod Namespace
 pub mod HiddenNames
 pub mod FilesNamed
@@ -33,6 +34,12 @@ pub mod RowsSame
 pub mod RowsLogged
 pub mod RowsKept
 pub mod GrantsOnce
+pub mod MessagesSent
+pub mod RowsFit
+pub mod RevokesNumbered
 pub mod NamesLogged
 pub mod ScenesReached
 pub mod LeasesTold
+pub mod RevokedLeases
+pub mod LeaseEnds
+pub mod LeasesTimed

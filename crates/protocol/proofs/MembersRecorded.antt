@@ -31,10 +31,11 @@ use Rattle.protocol.specs.Laws.{order_number, tells_version, WasTold, MembersRec
 use Rattle.protocol.proofs.Steps.{on_cond, none_some, same_some}
 use Rattle.protocol.proofs.Entries.{AllOf, all_joined, same_number}
 use Rattle.protocol.proofs.VersionAttempts.{IsServerNumber, AreTold, more_told, none_told, fewer_told}
-use Rattle.protocol.proofs.MasterMoves.{IsNoGrant, Keeps}
+use Rattle.protocol.proofs.MasterMoves.{IsPlainOrder, NoneEnded, Keeps}
 use Rattle.protocol.proofs.MasterChunksMoves.{AreLinesTold}
 use Rattle.protocol.proofs.MasterSteps.{IsWordTold, IsInputTold, goes_told}
 use Rattle.protocol.proofs.ClientMoves.{HasNoOrder}
+use Rattle.protocol.proofs.Words.{no_order}
 use Rattle.protocol.proofs.SentReached.{IsInputSent, without_order, sent_reached}
 
 -- places in lists
@@ -97,7 +98,7 @@ no_order_granted : (Told : ℕ → ℕ → ℕ → Type 0) (b : Body) → order_
 no_order_granted Told (body.Grant order handle version end_moment members) none = none_some order (sym none)
 no_order_granted Told other none = tt
 
-no_grant_granted : (Told : ℕ → ℕ → ℕ → Type 0) (b : Body) → IsNoGrant b → IsGrantTold Told b
+no_grant_granted : (Told : ℕ → ℕ → ℕ → Type 0) (b : Body) → IsPlainOrder b → IsGrantTold Told b
 no_grant_granted Told (body.Grant order handle version end_moment members) none = absurd none
 no_grant_granted Told other none = tt
 
@@ -111,17 +112,19 @@ stamped_granted Told k [] h = tt
 stamped_granted Told k (m ∷ ms) h = (h.0, stamped_granted Told (suc k) ms h.1)
 
 -- a step of the master
-granting_keeps : (Told : ℕ → ℕ → ℕ → Type 0) → Keeps ⊥ Told (λ c. AreGrantsTold Told c.sent)
+granting_keeps : (Told : ℕ → ℕ → ℕ → Type 0) → Keeps ⊥ Told NoneEnded (λ c. AreGrantsTold Told c.sent)
 granting_keeps Told =
     record {
-      tells = λ c receiver b none h. all_joined (λ m. IsGrantTold Told m.body) c.sent _ h (no_order_granted Told b none, tt);
+      tells = λ c receiver b quiet h. all_joined (λ m. IsGrantTold Told m.body) c.sent _ h (no_order_granted Told b (no_order b quiet), tt);
       orders = λ c server b is plain h. all_joined (λ m. IsGrantTold Told m.body) c.sent _ h (no_grant_granted Told (b _) (plain _), tt);
-      grants = λ c handle version until primary members told due names h. all_joined (λ m. IsGrantTold Told m.body) c.sent _ h (told, tt);
-      appends = λ c r due names h. h;
+      revokes = λ c handle row is h. all_joined (λ m. IsGrantTold Told m.body) c.sent _ h (tt, tt);
+      grants = λ c handle version until primary members told due names from idle h. all_joined (λ m. IsGrantTold Told m.body) c.sent _ h (told, tt);
+      appends = λ c r due plain names h. h;
       checkpoint = λ c tree h. h;
       less = λ c handles copied h. h;
       sound = λ asks. absurd asks;
-      ends = λ c handle moment h. h;
+      ends = λ c handle row is word h. h;
+      extends = λ c handle until row is lasts later from h. all_joined (λ m. IsGrantTold Told m.body) c.sent _ h (tt, tt);
     }
 
 -- of what was sent, and the master between its steps
@@ -177,14 +180,14 @@ lines_told Told server (line ∷ lines) all told within = (
   lines_told Told server lines all told (λ h v there. within h v (or_right _ _ there)),
 )
 
-body_told : (sent : List Message) (m : Message) (b : Body) → m.body ≡ b → (place : ℕ) × (element_at sent place ≡ Some m) → IsWordTold (WasTold sent (length sent)) (server_number m.sender) b
+body_told : (sent : List Message) (m : Message) (b : Body) → m.body ≡ b → (place : ℕ) × (element_at sent place ≡ Some m) → IsWordTold (WasTold sent (length sent)) NoneEnded (server_number m.sender) b
 body_told sent m (body.Recorded handle version) is there =
     word_sent sent m handle.0 version.0 there (ap (tells_version handle.0 version.0) is ∙ same_both handle.0 version.0)
 body_told sent m (body.Report replicas leases) is there =
     lines_told (WasTold sent (length sent)) (server_number m.sender) replicas replicas (λ h v told. word_sent sent m h v there (ap (tells_version h v) is ∙ told)) (λ h v told. told)
 body_told sent m other is there = tt
 
-input_told : (sent : List Message) (i : Input) → IsInputSent sent i → IsInputTold (WasTold sent (length sent)) i
+input_told : (sent : List Message) (i : Input) → IsInputSent sent i → IsInputTold (WasTold sent (length sent)) NoneEnded i
 input_told sent (input.Deliver m) there = body_told sent m m.body refl there
 input_told sent input.Tick there = tt
 
@@ -213,7 +216,7 @@ step_truthful sent k m moment i choice is h =
     let told : ℕ → ℕ → ℕ → Type 0 = WasTold sent (length sent) in
     on_cond good m.up (master_bounded m d choice) (no_step m)
     (λ _. on_cond good (is_within_limits d.master) (master_ends m d choice choice.ending) (no_step m)
-    (λ _. let end = goes_told ⊥ told (λ c. AreGrantsTold told c.sent) (granting_keeps told) m moment i choice.refused (input_told sent i is) (λ asks. absurd asks) (tt, h.attempts, λ asks. absurd asks, λ asks. absurd asks) in
+    (λ _. let end = goes_told ⊥ told NoneEnded (λ c. AreGrantsTold told c.sent) (granting_keeps told) m moment i choice.refused (input_told sent i is) (λ asks. absurd asks) (tt, h.attempts, λ asks. absurd asks, λ asks. absurd asks) in
     ends_truthful sent k m d choice choice.ending h (end.0, end.1))
     (λ _. same_truthful sent k m h))
     (λ _. same_truthful sent k m h)

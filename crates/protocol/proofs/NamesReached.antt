@@ -23,12 +23,12 @@ use Rattle.protocol.specs.MasterStep.{master_goes, master_ends, master_bounded, 
 use Rattle.protocol.specs.World.{WorldState, IsReached}
 use Rattle.protocol.proofs.Steps.{on_cond, none_some}
 use Rattle.protocol.proofs.ChunkRows.{Rows, rows_of, AreIssued, issued_from}
-use Rattle.protocol.proofs.VersionsAhead.{AreAhead, none_ahead, less_ahead}
+use Rattle.protocol.proofs.LeasesEnded.{AreReady, none_ready, less_ready}
 use Rattle.protocol.proofs.GrantedIssued.{IsIssued, step_issued, opens_issued, new_issued, started_from}
 use Rattle.protocol.proofs.Namespace.{IsNamespace, names_are_after}
-use Rattle.protocol.proofs.CopiesUnderWay.{AreCopied, AreSoundCopies}
-use Rattle.protocol.proofs.MasterMoves.{Core, core_of, IsDue, Nothing, AreNames, Keeps, core_changed, core_appended, core_ended, grant_record}
-use Rattle.protocol.proofs.MasterSteps.{goes_named}
+use Rattle.protocol.proofs.CopiesUnderWay.{AreCopied, AreSoundCopies, no_copies}
+use Rattle.protocol.proofs.MasterMoves.{Core, core_of, IsDue, Nothing, NoneEnded, AreNames, Keeps, core_changed, core_appended, core_ended, grant_record}
+use Rattle.protocol.proofs.MasterSteps.{no_input, goes_named}
 use Rattle.protocol.proofs.OrderNumbers.{state_of, state-appended, AllStops, stops_push, changed-push, AllFound, found_same, found_stopped}
 use Rattle.protocol.proofs.LoggedParts.{Parts, parts_of, same_after, checkpoint_parts}
 use Rattle.protocol.proofs.MasterReached.{reached_here}
@@ -138,20 +138,22 @@ module _ (G : Logged → Type 0) (R : Logged → Logged → Type 0) (b : IsKeptB
       let rows : Table ChunkRow = changed_row c.logged.table.chunks handle (λ row. record row { lease_end = moment }) (table.get c.logged.table.chunks handle) in
       quieter start c (record c.logged { table = record c.logged.table { chunks = rows } }) refl (b.rows c.logged (state_of c.disk) rows (ended_same c.logged.table.chunks handle moment) h.tied) h
 
-  pub naming_keeps : (start : LogDisk) → Keeps (Unit {0}) Nothing (IsNaming start)
-  naming_keeps start =
+  pub naming_keeps : (start : LogDisk) → (Ended : ℕ → ℕ → Type 0) → Keeps (Unit {0}) Nothing Ended (IsNaming start)
+  naming_keeps start Ended =
       record {
-        tells = λ c receiver body none h. record { none = h.none; disk = h.disk; same = h.same; tied = h.tied; stops = h.stops };
+        tells = λ c receiver body quiet h. record { none = h.none; disk = h.disk; same = h.same; tied = h.tied; stops = h.stops };
+        revokes = λ c handle row is h. record { none = h.none; disk = h.disk; same = h.same; tied = h.tied; stops = h.stops };
         orders = λ c server body is plain h. record { none = h.none; disk = h.disk; same = h.same; tied = h.tied; stops = h.stops };
-        grants = λ c handle version until primary members told due names h.
+        grants = λ c handle version until primary members told due names from idle h.
             let r : Record = grant_record handle version primary members in
             let g : IsNaming start (core_ended (core_appended c r) handle until) = ended start (core_appended c r) handle until (due_appended start c r due (names tt) h) in
             record { none = g.none; disk = g.disk; same = g.same; tied = g.tied; stops = g.stops };
-        appends = λ c r due names h. due_appended start c r due (names tt) h;
+        appends = λ c r due plain names h. due_appended start c r due (names tt) h;
         checkpoint = λ c tree h. checkpointed start c (tree tt) h;
         sound = λ asks c h. b.sound c.logged (state_of c.disk) h.tied;
         less = λ c handles copied h. quieter start c (copies_given_up c.logged handles) refl (b.less c.logged (state_of c.disk) handles copied h.tied) h;
-        ends = λ c handle moment h. ended start c handle moment h;
+        ends = λ c handle row is word h. ended start c handle 0 h;
+        extends = λ c handle until row is lasts later from h. let g : IsNaming start (core_ended c handle until) = ended start c handle until h in record { none = g.none; disk = g.disk; same = g.same; tied = g.tied; stops = g.stops };
       }
 
   -- of a master that is up, between its steps
@@ -161,7 +163,7 @@ module _ (G : Logged → Type 0) (R : Logged → Logged → Type 0) (b : IsKeptB
     pub names : IsNamespace m.logged.names m.snapshots
     pub same : parts_of m.logged ≡ parts_of (state_of m.disk)
     pub tied : R m.logged (state_of m.disk)
-    pub ahead : AreAhead m.attempts (rows_of m.logged)
+    pub ready : AreReady m.now m.attempts m.logged
 
   pub record IsLogged (m : MasterState) : Type 0 where
     pub found : AllFound IsGood m.disk m.under_way
@@ -176,19 +178,19 @@ module _ (G : Logged → Type 0) (R : Logged → Logged → Type 0) (b : IsKeptB
       leb-true m.logged.next_file counter_limit (and_parts _ _ handles).0
 
   running : (start : LogDisk) (d : MasterDoing) → is_within_limits d.master ≡ true → IsNaming start (core_of d) → IsNamespace d.master.logged.names d.master.snapshots
-      → AreAhead d.master.attempts (rows_of d.master.logged) → IsLogged d.master
-  running start d limits g names ahead =
+      → AreReady d.master.now d.master.attempts d.master.logged → IsLogged d.master
+  running start d limits g names ready =
       let good : IsGood d.master.disk = (subst (λ (n : Names). Tree n) (ap (λ (p : Parts). p.names) g.same) names.tree, b.good d.master.logged (state_of d.master.disk) g.tied) in
       record {
         found = subst (λ (xs : List LogChange). AllFound IsGood d.master.disk xs) (sym g.none) (found_same IsGood d.master.disk good);
-        up = λ _. record { idle = g.none; bound = within d.master limits; names = names; same = g.same; tied = g.tied; ahead = ahead };
+        up = λ _. record { idle = g.none; bound = within d.master limits; names = names; same = g.same; tied = g.tied; ready = ready };
       }
 
   ends_logged : (m : MasterState) (d : MasterDoing) (choice : Choice) (e : Ending) → is_within_limits d.master ≡ true → IsLogged m → IsNaming m.disk (core_of d)
-      → IsNamespace d.master.logged.names d.master.snapshots → AreAhead d.master.attempts (rows_of d.master.logged) → IsLogged (master_ends m d choice e).state
-  ends_logged m d choice Goes limits h g names ahead = running m.disk d limits g names ahead
-  ends_logged m d choice Lost limits h g names ahead = stopped m m.disk [] (found_same IsGood m.disk (h.found []))
-  ends_logged m d choice (Stops made) limits h g names ahead =
+      → IsNamespace d.master.logged.names d.master.snapshots → AreReady d.master.now d.master.attempts d.master.logged → IsLogged (master_ends m d choice e).state
+  ends_logged m d choice Goes limits h g names ready = running m.disk d limits g names ready
+  ends_logged m d choice Lost limits h g names ready = stopped m m.disk [] (found_same IsGood m.disk (h.found []))
+  ends_logged m d choice (Stops made) limits h g names ready =
       stopped m (log_changed_by_all m.disk (take made d.changes)) (take 1 (drop made d.changes)) (found_stopped IsGood m.disk d.changes made g.stops)
 
   pub step_logged : (m : MasterState) (moment : ℕ) (i : Input) (choice : Choice) → IsLogged m → IsLogged (master_step m moment i choice).state
@@ -199,7 +201,7 @@ module _ (G : Logged → Type 0) (R : Logged → Logged → Type 0) (b : IsKeptB
       (λ up. on_cond good (is_within_limits d.master) (master_ends m d choice choice.ending) (no_step m)
       (λ limits.
       let u : IsUpToLog m = h.up up in
-      let end = goes_named (IsNaming m.disk) (naming_keeps m.disk) m moment i choice.refused u.bound u.names u.ahead
+      let end = goes_named NoneEnded (IsNaming m.disk) (naming_keeps m.disk NoneEnded) m moment i choice.refused (no_input i) u.bound u.names u.ready
       (record { none = u.idle; disk = refl; same = u.same; tied = u.tied; stops = h.found [] }) in
       ends_logged m d choice choice.ending limits h end.0 end.1 end.2)
       (λ _. h))
@@ -215,25 +217,25 @@ module _ (G : Logged → Type 0) (R : Logged → Logged → Type 0) (b : IsKeptB
       record { none = refl; disk = refl; same = refl; tied = kept; stops = good }
 
   pub opening_naming : (config : Config) (count : ℕ) (found : LogDisk) (moment : ℕ) → IsGood found → AreIssued (rows_of (state_of found))
-      → (let d : MasterDoing = opening (started_master config count found moment) in IsNaming found (core_of d) × Tree d.master.logged.names × (d.master.snapshots ≡ []) × AreAhead d.master.attempts (rows_of d.master.logged))
+      → (let d : MasterDoing = opening (started_master config count found moment) in IsNaming found (core_of d) × Tree d.master.logged.names × (d.master.snapshots ≡ []) × AreReady d.master.now d.master.attempts d.master.logged)
   opening_naming config count found moment good issued =
       let started : MasterState = started_master config count found moment in
       let d : MasterDoing = master_begins started [] in
       let r : Record = log.Epoch (suc d.master.logged.epoch) in
       let given_up : Logged = all_copies_given_up (state_of found) in
       let first : IsNaming found (core_of d) = opening_first config count found moment good in
-      let all : MasterDoing → Type 0 = λ e. IsNaming found (core_of e) × Tree e.master.logged.names × (e.master.snapshots ≡ []) × AreAhead e.master.attempts (rows_of e.master.logged) in
+      let all : MasterDoing → Type 0 = λ e. IsNaming found (core_of e) × Tree e.master.logged.names × (e.master.snapshots ≡ []) × AreReady e.master.now e.master.attempts e.master.logged in
       let begins : (e : MasterDoing) → all e → all (appends e r) =
       λ e h. (
         appended found (core_of e) r h.1 (b.epochs e.master.logged (state_of e.master.disk) (suc d.master.logged.epoch) h.0.tied) h.0,
         h.1,
         h.2,
-        h.3,
+        record { ahead = (h.3).ahead; attempted = (h.3).attempted; copied = (h.3).copied },
       ) in
       let rows : Rows = rows_of started.logged in
-      let ahead : AreAhead table.empty rows = none_ahead rows (issued_from (rows_of (state_of found)) rows (started_from config found moment) issued) in
-      let one : all d = (first, good.0, refl, ahead) in
-      let two : all (writes_checkpoint d) = (checkpointed found (core_of d) good.0 first, good.0, refl, less_ahead table.empty rows (table.keys started.logged.copies) ahead) in
+      let ready : AreReady moment table.empty started.logged = none_ready moment started.logged (issued_from (rows_of (state_of found)) rows (started_from config found moment) issued) (no_copies (state_of found).copies) in
+      let one : all d = (first, good.0, refl, ready) in
+      let two : all (writes_checkpoint d) = (checkpointed found (core_of d) good.0 first, good.0, refl, less_ready moment table.empty started.logged (table.keys started.logged.copies) ready) in
       on_cond all (fits d r) (appends d r) _ (λ _. begins d one)
       (λ _. on_cond all (checkpoint_fits d.master.config.log_bytes (checkpoint_of d.master.logged)) (logs_after_checkpoint (writes_checkpoint d) r (is_of_copy d.master.logged r) (λ e. e)) d
       (λ _. on_cond all (fits (writes_checkpoint d) r && not (is_of_copy d.master.logged r)) (appends (writes_checkpoint d) r) (writes_checkpoint d) (λ _. begins (writes_checkpoint d) two) (λ _. two))
@@ -265,7 +267,7 @@ module _ (G : Logged → Type 0) (R : Logged → Logged → Type 0) (b : IsKeptB
       let tied : R one one = b.epochs first_logged first_logged 1 b.new in
       record {
         found = found_same IsGood first_log (first_tree, b.good one one tied);
-        up = λ _. record { idle = refl; bound = omega arith; names = record { tree = first_tree; free = tt; apart = tt }; same = refl; tied = tied; ahead = none_ahead table.empty (λ handle row is. none_some row (sym (table.get-empty nat_cmp handle) ∙ is)) };
+        up = λ _. record { idle = refl; bound = omega arith; names = record { tree = first_tree; free = tt; apart = tt }; same = refl; tied = tied; ready = none_ready 0 one (λ handle row is. none_some row (sym (table.get-empty nat_cmp handle) ∙ is)) (λ handle. table.get-empty nat_cmp handle) };
       }
 
   pub logged_here : (config : Config) (servers clients : ℕ) (w : WorldState) → IsReached config servers clients w → IsIssued w.master × IsLogged w.master

@@ -3,6 +3,7 @@ use Rattle.std.proofs.Common.{◌≡◌, ◌⊎◌, ℕ, zero, suc, ◌≤◌, �
 use Rattle.std.specs.Prelude.{nat_lt, ◌==◌, ◌&&◌, filter}
 use Rattle.std.specs.FinMap as table
 use Rattle.std.proofs.lemmas.Bool.{eqb-true, cases_lt}
+use Rattle.gfs_types.specs.declared.ids.Node.{Node}
 use Rattle.gfs_types.specs.declared.ids.Node.TheVariants as node
 use Rattle.gfs_types.specs.declared.ids.OrderNo.{OrderNo}
 use Rattle.messages.specs.declared.message.Body.{Body}
@@ -18,8 +19,9 @@ use Rattle.protocol.specs.ChunkTable.{ChunkRow, ChunkTable}
 use Rattle.protocol.specs.Logged.{Logged, KeptCall, Copy, copies_given_up, LogDisk, LogChange, AppendRecord, WriteCheckpoint, first_logged, log_changed, log_changed_by_all, after_record, after_records, checkpoint_of, name_item, node_item, chunk_item, client_item, swapped_in}
 use Rattle.protocol.specs.Laws.{order_number, is_number, orders_under}
 use Rattle.protocol.proofs.Steps.{tally, count-append}
-use Rattle.protocol.proofs.MasterMoves.{Core, IsDue, Nothing, Keeps, core_changed, core_appended, core_ended, grant_record}
+use Rattle.protocol.proofs.MasterMoves.{Core, IsDue, Nothing, NoneEnded, Keeps, core_changed, core_appended, core_ended, grant_record}
 use Rattle.protocol.proofs.ClientMoves.{one_more}
+use Rattle.protocol.proofs.Words.{no_order}
 
 -- the state that a log leads to, before copies are given up
 abbrev pub state_of : LogDisk → Logged
@@ -163,33 +165,39 @@ none_of c h e n is =
       | inr more ↦ absurd (let was = h.used e n more in let bound = was.2 in omega arith)
     ]
 
-pub numbers_keep : (start : LogDisk) (epoch before : ℕ) → Keeps ⊥ Nothing (Numbers start epoch before)
+pub numbers_keep : (start : LogDisk) (epoch before : ℕ) → Keeps ⊥ Nothing NoneEnded (Numbers start epoch before)
 numbers_keep start epoch before =
     record {
-      tells = λ c receiver b none h.
-          record {
-            up = h.up;
-            none = h.none;
-            logged = h.logged;
-            disk = h.disk;
-            on_disk = h.on_disk;
-            stops = h.stops;
-            rising = h.rising;
-            once = λ e n. let same = one_more c.sent node.Master receiver b none e n in let old = h.once e n in omega arith;
-            used = λ e n more. let same = one_more c.sent node.Master receiver b none e n in h.used e n (omega arith);
-          };
+      tells = λ c receiver b quiet h. told c receiver b (no_order b quiet) h;
       orders = λ c server b is plain h. ordered c server b is h;
-      grants = λ c handle version until primary members told due names h.
+      revokes = λ c handle row is h. ordered c row.primary (λ order. body.Revoke order (handle_of handle) (version_of row.granted)) (λ o. refl) h;
+      grants = λ c handle version until primary members told due names from idle h.
           let r : Record = grant_record handle version primary members in
           ordered (core_ended (core_appended c r) handle until) primary (λ order. body.Grant order (handle_of handle) (version_of version) (moment_of until) members) (λ o. refl) (ended (core_appended c r) handle until (appended c r due h));
-      appends = λ c r due names h. appended c r due h;
+      appends = λ c r due plain names h. appended c r due h;
       checkpoint = λ c tree h. checkpointed c h;
       sound = λ asks. absurd asks;
       less = λ c handles copied h.
           record { up = h.up; none = h.none; logged = h.logged; disk = h.disk; on_disk = h.on_disk; stops = h.stops; rising = h.rising; once = h.once; used = h.used };
-      ends = λ c handle moment h. ended c handle moment h;
+      ends = λ c handle row is word h. ended c handle 0 h;
+      extends = λ c handle until row is lasts later from h.
+          told (core_ended c handle until) (the_server row.primary) (body.Extend (handle_of handle) (version_of row.granted) (moment_of until)) refl (ended c handle until h);
     }
   where
+    told : (c : Core) (receiver : Node) (b : Body) → order_number b ≡ None → Numbers start epoch before c → Numbers start epoch before (record c { sent = c.sent ++ message node.Master receiver b ∷ [] })
+    told c receiver b none h =
+        record {
+          up = h.up;
+          none = h.none;
+          logged = h.logged;
+          disk = h.disk;
+          on_disk = h.on_disk;
+          stops = h.stops;
+          rising = h.rising;
+          once = λ e n. let same = one_more c.sent node.Master receiver b none e n in let old = h.once e n in omega arith;
+          used = λ e n more. let same = one_more c.sent node.Master receiver b none e n in h.used e n (omega arith);
+        }
+
     changed : (c : Core) (x : LogChange) (l : Logged) → l.epoch ≡ epoch → epoch_of (log_changed c.disk x) ≡ epoch → Numbers start epoch before c
         → Numbers start epoch before (record (core_changed c x) { logged = l })
     changed c x l same there h =

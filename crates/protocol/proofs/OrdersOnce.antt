@@ -39,7 +39,7 @@ count-silent : (e n k : ℕ) (sent ms : List Message) → HasNoOrder ms → orde
 count-silent e n k sent ms h = let whole = count-sent (is_order e n) k sent [] ms in let none = h e n in omega (arith, whole, none)
 
 -- messages that are no orders change nothing of it
-still_numbered : (sent ms : List Message) (k : ℕ) (m : MasterState) → HasNoOrder ms → AreNumbered sent m → AreNumbered (sent ++ stamped k ms) m
+pub still_numbered : (sent ms : List Message) (k : ℕ) (m : MasterState) → HasNoOrder ms → AreNumbered sent m → AreNumbered (sent ++ stamped k ms) m
 still_numbered sent ms k m quiet h =
     record {
       once = λ e n. let same = count-silent e n k sent ms quiet in let old = h.once e n in omega (arith, same, old);
@@ -66,7 +66,7 @@ down_numbered sent k m disk under_way h b =
     })
 
 -- the disk as it is, if nothing is under way
-no_change : (sent : List Message) (m : MasterState) → AreNumbered sent m → IsTrue m.up → (e n : ℕ) → 1 ≤ orders_under e n sent → e ≤ m.logged.epoch
+pub no_change : (sent : List Message) (m : MasterState) → AreNumbered sent m → IsTrue m.up → (e n : ℕ) → 1 ≤ orders_under e n sent → e ≤ m.logged.epoch
 no_change sent m h up e n more = let there = h.bounded e n more [] in let same = h.epoch up in omega (arith, there, same)
 
 module _ (sent : List Message) (m : MasterState) (h : AreNumbered sent m) (up : IsTrue m.up) (d : MasterDoing) (g : Numbers m.disk m.logged.epoch m.order_count (core_of d)) where
@@ -125,7 +125,7 @@ module _ (sent : List Message) (m : MasterState) (h : AreNumbered sent m) (up : 
 same_numbered : (sent : List Message) (k : ℕ) (m : MasterState) → AreNumbered sent m → AreNumbered (sent ++ stamped k []) m
 same_numbered sent k m h = still_numbered sent [] k m no_orders h
 
-begun : (sent : List Message) (m : MasterState) (moment : ℕ) (refused : List Bool) → AreNumbered sent m → IsTrue m.up → Numbers m.disk m.logged.epoch m.order_count (core_of (master_begins (master_at m moment) refused))
+pub begun : (sent : List Message) (m : MasterState) (moment : ℕ) (refused : List Bool) → AreNumbered sent m → IsTrue m.up → Numbers m.disk m.logged.epoch m.order_count (core_of (master_begins (master_at m moment) refused))
 begun sent m moment refused h up =
     record {
       up = up;
@@ -139,7 +139,7 @@ begun sent m moment refused h up =
       used = λ e n more. absurd (let none : 1 ≤ 0 = more in omega (arith, none));
     }
 
-step_numbered : (sent : List Message) (k : ℕ) (m : MasterState) (moment : ℕ) (i : Input) (choice : Choice) → AreNumbered sent m
+pub step_numbered : (sent : List Message) (k : ℕ) (m : MasterState) (moment : ℕ) (i : Input) (choice : Choice) → AreNumbered sent m
     → AreNumbered (sent ++ stamped k (master_step m moment i choice).out.sent) (master_step m moment i choice).state
 step_numbered sent k m moment i choice h =
     let d : MasterDoing = master_goes m moment i choice.refused in
@@ -234,11 +234,11 @@ opens_numbered sent k old moment choice Goes h =
     (λ _. down_numbered sent k old d.master.disk [] h
     (λ e n more. found_same (λ x. e ≤ epoch_of x) d.master.disk (let bound = h.bounded e n more choice.decided in let later = o.later in omega (arith, bound, later))))
 
-restart_numbered : (sent : List Message) (k : ℕ) (m : MasterState) (moment : ℕ) (choice : Choice) → AreNumbered sent m
+pub restart_numbered : (sent : List Message) (k : ℕ) (m : MasterState) (moment : ℕ) (choice : Choice) → AreNumbered sent m
     → AreNumbered (sent ++ stamped k (master_restart m moment choice).out.sent) (master_restart m moment choice).state
 restart_numbered sent k m moment choice h = opens_numbered sent k m moment choice choice.ending h
 
-new_numbered : (config : Config) (servers : ℕ) → AreNumbered [] (new_master config servers)
+pub new_numbered : (config : Config) (servers : ℕ) → AreNumbered [] (new_master config servers)
 new_numbered config servers =
     record {
       once = λ e n. omega arith;

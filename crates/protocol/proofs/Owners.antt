@@ -14,12 +14,11 @@ use Rattle.protocol.specs.Tables.{removed_all, element_at, with_at}
 use Rattle.protocol.specs.ChunkTable.{ChunkRow, ChunkTable, new_row, new_chunk_table, with_owner, changed_row, shared, all_shared, left_by, left, all_left, handles_of, add_file, add_chunk, copy_file, drop_file, swap, with_row}
 use Rattle.protocol.specs.Logged.{owned_row, with_owned}
 use Rattle.protocol.specs.Laws.{times_in}
-use Rattle.protocol.proofs.Steps.{on_cond, none_some, same_some, tally, count-cons, count-append, same_or_not, put_there, put_other, gone_there, gone_other}
+use Rattle.protocol.proofs.Steps.{on_cond, none_some, same_some, tally, count-cons, count-append, same_or_not, put_there, put_other, gone_there, gone_other, now_gone}
 use Rattle.protocol.proofs.Entries.{same_number}
 use Rattle.protocol.proofs.MasterMoves.{removed_other}
 use Rattle.protocol.proofs.ChunkRows.{Rows}
 use Rattle.protocol.proofs.FilesNamed.{Files}
-use Rattle.protocol.proofs.FilesLogged.{now_gone}
 
 -- how many times a handle stands in a list
 abbrev pub stands : ℕ → List ℕ → ℕ

@@ -17,16 +17,15 @@ use Rattle.protocol.specs.Sending.{file_id, handle_of}
 use Rattle.protocol.specs.ChunkTable.{ChunkRow, ChunkTable, handles_of}
 use Rattle.protocol.specs.Logged.{Logged, KeptCall, Copy, first_logged, after_record, after_records, copies_given_up, all_copies_given_up, owned_row, with_owned, checkpoint_of, name_item, node_item, chunk_item, client_item}
 use Rattle.protocol.specs.Laws.{times_in}
-use Rattle.protocol.proofs.Steps.{none_some, same_some, removed_cases}
+use Rattle.protocol.proofs.Steps.{none_some, same_some, removed_cases, now_gone}
 use Rattle.protocol.proofs.Entries.{AllOf, all_filtered, all_found, IsFound, same_number}
-use Rattle.protocol.proofs.CopiesUnderWay.{AreCopied, keys_are_copied}
+use Rattle.protocol.proofs.CopiesUnderWay.{AreCopied, keys_are_copied, copy_listed, no_copies}
 use Rattle.protocol.proofs.MasterMoves.{removed_other}
 use Rattle.protocol.proofs.OrderNumbers.{after-append}
 use Rattle.protocol.proofs.ChunkRows.{Rows, rows_of}
 use Rattle.protocol.proofs.LoggedParts.{parts_of}
 use Rattle.protocol.proofs.FilesNamed.{Files}
 use Rattle.protocol.proofs.NamesReached.{IsKeptByLog, AreSameButEnds, without_end}
-use Rattle.protocol.proofs.FilesLogged.{now_gone, copy_listed, no_copies}
 use Rattle.protocol.proofs.Owners.{references_of, refs, HasRow, has_row, changed_refs}
 use Rattle.protocol.proofs.CountsLogged.{IsCountedLog, keeps_row}
 use Rattle.protocol.proofs.CountsKept.{counts_kept}

@@ -11,14 +11,14 @@ use Rattle.relaxed_file.specs.Names.{Node, copied_entries}
 use Rattle.protocol.specs.Tables.{Table, removed_all}
 use Rattle.protocol.specs.ChunkTable.{ChunkRow, new_row, changed_row, granted_row, grant, shared, all_left, handles_of}
 use Rattle.protocol.specs.Logged.{Logged, Copy, after_record, copies_for_file, swapped_in, with_copied_nodes}
-use Rattle.protocol.proofs.Steps.{none_some, same_or_not, put_there, put_other, gone_other}
+use Rattle.protocol.proofs.Steps.{none_some, same_or_not, put_there, put_other, gone_other, now_gone}
 use Rattle.protocol.proofs.CopiesUnderWay.{listed_copied}
 use Rattle.protocol.proofs.MasterMoves.{IsDue, AreNames, removed_other}
 use Rattle.protocol.proofs.ChunkRows.{Rows, rows_of}
 use Rattle.protocol.proofs.LoggedParts.{Parts, parts_of}
 use Rattle.protocol.proofs.FilesNamed.{Files}
 use Rattle.protocol.proofs.NamesReached.{without_end}
-use Rattle.protocol.proofs.FilesLogged.{without_copy, copies_after, copies_are_after, same_copy, now_gone}
+use Rattle.protocol.proofs.FilesLogged.{without_copy, copies_after, copies_are_after, same_copy}
 use Rattle.protocol.proofs.CountsLogged.{IsFoundCounts, IsCountedLog}
 use Rattle.protocol.proofs.CountsKept.{counts_kept}
 use Rattle.protocol.proofs.RowsSame.{AreSameAt, IsSameRow, changed_same, shared_same, left_same, all_left_same, put_same, snapshot_same, IsOwned, owned_look, none_owned, changed_owned, shared_owned, left_owned, all_left_owned, put_owned, snapshot_owned}

@@ -29,7 +29,8 @@ use Rattle.protocol.specs.ClientStep.{may_call, client_goes, client_call_goes, c
 use Rattle.protocol.specs.World.{WorldState, Happened, new_world, nothing_happens, numbered_from_1, stamped, with_sent, after_master, after_server, after_client, master_moves, server_moves, client_moves, moves, delivered, server_restarts_at, restarts, call_moves, rots_replica, rots_on, at_moment, happens, after_events, IsReached}
 use Rattle.protocol.proofs.Steps.{on_cond, none_some}
 use Rattle.protocol.proofs.Words.{AreQuiet, is_of_lease}
-use Rattle.protocol.proofs.ClientMoves.{client_goes_quiet, client_call_quiet}
+use Rattle.protocol.proofs.ClientMoves.{quiet_orders, client_goes_quiet, client_call_quiet}
+use Rattle.protocol.proofs.SentReached.{IsInputSent, IsKeptBySent, server_quiet, server_restarts_quiet}
 use Rattle.protocol.proofs.RisingOrders.{element_numbered}
 use Rattle.protocol.proofs.MembersRecorded.{all_in_order}
 
@@ -204,3 +205,22 @@ module _ (Q : Scene → Type 0) (k : IsKeptByScenes Q) where
 
   pub scene_reached : (config : Config) (servers clients : ℕ) (w : WorldState) → IsReached config servers clients w → Q (scene_of w)
   scene_reached config servers clients w r = subst (λ (v : WorldState). Q (scene_of v)) r.1 (events_here (new_world config servers clients) r.0 (k.new config servers clients))
+
+-- what holds of the messages and the master holds of scenes
+
+input_sent : (sent : List Message) (n : Node) (i : Input) → IsSentTo sent n i → IsInputSent sent i
+input_sent sent n (input.Deliver m) is = (is.0, is.1)
+input_sent sent n input.Tick is = tt
+
+pub lifted : (R : List Message → MasterState → Type 0) → IsKeptBySent R → IsKeptByScenes (λ x. R x.sent x.master)
+lifted R b =
+    record {
+      new = λ config servers clients. b.new config servers;
+      passes = λ x moment h. h;
+      says = λ x k ms quiet h. b.quiet x.sent ms k x.master (quiet_orders ms quiet) h;
+      masters = λ x k moment i choice now is up h. b.steps x.sent k x.master moment i choice (input_sent x.sent node.Master i is) h;
+      opens = λ x k moment choice now h. b.restarts x.sent k x.master moment choice h;
+      serves = λ x k index moment s i choice now at is up h. b.quiet x.sent (server_step s moment i choice).out.sent k x.master (server_quiet s moment i choice) h;
+      restarts = λ x k index moment s choice now at h. b.quiet x.sent (server_restart s moment choice).out.sent k x.master (server_restarts_quiet s moment choice choice.ending) h;
+      rots = λ x index handle s r at up h. h;
+    }

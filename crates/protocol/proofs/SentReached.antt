@@ -101,12 +101,12 @@ server_ends_quiet s d choice Goes h = in_order_quiet choice.order d.sent h
 server_ends_quiet s d choice Lost h = no_orders
 server_ends_quiet s d choice (Stops made) h = no_orders
 
-server_quiet : (s : ServerState) (moment : ℕ) (i : Input) (choice : Choice) → HasNoOrder (server_step s moment i choice).out.sent
+pub server_quiet : (s : ServerState) (moment : ℕ) (i : Input) (choice : Choice) → HasNoOrder (server_step s moment i choice).out.sent
 server_quiet s moment i choice =
     on_cond (λ (t : Taken ServerState). HasNoOrder t.out.sent) s.up (server_ends s (server_goes s moment i) choice choice.ending) (no_step s)
     (λ _. server_ends_quiet s (server_goes s moment i) choice choice.ending (server_goes_holds (λ b. Unit {0}) (λ c. HasNoOrder c.sent) quiet_keeps s moment i (all_came i) no_orders)) (λ _. no_orders)
 
-server_restarts_quiet : (s : ServerState) (moment : ℕ) (choice : Choice) (e : Ending) → HasNoOrder (server_restarts s moment choice e).out.sent
+pub server_restarts_quiet : (s : ServerState) (moment : ℕ) (choice : Choice) (e : Ending) → HasNoOrder (server_restarts s moment choice e).out.sent
 server_restarts_quiet s moment choice Goes = no_orders
 server_restarts_quiet s moment choice Lost = no_orders
 server_restarts_quiet s moment choice (Stops made) = no_orders

@@ -1,9 +1,11 @@
 -- Lemmas on tests, tables and lists.
 use Rattle.std.proofs.Common.{◌≡◌, ◌≢◌, ◌⊎◌, ℕ, zero, suc, ◌+◌, Bool, true, false, cond, List, [], ◌∷◌, ◌++◌, Option, Some, None, refl, sym, ap, ◌∙◌, inl, inr, arith}
-use Rattle.std.specs.Prelude.{◌==◌, count_by}
+use Rattle.std.specs.Prelude.{◌==◌, ◌||◌, count_by}
+use Rattle.std.specs.List.{list_any}
+use Rattle.std.specs.Ordering.{nat_cmp, eq_by_cmp}
 use Rattle.std.specs.Cmp.{nat_cmp_total, unsigned_tied}
 use Rattle.std.specs.FinMap as table
-use Rattle.std.proofs.lemmas.Bool.{eqb-true, eqb-false}
+use Rattle.std.proofs.lemmas.Bool.{true≢false, eqb-true, eqb-false}
 use Rattle.protocol.specs.Tables.{Table, removed_all, element_at, without_at}
 use Rattle.std.proofs.lemmas.List.Sums.{sum_by-append}
 use Rattle.protocol.specs.Choice.{picked, in_order}
@@ -85,6 +87,23 @@ gone_split t k q x h = elim (same_or_not q k) [
 pub removed_cases : {X : Type 0} (t : Table X) (ns : List ℕ) (q : ℕ) (x : X) → table.get (removed_all t ns) q ≡ Some x → table.get t q ≡ Some x
 removed_cases t [] q x h = h
 removed_cases t (n ∷ ns) q x h = kept_cases t n q x (removed_cases (table.remove t n) ns q x h)
+
+-- a number that is taken out is gone
+pub stays_gone : {X : Type 0} (t : Table X) (ns : List ℕ) (q : ℕ) → table.get t q ≡ None → table.get (removed_all t ns) q ≡ None
+stays_gone {X} t ns q none = by_value (table.get (removed_all t ns) q) refl
+  where
+    by_value : (o : Option X) → table.get (removed_all t ns) q ≡ o → o ≡ None
+    by_value None is = refl
+    by_value (Some x) is = none_some x (sym none ∙ removed_cases t ns q x is)
+
+pub now_gone : {X : Type 0} (t : Table X) (ns : List ℕ) (q : ℕ) → list_any (eq_by_cmp nat_cmp q) ns ≡ true → table.get (removed_all t ns) q ≡ None
+now_gone t [] q h = absurd (true≢false (sym h))
+now_gone t (n ∷ ns) q h = by_key (eq_by_cmp nat_cmp q n) refl (now_gone (table.remove t n) ns q) h
+  where
+    by_key : (b : Bool) → eq_by_cmp nat_cmp q n ≡ b → (list_any (eq_by_cmp nat_cmp q) ns ≡ true → table.get (removed_all (table.remove t n) ns) q ≡ None) → b || list_any (eq_by_cmp nat_cmp q) ns ≡ true
+        → table.get (removed_all (table.remove t n) ns) q ≡ None
+    by_key true is rest g = stays_gone (table.remove t n) ns q (table.get-remove nat_cmp_total t n q ∙ ap (λ (b : Bool). cond b None (table.get t q)) is)
+    by_key false is rest g = rest g
 
 -- 1 for true, else 0
 abbrev pub tally : Bool → ℕ

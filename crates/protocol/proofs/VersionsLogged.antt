@@ -133,7 +133,7 @@ owned_right l k (x ∷ xs) h = owned_right l (table.insert k x (owned_row (table
   where
     one : (o : Option ChunkRow) → table.get k x ≡ o → Both l (table.insert k x (owned_row o))
     one None is = put_right l k x (record new_row { references = 1 }) (omega arith) (λ r at. omega arith) h
-    one (Some row) is = both_from l k l (table.insert k x (with_owner row)) (same_from l) (put_from k x row (with_owner row) is refl refl) h
+    one (Some row) is = both_from l k l (table.insert k x (with_owner row)) (same_from l) (put_from k x row (with_owner row) is (refl, refl, refl)) h
 
 abbrev IsIn : Rows → ℕ × ChunkRow → Type 0
 IsIn l e = table.get l e.0 ≡ Some e.1

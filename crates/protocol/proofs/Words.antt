@@ -21,7 +21,7 @@ is_of_lease other = false
 abbrev pub AreQuiet : List Message → Type 0
 AreQuiet ms = AllOf (λ m. is_of_lease m.body ≡ false) ms
 
-true_false : {A : Type 0} → true ≡ false → A
+pub true_false : {A : Type 0} → true ≡ false → A
 true_false h = absurd (let both : true ≡ false = h in cc)
 
 pub no_order : (b : Body) → is_of_lease b ≡ false → order_number b ≡ None
