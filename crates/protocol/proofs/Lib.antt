@@ -43,3 +43,5 @@ pub mod LeasesTold
 pub mod RevokedLeases
 pub mod LeaseEnds
 pub mod LeasesTimed
+pub mod MasterClock
+pub mod EndsToldByMaster
