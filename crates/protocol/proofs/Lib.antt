@@ -45,3 +45,4 @@ pub mod LeaseEnds
 pub mod LeasesTimed
 pub mod MasterClock
 pub mod EndsToldByMaster
+pub mod LeasesTimely
