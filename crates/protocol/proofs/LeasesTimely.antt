@@ -1,5 +1,5 @@
 -- In each reached world whose clocks were kept, what was told of leases' ends is timely.
-use Rattle.std.proofs.Common.{◌≡◌, ℕ, suc, ◌+◌, ◌≤◌, ◌<◌, true, false, List, [], ◌∷◌, ◌++◌, take, drop, refl, sym, ap, subst, ◌∙◌, inl, inr, arith}
+use Rattle.std.proofs.Common.{◌≡◌, ℕ, suc, ◌+◌, ◌≤◌, true, false, List, [], ◌∷◌, ◌++◌, take, drop, refl, sym, ap, subst, ◌∙◌, inl, inr, arith}
 use Rattle.std.specs.Prelude.{nat_le, nat_lt, ◌&&◌, max, IsTrue}
 use Rattle.std.specs.FinMap as table
 use Rattle.std.proofs.lemmas.Bool.{and_parts, ltb-false}
@@ -19,7 +19,7 @@ use Rattle.protocol.specs.Sending.{server_number}
 use Rattle.protocol.specs.ChunkTable.{ChunkRow}
 use Rattle.protocol.specs.Logged.{Logged, LogDisk, LogChange, log_changed_by_all, replayed}
 use Rattle.protocol.specs.Master.{MasterState, MasterDoing, stopped_master, master_begins, writes_checkpoint}
-use Rattle.protocol.specs.MasterStep.{master_at, master_goes, master_ends, master_bounded, master_step, master_restart, is_within_limits, found_log, lease_after_restart, started_master, opening, has_opened, opens_as, new_master}
+use Rattle.protocol.specs.MasterStep.{master_at, master_goes, master_ends, master_bounded, master_step, is_within_limits, found_log, lease_after_restart, started_master, opening, has_opened, opens_as, new_master}
 use Rattle.protocol.specs.ServerStep.{server_step, server_restart}
 use Rattle.protocol.specs.World.{WorldState, stamped, IsReached}
 use Rattle.protocol.specs.Laws.{tells_end, is_grant}
@@ -41,7 +41,7 @@ use Rattle.protocol.proofs.LeaseEnds.{IsEndTold, IsVersionGranted, WasSaidOver, 
 use Rattle.protocol.proofs.LeasesTimed.{telling_keeps, AreTimely}
 use Rattle.protocol.proofs.MasterClock.{IsInTime, in_time_kept}
 use Rattle.protocol.proofs.EndsToldByMaster.{TellNoEnds, quiet_ends, server_tells, restarts_tell, told_before, granted_before}
-use Rattle.protocol.proofs.ScenesReached.{Scene, scene_of, IsSentTo, IsKeptByScenes, scene_reached}
+use Rattle.protocol.proofs.ScenesReached.{Scene, IsSentTo, IsKeptByScenes, scene_reached}
 
 -- what was told and granted was told and granted before
 abbrev ToldFrom : List Message → List Message → Type 0

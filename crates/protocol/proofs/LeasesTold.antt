@@ -305,7 +305,7 @@ same_grant handle version (x ∷ sent) (suc place) (suc other) g m few at there 
 pub granting : (order : OrderNo) (handle version : ℕ) (end_moment : Moment) (members : List ℕ) (b : Body) → b ≡ body.Grant order (handle_of handle) (version_of version) end_moment members → is_grant handle version b ≡ true
 granting order handle version end_moment members b is = ap (is_grant handle version) is ∙ and_from (handle == handle) (version == version) (same_number handle) (same_number version)
 
-server_numbers : (n m : ℕ) → the_server (suc n) ≡ the_server (suc m) → n ≡ m
+pub server_numbers : (n m : ℕ) → the_server (suc n) ≡ the_server (suc m) → n ≡ m
 server_numbers n m same = let number : suc n ≡ suc m = ap number_of same in omega (arith, number)
   where
     number_of : Node → ℕ

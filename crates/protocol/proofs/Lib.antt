@@ -46,3 +46,4 @@ pub mod LeasesTimed
 pub mod MasterClock
 pub mod EndsToldByMaster
 pub mod LeasesTimely
+pub mod LastingLeases

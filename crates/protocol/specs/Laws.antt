@@ -128,6 +128,30 @@ VersionsHaveOnePrimary =
     → (index other : ℕ) (s t : ServerState) → element_at w.servers index ≡ Some s → element_at w.servers other ≡ Some t
     → (handle : ℕ) (p q : Primary) → table.get s.leases handle ≡ Some p → table.get t.leases handle ≡ Some q → p.held.version ≡ q.held.version → index ≡ other
 
+-- a server holds this lease of a chunk, and it ends after the greatest moment that was given to a node
+abbrev pub HoldsLastingLease : WorldState → ℕ → ℕ → Primary → Type 0
+HoldsLastingLease w index handle p = (s : ServerState) × (element_at w.servers index ≡ Some s) × (table.get s.leases handle ≡ Some p) × (w.observer.greatest < p.held.until)
+
+-- Where clocks are kept, a lease that lasts is of the version that the master granted last, its server is the chunk's primary, and it has not ended at the master before (section 3.1).
+abbrev pub LastingLeasesAreOfTheMaster : Type 0
+LastingLeasesAreOfTheMaster =
+    (config : Config) (servers clients : ℕ) (w : WorldState) → IsReached config servers clients w → IsTrue w.observer.are_clocks_kept → IsTrue w.master.up
+    → (index handle : ℕ) (p : Primary) → HoldsLastingLease w index handle p → (row : ChunkRow) → chunk_of w.master.logged.table handle ≡ Some row
+    → (p.held.version ≡ row.granted) × (suc index ≡ row.primary) × (p.held.until ≤ row.lease_end)
+
+-- So is it in the log of a master, also of one that is down (section 3.1).
+abbrev pub LastingLeasesAreInTheLog : Type 0
+LastingLeasesAreInTheLog =
+    (config : Config) (servers clients : ℕ) (w : WorldState) → IsReached config servers clients w → IsTrue w.observer.are_clocks_kept
+    → (index handle : ℕ) (p : Primary) → HoldsLastingLease w index handle p → (row : ChunkRow) → chunk_of (replayed w.master.disk).table handle ≡ Some row
+    → (p.held.version ≡ row.granted) × (suc index ≡ row.primary)
+
+-- Where clocks are kept, one lease of a chunk lasts at most (section 3.1).
+abbrev pub OneLeaseLasts : Type 0
+OneLeaseLasts =
+    (config : Config) (servers clients : ℕ) (w : WorldState) → IsReached config servers clients w → IsTrue w.observer.are_clocks_kept
+    → (index other handle : ℕ) (p q : Primary) → HoldsLastingLease w index handle p → HoldsLastingLease w other handle q → index ≡ other
+
 -- The names of a master that is up are a tree (section 4.1).
 abbrev pub MasterNamesAreATree : Type 0
 MasterNamesAreATree =
