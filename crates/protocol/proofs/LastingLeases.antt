@@ -60,7 +60,7 @@ module _ (x : Scene) (h : IsOfTimes x) (index handle : ℕ) (s : ServerState) (p
       number_of (node.Server n) = n.0
       number_of other = 0
 
-  of_the_master : IsTrue x.are_clocks_kept → IsTrue x.master.up → (row : ChunkRow) → table.get (rows_of x.master.logged) handle ≡ Some row
+  pub of_the_master : IsTrue x.are_clocks_kept → IsTrue x.master.up → (row : ChunkRow) → table.get (rows_of x.master.logged) handle ≡ Some row
       → (p.held.version ≡ row.granted) × (suc index ≡ row.primary) × (p.held.until ≤ row.lease_end)
   of_the_master clocks up row there =
       let says : HasEnd x.greatest x.sent handle p.held.version p.held.until row.granted row.lease_end = ((h.timely clocks).up up handle p.held.version p.held.until end_told).1 row there in

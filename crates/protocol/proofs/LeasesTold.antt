@@ -217,7 +217,7 @@ one_told x ms index t told h other u is =
       | inr there ↦ more_told x.sent ms other u (h other u there)
     ]
 
-numbered_from : (f : ℕ → ServerState) (count index : ℕ) (s : ServerState) → element_at (map f (first_numbers count)) index ≡ Some s → s ≡ f (suc index)
+pub numbered_from : (f : ℕ → ServerState) (count index : ℕ) (s : ServerState) → element_at (map f (first_numbers count)) index ≡ Some s → s ≡ f (suc index)
 numbered_from f count index s is = subst (λ (k : ℕ). s ≡ f k) (ap (λ (k : ℕ). k) refl) (by_count count is).0
   where
     appended : (xs : List ℕ) (x : ℕ) (i : ℕ) → element_at (map f (xs ++ x ∷ [])) i ≡ Some s → (element_at (map f xs) i ≡ Some s) ⊎ ((i ≡ length xs) × (s ≡ f x))

@@ -47,3 +47,5 @@ pub mod MasterClock
 pub mod EndsToldByMaster
 pub mod LeasesTimely
 pub mod LastingLeases
+pub mod ServerSettings
+pub mod CountingLeases

@@ -18,9 +18,11 @@ use Rattle.protocol.specs.Sending.{the_server, handle_of, version_of}
 use Rattle.protocol.specs.Choice.{Choice}
 use Rattle.protocol.specs.ChunkTable.{ChunkRow, ChunkTable, chunk_of}
 use Rattle.protocol.specs.Logged.{Logged, all_copies_given_up, replayed}
-use Rattle.protocol.specs.LeaseHeld.{LeaseHeld}
+use Rattle.protocol.specs.LeaseHeld.{LeaseHeld, counts_at}
 use Rattle.protocol.specs.PrimaryOrder.{Primary}
 use Rattle.protocol.specs.Server.{ServerState}
+use Rattle.protocol.specs.ServerStep.{server_at}
+use Rattle.protocol.specs.Observer.{observed_moment}
 use Rattle.protocol.specs.World.{WorldState, after_events, IsReached}
 
 -- the number of an order of the master; other messages have none
@@ -145,6 +147,13 @@ LastingLeasesAreInTheLog =
     (config : Config) (servers clients : ℕ) (w : WorldState) → IsReached config servers clients w → IsTrue w.observer.are_clocks_kept
     → (index handle : ℕ) (p : Primary) → HoldsLastingLease w index handle p → (row : ChunkRow) → chunk_of (replayed w.master.disk).table handle ≡ Some row
     → (p.held.version ≡ row.granted) × (suc index ≡ row.primary)
+
+-- Where clocks are kept, a lease that counts for its primary as it begins a step is of the version that the master granted last, its server is the chunk's primary, and it has not ended at the master (section 3.1).
+abbrev pub CountingLeasesHaveNotEnded : Type 0
+CountingLeasesHaveNotEnded =
+    (config : Config) (servers clients : ℕ) (w : WorldState) → IsReached config servers clients w → (moment : ℕ) → IsTrue (observed_moment w.config.skew_ms w.observer moment).are_clocks_kept → IsTrue w.master.up
+    → (index handle : ℕ) (s : ServerState) (p : Primary) → element_at w.servers index ≡ Some s → table.get s.leases handle ≡ Some p → IsTrue (counts_at s.config.skew_ms p.held (server_at s moment).now)
+    → (row : ChunkRow) → chunk_of w.master.logged.table handle ≡ Some row → (p.held.version ≡ row.granted) × (suc index ≡ row.primary) × (w.master.now < row.lease_end)
 
 -- Where clocks are kept, one lease of a chunk lasts at most (section 3.1).
 abbrev pub OneLeaseLasts : Type 0
