@@ -1,5 +1,5 @@
 -- A lease that counts for its primary as it begins a step has not ended at the master.
-use Rattle.std.proofs.Common.{◌≡◌, ℕ, ◌+◌, ◌≤◌, ◌<◌, ap, arith}
+use Rattle.std.proofs.Common.{◌+◌, ◌≤◌, ◌<◌, ap, arith}
 use Rattle.std.specs.Prelude.{max}
 use Rattle.std.proofs.lemmas.Bool.{ltb-true}
 use Rattle.std.proofs.Math.Nat.{le-max_right}

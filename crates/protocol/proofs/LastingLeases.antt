@@ -6,12 +6,11 @@ use Rattle.std.proofs.lemmas.Bool.{cases_lt}
 use Rattle.gfs_types.specs.declared.ids.Node.{Node}
 use Rattle.gfs_types.specs.declared.ids.Node.TheVariants as node
 use Rattle.protocol.specs.Tables.{element_at}
-use Rattle.protocol.specs.Sending.{the_server, handle_of, version_of}
+use Rattle.protocol.specs.Sending.{handle_of, version_of}
 use Rattle.protocol.specs.ChunkTable.{ChunkRow}
 use Rattle.protocol.specs.Logged.{Logged}
 use Rattle.protocol.specs.PrimaryOrder.{Primary}
 use Rattle.protocol.specs.Server.{ServerState}
-use Rattle.protocol.specs.World.{WorldState, IsReached}
 use Rattle.protocol.specs.Laws.{LastingLeasesAreOfTheMaster, LastingLeasesAreInTheLog, OneLeaseLasts}
 use Rattle.protocol.proofs.Steps.{removed_cases}
 use Rattle.protocol.proofs.ChunkRows.{rows_of}

@@ -1,5 +1,5 @@
 -- Each server has the world's settings.
-use Rattle.std.proofs.Common.{◌≡◌, ℕ, suc, Some, refl, sym, ap, subst, ◌∙◌, inl, inr}
+use Rattle.std.proofs.Common.{◌≡◌, ℕ, Some, ap, ◌∙◌, inl, inr}
 use Rattle.gfs_types.specs.declared.config.Config.{Config}
 use Rattle.messages.specs.declared.event.Input.{Input}
 use Rattle.messages.specs.declared.event.Input.TheVariants as input
