@@ -236,12 +236,12 @@ named_end chunk number moment handle version until is =
     let inner = and_parts (chunk == handle) (number == version) outer.0 in
     (eqb-true chunk handle inner.0, eqb-true number version inner.1, eqb-true moment until outer.1)
 
-grant_tells : (b : Body) (handle version : ℕ) → is_grant handle version b ≡ true → (until : ℕ) × (tells_end handle version until b ≡ true)
+pub grant_tells : (b : Body) (handle version : ℕ) → is_grant handle version b ≡ true → (until : ℕ) × (tells_end handle version until b ≡ true)
 grant_tells (body.Grant order h v end_moment members) handle version is = (end_moment.0, and_from ((h.0 == handle) && (v.0 == version)) (end_moment.0 == end_moment.0) is (same_number end_moment.0))
 grant_tells other handle version is = true_false (sym is)
 
 -- a version that was granted has an end that was told
-granted_told : (told : List Message) (handle version : ℕ) → IsVersionGranted told handle version → (until : ℕ) × IsEndTold told handle version until
+pub granted_told : (told : List Message) (handle version : ℕ) → IsVersionGranted told handle version → (until : ℕ) × IsEndTold told handle version until
 granted_told told handle version g = let end = grant_tells (g.0).body handle version g.2 in (end.0, (g.0, g.1, end.1))
 
 -- a step so far

@@ -29,7 +29,7 @@ use Rattle.protocol.proofs.RowsKept.{rows_kept}
 use Rattle.protocol.proofs.RevokesNumbered.{IsRowing, AreAmong}
 use Rattle.protocol.proofs.LeaseEnds.{IsEndTold, IsVersionGranted, WasSaidOver, IsPast, HasEnd, HasVersion, AreEnds, ends_among, plain_tells, quiet_tells, IsTelling, appended, checkpointed, less_told, revoked_told, sends, extended_told, granted_told_step}
 
-telling_keeps : (before : List Message) (greatest lease : ℕ) (start : LogDisk) → Keeps (Unit {0}) Nothing (WasSaidOver before) (λ c. IsRowing start c × IsTelling before greatest lease start c)
+pub telling_keeps : (before : List Message) (greatest lease : ℕ) (start : LogDisk) → Keeps (Unit {0}) Nothing (WasSaidOver before) (λ c. IsRowing start c × IsTelling before greatest lease start c)
 telling_keeps before greatest lease start =
     let base : Keeps (Unit {0}) Nothing (WasSaidOver before) (IsRowing start) = naming_keeps IsFoundRows IsRowedLog rows_kept start (WasSaidOver before) in
     record {

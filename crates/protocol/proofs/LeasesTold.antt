@@ -217,7 +217,7 @@ one_told x ms index t told h other u is =
       | inr there ↦ more_told x.sent ms other u (h other u there)
     ]
 
-numbered_from : (f : ℕ → ServerState) (count index : ℕ) (s : ServerState) → element_at (map f (first_numbers count)) index ≡ Some s → s ≡ f (suc index)
+pub numbered_from : (f : ℕ → ServerState) (count index : ℕ) (s : ServerState) → element_at (map f (first_numbers count)) index ≡ Some s → s ≡ f (suc index)
 numbered_from f count index s is = subst (λ (k : ℕ). s ≡ f k) (ap (λ (k : ℕ). k) refl) (by_count count is).0
   where
     appended : (xs : List ℕ) (x : ℕ) (i : ℕ) → element_at (map f (xs ++ x ∷ [])) i ≡ Some s → (element_at (map f xs) i ≡ Some s) ⊎ ((i ≡ length xs) × (s ≡ f x))
@@ -305,7 +305,7 @@ same_grant handle version (x ∷ sent) (suc place) (suc other) g m few at there 
 pub granting : (order : OrderNo) (handle version : ℕ) (end_moment : Moment) (members : List ℕ) (b : Body) → b ≡ body.Grant order (handle_of handle) (version_of version) end_moment members → is_grant handle version b ≡ true
 granting order handle version end_moment members b is = ap (is_grant handle version) is ∙ and_from (handle == handle) (version == version) (same_number handle) (same_number version)
 
-server_numbers : (n m : ℕ) → the_server (suc n) ≡ the_server (suc m) → n ≡ m
+pub server_numbers : (n m : ℕ) → the_server (suc n) ≡ the_server (suc m) → n ≡ m
 server_numbers n m same = let number : suc n ≡ suc m = ap number_of same in omega (arith, number)
   where
     number_of : Node → ℕ

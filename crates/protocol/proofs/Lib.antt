@@ -43,3 +43,9 @@ pub mod LeasesTold
 pub mod RevokedLeases
 pub mod LeaseEnds
 pub mod LeasesTimed
+pub mod MasterClock
+pub mod EndsToldByMaster
+pub mod LeasesTimely
+pub mod LastingLeases
+pub mod ServerSettings
+pub mod CountingLeases

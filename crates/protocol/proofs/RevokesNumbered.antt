@@ -632,7 +632,7 @@ numbered_before sent m h up x s o is =
     ]
 
 -- a message list that a step begins with
-none_more : (sent : List Message) → AreAmong (sent ++ []) sent
+pub none_more : (sent : List Message) → AreAmong (sent ++ []) sent
 none_more sent m s = elim (sent_cases sent [] m s) [ inl before ↦ (m, before, (refl, refl, refl)) | inr new ↦ none_sent m new ]
 
 begins_revoking : (sent : List Message) (start : LogDisk) (c : Core) → c.sent ≡ [] → c.changes ≡ [] → ArePaired sent → Agrees sent c.logged → Agrees sent (state_of c.disk) → Agrees sent (state_of start) → IsRevoking sent start c

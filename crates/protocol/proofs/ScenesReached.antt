@@ -55,7 +55,7 @@ pub record IsNow (x : Scene) (moment : ℕ) : Type 0 where
   pub reached : moment ≤ x.greatest
   pub kept : IsTrue x.are_clocks_kept → x.greatest ≤ moment + x.config.skew_ms
 
-now_passed : (x : Scene) (moment : ℕ) → IsNow (passed x moment) moment
+pub now_passed : (x : Scene) (moment : ℕ) → IsNow (passed x moment) moment
 now_passed x moment =
     record {
       reached = le-max_right x.greatest moment;

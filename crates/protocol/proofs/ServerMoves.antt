@@ -2,6 +2,7 @@
 use Rattle.std.proofs.Common.{◌≡◌, ℕ, ◌+◌, ◌-◌, Bool, true, false, cond, List, [], ◌∷◌, ◌++◌, length, map, Option, Some, None, refl, sym, ap, subst, ◌∙◌, inl, inr}
 use Rattle.std.specs.Prelude.{nat_le, nat_lt, ◌==◌, ◌&&◌, replicate}
 use Rattle.std.specs.FinMap as table
+use Rattle.gfs_types.specs.declared.config.Config.{Config}
 use Rattle.gfs_types.specs.declared.ids.Node.{Node}
 use Rattle.gfs_types.specs.declared.ids.Node.TheVariants.{Master}
 use Rattle.gfs_types.specs.declared.ids.DataId.{DataId}
@@ -43,6 +44,7 @@ use Rattle.std.proofs.lemmas.Bool.{eqb-true, eqb-false}
 
 -- the part of a step of a server that the laws speak of
 pub record ServerCore : Type 0 where
+  pub config : Config
   pub id : ℕ
   pub up : Bool
   pub leases : Table Primary
@@ -52,7 +54,7 @@ pub record ServerCore : Type 0 where
   pub sent : List Message
 
 abbrev pub server_core : ServerDoing → ServerCore
-server_core d = record { id = d.server.id; up = d.server.up; leases = d.server.leases; under_way = d.server.under_way; disk = d.server.disk; changes = d.changes; sent = d.sent }
+server_core d = record { config = d.server.config; id = d.server.id; up = d.server.up; leases = d.server.leases; under_way = d.server.under_way; disk = d.server.disk; changes = d.changes; sent = d.sent }
 
 -- a change that sets no order's number
 abbrev pub IsOfReplica : StoreChange → Type 0

@@ -18,9 +18,11 @@ use Rattle.protocol.specs.Sending.{the_server, handle_of, version_of}
 use Rattle.protocol.specs.Choice.{Choice}
 use Rattle.protocol.specs.ChunkTable.{ChunkRow, ChunkTable, chunk_of}
 use Rattle.protocol.specs.Logged.{Logged, all_copies_given_up, replayed}
-use Rattle.protocol.specs.LeaseHeld.{LeaseHeld}
+use Rattle.protocol.specs.LeaseHeld.{LeaseHeld, counts_at}
 use Rattle.protocol.specs.PrimaryOrder.{Primary}
 use Rattle.protocol.specs.Server.{ServerState}
+use Rattle.protocol.specs.ServerStep.{server_at}
+use Rattle.protocol.specs.Observer.{observed_moment}
 use Rattle.protocol.specs.World.{WorldState, after_events, IsReached}
 
 -- the number of an order of the master; other messages have none
@@ -127,6 +129,37 @@ VersionsHaveOnePrimary =
     (config : Config) (servers clients : ℕ) (w : WorldState) → IsReached config servers clients w
     → (index other : ℕ) (s t : ServerState) → element_at w.servers index ≡ Some s → element_at w.servers other ≡ Some t
     → (handle : ℕ) (p q : Primary) → table.get s.leases handle ≡ Some p → table.get t.leases handle ≡ Some q → p.held.version ≡ q.held.version → index ≡ other
+
+-- a server holds this lease of a chunk, and it ends after the greatest moment that was given to a node
+abbrev pub HoldsLastingLease : WorldState → ℕ → ℕ → Primary → Type 0
+HoldsLastingLease w index handle p = (s : ServerState) × (element_at w.servers index ≡ Some s) × (table.get s.leases handle ≡ Some p) × (w.observer.greatest < p.held.until)
+
+-- Where clocks are kept, a lease that lasts is of the version that the master granted last, its server is the chunk's primary, and it has not ended at the master before (section 3.1).
+abbrev pub LastingLeasesAreOfTheMaster : Type 0
+LastingLeasesAreOfTheMaster =
+    (config : Config) (servers clients : ℕ) (w : WorldState) → IsReached config servers clients w → IsTrue w.observer.are_clocks_kept → IsTrue w.master.up
+    → (index handle : ℕ) (p : Primary) → HoldsLastingLease w index handle p → (row : ChunkRow) → chunk_of w.master.logged.table handle ≡ Some row
+    → (p.held.version ≡ row.granted) × (suc index ≡ row.primary) × (p.held.until ≤ row.lease_end)
+
+-- So is it in the log of a master, also of one that is down (section 3.1).
+abbrev pub LastingLeasesAreInTheLog : Type 0
+LastingLeasesAreInTheLog =
+    (config : Config) (servers clients : ℕ) (w : WorldState) → IsReached config servers clients w → IsTrue w.observer.are_clocks_kept
+    → (index handle : ℕ) (p : Primary) → HoldsLastingLease w index handle p → (row : ChunkRow) → chunk_of (replayed w.master.disk).table handle ≡ Some row
+    → (p.held.version ≡ row.granted) × (suc index ≡ row.primary)
+
+-- Where clocks are kept, a lease that counts for its primary as it begins a step is of the version that the master granted last, its server is the chunk's primary, and it has not ended at the master (section 3.1).
+abbrev pub CountingLeasesHaveNotEnded : Type 0
+CountingLeasesHaveNotEnded =
+    (config : Config) (servers clients : ℕ) (w : WorldState) → IsReached config servers clients w → (moment : ℕ) → IsTrue (observed_moment w.config.skew_ms w.observer moment).are_clocks_kept → IsTrue w.master.up
+    → (index handle : ℕ) (s : ServerState) (p : Primary) → element_at w.servers index ≡ Some s → table.get s.leases handle ≡ Some p → IsTrue (counts_at s.config.skew_ms p.held (server_at s moment).now)
+    → (row : ChunkRow) → chunk_of w.master.logged.table handle ≡ Some row → (p.held.version ≡ row.granted) × (suc index ≡ row.primary) × (w.master.now < row.lease_end)
+
+-- Where clocks are kept, one lease of a chunk lasts at most (section 3.1).
+abbrev pub OneLeaseLasts : Type 0
+OneLeaseLasts =
+    (config : Config) (servers clients : ℕ) (w : WorldState) → IsReached config servers clients w → IsTrue w.observer.are_clocks_kept
+    → (index other handle : ℕ) (p q : Primary) → HoldsLastingLease w index handle p → HoldsLastingLease w other handle q → index ≡ other
 
 -- The names of a master that is up are a tree (section 4.1).
 abbrev pub MasterNamesAreATree : Type 0

@@ -1,6 +1,6 @@
 //! Laws of every lawful list of events from a new cell: calls, deliveries, losses, repeats, ticks, restarts, stops in a step, refused memory and rot.
 
-ghost use Rattle.protocol.specs.Laws.{FilesHaveOneName, GrantedIsAtMostIssued, LeasesAreTold, LogHasTheChunks, LogHasTheFiles, LogHasTheNames, MasterNamesAreATree, MembersRecordedWhatIsGranted, OrderNumbersNeverFall, OrdersAreNumberedOnce, ReferencesAreCounted, VersionsAreGrantedOnce, VersionsHaveOnePrimary};
+ghost use Rattle.protocol.specs.Laws.{CountingLeasesHaveNotEnded, FilesHaveOneName, GrantedIsAtMostIssued, LastingLeasesAreInTheLog, LastingLeasesAreOfTheMaster, LeasesAreTold, LogHasTheChunks, LogHasTheFiles, LogHasTheNames, MasterNamesAreATree, MembersRecordedWhatIsGranted, OneLeaseLasts, OrderNumbersNeverFall, OrdersAreNumberedOnce, ReferencesAreCounted, VersionsAreGrantedOnce, VersionsHaveOnePrimary};
 
 /// No two orders of the master have one number, over its restarts and stops too.
 pub fn orders_are_numbered_once()
@@ -35,6 +35,26 @@ pub fn leases_are_told()
 /// The lease of a version of a chunk is held by one server at most.
 pub fn versions_have_one_primary()
     ensures { VersionsHaveOnePrimary }
+{}
+
+/// Where clocks are kept, a lease that ends after the greatest moment is of the version that the row of a master that is up grants, its server is the row's primary, and the row's end is not earlier.
+pub fn lasting_leases_are_of_the_master()
+    ensures { LastingLeasesAreOfTheMaster }
+{}
+
+/// Where clocks are kept, the log, replayed, grants the version of a lease that ends after the greatest moment, to its server, also while the master is down.
+pub fn lasting_leases_are_in_the_log()
+    ensures { LastingLeasesAreInTheLog }
+{}
+
+/// Where clocks are kept, a lease that counts for its primary as it begins a step is of the version that the row of a master that is up grants, its server is the row's primary, and it has not ended at the master.
+pub fn counting_leases_have_not_ended()
+    ensures { CountingLeasesHaveNotEnded }
+{}
+
+/// Where clocks are kept, at most one server holds a lease of a chunk that ends after the greatest moment.
+pub fn one_lease_lasts()
+    ensures { OneLeaseLasts }
 {}
 
 /// The names of a master that is up are a tree, after each of its restarts too.
