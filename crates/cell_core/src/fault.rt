@@ -1,5 +1,8 @@
 //! Why a cell could not be made, or a list of events could not be run.
 
+ghost use Rattle.std.specs.Prelude.{◌≡◌};
+ghost use Rattle.cell_core.specs.declared.fault.StartFault.TheVariants.{NoMemory as OutOfMemory};
+
 use gfs_types::config::ConfigFault;
 use gfs_types::no_memory::NoMemory;
 
@@ -23,6 +26,8 @@ pub enum RunFault {
 }
 
 impl From<NoMemory> for StartFault {
+    ghost from_gives = { λ _ fault. fault ≡ OutOfMemory };
+
     fn from(_fault: NoMemory) -> StartFault {
         StartFault::NoMemory
     }

@@ -3,3 +3,4 @@ pub mod Bytes
 pub mod Writes
 pub mod Failing
 pub mod Laws
+pub mod Faults

@@ -1,7 +1,8 @@
 //! What every disk promises.
 
-ghost use Rattle.std.specs.Prelude.{◌≡◌, ◌≤◌, ◌+◌, List, ℕ, length, take, drop, OnOk, IsErrOf};
+ghost use Rattle.std.specs.Prelude.{◌≡◌, ◌≤◌, ◌+◌, List, ℕ, Some, length, take, drop, OnOk, IsErrOf};
 ghost use Rattle.disk.specs.declared.device.DiskFault.TheVariants.{NoMemory};
+ghost use Rattle.disk.specs.Faults.{fault_text};
 ghost use Rattle.disk.specs.Device.{ChangesOnly, Elapses, Follows, HasCause, Holds, NoMore, Only};
 
 use std::alloc::{AllocError, AllocFailed};
@@ -18,6 +19,8 @@ pub enum DiskFault {
 }
 
 impl fmt::Display for DiskFault {
+    ghost output = { λ fault. Some (fault_text fault) };
+
     fn fmt<W: fmt::Write>(&self, f: &mut fmt::Formatter<W>) -> fmt::Result {
         match self {
             DiskFault::Device => write!(f, "disk failed"),

@@ -4,6 +4,7 @@
 ghost use Rattle.std.specs.Prelude.{◌≡◌};
 ghost use Rattle.std.specs.Process.{exit_status};
 ghost use Rattle.gfscell.specs.Status.{status_of};
+ghost use Rattle.gfscell.specs.declared.ProgramFault.TheVariants as faults;
 
 use command_line::command::{CommandFault, Request, parse};
 use command_line::options::Options;
@@ -38,12 +39,16 @@ impl ProgramFault {
 }
 
 impl From<CommandFault> for ProgramFault {
+    ghost from_gives = { λ cause fault. fault ≡ faults.Command cause };
+
     fn from(fault: CommandFault) -> ProgramFault {
         ProgramFault::Command(fault)
     }
 }
 
 impl From<ScriptFault> for ProgramFault {
+    ghost from_gives = { λ cause fault. fault ≡ faults.Script cause };
+
     fn from(fault: ScriptFault) -> ProgramFault {
         ProgramFault::Script(fault)
     }

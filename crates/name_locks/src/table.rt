@@ -1,6 +1,7 @@
 //! Which names are locked, and under which ticket.
 
 ghost use Rattle.std.specs.Prelude.{◌≡◌, ◌↔◌, Some, None, [], true, IsSome, IsTrue, IfOk, IsErrOf, OnErr};
+ghost use Rattle.name_locks.specs.Faults.{fault_text};
 ghost use Rattle.name_locks.specs.Locks.{Changes, has_conflict, held_by};
 ghost use Rattle.name_locks.specs.declared.table.TakeFault.TheVariants.{Conflict, NoMemory as OutOfMemory};
 
@@ -23,6 +24,8 @@ pub enum TakeFault {
 }
 
 impl fmt::Display for TakeFault {
+    ghost output = { λ fault. Some (fault_text fault) };
+
     fn fmt<W: fmt::Write>(&self, f: &mut fmt::Formatter<W>) -> fmt::Result {
         match self {
             TakeFault::Conflict => write!(f, "conflict"),

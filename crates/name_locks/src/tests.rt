@@ -130,6 +130,14 @@ fn two_sets_conflict_where_one_writes(rt: HostRuntime) -> Result<(), Fail> {
 }
 
 #[test]
+fn faults_are_printed(rt: HostRuntime) -> Result<(), Fail> {
+    let faults = (TakeFault::Conflict, TakeFault::NoMemory);
+    let text = format!(in rt.alloc(); "{}, {}", faults.0, faults.1)?;
+    assert_eq!(rt; text.as_str(), "conflict, no memory");
+    Ok(())
+}
+
+#[test]
 fn a_ticket_gives_back_its_own_names(rt: HostRuntime) -> Result<(), Fail> {
     let alloc = rt.alloc();
     let mut table = LockTable::new(alloc);

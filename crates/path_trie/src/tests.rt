@@ -261,6 +261,30 @@ fn refused_memory_leaves_the_map(rt: HostRuntime) -> Result<(), Fail> {
     Ok(())
 }
 
+// It passes too where one allocation is refused, whichever that is (`tools/refused`): a refused listing goes through when it is made again.
+#[test]
+fn a_refused_listing_is_made_again(rt: HostRuntime) -> Result<(), Fail> {
+    let alloc = rt.alloc();
+    let trie = match tree(alloc) {
+        Ok(trie) if trie.len() == 8 => trie,
+        _ => tree(alloc)?,
+    };
+    let directory = match Path::parse("/", alloc) {
+        Ok(directory) => directory,
+        Err(_) => Path::parse("/", alloc)?,
+    };
+    let children = match trie.children(alloc, &directory) {
+        Ok(children) => children,
+        Err(NoMemory) => trie.children(alloc, &directory)?,
+    };
+    let names: [&str; 4] = [".gone", "d", "d-e", "dd"];
+    assert_eq!(rt; children.len(), names.len());
+    for (child, name) in children.iter().zip(names) {
+        assert_eq!(rt; child.name(), name);
+    }
+    Ok(())
+}
+
 // A value that can or can't be copied.
 #[derive(Clone, Copy)]
 struct Item {

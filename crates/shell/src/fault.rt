@@ -3,6 +3,7 @@
 ghost use Rattle.std.specs.Prelude.{◌≡◌, ◌≢◌};
 ghost use Rattle.std.specs.IoError.{error_kind};
 ghost use Rattle.shell.specs.Faults.{start_fault, line_fault};
+ghost use Rattle.shell.specs.declared.fault.ScriptFault.TheVariants.{NoMemory as OutOfMemory};
 
 use cell_core::fault::StartFault;
 use gfs_types::no_memory::NoMemory;
@@ -32,6 +33,8 @@ pub enum ScriptFault {
 }
 
 impl From<NoMemory> for ScriptFault {
+    ghost from_gives = { λ _ fault. fault ≡ OutOfMemory };
+
     fn from(_fault: NoMemory) -> ScriptFault {
         ScriptFault::NoMemory
     }
