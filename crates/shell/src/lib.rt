@@ -4,6 +4,8 @@
 mod chunk_lines;
 pub mod fault;
 mod reading;
+#[cfg(test)]
+mod refused;
 pub mod run;
 pub mod simulator;
 #[cfg(test)]

@@ -101,6 +101,7 @@ impl<A: Allocator + Clone> Simulator<A> {
         requires node { node_of self.old.world event ≡ Some node }
         requires moment { now_of event ≡ self.old.clock }
         ensures clock { self.new.clock ≡ self.old.clock }
+        ensures clients { self.new.clients ≡ self.old.clients }
         ensures adds { Adds self.old.world self.new.world (asked_by event) (answers_at node result) (line_at node result) }
     {
         let _ = node;
@@ -117,6 +118,7 @@ impl<A: Allocator + Clone> Simulator<A> {
         requires node { node_of self.old.world event ≡ Some node }
         requires moment { now_of event ≡ self.old.clock }
         ensures clock { self.new.clock ≡ self.old.clock }
+        ensures clients { self.new.clients ≡ self.old.clients }
         ensures printed { IfOk result (Prints self.old.world self.new.world (W.contents writer.old) (W.contents writer.new) (asked_by event)) }
     {
         let answer = self.happens(node, event);
@@ -126,6 +128,7 @@ impl<A: Allocator + Clone> Simulator<A> {
     /// Delivers each message that was sent and not yet delivered, and tells whether a call was answered.
     fn deliver<W: Write>(&mut self, writer: &mut W) -> Result<bool, ScriptFault>
         ensures clock { self.new.clock ≡ self.old.clock }
+        ensures clients { self.new.clients ≡ self.old.clients }
         ensures printed { IfOk result (Prints self.old.world self.new.world (W.contents writer.old) (W.contents writer.new) []) }
     {
         let mut is_answered = false;
@@ -146,6 +149,7 @@ impl<A: Allocator + Clone> Simulator<A> {
 
     fn tick<W: Write>(&mut self, node: Node, writer: &mut W) -> Result<bool, ScriptFault>
         ensures clock { self.new.clock ≡ self.old.clock }
+        ensures clients { self.new.clients ≡ self.old.clients }
         ensures printed { IfOk result (Prints self.old.world self.new.world (W.contents writer.old) (W.contents writer.new) []) }
     {
         let now = self.clock;
@@ -154,7 +158,8 @@ impl<A: Allocator + Clone> Simulator<A> {
 
     /// A tick at each server, in rising number.
     fn tick_servers<W: Write>(&mut self, writer: &mut W) -> Result<bool, ScriptFault>
-        ensures { IfOk result (Prints self.old.world self.new.world (W.contents writer.old) (W.contents writer.new) []) }
+        ensures clients { self.new.clients ≡ self.old.clients }
+        ensures printed { IfOk result (Prints self.old.world self.new.world (W.contents writer.old) (W.contents writer.new) []) }
     {
         let mut is_answered = false;
         for number in 0..self.servers {
@@ -165,7 +170,8 @@ impl<A: Allocator + Clone> Simulator<A> {
 
     /// A tick at each client, in rising number.
     fn tick_clients<W: Write>(&mut self, writer: &mut W) -> Result<bool, ScriptFault>
-        ensures { IfOk result (Prints self.old.world self.new.world (W.contents writer.old) (W.contents writer.new) []) }
+        ensures clients { self.new.clients ≡ self.old.clients }
+        ensures printed { IfOk result (Prints self.old.world self.new.world (W.contents writer.old) (W.contents writer.new) []) }
     {
         let mut is_answered = false;
         for number in 0..self.clients {
@@ -176,7 +182,8 @@ impl<A: Allocator + Clone> Simulator<A> {
 
     /// A round of ticks: the servers in rising number, the master and the clients, each with the deliveries that follow.
     fn tick_round<W: Write>(&mut self, writer: &mut W) -> Result<bool, ScriptFault>
-        ensures { IfOk result (Prints self.old.world self.new.world (W.contents writer.old) (W.contents writer.new) []) }
+        ensures clients { self.new.clients ≡ self.old.clients }
+        ensures printed { IfOk result (Prints self.old.world self.new.world (W.contents writer.old) (W.contents writer.new) []) }
     {
         self.clock = Moment(self.clock.0.saturating_add(ROUND_MS));
         let mut is_answered = self.tick_servers(writer)?;
@@ -195,7 +202,8 @@ impl<A: Allocator + Clone> Simulator<A> {
         call: Call,
         writer: &mut W,
     ) -> Result<bool, ScriptFault>
-        ensures { IfOk result (Prints self.old.world self.new.world (W.contents writer.old) (W.contents writer.new) (Called client.0 «call» ∷ [])) }
+        ensures clients { self.new.clients ≡ self.old.clients }
+        ensures printed { IfOk result (Prints self.old.world self.new.world (W.contents writer.old) (W.contents writer.new) (Called client.0 «call» ∷ [])) }
     {
         let now = self.clock;
         let event = Event::Call { client, call, now };

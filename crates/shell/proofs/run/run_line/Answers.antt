@@ -3,7 +3,7 @@ use Rattle.shell.proofs.Lines.{runs_line, runs_regions, runs_replicas}
 use Rattle.shell.proofs.run.run_line.Goals as goal
 
 pub returns-else-not-branch-clause-runs : goal.returns-else-not-branch-clause-runs
-returns-else-not-branch-clause-runs g c = runs_line _ _ _ _ c.args.line.now c.in-Ok-Call.client c.in-Ok-Call.call _ (c.in-Ok-Call.ensures ∙ ap Some c.in-Ok-Call.field-0-is) c.if-not-branch.false c.requires c.follows_the_machine.ensures c.in_ok-call-in-Ok-Call.ensures
+returns-else-not-branch-clause-runs g c = runs_line _ _ _ _ c.args.line.now c.in-Ok-Call.client c.in-Ok-Call.call _ (c.in-Ok-Call.ensures ∙ ap Some c.in-Ok-Call.field-0-is) c.if-not-branch.false c.requires c.follows_the_machine.ensures c.in_ok-call-in-Ok-Call.ensures.printed
 
 pub returns-else-not-branch-2-clause-runs : goal.returns-else-not-branch-2-clause-runs
 returns-else-not-branch-2-clause-runs g c =

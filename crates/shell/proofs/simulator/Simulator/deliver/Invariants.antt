@@ -6,5 +6,6 @@ use Rattle.shell.proofs.simulator.Simulator.deliver.Given as goal
 abbrev pub invariant-loop : goal.invariant-loop
 invariant-loop g l = record {
   clock : l.self.clock ≡ l.fn.self.clock;
+  clients : l.self.clients ≡ l.fn.self.clients;
   printed : Prints l.fn.self.world l.self.world (g.W.Write.contents l.fn.writer) (g.W.Write.contents l.writer) [] l.is_answered;
 }
