@@ -10,6 +10,4 @@ mod model;
 #[cfg(test)]
 mod names;
 #[cfg(test)]
-mod numbers;
-#[cfg(test)]
 mod random;

@@ -2,7 +2,6 @@
 
 use crate::counts::{Counts, count};
 use crate::model::Model;
-use crate::numbers::Numbers;
 use bytes::Bytes;
 use gfs_types::call::Call;
 use gfs_types::config::Config;
@@ -10,6 +9,9 @@ use gfs_types::ids::{ClientId, Fd, Moment, Node, ServerId};
 use gfs_types::lists::Text;
 use gfs_types::no_memory::NoMemory;
 use messages::event::Event;
+use rand::rngs::SmallRng;
+use rand::seq::IndexedRandom;
+use rand::{RngExt, SeedableRng};
 use std::alloc::Global;
 
 const CLIENT: ClientId = ClientId(1);
@@ -28,7 +30,7 @@ const DIRECTORIES: [&str; 5] = ["/", "/", "/a", "/a/b", "/f"];
 #[derive(Drop)]
 pub struct EventSource {
     alloc: Global,
-    numbers: Numbers,
+    numbers: SmallRng,
     config: Config,
     /// The greatest moment so far.
     clock: u64,
@@ -40,9 +42,17 @@ pub struct EventSource {
 
 impl EventSource {
     pub fn new(alloc: Global, seed: u64) -> EventSource {
-        let mut numbers = Numbers::new(seed);
-        let skew_ms = if numbers.chance(30) { 0 } else { 200 };
-        let lease_ms = if numbers.chance(30) { 5_000 } else { 60_000 };
+        let mut numbers = SmallRng::seed_from_u64(seed);
+        let skew_ms = if numbers.random_ratio(30, 100) {
+            0
+        } else {
+            200
+        };
+        let lease_ms = if numbers.random_ratio(30, 100) {
+            5_000
+        } else {
+            60_000
+        };
         let config = Config {
             chunk: 64,
             block: 16,
@@ -67,13 +77,13 @@ impl EventSource {
 
     /// A moment that is behind the greatest one by the clock bound at most.
     fn moment(&mut self) -> Moment {
-        let step = if self.numbers.chance(30) {
-            self.numbers.below(60)
+        let step = if self.numbers.random_ratio(30, 100) {
+            self.numbers.random_range(0..60)
         } else {
             0
         };
-        let back = if self.numbers.chance(20) {
-            self.numbers.below(self.config.skew_ms.saturating_add(1))
+        let back = if self.numbers.random_ratio(20, 100) {
+            self.numbers.random_range(0..=self.config.skew_ms)
         } else {
             0
         };
@@ -85,25 +95,25 @@ impl EventSource {
     /// So much time passes that an attempt may be over.
     fn passes(&mut self) {
         let end = self.config.attempt_ms.saturating_add(self.config.skew_ms);
-        let step = if self.numbers.chance(50) {
+        let step = if self.numbers.random_ratio(50, 100) {
             end
         } else {
-            self.numbers.below(end)
+            self.numbers.random_range(0..=end)
         };
         self.clock = self.clock.saturating_add(step);
     }
 
     /// The next event, where so many messages were sent.
     pub fn next(&mut self, sent: u64, model: &mut Model) -> Result<Event, NoMemory> {
-        let kind = self.numbers.below(100);
+        let kind = self.numbers.random_range(0..100);
         if kind < 2 || (kind < 90 && !model.is_waiting()) {
             return self.call(model.descriptor_count());
         }
         if self.next_number <= sent && kind < 85 {
             return self.deliver_next(sent, &mut model.counts);
         }
-        if kind < 93 && self.numbers.chance(40) {
-            let number = self.numbers.below(sent.saturating_add(2));
+        if kind < 93 && self.numbers.random_ratio(40, 100) {
+            let number = self.numbers.random_range(0..sent.saturating_add(2));
             return self.deliver(number, sent, &mut model.counts);
         }
         Ok(self.tick())
@@ -111,7 +121,7 @@ impl EventSource {
 
     /// The next message in order. Some are passed over; they come later or never.
     fn deliver_next(&mut self, sent: u64, counts: &mut Counts) -> Result<Event, NoMemory> {
-        let is_passed_over = self.numbers.chance(6);
+        let is_passed_over = self.numbers.random_ratio(6, 100);
         let number = self.next_number;
         self.next_number = number.saturating_add(1);
         if is_passed_over {
@@ -123,10 +133,10 @@ impl EventSource {
 
     /// A tick, mostly of the client.
     fn tick(&mut self) -> Event {
-        if self.numbers.chance(20) {
+        if self.numbers.random_ratio(20, 100) {
             self.passes();
         }
-        let node = match self.numbers.below(10) {
+        let node = match self.numbers.random_range(0..10) {
             0 => Node::Master,
             1 => Node::Server(SERVER),
             _ => Node::Client(CLIENT),
@@ -166,11 +176,11 @@ impl EventSource {
     }
 
     fn call(&mut self, descriptors: u64) -> Result<Event, NoMemory> {
-        let begins = descriptors == 0 && self.numbers.chance(60);
+        let begins = descriptors == 0 && self.numbers.random_ratio(60, 100);
         let uses_file = if descriptors == 0 { 5 } else { 80 };
         let call = if begins {
             self.first_call()?
-        } else if self.numbers.chance(uses_file) {
+        } else if self.numbers.random_ratio(uses_file, 100) {
             self.file_call(descriptors)?
         } else {
             self.name_call()?
@@ -186,7 +196,7 @@ impl EventSource {
     /// What leads to an open file.
     fn first_call(&mut self) -> Result<Call, NoMemory> {
         let path = Text::from_str("/f", self.alloc)?;
-        Ok(if self.numbers.chance(50) {
+        Ok(if self.numbers.random_ratio(50, 100) {
             Call::Create(path)
         } else {
             Call::Open(path)
@@ -194,77 +204,77 @@ impl EventSource {
     }
 
     fn name_call(&mut self) -> Result<Call, NoMemory> {
-        let path = if self.numbers.chance(80) {
-            self.numbers.pick(&PATHS)
+        let path = if self.numbers.random_ratio(80, 100) {
+            PATHS.choose(&mut self.numbers).unwrap()
         } else {
-            self.numbers.pick(&ODD_PATHS)
+            ODD_PATHS.choose(&mut self.numbers).unwrap()
         };
         let path = Text::from_str(path, self.alloc)?;
-        Ok(match self.numbers.below(10) {
+        Ok(match self.numbers.random_range(0..10) {
             0..2 => Call::Mkdir(path),
             2..5 => Call::Create(path),
             5..9 => Call::Open(path),
             _ => {
-                let directory = self.numbers.pick(&DIRECTORIES);
+                let directory = DIRECTORIES.choose(&mut self.numbers).unwrap();
                 Call::List(Text::from_str(directory, self.alloc)?)
             }
         })
     }
 
     fn file_call(&mut self, descriptors: u64) -> Result<Call, NoMemory> {
-        let fd = if self.numbers.chance(95) {
-            self.numbers.below(descriptors).saturating_add(1)
+        let fd = if self.numbers.random_ratio(95, 100) {
+            self.numbers.random_range(1..=descriptors.max(1))
         } else {
-            self.numbers.below(descriptors.saturating_add(3))
+            self.numbers.random_range(0..descriptors.saturating_add(3))
         };
         let offset = self.offset();
-        Ok(match self.numbers.below(20) {
+        Ok(match self.numbers.random_range(0..20) {
             0..5 => Call::Write(Fd(fd), offset, self.bytes()?),
             5..12 => Call::Append(Fd(fd), self.record()?),
-            12..17 => Call::Read(Fd(fd), offset, self.numbers.below(68)),
+            12..17 => Call::Read(Fd(fd), offset, self.numbers.random_range(0..68)),
             _ => Call::Length(Fd(fd)),
         })
     }
 
     /// A place in one of the first chunks, mostly in the first one.
     fn offset(&mut self) -> u64 {
-        let index = match self.numbers.below(10) {
+        let index = match self.numbers.random_range(0..10) {
             0..7 => 0,
             7..9 => 1,
-            _ => self.numbers.below(4),
+            _ => self.numbers.random_range(0..4u64),
         };
-        let start = match self.numbers.below(10) {
+        let start = match self.numbers.random_range(0..10) {
             0..5 => 0,
-            5..9 => self.numbers.below(20),
-            _ => self.numbers.below(64),
+            5..9 => self.numbers.random_range(0..20),
+            _ => self.numbers.random_range(0..64),
         };
         index.saturating_mul(64).saturating_add(start)
     }
 
     /// Up to nine bytes, seldom as many as a chunk and more.
     fn bytes(&mut self) -> Result<Bytes, NoMemory> {
-        let length = if self.numbers.chance(80) {
-            self.numbers.below(10)
+        let length = if self.numbers.random_ratio(80, 100) {
+            self.numbers.random_range(0..10)
         } else {
-            self.numbers.below(66)
+            self.numbers.random_range(0..66)
         };
         self.filled(length)
     }
 
     /// A record, most times one that is not too long.
     fn record(&mut self) -> Result<Bytes, NoMemory> {
-        let length = match self.numbers.below(20) {
-            0 => self.numbers.below(30),
-            1..8 => self.numbers.below(17),
-            _ => self.numbers.below(5).saturating_add(12),
+        let length = match self.numbers.random_range(0..20) {
+            0 => self.numbers.random_range(0..30),
+            1..8 => self.numbers.random_range(0..17),
+            _ => self.numbers.random_range(12..17),
         };
         self.filled(length)
     }
 
     /// So many equal bytes.
-    fn filled(&mut self, length: u64) -> Result<Bytes, NoMemory> {
-        let byte = u8::try_from(self.numbers.below(256)).unwrap_or(0);
-        let filled = vec![in self.alloc; byte; length as usize]?;
+    fn filled(&mut self, length: usize) -> Result<Bytes, NoMemory> {
+        let byte: u8 = self.numbers.random();
+        let filled = vec![in self.alloc; byte; length]?;
         Ok(Bytes::copy_from_slice(self.alloc, filled.as_slice())?)
     }
 }

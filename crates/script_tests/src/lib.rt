@@ -12,8 +12,6 @@ mod lines;
 #[cfg(test)]
 mod model;
 #[cfg(test)]
-mod numbers;
-#[cfg(test)]
 mod random;
 #[cfg(test)]
 mod source;

@@ -1,11 +1,13 @@
 //! Random calls.
 
-use crate::numbers::Numbers;
 use bytes::Bytes;
 use gfs_types::call::Call;
 use gfs_types::ids::Fd;
 use gfs_types::lists::Text;
 use gfs_types::no_memory::NoMemory;
+use rand::rngs::SmallRng;
+use rand::seq::IndexedRandom;
+use rand::{RngExt, SeedableRng};
 use std::alloc::Global;
 
 /// What most name calls are on.
@@ -20,15 +22,19 @@ const DIRECTORIES: [&str; 5] = ["/", "/", "/a", "/a/b", "/f"];
 #[derive(Drop)]
 pub struct CallSource {
     alloc: Global,
-    numbers: Numbers,
+    numbers: SmallRng,
     /// The bytes that a chunk may hold.
     size: u64,
 }
 
 impl CallSource {
     pub fn new(alloc: Global, seed: u64) -> CallSource {
-        let mut numbers = Numbers::new(seed);
-        let size = if numbers.chance(50) { 64 } else { 80 };
+        let mut numbers = SmallRng::seed_from_u64(seed);
+        let size = if numbers.random_ratio(50, 100) {
+            64
+        } else {
+            80
+        };
         CallSource {
             alloc,
             numbers,
@@ -43,15 +49,15 @@ impl CallSource {
 
     /// How many lines the script has.
     pub fn line_count(&mut self) -> u64 {
-        self.numbers.below(11).saturating_add(10)
+        self.numbers.random_range(10..=20)
     }
 
     /// The next call, where so many descriptors are open.
     pub fn next(&mut self, descriptors: u64) -> Result<Call, NoMemory> {
         let uses_file = if descriptors == 0 { 5 } else { 80 };
-        if descriptors == 0 && self.numbers.chance(85) {
+        if descriptors == 0 && self.numbers.random_ratio(85, 100) {
             self.first_call()
-        } else if self.numbers.chance(uses_file) {
+        } else if self.numbers.random_ratio(uses_file, 100) {
             self.file_call(descriptors)
         } else {
             self.name_call()
@@ -61,7 +67,7 @@ impl CallSource {
     /// What leads to an open file.
     fn first_call(&mut self) -> Result<Call, NoMemory> {
         let path = Text::from_str("/f", self.alloc)?;
-        Ok(if self.numbers.chance(60) {
+        Ok(if self.numbers.random_ratio(60, 100) {
             Call::Create(path)
         } else {
             Call::Open(path)
@@ -69,30 +75,30 @@ impl CallSource {
     }
 
     fn name_call(&mut self) -> Result<Call, NoMemory> {
-        let path = if self.numbers.chance(85) {
-            self.numbers.pick(&PATHS)
+        let path = if self.numbers.random_ratio(85, 100) {
+            PATHS.choose(&mut self.numbers).unwrap()
         } else {
-            self.numbers.pick(&ODD_PATHS)
+            ODD_PATHS.choose(&mut self.numbers).unwrap()
         };
         let path = Text::from_str(path, self.alloc)?;
-        Ok(match self.numbers.below(10) {
+        Ok(match self.numbers.random_range(0..10) {
             0..2 => Call::Mkdir(path),
             2..5 => Call::Create(path),
             5..8 => Call::Open(path),
             _ => {
-                let directory = self.numbers.pick(&DIRECTORIES);
+                let directory = DIRECTORIES.choose(&mut self.numbers).unwrap();
                 Call::List(Text::from_str(directory, self.alloc)?)
             }
         })
     }
 
     fn file_call(&mut self, descriptors: u64) -> Result<Call, NoMemory> {
-        let fd = if self.numbers.chance(95) {
-            Fd(self.numbers.below(descriptors).saturating_add(1))
+        let fd = if self.numbers.random_ratio(95, 100) {
+            Fd(self.numbers.random_range(1..=descriptors.max(1)))
         } else {
-            Fd(self.numbers.below(descriptors.saturating_add(3)))
+            Fd(self.numbers.random_range(0..descriptors.saturating_add(3)))
         };
-        Ok(match self.numbers.below(10) {
+        Ok(match self.numbers.random_range(0..10) {
             0..4 => Call::Append(fd, self.record()?),
             4..6 => Call::Write(fd, self.offset(), self.bytes()?),
             6 => Call::Length(fd),
@@ -102,17 +108,17 @@ impl CallSource {
 
     /// A place in one of the first chunks, mostly in the first one, and seldom a very great one.
     fn offset(&mut self) -> u64 {
-        let index = match self.numbers.below(10) {
+        let index = match self.numbers.random_range(0..10) {
             0..7 => 0,
             7..9 => 1,
-            _ => self.numbers.below(5),
+            _ => self.numbers.random_range(0..5),
         };
-        let start = match self.numbers.below(10) {
+        let start = match self.numbers.random_range(0..10) {
             0..5 => 0,
-            5..8 => self.numbers.below(20),
-            _ => self.numbers.below(self.size),
+            5..8 => self.numbers.random_range(0..20),
+            _ => self.numbers.random_range(0..=self.size),
         };
-        match self.numbers.below(50) {
+        match self.numbers.random_range(0..50) {
             0 => u64::MAX,
             1 => 9_007_199_254_740_991,
             _ => self.size.saturating_mul(index).saturating_add(start),
@@ -121,39 +127,39 @@ impl CallSource {
 
     /// Up to a chunk and more, seldom a very great count.
     fn count(&mut self) -> u64 {
-        match self.numbers.below(50) {
+        match self.numbers.random_range(0..50) {
             0 => u64::MAX,
             1 => 0,
-            2..4 => self.numbers.below(100),
+            2..4 => self.numbers.random_range(0..100),
             4..10 => self.size,
-            _ => self.numbers.below(20),
+            _ => self.numbers.random_range(0..20),
         }
     }
 
     /// Data of a write: a few bytes, seldom as many as a chunk and more.
     fn bytes(&mut self) -> Result<Bytes, NoMemory> {
-        let length = match self.numbers.below(10) {
-            0..2 => self.numbers.below(84),
+        let length = match self.numbers.random_range(0..10) {
+            0..2 => self.numbers.random_range(0..84),
             2 => 0,
-            _ => self.numbers.below(12),
+            _ => self.numbers.random_range(0..12),
         };
         self.data(length)
     }
 
     /// A record, most times one that is not too long.
     fn record(&mut self) -> Result<Bytes, NoMemory> {
-        let length = match self.numbers.below(20) {
+        let length = match self.numbers.random_range(0..20) {
             0 => 0,
-            1 => self.numbers.below(30),
+            1 => self.numbers.random_range(0..30),
             2..8 => self.size / 4,
-            _ => self.numbers.below(17),
+            _ => self.numbers.random_range(0..17),
         };
         self.data(length)
     }
 
     /// So many equal bytes, or any bytes that a script's word may have but the `*` of the short form.
     fn data(&mut self, length: u64) -> Result<Bytes, NoMemory> {
-        let are_equal = self.numbers.chance(50);
+        let are_equal = self.numbers.random_ratio(50, 100);
         let mut byte = self.printable();
         let mut data = Vec::new(self.alloc);
         for _ in 0..length {
@@ -166,9 +172,9 @@ impl CallSource {
     }
 
     fn printable(&mut self) -> u8 {
-        match u8::try_from(self.numbers.below(94).saturating_add(33)) {
-            Ok(b'*') | Err(_) => b'+',
-            Ok(byte) => byte,
+        match self.numbers.random_range(b'!'..=b'~') {
+            b'*' => b'+',
+            byte => byte,
         }
     }
 }

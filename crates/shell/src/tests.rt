@@ -2,6 +2,9 @@ use crate::fault::ScriptFault;
 use crate::run::run_script;
 use command_line::options::Options;
 use gfs_types::config::Config;
+use rand::rngs::SmallRng;
+use rand::seq::IndexedRandom;
+use rand::{RngExt, SeedableRng};
 use std::alloc::{AllocError, Global};
 use std::io::{self, BufReader, ErrorKind, Read, Write};
 use std::process::Abort;
@@ -484,25 +487,9 @@ fn writer_fails(rt: HostRuntime) {
     }
 }
 
-/// A small generator of numbers.
-#[derive(Drop)]
-struct Numbers {
-    state: u64,
-}
-
-impl Numbers {
-    fn below(&mut self, end: u64) -> u64 {
-        self.state = self
-            .state
-            .wrapping_mul(6_364_136_223_846_793_005)
-            .wrapping_add(1_442_695_040_888_963_407);
-        (self.state >> 33).checked_rem(end).unwrap_or(0)
-    }
-
-    fn pick<'a>(&mut self, words: &[&'a [u8]]) -> &'a [u8] {
-        let at = self.below(words.len().max(1) as u64) as usize;
-        words.get(at).copied().unwrap_or(b"")
-    }
+/// One of the words.
+fn pick<'a>(numbers: &mut SmallRng, words: &[&'a [u8]]) -> &'a [u8] {
+    words.choose(numbers).copied().unwrap_or(b"")
 }
 
 const PATHS: [&[u8]; 10] = [
@@ -544,45 +531,47 @@ const STRANGE: [&[u8]; 12] = [
     b"fly",
 ];
 
+const FIRST_WORDS: [&[u8]; 6] = [b"c1", b"c1", b"s1", b"write", b"read", b"open"];
+
 /// A line that is in the language.
-fn push_good_line(numbers: &mut Numbers, script: &mut Vec<u8>) -> Result<(), AllocError> {
+fn push_good_line(numbers: &mut SmallRng, script: &mut Vec<u8>) -> Result<(), AllocError> {
     script.extend_from_slice(b"c1 ")?;
-    if numbers.below(2) == 0 {
-        script.extend_from_slice(numbers.pick(&[b"mkdir", b"create", b"open", b"list"]))?;
+    if numbers.random_ratio(1, 2) {
+        script.extend_from_slice(pick(numbers, &[b"mkdir", b"create", b"open", b"list"]))?;
         script.extend_from_slice(b" ")?;
-        script.extend_from_slice(numbers.pick(&PATHS))?;
-    } else if numbers.below(5) == 0 {
+        script.extend_from_slice(pick(numbers, &PATHS))?;
+    } else if numbers.random_ratio(1, 5) {
         script.extend_from_slice(b"length ")?;
-        script.extend_from_slice(numbers.pick(&[b"1", b"2", b"3"]))?;
-    } else if numbers.below(5) == 0 {
+        script.extend_from_slice(pick(numbers, &[b"1", b"2", b"3"]))?;
+    } else if numbers.random_ratio(1, 5) {
         script.extend_from_slice(b"append ")?;
-        script.extend_from_slice(numbers.pick(&[b"1", b"2", b"3"]))?;
+        script.extend_from_slice(pick(numbers, &[b"1", b"2", b"3"]))?;
         script.extend_from_slice(b" ")?;
-        script.extend_from_slice(numbers.pick(&[b"hello", b"x", b"z*13", b"z*17", b"z*0"]))?;
-    } else if numbers.below(2) == 0 {
+        script.extend_from_slice(pick(numbers, &[b"hello", b"x", b"z*13", b"z*17", b"z*0"]))?;
+    } else if numbers.random_ratio(1, 2) {
         script.extend_from_slice(b"write ")?;
-        script.extend_from_slice(numbers.pick(&[b"1", b"2", b"3"]))?;
+        script.extend_from_slice(pick(numbers, &[b"1", b"2", b"3"]))?;
         script.extend_from_slice(b" ")?;
-        script.extend_from_slice(numbers.pick(&COUNTS))?;
+        script.extend_from_slice(pick(numbers, &COUNTS))?;
         script.extend_from_slice(b" ")?;
-        script.extend_from_slice(numbers.pick(&[b"hello", b"x", b"z*9", b"z*64", b"*", b"z*0"]))?;
+        script.extend_from_slice(pick(numbers, &[b"hello", b"x", b"z*9", b"z*64", b"*", b"z*0"]))?;
     } else {
         script.extend_from_slice(b"read ")?;
-        script.extend_from_slice(numbers.pick(&[b"1", b"2", b"3"]))?;
+        script.extend_from_slice(pick(numbers, &[b"1", b"2", b"3"]))?;
         script.extend_from_slice(b" ")?;
-        script.extend_from_slice(numbers.pick(&COUNTS))?;
+        script.extend_from_slice(pick(numbers, &COUNTS))?;
         script.extend_from_slice(b" ")?;
-        script.extend_from_slice(numbers.pick(&COUNTS))?;
+        script.extend_from_slice(pick(numbers, &COUNTS))?;
     }
     Ok(())
 }
 
 /// A line of words that may be anything.
-fn push_strange_line(numbers: &mut Numbers, script: &mut Vec<u8>) -> Result<(), AllocError> {
-    for _ in 0..numbers.below(6) {
-        script.extend_from_slice(numbers.pick(&[b"c1", b"c1", b"s1", b"write", b"read", b"open"]))?;
+fn push_strange_line(numbers: &mut SmallRng, script: &mut Vec<u8>) -> Result<(), AllocError> {
+    for _ in 0..numbers.random_range(0..6) {
+        script.extend_from_slice(pick(numbers, &FIRST_WORDS))?;
         script.extend_from_slice(b" ")?;
-        script.extend_from_slice(numbers.pick(&STRANGE))?;
+        script.extend_from_slice(pick(numbers, &STRANGE))?;
     }
     Ok(())
 }
@@ -590,12 +579,12 @@ fn push_strange_line(numbers: &mut Numbers, script: &mut Vec<u8>) -> Result<(), 
 #[test]
 fn random_scripts_end(rt: HostRuntime) -> Result<(), Fail> {
     let alloc = rt.alloc();
-    let mut numbers = Numbers { state: 2003 };
+    let mut numbers = SmallRng::seed_from_u64(2003);
     let mut whole = 0u64;
     for _ in 0..200 {
         let mut script = Vec::new(alloc);
         for _ in 0..30 {
-            if numbers.below(40) == 0 {
+            if numbers.random_ratio(1, 40) {
                 push_strange_line(&mut numbers, &mut script)?;
             } else {
                 push_good_line(&mut numbers, &mut script)?;

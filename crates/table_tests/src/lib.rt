@@ -8,8 +8,6 @@ mod plain_order;
 #[cfg(test)]
 mod plain_table;
 #[cfg(test)]
-mod random;
-#[cfg(test)]
 mod random_order;
 #[cfg(test)]
 mod random_table;

@@ -1,7 +1,6 @@
 //! Random lists of calls of a held lease and of a primary's order, beside plain ones.
 
 use crate::plain_order::{PlainLease, PlainOrder};
-use crate::random::Random;
 use bytes::Bytes;
 use gfs_types::ids::{ClientId, Moment, Serial, ServerId, Version};
 use gfs_types::lists::ServerList;
@@ -10,6 +9,8 @@ use gfs_types::refusal::Refusal;
 use leases::held::Held;
 use primary_order::answer::Accept;
 use primary_order::primary::Primary;
+use rand::rngs::SmallRng;
+use rand::{RngExt, SeedableRng};
 use std::alloc::{AllocError, Global};
 use std::test::Fail;
 
@@ -27,15 +28,20 @@ fn held(alloc: Global) -> Result<Held, AllocError> {
 }
 
 // Makes one random call at both leases. Whether they answer the same, and end at the same moment.
-fn is_lease_alike(random: &mut Random, step: u64, held: &mut Held, plain: &mut PlainLease) -> bool {
-    let now = random.below(30).saturating_add(step / 2);
-    match random.below(12) {
+fn is_lease_alike(
+    numbers: &mut SmallRng,
+    step: u64,
+    held: &mut Held,
+    plain: &mut PlainLease,
+) -> bool {
+    let now = numbers.random_range(0..30u64).saturating_add(step / 2);
+    match numbers.random_range(0..12) {
         0..=4 => {
-            let until = random.below(90);
+            let until = numbers.random_range(0..90);
             held.extend(Moment(until), Moment(now));
             plain.extend(until, now);
         }
-        5 if random.below(10) == 0 => {
+        5 if numbers.random_ratio(1, 10) => {
             held.end();
             plain.end();
         }
@@ -49,12 +55,12 @@ fn is_lease_alike(random: &mut Random, step: u64, held: &mut Held, plain: &mut P
 }
 
 fn first_lease_difference(
-    random: &mut Random,
+    numbers: &mut SmallRng,
     held: &mut Held,
     plain: &mut PlainLease,
 ) -> Option<u64> {
     for step in 0..CALLS {
-        if !is_lease_alike(random, step, held, plain) {
+        if !is_lease_alike(numbers, step, held, plain) {
             return Some(step);
         }
     }
@@ -65,10 +71,10 @@ fn first_lease_difference(
 fn random_calls_of_a_lease(rt: HostRuntime) -> Result<(), Fail> {
     let (mut over, mut counting) = (0u64, 0u64);
     for seed in 0..LISTS {
-        let mut random = Random::new(seed);
+        let mut numbers = SmallRng::seed_from_u64(seed);
         let mut held = held(rt.alloc())?;
         let mut plain = PlainLease::new(UNTIL, SKEW);
-        let difference = first_lease_difference(&mut random, &mut held, &mut plain);
+        let difference = first_lease_difference(&mut numbers, &mut held, &mut plain);
         assert_eq!(rt; difference, None, "list {seed}");
         if plain.is_over {
             over = over.saturating_add(1);
@@ -110,18 +116,18 @@ fn mutation(place: Option<u64>) -> Mutation {
 
 // An attempt, at both.
 fn is_attempt_alike(
-    random: &mut Random,
+    numbers: &mut SmallRng,
     now: u64,
     alloc: Global,
     primary: &mut Primary,
     plain: &mut PlainOrder,
     counts: &mut Counts,
 ) -> bool {
-    let (client, seq) = (random.below(3), random.below(6));
-    let place = if random.below(4) == 0 {
+    let (client, seq) = (numbers.random_range(0..3), numbers.random_range(0..6));
+    let place = if numbers.random_ratio(1, 4) {
         None
     } else {
-        Some(random.below(64))
+        Some(numbers.random_range(0..64))
     };
     let mutation = mutation(place);
     let Ok(answer) = primary.accept(alloc, ClientId(client), seq, &mutation, Moment(now)) else {
@@ -133,14 +139,14 @@ fn is_attempt_alike(
 
 // An acknowledgement, at both.
 fn is_acknowledgement_alike(
-    random: &mut Random,
+    numbers: &mut SmallRng,
     now: u64,
     primary: &mut Primary,
     plain: &mut PlainOrder,
     counts: &mut Counts,
 ) -> bool {
-    let server = u16::try_from(random.below(5)).unwrap_or(0);
-    let serial = plain.serial.saturating_sub(random.below(4));
+    let server = numbers.random_range(0..5);
+    let serial = plain.serial.saturating_sub(numbers.random_range(0..4));
     let answer = primary.ack(ServerId(server), Serial(serial), Moment(now));
     if answer.is_some() {
         counts.settled = counts.settled.saturating_add(1);
@@ -150,28 +156,28 @@ fn is_acknowledgement_alike(
 
 // Another call, at both.
 fn is_other_alike(
-    random: &mut Random,
+    numbers: &mut SmallRng,
     now: u64,
     primary: &mut Primary,
     plain: &mut PlainOrder,
 ) -> bool {
-    let (client, seq) = (random.below(3), random.below(9));
-    match random.below(8) {
+    let (client, seq) = (numbers.random_range(0..3), numbers.random_range(0..9));
+    match numbers.random_range(0..8) {
         0 | 1 => {
             let denied = primary.deny(ClientId(client), seq, Refusal::NoData);
             return denied.is_ok() == plain.deny(client, seq, Refusal::NoData);
         }
         2 | 3 => {
-            let serial = plain.serial.saturating_sub(random.below(4));
+            let serial = plain.serial.saturating_sub(numbers.random_range(0..4));
             primary.refuse(Serial(serial), Refusal::OldSerial);
             plain.refuse(serial, Refusal::OldSerial);
         }
         4 => {
-            let until = random.below(90);
+            let until = numbers.random_range(0..90);
             primary.extend(Moment(until), Moment(now));
             plain.lease.extend(until, now);
         }
-        5 if random.below(6) == 0 => {
+        5 if numbers.random_ratio(1, 6) => {
             primary.end();
             plain.lease.end();
         }
@@ -199,31 +205,31 @@ fn is_same(primary: &Primary, plain: &PlainOrder) -> bool {
 }
 
 fn is_order_alike(
-    random: &mut Random,
+    numbers: &mut SmallRng,
     step: u64,
     alloc: Global,
     primary: &mut Primary,
     plain: &mut PlainOrder,
     counts: &mut Counts,
 ) -> bool {
-    let now = random.below(20).saturating_add(step / 2);
-    let is_answer_alike = match random.below(12) {
-        0..=2 => is_attempt_alike(random, now, alloc, primary, plain, counts),
-        3..=9 => is_acknowledgement_alike(random, now, primary, plain, counts),
-        _ => is_other_alike(random, now, primary, plain),
+    let now = numbers.random_range(0..20u64).saturating_add(step / 2);
+    let is_answer_alike = match numbers.random_range(0..12) {
+        0..=2 => is_attempt_alike(numbers, now, alloc, primary, plain, counts),
+        3..=9 => is_acknowledgement_alike(numbers, now, primary, plain, counts),
+        _ => is_other_alike(numbers, now, primary, plain),
     };
     is_answer_alike && is_same(primary, plain)
 }
 
 fn first_order_difference(
-    random: &mut Random,
+    numbers: &mut SmallRng,
     alloc: Global,
     primary: &mut Primary,
     plain: &mut PlainOrder,
     counts: &mut Counts,
 ) -> Option<u64> {
     for step in 0..CALLS {
-        if !is_order_alike(random, step, alloc, primary, plain, counts) {
+        if !is_order_alike(numbers, step, alloc, primary, plain, counts) {
             return Some(step);
         }
     }
@@ -241,11 +247,11 @@ fn random_calls_of_a_primary(rt: HostRuntime) -> Result<(), Fail> {
         settled: 0,
     };
     for seed in 0..LISTS {
-        let mut random = Random::new(seed);
+        let mut numbers = SmallRng::seed_from_u64(seed);
         let mut primary = Primary::new(alloc, held(alloc)?);
         let mut plain = PlainOrder::new(alloc, PlainLease::new(UNTIL, SKEW));
         let difference = first_order_difference(
-            &mut random,
+            &mut numbers,
             alloc,
             &mut primary,
             &mut plain,

@@ -1,9 +1,10 @@
 //! Random lists of calls of a table, beside a plain one.
 
 use crate::plain_table::{PlainTable, TableCall, call_table};
-use crate::random::Random;
 use chunk_table::fault::TableFault;
 use chunk_table::table::Table;
+use rand::rngs::SmallRng;
+use rand::{RngExt, SeedableRng};
 use std::alloc::Global;
 use std::test::Fail;
 
@@ -30,10 +31,10 @@ fn kind(call: TableCall) -> usize {
 }
 
 // Each list begins with two files and three chunks.
-fn drawn(random: &mut Random, step: u64) -> TableCall {
-    let file = random.below(3).saturating_add(1);
-    let handle = random.below(6).saturating_add(1);
-    let kind = random.below(20);
+fn drawn(numbers: &mut SmallRng, step: u64) -> TableCall {
+    let file = numbers.random_range(1..=3);
+    let handle = numbers.random_range(1..=6);
+    let kind = numbers.random_range(0..20);
     let kind = match step {
         0 | 1 => 0,
         2..=4 => 2,
@@ -45,17 +46,17 @@ fn drawn(random: &mut Random, step: u64) -> TableCall {
         5 | 6 => TableCall::Issue { handle },
         7..=9 => TableCall::Grant {
             handle,
-            version: random.below(3),
+            version: numbers.random_range(0..3),
             primary: 7,
         },
         10 => TableCall::SetEnd {
             handle,
-            moment: random.below(1_000),
+            moment: numbers.random_range(0..1_000),
         },
         11 => TableCall::Share { file },
         12..=14 => TableCall::Swap {
             file,
-            index: random.below(3) as usize,
+            index: numbers.random_range(0..3),
             copy: handle,
         },
         15 => TableCall::DropFile { file },
@@ -93,14 +94,14 @@ fn count(counts: &mut [u64], place: usize) {
 
 // Makes the calls at both, and gives the number of the first after which they differ.
 fn first_difference(
-    random: &mut Random,
+    numbers: &mut SmallRng,
     alloc: Global,
     table: &mut Table,
     plain: &mut PlainTable,
     counts: &mut Counts,
 ) -> Option<u64> {
     for step in 0..CALLS {
-        let call = drawn(random, step);
+        let call = drawn(numbers, step);
         let answer = call_table(alloc, table, call);
         counts.add(call, answer);
         if answer != plain.call(call) || !plain.is_like(table) {
@@ -118,10 +119,10 @@ fn random_calls_do_what_a_plain_table_does(rt: HostRuntime) -> Result<(), Fail> 
         refused: [0; 5],
     };
     for seed in 0..LISTS {
-        let mut random = Random::new(seed);
+        let mut numbers = SmallRng::seed_from_u64(seed);
         let mut table = Table::new(alloc);
         let mut plain = PlainTable::new(alloc);
-        let difference = first_difference(&mut random, alloc, &mut table, &mut plain, &mut counts);
+        let difference = first_difference(&mut numbers, alloc, &mut table, &mut plain, &mut counts);
         assert_eq!(rt; difference, None, "list {seed}");
     }
     for kind in 0..KINDS {

@@ -3,6 +3,8 @@ use chunk_table::table::Table;
 use gfs_types::ids::{FileId, Handle, Moment, ServerId, Version};
 use gfs_types::lists::ServerList;
 use leases::master::{ended, extend, may_issue};
+use rand::rngs::SmallRng;
+use rand::{RngExt, SeedableRng};
 use std::alloc::{AllocError, Global};
 use std::test::Fail;
 
@@ -132,9 +134,9 @@ fn look_ups_take_logarithmic_time(rt: HostRuntime) -> Result<(), Fail> {
             table.add_chunk(file)?;
         }
     }
-    let mut handle: u64 = 1;
+    let mut numbers = SmallRng::seed_from_u64(1);
     for _ in 0..1_000_000 {
-        handle = handle.wrapping_mul(48_271) % 100_003;
+        let handle = numbers.random_range(0..100_003);
         let is_there = table.chunk(Handle(handle)).is_some();
         assert!(rt; is_there == (handle >= 1 && handle <= 100_000));
     }
