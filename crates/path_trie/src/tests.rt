@@ -273,6 +273,19 @@ fn three_names(alloc: Global) -> Result<(Trie<u64, Global>, Path), PathFault> {
     Ok((trie, Path::parse("/", alloc)?))
 }
 
+// The values right below a directory that has two.
+fn two_values(
+    alloc: Global,
+    trie: &Trie<u64, Global>,
+    directory: &Path,
+) -> Result<[u64; 2], NoMemory> {
+    let children = trie.children(alloc, directory)?;
+    Ok(match children.as_slice() {
+        [first, second] => [*first.value(), *second.value()],
+        _ => [0, 0],
+    })
+}
+
 // It passes too where one allocation is refused, whichever that is (`tools/refused`): a refused listing goes through when it is made again.
 #[test]
 fn a_refused_listing_is_made_again(rt: HostRuntime) -> Result<(), Fail> {
@@ -281,13 +294,9 @@ fn a_refused_listing_is_made_again(rt: HostRuntime) -> Result<(), Fail> {
         Ok(names) => names,
         Err(_) => three_names(alloc)?,
     };
-    let children = match trie.children(alloc, &directory) {
-        Ok(children) => children,
-        Err(NoMemory) => trie.children(alloc, &directory)?,
-    };
-    let values = match children.as_slice() {
-        [first, second] => [*first.value(), *second.value()],
-        _ => [0, 0],
+    let values = match two_values(alloc, &trie, &directory) {
+        Ok(values) => values,
+        Err(NoMemory) => two_values(alloc, &trie, &directory)?,
     };
     assert_eq!(rt; values, [1, 2]);
     Ok(())
