@@ -1,5 +1,7 @@
 //! Want of memory.
 
+ghost use Rattle.std.specs.Prelude.{Some, codes};
+
 use std::alloc::{AllocError, AllocFailed};
 use std::error::Error;
 use std::fmt;
@@ -9,6 +11,8 @@ use std::fmt;
 pub struct NoMemory;
 
 impl fmt::Display for NoMemory {
+    ghost output = { λ _. Some (codes "no memory") };
+
     fn fmt<W: fmt::Write>(&self, f: &mut fmt::Formatter<W>) -> fmt::Result {
         write!(f, "no memory")
     }
