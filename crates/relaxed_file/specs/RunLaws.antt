@@ -18,7 +18,7 @@ use Rattle.relaxed_file.specs.Parts.{has_part, part_start, part_bytes}
 use Rattle.relaxed_file.specs.Machine.{Machine, new_machine, Asked, OpenCall, IsOpen, chunk_at}
 use Rattle.relaxed_file.specs.Reads.{IsLook}
 use Rattle.relaxed_file.specs.Answers.{IsSuccess, MayReturn}
-use Rattle.relaxed_file.specs.Run.{Action, Return, Add, OpenRound, CloseRound, Place, Settle, Look, asked_file, Visible, visible, Allows, after, after_all, IsLawful, IsRunTo, LeadsTo, IsReached}
+use Rattle.relaxed_file.specs.Run.{Action, Return, ReturnFd, Add, OpenRound, CloseRound, Place, Settle, Look, asked_file, Visible, visible, Allows, after, after_all, IsLawful, IsRunTo, LeadsTo, IsReached}
 
 -- A run goes on by an action that its machine allows.
 abbrev pub RunsGoOn : Type 0
@@ -165,3 +165,24 @@ abbrev pub ReadsSkipNothing : Type 0
 ReadsSkipNothing =
     (m : Machine) (client file index named last : ℕ) (chosen : List Entry) (e : Entry) → Allows m (Look client file index named last chosen)
     → Contains (chunk_at m file index).order e → IsTrue e.settled → e.round ≤ named → Contains chosen e
+
+-- The action answers the client's Open of the file.
+abbrev pub IsOpenedFor : ℕ → ℕ → Action → Type 0
+IsOpenedFor client file (ReturnFd who fd opened) = (who ≡ client) × (opened ≡ file)
+IsOpenedFor client file other = ⊥
+
+-- While a client doesn't open a file again, the least round that it may read of a chunk never falls (section 2.7.1).
+abbrev pub NotesNeverFall : Type 0
+NotesNeverFall =
+    (m : Machine) (actions : List Action) (client file index noted : ℕ)
+    → IsLawful m actions → AllByRecursion (λ action. IsOpenedFor client file action → ⊥) actions
+    → (m.clients client).notes file index ≡ Some noted
+    → IsSomeAnd (((after_all m actions).clients client).notes file index) (λ later. noted ≤ later)
+
+-- Until it opens the file again, a client's later reads name no earlier rounds of a chunk (section 2.7.1).
+abbrev pub LooksNameNoEarlierRounds : Type 0
+LooksNameNoEarlierRounds =
+    (m : Machine) (actions : List Action) (client file index named later last last_later : ℕ) (chosen chosen_later : List Entry)
+    → Allows m (Look client file index named last chosen)
+    → IsLawful m actions → AllByRecursion (λ action. IsOpenedFor client file action → ⊥) actions
+    → Allows (after_all m actions) (Look client file index later last_later chosen_later) → named ≤ later
