@@ -40,7 +40,7 @@ module _ (m : Machine) (file : ℕ) (made : file ≤ m.file_count) where
   other_file : (changed : ℕ) (state : FileState) → (Some changed ≡ Some file → ⊥) → (index : ℕ) → (put changed state m.files file).chunks index ≡ chunk_at m file index
   other_file changed state other index = ap (λ (f : FileState). f.chunks index) (put_other changed state m.files file (λ same. other (ap Some (sym same))))
 
-  untouched : (action : Action) → Allows m action → (file_changed_by m action ≡ Some file → ⊥) → Same (after m action)
+  pub untouched : (action : Action) → Allows m action → (file_changed_by m action ≡ Some file → ⊥) → Same (after m action)
   untouched (Return client reply) a other = at_some Same (λ current. returned m client current reply) m _ a.0 a.1 (λ index. refl)
   untouched (Step client moment outcome) a other = at_some Same (λ current. stepped m client moment outcome current) m _ a.0 a.1
       (elim (is_refused outcome) as (λ b. Same (with_outcome (cond b m (performed m (a.0).asked.call moment)) client outcome)) [

@@ -1,10 +1,10 @@
 -- While a client doesn't open a file again, its notes of the file's chunks never fall.
-use Rattle.std.proofs.Common.{◌≡◌, ℕ, ◌≤◌, true, false, cond, List, [], ◌∷◌, Option, Some, None, refl, sym, ◌∙◌, subst, arith}
+use Rattle.std.proofs.Common.{◌≡◌, ℕ, ◌≤◌, true, false, cond, List, [], ◌∷◌, Option, Some, None, refl, sym, subst, arith}
 use Rattle.std.specs.Prelude.{IsSomeAnd, IfSome}
 use Rattle.std.specs.List.{AllByRecursion}
-use Rattle.relaxed_file.specs.Machine.{Machine, Client, OpenCall, Outcome, put, with_client, with_step, with_chunk}
+use Rattle.relaxed_file.specs.Machine.{Machine, Client, put, with_client}
 use Rattle.relaxed_file.specs.NameStep.{performed, is_refused, stepped, with_outcome}
-use Rattle.relaxed_file.specs.Chunks.{chunk_added, placed, with_entry}
+use Rattle.relaxed_file.specs.Chunks.{chunk_added, placed}
 use Rattle.relaxed_file.specs.Reads.{looked}
 use Rattle.relaxed_file.specs.Answers.{returned}
 use Rattle.relaxed_file.specs.Run.{Action, Invoke, Return, ReturnFd, Step, FindBusy, FindFull, Lock, Add, Place, Tell, Note, Look, LookPast, Measure, MeasureNone, Allows, after, after_all, IsLawful, asked_file}

@@ -1,5 +1,5 @@
 -- What holds in every run of the relaxed-file machine (sections 2.7 and 3).
-use Rattle.std.specs.Prelude.{◌≡◌, ℕ, ◌+◌, ◌*◌, ◌<◌, ◌≤◌, ◌⊎◌, List, [], ◌∷◌, ◌++◌, length, Option, Some, None, IsTrue, IsSomeAnd, Contains, slice_get}
+use Rattle.std.specs.Prelude.{◌≡◌, ℕ, ◌+◌, ◌*◌, ◌<◌, ◌≤◌, ◌⊎◌, List, [], ◌∷◌, ◌++◌, length, Option, Some, None, IsTrue, IsFalse, IsSomeAnd, Contains, slice_get}
 use Rattle.std.specs.List.{AllByRecursion}
 use Rattle.gfs_types.specs.declared.call.Call.{Call}
 use Rattle.gfs_types.specs.declared.call.Call.TheVariants as call
@@ -15,7 +15,7 @@ use Rattle.relaxed_file.specs.Names.{IsTree}
 use Rattle.relaxed_file.specs.Order.{Entry, AreRoundsRising, IsSelection, last_cover, mutations_of}
 use Rattle.relaxed_file.specs.Sources.{sources_of}
 use Rattle.relaxed_file.specs.Parts.{has_part, part_start, part_bytes}
-use Rattle.relaxed_file.specs.Machine.{Machine, new_machine, Asked, OpenCall, IsOpen, chunk_at}
+use Rattle.relaxed_file.specs.Machine.{Machine, new_machine, Asked, OpenCall, IsOpen, chunk_at, chunk_count}
 use Rattle.relaxed_file.specs.Reads.{IsLook}
 use Rattle.relaxed_file.specs.Answers.{IsSuccess, MayReturn}
 use Rattle.relaxed_file.specs.Run.{Action, Return, ReturnFd, Add, OpenRound, CloseRound, Place, Settle, Look, asked_file, Visible, visible, Allows, after, after_all, IsLawful, IsRunTo, LeadsTo, IsReached}
@@ -186,3 +186,10 @@ LooksNameNoEarlierRounds =
     → Allows m (Look client file index named last chosen)
     → IsLawful m actions → AllByRecursion (λ action. IsOpenedFor client file action → ⊥) actions
     → Allows (after_all m actions) (Look client file index later last_later chosen_later) → named ≤ later
+
+-- Once a chunk's round is closed, its order stays as it is until another round opens (section 3.1).
+abbrev pub ClosedRoundsAreOver : Type 0
+ClosedRoundsAreOver =
+    (config : Config) (m n : Machine) (file index : ℕ) → IsReached config m → LeadsTo m n
+    → index < chunk_count m file → IsFalse (chunk_at m file index).is_open → (chunk_at n file index).round ≡ (chunk_at m file index).round
+    → (chunk_at n file index).order ≡ (chunk_at m file index).order
