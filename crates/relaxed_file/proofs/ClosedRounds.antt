@@ -1,7 +1,7 @@
 -- Once a chunk's round is closed, its order stays as it is until another round opens.
 use Rattle.std.proofs.Common.{◌≡◌, ℕ, ◌<◌, ◌≤◌, ◌⊎◌, ⊎_elim, refl, sym, ◌∙◌, ap, subst, inl, inr, arith}
 use Rattle.std.specs.Prelude.{IsTrue, IsFalse}
-use Rattle.std.proofs.lemmas.Bool.{true≢false, cases_lt}
+use Rattle.std.proofs.lemmas.Bool.{true≢false}
 use Rattle.std.proofs.lemmas.Option.{none-some}
 use Rattle.relaxed_file.specs.Machine.{Machine, FileState, Chunk, new_chunk, chunk_at, chunk_count, with_chunk}
 use Rattle.relaxed_file.specs.Chunks.{chunk_added, placed, with_entry}
@@ -9,15 +9,9 @@ use Rattle.relaxed_file.specs.Run.{Action, Add, OpenRound, CloseRound, Place, Se
 use Rattle.relaxed_file.specs.RunLaws.{ClosedRoundsAreOver}
 use Rattle.relaxed_file.proofs.Tables.{put_look, at_some}
 use Rattle.relaxed_file.proofs.Reached.{kept_to}
-use Rattle.relaxed_file.proofs.Known.{Known, known_step, asked_is}
+use Rattle.relaxed_file.proofs.Known.{Known, known_step, asked_is, made_by_count}
 use Rattle.relaxed_file.proofs.Grows.{grows_step, known_when_reached}
 use Rattle.relaxed_file.proofs.FilesApart.{untouched}
-
--- a file that has a chunk is one of those that were made
-file_made : (m : Machine) (file index : ℕ) → Known m → index < chunk_count m file → file ≤ m.file_count
-file_made m file index known there = ⊎_elim
-    (λ late. let none : chunk_count m file ≡ 0 = ap (λ (f : FileState). f.chunk_count) (known.fresh file late) in absurd (omega (arith, none, there)))
-    (λ l. l) (cases_lt m.file_count file)
 
 module _ (file index : ℕ) (old : Chunk) (closed : IsFalse old.is_open) where
   -- a later round was opened since, or the chunk is as it was
@@ -54,7 +48,7 @@ module _ (file index : ℕ) (old : Chunk) (closed : IsFalse old.is_open) where
   over_step m (Place client f i mutation) a known there h = at_some Holds (λ current. placed m client current f i mutation) m _ a.0 a.1
       (changed m f i (with_entry (chunk_at m f i) (record { client = client; number = (a.0).number }) mutation) (while_open (chunk_at m f i) _ (a.2).2 refl) h)
   over_step m (Settle f i place) a known there h = changed m f i _ (while_open (chunk_at m f i) _ a.0 refl) h
-  over_step m other a known there h = subst IsOver (sym (untouched m file (file_made m file index known there) other a (λ none. none-some file none) index)) h
+  over_step m other a known there h = subst IsOver (sym (untouched m file (made_by_count m file index known there) other a (λ none. none-some file none) index)) h
 
   abbrev Keeps : Machine → Type 0
   Keeps m = Known m × (index < chunk_count m file) × Holds m
