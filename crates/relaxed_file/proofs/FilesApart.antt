@@ -22,7 +22,7 @@ copy_other : (files : ℕ → FileState) (next : ℕ) (node : Node) (k : ℕ) �
 copy_other files next Dir k l = refl
 copy_other files next (File id) k l = put_other next (files id) files k (λ same. absurd (omega arith))
 
-copies_other : (entries : List (Path × Node)) (files : ℕ → FileState) (next k : ℕ) → k < next → with_copied_files files next entries k ≡ files k
+pub copies_other : (entries : List (Path × Node)) (files : ℕ → FileState) (next k : ℕ) → k < next → with_copied_files files next entries k ≡ files k
 copies_other [] files next k l = refl
 copies_other (e ∷ rest) files next k l =
     let more : next ≤ id_after next e.1 = id_after_rises next e.1 in

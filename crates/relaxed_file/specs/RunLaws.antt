@@ -11,7 +11,8 @@ use Rattle.gfs_types.specs.declared.mutation.Mutation.TheVariants.{Write, Append
 use Rattle.gfs_types.specs.declared.config.Config.{Config}
 use Rattle.gfs_types.specs.Mutations.{start_of, end_of, is_placed_by_system, byte_of}
 use Rattle.gfs_types.specs.Image.{byte_at}
-use Rattle.relaxed_file.specs.Names.{IsTree}
+use Rattle.gfs_types.specs.Paths.{hidden_name}
+use Rattle.relaxed_file.specs.Names.{IsTree, File, node_at}
 use Rattle.relaxed_file.specs.Order.{Entry, AreRoundsRising, IsSelection, last_cover, mutations_of}
 use Rattle.relaxed_file.specs.Sources.{sources_of}
 use Rattle.relaxed_file.specs.Parts.{has_part, part_start, part_bytes}
@@ -193,3 +194,10 @@ ClosedRoundsAreOver =
     (config : Config) (m n : Machine) (file index : ℕ) → IsReached config m → LeadsTo m n
     → index < chunk_count m file → IsFalse (chunk_at m file index).is_open → (chunk_at n file index).round ≡ (chunk_at m file index).round
     → (chunk_at n file index).order ≡ (chunk_at m file index).order
+
+-- A file becomes collected only while it stands under a hidden name whose moment lies as far back as deleted files are kept (section 4.4).
+abbrev pub CollectedFilesWereKept : Type 0
+CollectedFilesWereKept =
+    (m : Machine) (action : Action) (file : ℕ) → Allows m action → file ≤ m.file_count
+    → IsFalse (m.files file).is_collected → IsTrue ((after m action).files file).is_collected
+    → (moment : ℕ) × (node_at m.names (hidden_name moment file) ≡ Some (File file)) × (moment + m.config.keep_ms ≤ m.clock)
