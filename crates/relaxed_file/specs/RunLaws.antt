@@ -1,5 +1,5 @@
 -- What holds in every run of the relaxed-file machine (sections 2.7 and 3).
-use Rattle.std.specs.Prelude.{◌≡◌, ℕ, ◌+◌, ◌*◌, ◌<◌, ◌≤◌, ◌⊎◌, List, [], ◌∷◌, ◌++◌, length, Option, Some, None, IsTrue, IsFalse, IsSomeAnd, Contains, slice_get}
+use Rattle.std.specs.Prelude.{◌≡◌, ℕ, ◌+◌, ◌-◌, ◌*◌, ◌<◌, ◌≤◌, ◌⊎◌, List, [], ◌∷◌, ◌++◌, length, Option, Some, None, IsTrue, IsFalse, IsSomeAnd, Contains, slice_get}
 use Rattle.std.specs.List.{AllByRecursion}
 use Rattle.gfs_types.specs.declared.call.Call.{Call}
 use Rattle.gfs_types.specs.declared.call.Call.TheVariants as call
@@ -201,3 +201,10 @@ CollectedFilesWereKept =
     (m : Machine) (action : Action) (file : ℕ) → Allows m action → file ≤ m.file_count
     → IsFalse (m.files file).is_collected → IsTrue ((after m action).files file).is_collected
     → (moment : ℕ) × (node_at m.names (hidden_name moment file) ≡ Some (File file)) × (moment + m.config.keep_ms ≤ m.clock)
+
+-- A file comes to stand under a hidden name only with a moment that is not ahead of the clock, and behind it by the clock bound at most (section 4.4).
+abbrev pub HiddenNamesTellTheirMoment : Type 0
+HiddenNamesTellTheirMoment =
+    (config : Config) (m : Machine) (action : Action) (told file : ℕ) → IsReached config m → Allows m action
+    → node_at m.names (hidden_name told file) ≡ None → node_at (after m action).names (hidden_name told file) ≡ Some (File file)
+    → (moment : ℕ) × (hidden_name moment file ≡ hidden_name told file) × (m.clock - m.config.skew_ms ≤ moment) × (moment ≤ m.clock)
