@@ -1,5 +1,6 @@
 -- Worked traces of one client on one file, by their actions.
 use Rattle.std.proofs.Common.{◌≡◌, ℕ, zero, suc, ◌<◌, ◌⊎◌, Bool, true, false, List, [], ◌∷◌, Some, None, refl, inl, inr, arith, replicate}
+use Rattle.std.specs.Prelude.{codes}
 use Rattle.std.proofs.lemmas.Bool.{ltb-true}
 use Rattle.gfs_types.specs.declared.call.Call.TheVariants as call
 use Rattle.gfs_types.specs.declared.answer.Answer.TheVariants as answer
@@ -9,7 +10,7 @@ use Rattle.relaxed_file.specs.Order.{Entry, CallId, empty, takes}
 use Rattle.relaxed_file.specs.Parts.{has_part}
 use Rattle.relaxed_file.specs.Machine.{new_machine, Piece}
 use Rattle.relaxed_file.specs.Run.{Action, IsLawful, Invoke, Return, Add, OpenRound, Place, Settle, Tell, Note, Look, LookPast, Measure, MeasureNone}
-use Rattle.relaxed_file.specs.Traces.{small_chunks, fd, record_a, region, HasRegions, IsRunWith, IsRunOfSmall, empty_file_trace, quarter_record_trace, padding_trace, two_chunks_trace, second_try_trace}
+use Rattle.relaxed_file.specs.Traces.{small_chunks, fd, record_a, region, HasRegions, IsRunWith, IsRunOfSmall, empty_file_trace, quarter_record_trace, padding_trace, letters, two_chunks_trace, second_try_trace}
 use Rattle.relaxed_file.proofs.NamesLemmas.{create_f, open_f}
 use Rattle.relaxed_file.proofs.FirstRuns.{◌▸◌, open_actions}
 
@@ -125,21 +126,27 @@ first_or_second zero h = inl refl
 first_or_second (suc zero) h = inr refl
 first_or_second (suc (suc index)) h = absurd (omega (arith, ltb-true _ _ h))
 
+abbrev first_letters : List ℕ
+first_letters = codes "abcd"
+
+abbrev last_letters : List ℕ
+last_letters = codes "efghijklmnopqrst"
+
 abbrev two_chunks_actions : List Action
 two_chunks_actions = open_actions (
-    Invoke 1 (call.Write (fd 1) 60 (replicate 20 122))
-    ∷ Add (call_of 3) ∷ OpenRound 1 0 1 ∷ Tell 1 1 0 ∷ Note 1 1 0 1 1 ∷ Place 1 1 0 (Write 60 (replicate 4 122)) ∷ Settle 1 0 0
-    ∷ Add (call_of 3) ∷ OpenRound 1 1 1 ∷ Tell 1 1 1 ∷ Note 1 1 1 1 2 ∷ Place 1 1 1 (Write 0 (replicate 16 122)) ∷ Settle 1 1 0
+    Invoke 1 (call.Write (fd 1) 60 letters)
+    ∷ Add (call_of 3) ∷ OpenRound 1 0 1 ∷ Tell 1 1 0 ∷ Note 1 1 0 1 1 ∷ Place 1 1 0 (Write 60 first_letters) ∷ Settle 1 0 0
+    ∷ Add (call_of 3) ∷ OpenRound 1 1 1 ∷ Tell 1 1 1 ∷ Note 1 1 1 1 2 ∷ Place 1 1 1 (Write 0 last_letters) ∷ Settle 1 1 0
     ∷ Return 1 answer.Done
-    ∷ Invoke 1 (call.Length (fd 1)) ∷ Tell 1 1 1 ∷ Measure 1 1 1 1 1 1 (entry 3 (Write 0 (replicate 16 122)) true ∷ []) ∷ Return 1 (answer.Length 80)
-    ∷ Invoke 1 (call.Read (fd 1) 60 20) ∷ Look 1 1 0 1 1 (entry 3 (Write 60 (replicate 4 122)) true ∷ []) ∷ Look 1 1 1 1 1 (entry 3 (Write 0 (replicate 16 122)) true ∷ [])
-    ∷ Return 1 (answer.Bytes (replicate 20 122) (1 ∷ 1 ∷ [])) ∷ [])
+    ∷ Invoke 1 (call.Length (fd 1)) ∷ Tell 1 1 1 ∷ Measure 1 1 1 1 1 1 (entry 3 (Write 0 last_letters) true ∷ []) ∷ Return 1 (answer.Length 80)
+    ∷ Invoke 1 (call.Read (fd 1) 60 20) ∷ Look 1 1 0 1 1 (entry 3 (Write 60 first_letters) true ∷ []) ∷ Look 1 1 1 1 1 (entry 3 (Write 0 last_letters) true ∷ [])
+    ∷ Return 1 (answer.Bytes letters (1 ∷ 1 ∷ [])) ∷ [])
 
 abbrev first_piece : Piece
-first_piece = record { index = 0; bytes = replicate 4 122; round = Some 1 }
+first_piece = record { index = 0; bytes = first_letters; round = Some 1 }
 
 abbrev second_piece : Piece
-second_piece = record { index = 1; bytes = replicate 16 122; round = Some 1 }
+second_piece = record { index = 1; bytes = last_letters; round = Some 1 }
 
 only_zero : (k : ℕ) → k < 1 → k ≡ 0
 only_zero k l = omega arith
@@ -159,8 +166,8 @@ two_chunks_run =
       refl,
       (
         (λ index h. elim (first_or_second index h) [
-          | inl is ↦ rw is (1, refl, entry 3 (Write 60 (replicate 4 122)) true, (0, omega arith, refl), (refl, refl, omega arith), tt)
-          | inr is ↦ rw is (1, refl, entry 3 (Write 0 (replicate 16 122)) true, (0, omega arith, refl), (refl, refl, omega arith), tt)
+          | inl is ↦ rw is (1, refl, entry 3 (Write 60 first_letters) true, (0, omega arith, refl), (refl, refl, omega arith), tt)
+          | inr is ↦ rw is (1, refl, entry 3 (Write 0 last_letters) true, (0, omega arith, refl), (refl, refl, omega arith), tt)
         ]),
         refl,
         refl,

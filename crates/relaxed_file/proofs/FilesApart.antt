@@ -22,7 +22,7 @@ copy_other : (files : ℕ → FileState) (next : ℕ) (node : Node) (k : ℕ) �
 copy_other files next Dir k l = refl
 copy_other files next (File id) k l = put_other next (files id) files k (λ same. absurd (omega arith))
 
-copies_other : (entries : List (Path × Node)) (files : ℕ → FileState) (next k : ℕ) → k < next → with_copied_files files next entries k ≡ files k
+pub copies_other : (entries : List (Path × Node)) (files : ℕ → FileState) (next k : ℕ) → k < next → with_copied_files files next entries k ≡ files k
 copies_other [] files next k l = refl
 copies_other (e ∷ rest) files next k l =
     let more : next ≤ id_after next e.1 = id_after_rises next e.1 in
@@ -40,7 +40,7 @@ module _ (m : Machine) (file : ℕ) (made : file ≤ m.file_count) where
   other_file : (changed : ℕ) (state : FileState) → (Some changed ≡ Some file → ⊥) → (index : ℕ) → (put changed state m.files file).chunks index ≡ chunk_at m file index
   other_file changed state other index = ap (λ (f : FileState). f.chunks index) (put_other changed state m.files file (λ same. other (ap Some (sym same))))
 
-  untouched : (action : Action) → Allows m action → (file_changed_by m action ≡ Some file → ⊥) → Same (after m action)
+  pub untouched : (action : Action) → Allows m action → (file_changed_by m action ≡ Some file → ⊥) → Same (after m action)
   untouched (Return client reply) a other = at_some Same (λ current. returned m client current reply) m _ a.0 a.1 (λ index. refl)
   untouched (Step client moment outcome) a other = at_some Same (λ current. stepped m client moment outcome current) m _ a.0 a.1
       (elim (is_refused outcome) as (λ b. Same (with_outcome (cond b m (performed m (a.0).asked.call moment)) client outcome)) [

@@ -175,7 +175,7 @@ chunk_changed : (m : Machine) (file index : ℕ) (chunk : Chunk) → Known m →
 chunk_changed m file index chunk h l there = file_changed m file _ h l (chunk_known (m.files file) index chunk (h.files file) there)
 
 -- a file with a chunk was made
-made_by_count : (m : Machine) (file index : ℕ) → Known m → index < chunk_count m file → file ≤ m.file_count
+pub made_by_count : (m : Machine) (file index : ℕ) → Known m → index < chunk_count m file → file ≤ m.file_count
 made_by_count m file index h l = ⊎_elim
     (λ late. let none : chunk_count m file ≡ 0 = ap (λ (f : FileState). f.chunk_count) (h.fresh file late) in absurd (omega arith))
     (λ made. made) (cases_lt m.file_count file)

@@ -170,7 +170,7 @@ by_refusal : (names : Names) (c : Call) (o : Option Refusal) → is_refused (out
 by_refusal names c None h = refl
 by_refusal names c (Some r) h = absurd (true≢false h)
 
-unrefused : (names : Names) (c : Call) (outcome : Outcome) → outcome ≡ outcome_of names c → is_refused outcome ≡ false → refusal_of names c ≡ None
+pub unrefused : (names : Names) (c : Call) (outcome : Outcome) → outcome ≡ outcome_of names c → is_refused outcome ≡ false → refusal_of names c ≡ None
 unrefused names c outcome is h = by_refusal names c (refusal_of names c) (ap is_refused (sym is) ∙ h)
 
 pub not_taken_no_dir : (o : Option Node) → is_some o ≡ false → is_dir_node o ≡ false
@@ -491,7 +491,7 @@ performed_tree m (call.Snapshot p q) moment tree h =
     (true_from (is_dir m.names (parent q)) all.1.1.1.1.1.1.0) all.1.1.1.1.1.1.1.0
 performed_tree m other moment tree h = tree
 
-tree_step : (m : Machine) (action : Action) → Allows m action → Tree m.names → Tree (after m action).names
+pub tree_step : (m : Machine) (action : Action) → Allows m action → Tree m.names → Tree (after m action).names
 tree_step m (Return client reply) a tree = at_some (λ k. Tree k.names) (λ current. returned m client current reply) m _ a.0 a.1 tree
 tree_step m (Step client moment outcome) a tree = at_some (λ k. Tree k.names) (λ current. stepped m client moment outcome current) m _ a.0 a.1
     (elim (is_refused outcome) as (λ b. is_refused outcome ≡ b → Tree (with_outcome (cond b m (performed m (a.0).asked.call moment)) client outcome).names) [

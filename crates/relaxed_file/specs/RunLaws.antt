@@ -1,5 +1,5 @@
 -- What holds in every run of the relaxed-file machine (sections 2.7 and 3).
-use Rattle.std.specs.Prelude.{◌≡◌, ℕ, ◌+◌, ◌*◌, ◌<◌, ◌≤◌, ◌⊎◌, List, [], ◌∷◌, ◌++◌, length, Option, Some, None, IsTrue, IsSomeAnd, Contains, slice_get}
+use Rattle.std.specs.Prelude.{◌≡◌, ℕ, ◌+◌, ◌-◌, ◌*◌, ◌<◌, ◌≤◌, ◌⊎◌, List, [], ◌∷◌, ◌++◌, length, Option, Some, None, IsTrue, IsFalse, IsSomeAnd, Contains, slice_get}
 use Rattle.std.specs.List.{AllByRecursion}
 use Rattle.gfs_types.specs.declared.call.Call.{Call}
 use Rattle.gfs_types.specs.declared.call.Call.TheVariants as call
@@ -11,14 +11,15 @@ use Rattle.gfs_types.specs.declared.mutation.Mutation.TheVariants.{Write, Append
 use Rattle.gfs_types.specs.declared.config.Config.{Config}
 use Rattle.gfs_types.specs.Mutations.{start_of, end_of, is_placed_by_system, byte_of}
 use Rattle.gfs_types.specs.Image.{byte_at}
-use Rattle.relaxed_file.specs.Names.{IsTree}
+use Rattle.gfs_types.specs.Paths.{hidden_name}
+use Rattle.relaxed_file.specs.Names.{IsTree, File, node_at}
 use Rattle.relaxed_file.specs.Order.{Entry, AreRoundsRising, IsSelection, last_cover, mutations_of}
 use Rattle.relaxed_file.specs.Sources.{sources_of}
 use Rattle.relaxed_file.specs.Parts.{has_part, part_start, part_bytes}
-use Rattle.relaxed_file.specs.Machine.{Machine, new_machine, Asked, OpenCall, IsOpen, chunk_at}
+use Rattle.relaxed_file.specs.Machine.{Machine, new_machine, Asked, OpenCall, IsOpen, chunk_at, chunk_count}
 use Rattle.relaxed_file.specs.Reads.{IsLook}
 use Rattle.relaxed_file.specs.Answers.{IsSuccess, MayReturn}
-use Rattle.relaxed_file.specs.Run.{Action, Return, Add, OpenRound, CloseRound, Place, Settle, Look, asked_file, Visible, visible, Allows, after, after_all, IsLawful, IsRunTo, LeadsTo, IsReached}
+use Rattle.relaxed_file.specs.Run.{Action, Return, ReturnFd, Add, OpenRound, CloseRound, Place, Settle, Look, asked_file, Visible, visible, Allows, after, after_all, IsLawful, IsRunTo, LeadsTo, IsReached}
 
 -- A run goes on by an action that its machine allows.
 abbrev pub RunsGoOn : Type 0
@@ -165,3 +166,45 @@ abbrev pub ReadsSkipNothing : Type 0
 ReadsSkipNothing =
     (m : Machine) (client file index named last : ℕ) (chosen : List Entry) (e : Entry) → Allows m (Look client file index named last chosen)
     → Contains (chunk_at m file index).order e → IsTrue e.settled → e.round ≤ named → Contains chosen e
+
+-- The action answers the client's Open of the file.
+abbrev pub IsOpenedFor : ℕ → ℕ → Action → Type 0
+IsOpenedFor client file (ReturnFd who fd opened) = (who ≡ client) × (opened ≡ file)
+IsOpenedFor client file other = ⊥
+
+-- While a client doesn't open a file again, the least round that it may read of a chunk never falls (section 2.7.1).
+abbrev pub NotesNeverFall : Type 0
+NotesNeverFall =
+    (m : Machine) (actions : List Action) (client file index noted : ℕ)
+    → IsLawful m actions → AllByRecursion (λ action. IsOpenedFor client file action → ⊥) actions
+    → (m.clients client).notes file index ≡ Some noted
+    → IsSomeAnd (((after_all m actions).clients client).notes file index) (λ later. noted ≤ later)
+
+-- Until it opens the file again, a client's later reads name no earlier rounds of a chunk (section 2.7.1).
+abbrev pub LooksNameNoEarlierRounds : Type 0
+LooksNameNoEarlierRounds =
+    (m : Machine) (actions : List Action) (client file index named later last last_later : ℕ) (chosen chosen_later : List Entry)
+    → Allows m (Look client file index named last chosen)
+    → IsLawful m actions → AllByRecursion (λ action. IsOpenedFor client file action → ⊥) actions
+    → Allows (after_all m actions) (Look client file index later last_later chosen_later) → named ≤ later
+
+-- Once a chunk's round is closed, its order stays as it is until another round opens (section 3.1).
+abbrev pub ClosedRoundsAreOver : Type 0
+ClosedRoundsAreOver =
+    (config : Config) (m n : Machine) (file index : ℕ) → IsReached config m → LeadsTo m n
+    → index < chunk_count m file → IsFalse (chunk_at m file index).is_open → (chunk_at n file index).round ≡ (chunk_at m file index).round
+    → (chunk_at n file index).order ≡ (chunk_at m file index).order
+
+-- A file becomes collected only while it stands under a hidden name whose moment lies as far back as deleted files are kept (section 4.4).
+abbrev pub CollectedFilesWereKept : Type 0
+CollectedFilesWereKept =
+    (m : Machine) (action : Action) (file : ℕ) → Allows m action → file ≤ m.file_count
+    → IsFalse (m.files file).is_collected → IsTrue ((after m action).files file).is_collected
+    → (moment : ℕ) × (node_at m.names (hidden_name moment file) ≡ Some (File file)) × (moment + m.config.keep_ms ≤ m.clock)
+
+-- A file comes to stand under a hidden name only with a moment that is not ahead of the clock, and behind it by the clock bound at most (section 4.4).
+abbrev pub HiddenNamesTellTheirMoment : Type 0
+HiddenNamesTellTheirMoment =
+    (config : Config) (m : Machine) (action : Action) (told file : ℕ) → IsReached config m → Allows m action
+    → node_at m.names (hidden_name told file) ≡ None → node_at (after m action).names (hidden_name told file) ≡ Some (File file)
+    → (moment : ℕ) × (hidden_name moment file ≡ hidden_name told file) × (m.clock - m.config.skew_ms ≤ moment) × (moment ≤ m.clock)

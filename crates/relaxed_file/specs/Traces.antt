@@ -130,12 +130,16 @@ padding_trace = after_open (
     ∷ Called 1 (call.Append (fd 1) record_a) ∷ Answered 1 (answer.At 64)
     ∷ Called 1 (call.Read (fd 1) 52 12) ∷ Answered 1 (answer.Bytes (replicate 12 0) (1 ∷ [])) ∷ [])
 
--- a write over the boundary of two chunks
+-- twenty letters, no two of them the same
+abbrev pub letters : List ℕ
+letters = codes "abcdefghijklmnopqrst"
+
+-- a write over the boundary of two chunks: each gets its own part of the letters
 abbrev pub two_chunks_trace : List Visible
 two_chunks_trace = after_open (
-    Called 1 (call.Write (fd 1) 60 (replicate 20 122)) ∷ Answered 1 answer.Done
+    Called 1 (call.Write (fd 1) 60 letters) ∷ Answered 1 answer.Done
     ∷ Called 1 (call.Length (fd 1)) ∷ Answered 1 (answer.Length 80)
-    ∷ Called 1 (call.Read (fd 1) 60 20) ∷ Answered 1 (answer.Bytes (replicate 20 122) (1 ∷ 1 ∷ [])) ∷ [])
+    ∷ Called 1 (call.Read (fd 1) 60 20) ∷ Answered 1 (answer.Bytes letters (1 ∷ 1 ∷ [])) ∷ [])
 
 -- A record that one replica didn't get is tried again, and stands twice: the first time undetermined.
 abbrev pub second_try_trace : List Visible
