@@ -1,5 +1,6 @@
 -- The bytes of a line, one after the other.
 use Rattle.std.proofs.Common.{◌≡◌, ◌<◌, ℕ, Bool, true, false, List, [], ◌∷◌, ◌++◌, inl, inr, length, Option, Some, None, refl, sym, ap, ◌∙◌}
+use Rattle.std.specs.Prelude.{◌↔◌}
 use Rattle.std.specs.Io.KnownBytes.{Keeps, Consumes, IsAtEnd}
 use Rattle.std.proofs.lemmas.List.{append-nil, append_assoc}
 use Rattle.shell.specs.Reading.{line_feed, longest_line, HasNoFeed, ReadsLine, Gives, Loses}
@@ -43,7 +44,7 @@ reads_feed (Some xs) None c items byte none h g is = absurd h
 reads_feed (Some xs) (Some ys) None items byte none h g is = absurd g
 reads_feed (Some xs) (Some ys) (Some zs) items byte none h g is = (none, inl (h ∙ (ap (λ (l : List ℕ). items ++ l) g ∙ ap (λ (x : ℕ). items ++ x ∷ zs) is), refl))
 
-pub reads_end : (a b c : Option (List ℕ)) (items : List ℕ) (is_there : Bool) → HasNoFeed items → Loses a b items → Gives b c None → (is_there ≡ false → items ≡ []) → ReadsLine a c items is_there
+pub reads_end : (a b c : Option (List ℕ)) (items : List ℕ) (is_there : Bool) → HasNoFeed items → Loses a b items → Gives b c None → (is_there ≡ false ↔ items ≡ []) → ReadsLine a c items is_there
 reads_end None b c items is_there none h g empty = tt
 reads_end (Some xs) None c items is_there none h g empty = absurd h
 reads_end (Some xs) (Some ys) None items is_there none h g empty = absurd g
@@ -52,4 +53,4 @@ reads_end (Some xs) (Some ys) (Some zs) items is_there none h g empty = (none, i
 pub reads_long : (a b : Option (List ℕ)) (items : List ℕ) → HasNoFeed items → Loses a b items → longest_line < length items → ReadsLine a b items true
 reads_long None b items none h long = tt
 reads_long (Some xs) None items none h long = absurd h
-reads_long (Some xs) (Some ys) items none h long = (none, inr (inr (long, refl)))
+reads_long (Some xs) (Some ys) items none h long = (none, inr (inr (h, long, refl)))

@@ -2,3 +2,4 @@ pub mod Printing
 pub mod Idle
 pub mod Bytes
 pub mod Lines
+pub mod Stops

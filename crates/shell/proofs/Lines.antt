@@ -7,7 +7,9 @@ use Rattle.std.specs.Io.KnownBytes.{Appends}
 use Rattle.std.proofs.lemmas.Bool.{false≢true}
 use Rattle.std.proofs.lemmas.Bool.Decides.{nat_tests}
 use Rattle.std.proofs.lemmas.List.{append-nil, append_assoc}
-use Rattle.std.proofs.lemmas.List.Elements.{All-cons, All-nil}
+use lib.ListN.{length-append}
+use Rattle.std.proofs.lemmas.List.Elements.{All-cons, All-nil, All-append}
+use Rattle.std.proofs.lemmas.Grind.{flat_map-append}
 use Rattle.std.proofs.lemmas.List.Splits.{slice_split_none, slice_split_at}
 use Rattle.gfs_types.specs.declared.call.Call.{Call}
 use Rattle.gfs_types.specs.declared.config.Config.{Config}
@@ -22,7 +24,7 @@ use Rattle.script.specs.Lines.{line_of, is_skipped, line_for, words_of}
 use Rattle.shell.specs.Chunks.{regions_shown, replicas_shown}
 use Rattle.shell.specs.Printing.{Follows, lines_of, calls_of, answers_to, Prints}
 use Rattle.shell.specs.Reading.{line_feed, longest_line, HasNoFeed, EndsLine, ReadsLine}
-use Rattle.shell.specs.Scripts.{asked_for, asked_on, lines_in, asked_in, IsScript, IsIdle, ComesTo, ComeTo, Runs, Leaves, RunsLines, RunsAll, RunsTheScript}
+use Rattle.shell.specs.Scripts.{asked_for, asked_on, lines_in, asked_in, IsLine, IsScript, IsIdle, AreRead, ComesTo, ComeTo, Runs, Leaves, RunsLines, RunsAll, RunsTheScript}
 use Rattle.shell.proofs.Printing.{appends_none, appends_twice}
 use Rattle.shell.proofs.Idle.{call_answered}
 
@@ -93,82 +95,99 @@ runs_on a b c x y z one two p q = record {
 }
 
 -- a line that is too long is none
-too_long : (text : List ℕ) → longest_line < length text → line_of text ≢ None → ⊥
+too_long : (text : List ℕ) → longest_line < length text → IsLine text → ⊥
 too_long text long is =
     let over : nat_lt 8192 (length text) ≡ true = grind (arith, nat_tests) in
     is (ap (λ (b : Bool). cond b None (cond (is_skipped text) (Some line.Nothing) (line_for (words_of text)))) over)
 
 -- the lines of a script whose first line was read
-lines_after : (xs ys text : List ℕ) → line_of text ≢ None → HasNoFeed text → EndsLine xs ys text true → (lines_in xs ≡ text ∷ lines_in ys) ⊎ ((lines_in xs ≡ text ∷ []) × (ys ≡ []))
+lines_after : (xs ys text : List ℕ) → IsLine text → HasNoFeed text → EndsLine xs ys text true → (lines_in xs ≡ text ∷ lines_in ys) ⊎ ((lines_in xs ≡ text ∷ []) × (ys ≡ []))
 lines_after xs ys text is none ends = ⊎_elim
     (λ at. inl (ap (λ (t : List ℕ). lines_in t) at.0 ∙ slice_split_at (λ c. c == line_feed) text line_feed ys none refl))
     (λ rest. ⊎_elim
     (λ at. inr (ap (λ (t : List ℕ). lines_in t) at.0 ∙ slice_split_none (λ c. c == line_feed) text none, at.1))
-    (λ long. absurd (too_long text long.0 is)) rest)
+    (λ long. absurd (too_long text long.1 is)) rest)
     ends
 
--- what they ask for
-asked_after : (xs ys text : List ℕ) → (lines_in xs ≡ text ∷ lines_in ys) ⊎ ((lines_in xs ≡ text ∷ []) × (ys ≡ [])) → asked_in xs ≡ asked_on text ++ asked_in ys
-asked_after xs ys text lines = ⊎_elim
-    (λ at. ap (λ (ps : List (List ℕ)). flat_map asked_on ps) at)
-    (λ at. ap (λ (ps : List (List ℕ)). flat_map asked_on ps) at.0 ∙ ap (λ (t : List ℕ). asked_on text ++ asked_in t) (sym at.1))
-    lines
+no_feed : (line rest : List ℕ) → line ++ line_feed ∷ rest ≡ [] → ⊥
+no_feed [] rest e = absurd (cc)
+no_feed (x ∷ line) rest e = absurd (cc)
 
-abbrev InLanguage : List ℕ → Type 0
-InLanguage text = line_of text ≢ None
+no_length : (line rest : List ℕ) → line ++ rest ≡ [] → longest_line < length line → ⊥
+no_length [] rest e long = omega arith
+no_length (x ∷ line) rest e long = absurd (cc)
 
--- where the others are in the language, all are
-is_script_after : (xs ys text : List ℕ) → line_of text ≢ None → (lines_in xs ≡ text ∷ lines_in ys) ⊎ ((lines_in xs ≡ text ∷ []) × (ys ≡ [])) → IsScript ys → IsScript xs
-is_script_after xs ys text is lines others = ⊎_elim
-    (λ at. subst (λ (ps : List (List ℕ)). All InLanguage ps) (sym at) (All-cons InLanguage text (lines_in ys) is others))
-    (λ at. subst (λ (ps : List (List ℕ)). All InLanguage ps) (sym at.0) (All-cons InLanguage text [] is (All-nil InLanguage)))
-    lines
+-- where nothing is left, there is no line
+pub nothing_left : (xs ys text : List ℕ) → xs ≡ [] → EndsLine xs ys text true → ⊥
+nothing_left xs ys text is ends = ⊎_elim
+    (λ at. no_feed text ys (sym at.0 ∙ is))
+    (λ rest. ⊎_elim
+    (λ at. false≢true (sym (at.2.1 (sym at.0 ∙ is))))
+    (λ long. no_length text ys (sym long.0 ∙ is) long.1) rest)
+    ends
 
 at_end : (xs ys text : List ℕ) → EndsLine xs ys text false → xs ≡ []
 at_end xs ys text ends = ⊎_elim
     (λ at. absurd (false≢true at.1))
-    (λ rest. ⊎_elim (λ at. at.0 ∙ at.2 refl) (λ long. absurd (false≢true long.1)) rest)
+    (λ rest. ⊎_elim (λ at. at.0 ∙ at.2.0 refl) (λ long. absurd (false≢true long.2)) rest)
     ends
 
 -- nothing was read
 pub leaves_all : (known : Option (List ℕ)) → Leaves known known []
 leaves_all None = tt
-leaves_all (Some xs) = (refl, λ is. is)
+leaves_all (Some xs) = inl refl
 
-leaves_on : (a b c : Option (List ℕ)) (asked : List Line) (text : List ℕ) → Leaves a b asked → ReadsLine b c text true → line_of text ≢ None → Leaves a c (asked ++ asked_on text)
-leaves_on None b c asked text h r is = tt
-leaves_on (Some xs) None c asked text h r is = absurd h
-leaves_on (Some xs) (Some ys) None asked text h r is = absurd r
-leaves_on (Some xs) (Some ys) (Some zs) asked text h r is =
-    let lines : (lines_in ys ≡ text ∷ lines_in zs) ⊎ ((lines_in ys ≡ text ∷ []) × (zs ≡ [])) = lines_after ys zs text is r.0 r.1 in
-    (h.0 ∙ (ap (λ (l : List Line). asked ++ l) (asked_after ys zs text lines) ∙ sym (append_assoc asked (asked_on text) (asked_in zs))), λ rest. h.1 (is_script_after ys zs text is lines rest))
+-- one more line was read
+read_on : (xs ys zs : List ℕ) (texts : List (List ℕ)) (text : List ℕ) → AreRead xs texts ys → HasNoFeed text → EndsLine ys zs text true → IsLine text → AreRead xs (texts ++ text ∷ []) zs
+read_on xs ys zs texts text h none ends is = ⊎_elim
+    (λ at. ⊎_elim
+    (λ next. inl (at ∙ (ap (λ (l : List (List ℕ)). texts ++ l) next ∙ sym (append_assoc texts (text ∷ []) (lines_in zs)))))
+    (λ last. inr (at ∙ ap (λ (l : List (List ℕ)). texts ++ l) last.0, last.1))
+    (lines_after ys zs text is none ends))
+    (λ all. absurd (nothing_left ys zs text all.1 ends))
+    h
 
-no_lines : IsScript []
-no_lines = All-cons InLanguage [] [] (λ is. let e : Some line.Nothing ≡ None = is in cc) (All-nil InLanguage)
+leaves_on : (a b c : Option (List ℕ)) (texts : List (List ℕ)) (text : List ℕ) → Leaves a b texts → ReadsLine b c text true → IsLine text → Leaves a c (texts ++ text ∷ [])
+leaves_on None b c texts text h r is = tt
+leaves_on (Some xs) None c texts text h r is = absurd h
+leaves_on (Some xs) (Some ys) None texts text h r is = absurd r
+leaves_on (Some xs) (Some ys) (Some zs) texts text h r is = read_on xs ys zs texts text h r.0 r.1 is
 
-asked_all : (a b c : Option (List ℕ)) (asked : List Line) (text : List ℕ) → Leaves a b asked → ReadsLine b c text false → IfSome a (λ all. (asked ≡ asked_in all) × IsScript all)
-asked_all None b c asked text h r = tt
-asked_all (Some xs) None c asked text h r = absurd h
-asked_all (Some xs) (Some ys) None asked text h r = absurd r
-asked_all (Some xs) (Some ys) (Some zs) asked text h r =
-    (sym (h.0 ∙ (ap (λ (t : List ℕ). asked ++ asked_in t) (at_end ys zs text r.1) ∙ append-nil asked)), h.1 (subst (λ t. IsScript t) (sym (at_end ys zs text r.1)) no_lines))
+nothing_is_a_line : IsLine []
+nothing_is_a_line is = let e : Some line.Nothing ≡ None = is in cc
+
+-- all lines were read
+all_read : (xs : List ℕ) (texts : List (List ℕ)) → AreRead xs texts [] → All IsLine texts → (flat_map asked_on texts ≡ asked_in xs) × IsScript xs
+all_read xs texts h are = ⊎_elim
+    (λ at. (sym (ap (λ (ps : List (List ℕ)). flat_map asked_on ps) at ∙ (flat_map-append asked_on texts ([] ∷ []) ∙ append-nil (flat_map asked_on texts))),
+      subst (λ (ps : List (List ℕ)). All IsLine ps) (sym at) (All-append IsLine texts ([] ∷ []) are (All-cons IsLine [] [] nothing_is_a_line (All-nil IsLine)))))
+    (λ all. (sym (ap (λ (ps : List (List ℕ)). flat_map asked_on ps) all.0), subst (λ (ps : List (List ℕ)). All IsLine ps) (sym all.0) are))
+    h
+
+asked_all : (a b c : Option (List ℕ)) (texts : List (List ℕ)) (text : List ℕ) → Leaves a b texts → All IsLine texts → ReadsLine b c text false → IfSome a (λ all. (flat_map asked_on texts ≡ asked_in all) × IsScript all)
+asked_all None b c texts text h are r = tt
+asked_all (Some xs) None c texts text h are r = absurd h
+asked_all (Some xs) (Some ys) None texts text h are r = absurd r
+asked_all (Some xs) (Some ys) (Some zs) texts text h are r = all_read xs texts (subst (λ (t : List ℕ). AreRead xs texts t) (at_end ys zs text r.1) h) are
 
 -- before the first line
-pub lines_none : (w : WorldState) (known from : Option (List ℕ)) → IsIdle w.observer.trace → RunsLines w w known known from from
-lines_none w known from idle = record { lines = []; runs = runs_none w known idle; leaves = leaves_all from }
+pub lines_none : (w : WorldState) (known from : Option (List ℕ)) → IsIdle w.observer.trace → RunsLines w w known known from from 1
+lines_none w known from idle = record { texts = []; runs = runs_none w known idle; are_lines = All-nil IsLine; leaves = leaves_all from; number_is = refl }
 
 -- one more line
-pub lines_on : (a b c : WorldState) (x y z from to last : Option (List ℕ)) (text slice : List ℕ) (is_there : Bool) → is_there ≡ true → slice ≡ text → RunsLines a b x y from to → ReadsLine to last text is_there → line_of slice ≢ None → Runs b c y z (asked_on slice)
-    → RunsLines a c x z from last
-lines_on a b c x y z from to last text slice is_there there same p r is q = record {
-  lines = p.lines ++ asked_on slice;
-  runs = runs_on a b c x y z p.lines (asked_on slice) p.runs q;
-  leaves = leaves_on from to last p.lines slice p.leaves (subst (λ t. ReadsLine to last t true) (sym same) (subst (λ i. ReadsLine to last text i) there r)) is;
+pub lines_on : (a b c : WorldState) (x y z from to last : Option (List ℕ)) (number : ℕ) (text slice : List ℕ) (is_there : Bool) → is_there ≡ true → slice ≡ text → RunsLines a b x y from to number → ReadsLine to last text is_there → IsLine slice → Runs b c y z (asked_on slice)
+    → RunsLines a c x z from last (number + 1)
+lines_on a b c x y z from to last number text slice is_there there same p r is q = record {
+  texts = p.texts ++ slice ∷ [];
+  runs = subst (λ (l : List Line). Runs a c x z l) (sym (flat_map-append asked_on p.texts (slice ∷ []) ∙ ap (λ (l : List Line). flat_map asked_on p.texts ++ l) (append-nil (asked_on slice)))) (runs_on a b c x y z (flat_map asked_on p.texts) (asked_on slice) p.runs q);
+  are_lines = All-append IsLine p.texts (slice ∷ []) p.are_lines (All-cons IsLine slice [] is (All-nil IsLine));
+  leaves = leaves_on from to last p.texts slice p.leaves (subst (λ t. ReadsLine to last t true) (sym same) (subst (λ i. ReadsLine to last text i) there r)) is;
+  number_is = omega (arith, p.number_is, length-append p.texts (slice ∷ []));
 }
 
 -- no more lines
-pub lines_end : (a b : WorldState) (x y from to last : Option (List ℕ)) (text : List ℕ) (is_there : Bool) → is_there ≡ false → RunsLines a b x y from to → ReadsLine to last text is_there → RunsAll a b x y from
-lines_end a b x y from to last text is_there there p r = record { lines = p.lines; runs = p.runs; asked = asked_all from to last p.lines text p.leaves (subst (λ i. ReadsLine to last text i) there r) }
+pub lines_end : (a b : WorldState) (x y from to last : Option (List ℕ)) (number : ℕ) (text : List ℕ) (is_there : Bool) → is_there ≡ false → RunsLines a b x y from to number → ReadsLine to last text is_there → RunsAll a b x y from
+lines_end a b x y from to last number text is_there there p r = record { lines = flat_map asked_on p.texts; runs = p.runs; asked = asked_all from to last p.texts text p.leaves p.are_lines (subst (λ i. ReadsLine to last text i) there r) }
 
 -- a whole script on a new cell
 pub runs_the_script : (config : Config) (w : WorldState) (before after script : Option (List ℕ)) → RunsAll (new_world config) w before after script → Follows w → RunsTheScript config script before after

@@ -1,6 +1,6 @@
 -- What an event adds to the trace is what is printed of it, and clocks that were kept stay so.
 use Rattle.std.proofs.Common.{◌≡◌, ◌≤◌, ◌+◌, ℕ, zero, suc, Bool, true, false, cond, List, [], ◌∷◌, ◌++◌, ◌⊎◌, inl, inr, ⊎_elim, Option, Some, None, refl, sym, ap, ◌∙◌, subst, arith}
-use Rattle.std.specs.Prelude.{◌≢◌, option_map, nat_lt, nat_le, ◌&&◌, ◌||◌, ◌==◌, IsTrue, IfSome, All}
+use Rattle.std.specs.Prelude.{◌≢◌, option_map, nat_lt, nat_le, ◌&&◌, ◌||◌, ◌==◌, IsTrue, IsFalse, IfSome, All}
 use Rattle.std.specs.Io.KnownBytes.{Appends, Keeps}
 use Rattle.std.proofs.lemmas.List.{append-nil, append_assoc}
 use Rattle.std.proofs.lemmas.List.Elements.{filter-append}
@@ -225,6 +225,7 @@ prints_none w known asked = record {
   trace_is = sym (append-nil w.observer.trace);
   asked_are = none_asked asked;
   answered = λ yes. absurd (cc);
+  unanswered = λ no. refl;
   printed_is = appends_none known;
   config_is = refl;
 }
@@ -246,6 +247,10 @@ one_of : (a b : Bool) → a || b ≡ true → (a ≡ true) ⊎ (b ≡ true)
 one_of true b = λ yes. inl refl
 one_of false b = λ yes. inr yes
 
+neither : (a b : Bool) → IsFalse (a || b) → IsFalse a × IsFalse b
+neither true b = λ no. absurd (cc)
+neither false b = λ no. (refl, no)
+
 -- A call's event and others after it, which call nothing.
 pub prints_on : (a b c : WorldState) (x y z : Option (List ℕ)) (asked : List Visible) (i j : Bool) → Prints a b x y asked i → Prints b c y z [] j → Prints a c x z asked (i || j)
 prints_on a b c x y z asked i j p q = record {
@@ -257,13 +262,15 @@ prints_on a b c x y z asked i j p q = record {
       (λ (h : i ≡ true). some_front (answers_to only_client p.more) (answers_to only_client q.more) (p.answered h))
       (λ (h : j ≡ true). some_back (answers_to only_client p.more) (answers_to only_client q.more) (q.answered h))
       (one_of i j yes));
+  unanswered = λ no. flat_map-append line_of p.more q.more
+      ∙ (ap (λ (l : List ℕ). l ++ lines_of q.more) (p.unanswered (neither i j no).0) ∙ q.unanswered (neither i j no).1);
   printed_is = subst (λ l. Appends x z l) (sym (flat_map-append line_of p.more q.more)) (appends_twice x y z (lines_of p.more) (lines_of q.more) p.printed_is q.printed_is);
   config_is = q.config_is ∙ p.config_is;
 }
 
--- the same after what was printed and went unanswered, or was answered before
-pub prints_last : (a b c : WorldState) (x y z : Option (List ℕ)) (asked : List Visible) (i j : Bool) → Prints a b x y asked i → Prints b c y z [] j → Prints a c x z asked j
-prints_last a b c x y z asked i j p q = prints_on a b c x y z asked false j (record { reached = p.reached; more = p.more; trace_is = p.trace_is; asked_are = p.asked_are; answered = λ yes. absurd (cc); printed_is = p.printed_is; config_is = p.config_is }) q
+-- the same after what went unanswered
+pub prints_last : (a b c : WorldState) (x y z : Option (List ℕ)) (asked : List Visible) (i j : Bool) → i ≡ false → Prints a b x y asked i → Prints b c y z [] j → Prints a c x z asked j
+prints_last a b c x y z asked i j none p q = prints_on a b c x y z asked false j (subst (λ (k : Bool). Prints a b x y asked k) none p) q
 
 -- the same from the world of a simulator
 pub prints_from : (s t : Simulated) (new : WorldState) (before after : Option (List ℕ)) (asked : List Visible) (i : Bool) → s ≡ t → Prints s.world new before after asked i → Prints t.world new before after asked i
@@ -316,13 +323,14 @@ appends_kept (Some x) (Some y) (Some z) xs h k = k ∙ h
 
 -- a world that went on, and the lines that were printed of it
 pub prints_lines : (old new : WorldState) (before after : Option (List ℕ)) (asked answers : List Visible) (lines : List ℕ) (is_answered : Bool) → Adds old new asked answers lines → Appends before after lines → (IsTrue is_answered → answers ≢ [])
-    → Prints old new before after asked is_answered
-prints_lines old new before after asked answers lines is_answered a h some = record {
+    → (IsFalse is_answered → lines ≡ []) → Prints old new before after asked is_answered
+prints_lines old new before after asked answers lines is_answered a h some none = record {
   reached = a.reached;
   more = a.more;
   trace_is = a.trace_is;
   asked_are = a.asked_are;
   answered = λ yes. subst (λ l. l ≢ []) (sym a.answers_are) (some yes);
+  unanswered = λ no. a.lines_are ∙ none no;
   printed_is = subst (λ l. Appends before after l) (sym a.lines_are) h;
   config_is = a.config_is;
 }

@@ -1,11 +1,11 @@
 -- What a script's fault is where the cell or a line has one.
-use Rattle.std.specs.Prelude.{ℕ}
+use Rattle.std.specs.Prelude.{◌≡◌, ◌⊎◌, ℕ}
 use Rattle.cell_core.specs.declared.fault.StartFault.{StartFault}
 use Rattle.cell_core.specs.declared.fault.StartFault.TheVariants as starts
 use Rattle.script.specs.declared.fault.LineFault.{LineFault}
 use Rattle.script.specs.declared.fault.LineFault.TheVariants as lines
 use Rattle.shell.specs.declared.fault.ScriptFault.{ScriptFault}
-use Rattle.shell.specs.declared.fault.ScriptFault.TheVariants.{Line, Start, NoMemory}
+use Rattle.shell.specs.declared.fault.ScriptFault.TheVariants.{Line, Start, NoMemory, Read, Write}
 
 abbrev pub start_fault : StartFault → ScriptFault
 start_fault (starts.Config setting) = Start
@@ -16,3 +16,15 @@ start_fault starts.NoMemory = NoMemory
 abbrev pub line_fault : LineFault → ℕ → ScriptFault
 line_fault lines.Bad number = Line number
 line_fault lines.NoMemory number = NoMemory
+
+-- a fault of a new cell
+abbrev pub IsOfStart : ScriptFault → Type 0
+IsOfStart f = (f ≡ NoMemory) ⊎ (f ≡ Start)
+
+-- a fault of a reader
+abbrev pub IsOfRead : ScriptFault → Type 0
+IsOfRead f = (f ≡ NoMemory) ⊎ (f ≡ Read)
+
+-- a fault of a writer
+abbrev pub IsOfWrite : ScriptFault → Type 0
+IsOfWrite f = (f ≡ NoMemory) ⊎ (f ≡ Write)

@@ -3,3 +3,4 @@ pub mod Faults
 pub mod Printing
 pub mod Reading
 pub mod Scripts
+pub mod Stopped

@@ -1,5 +1,5 @@
 -- What is printed of a run: a line for each answer, in order.
-use Rattle.std.specs.Prelude.{◌≡◌, ◌≢◌, ◌≤◌, ℕ, ◌==◌, Bool, true, false, IsTrue, List, [], ◌∷◌, ◌++◌, Option, Some, None, option_map}
+use Rattle.std.specs.Prelude.{◌≡◌, ◌≢◌, ◌≤◌, ℕ, ◌==◌, Bool, true, false, IsTrue, IsFalse, List, [], ◌∷◌, ◌++◌, Option, Some, None, option_map}
 use Rattle.std.specs.List.{filter, flat_map}
 use Rattle.std.specs.Io.KnownBytes.{Appends}
 use Rattle.gfs_types.specs.declared.answer.Answer.{Answer}
@@ -107,6 +107,7 @@ pub record Prints (old new : WorldState) (before after : Option (List ℕ)) (ask
   pub trace_is : new.observer.trace ≡ old.observer.trace ++ more
   pub asked_are : MayAsk (calls_of more) asked
   pub answered : IsTrue is_answered → answers_to only_client more ≢ []
+  pub unanswered : IsFalse is_answered → lines_of more ≡ []
   pub printed_is : Appends before after (lines_of more)
   pub config_is : new.config ≡ old.config
 

@@ -1,5 +1,5 @@
 -- How a script is read, line by line.
-use Rattle.std.specs.Prelude.{◌≡◌, ◌⊎◌, ◌<◌, ⊤, ℕ, ◌==◌, Bool, true, false, List, [], ◌∷◌, ◌++◌, length, Option, Some, None}
+use Rattle.std.specs.Prelude.{◌≡◌, ◌⊎◌, ◌↔◌, ◌<◌, ⊤, ℕ, ◌==◌, Bool, true, false, List, [], ◌∷◌, ◌++◌, length, Option, Some, None}
 use Rattle.std.specs.List.{All}
 
 abbrev pub line_feed : ℕ
@@ -29,8 +29,8 @@ Loses (Some xs) (Some ys) bytes = xs ≡ bytes ++ ys
 abbrev pub EndsLine : List ℕ → List ℕ → List ℕ → Bool → Type 0
 EndsLine xs ys line is_there =
     ((xs ≡ line ++ line_feed ∷ ys) × (is_there ≡ true))
-    ⊎ (((xs ≡ line) × (ys ≡ []) × (is_there ≡ false → line ≡ []))
-    ⊎ ((longest_line < length line) × (is_there ≡ true)))
+    ⊎ (((xs ≡ line) × (ys ≡ []) × (is_there ≡ false ↔ line ≡ []))
+    ⊎ ((xs ≡ line ++ ys) × (longest_line < length line) × (is_there ≡ true)))
 
 abbrev pub HasNoFeed : List ℕ → Type 0
 HasNoFeed line = All (λ c. (c == line_feed) ≡ false) line

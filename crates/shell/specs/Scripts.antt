@@ -1,5 +1,5 @@
 -- What the lines of a script ask for, and what running them comes to.
-use Rattle.std.specs.Prelude.{◌≡◌, ◌≢◌, ⊤, ℕ, ◌==◌, false, List, [], ◌∷◌, ◌++◌, length, Option, Some, None, IsFalse, IfSome}
+use Rattle.std.specs.Prelude.{◌≡◌, ◌≢◌, ◌⊎◌, ⊤, ℕ, ◌+◌, ◌==◌, false, List, [], ◌∷◌, ◌++◌, length, Option, Some, None, IsFalse, IfSome}
 use Rattle.std.specs.List.{All, flat_map, slice_split}
 use Rattle.std.specs.Io.KnownBytes.{Appends}
 use Rattle.gfs_types.specs.declared.config.Config.{Config}
@@ -33,9 +33,13 @@ lines_in script = slice_split (λ c. c == line_feed) script
 abbrev pub asked_in : List ℕ → List Line
 asked_in script = flat_map asked_on (lines_in script)
 
+-- a line in the language
+abbrev pub IsLine : List ℕ → Type 0
+IsLine text = line_of text ≢ None
+
 -- each line of a script is in the language
 abbrev pub IsScript : List ℕ → Type 0
-IsScript script = All (λ text. line_of text ≢ None) (lines_in script)
+IsScript script = All IsLine (lines_in script)
 
 -- the client waits for no answer at the end of a trace
 abbrev pub IsIdle : List Visible → Type 0
@@ -71,17 +75,23 @@ pub record Runs (old new : WorldState) (before after : Option (List ℕ)) (lines
   pub config_is : new.config ≡ old.config
   pub is_idle : IsIdle new.observer.trace
 
--- the known bytes asked for these lines, and for those of the bytes that are left; what was read is in the language
-abbrev pub Leaves : Option (List ℕ) → Option (List ℕ) → List Line → Type 0
-Leaves None new lines = ⊤
-Leaves (Some xs) None lines = ⊥
-Leaves (Some xs) (Some ys) lines = (asked_in xs ≡ lines ++ asked_in ys) × (IsScript ys → IsScript xs)
+-- these lines were read of xs, and ys is left: it has the other lines, or there is no other
+abbrev pub AreRead : List ℕ → List (List ℕ) → List ℕ → Type 0
+AreRead xs texts ys = (lines_in xs ≡ texts ++ lines_in ys) ⊎ ((lines_in xs ≡ texts) × (ys ≡ []))
 
--- a world that went on by the lines that were read
-pub record RunsLines (old new : WorldState) (before after : Option (List ℕ)) (from to : Option (List ℕ)) : Type 0 where
-  pub lines : List Line
-  pub runs : Runs old new before after lines
-  pub leaves : Leaves from to lines
+-- these lines were read of the known bytes
+abbrev pub Leaves : Option (List ℕ) → Option (List ℕ) → List (List ℕ) → Type 0
+Leaves None new texts = ⊤
+Leaves (Some xs) None texts = ⊥
+Leaves (Some xs) (Some ys) texts = AreRead xs texts ys
+
+-- a world that went on by the lines that were read, up to the one of this number
+pub record RunsLines (old new : WorldState) (before after : Option (List ℕ)) (from to : Option (List ℕ)) (number : ℕ) : Type 0 where
+  pub texts : List (List ℕ)
+  pub runs : Runs old new before after (flat_map asked_on texts)
+  pub are_lines : All IsLine texts
+  pub leaves : Leaves from to texts
+  pub number_is : number ≡ 1 + length texts
 
 -- a world that went on by the lines of a whole script, where its bytes are known
 pub record RunsAll (old new : WorldState) (before after : Option (List ℕ)) (script : Option (List ℕ)) : Type 0 where

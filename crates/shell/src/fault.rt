@@ -2,7 +2,7 @@
 
 ghost use Rattle.std.specs.Prelude.{◌≡◌, ◌≢◌};
 ghost use Rattle.std.specs.IoError.{error_kind};
-ghost use Rattle.shell.specs.Faults.{start_fault, line_fault};
+ghost use Rattle.shell.specs.Faults.{IsOfRead, IsOfStart, IsOfWrite, start_fault, line_fault};
 ghost use Rattle.shell.specs.declared.fault.ScriptFault.TheVariants.{NoMemory as OutOfMemory};
 
 use cell_core::fault::StartFault;
@@ -43,7 +43,8 @@ impl From<NoMemory> for ScriptFault {
 impl ScriptFault {
     /// Why there is no cell.
     pub fn of_start(fault: &StartFault) -> ScriptFault
-        ensures { result ≡ start_fault fault.now }
+        ensures fault { result ≡ start_fault fault.now }
+        ensures either { IsOfStart result }
     {
         match fault {
             StartFault::NoMemory => ScriptFault::NoMemory,
@@ -65,6 +66,7 @@ impl ScriptFault {
     pub fn of_read(error: &io::Error) -> ScriptFault
         ensures memory { error_kind error.now ≡ ErrorKind.OutOfMemory → result ≡ ScriptFault.NoMemory }
         ensures other { error_kind error.now ≢ ErrorKind.OutOfMemory → result ≡ ScriptFault.Read }
+        ensures either { IsOfRead result }
     {
         match error.kind() {
             ErrorKind::OutOfMemory => ScriptFault::NoMemory,
@@ -76,6 +78,7 @@ impl ScriptFault {
     pub fn of_write(error: &io::Error) -> ScriptFault
         ensures memory { error_kind error.now ≡ ErrorKind.OutOfMemory → result ≡ ScriptFault.NoMemory }
         ensures other { error_kind error.now ≢ ErrorKind.OutOfMemory → result ≡ ScriptFault.Write }
+        ensures either { IsOfWrite result }
     {
         match error.kind() {
             ErrorKind::OutOfMemory => ScriptFault::NoMemory,

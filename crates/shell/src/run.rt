@@ -1,8 +1,8 @@
 //! Runs a script, line by line.
 
-ghost use Rattle.std.specs.Prelude.{◌≢◌, None, OnOk};
-ghost use Rattle.script.specs.Lines.{line_of};
-ghost use Rattle.shell.specs.Scripts.{IsIdle, Runs, RunsAll, RunsTheScript, asked_on};
+ghost use Rattle.std.specs.Prelude.{◌≡◌, IfErr, OnOk};
+ghost use Rattle.shell.specs.Scripts.{IsIdle, IsLine, Runs, RunsAll, RunsTheScript, asked_on};
+ghost use Rattle.shell.specs.Stopped.{Stops, StopsOn, StopsWith};
 
 use crate::fault::ScriptFault;
 use crate::reading::read_line;
@@ -22,7 +22,9 @@ fn run_line<A: Allocator + Clone, W: Write>(
 ) -> Result<(), ScriptFault>
     requires { IsIdle simulator.old.world.observer.trace }
     ensures runs { OnOk result (Runs simulator.old.world simulator.new.world (W.contents writer.old) (W.contents writer.new) (asked_on line.now)) }
-    ensures is_line { OnOk result (line_of line.now ≢ None) }
+    ensures is_line { OnOk result (IsLine line.now) }
+    ensures clients { OnOk result (simulator.new.clients ≡ simulator.old.clients) }
+    ensures stops { IfErr result (StopsOn simulator.old.clients simulator.old.world (W.contents writer.old) (W.contents writer.new) number line.now) }
 {
     match parse(alloc, line) {
         Err(fault) => Err(ScriptFault::of_line(fault, number)),
@@ -62,7 +64,8 @@ fn run_lines<A: Allocator + Clone, R: BufRead, W: Write>(
     writer: &mut W,
 ) -> Result<(), ScriptFault>
     requires { IsIdle simulator.old.world.observer.trace }
-    ensures { OnOk result (RunsAll simulator.old.world simulator.new.world (W.contents writer.old) (W.contents writer.new) (R.remaining reader.old)) }
+    ensures runs { OnOk result (RunsAll simulator.old.world simulator.new.world (W.contents writer.old) (W.contents writer.new) (R.remaining reader.old)) }
+    ensures stops { IfErr result (StopsWith simulator.old.clients simulator.old.world (R.remaining reader.old) (W.contents writer.old) (W.contents writer.new)) }
 {
     let mut line = Vec::new(alloc);
     for number in 1..u64::MAX {
@@ -94,7 +97,8 @@ pub fn run_script<R: BufRead, W: Write>(
     reader: &mut R,
     writer: &mut W,
 ) -> Result<(), ScriptFault>
-    ensures { OnOk result (RunsTheScript options.now.config (R.remaining reader.old) (W.contents writer.old) (W.contents writer.new)) }
+    ensures runs { OnOk result (RunsTheScript options.now.config (R.remaining reader.old) (W.contents writer.old) (W.contents writer.new)) }
+    ensures stops { IfErr result (Stops options.now.config options.now.clients (R.remaining reader.old) (R.remaining reader.new) (W.contents writer.old) (W.contents writer.new)) }
 {
     let mut simulator = Simulator::new(alloc, alloc, options)?;
     run_lines(alloc, &mut simulator, reader, writer)?;

@@ -1,11 +1,13 @@
 //! A cell under the simulator's clock, which delivers its messages in the order of their numbers.
 
-ghost use Rattle.std.specs.Prelude.{◌≡◌, ◌≢◌, ◌&&◌, nat_le, ◌∷◌, [], Some, IfSome, IfOk, OnOk, IsTrue};
+ghost use Rattle.std.specs.Prelude.{◌≡◌, ◌≢◌, ◌∷◌, [], Some, IfSome, IfOk, IfErr, OnOk, IsTrue, IsFalse};
 ghost use Rattle.std.specs.Option.{is_some};
-ghost use Rattle.std.specs.Io.KnownBytes.{Appends};
+ghost use Rattle.std.specs.Io.KnownBytes.{Appends, Keeps};
 ghost use Rattle.shell.specs.Chunks.{regions_shown, replicas_shown};
+ghost use Rattle.shell.specs.Faults.{IsOfStart, IsOfWrite};
 ghost use Rattle.shell.specs.Printing.{Adds, Follows, Prints, answers_at, asked_by, line_at, node_of, now_of};
 ghost use Rattle.shell.specs.Reading.{with_feed};
+ghost use Rattle.shell.specs.Stopped.{has_client};
 ghost use Rattle.cell_protocol.specs.World.{new_world};
 ghost use Rattle.relaxed_file.specs.Run.{Called};
 
@@ -65,6 +67,7 @@ impl<A: Allocator + Clone> Simulator<A> {
     pub fn new(global: Global, alloc: A, options: &Options) -> Result<Simulator<A>, ScriptFault>
         ensures world { IfOk result (λ s. s.world ≡ new_world options.now.config) }
         ensures clients { IfOk result (λ s. s.clients ≡ options.now.clients) }
+        ensures fault { IfErr result IsOfStart }
     {
         let Ok(servers) = u16::try_from(options.servers) else {
             return Err(ScriptFault::Start);
@@ -91,7 +94,7 @@ impl<A: Allocator + Clone> Simulator<A> {
 
     /// Whether there is a client of this number, from 1 on.
     pub fn has_client(&self, client: ClientId) -> bool
-        ensures { result ≡ (nat_le 1 client.0 && nat_le client.0 self.now.clients) }
+        ensures { result ≡ has_client self.now.clients client }
     {
         (1..=self.clients).contains(&client.0)
     }
@@ -120,6 +123,7 @@ impl<A: Allocator + Clone> Simulator<A> {
         ensures clock { self.new.clock ≡ self.old.clock }
         ensures clients { self.new.clients ≡ self.old.clients }
         ensures printed { IfOk result (Prints self.old.world self.new.world (W.contents writer.old) (W.contents writer.new) (asked_by event)) }
+        ensures fault { IfErr result IsOfWrite }
     {
         let answer = self.happens(node, event);
         print_answer(node, answer, writer)
@@ -130,6 +134,7 @@ impl<A: Allocator + Clone> Simulator<A> {
         ensures clock { self.new.clock ≡ self.old.clock }
         ensures clients { self.new.clients ≡ self.old.clients }
         ensures printed { IfOk result (Prints self.old.world self.new.world (W.contents writer.old) (W.contents writer.new) []) }
+        ensures fault { IfErr result IsOfWrite }
     {
         let mut is_answered = false;
         for _ in 0..u64::MAX {
@@ -151,6 +156,7 @@ impl<A: Allocator + Clone> Simulator<A> {
         ensures clock { self.new.clock ≡ self.old.clock }
         ensures clients { self.new.clients ≡ self.old.clients }
         ensures printed { IfOk result (Prints self.old.world self.new.world (W.contents writer.old) (W.contents writer.new) []) }
+        ensures fault { IfErr result IsOfWrite }
     {
         let now = self.clock;
         self.take(node, Event::Tick { node, now }, writer)
@@ -160,6 +166,7 @@ impl<A: Allocator + Clone> Simulator<A> {
     fn tick_servers<W: Write>(&mut self, writer: &mut W) -> Result<bool, ScriptFault>
         ensures clients { self.new.clients ≡ self.old.clients }
         ensures printed { IfOk result (Prints self.old.world self.new.world (W.contents writer.old) (W.contents writer.new) []) }
+        ensures fault { IfErr result IsOfWrite }
     {
         let mut is_answered = false;
         for number in 0..self.servers {
@@ -172,6 +179,7 @@ impl<A: Allocator + Clone> Simulator<A> {
     fn tick_clients<W: Write>(&mut self, writer: &mut W) -> Result<bool, ScriptFault>
         ensures clients { self.new.clients ≡ self.old.clients }
         ensures printed { IfOk result (Prints self.old.world self.new.world (W.contents writer.old) (W.contents writer.new) []) }
+        ensures fault { IfErr result IsOfWrite }
     {
         let mut is_answered = false;
         for number in 0..self.clients {
@@ -184,6 +192,7 @@ impl<A: Allocator + Clone> Simulator<A> {
     fn tick_round<W: Write>(&mut self, writer: &mut W) -> Result<bool, ScriptFault>
         ensures clients { self.new.clients ≡ self.old.clients }
         ensures printed { IfOk result (Prints self.old.world self.new.world (W.contents writer.old) (W.contents writer.new) []) }
+        ensures fault { IfErr result IsOfWrite }
     {
         self.clock = Moment(self.clock.0.saturating_add(ROUND_MS));
         let mut is_answered = self.tick_servers(writer)?;
@@ -204,6 +213,7 @@ impl<A: Allocator + Clone> Simulator<A> {
     ) -> Result<bool, ScriptFault>
         ensures clients { self.new.clients ≡ self.old.clients }
         ensures printed { IfOk result (Prints self.old.world self.new.world (W.contents writer.old) (W.contents writer.new) (Called client.0 «call» ∷ [])) }
+        ensures fault { IfErr result IsOfWrite }
     {
         let now = self.clock;
         let event = Event::Call { client, call, now };
@@ -226,7 +236,9 @@ impl<A: Allocator + Clone> Simulator<A> {
         writer: &mut W,
     ) -> Result<bool, ScriptFault>
         ensures there { IfOk result (λ is_there. is_there ≡ is_some (regions_shown self.now.world chunk.now)) }
+        ensures none { IfOk result (λ is_there. IsFalse is_there → Keeps (W.contents writer.old) (W.contents writer.new)) }
         ensures printed { OnOk result (IfSome (regions_shown self.now.world chunk.now) (λ text. Appends (W.contents writer.old) (W.contents writer.new) text)) }
+        ensures fault { IfErr result IsOfWrite }
     {
         let Some(file) = self.world.file(&chunk.path) else {
             return Ok(false);
@@ -246,7 +258,9 @@ impl<A: Allocator + Clone> Simulator<A> {
         writer: &mut W,
     ) -> Result<bool, ScriptFault>
         ensures there { IfOk result (λ is_there. is_there ≡ is_some (replicas_shown self.now.world chunk.now)) }
+        ensures none { IfOk result (λ is_there. IsFalse is_there → Keeps (W.contents writer.old) (W.contents writer.new)) }
         ensures printed { OnOk result (IfSome (replicas_shown self.now.world chunk.now) (λ text. Appends (W.contents writer.old) (W.contents writer.new) text)) }
+        ensures fault { IfErr result IsOfWrite }
     {
         let Some(file) = self.world.file(&chunk.path) else {
             return Ok(false);
@@ -271,6 +285,8 @@ fn print_answer<W: Write>(
 ) -> Result<bool, ScriptFault>
     ensures printed { OnOk result (Appends (W.contents writer.old) (W.contents writer.new) (line_at node answer)) }
     ensures answered { IfOk result (λ is_answered. IsTrue is_answered → answers_at node answer ≢ []) }
+    ensures unanswered { IfOk result (λ is_answered. IsFalse is_answered → line_at node answer ≡ []) }
+    ensures fault { IfErr result IsOfWrite }
 {
     let Node::Client(client) = node else {
         return Ok(false);
@@ -287,7 +303,8 @@ fn print_answer<W: Write>(
 }
 
 fn print_line<L: fmt::Display, W: Write>(line: &L, writer: &mut W) -> Result<(), ScriptFault>
-    ensures { OnOk result (IfSome (L.output line.now) (λ text. Appends (W.contents writer.old) (W.contents writer.new) (with_feed text))) }
+    ensures printed { OnOk result (IfSome (L.output line.now) (λ text. Appends (W.contents writer.old) (W.contents writer.new) (with_feed text))) }
+    ensures fault { IfErr result IsOfWrite }
 {
     writeln!(writer, "{line}").map_err(|e| ScriptFault::of_write(&e))?;
     writer.flush().map_err(|e| ScriptFault::of_write(&e))

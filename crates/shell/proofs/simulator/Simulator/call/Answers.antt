@@ -11,5 +11,5 @@ loop-init g c = record {
 pub loop-preserved : goal.loop-preserved
 loop-preserved g c = record {
   clients = c.in_ok-is_answered-3.ensures.clients ∙ c.loop.invariant.clients;
-  printed = prints_last _ _ _ _ _ _ _ _ _ c.loop.invariant.printed c.in_ok-is_answered-3.ensures.printed;
+  printed = prints_last _ _ _ _ _ _ _ _ _ c.if-is_answered.false c.loop.invariant.printed c.in_ok-is_answered-3.ensures.printed;
 }

@@ -1,0 +1,233 @@
+-- Where a script stopped, and why.
+use Rattle.std.proofs.Common.{◌≡◌, ◌+◌, ◌<◌, ℕ, Bool, true, false, List, [], ◌∷◌, ◌++◌, cond, ⊎_elim, length, Option, Some, None, ◌⊎◌, inl, inr, Result, Ok, Err, refl, sym, ap, subst, ◌∙◌, arith}
+use Rattle.std.specs.Prelude.{⊤, ◌==◌, nat_lt, IfSome, IfErr, IsErrAnd, IsTrue, IsFalse}
+use Rattle.std.specs.List.{All, flat_map, slice_split, onto_first}
+use Rattle.std.specs.Option.{is_some}
+use Rattle.std.specs.Io.KnownBytes.{Appends, Keeps}
+use Rattle.std.proofs.lemmas.Bool.Decides.{nat_tests}
+use Rattle.std.proofs.lemmas.List.{append-nil, append_assoc}
+use Rattle.std.proofs.lemmas.List.Elements.{All-head, All-tail}
+use Rattle.std.proofs.lemmas.List.Splits.{slice_split_none, slice_split_at, slice_split-cons_no, length-slice_split}
+use lib.ListN.{length-append}
+use Rattle.gfs_types.specs.declared.call.Call.{Call}
+use Rattle.gfs_types.specs.declared.config.Config.{Config}
+use Rattle.gfs_types.specs.declared.ids.ClientId.{ClientId}
+use Rattle.cell_core.specs.declared.fault.StartFault.{StartFault}
+use Rattle.relaxed_file.specs.Run.{Visible, Called}
+use Rattle.cell_protocol.specs.World.{WorldState, new_world}
+use Rattle.script.specs.declared.lines.FileChunk.{FileChunk}
+use Rattle.script.specs.declared.lines.Line.{Line}
+use Rattle.script.specs.declared.lines.Line.TheVariants as line
+use Rattle.script.specs.Lines.{line_of, is_skipped, line_for, words_of}
+use Rattle.shell.specs.Chunks.{regions_shown, replicas_shown}
+use Rattle.shell.specs.Faults.{IsOfRead, IsOfStart, IsOfWrite}
+use Rattle.shell.specs.Printing.{Prints, lines_of}
+use Rattle.shell.specs.Reading.{line_feed, longest_line, HasNoFeed, EndsLine, ReadsLine}
+use Rattle.shell.specs.Scripts.{asked_on, lines_in, IsLine, AreRead, Leaves, Runs, RunsLines}
+use Rattle.shell.specs.Stopped.{last_number, has_client, IsBad, IsUnanswered, IsBadNext, IsUnansweredNext, StopsAt, StopsWith, Stops, StopsOn}
+use Rattle.shell.specs.declared.fault.ScriptFault.{ScriptFault}
+use Rattle.shell.specs.declared.fault.ScriptFault.TheVariants as fault
+use Rattle.shell.proofs.Bytes.{keeps_all}
+use Rattle.shell.proofs.Lines.{nothing_left}
+use Rattle.shell.proofs.Printing.{appends_kept}
+
+-- the line that is read next: the whole of it asks for what was read of it, and others follow
+record NextLine (xs text : List ℕ) : Type 0 where
+  pub whole : List ℕ
+  pub later : List (List ℕ)
+  pub lines_are : lines_in xs ≡ whole ∷ later
+  pub same : line_of whole ≡ line_of text
+
+-- a list before the first byte at which lines end begins the first of them
+record FirstLine (text rest : List ℕ) : Type 0 where
+  pub part : List ℕ
+  pub later : List (List ℕ)
+  pub lines_are : lines_in (text ++ rest) ≡ (text ++ part) ∷ later
+
+some_line : (rest : List ℕ) (lines : List (List ℕ)) → 0 < length lines → lines_in rest ≡ lines → FirstLine [] rest
+some_line rest [] more is = absurd (omega arith)
+some_line rest (part ∷ later) more is = record { part = part; later = later; lines_are = is }
+
+first_line : (text rest : List ℕ) → HasNoFeed text → FirstLine text rest
+first_line [] rest none = some_line rest (lines_in rest) (omega (arith, length-slice_split (λ c. c == line_feed) rest)) refl
+first_line (x ∷ text) rest none =
+    let f : FirstLine text rest = first_line text rest (All-tail (λ c. (c == line_feed) ≡ false) x text none) in
+    record {
+      part = f.part;
+      later = f.later;
+      lines_are = slice_split-cons_no (λ c. c == line_feed) x (text ++ rest) (All-head (λ c. (c == line_feed) ≡ false) x text none) ∙ ap (onto_first x) f.lines_are;
+    }
+
+too_long : (text : List ℕ) → longest_line < length text → line_of text ≡ None
+too_long text long =
+    let over : nat_lt 8192 (length text) ≡ true = grind (arith, nat_tests) in
+    ap (λ (b : Bool). cond b None (cond (is_skipped text) (Some line.Nothing) (line_for (words_of text)))) over
+
+next_line : (xs ys text : List ℕ) → HasNoFeed text → EndsLine xs ys text true → NextLine xs text
+next_line xs ys text none ends = ⊎_elim
+    (λ at. record { whole = text; later = lines_in ys; lines_are = ap (λ (t : List ℕ). lines_in t) at.0 ∙ slice_split_at (λ c. c == line_feed) text line_feed ys none refl; same = refl })
+    (λ rest. ⊎_elim
+    (λ at. record { whole = text; later = []; lines_are = ap (λ (t : List ℕ). lines_in t) at.0 ∙ slice_split_none (λ c. c == line_feed) text none; same = refl })
+    (λ long.
+      let f : FirstLine text ys = first_line text ys none in
+      record {
+        whole = text ++ f.part;
+        later = f.later;
+        lines_are = ap (λ (t : List ℕ). lines_in t) long.0 ∙ f.lines_are;
+        same = too_long (text ++ f.part) (omega (arith, long.1, length-append text f.part)) ∙ sym (too_long text long.1);
+      }) rest)
+    ends
+
+-- the lines that are left, the first of them read
+next_left : (xs ys zs : List ℕ) (texts : List (List ℕ)) (text : List ℕ) → AreRead xs texts ys → HasNoFeed text → EndsLine ys zs text true
+    → (whole : List ℕ) × (later : List (List ℕ)) × (lines_in xs ≡ texts ++ whole ∷ later) × (line_of whole ≡ line_of text)
+next_left xs ys zs texts text h none ends = ⊎_elim
+    (λ at.
+      let n : NextLine ys text = next_line ys zs text none ends in
+      (n.whole, n.later, at ∙ ap (λ (l : List (List ℕ)). texts ++ l) n.lines_are, n.same))
+    (λ all. absurd (nothing_left ys zs text all.1 ends))
+    h
+
+-- the lines that are left
+all_left : (xs ys : List ℕ) (texts : List (List ℕ)) → AreRead xs texts ys → (later : List (List ℕ)) × (lines_in xs ≡ texts ++ later)
+all_left xs ys texts h = ⊎_elim (λ at. (lines_in ys, at)) (λ all. ([], all.0 ∙ sym (append-nil texts))) h
+
+stopped_next : (from to last : Option (List ℕ)) (texts : List (List ℕ)) (text : List ℕ) (Why : Option Line → Type 0) (Next : List (List ℕ) → Type 0) → Leaves from to texts → ReadsLine to last text true
+    → ((whole : List ℕ) (later : List (List ℕ)) → Why (line_of whole) → Next (whole ∷ later)) → Why (line_of text)
+    → IfSome from (λ all. (later : List (List ℕ)) × (lines_in all ≡ texts ++ later) × Next later)
+stopped_next None to last texts text Why Next h r so why = tt
+stopped_next (Some xs) None last texts text Why Next h r so why = absurd h
+stopped_next (Some xs) (Some ys) None texts text Why Next h r so why = absurd r
+stopped_next (Some xs) (Some ys) (Some zs) texts text Why Next h r so why =
+    let n = next_left xs ys zs texts text h r.0 r.1 in
+    (n.0 ∷ n.1, n.2, so n.0 n.1 (subst (λ (l : Option Line). Why l) (sym n.3) why))
+
+stopped_left : (from to : Option (List ℕ)) (texts : List (List ℕ)) (Next : List (List ℕ) → Type 0) → Leaves from to texts → ((later : List (List ℕ)) → Next later)
+    → IfSome from (λ all. (later : List (List ℕ)) × (lines_in all ≡ texts ++ later) × Next later)
+stopped_left None to texts Next h so = tt
+stopped_left (Some xs) None texts Next h so = absurd h
+stopped_left (Some xs) (Some ys) texts Next h so =
+    let left = all_left xs ys texts h in
+    (left.0, left.1, so left.0)
+
+-- a line that was not run to its end
+stops_on : (clients : ℕ) (a b : WorldState) (x y z from to last : Option (List ℕ)) (number : ℕ) (text slice : List ℕ) (is_there : Bool) (f : ScriptFault) → is_there ≡ true → slice ≡ text → RunsLines a b x y from to number → ReadsLine to last text is_there
+    → StopsOn clients b y z number slice f → StopsWith clients a from x z f
+stops_on clients a b x y z from to last number text slice is_there (fault.Line n) there same p r s = record {
+  texts = p.texts;
+  number_is = s.0 ∙ p.number_is;
+  are_lines = p.are_lines;
+  world = b;
+  printed = p.runs.printed;
+  come = p.runs.come;
+  printed_is = appends_kept x y z p.runs.printed p.runs.printed_is s.1;
+  stopped = stopped_next from to last p.texts slice (IsBad clients b) (IsBadNext clients n b) p.leaves (subst (λ t. ReadsLine to last t true) (sym same) (subst (λ i. ReadsLine to last text i) there r)) (λ whole later bad. inl bad) s.2;
+}
+stops_on clients a b x y z from to last number text slice is_there (fault.NoEnd n) there same p r s = record {
+  texts = p.texts;
+  number_is = s.0 ∙ p.number_is;
+  are_lines = p.are_lines;
+  world = b;
+  printed = p.runs.printed;
+  come = p.runs.come;
+  printed_is = appends_kept x y z p.runs.printed p.runs.printed_is s.1;
+  stopped = stopped_next from to last p.texts slice (IsUnanswered clients b) (IsUnansweredNext clients b) p.leaves (subst (λ t. ReadsLine to last t true) (sym same) (subst (λ i. ReadsLine to last text i) there r)) (λ whole later unanswered. unanswered) s.2;
+}
+stops_on clients a b x y z from to last number text slice is_there fault.Start there same p r s = absurd s
+stops_on clients a b x y z from to last number text slice is_there fault.Read there same p r s = absurd s
+stops_on clients a b x y z from to last number text slice is_there fault.NoMemory there same p r s = tt
+stops_on clients a b x y z from to last number text slice is_there fault.Write there same p r s = tt
+
+-- the fault of a call that is handed on
+pub handed_on : {X : Type 0} (r : Result X ScriptFault) (P : ScriptFault → Type 0) (f : ScriptFault) → IsErrAnd r (λ e. e ≡ f) → P f → IfErr r P
+handed_on (Ok x) P f is p = absurd is
+handed_on (Err e) P f is p = subst P (sym is) p
+
+pub stops_on_line : (clients now : ℕ) (a b : WorldState) (x y z from to last : Option (List ℕ)) (number : ℕ) (text slice : List ℕ) (is_there : Bool) (f : ScriptFault) → now ≡ clients → is_there ≡ true → slice ≡ text → RunsLines a b x y from to number → ReadsLine to last text is_there
+    → StopsOn now b y z number slice f → StopsWith clients a from x z f
+stops_on_line clients now a b x y z from to last number text slice is_there f is there same p r s =
+    stops_on clients a b x y z from to last number text slice is_there f there same p r (subst (λ (n : ℕ). StopsOn n b y z number slice f) is s)
+
+-- a reader that failed
+stopped_reading : (clients : ℕ) (a b : WorldState) (x y from to : Option (List ℕ)) (number : ℕ) → RunsLines a b x y from to number → StopsWith clients a from x y fault.Read
+stopped_reading clients a b x y from to number p = (number, record {
+  texts = p.texts;
+  number_is = p.number_is;
+  are_lines = p.are_lines;
+  world = b;
+  printed = p.runs.printed;
+  come = p.runs.come;
+  printed_is = p.runs.printed_is;
+  stopped = stopped_left from to p.texts (λ later. ⊤) p.leaves (λ later. tt);
+})
+
+pub stops_reading : (clients : ℕ) (a b : WorldState) (x y from to : Option (List ℕ)) (number : ℕ) (f : ScriptFault) → IsOfRead f → RunsLines a b x y from to number → StopsWith clients a from x y f
+stops_reading clients a b x y from to number f of p = ⊎_elim
+    (λ (is : f ≡ fault.NoMemory). subst (λ (g : ScriptFault). StopsWith clients a from x y g) (sym is) tt)
+    (λ (is : f ≡ fault.Read). subst (λ (g : ScriptFault). StopsWith clients a from x y g) (sym is) (stopped_reading clients a b x y from to number p))
+    of
+
+bad_next : (clients number : ℕ) (w : WorldState) (later : List (List ℕ)) → number ≡ last_number → IsBadNext clients number w later
+bad_next clients number w [] is = is
+bad_next clients number w (text ∷ later) is = inr is
+
+-- no number is left
+pub stops_last : (clients : ℕ) (a b : WorldState) (x y from to : Option (List ℕ)) (number : ℕ) → number ≡ last_number → RunsLines a b x y from to number → StopsWith clients a from x y (fault.Line last_number)
+stops_last clients a b x y from to number is p = record {
+  texts = p.texts;
+  number_is = sym is ∙ p.number_is;
+  are_lines = p.are_lines;
+  world = b;
+  printed = p.runs.printed;
+  come = p.runs.come;
+  printed_is = p.runs.printed_is;
+  stopped = stopped_left from to p.texts (IsBadNext clients last_number b) p.leaves (λ later. bad_next clients last_number b later refl);
+}
+
+-- there is no cell
+pub stops_first : (config : Config) (clients : ℕ) (script before : Option (List ℕ)) (f : ScriptFault) → IsOfStart f → Stops config clients script script before before f
+stops_first config clients script before f of = ⊎_elim
+    (λ (is : f ≡ fault.NoMemory). subst (λ (g : ScriptFault). Stops config clients script script before before g) (sym is) tt)
+    (λ (is : f ≡ fault.Start). subst (λ (g : ScriptFault). Stops config clients script script before before g) (sym is) (keeps_all script, keeps_all before))
+    of
+
+stops_new : (config : Config) (clients : ℕ) (script left before after : Option (List ℕ)) (f : ScriptFault) → StopsWith clients (new_world config) script before after f → Stops config clients script left before after f
+stops_new config clients script left before after (fault.Line n) h = h
+stops_new config clients script left before after (fault.NoEnd n) h = h
+stops_new config clients script left before after fault.Start h = absurd h
+stops_new config clients script left before after fault.Read h = h
+stops_new config clients script left before after fault.NoMemory h = tt
+stops_new config clients script left before after fault.Write h = tt
+
+-- a new cell that ran so many lines
+pub stops_later : (config : Config) (clients : ℕ) (w : WorldState) (script left before after : Option (List ℕ)) (f : ScriptFault) → w ≡ new_world config → StopsWith clients w script before after f → Stops config clients script left before after f
+stops_later config clients w script left before after f is s = stops_new config clients script left before after f (subst (λ (o : WorldState). StopsWith clients o script before after f) is s)
+
+keeps_none : (a b : Option (List ℕ)) → Appends a b [] → Keeps a b
+keeps_none None b h = tt
+keeps_none (Some xs) None h = absurd h
+keeps_none (Some xs) (Some ys) h = h ∙ append-nil xs
+
+-- a call that nobody answered
+pub stops_unanswered : (clients : ℕ) (old new : WorldState) (before after : Option (List ℕ)) (number : ℕ) (text : List ℕ) (client : ClientId) (c : Call) (is_answered : Bool) → line_of text ≡ Some (line.Call client c) → has_client clients client ≡ true → is_answered ≡ false
+    → Prints old new before after (Called client.0 c ∷ []) is_answered → StopsOn clients old before after number text (fault.NoEnd number)
+stops_unanswered clients old new before after number text client c is_answered is there none p =
+    (refl, keeps_none before after (subst (λ (l : List ℕ). Appends before after l) (p.unanswered none) p.printed_is), record {
+      client = client;
+      call = c;
+      asked_is = is;
+      is_there = there;
+      last = new;
+      reached = p.reached;
+      more = p.more;
+      trace_is = p.trace_is;
+      asked_are = p.asked_are;
+      unanswered = p.unanswered none;
+    })
+
+-- a fault of a writer stops any line
+pub stops_writing : (clients : ℕ) (w : WorldState) (before after : Option (List ℕ)) (number : ℕ) (text : List ℕ) (f : ScriptFault) → IsOfWrite f → StopsOn clients w before after number text f
+stops_writing clients w before after number text f of = ⊎_elim
+    (λ (is : f ≡ fault.NoMemory). subst (λ (g : ScriptFault). StopsOn clients w before after number text g) (sym is) tt)
+    (λ (is : f ≡ fault.Write). subst (λ (g : ScriptFault). StopsOn clients w before after number text g) (sym is) tt)
+    of
