@@ -1,6 +1,6 @@
 -- A script's lines, one after the other.
 use Rattle.std.proofs.Common.{◌≡◌, ◌+◌, ◌<◌, ℕ, Bool, true, false, List, [], ◌∷◌, ◌++◌, cond, ⊎_elim, length, Option, Some, None, ◌⊎◌, inl, inr, refl, sym, ap, subst, ◌∙◌, arith}
-use Rattle.std.specs.Prelude.{◌≢◌, ◌==◌, nat_lt, IfSome}
+use Rattle.std.specs.Prelude.{◌==◌, nat_lt, IfSome}
 use Rattle.std.specs.List.{All, flat_map}
 use Rattle.std.specs.Option.{is_some}
 use Rattle.std.specs.Io.KnownBytes.{Appends}
@@ -159,8 +159,10 @@ nothing_is_a_line is = let e : Some line.Nothing ≡ None = is in cc
 -- all lines were read
 all_read : (xs : List ℕ) (texts : List (List ℕ)) → AreRead xs texts [] → All IsLine texts → (flat_map asked_on texts ≡ asked_in xs) × IsScript xs
 all_read xs texts h are = ⊎_elim
-    (λ at. (sym (ap (λ (ps : List (List ℕ)). flat_map asked_on ps) at ∙ (flat_map-append asked_on texts ([] ∷ []) ∙ append-nil (flat_map asked_on texts))),
-      subst (λ (ps : List (List ℕ)). All IsLine ps) (sym at) (All-append IsLine texts ([] ∷ []) are (All-cons IsLine [] [] nothing_is_a_line (All-nil IsLine)))))
+    (λ at. (
+      sym (ap (λ (ps : List (List ℕ)). flat_map asked_on ps) at ∙ (flat_map-append asked_on texts ([] ∷ []) ∙ append-nil (flat_map asked_on texts))),
+      subst (λ (ps : List (List ℕ)). All IsLine ps) (sym at) (All-append IsLine texts ([] ∷ []) are (All-cons IsLine [] [] nothing_is_a_line (All-nil IsLine))),
+    ))
     (λ all. (sym (ap (λ (ps : List (List ℕ)). flat_map asked_on ps) all.0), subst (λ (ps : List (List ℕ)). All IsLine ps) (sym all.0) are))
     h
 

@@ -1,5 +1,5 @@
 -- What an event adds to the trace is what is printed of it, and clocks that were kept stay so.
-use Rattle.std.proofs.Common.{◌≡◌, ◌≤◌, ◌+◌, ℕ, zero, suc, Bool, true, false, cond, List, [], ◌∷◌, ◌++◌, ◌⊎◌, inl, inr, ⊎_elim, Option, Some, None, refl, sym, ap, ◌∙◌, subst, arith}
+use Rattle.std.proofs.Common.{◌≡◌, ◌≤◌, ◌+◌, ℕ, suc, Bool, true, false, cond, List, [], ◌∷◌, ◌++◌, ◌⊎◌, inl, inr, ⊎_elim, Option, Some, None, refl, sym, ap, ◌∙◌, subst, arith}
 use Rattle.std.specs.Prelude.{◌≢◌, option_map, nat_lt, nat_le, ◌&&◌, ◌||◌, ◌==◌, IsTrue, IsFalse, IfSome, All}
 use Rattle.std.specs.Io.KnownBytes.{Appends, Keeps}
 use Rattle.std.proofs.lemmas.List.{append-nil, append_assoc}
@@ -29,9 +29,9 @@ use Rattle.cell_protocol.specs.ClientStep.{may_call, client_call}
 use Rattle.cell_protocol.specs.Observer.{Observer, passed, answered, observed_moment}
 use Rattle.cell_protocol.specs.Conforms.{WorldSteps}
 use Rattle.cell_protocol.specs.Shown.{order_at, replicas_at}
-use Rattle.cell_protocol.specs.Explained.{order_in, IsOfSelection, Explains, IsExplained}
+use Rattle.cell_protocol.specs.Explained.{order_in, IsOfSelection, IsExplained}
 use Rattle.cell_protocol.specs.World.{new_world, after_events, WorldState, Happened, nothing_happens, after_master, after_server, after_client, after_call, master_moves, server_moves, client_moves, moves, delivered, call_moves, at_moment, happens}
-use Rattle.shell.specs.Printing.{Reaches, Follows, whole_line, line_of, lines_of, is_call, calls_of, is_answer_to, answers_to, line_at, answers_at, asked_by, MayAsk, node_of, now_of, Shows, Adds, Prints, Simulated}
+use Rattle.shell.specs.Printing.{Reaches, Follows, whole_line, line_of, lines_of, is_call, calls_of, is_answer_to, answers_to, line_at, answers_at, asked_by, MayAsk, node_of, now_of, Shows, Adds, Prints, Simulated, after_round, after_rounds}
 
 no_line : (n : Node) → [] ≡ line_at n None
 no_line node.Master = refl
@@ -334,3 +334,11 @@ prints_lines old new before after asked answers lines is_answered a h some none 
   printed_is = subst (λ l. Appends before after l) (sym a.lines_are) h;
   config_is = a.config_is;
 }
+
+-- the clock before the first round of ticks
+pub no_rounds : (clock new : ℕ) → new ≡ clock → clock ≤ 18446744073709551615 → new ≡ after_rounds clock 0
+no_rounds clock new is le = omega (arith, is)
+
+-- the clock after one round more
+pub one_round : (first clock new rounds : ℕ) → clock ≡ after_rounds first rounds → new ≡ after_round clock → new ≡ after_rounds first (rounds + 1)
+one_round first clock new rounds is next = omega (arith, is, next)

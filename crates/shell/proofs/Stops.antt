@@ -1,30 +1,26 @@
 -- Where a script stopped, and why.
-use Rattle.std.proofs.Common.{◌≡◌, ◌+◌, ◌<◌, ℕ, Bool, true, false, List, [], ◌∷◌, ◌++◌, cond, ⊎_elim, length, Option, Some, None, ◌⊎◌, inl, inr, Result, Ok, Err, refl, sym, ap, subst, ◌∙◌, arith}
-use Rattle.std.specs.Prelude.{⊤, ◌==◌, nat_lt, IfSome, IfErr, IsErrAnd, IsTrue, IsFalse}
-use Rattle.std.specs.List.{All, flat_map, slice_split, onto_first}
-use Rattle.std.specs.Option.{is_some}
+use Rattle.std.proofs.Common.{◌≡◌, ◌<◌, ℕ, Bool, true, false, List, [], ◌∷◌, ◌++◌, cond, ⊎_elim, length, Option, Some, None, inl, inr, Result, Ok, Err, refl, sym, ap, subst, ◌∙◌, arith}
+use Rattle.std.specs.Prelude.{⊤, ◌==◌, nat_lt, IfSome, IfErr, IsErrAnd}
+use Rattle.std.specs.List.{onto_first}
 use Rattle.std.specs.Io.KnownBytes.{Appends, Keeps}
 use Rattle.std.proofs.lemmas.Bool.Decides.{nat_tests}
-use Rattle.std.proofs.lemmas.List.{append-nil, append_assoc}
+use Rattle.std.proofs.lemmas.List.{append-nil}
 use Rattle.std.proofs.lemmas.List.Elements.{All-head, All-tail}
 use Rattle.std.proofs.lemmas.List.Splits.{slice_split_none, slice_split_at, slice_split-cons_no, length-slice_split}
 use lib.ListN.{length-append}
 use Rattle.gfs_types.specs.declared.call.Call.{Call}
 use Rattle.gfs_types.specs.declared.config.Config.{Config}
 use Rattle.gfs_types.specs.declared.ids.ClientId.{ClientId}
-use Rattle.cell_core.specs.declared.fault.StartFault.{StartFault}
-use Rattle.relaxed_file.specs.Run.{Visible, Called}
+use Rattle.relaxed_file.specs.Run.{Called}
 use Rattle.cell_protocol.specs.World.{WorldState, new_world}
-use Rattle.script.specs.declared.lines.FileChunk.{FileChunk}
 use Rattle.script.specs.declared.lines.Line.{Line}
 use Rattle.script.specs.declared.lines.Line.TheVariants as line
 use Rattle.script.specs.Lines.{line_of, is_skipped, line_for, words_of}
-use Rattle.shell.specs.Chunks.{regions_shown, replicas_shown}
 use Rattle.shell.specs.Faults.{IsOfRead, IsOfStart, IsOfWrite}
-use Rattle.shell.specs.Printing.{Prints, lines_of}
+use Rattle.shell.specs.Printing.{Prints}
 use Rattle.shell.specs.Reading.{line_feed, longest_line, HasNoFeed, EndsLine, ReadsLine}
-use Rattle.shell.specs.Scripts.{asked_on, lines_in, IsLine, AreRead, Leaves, Runs, RunsLines}
-use Rattle.shell.specs.Stopped.{last_number, has_client, IsBad, IsUnanswered, IsBadNext, IsUnansweredNext, StopsAt, StopsWith, Stops, StopsOn}
+use Rattle.shell.specs.Scripts.{lines_in, AreRead, Leaves, RunsLines}
+use Rattle.shell.specs.Stopped.{last_number, has_client, IsBad, IsUnanswered, IsBadNext, IsUnansweredNext, StopsWith, Stops, StopsOn}
 use Rattle.shell.specs.declared.fault.ScriptFault.{ScriptFault}
 use Rattle.shell.specs.declared.fault.ScriptFault.TheVariants as fault
 use Rattle.shell.proofs.Bytes.{keeps_all}
@@ -69,13 +65,13 @@ next_line xs ys text none ends = ⊎_elim
     (λ rest. ⊎_elim
     (λ at. record { whole = text; later = []; lines_are = ap (λ (t : List ℕ). lines_in t) at.0 ∙ slice_split_none (λ c. c == line_feed) text none; same = refl })
     (λ long.
-      let f : FirstLine text ys = first_line text ys none in
-      record {
-        whole = text ++ f.part;
-        later = f.later;
-        lines_are = ap (λ (t : List ℕ). lines_in t) long.0 ∙ f.lines_are;
-        same = too_long (text ++ f.part) (omega (arith, long.1, length-append text f.part)) ∙ sym (too_long text long.1);
-      }) rest)
+    let f : FirstLine text ys = first_line text ys none in
+    record {
+      whole = text ++ f.part;
+      later = f.later;
+      lines_are = ap (λ (t : List ℕ). lines_in t) long.0 ∙ f.lines_are;
+      same = too_long (text ++ f.part) (omega (arith, long.1, length-append text f.part)) ∙ sym (too_long text long.1);
+    }) rest)
     ends
 
 -- the lines that are left, the first of them read
@@ -83,8 +79,8 @@ next_left : (xs ys zs : List ℕ) (texts : List (List ℕ)) (text : List ℕ) �
     → (whole : List ℕ) × (later : List (List ℕ)) × (lines_in xs ≡ texts ++ whole ∷ later) × (line_of whole ≡ line_of text)
 next_left xs ys zs texts text h none ends = ⊎_elim
     (λ at.
-      let n : NextLine ys text = next_line ys zs text none ends in
-      (n.whole, n.later, at ∙ ap (λ (l : List (List ℕ)). texts ++ l) n.lines_are, n.same))
+    let n : NextLine ys text = next_line ys zs text none ends in
+    (n.whole, n.later, at ∙ ap (λ (l : List (List ℕ)). texts ++ l) n.lines_are, n.same))
     (λ all. absurd (nothing_left ys zs text all.1 ends))
     h
 
@@ -150,16 +146,19 @@ stops_on_line clients now a b x y z from to last number text slice is_there f is
 
 -- a reader that failed
 stopped_reading : (clients : ℕ) (a b : WorldState) (x y from to : Option (List ℕ)) (number : ℕ) → RunsLines a b x y from to number → StopsWith clients a from x y fault.Read
-stopped_reading clients a b x y from to number p = (number, record {
-  texts = p.texts;
-  number_is = p.number_is;
-  are_lines = p.are_lines;
-  world = b;
-  printed = p.runs.printed;
-  come = p.runs.come;
-  printed_is = p.runs.printed_is;
-  stopped = stopped_left from to p.texts (λ later. ⊤) p.leaves (λ later. tt);
-})
+stopped_reading clients a b x y from to number p = (
+  number,
+  record {
+    texts = p.texts;
+    number_is = p.number_is;
+    are_lines = p.are_lines;
+    world = b;
+    printed = p.runs.printed;
+    come = p.runs.come;
+    printed_is = p.runs.printed_is;
+    stopped = stopped_left from to p.texts (λ later. ⊤) p.leaves (λ later. tt);
+  },
+)
 
 pub stops_reading : (clients : ℕ) (a b : WorldState) (x y from to : Option (List ℕ)) (number : ℕ) (f : ScriptFault) → IsOfRead f → RunsLines a b x y from to number → StopsWith clients a from x y f
 stops_reading clients a b x y from to number f of p = ⊎_elim
@@ -211,19 +210,22 @@ keeps_none (Some xs) (Some ys) h = h ∙ append-nil xs
 -- a call that nobody answered
 pub stops_unanswered : (clients : ℕ) (old new : WorldState) (before after : Option (List ℕ)) (number : ℕ) (text : List ℕ) (client : ClientId) (c : Call) (is_answered : Bool) → line_of text ≡ Some (line.Call client c) → has_client clients client ≡ true → is_answered ≡ false
     → Prints old new before after (Called client.0 c ∷ []) is_answered → StopsOn clients old before after number text (fault.NoEnd number)
-stops_unanswered clients old new before after number text client c is_answered is there none p =
-    (refl, keeps_none before after (subst (λ (l : List ℕ). Appends before after l) (p.unanswered none) p.printed_is), record {
-      client = client;
-      call = c;
-      asked_is = is;
-      is_there = there;
-      last = new;
-      reached = p.reached;
-      more = p.more;
-      trace_is = p.trace_is;
-      asked_are = p.asked_are;
-      unanswered = p.unanswered none;
-    })
+stops_unanswered clients old new before after number text client c is_answered is there none p = (
+  refl,
+  keeps_none before after (subst (λ (l : List ℕ). Appends before after l) (p.unanswered none) p.printed_is),
+  record {
+    client = client;
+    call = c;
+    asked_is = is;
+    is_there = there;
+    last = new;
+    reached = p.reached;
+    more = p.more;
+    trace_is = p.trace_is;
+    asked_are = p.asked_are;
+    unanswered = p.unanswered none;
+  },
+)
 
 -- a fault of a writer stops any line
 pub stops_writing : (clients : ℕ) (w : WorldState) (before after : Option (List ℕ)) (number : ℕ) (text : List ℕ) (f : ScriptFault) → IsOfWrite f → StopsOn clients w before after number text f

@@ -1,11 +1,12 @@
 -- What a script's fault is where the cell or a line has one.
-use Rattle.std.specs.Prelude.{◌≡◌, ◌⊎◌, ℕ}
+use Rattle.std.specs.Prelude.{◌≡◌, ◌⊎◌, ℕ, List, ◌++◌, codes}
+use Rattle.std.specs.Fmt.{decimal}
 use Rattle.cell_core.specs.declared.fault.StartFault.{StartFault}
 use Rattle.cell_core.specs.declared.fault.StartFault.TheVariants as starts
 use Rattle.script.specs.declared.fault.LineFault.{LineFault}
 use Rattle.script.specs.declared.fault.LineFault.TheVariants as lines
 use Rattle.shell.specs.declared.fault.ScriptFault.{ScriptFault}
-use Rattle.shell.specs.declared.fault.ScriptFault.TheVariants.{Line, Start, NoMemory, Read, Write}
+use Rattle.shell.specs.declared.fault.ScriptFault.TheVariants.{Line, NoEnd, Start, NoMemory, Read, Write}
 
 abbrev pub start_fault : StartFault → ScriptFault
 start_fault (starts.Config setting) = Start
@@ -28,3 +29,12 @@ IsOfRead f = (f ≡ NoMemory) ⊎ (f ≡ Read)
 -- a fault of a writer
 abbrev pub IsOfWrite : ScriptFault → Type 0
 IsOfWrite f = (f ≡ NoMemory) ⊎ (f ≡ Write)
+
+-- what a fault is printed as
+abbrev pub fault_text : ScriptFault → List ℕ
+fault_text (Line number) = codes "line " ++ decimal number ++ codes ": bad line"
+fault_text (NoEnd number) = codes "line " ++ decimal number ++ codes ": no end"
+fault_text Start = codes "cannot start"
+fault_text NoMemory = codes "no memory"
+fault_text Read = codes "cannot read"
+fault_text Write = codes "cannot write"

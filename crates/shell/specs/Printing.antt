@@ -1,5 +1,5 @@
 -- What is printed of a run: a line for each answer, in order.
-use Rattle.std.specs.Prelude.{◌≡◌, ◌≢◌, ◌≤◌, ℕ, ◌==◌, Bool, true, false, IsTrue, IsFalse, List, [], ◌∷◌, ◌++◌, Option, Some, None, option_map}
+use Rattle.std.specs.Prelude.{◌≡◌, ◌≢◌, ◌≤◌, ℕ, ◌+◌, ◌*◌, min, ◌==◌, Bool, true, false, IsTrue, IsFalse, List, [], ◌∷◌, ◌++◌, Option, Some, None, option_map}
 use Rattle.std.specs.List.{filter, flat_map}
 use Rattle.std.specs.Io.KnownBytes.{Appends}
 use Rattle.gfs_types.specs.declared.answer.Answer.{Answer}
@@ -133,3 +133,11 @@ pub record Simulated : Type 0 where
   pub world : WorldState
   pub clock : ℕ
   pub clients : ℕ
+
+-- the simulator's clock after a round of ticks, which stops at the greatest moment
+abbrev pub after_round : ℕ → ℕ
+after_round clock = min (clock + 100) 18446744073709551615
+
+-- the clock after so many rounds
+abbrev pub after_rounds : ℕ → ℕ → ℕ
+after_rounds clock rounds = min (clock + 100 * rounds) 18446744073709551615

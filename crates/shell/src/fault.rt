@@ -1,36 +1,51 @@
-//! Why a script comes to no end.
+//! Why a script is not run to its end.
 
-ghost use Rattle.std.specs.Prelude.{◌≡◌, ◌≢◌};
+ghost use Rattle.std.specs.Prelude.{◌≡◌, ◌≢◌, Some};
 ghost use Rattle.std.specs.IoError.{error_kind};
-ghost use Rattle.shell.specs.Faults.{IsOfRead, IsOfStart, IsOfWrite, start_fault, line_fault};
+ghost use Rattle.shell.specs.Faults.{IsOfRead, IsOfStart, IsOfWrite, fault_text, line_fault, start_fault};
 ghost use Rattle.shell.specs.declared.fault.ScriptFault.TheVariants.{NoMemory as OutOfMemory};
 
 use cell_core::fault::StartFault;
 use gfs_types::no_memory::NoMemory;
 use script::fault::LineFault;
+use std::error::Error;
+use std::fmt;
 use std::io::{self, ErrorKind};
-use thiserror::Error;
 
-/// Why a script comes to no end.
-#[derive(Clone, Copy, Debug, PartialEq, Eq, Error)]
+/// Why a script is not run to its end.
+#[derive(Clone, Copy, Debug, PartialEq, Eq)]
 pub enum ScriptFault {
     /// The line of this number isn't in the language, or names a node, a file or a chunk that the cell doesn't have. Lines
     /// count from 1.
-    #[error("line {0}: bad line")]
     Line(u64),
     /// The line of this number needs more than a million rounds of ticks.
-    #[error("line {0}: no end")]
     NoEnd(u64),
-    /// There is no such cell: a setting is out of its range, or a count of nodes.
-    #[error("cannot start")]
+    /// There is no such cell: a setting is out of its range, or a count of nodes, or the first names found no room.
     Start,
-    #[error("no memory")]
+    /// Memory was refused outside the cell's own steps.
     NoMemory,
-    #[error("cannot read")]
+    /// The reader failed.
     Read,
-    #[error("cannot write")]
+    /// The writer failed.
     Write,
 }
+
+impl fmt::Display for ScriptFault {
+    ghost output = { λ fault. Some (fault_text fault) };
+
+    fn fmt<W: fmt::Write>(&self, f: &mut fmt::Formatter<W>) -> fmt::Result {
+        match self {
+            ScriptFault::Line(number) => write!(f, "line {number}: bad line"),
+            ScriptFault::NoEnd(number) => write!(f, "line {number}: no end"),
+            ScriptFault::Start => write!(f, "cannot start"),
+            ScriptFault::NoMemory => write!(f, "no memory"),
+            ScriptFault::Read => write!(f, "cannot read"),
+            ScriptFault::Write => write!(f, "cannot write"),
+        }
+    }
+}
+
+impl Error for ScriptFault {}
 
 impl From<NoMemory> for ScriptFault {
     ghost from_gives = { λ _ fault. fault ≡ OutOfMemory };

@@ -5,7 +5,7 @@ ghost use Rattle.std.specs.Option.{is_some};
 ghost use Rattle.std.specs.Io.KnownBytes.{Appends, Keeps};
 ghost use Rattle.shell.specs.Chunks.{regions_shown, replicas_shown};
 ghost use Rattle.shell.specs.Faults.{IsOfStart, IsOfWrite};
-ghost use Rattle.shell.specs.Printing.{Adds, Follows, Prints, answers_at, asked_by, line_at, node_of, now_of};
+ghost use Rattle.shell.specs.Printing.{Adds, Follows, Prints, after_round, after_rounds, answers_at, asked_by, line_at, node_of, now_of};
 ghost use Rattle.shell.specs.Reading.{with_feed};
 ghost use Rattle.shell.specs.Stopped.{has_client};
 ghost use Rattle.cell_protocol.specs.World.{new_world};
@@ -164,6 +164,7 @@ impl<A: Allocator + Clone> Simulator<A> {
 
     /// A tick at each server, in rising number.
     fn tick_servers<W: Write>(&mut self, writer: &mut W) -> Result<bool, ScriptFault>
+        ensures clock { self.new.clock ≡ self.old.clock }
         ensures clients { self.new.clients ≡ self.old.clients }
         ensures printed { IfOk result (Prints self.old.world self.new.world (W.contents writer.old) (W.contents writer.new) []) }
         ensures fault { IfErr result IsOfWrite }
@@ -177,6 +178,7 @@ impl<A: Allocator + Clone> Simulator<A> {
 
     /// A tick at each client, in rising number.
     fn tick_clients<W: Write>(&mut self, writer: &mut W) -> Result<bool, ScriptFault>
+        ensures clock { self.new.clock ≡ self.old.clock }
         ensures clients { self.new.clients ≡ self.old.clients }
         ensures printed { IfOk result (Prints self.old.world self.new.world (W.contents writer.old) (W.contents writer.new) []) }
         ensures fault { IfErr result IsOfWrite }
@@ -190,6 +192,7 @@ impl<A: Allocator + Clone> Simulator<A> {
 
     /// A round of ticks: the servers in rising number, the master and the clients, each with the deliveries that follow.
     fn tick_round<W: Write>(&mut self, writer: &mut W) -> Result<bool, ScriptFault>
+        ensures clock { self.new.clock ≡ after_round self.old.clock }
         ensures clients { self.new.clients ≡ self.old.clients }
         ensures printed { IfOk result (Prints self.old.world self.new.world (W.contents writer.old) (W.contents writer.new) []) }
         ensures fault { IfErr result IsOfWrite }
@@ -204,13 +207,15 @@ impl<A: Allocator + Clone> Simulator<A> {
         Ok(is_answered)
     }
 
-    /// A client's call, up to its answer. It tells whether the answer came within the rounds of ticks that a line may need.
+    /// A client's call, up to its answer. It tells whether the answer came within the rounds of ticks that a line may need:
+    /// where none came, the clock went on by all of them.
     pub fn call<W: Write>(
         &mut self,
         client: ClientId,
         call: Call,
         writer: &mut W,
     ) -> Result<bool, ScriptFault>
+        ensures rounds { IfOk result (λ is_answered. IsFalse is_answered → self.new.clock ≡ after_rounds self.old.clock 1000000) }
         ensures clients { self.new.clients ≡ self.old.clients }
         ensures printed { IfOk result (Prints self.old.world self.new.world (W.contents writer.old) (W.contents writer.new) (Called client.0 «call» ∷ [])) }
         ensures fault { IfErr result IsOfWrite }
