@@ -1,10 +1,7 @@
 //! Scripts, with one allocation refused.
 
 use crate::fault::ScriptFault;
-use crate::run::run_script;
-use command_line::options::Options;
-use gfs_types::config::Config;
-use std::alloc::Global;
+use crate::tests::{outcome, small_cell};
 use std::test::Fail;
 
 const SCRIPT: &str =
@@ -21,19 +18,6 @@ const PRINTED: [&str; 9] = [
     "regions 0-7 determined\n",
     "replicas 1 s1 v1 7\n",
 ];
-
-/// What the script prints on one chunkserver, and its fault.
-fn outcome(alloc: Global) -> (Vec<u8>, Result<(), ScriptFault>) {
-    let options = Options {
-        servers: 1,
-        clients: 1,
-        config: Config::default(),
-    };
-    let mut reader = SCRIPT.as_bytes();
-    let mut writer = Vec::new(alloc);
-    let result = run_script(alloc, &options, &mut reader, &mut writer);
-    (writer, result)
-}
 
 /// What was printed behind the first lines that are as they should be, and how many these are.
 fn after_good_lines(printed: &[u8]) -> (&[u8], usize) {
@@ -73,12 +57,12 @@ fn is_whole(printed: &[u8]) -> bool {
 // It passes too where one allocation is refused, whichever that is (`tools/refused`); the script then runs again.
 #[test]
 fn a_refused_allocation_is_told(rt: HostRuntime) -> Result<(), Fail> {
-    let (printed, end) = outcome(rt.alloc());
+    let (printed, end) = outcome(rt.alloc(), &small_cell(), SCRIPT.as_bytes());
     if end == Ok(()) && is_whole(printed.as_slice()) {
         return Ok(());
     }
     assert!(rt; is_explained(printed.as_slice(), end), "{end:?}");
-    let (printed, end) = outcome(rt.alloc());
+    let (printed, end) = outcome(rt.alloc(), &small_cell(), SCRIPT.as_bytes());
     assert_eq!(rt; end, Ok(()));
     assert!(rt; is_whole(printed.as_slice()));
     Ok(())

@@ -11,7 +11,7 @@ use std::process::Abort;
 use std::test::Fail;
 
 /// One chunkserver, and chunks of 64 bytes in blocks of 16.
-fn small_cell() -> Options {
+pub(crate) fn small_cell() -> Options {
     Options {
         servers: 1,
         clients: 1,
@@ -24,7 +24,11 @@ fn small_cell() -> Options {
 }
 
 /// What a script prints on a small cell, and its fault.
-fn outcome(alloc: Global, options: &Options, script: &[u8]) -> (Vec<u8>, Result<(), ScriptFault>) {
+pub(crate) fn outcome(
+    alloc: Global,
+    options: &Options,
+    script: &[u8],
+) -> (Vec<u8>, Result<(), ScriptFault>) {
     let mut reader = script;
     let mut writer = Vec::new(alloc);
     let result = run_script(alloc, options, &mut reader, &mut writer);
