@@ -1,9 +1,10 @@
 //! The words of a command line.
 
-ghost use Rattle.std.specs.Prelude.{◌≡◌, IfOk, IfErr, is_ok, map, string_bytes, false};
+ghost use Rattle.std.specs.Prelude.{◌≡◌, Some, IfOk, IfErr, is_ok, map, string_bytes, false};
 ghost use Rattle.clap.specs.Words.{app_of, shape_of, found_of, kind_of, rows_of, rule_of};
 ghost use Rattle.command_line.specs.Program.{names, option_named, option_names, program, setting_names, sim, with_options};
 ghost use Rattle.command_line.specs.Asking.{Answers, Becomes, all_numbered, config_of, is_numbered, narrow_for, number_for, options_of};
+ghost use Rattle.command_line.specs.Faults.{fault_text};
 ghost use Rattle.command_line.specs.declared.command.CommandFault.TheVariants.{Bad, NoMemory};
 
 use crate::options::{Options, narrowed};
@@ -12,7 +13,8 @@ use clap::{Arg, ArgAction, ArgMatches, Command};
 use gfs_types::config::{Config, default_block};
 use script::numbers::number;
 use std::alloc::{AllocError, Global};
-use thiserror::Error;
+use std::error::Error;
+use std::fmt;
 
 /// What a command line asks for.
 #[derive(Debug, Drop)]
@@ -24,14 +26,26 @@ pub enum Request<'a> {
 }
 
 /// Why a command line asks for nothing.
-#[derive(Clone, Copy, Debug, PartialEq, Eq, Error)]
+#[derive(Clone, Copy, Debug, PartialEq, Eq)]
 pub enum CommandFault {
     /// The words aren't a command line, or a value isn't a decimal number below 2^64 without sign.
-    #[error("bad command line")]
     Bad,
-    #[error("no memory")]
+    /// Memory was refused.
     NoMemory,
 }
+
+impl fmt::Display for CommandFault {
+    ghost output = { λ fault. Some (fault_text fault) };
+
+    fn fmt<W: fmt::Write>(&self, f: &mut fmt::Formatter<W>) -> fmt::Result {
+        match self {
+            CommandFault::Bad => write!(f, "bad command line"),
+            CommandFault::NoMemory => write!(f, "no memory"),
+        }
+    }
+}
+
+impl Error for CommandFault {}
 
 impl From<AllocError> for CommandFault {
     ghost from_gives = { λ _ fault. fault ≡ NoMemory };

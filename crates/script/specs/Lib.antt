@@ -3,3 +3,4 @@ pub mod Nodes
 pub mod Words
 pub mod Lines
 pub mod Answers
+pub mod Faults

@@ -1,22 +1,36 @@
 //! Why a line gives nothing.
 
-ghost use Rattle.std.specs.Prelude.{◌≡◌};
+ghost use Rattle.std.specs.Prelude.{◌≡◌, Some};
 ghost use Rattle.script.specs.declared.fault.LineFault.TheVariants.{NoMemory};
+ghost use Rattle.script.specs.Faults.{fault_text};
 ghost use Rattle.script.specs.Words.{path_fault};
 
 use gfs_types::path::PathFault;
 use std::alloc::{AllocError, AllocFailed};
-use thiserror::Error;
+use std::error::Error;
+use std::fmt;
 
 /// Why a line gives nothing.
-#[derive(Clone, Copy, Debug, PartialEq, Eq, Error)]
+#[derive(Clone, Copy, Debug, PartialEq, Eq)]
 pub enum LineFault {
     /// The line isn't in the language.
-    #[error("bad line")]
     Bad,
-    #[error("no memory")]
+    /// Memory was refused.
     NoMemory,
 }
+
+impl fmt::Display for LineFault {
+    ghost output = { λ fault. Some (fault_text fault) };
+
+    fn fmt<W: fmt::Write>(&self, f: &mut fmt::Formatter<W>) -> fmt::Result {
+        match self {
+            LineFault::Bad => write!(f, "bad line"),
+            LineFault::NoMemory => write!(f, "no memory"),
+        }
+    }
+}
+
+impl Error for LineFault {}
 
 impl From<AllocError> for LineFault {
     ghost from_gives = { λ _ e. e ≡ NoMemory };

@@ -1,3 +1,5 @@
+//! Tests: what scripts print, and how they end. Expected lines follow from `docs/SCRIPT.md`.
+
 use crate::fault::ScriptFault;
 use crate::run::run_script;
 use command_line::options::Options;
@@ -202,48 +204,53 @@ fn shows_chunks(rt: HostRuntime) -> Result<(), Fail> {
 #[test]
 fn refuses_chunks(rt: HostRuntime) -> Result<(), Fail> {
     let alloc = rt.alloc();
-    let lines = [
+    let lines: [&[u8]; 32] = [
         // no such file or chunk
-        "regions /f 1",
-        "replicas /f 1",
-        "regions /f 18446744073709551615",
-        "regions /g 0",
-        "replicas /g 0",
-        "regions / 0",
-        "replicas /.gone 0",
-        "regions /f/x 0",
+        b"regions /f 1",
+        b"replicas /f 1",
+        b"regions /f 18446744073709551615",
+        b"regions /g 0",
+        b"replicas /g 0",
+        b"regions / 0",
+        b"replicas /.gone 0",
+        b"regions /f/x 0",
         // no path
-        "regions f 0",
-        "replicas /f/ 0",
-        "regions //f 0",
+        b"regions f 0",
+        b"replicas /f/ 0",
+        b"regions //f 0",
         // not in the language
-        "regions",
-        "regions /f",
-        "regions /f 0 0",
-        "replicas /f 0 1",
-        "regions /f x",
-        "regions /f -1",
-        "regions /f +0",
-        "replicas /f 18446744073709551616",
-        "regions /f 0 ",
-        "regions  /f 0",
-        " regions /f 0",
-        "regions /f 0\r",
-        "Regions /f 0",
-        "region /f 0",
-        "c1 regions /f 0",
-        "s1 replicas /f 0",
-        "master regions /f 0",
+        b"regions",
+        b"regions /f",
+        b"regions /f 0 0",
+        b"replicas /f 0 1",
+        b"regions /f x",
+        b"regions /f -1",
+        b"regions /f +0",
+        b"regions /f 18446744073709551616",
+        b"replicas /f 18446744073709551616",
+        b"replicas /f +0",
+        b"regions /f\0 0",
+        b"replicas /\xff 0",
+        b"regions /f 0 ",
+        b"regions  /f 0",
+        b" regions /f 0",
+        b"regions /f 0\r",
+        b"Regions /f 0",
+        b"region /f 0",
+        b"c1 regions /f 0",
+        b"s1 replicas /f 0",
+        b"master regions /f 0",
     ];
     for line in lines {
-        let first = "c1 create /f\nc1 open /f\nc1 append 1 a\nregions /f 0\n";
-        let script = padded(alloc, first, b' ', 0, line)?;
+        let first = b"c1 create /f\nc1 open /f\nc1 append 1 a\nregions /f 0\n".as_slice();
+        let mut script = Vec::from_slice(alloc, first)?;
+        script.extend_from_slice(line)?;
         let (printed, result) = outcome(alloc, &small_cell(), script.as_slice());
-        assert_eq!(rt; result, Err(ScriptFault::Line(5)), "{line}");
+        assert_eq!(rt; result, Err(ScriptFault::Line(5)), "{line:?}");
         assert_eq!(rt;
             printed.as_slice(),
             b"c1 done\nc1 fd 1\nc1 at 0\nregions 0-1 determined\n".as_slice(),
-            "{line}"
+            "{line:?}"
         );
     }
     Ok(())
@@ -251,8 +258,14 @@ fn refuses_chunks(rt: HostRuntime) -> Result<(), Fail> {
 
 #[test]
 fn refuses_lines(rt: HostRuntime) {
-    let lines: [&[u8]; 46] = [
+    let lines: [&[u8]; 61] = [
         b"c1 fly /x",
+        // calls that aren't in the language of today
+        b"c1 rmdir /a",
+        b"c1 delete /a",
+        b"c1 rename /a /b",
+        b"c1 snapshot /a /b",
+        b"c1 close 1",
         b"c1",
         b"c1 mkdir",
         b"c1 mkdir ",
@@ -287,6 +300,10 @@ fn refuses_lines(rt: HostRuntime) {
         b"c1 read 1 0 0x5",
         b"c1 read 1 18446744073709551616 5",
         b"c1 read 99999999999999999999 0 5",
+        b"c1 read 1 0 18446744073709551616",
+        b"c1 write 1 0 ",
+        b"c1 write +1 0 x",
+        b"c1 write 1 18446744073709551616 x",
         b"c1 write 1 0 \x1f",
         b"c1 write 1 0 a\x7f",
         b"c1 write 1 0 \xc3\xa9",
@@ -294,10 +311,16 @@ fn refuses_lines(rt: HostRuntime) {
         b"c1 append 1",
         b"c1 append 1 0 x",
         b"c1 append x y",
+        b"c1 append 1 ",
+        b"c1 append +1 x",
+        b"c1 append 18446744073709551616 x",
+        b"c1 append 1 a*18446744073709551616",
         b"c1 length",
         b"c1 length x",
         b"c1 length -1",
         b"c1 length 1 2",
+        b"c1 length +1",
+        b"c1 length 18446744073709551616",
     ];
     for line in lines {
         let (printed, result) = outcome(rt.alloc(), &small_cell(), line);
@@ -448,6 +471,44 @@ fn reader_fails(rt: HostRuntime) -> Result<(), Fail> {
     Ok(())
 }
 
+/// Answers `Interrupted` before it gives a byte, and before its end.
+#[derive(Drop)]
+struct Interrupted<'a> {
+    rest: &'a [u8],
+    is_ready: bool,
+}
+
+impl Read for Interrupted<'_> {
+    fn read(&mut self, buffer: &mut [u8]) -> io::Result<usize> {
+        self.is_ready = !self.is_ready;
+        if !self.is_ready {
+            return Err(io::Error::from(ErrorKind::Interrupted));
+        }
+        let count = buffer.len().min(self.rest.len()).min(1);
+        buffer[..count].copy_from_slice(&self.rest[..count]);
+        self.rest = &self.rest[count..];
+        Ok(count)
+    }
+}
+
+#[test]
+fn interrupted_reads_are_made_again(rt: HostRuntime) -> Result<(), Fail> {
+    let alloc = rt.alloc();
+    let source = Interrupted {
+        rest: b"c1 mkdir /a\n\nc1 list /",
+        is_ready: true,
+    };
+    let mut reader = BufReader::new(alloc, source)?;
+    let mut writer = Vec::new(alloc);
+    let result = run_script(alloc, &small_cell(), &mut reader, &mut writer);
+    assert_eq!(rt; result, Ok(()));
+    assert_eq!(rt;
+        writer.as_slice(),
+        b"c1 done\nc1 names 2 .gone/ a/\n".as_slice()
+    );
+    Ok(())
+}
+
 /// Takes so many bytes, and then fails.
 #[derive(Drop)]
 struct Full {
@@ -488,6 +549,85 @@ fn writer_fails(rt: HostRuntime) {
         let result = run_script(alloc, &small_cell(), &mut reader, &mut writer);
         assert_eq!(rt; result, Err(fault));
         assert_eq!(rt; writer.seen.as_slice(), b"c1 done\nc1 ".as_slice());
+    }
+}
+
+/// Counts the lines that were not flushed when the next one began.
+#[derive(Drop)]
+struct Flushed {
+    seen: Vec<u8>,
+    /// How many bytes were there at the last flush.
+    flushed: usize,
+    late: usize,
+}
+
+impl Write for Flushed {
+    fn write(&mut self, bytes: &[u8]) -> io::Result<usize> {
+        let begins_a_line = self.seen.last() == Some(&b'\n');
+        if begins_a_line && !bytes.is_empty() && self.flushed != self.seen.len() {
+            self.late = self.late.saturating_add(1);
+        }
+        self.seen.extend_from_slice(bytes)?;
+        Ok(bytes.len())
+    }
+
+    fn flush(&mut self) -> io::Result<()> {
+        self.flushed = self.seen.len();
+        Ok(())
+    }
+}
+
+#[test]
+fn each_line_is_flushed(rt: HostRuntime) {
+    let alloc = rt.alloc();
+    let mut reader =
+        b"c1 create /f\nc1 open /f\nc1 append 1 ab\nregions /f 0\nreplicas /f 0\n".as_slice();
+    let mut writer = Flushed {
+        seen: Vec::new(alloc),
+        flushed: 0,
+        late: 0,
+    };
+    let result = run_script(alloc, &small_cell(), &mut reader, &mut writer);
+    assert_eq!(rt; result, Ok(()));
+    let printed = b"c1 done\nc1 fd 1\nc1 at 0\nregions 0-2 determined\nreplicas 1 s1 v1 2\n";
+    assert_eq!(rt; writer.seen.as_slice(), printed.as_slice());
+    assert_eq!(rt; writer.late, 0);
+    assert_eq!(rt; writer.flushed, printed.len());
+}
+
+/// Takes all bytes, and can't flush them.
+#[derive(Drop)]
+struct Stuck {
+    kind: ErrorKind,
+    seen: Vec<u8>,
+}
+
+impl Write for Stuck {
+    fn write(&mut self, bytes: &[u8]) -> io::Result<usize> {
+        self.seen.extend_from_slice(bytes)?;
+        Ok(bytes.len())
+    }
+
+    fn flush(&mut self) -> io::Result<()> {
+        Err(io::Error::from(self.kind))
+    }
+}
+
+#[test]
+fn flush_fails(rt: HostRuntime) {
+    let alloc = rt.alloc();
+    for (kind, fault) in [
+        (ErrorKind::Other, ScriptFault::Write),
+        (ErrorKind::OutOfMemory, ScriptFault::NoMemory),
+    ] {
+        let mut reader = b"c1 mkdir /a\nc1 mkdir /b\n".as_slice();
+        let mut writer = Stuck {
+            kind,
+            seen: Vec::new(alloc),
+        };
+        let result = run_script(alloc, &small_cell(), &mut reader, &mut writer);
+        assert_eq!(rt; result, Err(fault));
+        assert_eq!(rt; writer.seen.as_slice(), b"c1 done\n".as_slice());
     }
 }
 
