@@ -1,8 +1,9 @@
 //! `gfscell`: a Google File System cell that runs scripts.
 #![tactic(auto)]
 
-ghost use Rattle.std.specs.Prelude.{◌≡◌};
+ghost use Rattle.std.specs.Prelude.{◌≡◌, Some};
 ghost use Rattle.std.specs.Process.{exit_status};
+ghost use Rattle.gfscell.specs.Faults.{fault_text};
 ghost use Rattle.gfscell.specs.Status.{status_of};
 ghost use Rattle.gfscell.specs.declared.ProgramFault.TheVariants as faults;
 
@@ -11,19 +12,31 @@ use command_line::options::Options;
 use shell::fault::ScriptFault;
 use shell::run::run_script;
 use std::env;
+use std::error::Error;
+use std::fmt;
 use std::fs::File;
 use std::io::{self, BufReader, BufWriter, ErrorKind, Read};
 use std::process::ExitCode;
-use thiserror::Error;
 
 /// Why the program fails.
-#[derive(Debug, Drop, Error)]
+#[derive(Debug, Drop)]
 enum ProgramFault {
-    #[error("{0}")]
     Command(CommandFault),
-    #[error("{0}")]
     Script(ScriptFault),
 }
+
+impl fmt::Display for ProgramFault {
+    ghost output = { λ fault. Some (fault_text fault) };
+
+    fn fmt<W: fmt::Write>(&self, f: &mut fmt::Formatter<W>) -> fmt::Result {
+        match self {
+            ProgramFault::Command(fault) => write!(f, "{fault}"),
+            ProgramFault::Script(fault) => write!(f, "{fault}"),
+        }
+    }
+}
+
+impl Error for ProgramFault {}
 
 impl ProgramFault {
     fn exit_code(&self) -> ExitCode
