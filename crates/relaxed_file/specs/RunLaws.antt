@@ -1,25 +1,28 @@
 -- What holds in every run of the relaxed-file machine (sections 2.7 and 3).
-use Rattle.std.specs.Prelude.{◌≡◌, ℕ, ◌+◌, ◌-◌, ◌*◌, ◌<◌, ◌≤◌, ◌⊎◌, List, [], ◌∷◌, ◌++◌, length, Option, Some, None, IsTrue, IsFalse, IsSomeAnd, Contains, slice_get}
+use Rattle.std.specs.Prelude.{◌≡◌, ℕ, suc, ◌+◌, ◌-◌, ◌*◌, ◌/◌, ◌<◌, ◌≤◌, ◌⊎◌, nat_lt, List, [], ◌∷◌, ◌++◌, length, flat_map, filter_map, Option, Some, None, IsTrue, IsFalse, IsSomeAnd, MatchBool, Contains, slice_get}
 use Rattle.std.specs.List.{AllByRecursion}
 use Rattle.gfs_types.specs.declared.call.Call.{Call}
 use Rattle.gfs_types.specs.declared.call.Call.TheVariants as call
 use Rattle.gfs_types.specs.declared.answer.Answer.{Answer}
 use Rattle.gfs_types.specs.declared.answer.Answer.TheVariants as answer
+use Rattle.gfs_types.specs.declared.refusal.Refusal.{Refusal}
+use Rattle.gfs_types.specs.declared.refusal.Refusal.TheVariants.{Collected, NoReplica, Failed, Unknown}
 use Rattle.gfs_types.specs.declared.ids.Fd.{Fd}
 use Rattle.gfs_types.specs.declared.mutation.Mutation.{Mutation}
 use Rattle.gfs_types.specs.declared.mutation.Mutation.TheVariants.{Write, Append, Pad}
 use Rattle.gfs_types.specs.declared.config.Config.{Config}
 use Rattle.gfs_types.specs.Mutations.{start_of, end_of, is_placed_by_system, byte_of}
-use Rattle.gfs_types.specs.Image.{byte_at}
+use Rattle.gfs_types.specs.Image.{byte_at, image_slice}
 use Rattle.gfs_types.specs.Paths.{hidden_name}
 use Rattle.relaxed_file.specs.Names.{IsTree, File, node_at}
 use Rattle.relaxed_file.specs.Order.{Entry, AreRoundsRising, IsSelection, last_cover, mutations_of}
 use Rattle.relaxed_file.specs.Sources.{sources_of}
-use Rattle.relaxed_file.specs.Parts.{has_part, part_start, part_bytes}
-use Rattle.relaxed_file.specs.Machine.{Machine, new_machine, Asked, OpenCall, IsOpen, chunk_at, chunk_count}
+use Rattle.relaxed_file.specs.Parts.{has_part, part_start, part_length, part_bytes}
+use Rattle.relaxed_file.specs.Machine.{Machine, new_machine, Asked, OpenCall, IsOpen, Outcome, Piece, chunk_size, chunk_at, chunk_count}
+use Rattle.relaxed_file.specs.NameStep.{is_look, is_refused}
 use Rattle.relaxed_file.specs.Reads.{IsLook}
 use Rattle.relaxed_file.specs.Answers.{IsSuccess, MayReturn}
-use Rattle.relaxed_file.specs.Run.{Action, Return, ReturnFd, Add, OpenRound, CloseRound, Place, Settle, Look, asked_file, Visible, visible, Allows, after, after_all, IsLawful, IsRunTo, LeadsTo, IsReached}
+use Rattle.relaxed_file.specs.Run.{Action, Invoke, Return, ReturnFd, Step, Add, OpenRound, CloseRound, Place, Settle, Look, asked_file, Visible, visible, Allows, after, after_all, IsLawful, IsRunTo, LeadsTo, IsReached}
 
 -- A run goes on by an action that its machine allows.
 abbrev pub RunsGoOn : Type 0
@@ -208,3 +211,79 @@ HiddenNamesTellTheirMoment =
     (config : Config) (m : Machine) (action : Action) (told file : ℕ) → IsReached config m → Allows m action
     → node_at m.names (hidden_name told file) ≡ None → node_at (after m action).names (hidden_name told file) ≡ Some (File file)
     → (moment : ℕ) × (hidden_name moment file ≡ hidden_name told file) × (m.clock - m.config.skew_ms ≤ moment) × (moment ≤ m.clock)
+
+-- the client's open call is one in both states
+abbrev pub IsSameOpen : Machine → Machine → ℕ → Type 0
+IsSameOpen m n client = (one : OpenCall) × (two : OpenCall) × IsOpen m client one × IsOpen n client two × (one.number ≡ two.number)
+
+-- What a state gives a read of one chunk: with a round, which was opened by then, what a selection has there that leaves out no settled entry up to that round; without a round nothing, where the file has no such chunk.
+abbrev pub IsGiven : Machine → ℕ → ℕ → ℕ → ℕ → List ℕ → Option ℕ → Type 0
+IsGiven m file offset count index bytes (Some named) =
+    (named ≤ (chunk_at m file index).round) × (last : ℕ) × (chosen : List Entry) × (named ≤ last) × IsSelection last (chunk_at m file index).order chosen
+    × (bytes ≡ image_slice (chunk_size m file) (mutations_of chosen) (part_start (chunk_size m file) offset index) (part_length (chunk_size m file) offset count index))
+IsGiven m file offset count index bytes None = (chunk_count m file ≤ index) × (bytes ≡ [])
+
+-- a state of the run gave the piece, in which the client's open call was the same
+abbrev pub WasGiven : Config → Machine → ℕ → ℕ → ℕ → ℕ → Piece → Type 0
+WasGiven config m client file offset count piece =
+    (old : Machine) × IsReached config old × LeadsTo old m × IsSameOpen old m client × IsGiven old file offset count piece.index piece.bytes piece.round
+
+-- A piece for each part of the range, from a chunk on, and none past the first that is shorter than its part; a state gave each of them.
+abbrev pub WereGiven : Config → Machine → ℕ → ℕ → ℕ → ℕ → ℕ → List Piece → Type 0
+WereGiven config m client file offset count index [] = IsFalse (has_part (chunk_size m file) offset count index)
+WereGiven config m client file offset count index (piece ∷ rest) =
+    (piece.index ≡ index) × WasGiven config m client file offset count piece
+    × MatchBool (nat_lt (length piece.bytes) (part_length (chunk_size m file) offset count index)) (rest ≡ []) (WereGiven config m client file offset count (suc index) rest)
+
+-- A read is answered what states during the call gave, chunk by chunk from where its range begins, and the rounds of these, each of them opened by then; nothing settled up to such a round is left out of what its chunk gave (sections 2.4 and 2.7.1).
+abbrev pub ReadsGiveSelections : Type 0
+ReadsGiveSelections =
+    (config : Config) (m : Machine) (client file : ℕ) (fd : Fd) (offset count : ℕ) (bytes rounds : List ℕ)
+    → IsReached config m → MayAnswer m client file (call.Read fd offset count) (answer.Bytes bytes rounds)
+    → (pieces : List Piece) × WereGiven config m client file offset count (offset / chunk_size m file) pieces
+    × (bytes ≡ flat_map (λ piece. piece.bytes) pieces) × (rounds ≡ filter_map (λ piece. piece.round) pieces)
+
+-- The action answers the client.
+abbrev pub IsAnswerTo : ℕ → Action → Type 0
+IsAnswerTo client (Return who reply) = who ≡ client
+IsAnswerTo client (ReturnFd who fd file) = who ≡ client
+IsAnswerTo client other = ⊥
+
+-- The actions are lawful, and none of them answers the client.
+abbrev pub GoesUnanswered : Machine → ℕ → List Action → Type 0
+GoesUnanswered m client actions = IsLawful m actions × AllByRecursion (λ action. IsAnswerTo client action → ⊥) actions
+
+-- The client makes a call, and after these actions it may be answered so.
+abbrev pub MayEndIn : Machine → ℕ → Call → List Action → Answer → Type 0
+MayEndIn m client asked actions reply =
+    Allows m (Invoke client asked) × GoesUnanswered (after m (Invoke client asked)) client actions
+    × Allows (after_all (after m (Invoke client asked)) actions) (Return client reply)
+
+-- The action places a mutation for the client, or is a name step for it that meets no refusal.
+abbrev pub IsEffectFor : ℕ → Action → Type 0
+IsEffectFor client (Place who file index mutation) = who ≡ client
+IsEffectFor client (Step who moment outcome) = (who ≡ client) × IsFalse (is_refused outcome)
+IsEffectFor client other = ⊥
+
+-- the refusals that deny no effect
+abbrev pub DeniesNothing : Refusal → Type 0
+DeniesNothing Collected = Unit {0}
+DeniesNothing NoReplica = Unit {0}
+DeniesNothing Failed = Unit {0}
+DeniesNothing Unknown = Unit {0}
+DeniesNothing other = ⊥
+
+-- A call that is refused had no effect, but for the refusals that deny none: nothing of it was placed, and it changed no name. Open and List never change any.
+abbrev pub RefusedCallsHadNoEffect : Type 0
+RefusedCallsHadNoEffect =
+    (config : Config) (m : Machine) (client : ℕ) (asked : Call) (actions : List Action) (reason : Refusal)
+    → IsReached config m → MayEndIn m client asked actions (answer.Refused reason) → IsFalse (is_look asked) → (DeniesNothing reason → ⊥)
+    → AllByRecursion (λ action. IsEffectFor client action → ⊥) actions
+
+-- Only Open and List take more than one name step in a call (section 4.1).
+abbrev pub NameStepsComeOnce : Type 0
+NameStepsComeOnce =
+    (m : Machine) (client moment again : ℕ) (outcome other : Outcome) (actions : List Action)
+    → Allows m (Step client moment outcome) → GoesUnanswered (after m (Step client moment outcome)) client actions
+    → Allows (after_all (after m (Step client moment outcome)) actions) (Step client again other)
+    → (current : OpenCall) × IsOpen m client current × IsTrue (is_look current.asked.call)

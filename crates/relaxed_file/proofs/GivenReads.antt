@@ -1,0 +1,281 @@
+-- A read's answer is what states during the call gave: what the call was told and what it read comes from them, and no note is past the last opened round.
+use Rattle.std.proofs.Common.{◌≡◌, ℕ, suc, ◌/◌, ◌<◌, ◌≤◌, Bool, true, false, cond, List, [], ◌∷◌, length, Option, Some, None, refl, sym, ◌∙◌, ap, subst, inl, inr, ⊎_elim, arith}
+use Rattle.std.specs.Prelude.{Contains, MatchBool, nat_lt}
+use Rattle.std.specs.List.{AllByRecursion}
+use Rattle.std.proofs.lemmas.Bool.{cases_lt}
+use Rattle.std.proofs.lemmas.Option.{none-some}
+use Rattle.gfs_types.specs.declared.call.Call.{Call}
+use Rattle.gfs_types.specs.declared.call.Call.TheVariants as call
+use Rattle.gfs_types.specs.declared.answer.Answer.TheVariants as answer
+use Rattle.gfs_types.specs.declared.ids.Fd.{Fd}
+use Rattle.gfs_types.specs.declared.config.Config.{Config}
+use Rattle.relaxed_file.specs.Order.{Entry, IsSelection}
+use Rattle.relaxed_file.specs.Parts.{part_length}
+use Rattle.relaxed_file.specs.Machine.{Machine, new_machine, Asked, OpenCall, IsOpen, Offer, Told, NoSuchChunk, Piece, chunk_at, chunk_count, chunk_size}
+use Rattle.relaxed_file.specs.Reads.{offer_of, read_slice}
+use Rattle.relaxed_file.specs.Answers.{IsDone, ArePieces}
+use Rattle.relaxed_file.specs.Run.{Action, Visible, shown, Allows, after, LeadsTo, IsReached}
+use Rattle.relaxed_file.specs.RunLaws.{IsGiven, WasGiven, WereGiven, ReadsGiveSelections, MayAnswer}
+use Rattle.relaxed_file.proofs.Tables.{from_some, contained, all_more}
+use Rattle.relaxed_file.proofs.Reached.{leads_on, leads_by, kept_to}
+use Rattle.relaxed_file.proofs.Grows.{grows_step, grows_to, known_when_reached}
+use Rattle.relaxed_file.proofs.CallSteps.{IsPieceOf, by_look, by_none, GetsPiece, GetsOffer, Goes, CallStep, call_step}
+use Rattle.relaxed_file.proofs.NoteSteps.{NoteStep, WasNoted, note_step}
+use Rattle.relaxed_file.proofs.StaleReads.{offered_there, offered_index}
+
+abbrev told_index : Offer → ℕ → ℕ
+told_index (Told index round count) other = index
+told_index (NoSuchChunk index) other = other
+
+abbrev told_round : Offer → ℕ → ℕ
+told_round (Told index round count) other = round
+told_round (NoSuchChunk index) other = other
+
+abbrev IsTold : Offer → Type 0
+IsTold (Told index round count) = Unit {0}
+IsTold (NoSuchChunk index) = ⊥
+
+-- what was told is of the chunk that was asked for
+told_of : (index round count i r n : ℕ) (b : Bool) → Told index round count ≡ cond b (Told i r n) (NoSuchChunk i) → (index ≡ i) × (round ≡ r)
+told_of index round count i r n true is = (ap (λ o. told_index o index) is, ap (λ o. told_round o round) is)
+told_of index round count i r n false is = absurd (subst IsTold is tt)
+
+-- what a state gives a read of a chunk
+abbrev GivesTo : Machine → ℕ → Call → Piece → Type 0
+GivesTo m file (call.Read fd offset count) piece = IsGiven m file offset count piece.index piece.bytes piece.round
+GivesTo m file other piece = Unit {0}
+
+look_given : (m : Machine) (file : ℕ) (asked : Call) (index least last : ℕ) (chosen : List Entry) → least ≤ (chunk_at m file index).round → least ≤ last
+    → IsSelection last (chunk_at m file index).order chosen
+    → GivesTo m file asked (record { index = index; bytes = read_slice (chunk_size m file) index asked chosen; round = Some least })
+look_given m file (call.Read fd offset count) index least last chosen below l selection = (below, last, chosen, l, selection, refl)
+look_given m file other index least last chosen below l selection = tt
+
+nothing_given : (m : Machine) (file : ℕ) (asked : Call) (index : ℕ) → chunk_count m file ≤ index → GivesTo m file asked (record { index = index; bytes = []; round = None })
+nothing_given m file (call.Read fd offset count) index past = (past, refl)
+nothing_given m file other index past = tt
+
+module _ (config : Config) (client : ℕ) where
+  record WasTold (m : Machine) (number : ℕ) (asked : Asked) (offer : Offer) : Type 0 where
+    old : Machine
+    reached : IsReached config old
+    way : LeadsTo old m
+    call_then : OpenCall
+    open_then : IsOpen old client call_then
+    number_is : call_then.number ≡ number
+    asked_is : call_then.asked ≡ asked
+    file : ℕ
+    index : ℕ
+    on : call_then.asked.file ≡ Some file
+    is : offer ≡ offer_of old file index
+
+  record WasRead (m : Machine) (number : ℕ) (asked : Asked) (piece : Piece) : Type 0 where
+    old : Machine
+    reached : IsReached config old
+    way : LeadsTo old m
+    call_then : OpenCall
+    open_then : IsOpen old client call_then
+    number_is : call_then.number ≡ number
+    asked_is : call_then.asked ≡ asked
+    file : ℕ
+    on : call_then.asked.file ≡ Some file
+    gives : GivesTo old file call_then.asked.call piece
+
+  abbrev CallHolds : Machine → Option OpenCall → Type 0
+  CallHolds m None = Unit {0}
+  CallHolds m (Some c) = AllByRecursion (WasTold m c.number c.asked) c.offers × AllByRecursion (WasRead m c.number c.asked) c.pieces
+
+  abbrev NoteHolds : ℕ → Option ℕ → Type 0
+  NoteHolds round None = Unit {0}
+  NoteHolds round (Some noted) = noted ≤ round
+
+  record Holds (m : Machine) : Type 0 where
+    reached : IsReached config m
+    notes : (file index : ℕ) → NoteHolds (chunk_at m file index).round ((m.clients client).notes file index)
+    call_now : CallHolds m (m.clients client).open_call
+
+  raised : (round later : ℕ) (note : Option ℕ) → round ≤ later → NoteHolds round note → NoteHolds later note
+  raised round later None l h = tt
+  raised round later (Some noted) l h = omega (arith, l, h)
+
+  -- a round that the open call was told is at most the last one
+  told_below : (m : Machine) (c : OpenCall) (file index round count : ℕ) → AllByRecursion (WasTold m c.number c.asked) c.offers → c.asked.file ≡ Some file
+      → Contains c.offers (Told index round count) → round ≤ (chunk_at m file index).round
+  told_below m c file index round count all on there =
+      let was : WasTold m c.number c.asked (Told index round count) = contained (WasTold m c.number c.asked) c.offers (Told index round count) all there in
+      let same : was.file ≡ file = from_some (sym was.on ∙ ap (λ (s : Asked). s.file) was.asked_is ∙ on) in
+      let told : (index ≡ was.index) × (round ≡ (chunk_at was.old was.file was.index).round) =
+      told_of index round count was.index (chunk_at was.old was.file was.index).round (chunk_count was.old was.file) (nat_lt was.index (chunk_count was.old was.file)) was.is in
+      let rose : (chunk_at was.old was.file was.index).round ≤ (chunk_at m was.file was.index).round =
+      (((grows_to was.old m was.way (known_when_reached config was.old was.reached)).files was.file).chunks was.index).round in
+      let here : (chunk_at m was.file was.index).round ≡ (chunk_at m file index).round =
+      ap (λ f. (chunk_at m f was.index).round) same ∙ ap (λ i. (chunk_at m file i).round) (sym told.0) in
+      omega (arith, told.1, rose, here)
+
+  -- a piece that the open call reads
+  piece_read : (m : Machine) (c : OpenCall) (piece : Piece) → Holds m → IsOpen m client c → AllByRecursion (WasTold m c.number c.asked) c.offers → IsPieceOf m client c piece
+      → WasRead m c.number c.asked piece
+  piece_read m c piece h is_open told (by_look file index least last chosen may is) =
+      let below : NoteHolds (chunk_at m file index).round (Some least) = subst (NoteHolds (chunk_at m file index).round) (may.2).1 (h.notes file index) in
+      record {
+        old = m;
+        reached = h.reached;
+        way = ([], tt, refl);
+        call_then = c;
+        open_then = is_open;
+        number_is = refl;
+        asked_is = refl;
+        file = file;
+        on = may.0;
+        gives = subst (GivesTo m file c.asked.call) (sym is) (look_given m file c.asked.call index least last chosen below (may.2).2 (may.2).3);
+      }
+  piece_read m c piece h is_open told (by_none index past is) =
+      let was : WasTold m c.number c.asked (NoSuchChunk index) = contained (WasTold m c.number c.asked) c.offers (NoSuchChunk index) told past in
+      let same : index ≡ was.index = offered_index was.old was.file index was.index was.is in
+      let none : chunk_count was.old was.file ≤ was.index = ⊎_elim (λ there. absurd (offered_there was.old was.file index was.index there was.is)) (λ l. l) (cases_lt was.index (chunk_count was.old was.file)) in
+      record {
+        old = was.old;
+        reached = was.reached;
+        way = was.way;
+        call_then = was.call_then;
+        open_then = was.open_then;
+        number_is = was.number_is;
+        asked_is = was.asked_is;
+        file = was.file;
+        on = was.on;
+        gives = subst (GivesTo was.old was.file (was.call_then).asked.call) (sym is) (nothing_given was.old was.file (was.call_then).asked.call index (omega (arith, same, none)));
+      }
+
+  module _ (m : Machine) (action : Action) (allowed : Allows m action) (h : Holds m) where
+    abbrev next : Machine
+    next = after m action
+
+    step : LeadsTo m next
+    step = leads_by m action allowed
+
+    told_later : (c d : OpenCall) (offer : Offer) → Goes m client c d → WasTold m c.number c.asked offer → WasTold next d.number d.asked offer
+    told_later c d offer goes was = record {
+      old = was.old;
+      reached = was.reached;
+      way = leads_on was.old m next was.way step;
+      call_then = was.call_then;
+      open_then = was.open_then;
+      number_is = was.number_is ∙ goes.0;
+      asked_is = was.asked_is ∙ goes.1;
+      file = was.file;
+      index = was.index;
+      on = was.on;
+      is = was.is;
+    }
+
+    read_later : (c d : OpenCall) (piece : Piece) → Goes m client c d → WasRead m c.number c.asked piece → WasRead next d.number d.asked piece
+    read_later c d piece goes was = record {
+      old = was.old;
+      reached = was.reached;
+      way = leads_on was.old m next was.way step;
+      call_then = was.call_then;
+      open_then = was.open_then;
+      number_is = was.number_is ∙ goes.0;
+      asked_is = was.asked_is ∙ goes.1;
+      file = was.file;
+      on = was.on;
+      gives = was.gives;
+    }
+
+    offers_go : (c d : OpenCall) → IsOpen m client c → Goes m client c d → GetsOffer m c d → AllByRecursion (WasTold m c.number c.asked) c.offers → AllByRecursion (WasTold next d.number d.asked) d.offers
+    offers_go c d is goes (inl kept) all = subst (AllByRecursion (WasTold next d.number d.asked)) (sym kept) (all_more c.offers (λ offer. told_later c d offer goes) all)
+    offers_go c d is goes (inr more) all = subst (AllByRecursion (WasTold next d.number d.asked)) (sym more.3) (
+      record {
+        old = m;
+        reached = h.reached;
+        way = step;
+        call_then = c;
+        open_then = is;
+        number_is = goes.0;
+        asked_is = goes.1;
+        file = more.0;
+        index = more.1;
+        on = (more.2).0;
+        is = refl;
+      },
+      all_more c.offers (λ offer. told_later c d offer goes) all,
+    )
+
+    pieces_go : (c d : OpenCall) → IsOpen m client c → Goes m client c d → AllByRecursion (WasTold m c.number c.asked) c.offers → GetsPiece m client c d
+        → AllByRecursion (WasRead m c.number c.asked) c.pieces → AllByRecursion (WasRead next d.number d.asked) d.pieces
+    pieces_go c d is goes told (inl kept) all = subst (AllByRecursion (WasRead next d.number d.asked)) (sym kept) (all_more c.pieces (λ piece. read_later c d piece goes) all)
+    pieces_go c d is goes told (inr more) all = subst (AllByRecursion (WasRead next d.number d.asked)) (sym more.2)
+        (read_later c d more.0 goes (piece_read m c more.0 h is told more.1), all_more c.pieces (λ piece. read_later c d piece goes) all)
+
+    call_goes : (v : Option Visible) → CallStep m client v (m.clients client).open_call (next.clients client).open_call → CallHolds next (next.clients client).open_call
+    call_goes v (inl made) = subst (CallHolds next) (sym made.3) (tt, tt)
+    call_goes v (inr (inl ended)) = subst (CallHolds next) (sym ended.4) tt
+    call_goes v (inr (inr (others, inl going))) =
+        let before : CallHolds m (Some going.0) = subst (CallHolds m) going.2 h.call_now in
+        subst (CallHolds next) (sym going.3) (
+          offers_go going.0 going.1 going.2 going.4 (going.4).3 before.0,
+          pieces_go going.0 going.1 going.2 going.4 before.0 (going.4).2 before.1,
+        )
+    call_goes v (inr (inr (others, inr none))) = subst (CallHolds next) (sym none.1) tt
+
+    note_goes : (file index : ℕ) (note : Option ℕ) → NoteStep m client file index note → NoteHolds (chunk_at next file index).round note
+    note_goes file index note step_of =
+        let rose : (chunk_at m file index).round ≤ (chunk_at next file index).round =
+        (((grows_step m action allowed (known_when_reached config m h.reached)).files file).chunks index).round in
+        raised (chunk_at m file index).round (chunk_at next file index).round note rose (by_kind step_of)
+      where
+        by_kind : NoteStep m client file index note → NoteHolds (chunk_at m file index).round note
+        by_kind (inl kept) = subst (NoteHolds (chunk_at m file index).round) (sym kept) (h.notes file index)
+        by_kind (inr (inl gone)) = subst (NoteHolds (chunk_at m file index).round) (sym gone) tt
+        by_kind (inr (inr noted)) =
+            let now : CallHolds m (Some noted.0) = subst (CallHolds m) noted.1 h.call_now in
+            subst (NoteHolds (chunk_at m file index).round) (sym noted.6) (told_below m noted.0 file index noted.3 noted.4 now.0 noted.2 noted.5)
+
+    holds_next : Holds next
+    holds_next = record {
+      reached = leads_on (new_machine config) m next h.reached step;
+      notes = λ file index. note_goes file index ((next.clients client).notes file index) (note_step m client file index action allowed);
+      call_now = call_goes (shown action) (call_step m client action allowed);
+    }
+
+  holds_first : Holds (new_machine config)
+  holds_first = record { reached = ([], tt, refl); notes = λ file index. tt; call_now = tt }
+
+  holds_then : (m : Machine) → IsReached config m → Holds m
+  holds_then m way = kept_to Holds (λ k action allowed h. holds_next k action allowed h) (new_machine config) m way holds_first
+
+match_more : (b : Bool) (P Q R : Type 0) → (Q → R) → MatchBool b P Q → MatchBool b P R
+match_more true P Q R f h = h
+match_more false P Q R f h = f h
+
+-- the pieces of an answer were given
+module _ (config : Config) (m : Machine) (client file : ℕ) (fd : Fd) (offset count : ℕ) (current : OpenCall)
+    (open_now : IsOpen m client current) (on : current.asked.file ≡ Some file) (asked_is : current.asked.call ≡ call.Read fd offset count)
+    (all : AllByRecursion (WasRead config client m current.number current.asked) current.pieces) where
+  was_given : (piece : Piece) → WasRead config client m current.number current.asked piece → WasGiven config m client file offset count piece
+  was_given piece was =
+      let same : was.file ≡ file = from_some (sym was.on ∙ ap (λ (s : Asked). s.file) was.asked_is ∙ on) in
+      let what : (was.call_then).asked.call ≡ call.Read fd offset count = ap (λ (s : Asked). s.call) was.asked_is ∙ asked_is in (
+        was.old,
+        was.reached,
+        was.way,
+        (was.call_then, current, was.open_then, open_now, was.number_is),
+        subst (λ f. IsGiven was.old f offset count piece.index piece.bytes piece.round) same
+            (subst (λ c. GivesTo was.old was.file c piece) what was.gives),
+      )
+
+  in_order : (index : ℕ) (pieces : List Piece) → ArePieces (chunk_size m file) offset count current.pieces index pieces → WereGiven config m client file offset count index pieces
+  in_order index [] are = are
+  in_order index (piece ∷ rest) are = (
+    are.2,
+    was_given piece (contained (WasRead config client m current.number current.asked) current.pieces piece all are.1),
+    match_more (nat_lt (length piece.bytes) (part_length (chunk_size m file) offset count index)) (rest ≡ []) _ _ (in_order (suc index) rest) are.3,
+  )
+
+pub reads_give_selections : ReadsGiveSelections
+reads_give_selections config m client file fd offset count bytes rounds reached a =
+    let current : OpenCall = a.0 in
+    let done : IsDone m client current (call.Read fd offset count) (answer.Bytes bytes rounds) = subst (λ c. IsDone m client current c (answer.Bytes bytes rounds)) a.3 a.4 in
+    let h : Holds config client m = holds_then config client m reached in
+    let now : CallHolds config client m (Some current) = subst (CallHolds config client m) a.1 h.call_now in
+    (done.2, in_order config m client file fd offset count current a.1 a.2 a.3 now.1 (offset / chunk_size m file) done.2 done.3, done.4, done.5)
