@@ -15,11 +15,12 @@ use Rattle.gfs_types.specs.Mutations.{start_of, end_of, is_placed_by_system, byt
 use Rattle.gfs_types.specs.Image.{byte_at, image_slice}
 use Rattle.gfs_types.specs.Paths.{hidden_name}
 use Rattle.relaxed_file.specs.Names.{IsTree, File, node_at}
-use Rattle.relaxed_file.specs.Order.{Entry, AreRoundsRising, IsSelection, last_cover, mutations_of}
+use Rattle.relaxed_file.specs.Order.{CallId, Entry, AreRoundsRising, IsSelection, last_cover, mutations_of}
 use Rattle.relaxed_file.specs.Sources.{sources_of}
 use Rattle.relaxed_file.specs.Parts.{has_part, part_start, part_length, part_bytes}
 use Rattle.relaxed_file.specs.Machine.{Machine, new_machine, Asked, OpenCall, IsOpen, Outcome, Piece, chunk_size, chunk_at, chunk_count}
 use Rattle.relaxed_file.specs.NameStep.{is_look, is_refused}
+use Rattle.relaxed_file.specs.Chunks.{tries_in}
 use Rattle.relaxed_file.specs.Reads.{IsLook}
 use Rattle.relaxed_file.specs.Answers.{IsSuccess, MayReturn}
 use Rattle.relaxed_file.specs.Run.{Action, Invoke, Return, ReturnFd, Step, Add, OpenRound, CloseRound, Place, Settle, Look, asked_file, Visible, visible, Allows, after, after_all, IsLawful, IsRunTo, LeadsTo, IsReached}
@@ -287,3 +288,15 @@ NameStepsComeOnce =
     → Allows m (Step client moment outcome) → GoesUnanswered (after m (Step client moment outcome)) client actions
     → Allows (after_all (after m (Step client moment outcome)) actions) (Step client again other)
     → (current : OpenCall) × IsOpen m client current × IsTrue (is_look current.asked.call)
+
+-- In every run a call has at most so many entries in a chunk, pads aside, as the setting says (section 3.1).
+abbrev pub TriesAreLimited : Type 0
+TriesAreLimited =
+    (config : Config) (m : Machine) → IsReached config m → (id : CallId) (file index : ℕ) → tries_in id (chunk_at m file index) ≤ config.attempts
+
+-- Between two rounds of a chunk that open, the first one closes, and the second one has a greater number (section 3.1).
+abbrev pub RoundsComeOneByOne : Type 0
+RoundsComeOneByOne =
+    (config : Config) (m : Machine) (file index round next : ℕ) (actions : List Action) → IsReached config m → Allows m (OpenRound file index round)
+    → IsLawful (after m (OpenRound file index round)) actions → Allows (after_all (after m (OpenRound file index round)) actions) (OpenRound file index next)
+    → Contains actions (CloseRound file index) × (round < next)
