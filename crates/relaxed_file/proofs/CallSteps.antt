@@ -15,6 +15,7 @@ use Rattle.relaxed_file.specs.Chunks.{chunk_added, begun_call, placed, with_entr
 use Rattle.relaxed_file.specs.Reads.{offer_of, looked, read_slice, MayLook, MayLookPast, MayOffer}
 use Rattle.relaxed_file.specs.Answers.{returned}
 use Rattle.relaxed_file.specs.Run.{Action, Invoke, Return, ReturnFd, Step, FindBusy, FindFull, Lock, Add, Place, Tell, Note, Look, LookPast, Measure, MeasureNone, Pass, Visible, Called, Answered, Passed, shown, asked_now, Allows, after, asked_file}
+use Rattle.relaxed_file.specs.RunLaws.{ComesTo, by_names, by_lock, by_room}
 use Rattle.relaxed_file.proofs.Tables.{put_is, put_same, put_other, at_some, from_some}
 use Rattle.relaxed_file.proofs.Known.{asked_is}
 use Rattle.relaxed_file.proofs.OwnReads.{performed_clients}
@@ -32,11 +33,13 @@ abbrev pub GetsOffer : Machine → OpenCall → OpenCall → Type 0
 GetsOffer m c d = (d.offers ≡ c.offers) ⊎ ((file : ℕ) × (index : ℕ) × MayOffer m c file × (d.offers ≡ offer_of m file index ∷ c.offers))
 
 -- only a name call comes to something, and only while it has a name step left
-abbrev pub GetsOutcome : OpenCall → OpenCall → Type 0
-GetsOutcome c d = (d.outcomes ≡ c.outcomes) ⊎ (IsTrue (is_name_call c.asked.call) × HasNameStepLeft c × (outcome : Outcome) × (d.outcomes ≡ outcome ∷ c.outcomes))
+abbrev pub GetsOutcome : Machine → ℕ → OpenCall → OpenCall → Type 0
+GetsOutcome m client c d =
+    (d.outcomes ≡ c.outcomes)
+    ⊎ (IsTrue (is_name_call c.asked.call) × HasNameStepLeft c × (outcome : Outcome) × ComesTo m client c.asked.call outcome × (d.outcomes ≡ outcome ∷ c.outcomes))
 
 abbrev pub Goes : Machine → ℕ → OpenCall → OpenCall → Type 0
-Goes m client c d = (c.number ≡ d.number) × (c.asked ≡ d.asked) × GetsPiece m client c d × GetsOffer m c d × GetsOutcome c d × (IsTrue c.has_begun → IsTrue d.has_begun)
+Goes m client c d = (c.number ≡ d.number) × (c.asked ≡ d.asked) × GetsPiece m client c d × GetsOffer m c d × GetsOutcome m client c d × (IsTrue c.has_begun → IsTrue d.has_begun)
 
 pub same_call : (m : Machine) (client : ℕ) (c : OpenCall) → Goes m client c c
 same_call m client c = (refl, refl, inl refl, inl refl, inl refl, λ begun. begun)
@@ -120,11 +123,18 @@ module _ (m : Machine) (client : ℕ) where
   plain_step : (n : Machine) (who : ℕ) (change : OpenCall → OpenCall) → n.clients ≡ m.clients → ((c : OpenCall) → Goes m client c (change c)) → Steps None (with_step n who change)
   plain_step n who change same keeps = step_taken n who change same (λ c there is. keeps c)
 
-  outcome_taken : (n : Machine) (who : ℕ) (outcome : Outcome) (current : OpenCall) → n.clients ≡ m.clients → IsOpen m who current → IsTrue (is_name_call current.asked.call) → HasNameStepLeft current
+  outcome_taken : (n : Machine) (who : ℕ) (outcome : Outcome) (current : OpenCall) → n.clients ≡ m.clients → IsOpen m who current → IsTrue (is_name_call current.asked.call) → HasNameStepLeft current → ComesTo m who current.asked.call outcome
       → Steps None (with_outcome n who outcome)
-  outcome_taken n who outcome current same is named left = step_taken n who (λ c. record c { outcomes = outcome ∷ c.outcomes }) same (λ c there mine.
-      let here : current ≡ c = from_some (sym is ∙ subst (λ k. (m.clients k).open_call ≡ Some c) mine there) in
-      (refl, refl, inl refl, inl refl, subst (λ (d : OpenCall). GetsOutcome d (record d { outcomes = outcome ∷ d.outcomes })) here (inr (named, left, outcome, refl)), λ begun. begun))
+  outcome_taken n who outcome current same is named left comes = step_taken n who (λ c. record c { outcomes = outcome ∷ c.outcomes }) same (λ c there mine.
+      let here : current ≡ c = from_some (sym is ∙ subst (λ k. (m.clients k).open_call ≡ Some c) mine there) in (
+        refl,
+        refl,
+        inl refl,
+        inl refl,
+        subst (λ (d : OpenCall). GetsOutcome m client d (record d { outcomes = outcome ∷ d.outcomes })) here
+            (inr (named, left, outcome, subst (λ k. ComesTo m k current.asked.call outcome) (sym mine) comes, refl)),
+        λ begun. begun,
+      ))
 
   -- the notes change, and then the call takes a step
   note_taken : (who : ℕ) (state : Client) → state.open_call ≡ (m.clients who).open_call → Steps None (with_step (with_client m who state) who (λ c. c))
@@ -163,13 +173,13 @@ module _ (m : Machine) (client : ℕ) where
   call_step (ReturnFd who fd f) a = ended who (answer.Fd (record { 0 = fd })) a.0 _ a.1 refl
   call_step (Step who moment outcome) a = at_some (Steps None) (λ current. stepped m who moment outcome current) m _ a.0 a.1
       (elim (is_refused outcome) as (λ b. Steps None (with_outcome (cond b m (performed m (a.0).asked.call moment)) who outcome)) [
-        | true ↦ outcome_taken m who outcome a.0 refl a.1 (a.2).0 (a.2).1
-        | false ↦ outcome_taken (performed m (a.0).asked.call moment) who outcome a.0 (performed_clients m (a.0).asked.call moment) a.1 (a.2).0 (a.2).1
+        | true ↦ outcome_taken m who outcome a.0 refl a.1 (a.2).0 (a.2).1 (by_names (a.2).2)
+        | false ↦ outcome_taken (performed m (a.0).asked.call moment) who outcome a.0 (performed_clients m (a.0).asked.call moment) a.1 (a.2).0 (a.2).1 (by_names (a.2).2)
       ])
   call_step (FindBusy who holder) a =
       let busy : MayBeBusy who a.0 holder (a.2).0 = (a.2).2 in
-      outcome_taken m who _ a.0 refl a.1 (conflicts_by_name (a.0).asked.call ((a.2).0).asked.call busy.5) busy.1
-  call_step (FindFull who) a = outcome_taken m who _ a.0 refl a.1 (room_by_name (a.0).asked.call (a.2).0) (a.2).1
+      outcome_taken m who _ a.0 refl a.1 (conflicts_by_name (a.0).asked.call ((a.2).0).asked.call busy.5) busy.1 (by_lock holder (a.2).0 busy.0 (a.2).1 busy.2 busy.3 busy.5 refl)
+  call_step (FindFull who) a = outcome_taken m who _ a.0 refl a.1 (room_by_name (a.0).asked.call (a.2).0) (a.2).1 (by_room (a.2).0 (a.2).2 refl)
   call_step (Lock who) a = plain_step m who (λ current. record current { has_locks = true }) refl (λ c. same_call m client c)
   call_step (Add id) a = at_some (Steps None) (chunk_added m id) m (asked_file m id) a.1 (asked_is m id a.0 a.1 a.2.0 a.2.1)
       (changed m None id.client _ refl (λ other. tt) (λ mine.

@@ -19,9 +19,9 @@ use Rattle.relaxed_file.specs.Order.{CallId, Entry}
 use Rattle.relaxed_file.specs.Machine.{Machine, FileState, Chunk, Client, OpenCall, IsOpen, Outcome, Replies, chunk_at, chunk_count, chunk_size, put, with_step, with_chunk}
 use Rattle.relaxed_file.specs.NameStep.{performed, is_refused, stepped, with_outcome, is_name_call, is_look, HasNameStepLeft}
 use Rattle.relaxed_file.specs.Chunks.{AsksFor, placed, with_entry, tries_in, tries_below}
-use Rattle.relaxed_file.specs.Answers.{IsCause, MayReturn, may_give_up, is_too_long}
+use Rattle.relaxed_file.specs.Answers.{IsCause, MayReturn, may_give_up, is_too_long, uses_chunks}
 use Rattle.relaxed_file.specs.Run.{Action, Invoke, Return, ReturnFd, Step, Place, Pass, Visible, Answered, shown, Allows, after, after_all, IsLawful, asked_now}
-use Rattle.relaxed_file.specs.RunLaws.{IsAnswerTo, IsEffectFor, DeniesNothing, RefusedCallsHadNoEffect, NameStepsComeOnce}
+use Rattle.relaxed_file.specs.RunLaws.{IsAnswerTo, IsEffectFor, DeniesNothing, RefusedCallsHadNoEffect, NameStepsComeOnce, Puts, AsksWhatItHolds, IsReason, MayEndIn, FileCallsAreRefusedForAReason}
 use Rattle.relaxed_file.proofs.Tables.{put_same, at_some, contained, from_some}
 use Rattle.relaxed_file.proofs.Known.{Known, known_step}
 use Rattle.relaxed_file.proofs.Grows.{Grows, grows_step, known_when_reached}
@@ -107,18 +107,18 @@ IsMarked m client = (c : OpenCall) × IsOpen m client c × IsMark m client c
 abbrev IsPlain : OpenCall → Type 0
 IsPlain c = IsFalse (is_name_call c.asked.call) → c.outcomes ≡ []
 
-step_mark_goes : (c d : OpenCall) → c.asked ≡ d.asked → GetsOutcome c d → IsStepMark c → IsStepMark d
-step_mark_goes c d same (inl kept) h = record {
+step_mark_goes : (m : Machine) (client : ℕ) (c d : OpenCall) → c.asked ≡ d.asked → GetsOutcome m client c d → IsStepMark c → IsStepMark d
+step_mark_goes m client c d same (inl kept) h = record {
   named = subst (λ a. IsTrue (is_name_call a.call)) same h.named;
   no_look = subst (λ a. IsFalse (is_look a.call)) same h.no_look;
   outcome = h.outcome;
   unrefused = h.unrefused;
   is = kept ∙ h.is;
 }
-step_mark_goes c d same (inr (named, inl look, outcome, more)) h = absurd (true≢false (sym look ∙ h.no_look))
-step_mark_goes c d same (inr (named, inr none, outcome, more)) h = absurd (no_cons h.outcome [] (sym none ∙ h.is))
+step_mark_goes m client c d same (inr (named, inl look, outcome, comes, more)) h = absurd (true≢false (sym look ∙ h.no_look))
+step_mark_goes m client c d same (inr (named, inr none, outcome, comes, more)) h = absurd (no_cons h.outcome [] (sym none ∙ h.is))
 
-place_mark_goes : (m n : Machine) (client : ℕ) (c d : OpenCall) → Grows m n → c.number ≡ d.number → c.asked ≡ d.asked → GetsOutcome c d → IsPlaceMark m client c → IsPlaceMark n client d
+place_mark_goes : (m n : Machine) (client : ℕ) (c d : OpenCall) → Grows m n → c.number ≡ d.number → c.asked ≡ d.asked → GetsOutcome m client c d → IsPlaceMark m client c → IsPlaceMark n client d
 place_mark_goes m n client c d g number same (inl kept) h = record {
   unnamed = subst (λ a. IsFalse (is_name_call a.call)) same h.unnamed;
   nothing = kept ∙ h.nothing;
@@ -137,12 +137,12 @@ place_mark_goes m n client c d g number same (inl kept) h = record {
 place_mark_goes m n client c d g number same (inr more) h = absurd (true≢false (sym more.0 ∙ h.unnamed))
 
 mark_goes : (m n : Machine) (client : ℕ) (c d : OpenCall) → Grows m n → Goes m client c d → IsMark m client c → IsMark n client d
-mark_goes m n client c d g goes (begins, inl h) = (goes.5 begins, inl (step_mark_goes c d goes.1 goes.4 h))
+mark_goes m n client c d g goes (begins, inl h) = (goes.5 begins, inl (step_mark_goes m client c d goes.1 goes.4 h))
 mark_goes m n client c d g goes (begins, inr h) = (goes.5 begins, inr (place_mark_goes m n client c d g goes.0 goes.1 goes.4 h))
 
-plain_goes : (c d : OpenCall) → c.asked ≡ d.asked → GetsOutcome c d → IsPlain c → IsPlain d
-plain_goes c d same (inl kept) plain = λ unnamed. kept ∙ plain (subst (λ a. IsFalse (is_name_call a.call)) (sym same) unnamed)
-plain_goes c d same (inr more) plain = λ unnamed. absurd (true≢false (sym more.0 ∙ subst (λ a. IsFalse (is_name_call a.call)) (sym same) unnamed))
+plain_goes : (m : Machine) (client : ℕ) (c d : OpenCall) → c.asked ≡ d.asked → GetsOutcome m client c d → IsPlain c → IsPlain d
+plain_goes m client c d same (inl kept) plain = λ unnamed. kept ∙ plain (subst (λ a. IsFalse (is_name_call a.call)) (sym same) unnamed)
+plain_goes m client c d same (inr more) plain = λ unnamed. absurd (true≢false (sym more.0 ∙ subst (λ a. IsFalse (is_name_call a.call)) (sym same) unnamed))
 
 -- what is seen to answer the client is an answer to it
 answers_to : (action : Action) (client : ℕ) (reply : Answer) → shown action ≡ Some (Answered client reply) → IsAnswerTo client action
@@ -183,7 +183,7 @@ gives_up (call.Append fd bytes) other h = absurd (false≢true h)
 gives_up name_call Unknown h = tt
 gives_up name_call other h = absurd (false≢true h)
 
-named_not_long : (size : ℕ) (before : Option ℕ) (c : Call) → IsTrue (is_name_call c) → IsTrue (is_too_long size before c) → ⊥
+pub named_not_long : (size : ℕ) (before : Option ℕ) (c : Call) → IsTrue (is_name_call c) → IsTrue (is_too_long size before c) → ⊥
 named_not_long size before (call.Write fd offset bytes) named long = false≢true named
 named_not_long size before (call.Append fd bytes) named long = false≢true named
 named_not_long size before (call.Read fd offset count) named long = false≢true named
@@ -289,7 +289,7 @@ module _ (client : ℕ) (reason : Refusal) (denies : DeniesNothing reason → �
   no_effect m (x ∷ xs) c known lawful others is plain no_look ends =
       let on : GoesOn m (after m x) client c = goes_on m x client c lawful.0 others.0 is in (
         λ effect. never (after m x) xs (known_step m x lawful.0 known) lawful.1 others.1 (marks m x client c lawful.0 known is plain no_look effect) ends,
-        no_effect (after m x) xs on.0 (known_step m x lawful.0 known) lawful.1 others.1 on.1 (plain_goes c on.0 (on.2).1 (on.2).4 plain)
+        no_effect (after m x) xs on.0 (known_step m x lawful.0 known) lawful.1 others.1 on.1 (plain_goes m client c on.0 (on.2).1 (on.2).4 plain)
             (subst (λ a. IsFalse (is_look a.call)) (on.2).1 no_look) ends,
       )
 
@@ -300,16 +300,16 @@ refused_calls_had_no_effect config m client asked actions reason reached ends no
     (made_by_call m (Invoke client asked) client asked ends.0 refl) (λ unnamed. refl) no_look ends.2
 
 -- what a call came to stays until its answer
-more_outcomes : (c d : OpenCall) → GetsOutcome c d → 0 < length c.outcomes → 0 < length d.outcomes
-more_outcomes c d (inl kept) some = subst (λ (o : List Outcome). 0 < length o) (sym kept) some
-more_outcomes c d (inr more) some = subst (λ (o : List Outcome). 0 < length o) (sym more.3) (omega arith)
+more_outcomes : (m : Machine) (client : ℕ) (c d : OpenCall) → GetsOutcome m client c d → 0 < length c.outcomes → 0 < length d.outcomes
+more_outcomes m client c d (inl kept) some = subst (λ (o : List Outcome). 0 < length o) (sym kept) some
+more_outcomes m client c d (inr more) some = subst (λ (o : List Outcome). 0 < length o) (sym more.4) (omega arith)
 
 came_to : (m : Machine) (actions : List Action) (client : ℕ) (c : OpenCall) → IsLawful m actions → Unanswered client actions → IsOpen m client c → 0 < length c.outcomes
     → (d : OpenCall) × IsOpen (after_all m actions) client d × (c.asked ≡ d.asked) × (0 < length d.outcomes)
 came_to m [] client c lawful others is some = (c, is, refl, some)
 came_to m (x ∷ xs) client c lawful others is some =
     let on : GoesOn m (after m x) client c = goes_on m x client c lawful.0 others.0 is in
-    let rest = came_to (after m x) xs client on.0 lawful.1 others.1 on.1 (more_outcomes c on.0 (on.2).4 some) in
+    let rest = came_to (after m x) xs client on.0 lawful.1 others.1 on.1 (more_outcomes m client c on.0 (on.2).4 some) in
     (rest.0, rest.1, (on.2).1 ∙ rest.2, rest.3)
 
 pub name_steps_come_once : NameStepsComeOnce
@@ -321,3 +321,74 @@ name_steps_come_once m client moment again outcome other actions a runs b =
     looks : (d : OpenCall) → 0 < length d.outcomes → (a.0).asked ≡ d.asked → HasNameStepLeft d → IsTrue (is_look (a.0).asked.call)
     looks d some same (inl look) = subst (λ s. IsTrue (is_look s.call)) (sym same) look
     looks d some same (inr none) = let empty : length d.outcomes ≡ 0 = ap (λ (o : List Outcome). length o) none in absurd (omega (arith, some, empty))
+
+-- a call on a descriptor comes to nothing until its answer
+still_plain : (m : Machine) (actions : List Action) (client : ℕ) (c : OpenCall) → IsLawful m actions → Unanswered client actions → IsOpen m client c → IsPlain c
+    → (d : OpenCall) × IsOpen (after_all m actions) client d × (c.asked ≡ d.asked) × IsPlain d
+still_plain m [] client c lawful others is plain = (c, is, refl, plain)
+still_plain m (x ∷ xs) client c lawful others is plain =
+    let on : GoesOn m (after m x) client c = goes_on m x client c lawful.0 others.0 is in
+    let rest = still_plain (after m x) xs client on.0 lawful.1 others.1 on.1 (plain_goes m client c on.0 (on.2).1 (on.2).4 plain) in
+    (rest.0, rest.1, (on.2).1 ∙ rest.2, rest.3)
+
+-- a refusal that a call on a descriptor may give up with
+given_up : (m n : Machine) (client : ℕ) (c : Call) (reason : Refusal) → IsFalse (is_name_call c) → IsTrue (may_give_up c reason) → IsReason m n client c reason
+given_up m n client (call.Close fd) reason unnamed h = absurd (false≢true h)
+given_up m n client (call.Length fd) NoReplica unnamed h = inr tt
+given_up m n client (call.Length fd) Unknown unnamed h = tt
+given_up m n client (call.Length fd) other unnamed h = absurd (false≢true h)
+given_up m n client (call.Read fd offset count) NoReplica unnamed h = inr tt
+given_up m n client (call.Read fd offset count) Unknown unnamed h = tt
+given_up m n client (call.Read fd offset count) other unnamed h = absurd (false≢true h)
+given_up m n client (call.Write fd offset bytes) NoReplica unnamed h = inl tt
+given_up m n client (call.Write fd offset bytes) Failed unnamed h = tt
+given_up m n client (call.Write fd offset bytes) other unnamed h = absurd (false≢true h)
+given_up m n client (call.Append fd bytes) NoReplica unnamed h = inl tt
+given_up m n client (call.Append fd bytes) Failed unnamed h = tt
+given_up m n client (call.Append fd bytes) other unnamed h = absurd (false≢true h)
+given_up m n client name_call reason unnamed h = absurd (true≢false unnamed)
+
+uses_bytes : (c : Call) → IsTrue (uses_chunks c) → Puts c ⊎ AsksWhatItHolds c
+uses_bytes (call.Length fd) h = inr tt
+uses_bytes (call.Read fd offset count) h = inr tt
+uses_bytes (call.Write fd offset bytes) h = inl tt
+uses_bytes (call.Append fd bytes) h = inl tt
+uses_bytes other h = absurd (false≢true h)
+
+-- a refusal with a cause of its own, of a call that was made so
+causes : (m n : Machine) (client : ℕ) (asked : Call) (c : OpenCall) (reason : Refusal) → asked_now m client asked ≡ c.asked → IsCause n client c reason → IsReason m n client asked reason
+causes m n client asked c BadFd same cause = ap (λ a. a.file) same ∙ cause.1
+causes m n client asked c TooLong same cause = (
+  cause.0,
+  ap (λ a. a.file) same ∙ cause.1,
+  subst (λ a. IsTrue (is_too_long (chunk_size n cause.0) a.chunks_before a.call)) (sym same) cause.2,
+)
+causes m n client asked c Collected same cause = (
+  cause.0,
+  ap (λ a. a.file) same ∙ cause.1,
+  cause.2,
+  uses_bytes asked (subst (λ a. IsTrue (uses_chunks a.call)) (sym same) cause.3),
+)
+causes m n client asked c NoMemory same cause = tt
+causes m n client asked c other same cause = absurd cause
+
+module _ (m : Machine) (client : ℕ) (asked : Call) (actions : List Action) (reason : Refusal) (unnamed : IsFalse (is_name_call asked)) (ends : MayEndIn m client asked actions (answer.Refused reason)) where
+  abbrev end : Machine
+  end = after_all (after m (Invoke client asked)) actions
+
+  later : (d : OpenCall) × IsOpen end client d × (asked_now m client asked ≡ d.asked) × IsPlain d
+  later = still_plain (after m (Invoke client asked)) actions client (fresh_call (m.clients client) (asked_now m client asked)) (ends.1).0 (ends.1).1
+      (made_by_call m (Invoke client asked) client asked ends.0 refl) (λ h. refl)
+
+  by_kind : MayReturn end client later.0 (answer.Refused reason) → IsReason m end client asked reason
+  by_kind (inl came) =
+      let none : (later.0).outcomes ≡ [] = later.3 (subst (λ a. IsFalse (is_name_call a.call)) later.2 unnamed) in
+      absurd (contained (λ o. ⊥) [] (Replies (answer.Refused reason)) tt (subst (λ (o : List Outcome). Contains o (Replies (answer.Refused reason))) none came))
+  by_kind (inr (inl gives)) = given_up m end client asked reason unnamed (subst (λ a. IsTrue (may_give_up a.call reason)) (sym later.2) gives)
+  by_kind (inr (inr cause)) = causes m end client asked later.0 reason later.2 cause
+
+  reason_is : IsReason m end client asked reason
+  reason_is = by_kind (subst (λ d. MayReturn end client d (answer.Refused reason)) (from_some (sym (ends.2).1 ∙ later.1)) (ends.2).2)
+
+pub file_calls_are_refused_for_a_reason : FileCallsAreRefusedForAReason
+file_calls_are_refused_for_a_reason m client asked actions reason unnamed ends = reason_is m client asked actions reason unnamed ends

@@ -1,26 +1,31 @@
--- A read's answer is what states during the call gave: what the call was told and what it read comes from them, and no note is past the last opened round.
+-- An answer is what states during the call gave: what the call was told, what it read and what it came to is from them, and no note is past the last opened round.
 use Rattle.std.proofs.Common.{◌≡◌, ℕ, suc, ◌/◌, ◌<◌, ◌≤◌, Bool, true, false, cond, List, [], ◌∷◌, length, Option, Some, None, refl, sym, ◌∙◌, ap, subst, inl, inr, ⊎_elim, arith}
-use Rattle.std.specs.Prelude.{Contains, MatchBool, nat_lt}
+use Rattle.std.specs.Prelude.{◌⊎◌, Contains, MatchBool, nat_lt, IsTrue, IsFalse}
 use Rattle.std.specs.List.{AllByRecursion}
-use Rattle.std.proofs.lemmas.Bool.{cases_lt}
+use Rattle.std.proofs.lemmas.Bool.{cases_lt, true≢false, false≢true}
 use Rattle.std.proofs.lemmas.Option.{none-some}
 use Rattle.gfs_types.specs.declared.call.Call.{Call}
 use Rattle.gfs_types.specs.declared.call.Call.TheVariants as call
+use Rattle.gfs_types.specs.declared.answer.Answer.{Answer}
 use Rattle.gfs_types.specs.declared.answer.Answer.TheVariants as answer
+use Rattle.gfs_types.specs.declared.refusal.Refusal.{Refusal}
+use Rattle.gfs_types.specs.declared.refusal.Refusal.TheVariants.{BadFd, TooLong, Collected, Unknown, NoMemory}
 use Rattle.gfs_types.specs.declared.ids.Fd.{Fd}
 use Rattle.gfs_types.specs.declared.config.Config.{Config}
 use Rattle.relaxed_file.specs.Order.{Entry, IsSelection}
 use Rattle.relaxed_file.specs.Parts.{part_length}
-use Rattle.relaxed_file.specs.Machine.{Machine, new_machine, Asked, OpenCall, IsOpen, Offer, Told, NoSuchChunk, Piece, chunk_at, chunk_count, chunk_size}
+use Rattle.relaxed_file.specs.Machine.{Machine, new_machine, Asked, OpenCall, IsOpen, Outcome, Replies, Opens, Offer, Told, NoSuchChunk, Piece, chunk_at, chunk_count, chunk_size}
 use Rattle.relaxed_file.specs.Reads.{offer_of, read_slice}
-use Rattle.relaxed_file.specs.Answers.{IsDone, ArePieces}
+use Rattle.relaxed_file.specs.NameStep.{is_name_call}
+use Rattle.relaxed_file.specs.Answers.{IsDone, ArePieces, IsCause, MayReturn, may_give_up, uses_chunks}
 use Rattle.relaxed_file.specs.Run.{Action, Visible, shown, Allows, after, LeadsTo, IsReached}
-use Rattle.relaxed_file.specs.RunLaws.{IsGiven, WasGiven, WereGiven, ReadsGiveSelections, MayAnswer}
+use Rattle.relaxed_file.specs.RunLaws.{IsGiven, WasGiven, WereGiven, ReadsGiveSelections, ComesTo, CameTo, NameCallsAnswerOneMoment, OpensFindTheirFile}
 use Rattle.relaxed_file.proofs.Tables.{from_some, contained, all_more}
 use Rattle.relaxed_file.proofs.Reached.{leads_on, leads_by, kept_to}
 use Rattle.relaxed_file.proofs.Grows.{grows_step, grows_to, known_when_reached}
-use Rattle.relaxed_file.proofs.CallSteps.{IsPieceOf, by_look, by_none, GetsPiece, GetsOffer, Goes, CallStep, call_step}
+use Rattle.relaxed_file.proofs.CallSteps.{IsPieceOf, by_look, by_none, GetsPiece, GetsOffer, GetsOutcome, Goes, CallStep, call_step}
 use Rattle.relaxed_file.proofs.NoteSteps.{NoteStep, WasNoted, note_step}
+use Rattle.relaxed_file.proofs.Effects.{named_not_long}
 use Rattle.relaxed_file.proofs.StaleReads.{offered_there, offered_index}
 
 abbrev told_index : Offer → ℕ → ℕ
@@ -81,9 +86,20 @@ module _ (config : Config) (client : ℕ) where
     on : call_then.asked.file ≡ Some file
     gives : GivesTo old file call_then.asked.call piece
 
+  record HasCome (m : Machine) (number : ℕ) (asked : Asked) (outcome : Outcome) : Type 0 where
+    old : Machine
+    reached : IsReached config old
+    way : LeadsTo old m
+    call_then : OpenCall
+    open_then : IsOpen old client call_then
+    number_is : call_then.number ≡ number
+    asked_is : call_then.asked ≡ asked
+    comes : ComesTo old client call_then.asked.call outcome
+
   abbrev CallHolds : Machine → Option OpenCall → Type 0
   CallHolds m None = Unit {0}
-  CallHolds m (Some c) = AllByRecursion (WasTold m c.number c.asked) c.offers × AllByRecursion (WasRead m c.number c.asked) c.pieces
+  CallHolds m (Some c) =
+      AllByRecursion (WasTold m c.number c.asked) c.offers × AllByRecursion (WasRead m c.number c.asked) c.pieces × AllByRecursion (HasCome m c.number c.asked) c.outcomes
 
   abbrev NoteHolds : ℕ → Option ℕ → Type 0
   NoteHolds round None = Unit {0}
@@ -207,14 +223,35 @@ module _ (config : Config) (client : ℕ) where
     pieces_go c d is goes told (inr more) all = subst (AllByRecursion (WasRead next d.number d.asked)) (sym more.2)
         (read_later c d more.0 goes (piece_read m c more.0 h is told more.1), all_more c.pieces (λ piece. read_later c d piece goes) all)
 
+    come_later : (c d : OpenCall) (outcome : Outcome) → Goes m client c d → HasCome m c.number c.asked outcome → HasCome next d.number d.asked outcome
+    come_later c d outcome goes was = record {
+      old = was.old;
+      reached = was.reached;
+      way = leads_on was.old m next was.way step;
+      call_then = was.call_then;
+      open_then = was.open_then;
+      number_is = was.number_is ∙ goes.0;
+      asked_is = was.asked_is ∙ goes.1;
+      comes = was.comes;
+    }
+
+    outcomes_go : (c d : OpenCall) → IsOpen m client c → Goes m client c d → GetsOutcome m client c d → AllByRecursion (HasCome m c.number c.asked) c.outcomes
+        → AllByRecursion (HasCome next d.number d.asked) d.outcomes
+    outcomes_go c d is goes (inl kept) all = subst (AllByRecursion (HasCome next d.number d.asked)) (sym kept) (all_more c.outcomes (λ outcome. come_later c d outcome goes) all)
+    outcomes_go c d is goes (inr more) all = subst (AllByRecursion (HasCome next d.number d.asked)) (sym more.4) (
+      record { old = m; reached = h.reached; way = step; call_then = c; open_then = is; number_is = goes.0; asked_is = goes.1; comes = more.3 },
+      all_more c.outcomes (λ outcome. come_later c d outcome goes) all,
+    )
+
     call_goes : (v : Option Visible) → CallStep m client v (m.clients client).open_call (next.clients client).open_call → CallHolds next (next.clients client).open_call
-    call_goes v (inl made) = subst (CallHolds next) (sym made.3) (tt, tt)
+    call_goes v (inl made) = subst (CallHolds next) (sym made.3) (tt, tt, tt)
     call_goes v (inr (inl ended)) = subst (CallHolds next) (sym ended.4) tt
     call_goes v (inr (inr (others, inl going))) =
         let before : CallHolds m (Some going.0) = subst (CallHolds m) going.2 h.call_now in
         subst (CallHolds next) (sym going.3) (
           offers_go going.0 going.1 going.2 going.4 (going.4).3 before.0,
           pieces_go going.0 going.1 going.2 going.4 before.0 (going.4).2 before.1,
+          outcomes_go going.0 going.1 going.2 going.4 (going.4).4 before.2,
         )
     call_goes v (inr (inr (others, inr none))) = subst (CallHolds next) (sym none.1) tt
 
@@ -279,3 +316,63 @@ reads_give_selections config m client file fd offset count bytes rounds reached 
     let h : Holds config client m = holds_then config client m reached in
     let now : CallHolds config client m (Some current) = subst (CallHolds config client m) a.1 h.call_now in
     (done.2, in_order config m client file fd offset count current a.1 a.2 a.3 now.1 (offset / chunk_size m file) done.2 done.3, done.4, done.5)
+
+-- what a call came to
+came_to : (config : Config) (m : Machine) (client : ℕ) (current : OpenCall) (outcome : Outcome) → IsReached config m → IsOpen m client current → Contains current.outcomes outcome
+    → CameTo config m client current.asked.call outcome
+came_to config m client current outcome reached is there =
+    let h : Holds config client m = holds_then config client m reached in
+    let now : CallHolds config client m (Some current) = subst (CallHolds config client m) is h.call_now in
+    let was : HasCome config client m current.number current.asked outcome = contained (HasCome config client m current.number current.asked) current.outcomes outcome now.2 there in
+    (was.old, was.reached, was.way, (was.call_then, current, was.open_then, is, was.number_is), subst (λ a. ComesTo was.old client a.call outcome) was.asked_is was.comes)
+
+-- an answer to a name call that is no refusal
+done_is : (m : Machine) (client : ℕ) (current : OpenCall) (c : Call) (reply : Answer) → IsTrue (is_name_call c) → IsDone m client current c reply → Contains current.outcomes (Replies reply)
+done_is m client current (call.Close fd) reply named done = absurd (false≢true named)
+done_is m client current (call.Length fd) reply named done = absurd (false≢true named)
+done_is m client current (call.Write fd offset bytes) reply named done = absurd (false≢true named)
+done_is m client current (call.Append fd bytes) reply named done = absurd (false≢true named)
+done_is m client current (call.Read fd offset count) reply named done = absurd (false≢true named)
+done_is m client current other reply named done = done
+
+given_up_is : (c : Call) (reason : Refusal) → IsTrue (is_name_call c) → IsTrue (may_give_up c reason) → reason ≡ Unknown
+given_up_is (call.Close fd) reason named h = absurd (false≢true named)
+given_up_is (call.Length fd) reason named h = absurd (false≢true named)
+given_up_is (call.Write fd offset bytes) reason named h = absurd (false≢true named)
+given_up_is (call.Append fd bytes) reason named h = absurd (false≢true named)
+given_up_is (call.Read fd offset count) reason named h = absurd (false≢true named)
+given_up_is name_call Unknown named h = refl
+given_up_is name_call other named h = absurd (false≢true h)
+
+no_chunks : (c : Call) → IsTrue (is_name_call c) → IsTrue (uses_chunks c) → ⊥
+no_chunks (call.Length fd) named h = false≢true named
+no_chunks (call.Write fd offset bytes) named h = false≢true named
+no_chunks (call.Append fd bytes) named h = false≢true named
+no_chunks (call.Read fd offset count) named h = false≢true named
+no_chunks other named h = false≢true h
+
+cause_is : (m : Machine) (client : ℕ) (current : OpenCall) (reason : Refusal) → IsTrue (is_name_call current.asked.call) → IsCause m client current reason → reason ≡ NoMemory
+cause_is m client current BadFd named cause = absurd (true≢false (sym named ∙ cause.0))
+cause_is m client current TooLong named cause = absurd (named_not_long (chunk_size m cause.0) current.asked.chunks_before current.asked.call named cause.2)
+cause_is m client current Collected named cause = absurd (no_chunks current.asked.call named cause.3)
+cause_is m client current NoMemory named cause = refl
+cause_is m client current other named cause = absurd cause
+
+module _ (config : Config) (m : Machine) (client : ℕ) (current : OpenCall) (reached : IsReached config m) (is : IsOpen m client current) (named : IsTrue (is_name_call current.asked.call)) where
+  abbrev IsSaid : Answer → Type 0
+  IsSaid reply = CameTo config m client current.asked.call (Replies reply) ⊎ ((reply ≡ answer.Refused Unknown) ⊎ (reply ≡ answer.Refused NoMemory))
+
+  refused_by : (reason : Refusal) → MayReturn m client current (answer.Refused reason) → IsSaid (answer.Refused reason)
+  refused_by reason (inl came) = inl (came_to config m client current (Replies (answer.Refused reason)) reached is came)
+  refused_by reason (inr (inl gives)) = inr (inl (ap (λ r. answer.Refused r) (given_up_is current.asked.call reason named gives)))
+  refused_by reason (inr (inr cause)) = inr (inr (ap (λ r. answer.Refused r) (cause_is m client current reason named cause)))
+
+  said : (reply : Answer) → MayReturn m client current reply → IsSaid reply
+  said (answer.Refused reason) may = refused_by reason may
+  said other may = inl (came_to config m client current (Replies other) reached is (done_is m client current current.asked.call other named may))
+
+pub name_calls_answer_one_moment : NameCallsAnswerOneMoment
+name_calls_answer_one_moment config m client current reply reached is named may = said config m client current reached is named reply may
+
+pub opens_find_their_file : OpensFindTheirFile
+opens_find_their_file config m client current fd file reached is may = came_to config m client current (Opens file) reached is may.0

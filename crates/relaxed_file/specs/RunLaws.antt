@@ -1,12 +1,12 @@
 -- What holds in every run of the relaxed-file machine (sections 2.7 and 3).
-use Rattle.std.specs.Prelude.{◌≡◌, ℕ, suc, ◌+◌, ◌-◌, ◌*◌, ◌/◌, ◌<◌, ◌≤◌, ◌⊎◌, nat_lt, List, [], ◌∷◌, ◌++◌, length, flat_map, filter_map, Option, Some, None, IsTrue, IsFalse, IsSomeAnd, MatchBool, Contains, slice_get}
+use Rattle.std.specs.Prelude.{◌≡◌, ◌≢◌, ℕ, suc, ◌+◌, ◌-◌, ◌*◌, ◌/◌, ◌<◌, ◌≤◌, ◌⊎◌, nat_lt, List, [], ◌∷◌, ◌++◌, length, flat_map, filter_map, Option, Some, None, IsTrue, IsFalse, IsSomeAnd, MatchBool, Contains, slice_get}
 use Rattle.std.specs.List.{AllByRecursion}
 use Rattle.gfs_types.specs.declared.call.Call.{Call}
 use Rattle.gfs_types.specs.declared.call.Call.TheVariants as call
 use Rattle.gfs_types.specs.declared.answer.Answer.{Answer}
 use Rattle.gfs_types.specs.declared.answer.Answer.TheVariants as answer
 use Rattle.gfs_types.specs.declared.refusal.Refusal.{Refusal}
-use Rattle.gfs_types.specs.declared.refusal.Refusal.TheVariants.{Collected, NoReplica, Failed, Unknown}
+use Rattle.gfs_types.specs.declared.refusal.Refusal.TheVariants.{Busy, TooLong, BadFd, NamesFull, Collected, NoReplica, Failed, Unknown, NoMemory}
 use Rattle.gfs_types.specs.declared.ids.Fd.{Fd}
 use Rattle.gfs_types.specs.declared.mutation.Mutation.{Mutation}
 use Rattle.gfs_types.specs.declared.mutation.Mutation.TheVariants.{Write, Append, Pad}
@@ -18,12 +18,13 @@ use Rattle.relaxed_file.specs.Names.{IsTree, File, node_at}
 use Rattle.relaxed_file.specs.Order.{CallId, Entry, AreRoundsRising, IsSelection, last_cover, mutations_of}
 use Rattle.relaxed_file.specs.Sources.{sources_of}
 use Rattle.relaxed_file.specs.Parts.{has_part, part_start, part_length, part_bytes}
-use Rattle.relaxed_file.specs.Machine.{Machine, new_machine, Asked, OpenCall, IsOpen, Outcome, Piece, chunk_size, chunk_at, chunk_count}
-use Rattle.relaxed_file.specs.NameStep.{is_look, is_refused}
+use Rattle.relaxed_file.specs.Machine.{Machine, new_machine, Asked, OpenCall, IsOpen, Outcome, Replies, Opens, Piece, chunk_size, chunk_at, chunk_count}
+use Rattle.relaxed_file.specs.NameStep.{is_name_call, is_look, needs_room, refusal_of, outcome_of, is_refused}
+use Rattle.relaxed_file.specs.Locks.{conflict}
 use Rattle.relaxed_file.specs.Chunks.{tries_in}
 use Rattle.relaxed_file.specs.Reads.{IsLook}
-use Rattle.relaxed_file.specs.Answers.{IsSuccess, MayReturn}
-use Rattle.relaxed_file.specs.Run.{Action, Invoke, Return, ReturnFd, Step, Add, OpenRound, CloseRound, Place, Settle, Look, asked_file, Visible, visible, Allows, after, after_all, IsLawful, IsRunTo, LeadsTo, IsReached}
+use Rattle.relaxed_file.specs.Answers.{IsSuccess, is_too_long, MayReturn, MayReturnFd}
+use Rattle.relaxed_file.specs.Run.{Action, Invoke, Return, ReturnFd, Step, Add, OpenRound, CloseRound, Place, Settle, Look, file_of, asked_now, asked_file, Visible, visible, Allows, after, after_all, IsLawful, IsRunTo, LeadsTo, IsReached}
 
 -- A run goes on by an action that its machine allows.
 abbrev pub RunsGoOn : Type 0
@@ -300,3 +301,56 @@ RoundsComeOneByOne =
     (config : Config) (m : Machine) (file index round next : ℕ) (actions : List Action) → IsReached config m → Allows m (OpenRound file index round)
     → IsLawful (after m (OpenRound file index round)) actions → Allows (after_all (after m (OpenRound file index round)) actions) (OpenRound file index next)
     → Contains actions (CloseRound file index) × (round < next)
+
+-- What a name call comes to at a moment: what the names say of it, Busy by another client's snapshot that holds a lock which conflicts, or NamesFull where it needs room and no other refusal holds (section 4.1).
+pub data ComesTo (m : Machine) (client : ℕ) (asked : Call) (outcome : Outcome) : Type 0 where
+  by_names : outcome ≡ outcome_of m.names asked → ComesTo m client asked outcome
+  by_lock : (holder : ℕ) (snapshot : OpenCall) → holder ≢ client → IsOpen m holder snapshot → IsTrue snapshot.has_locks → snapshot.outcomes ≡ []
+      → IsTrue (conflict asked snapshot.asked.call) → outcome ≡ Replies (answer.Refused Busy) → ComesTo m client asked outcome
+  by_room : IsTrue (needs_room asked) → refusal_of m.names asked ≡ None → outcome ≡ Replies (answer.Refused NamesFull) → ComesTo m client asked outcome
+
+-- the call came to it in a state of the run in which the client's open call was the same
+abbrev pub CameTo : Config → Machine → ℕ → Call → Outcome → Type 0
+CameTo config m client asked outcome = (old : Machine) × IsReached config old × LeadsTo old m × IsSameOpen old m client × ComesTo old client asked outcome
+
+-- A name call is answered what it came to at one moment of the call, or Unknown, which tells nothing, or NoMemory.
+abbrev pub NameCallsAnswerOneMoment : Type 0
+NameCallsAnswerOneMoment =
+    (config : Config) (m : Machine) (client : ℕ) (current : OpenCall) (reply : Answer)
+    → IsReached config m → IsOpen m client current → IsTrue (is_name_call current.asked.call) → MayReturn m client current reply
+    → CameTo config m client current.asked.call (Replies reply) ⊎ ((reply ≡ answer.Refused Unknown) ⊎ (reply ≡ answer.Refused NoMemory))
+
+-- Open is answered a descriptor of the file that stood under its name at one moment of the call.
+abbrev pub OpensFindTheirFile : Type 0
+OpensFindTheirFile =
+    (config : Config) (m : Machine) (client : ℕ) (current : OpenCall) (fd file : ℕ)
+    → IsReached config m → IsOpen m client current → MayReturnFd m client current fd file → CameTo config m client current.asked.call (Opens file)
+
+-- the calls that put bytes into a file, and those that ask for what it holds
+abbrev pub Puts : Call → Type 0
+Puts (call.Write fd offset bytes) = Unit {0}
+Puts (call.Append fd bytes) = Unit {0}
+Puts other = ⊥
+
+abbrev pub AsksWhatItHolds : Call → Type 0
+AsksWhatItHolds (call.Read fd offset count) = Unit {0}
+AsksWhatItHolds (call.Length fd) = Unit {0}
+AsksWhatItHolds other = ⊥
+
+-- what a refusal says of a call on a descriptor, from the state in which it was made to the one that answers it
+abbrev pub IsReason : Machine → Machine → ℕ → Call → Refusal → Type 0
+IsReason m n client asked BadFd = file_of (m.clients client) asked ≡ None
+IsReason m n client asked TooLong = (file : ℕ) × (file_of (m.clients client) asked ≡ Some file) × IsTrue (is_too_long (chunk_size n file) (asked_now m client asked).chunks_before asked)
+IsReason m n client asked Collected = (file : ℕ) × (file_of (m.clients client) asked ≡ Some file) × IsTrue (n.files file).is_collected × (Puts asked ⊎ AsksWhatItHolds asked)
+IsReason m n client asked NoReplica = Puts asked ⊎ AsksWhatItHolds asked
+IsReason m n client asked Failed = Puts asked
+IsReason m n client asked Unknown = AsksWhatItHolds asked
+IsReason m n client asked NoMemory = Unit {0}
+IsReason m n client asked other = ⊥
+
+-- A call on a descriptor is refused for a reason: BadFd only where its descriptor was not open when it was made, Collected only for a file that is collected, Failed only where it puts bytes, Unknown only where it asks for what the file holds.
+abbrev pub FileCallsAreRefusedForAReason : Type 0
+FileCallsAreRefusedForAReason =
+    (m : Machine) (client : ℕ) (asked : Call) (actions : List Action) (reason : Refusal)
+    → IsFalse (is_name_call asked) → MayEndIn m client asked actions (answer.Refused reason)
+    → IsReason m (after_all (after m (Invoke client asked)) actions) client asked reason
