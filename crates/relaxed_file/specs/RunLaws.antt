@@ -13,13 +13,13 @@ use Rattle.gfs_types.specs.declared.mutation.Mutation.TheVariants.{Write, Append
 use Rattle.gfs_types.specs.declared.config.Config.{Config}
 use Rattle.gfs_types.specs.Mutations.{start_of, end_of, is_placed_by_system, byte_of}
 use Rattle.gfs_types.specs.Image.{byte_at, image_slice}
-use Rattle.gfs_types.specs.Paths.{hidden_name}
-use Rattle.relaxed_file.specs.Names.{IsTree, File, node_at}
+use Rattle.gfs_types.specs.Paths.{Path, hidden_name}
+use Rattle.relaxed_file.specs.Names.{IsTree, Node, File, node_at}
 use Rattle.relaxed_file.specs.Order.{CallId, Entry, AreRoundsRising, IsSelection, last_cover, mutations_of}
 use Rattle.relaxed_file.specs.Sources.{sources_of}
 use Rattle.relaxed_file.specs.Parts.{has_part, part_start, part_length, part_bytes}
 use Rattle.relaxed_file.specs.Machine.{Machine, new_machine, Asked, OpenCall, IsOpen, Outcome, Replies, Opens, Piece, chunk_size, chunk_at, chunk_count}
-use Rattle.relaxed_file.specs.NameStep.{is_name_call, is_look, needs_room, refusal_of, outcome_of, is_refused}
+use Rattle.relaxed_file.specs.NameStep.{is_in_trash, is_name_call, is_look, needs_room, refusal_of, outcome_of, is_refused}
 use Rattle.relaxed_file.specs.Locks.{conflict}
 use Rattle.relaxed_file.specs.Chunks.{tries_in}
 use Rattle.relaxed_file.specs.Reads.{IsLook}
@@ -354,3 +354,9 @@ FileCallsAreRefusedForAReason =
     (m : Machine) (client : ℕ) (asked : Call) (actions : List Action) (reason : Refusal)
     → IsFalse (is_name_call asked) → MayEndIn m client asked actions (answer.Refused reason)
     → IsReason m (after_all (after m (Invoke client asked)) actions) client asked reason
+
+-- While a name outside the directory of deleted files stands for a directory or a file, no action makes it stand for another: nothing is made, renamed or copied over it (section 4.1).
+abbrev pub NamesAreNotTakenOver : Type 0
+NamesAreNotTakenOver =
+    (config : Config) (m : Machine) (action : Action) (path : Path) (old new : Node) → IsReached config m → Allows m action
+    → IsFalse (is_in_trash path) → node_at m.names path ≡ Some old → node_at (after m action).names path ≡ Some new → new ≡ old
