@@ -46,7 +46,7 @@ place_keeps config m client current file index mutation settings may id below =
     ] refl in
     omega (arith, more, most)
 
-settle_keeps : (id : CallId) (place : ℕ) (order : List Entry) → count_by (is_try id) (settled_at place order) ≡ count_by (is_try id) order
+pub settle_keeps : (id : CallId) (place : ℕ) (order : List Entry) → count_by (is_try id) (settled_at place order) ≡ count_by (is_try id) order
 settle_keeps id place [] = refl
 settle_keeps id zero (e ∷ rest) = tries_cons id (record e { settled = true }) rest ∙ sym (tries_cons id e rest)
 settle_keeps id (suc place) (e ∷ rest) =

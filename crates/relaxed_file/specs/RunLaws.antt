@@ -21,10 +21,10 @@ use Rattle.relaxed_file.specs.Parts.{has_part, part_start, part_length, part_byt
 use Rattle.relaxed_file.specs.Machine.{Machine, new_machine, Asked, OpenCall, IsOpen, Outcome, Replies, Opens, Piece, chunk_size, chunk_at, chunk_count}
 use Rattle.relaxed_file.specs.NameStep.{is_in_trash, is_name_call, is_look, needs_room, refusal_of, outcome_of, is_refused}
 use Rattle.relaxed_file.specs.Locks.{conflict}
-use Rattle.relaxed_file.specs.Chunks.{tries_in}
+use Rattle.relaxed_file.specs.Chunks.{tries_in, tries_below}
 use Rattle.relaxed_file.specs.Reads.{IsLook}
 use Rattle.relaxed_file.specs.Answers.{IsSuccess, is_too_long, MayReturn, MayReturnFd}
-use Rattle.relaxed_file.specs.Run.{Action, Invoke, Return, ReturnFd, Step, Add, OpenRound, CloseRound, Place, Settle, Look, file_of, asked_now, asked_file, Visible, visible, Allows, after, after_all, IsLawful, IsRunTo, LeadsTo, IsReached}
+use Rattle.relaxed_file.specs.Run.{Action, Invoke, Return, ReturnFd, Step, Add, OpenRound, CloseRound, Place, Settle, Tell, Look, file_of, asked_now, asked_file, Visible, visible, Allows, after, after_all, IsLawful, IsRunTo, LeadsTo, IsReached}
 
 -- A run goes on by an action that its machine allows.
 abbrev pub RunsGoOn : Type 0
@@ -295,6 +295,13 @@ abbrev pub TriesAreLimited : Type 0
 TriesAreLimited =
     (config : Config) (m : Machine) → IsReached config m → (id : CallId) (file index : ℕ) → tries_in id (chunk_at m file index) ≤ config.attempts
 
+-- In every run an append has at most so many entries in all chunks of a file, pads aside (section 3.1).
+abbrev pub AppendTriesAreLimited : Type 0
+AppendTriesAreLimited =
+    (config : Config) (m : Machine) (id : CallId) (asked : Asked) (fd : Fd) (bytes : List ℕ) (file : ℕ)
+    → IsReached config m → (m.clients id.client).calls id.number ≡ Some asked → asked.call ≡ call.Append fd bytes
+    → tries_below (m.files file).chunks id (chunk_count m file) ≤ config.attempts
+
 -- Between two rounds of a chunk that open, the first one closes, and the second one has a greater number (section 3.1).
 abbrev pub RoundsComeOneByOne : Type 0
 RoundsComeOneByOne =
@@ -360,3 +367,9 @@ abbrev pub NamesAreNotTakenOver : Type 0
 NamesAreNotTakenOver =
     (config : Config) (m : Machine) (action : Action) (path : Path) (old new : Node) → IsReached config m → Allows m action
     → IsFalse (is_in_trash path) → node_at m.names path ≡ Some old → node_at (after m action).names path ≡ Some new → new ≡ old
+
+-- Once a file is collected, no client is told of its chunks, and it gets no more of them (section 4.4).
+abbrev pub CollectedFilesAreClosed : Type 0
+CollectedFilesAreClosed =
+    (config : Config) (m n : Machine) (file : ℕ) → IsReached config m → LeadsTo m n → IsTrue (m.files file).is_collected
+    → (chunk_count n file ≡ chunk_count m file) × ((client index : ℕ) → Allows n (Tell client file index) → ⊥)
