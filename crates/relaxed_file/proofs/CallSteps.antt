@@ -1,4 +1,4 @@
--- How a client's open call changes by one action: it is made, it ends, or it goes on with the same number, perhaps with one more thing that it was told, that it read or that it came to.
+-- How a client's open call changes by one action: it is made, it ends, or it goes on with the same number, perhaps with one more thing that it was told, that it read, that it came to or that it measured.
 use Rattle.std.proofs.Common.{◌≡◌, ℕ, suc, ◌+◌, ◌*◌, ◌⊎◌, true, false, cond, List, [], ◌∷◌, Option, Some, None, refl, sym, ◌∙◌, ap, subst, inl, inr}
 use Rattle.std.specs.Prelude.{option_map, ◌==◌, IsTrue}
 use Rattle.std.proofs.lemmas.Bool.{cases_eq, false≢true}
@@ -12,7 +12,7 @@ use Rattle.relaxed_file.specs.Machine.{Machine, Client, Asked, OpenCall, IsOpen,
 use Rattle.relaxed_file.specs.NameStep.{performed, is_refused, stepped, with_outcome, is_name_call, needs_room, HasNameStepLeft}
 use Rattle.relaxed_file.specs.Locks.{conflict, MayBeBusy}
 use Rattle.relaxed_file.specs.Chunks.{chunk_added, begun_call, placed, with_entry}
-use Rattle.relaxed_file.specs.Reads.{offer_of, looked, read_slice, MayLook, MayLookPast, MayOffer}
+use Rattle.relaxed_file.specs.Reads.{offer_of, looked, read_slice, MayLook, MayLookPast, MayMeasure, MayMeasureNone, MayOffer}
 use Rattle.relaxed_file.specs.Answers.{returned}
 use Rattle.relaxed_file.specs.Run.{Action, Invoke, Return, ReturnFd, Step, FindBusy, FindFull, Lock, Add, Place, Tell, Note, Look, LookPast, Measure, MeasureNone, Pass, Visible, Called, Answered, Passed, shown, asked_now, Allows, after, asked_file}
 use Rattle.relaxed_file.specs.RunLaws.{ComesTo, by_names, by_lock, by_room}
@@ -38,11 +38,20 @@ GetsOutcome m client c d =
     (d.outcomes ≡ c.outcomes)
     ⊎ (IsTrue (is_name_call c.asked.call) × HasNameStepLeft c × (outcome : Outcome) × ComesTo m client c.asked.call outcome × (d.outcomes ≡ outcome ∷ c.outcomes))
 
+-- where a length came from
+pub data IsLengthOf (m : Machine) (client : ℕ) (c : OpenCall) (found : ℕ) : Type 0 where
+  by_measure : (file index told least last : ℕ) (chosen : List Entry) → MayMeasure m client c file index told least last chosen
+      → found ≡ index * chunk_size m file + image_length (chunk_size m file) (mutations_of chosen) → IsLengthOf m client c found
+  by_no_chunk : MayMeasureNone c → found ≡ 0 → IsLengthOf m client c found
+
+abbrev pub GetsLength : Machine → ℕ → OpenCall → OpenCall → Type 0
+GetsLength m client c d = (d.lengths ≡ c.lengths) ⊎ ((found : ℕ) × IsLengthOf m client c found × (d.lengths ≡ found ∷ c.lengths))
+
 abbrev pub Goes : Machine → ℕ → OpenCall → OpenCall → Type 0
-Goes m client c d = (c.number ≡ d.number) × (c.asked ≡ d.asked) × GetsPiece m client c d × GetsOffer m c d × GetsOutcome m client c d × (IsTrue c.has_begun → IsTrue d.has_begun)
+Goes m client c d = (c.number ≡ d.number) × (c.asked ≡ d.asked) × GetsPiece m client c d × GetsOffer m c d × GetsOutcome m client c d × (IsTrue c.has_begun → IsTrue d.has_begun) × GetsLength m client c d
 
 pub same_call : (m : Machine) (client : ℕ) (c : OpenCall) → Goes m client c c
-same_call m client c = (refl, refl, inl refl, inl refl, inl refl, λ begun. begun)
+same_call m client c = (refl, refl, inl refl, inl refl, inl refl, λ begun. begun, inl refl)
 
 -- the calls that lock a name, and those that need room, are name calls
 conflicts_by_name : (a b : Call) → IsTrue (conflict a b) → IsTrue (is_name_call a)
@@ -110,7 +119,7 @@ module _ (m : Machine) (client : ℕ) where
   goes_on change None keeps = inr (inr (tt, inr (refl, refl)))
   goes_on change (Some c) keeps =
       let goes : Goes m client c (change c) = keeps c refl in
-      inr (inr (tt, inl (c, record (change c) { has_begun = true }, refl, refl, (goes.0, goes.1, goes.2, goes.3, goes.4, λ begun. refl))))
+      inr (inr (tt, inl (c, record (change c) { has_begun = true }, refl, refl, (goes.0, goes.1, goes.2, goes.3, goes.4, λ begun. refl, goes.6))))
 
   -- the open call takes a step that nobody sees
   step_taken : (n : Machine) (who : ℕ) (change : OpenCall → OpenCall) → n.clients ≡ m.clients
@@ -134,6 +143,7 @@ module _ (m : Machine) (client : ℕ) where
         subst (λ (d : OpenCall). GetsOutcome m client d (record d { outcomes = outcome ∷ d.outcomes })) here
             (inr (named, left, outcome, subst (λ k. ComesTo m k current.asked.call outcome) (sym mine) comes, refl)),
         λ begun. begun,
+        inl refl,
       ))
 
   -- the notes change, and then the call takes a step
@@ -153,7 +163,7 @@ module _ (m : Machine) (client : ℕ) where
   begun_step number (Some c) = inr (inr (
     tt,
     inl (elim (c.number == number) as (λ b. IsGoing m client (Some c) (Some (cond b (record c { has_begun = true }) c))) [
-      | true ↦ (c, record c { has_begun = true }, refl, refl, (refl, refl, inl refl, inl refl, inl refl, λ begun. refl))
+      | true ↦ (c, record c { has_begun = true }, refl, refl, (refl, refl, inl refl, inl refl, inl refl, λ begun. refl, inl refl))
       | false ↦ (c, c, refl, refl, same_call m client c)
     ]),
   ))
@@ -188,7 +198,7 @@ module _ (m : Machine) (client : ℕ) where
       (plain_step (with_chunk m f i (with_entry (chunk_at m f i) (record { client = who; number = (a.0).number }) mutation)) who (λ c. c) refl (λ c. same_call m client c))
   call_step (Tell who f i) a = step_taken m who (λ c. record c { offers = offer_of m f i ∷ c.offers }) refl (λ c there mine.
       let same : a.0 ≡ c = from_some (sym a.1 ∙ subst (λ k. (m.clients k).open_call ≡ Some c) mine there) in
-      (refl, refl, inl refl, inr (f, i, subst (λ d. MayOffer m d f) same a.2, refl), inl refl, λ begun. begun))
+      (refl, refl, inl refl, inr (f, i, subst (λ d. MayOffer m d f) same a.2, refl), inl refl, λ begun. begun, inl refl))
   call_step (Note who f i noted count) a = note_taken who (record (m.clients who) { notes = put f (put i (Some noted) ((m.clients who).notes f)) (m.clients who).notes }) refl
   call_step (Look who f i least last chosen) a = at_some (Steps None) (λ current. looked m who current f i least chosen) m _ a.0 a.1
       (step_taken m who (λ c. record c { pieces = record { index = i; bytes = read_slice (chunk_size m f) i (a.0).asked.call chosen; round = Some least } ∷ c.pieces }) refl (λ c there mine.
@@ -204,11 +214,18 @@ module _ (m : Machine) (client : ℕ) where
         inl refl,
         inl refl,
         λ begun. begun,
+        inl refl,
       )))
   call_step (LookPast who i) a = step_taken m who (λ c. record c { pieces = record { index = i; bytes = []; round = None } ∷ c.pieces }) refl (λ c there mine.
       let same : a.0 ≡ c = from_some (sym a.1 ∙ subst (λ k. (m.clients k).open_call ≡ Some c) mine there) in
-      (refl, refl, inr (_, by_none i (subst (λ d. MayLookPast d i) same a.2) refl, refl), inl refl, inl refl, λ begun. begun))
-  call_step (Measure who f i told least last chosen) a = plain_step m who (λ c. record c { lengths = (i * chunk_size m f + image_length (chunk_size m f) (mutations_of chosen)) ∷ c.lengths }) refl (λ c. same_call m client c)
-  call_step (MeasureNone who) a = plain_step m who (λ c. record c { lengths = 0 ∷ c.lengths }) refl (λ c. same_call m client c)
+      (refl, refl, inr (_, by_none i (subst (λ d. MayLookPast d i) same a.2) refl, refl), inl refl, inl refl, λ begun. begun, inl refl))
+  call_step (Measure who f i told least last chosen) a = step_taken m who (λ c. record c { lengths = (i * chunk_size m f + image_length (chunk_size m f) (mutations_of chosen)) ∷ c.lengths }) refl (λ c there mine.
+      let same : a.0 ≡ c = from_some (sym a.1 ∙ subst (λ k. (m.clients k).open_call ≡ Some c) mine there) in
+      let may : MayMeasure m client c f i told least last chosen =
+      subst (λ d. MayMeasure m client d f i told least last chosen) same (subst (λ k. MayMeasure m k a.0 f i told least last chosen) (sym mine) a.2) in
+      (refl, refl, inl refl, inl refl, inl refl, λ begun. begun, inr (_, by_measure f i told least last chosen may refl, refl)))
+  call_step (MeasureNone who) a = step_taken m who (λ c. record c { lengths = 0 ∷ c.lengths }) refl (λ c there mine.
+      let same : a.0 ≡ c = from_some (sym a.1 ∙ subst (λ k. (m.clients k).open_call ≡ Some c) mine there) in
+      (refl, refl, inl refl, inl refl, inl refl, λ begun. begun, inr (_, by_no_chunk (subst MayMeasureNone same a.2) refl, refl)))
   call_step (Pass moment) a = unchanged m client (Some (Passed moment)) old tt
   call_step other a = unchanged m client None old tt

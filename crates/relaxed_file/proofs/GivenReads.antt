@@ -19,11 +19,11 @@ use Rattle.relaxed_file.specs.Reads.{offer_of, read_slice}
 use Rattle.relaxed_file.specs.NameStep.{is_name_call}
 use Rattle.relaxed_file.specs.Answers.{IsDone, ArePieces, IsCause, MayReturn, may_give_up, uses_chunks}
 use Rattle.relaxed_file.specs.Run.{Action, Visible, shown, Allows, after, LeadsTo, IsReached}
-use Rattle.relaxed_file.specs.RunLaws.{IsGiven, WasGiven, WereGiven, ReadsGiveSelections, ComesTo, CameTo, NameCallsAnswerOneMoment, OpensFindTheirFile}
+use Rattle.relaxed_file.specs.RunLaws.{IsGiven, WasGiven, WereGiven, ReadsGiveSelections, IsMeasured, LengthsAreMeasured, ComesTo, CameTo, NameCallsAnswerOneMoment, OpensFindTheirFile}
 use Rattle.relaxed_file.proofs.Tables.{from_some, contained, all_more}
 use Rattle.relaxed_file.proofs.Reached.{leads_on, leads_by, kept_to}
 use Rattle.relaxed_file.proofs.Grows.{grows_step, grows_to, known_when_reached}
-use Rattle.relaxed_file.proofs.CallSteps.{IsPieceOf, by_look, by_none, GetsPiece, GetsOffer, GetsOutcome, Goes, CallStep, call_step}
+use Rattle.relaxed_file.proofs.CallSteps.{IsPieceOf, by_look, by_none, GetsPiece, GetsOffer, GetsOutcome, IsLengthOf, by_measure, by_no_chunk, GetsLength, Goes, CallStep, call_step}
 use Rattle.relaxed_file.proofs.NoteSteps.{NoteStep, WasNoted, note_step}
 use Rattle.relaxed_file.proofs.Effects.{named_not_long}
 use Rattle.relaxed_file.proofs.StaleReads.{offered_there, offered_index}
@@ -36,13 +36,17 @@ abbrev told_round : Offer → ℕ → ℕ
 told_round (Told index round count) other = round
 told_round (NoSuchChunk index) other = other
 
+abbrev told_count : Offer → ℕ → ℕ
+told_count (Told index round count) other = count
+told_count (NoSuchChunk index) other = other
+
 abbrev IsTold : Offer → Type 0
 IsTold (Told index round count) = Unit {0}
 IsTold (NoSuchChunk index) = ⊥
 
 -- what was told is of the chunk that was asked for
-told_of : (index round count i r n : ℕ) (b : Bool) → Told index round count ≡ cond b (Told i r n) (NoSuchChunk i) → (index ≡ i) × (round ≡ r)
-told_of index round count i r n true is = (ap (λ o. told_index o index) is, ap (λ o. told_round o round) is)
+told_of : (index round count i r n : ℕ) (b : Bool) → Told index round count ≡ cond b (Told i r n) (NoSuchChunk i) → (index ≡ i) × (round ≡ r) × (count ≡ n)
+told_of index round count i r n true is = (ap (λ o. told_index o index) is, ap (λ o. told_round o round) is, ap (λ o. told_count o count) is)
 told_of index round count i r n false is = absurd (subst IsTold is tt)
 
 -- what a state gives a read of a chunk
@@ -96,10 +100,28 @@ module _ (config : Config) (client : ℕ) where
     asked_is : call_then.asked ≡ asked
     comes : ComesTo old client call_then.asked.call outcome
 
+  record HasMeasured (m : Machine) (number : ℕ) (asked : Asked) (found : ℕ) : Type 0 where
+    old : Machine
+    new : Machine
+    reached : IsReached config old
+    between : LeadsTo old new
+    way : LeadsTo new m
+    call_old : OpenCall
+    open_old : IsOpen old client call_old
+    number_old : call_old.number ≡ number
+    call_new : OpenCall
+    open_new : IsOpen new client call_new
+    number_new : call_new.number ≡ number
+    asked_is : call_old.asked ≡ asked
+    file : ℕ
+    on : call_old.asked.file ≡ Some file
+    is : IsMeasured old new file found
+
   abbrev CallHolds : Machine → Option OpenCall → Type 0
   CallHolds m None = Unit {0}
   CallHolds m (Some c) =
       AllByRecursion (WasTold m c.number c.asked) c.offers × AllByRecursion (WasRead m c.number c.asked) c.pieces × AllByRecursion (HasCome m c.number c.asked) c.outcomes
+      × AllByRecursion (HasMeasured m c.number c.asked) c.lengths
 
   abbrev NoteHolds : ℕ → Option ℕ → Type 0
   NoteHolds round None = Unit {0}
@@ -120,7 +142,7 @@ module _ (config : Config) (client : ℕ) where
   told_below m c file index round count all on there =
       let was : WasTold m c.number c.asked (Told index round count) = contained (WasTold m c.number c.asked) c.offers (Told index round count) all there in
       let same : was.file ≡ file = from_some (sym was.on ∙ ap (λ (s : Asked). s.file) was.asked_is ∙ on) in
-      let told : (index ≡ was.index) × (round ≡ (chunk_at was.old was.file was.index).round) =
+      let told : (index ≡ was.index) × (round ≡ (chunk_at was.old was.file was.index).round) × (count ≡ chunk_count was.old was.file) =
       told_of index round count was.index (chunk_at was.old was.file was.index).round (chunk_count was.old was.file) (nat_lt was.index (chunk_count was.old was.file)) was.is in
       let rose : (chunk_at was.old was.file was.index).round ≤ (chunk_at m was.file was.index).round =
       (((grows_to was.old m was.way (known_when_reached config was.old was.reached)).files was.file).chunks was.index).round in
@@ -160,6 +182,58 @@ module _ (config : Config) (client : ℕ) where
         file = was.file;
         on = was.on;
         gives = subst (GivesTo was.old was.file (was.call_then).asked.call) (sym is) (nothing_given was.old was.file (was.call_then).asked.call index (omega (arith, same, none)));
+      }
+
+  -- a length that the open call measures
+  length_measured : (m : Machine) (c : OpenCall) (found : ℕ) → IsOpen m client c → AllByRecursion (WasTold m c.number c.asked) c.offers → IsLengthOf m client c found
+      → HasMeasured m c.number c.asked found
+  length_measured m c found is_open all (by_measure file index told least last chosen may is) =
+      let was : WasTold m c.number c.asked (Told index told (suc index)) = contained (WasTold m c.number c.asked) c.offers (Told index told (suc index)) all may.2 in
+      let same : was.file ≡ file = from_some (sym was.on ∙ ap (λ (s : Asked). s.file) was.asked_is ∙ may.0) in
+      let offer : (index ≡ was.index) × (told ≡ (chunk_at was.old was.file was.index).round) × (suc index ≡ chunk_count was.old was.file) =
+      told_of index told (suc index) was.index (chunk_at was.old was.file was.index).round (chunk_count was.old was.file) (nat_lt was.index (chunk_count was.old was.file)) was.is in
+      let round : (chunk_at was.old was.file was.index).round ≡ (chunk_at was.old file index).round =
+      ap (λ f. (chunk_at was.old f was.index).round) same ∙ ap (λ i. (chunk_at was.old file i).round) (sym offer.0) in
+      let count : chunk_count was.old file ≡ suc index = ap (λ f. chunk_count was.old f) (sym same) ∙ sym offer.2 in
+      let below : (chunk_at was.old file index).round ≤ last = omega (arith, round, offer.1, may.3, (may.4).2) in
+      record {
+        old = was.old;
+        new = m;
+        reached = was.reached;
+        between = was.way;
+        way = ([], tt, refl);
+        call_old = was.call_then;
+        open_old = was.open_then;
+        number_old = was.number_is;
+        call_new = c;
+        open_new = is_open;
+        number_new = refl;
+        asked_is = was.asked_is;
+        file = file;
+        on = was.on ∙ ap Some same;
+        is = inr (index, last, chosen, count, below, (may.4).3, is);
+      }
+  length_measured m c found is_open all (by_no_chunk past is) =
+      let was : WasTold m c.number c.asked (NoSuchChunk 0) = contained (WasTold m c.number c.asked) c.offers (NoSuchChunk 0) all past.1 in
+      let same : 0 ≡ was.index = offered_index was.old was.file 0 was.index was.is in
+      let none : chunk_count was.old was.file ≤ was.index = ⊎_elim (λ there. absurd (offered_there was.old was.file 0 was.index there was.is)) (λ l. l) (cases_lt was.index (chunk_count was.old was.file)) in
+      let count : chunk_count was.old was.file ≡ 0 = omega (arith, same, none) in
+      record {
+        old = was.old;
+        new = m;
+        reached = was.reached;
+        between = was.way;
+        way = ([], tt, refl);
+        call_old = was.call_then;
+        open_old = was.open_then;
+        number_old = was.number_is;
+        call_new = c;
+        open_new = is_open;
+        number_new = refl;
+        asked_is = was.asked_is;
+        file = was.file;
+        on = was.on;
+        is = inl (count, is);
       }
 
   module _ (m : Machine) (action : Action) (allowed : Allows m action) (h : Holds m) where
@@ -243,8 +317,33 @@ module _ (config : Config) (client : ℕ) where
       all_more c.outcomes (λ outcome. come_later c d outcome goes) all,
     )
 
+    measured_later : (c d : OpenCall) (found : ℕ) → Goes m client c d → HasMeasured m c.number c.asked found → HasMeasured next d.number d.asked found
+    measured_later c d found goes was = record {
+      old = was.old;
+      new = was.new;
+      reached = was.reached;
+      between = was.between;
+      way = leads_on was.new m next was.way step;
+      call_old = was.call_old;
+      open_old = was.open_old;
+      number_old = was.number_old ∙ goes.0;
+      call_new = was.call_new;
+      open_new = was.open_new;
+      number_new = was.number_new ∙ goes.0;
+      asked_is = was.asked_is ∙ goes.1;
+      file = was.file;
+      on = was.on;
+      is = was.is;
+    }
+
+    lengths_go : (c d : OpenCall) → IsOpen m client c → Goes m client c d → AllByRecursion (WasTold m c.number c.asked) c.offers → GetsLength m client c d
+        → AllByRecursion (HasMeasured m c.number c.asked) c.lengths → AllByRecursion (HasMeasured next d.number d.asked) d.lengths
+    lengths_go c d is goes told (inl kept) all = subst (AllByRecursion (HasMeasured next d.number d.asked)) (sym kept) (all_more c.lengths (λ found. measured_later c d found goes) all)
+    lengths_go c d is goes told (inr more) all = subst (AllByRecursion (HasMeasured next d.number d.asked)) (sym more.2)
+        (measured_later c d more.0 goes (length_measured m c more.0 is told more.1), all_more c.lengths (λ found. measured_later c d found goes) all)
+
     call_goes : (v : Option Visible) → CallStep m client v (m.clients client).open_call (next.clients client).open_call → CallHolds next (next.clients client).open_call
-    call_goes v (inl made) = subst (CallHolds next) (sym made.3) (tt, tt, tt)
+    call_goes v (inl made) = subst (CallHolds next) (sym made.3) (tt, tt, tt, tt)
     call_goes v (inr (inl ended)) = subst (CallHolds next) (sym ended.4) tt
     call_goes v (inr (inr (others, inl going))) =
         let before : CallHolds m (Some going.0) = subst (CallHolds m) going.2 h.call_now in
@@ -252,6 +351,7 @@ module _ (config : Config) (client : ℕ) where
           offers_go going.0 going.1 going.2 going.4 (going.4).3 before.0,
           pieces_go going.0 going.1 going.2 going.4 before.0 (going.4).2 before.1,
           outcomes_go going.0 going.1 going.2 going.4 (going.4).4 before.2,
+          lengths_go going.0 going.1 going.2 going.4 before.0 (going.4).6 before.3,
         )
     call_goes v (inr (inr (others, inr none))) = subst (CallHolds next) (sym none.1) tt
 
@@ -376,3 +476,21 @@ name_calls_answer_one_moment config m client current reply reached is named may 
 
 pub opens_find_their_file : OpensFindTheirFile
 opens_find_their_file config m client current fd file reached is may = came_to config m client current (Opens file) reached is may.0
+
+pub lengths_are_measured : LengthsAreMeasured
+lengths_are_measured config m client file fd found reached a =
+    let current : OpenCall = a.0 in
+    let done : IsDone m client current (call.Length fd) (answer.Length found) = subst (λ c. IsDone m client current c (answer.Length found)) a.3 a.4 in
+    let h : Holds config client m = holds_then config client m reached in
+    let now : CallHolds config client m (Some current) = subst (CallHolds config client m) a.1 h.call_now in
+    let was : HasMeasured config client m current.number current.asked found = contained (HasMeasured config client m current.number current.asked) current.lengths found now.3 done in
+    let same : was.file ≡ file = from_some (sym was.on ∙ ap (λ (s : Asked). s.file) was.asked_is ∙ a.2) in (
+      was.old,
+      was.new,
+      was.reached,
+      was.between,
+      was.way,
+      (was.call_old, current, was.open_old, a.1, was.number_old),
+      (was.call_new, current, was.open_new, a.1, was.number_new),
+      subst (λ f. IsMeasured was.old was.new f found) same was.is,
+    )

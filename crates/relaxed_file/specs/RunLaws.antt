@@ -12,7 +12,7 @@ use Rattle.gfs_types.specs.declared.mutation.Mutation.{Mutation}
 use Rattle.gfs_types.specs.declared.mutation.Mutation.TheVariants.{Write, Append, Pad}
 use Rattle.gfs_types.specs.declared.config.Config.{Config}
 use Rattle.gfs_types.specs.Mutations.{start_of, end_of, is_placed_by_system, byte_of}
-use Rattle.gfs_types.specs.Image.{byte_at, image_slice}
+use Rattle.gfs_types.specs.Image.{byte_at, image_length, image_slice}
 use Rattle.gfs_types.specs.Paths.{Path, hidden_name}
 use Rattle.relaxed_file.specs.Names.{IsTree, Node, File, node_at}
 use Rattle.relaxed_file.specs.Order.{CallId, Entry, AreRoundsRising, IsSelection, last_cover, mutations_of}
@@ -373,3 +373,16 @@ abbrev pub CollectedFilesAreClosed : Type 0
 CollectedFilesAreClosed =
     (config : Config) (m n : Machine) (file : ℕ) → IsReached config m → LeadsTo m n → IsTrue (m.files file).is_collected
     → (chunk_count n file ≡ chunk_count m file) × ((client index : ℕ) → Allows n (Tell client file index) → ⊥)
+
+-- What a Length call finds: at one moment that the file has no chunk, or which chunk is the last; and then, at that moment or a later one, where a selection of that chunk ends, in which nothing is left out that is settled up to the chunk's round of the first moment.
+abbrev pub IsMeasured : Machine → Machine → ℕ → ℕ → Type 0
+IsMeasured old new file found =
+    ((chunk_count old file ≡ 0) × (found ≡ 0))
+    ⊎ ((index : ℕ) × (last : ℕ) × (chosen : List Entry) × (chunk_count old file ≡ suc index) × ((chunk_at old file index).round ≤ last)
+    × IsSelection last (chunk_at new file index).order chosen × (found ≡ index * chunk_size new file + image_length (chunk_size new file) (mutations_of chosen)))
+
+-- Length is answered what it found at moments of the call (sections 2.4 and 2.7.1).
+abbrev pub LengthsAreMeasured : Type 0
+LengthsAreMeasured =
+    (config : Config) (m : Machine) (client file : ℕ) (fd : Fd) (found : ℕ) → IsReached config m → MayAnswer m client file (call.Length fd) (answer.Length found)
+    → (old : Machine) × (new : Machine) × IsReached config old × LeadsTo old new × LeadsTo new m × IsSameOpen old m client × IsSameOpen new m client × IsMeasured old new file found
