@@ -13,7 +13,7 @@ use Rattle.relaxed_file.specs.Names.{Node, Dir, File, copied_entries, id_after}
 use Rattle.relaxed_file.specs.Order.{CallId, same_call, Entry}
 use Rattle.relaxed_file.specs.Machine.{Machine, FileState, Chunk, new_chunk, new_file, new_machine, Asked, OpenCall, IsOpen, chunk_at, chunk_count, put, with_chunk}
 use Rattle.relaxed_file.specs.NameStep.{performed, is_refused, stepped, with_outcome, with_copied_file, with_copied_files}
-use Rattle.relaxed_file.specs.Chunks.{AsksFor, MayPlace, tries_in, tries_below, chunk_added, placed, with_entry, settled_at}
+use Rattle.relaxed_file.specs.Chunks.{AsksFor, MayPlace, tries_in, tries_below, chunk_added, placed, with_entry}
 use Rattle.relaxed_file.specs.Answers.{returned}
 use Rattle.relaxed_file.specs.Reads.{looked}
 use Rattle.relaxed_file.specs.Run.{Action, Return, Step, Expire, Add, OpenRound, CloseRound, Place, Settle, Look, Allows, after, asked_file}

@@ -10,7 +10,7 @@ use Rattle.gfs_types.specs.Image.{image_length}
 use Rattle.relaxed_file.specs.Order.{Entry, mutations_of}
 use Rattle.relaxed_file.specs.Machine.{Machine, Client, Asked, OpenCall, IsOpen, Outcome, Piece, chunk_at, chunk_size, put, with_client, with_step, with_chunk}
 use Rattle.relaxed_file.specs.NameStep.{performed, is_refused, stepped, with_outcome, is_name_call, needs_room, HasNameStepLeft}
-use Rattle.relaxed_file.specs.Locks.{conflict, MayBeBusy}
+use Rattle.relaxed_file.specs.Locks.{is_snapshot, conflict, MayBeBusy}
 use Rattle.relaxed_file.specs.Chunks.{chunk_added, begun_call, placed, with_entry}
 use Rattle.relaxed_file.specs.Reads.{offer_of, looked, read_slice, MayLook, MayLookPast, MayMeasure, MayMeasureNone, MayOffer}
 use Rattle.relaxed_file.specs.Answers.{returned}
@@ -47,11 +47,15 @@ pub data IsLengthOf (m : Machine) (client : ℕ) (c : OpenCall) (found : ℕ) : 
 abbrev pub GetsLength : Machine → ℕ → OpenCall → OpenCall → Type 0
 GetsLength m client c d = (d.lengths ≡ c.lengths) ⊎ ((found : ℕ) × IsLengthOf m client c found × (d.lengths ≡ found ∷ c.lengths))
 
+-- only a snapshot gets locks
+abbrev pub GetsLocks : OpenCall → OpenCall → Type 0
+GetsLocks c d = (d.has_locks ≡ c.has_locks) ⊎ IsTrue (is_snapshot c.asked.call)
+
 abbrev pub Goes : Machine → ℕ → OpenCall → OpenCall → Type 0
-Goes m client c d = (c.number ≡ d.number) × (c.asked ≡ d.asked) × GetsPiece m client c d × GetsOffer m c d × GetsOutcome m client c d × (IsTrue c.has_begun → IsTrue d.has_begun) × GetsLength m client c d
+Goes m client c d = (c.number ≡ d.number) × (c.asked ≡ d.asked) × GetsPiece m client c d × GetsOffer m c d × GetsOutcome m client c d × (IsTrue c.has_begun → IsTrue d.has_begun) × GetsLength m client c d × GetsLocks c d
 
 pub same_call : (m : Machine) (client : ℕ) (c : OpenCall) → Goes m client c c
-same_call m client c = (refl, refl, inl refl, inl refl, inl refl, λ begun. begun, inl refl)
+same_call m client c = (refl, refl, inl refl, inl refl, inl refl, λ begun. begun, inl refl, inl refl)
 
 -- the calls that lock a name, and those that need room, are name calls
 conflicts_by_name : (a b : Call) → IsTrue (conflict a b) → IsTrue (is_name_call a)
@@ -119,7 +123,7 @@ module _ (m : Machine) (client : ℕ) where
   goes_on change None keeps = inr (inr (tt, inr (refl, refl)))
   goes_on change (Some c) keeps =
       let goes : Goes m client c (change c) = keeps c refl in
-      inr (inr (tt, inl (c, record (change c) { has_begun = true }, refl, refl, (goes.0, goes.1, goes.2, goes.3, goes.4, λ begun. refl, goes.6))))
+      inr (inr (tt, inl (c, record (change c) { has_begun = true }, refl, refl, (goes.0, goes.1, goes.2, goes.3, goes.4, λ begun. refl, goes.6, goes.7))))
 
   -- the open call takes a step that nobody sees
   step_taken : (n : Machine) (who : ℕ) (change : OpenCall → OpenCall) → n.clients ≡ m.clients
@@ -144,6 +148,7 @@ module _ (m : Machine) (client : ℕ) where
             (inr (named, left, outcome, subst (λ k. ComesTo m k current.asked.call outcome) (sym mine) comes, refl)),
         λ begun. begun,
         inl refl,
+        inl refl,
       ))
 
   -- the notes change, and then the call takes a step
@@ -163,7 +168,7 @@ module _ (m : Machine) (client : ℕ) where
   begun_step number (Some c) = inr (inr (
     tt,
     inl (elim (c.number == number) as (λ b. IsGoing m client (Some c) (Some (cond b (record c { has_begun = true }) c))) [
-      | true ↦ (c, record c { has_begun = true }, refl, refl, (refl, refl, inl refl, inl refl, inl refl, λ begun. refl, inl refl))
+      | true ↦ (c, record c { has_begun = true }, refl, refl, (refl, refl, inl refl, inl refl, inl refl, λ begun. refl, inl refl, inl refl))
       | false ↦ (c, c, refl, refl, same_call m client c)
     ]),
   ))
@@ -190,7 +195,9 @@ module _ (m : Machine) (client : ℕ) where
       let busy : MayBeBusy who a.0 holder (a.2).0 = (a.2).2 in
       outcome_taken m who _ a.0 refl a.1 (conflicts_by_name (a.0).asked.call ((a.2).0).asked.call busy.5) busy.1 (by_lock holder (a.2).0 busy.0 (a.2).1 busy.2 busy.3 busy.5 refl)
   call_step (FindFull who) a = outcome_taken m who _ a.0 refl a.1 (room_by_name (a.0).asked.call (a.2).0) (a.2).1 (by_room (a.2).0 (a.2).2 refl)
-  call_step (Lock who) a = plain_step m who (λ current. record current { has_locks = true }) refl (λ c. same_call m client c)
+  call_step (Lock who) a = step_taken m who (λ current. record current { has_locks = true }) refl (λ c there mine.
+      let same : a.0 ≡ c = from_some (sym a.1 ∙ subst (λ k. (m.clients k).open_call ≡ Some c) mine there) in
+      (refl, refl, inl refl, inl refl, inl refl, λ begun. begun, inl refl, inr (subst (λ (d : OpenCall). IsTrue (is_snapshot d.asked.call)) same (a.2).0)))
   call_step (Add id) a = at_some (Steps None) (chunk_added m id) m (asked_file m id) a.1 (asked_is m id a.0 a.1 a.2.0 a.2.1)
       (changed m None id.client _ refl (λ other. tt) (λ mine.
       subst (λ k. CallStep m client None old (begun_call id.number (m.clients k).open_call)) mine (begun_step id.number old)))
@@ -198,7 +205,7 @@ module _ (m : Machine) (client : ℕ) where
       (plain_step (with_chunk m f i (with_entry (chunk_at m f i) (record { client = who; number = (a.0).number }) mutation)) who (λ c. c) refl (λ c. same_call m client c))
   call_step (Tell who f i) a = step_taken m who (λ c. record c { offers = offer_of m f i ∷ c.offers }) refl (λ c there mine.
       let same : a.0 ≡ c = from_some (sym a.1 ∙ subst (λ k. (m.clients k).open_call ≡ Some c) mine there) in
-      (refl, refl, inl refl, inr (f, i, subst (λ d. MayOffer m d f) same a.2, refl), inl refl, λ begun. begun, inl refl))
+      (refl, refl, inl refl, inr (f, i, subst (λ d. MayOffer m d f) same a.2, refl), inl refl, λ begun. begun, inl refl, inl refl))
   call_step (Note who f i noted count) a = note_taken who (record (m.clients who) { notes = put f (put i (Some noted) ((m.clients who).notes f)) (m.clients who).notes }) refl
   call_step (Look who f i least last chosen) a = at_some (Steps None) (λ current. looked m who current f i least chosen) m _ a.0 a.1
       (step_taken m who (λ c. record c { pieces = record { index = i; bytes = read_slice (chunk_size m f) i (a.0).asked.call chosen; round = Some least } ∷ c.pieces }) refl (λ c there mine.
@@ -215,17 +222,18 @@ module _ (m : Machine) (client : ℕ) where
         inl refl,
         λ begun. begun,
         inl refl,
+        inl refl,
       )))
   call_step (LookPast who i) a = step_taken m who (λ c. record c { pieces = record { index = i; bytes = []; round = None } ∷ c.pieces }) refl (λ c there mine.
       let same : a.0 ≡ c = from_some (sym a.1 ∙ subst (λ k. (m.clients k).open_call ≡ Some c) mine there) in
-      (refl, refl, inr (_, by_none i (subst (λ d. MayLookPast d i) same a.2) refl, refl), inl refl, inl refl, λ begun. begun, inl refl))
+      (refl, refl, inr (_, by_none i (subst (λ d. MayLookPast d i) same a.2) refl, refl), inl refl, inl refl, λ begun. begun, inl refl, inl refl))
   call_step (Measure who f i told least last chosen) a = step_taken m who (λ c. record c { lengths = (i * chunk_size m f + image_length (chunk_size m f) (mutations_of chosen)) ∷ c.lengths }) refl (λ c there mine.
       let same : a.0 ≡ c = from_some (sym a.1 ∙ subst (λ k. (m.clients k).open_call ≡ Some c) mine there) in
       let may : MayMeasure m client c f i told least last chosen =
       subst (λ d. MayMeasure m client d f i told least last chosen) same (subst (λ k. MayMeasure m k a.0 f i told least last chosen) (sym mine) a.2) in
-      (refl, refl, inl refl, inl refl, inl refl, λ begun. begun, inr (_, by_measure f i told least last chosen may refl, refl)))
+      (refl, refl, inl refl, inl refl, inl refl, λ begun. begun, inr (_, by_measure f i told least last chosen may refl, refl), inl refl))
   call_step (MeasureNone who) a = step_taken m who (λ c. record c { lengths = 0 ∷ c.lengths }) refl (λ c there mine.
       let same : a.0 ≡ c = from_some (sym a.1 ∙ subst (λ k. (m.clients k).open_call ≡ Some c) mine there) in
-      (refl, refl, inl refl, inl refl, inl refl, λ begun. begun, inr (_, by_no_chunk (subst MayMeasureNone same a.2) refl, refl)))
+      (refl, refl, inl refl, inl refl, inl refl, λ begun. begun, inr (_, by_no_chunk (subst MayMeasureNone same a.2) refl, refl), inl refl))
   call_step (Pass moment) a = unchanged m client (Some (Passed moment)) old tt
   call_step other a = unchanged m client None old tt

@@ -1,6 +1,6 @@
 -- An effect of a call leaves a mark until the answer, beside which no refusal stands that denies it.
-use Rattle.std.proofs.Common.{◌≡◌, ℕ, zero, suc, ◌+◌, ◌*◌, ◌/◌, ◌<◌, ◌≤◌, ◌⊎◌, Bool, true, false, cond, List, [], ◌∷◌, length, Option, Some, None, refl, sym, ◌∙◌, ap, subst, inl, inr, arith}
-use Rattle.std.specs.Prelude.{IsTrue, IsFalse, Contains, option_map, nat_lt}
+use Rattle.std.proofs.Common.{◌≡◌, ℕ, zero, ◌+◌, ◌*◌, ◌/◌, ◌<◌, ◌≤◌, ◌⊎◌, true, false, cond, List, [], ◌∷◌, length, Option, Some, refl, sym, ◌∙◌, ap, subst, inl, inr, arith}
+use Rattle.std.specs.Prelude.{IsTrue, IsFalse, option_map}
 use Rattle.std.specs.List.{AllByRecursion}
 use Rattle.std.proofs.lemmas.Bool.{true≢false, false≢true, ltb-true}
 use Rattle.std.proofs.lemmas.Option.{none-some}
@@ -15,13 +15,13 @@ use Rattle.gfs_types.specs.declared.config.Config.{Config}
 use Rattle.gfs_types.specs.declared.mutation.Mutation.{Mutation}
 use Rattle.gfs_types.specs.declared.mutation.Mutation.TheVariants.{Write, Append, Pad}
 use Rattle.gfs_types.specs.Mutations.{is_pad}
-use Rattle.relaxed_file.specs.Order.{CallId, Entry}
+use Rattle.relaxed_file.specs.Order.{CallId}
 use Rattle.relaxed_file.specs.Machine.{Machine, FileState, Chunk, Client, OpenCall, IsOpen, Outcome, Replies, chunk_at, chunk_count, chunk_size, put, with_step, with_chunk}
 use Rattle.relaxed_file.specs.NameStep.{performed, is_refused, stepped, with_outcome, is_name_call, is_look, HasNameStepLeft}
 use Rattle.relaxed_file.specs.Chunks.{AsksFor, placed, with_entry, tries_in, tries_below}
-use Rattle.relaxed_file.specs.Answers.{IsCause, MayReturn, may_give_up, is_too_long, uses_chunks}
-use Rattle.relaxed_file.specs.Run.{Action, Invoke, Return, ReturnFd, Step, Place, Pass, Visible, Answered, shown, Allows, after, after_all, IsLawful, asked_now}
-use Rattle.relaxed_file.specs.RunLaws.{IsAnswerTo, IsEffectFor, DeniesNothing, RefusedCallsHadNoEffect, NameStepsComeOnce, Puts, AsksWhatItHolds, IsReason, MayEndIn, FileCallsAreRefusedForAReason}
+use Rattle.relaxed_file.specs.Answers.{IsCause, MayReturn, may_give_up, is_too_long}
+use Rattle.relaxed_file.specs.Run.{Action, Invoke, Return, ReturnFd, Step, Place, Pass, Answered, shown, Allows, after, after_all, IsLawful, asked_now}
+use Rattle.relaxed_file.specs.RunLaws.{IsAnswerTo, IsEffectFor, DeniesNothing, RefusedCallsHadNoEffect, NameStepsComeOnce}
 use Rattle.relaxed_file.proofs.Tables.{put_same, at_some, contained, from_some}
 use Rattle.relaxed_file.proofs.Known.{Known, known_step}
 use Rattle.relaxed_file.proofs.Grows.{Grows, grows_step, known_when_reached}
@@ -104,7 +104,7 @@ abbrev IsMarked : Machine → ℕ → Type 0
 IsMarked m client = (c : OpenCall) × IsOpen m client c × IsMark m client c
 
 -- a call that is no name call has come to nothing
-abbrev IsPlain : OpenCall → Type 0
+abbrev pub IsPlain : OpenCall → Type 0
 IsPlain c = IsFalse (is_name_call c.asked.call) → c.outcomes ≡ []
 
 step_mark_goes : (m : Machine) (client : ℕ) (c d : OpenCall) → c.asked ≡ d.asked → GetsOutcome m client c d → IsStepMark c → IsStepMark d
@@ -140,7 +140,7 @@ mark_goes : (m n : Machine) (client : ℕ) (c d : OpenCall) → Grows m n → Go
 mark_goes m n client c d g goes (begins, inl h) = (goes.5 begins, inl (step_mark_goes m client c d goes.1 goes.4 h))
 mark_goes m n client c d g goes (begins, inr h) = (goes.5 begins, inr (place_mark_goes m n client c d g goes.0 goes.1 goes.4 h))
 
-plain_goes : (m : Machine) (client : ℕ) (c d : OpenCall) → c.asked ≡ d.asked → GetsOutcome m client c d → IsPlain c → IsPlain d
+pub plain_goes : (m : Machine) (client : ℕ) (c d : OpenCall) → c.asked ≡ d.asked → GetsOutcome m client c d → IsPlain c → IsPlain d
 plain_goes m client c d same (inl kept) plain = λ unnamed. kept ∙ plain (subst (λ a. IsFalse (is_name_call a.call)) (sym same) unnamed)
 plain_goes m client c d same (inr more) plain = λ unnamed. absurd (true≢false (sym more.0 ∙ subst (λ a. IsFalse (is_name_call a.call)) (sym same) unnamed))
 
@@ -153,10 +153,10 @@ answers_to (Pass moment) client reply is = absurd (passed_not moment client repl
 answers_to other client reply is = absurd (none-some _ is)
 
 -- an open call goes on until it is answered
-abbrev GoesOn : Machine → Machine → ℕ → OpenCall → Type 0
+abbrev pub GoesOn : Machine → Machine → ℕ → OpenCall → Type 0
 GoesOn m n client c = (d : OpenCall) × IsOpen n client d × Goes m client c d
 
-goes_on : (m : Machine) (action : Action) (client : ℕ) (c : OpenCall) → Allows m action → (IsAnswerTo client action → ⊥) → IsOpen m client c → GoesOn m (after m action) client c
+pub goes_on : (m : Machine) (action : Action) (client : ℕ) (c : OpenCall) → Allows m action → (IsAnswerTo client action → ⊥) → IsOpen m client c → GoesOn m (after m action) client c
 goes_on m action client c allowed unanswered is = by_kind (call_step m client action allowed)
   where
     by_kind : CallStep m client (shown action) (m.clients client).open_call ((after m action).clients client).open_call → GoesOn m (after m action) client c
@@ -270,7 +270,7 @@ marks m (Place who file index mutation) client c a known is plain no_look effect
     subst (IsMarked (after m (Place who file index mutation))) effect (place_marks m who file index mutation c a known (subst (λ k. IsOpen m k c) (sym effect) is) plain)
 marks m other client c a known is plain no_look effect = absurd effect
 
-abbrev Unanswered : ℕ → List Action → Type 0
+abbrev pub Unanswered : ℕ → List Action → Type 0
 Unanswered client actions = AllByRecursion (λ action. IsAnswerTo client action → ⊥) actions
 
 module _ (client : ℕ) (reason : Refusal) (denies : DeniesNothing reason → ⊥) where
@@ -321,74 +321,3 @@ name_steps_come_once m client moment again outcome other actions a runs b =
     looks : (d : OpenCall) → 0 < length d.outcomes → (a.0).asked ≡ d.asked → HasNameStepLeft d → IsTrue (is_look (a.0).asked.call)
     looks d some same (inl look) = subst (λ s. IsTrue (is_look s.call)) (sym same) look
     looks d some same (inr none) = let empty : length d.outcomes ≡ 0 = ap (λ (o : List Outcome). length o) none in absurd (omega (arith, some, empty))
-
--- a call on a descriptor comes to nothing until its answer
-still_plain : (m : Machine) (actions : List Action) (client : ℕ) (c : OpenCall) → IsLawful m actions → Unanswered client actions → IsOpen m client c → IsPlain c
-    → (d : OpenCall) × IsOpen (after_all m actions) client d × (c.asked ≡ d.asked) × IsPlain d
-still_plain m [] client c lawful others is plain = (c, is, refl, plain)
-still_plain m (x ∷ xs) client c lawful others is plain =
-    let on : GoesOn m (after m x) client c = goes_on m x client c lawful.0 others.0 is in
-    let rest = still_plain (after m x) xs client on.0 lawful.1 others.1 on.1 (plain_goes m client c on.0 (on.2).1 (on.2).4 plain) in
-    (rest.0, rest.1, (on.2).1 ∙ rest.2, rest.3)
-
--- a refusal that a call on a descriptor may give up with
-given_up : (m n : Machine) (client : ℕ) (c : Call) (reason : Refusal) → IsFalse (is_name_call c) → IsTrue (may_give_up c reason) → IsReason m n client c reason
-given_up m n client (call.Close fd) reason unnamed h = absurd (false≢true h)
-given_up m n client (call.Length fd) NoReplica unnamed h = inr tt
-given_up m n client (call.Length fd) Unknown unnamed h = tt
-given_up m n client (call.Length fd) other unnamed h = absurd (false≢true h)
-given_up m n client (call.Read fd offset count) NoReplica unnamed h = inr tt
-given_up m n client (call.Read fd offset count) Unknown unnamed h = tt
-given_up m n client (call.Read fd offset count) other unnamed h = absurd (false≢true h)
-given_up m n client (call.Write fd offset bytes) NoReplica unnamed h = inl tt
-given_up m n client (call.Write fd offset bytes) Failed unnamed h = tt
-given_up m n client (call.Write fd offset bytes) other unnamed h = absurd (false≢true h)
-given_up m n client (call.Append fd bytes) NoReplica unnamed h = inl tt
-given_up m n client (call.Append fd bytes) Failed unnamed h = tt
-given_up m n client (call.Append fd bytes) other unnamed h = absurd (false≢true h)
-given_up m n client name_call reason unnamed h = absurd (true≢false unnamed)
-
-uses_bytes : (c : Call) → IsTrue (uses_chunks c) → Puts c ⊎ AsksWhatItHolds c
-uses_bytes (call.Length fd) h = inr tt
-uses_bytes (call.Read fd offset count) h = inr tt
-uses_bytes (call.Write fd offset bytes) h = inl tt
-uses_bytes (call.Append fd bytes) h = inl tt
-uses_bytes other h = absurd (false≢true h)
-
--- a refusal with a cause of its own, of a call that was made so
-causes : (m n : Machine) (client : ℕ) (asked : Call) (c : OpenCall) (reason : Refusal) → asked_now m client asked ≡ c.asked → IsCause n client c reason → IsReason m n client asked reason
-causes m n client asked c BadFd same cause = ap (λ a. a.file) same ∙ cause.1
-causes m n client asked c TooLong same cause = (
-  cause.0,
-  ap (λ a. a.file) same ∙ cause.1,
-  subst (λ a. IsTrue (is_too_long (chunk_size n cause.0) a.chunks_before a.call)) (sym same) cause.2,
-)
-causes m n client asked c Collected same cause = (
-  cause.0,
-  ap (λ a. a.file) same ∙ cause.1,
-  cause.2,
-  uses_bytes asked (subst (λ a. IsTrue (uses_chunks a.call)) (sym same) cause.3),
-)
-causes m n client asked c NoMemory same cause = tt
-causes m n client asked c other same cause = absurd cause
-
-module _ (m : Machine) (client : ℕ) (asked : Call) (actions : List Action) (reason : Refusal) (unnamed : IsFalse (is_name_call asked)) (ends : MayEndIn m client asked actions (answer.Refused reason)) where
-  abbrev end : Machine
-  end = after_all (after m (Invoke client asked)) actions
-
-  later : (d : OpenCall) × IsOpen end client d × (asked_now m client asked ≡ d.asked) × IsPlain d
-  later = still_plain (after m (Invoke client asked)) actions client (fresh_call (m.clients client) (asked_now m client asked)) (ends.1).0 (ends.1).1
-      (made_by_call m (Invoke client asked) client asked ends.0 refl) (λ h. refl)
-
-  by_kind : MayReturn end client later.0 (answer.Refused reason) → IsReason m end client asked reason
-  by_kind (inl came) =
-      let none : (later.0).outcomes ≡ [] = later.3 (subst (λ a. IsFalse (is_name_call a.call)) later.2 unnamed) in
-      absurd (contained (λ o. ⊥) [] (Replies (answer.Refused reason)) tt (subst (λ (o : List Outcome). Contains o (Replies (answer.Refused reason))) none came))
-  by_kind (inr (inl gives)) = given_up m end client asked reason unnamed (subst (λ a. IsTrue (may_give_up a.call reason)) (sym later.2) gives)
-  by_kind (inr (inr cause)) = causes m end client asked later.0 reason later.2 cause
-
-  reason_is : IsReason m end client asked reason
-  reason_is = by_kind (subst (λ d. MayReturn end client d (answer.Refused reason)) (from_some (sym (ends.2).1 ∙ later.1)) (ends.2).2)
-
-pub file_calls_are_refused_for_a_reason : FileCallsAreRefusedForAReason
-file_calls_are_refused_for_a_reason m client asked actions reason unnamed ends = reason_is m client asked actions reason unnamed ends

@@ -1,9 +1,8 @@
 -- An answer is what states during the call gave: what the call was told, what it read and what it came to is from them, and no note is past the last opened round.
-use Rattle.std.proofs.Common.{◌≡◌, ℕ, suc, ◌/◌, ◌<◌, ◌≤◌, Bool, true, false, cond, List, [], ◌∷◌, length, Option, Some, None, refl, sym, ◌∙◌, ap, subst, inl, inr, ⊎_elim, arith}
-use Rattle.std.specs.Prelude.{◌⊎◌, Contains, MatchBool, nat_lt, IsTrue, IsFalse}
+use Rattle.std.proofs.Common.{◌≡◌, ℕ, suc, ◌/◌, ◌≤◌, Bool, true, false, cond, List, [], ◌∷◌, length, Option, Some, None, refl, sym, ◌∙◌, ap, subst, inl, inr, ⊎_elim, arith}
+use Rattle.std.specs.Prelude.{◌⊎◌, Contains, MatchBool, nat_lt, IsTrue}
 use Rattle.std.specs.List.{AllByRecursion}
 use Rattle.std.proofs.lemmas.Bool.{cases_lt, true≢false, false≢true}
-use Rattle.std.proofs.lemmas.Option.{none-some}
 use Rattle.gfs_types.specs.declared.call.Call.{Call}
 use Rattle.gfs_types.specs.declared.call.Call.TheVariants as call
 use Rattle.gfs_types.specs.declared.answer.Answer.{Answer}
@@ -24,7 +23,7 @@ use Rattle.relaxed_file.proofs.Tables.{from_some, contained, all_more}
 use Rattle.relaxed_file.proofs.Reached.{leads_on, leads_by, kept_to}
 use Rattle.relaxed_file.proofs.Grows.{grows_step, grows_to, known_when_reached}
 use Rattle.relaxed_file.proofs.CallSteps.{IsPieceOf, by_look, by_none, GetsPiece, GetsOffer, GetsOutcome, IsLengthOf, by_measure, by_no_chunk, GetsLength, Goes, CallStep, call_step}
-use Rattle.relaxed_file.proofs.NoteSteps.{NoteStep, WasNoted, note_step}
+use Rattle.relaxed_file.proofs.NoteSteps.{NoteStep, note_step}
 use Rattle.relaxed_file.proofs.Effects.{named_not_long}
 use Rattle.relaxed_file.proofs.StaleReads.{offered_there, offered_index}
 

@@ -9,7 +9,7 @@ use Rattle.gfs_types.specs.declared.mutation.Mutation.{Mutation}
 use Rattle.gfs_types.specs.declared.mutation.Mutation.TheVariants.{Write, Append, Pad}
 use Rattle.gfs_types.specs.Mutations.{is_pad}
 use Rattle.relaxed_file.specs.Order.{CallId, same_call, Entry}
-use Rattle.relaxed_file.specs.Machine.{Machine, Chunk, OpenCall, chunk_at, chunk_count}
+use Rattle.relaxed_file.specs.Machine.{Machine, OpenCall, chunk_at, chunk_count}
 use Rattle.relaxed_file.specs.Chunks.{AsksFor, MayPlace, tries_in, tries_below, with_entry, settled_at}
 use Rattle.relaxed_file.specs.RunLaws.{TriesAreLimited}
 use Rattle.relaxed_file.proofs.ChunkSteps.{every_chunk}

@@ -1,5 +1,5 @@
 -- While a name outside the directory of deleted files stands for something, no action makes it stand for something else.
-use Rattle.std.proofs.Common.{◌≡◌, ℕ, suc, ⊎_elim, true, false, cond, ◌++◌, Option, Some, None, refl, sym, ◌∙◌, ap, subst}
+use Rattle.std.proofs.Common.{◌≡◌, ℕ, suc, ⊎_elim, true, false, cond, ◌++◌, Option, Some, None, refl, sym, ◌∙◌, ap}
 use Rattle.std.specs.Prelude.{IsFalse, is_some}
 use Rattle.std.specs.FinMap as map
 use Rattle.std.proofs.lemmas.Bool.{true≢false}

@@ -1,13 +1,12 @@
 -- How many entries of a call stand in the chunks of a file: a try adds one, and no step takes one away.
-use Rattle.std.proofs.Common.{◌≡◌, ℕ, zero, suc, ◌+◌, ◌<◌, ◌≤◌, Bool, true, false, cond, List, [], ◌∷◌, ◌++◌, refl, sym, ◌∙◌, ap, subst, ⊎_elim, arith}
+use Rattle.std.proofs.Common.{◌≡◌, ℕ, zero, suc, ◌+◌, ◌<◌, ◌≤◌, Bool, cond, List, [], ◌∷◌, ◌++◌, refl, ◌∙◌, ap, subst, ⊎_elim, arith}
 use Rattle.std.specs.Prelude.{◌&&◌, ◌==◌, not, count_by, IsTrue, IsFalse}
 use Rattle.std.proofs.lemmas.Bool.{cases_lt, eq-eqb}
 use Rattle.std.proofs.lemmas.List.Sums.{sum_by-cons, sum_by_push}
-use Rattle.gfs_types.specs.declared.mutation.Mutation.{Mutation}
 use Rattle.gfs_types.specs.Mutations.{is_pad}
 use Rattle.relaxed_file.specs.Order.{CallId, same_call, Entry}
-use Rattle.relaxed_file.specs.Machine.{Machine, FileState, Chunk, chunk_at, chunk_count}
-use Rattle.relaxed_file.specs.Chunks.{tries_in, tries_below, with_entry, settled_at}
+use Rattle.relaxed_file.specs.Machine.{Machine, Chunk, chunk_count}
+use Rattle.relaxed_file.specs.Chunks.{tries_in, tries_below}
 use Rattle.relaxed_file.proofs.Grows.{Grows, OrderGrows}
 
 -- whether an entry is a try of the call

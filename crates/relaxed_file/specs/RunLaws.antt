@@ -20,7 +20,7 @@ use Rattle.relaxed_file.specs.Sources.{sources_of}
 use Rattle.relaxed_file.specs.Parts.{has_part, part_start, part_length, part_bytes}
 use Rattle.relaxed_file.specs.Machine.{Machine, new_machine, Asked, OpenCall, IsOpen, Outcome, Replies, Opens, Piece, chunk_size, chunk_at, chunk_count}
 use Rattle.relaxed_file.specs.NameStep.{is_in_trash, is_name_call, is_look, needs_room, refusal_of, outcome_of, is_refused}
-use Rattle.relaxed_file.specs.Locks.{conflict}
+use Rattle.relaxed_file.specs.Locks.{is_snapshot, conflict}
 use Rattle.relaxed_file.specs.Chunks.{tries_in, tries_below}
 use Rattle.relaxed_file.specs.Reads.{IsLook}
 use Rattle.relaxed_file.specs.Answers.{IsSuccess, is_too_long, MayReturn, MayReturnFd}
@@ -386,3 +386,8 @@ abbrev pub LengthsAreMeasured : Type 0
 LengthsAreMeasured =
     (config : Config) (m : Machine) (client file : ℕ) (fd : Fd) (found : ℕ) → IsReached config m → MayAnswer m client file (call.Length fd) (answer.Length found)
     → (old : Machine) × (new : Machine) × IsReached config old × LeadsTo old new × LeadsTo new m × IsSameOpen old m client × IsSameOpen new m client × IsMeasured old new file found
+
+-- In every run only snapshots hold locks from one step to another (section 4.1).
+abbrev pub OnlySnapshotsHoldLocks : Type 0
+OnlySnapshotsHoldLocks =
+    (config : Config) (m : Machine) (client : ℕ) (current : OpenCall) → IsReached config m → IsOpen m client current → IsTrue current.has_locks → IsTrue (is_snapshot current.asked.call)
