@@ -267,7 +267,7 @@ IsEffectFor client (Place who file index mutation) = who ≡ client
 IsEffectFor client (Step who moment outcome) = (who ≡ client) × IsFalse (is_refused outcome)
 IsEffectFor client other = ⊥
 
--- the refusals that deny no effect
+-- the refusals that deny nothing: the call may have had its effect, or part of it
 abbrev pub DeniesNothing : Refusal → Type 0
 DeniesNothing Collected = Unit {0}
 DeniesNothing NoReplica = Unit {0}
@@ -275,7 +275,7 @@ DeniesNothing Failed = Unit {0}
 DeniesNothing Unknown = Unit {0}
 DeniesNothing other = ⊥
 
--- A call that is refused had no effect, but for the refusals that deny none: nothing of it was placed, and it changed no name. Open and List never change any.
+-- Of a call that is refused nothing was placed, and it changed no name, but for the refusals that deny nothing. Open and List never change any.
 abbrev pub RefusedCallsHadNoEffect : Type 0
 RefusedCallsHadNoEffect =
     (config : Config) (m : Machine) (client : ℕ) (asked : Call) (actions : List Action) (reason : Refusal)
