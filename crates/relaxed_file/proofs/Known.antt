@@ -180,12 +180,12 @@ made_by_count m file index h l = ⊎_elim
     (λ late. let none : chunk_count m file ≡ 0 = ap (λ (f : FileState). f.chunk_count) (h.fresh file late) in absurd (omega arith))
     (λ made. made) (cases_lt m.file_count file)
 
-made_by_round : (m : Machine) (file index : ℕ) → Known m → IsTrue (chunk_at m file index).is_open → file ≤ m.file_count
+pub made_by_round : (m : Machine) (file index : ℕ) → Known m → IsTrue (chunk_at m file index).is_open → file ≤ m.file_count
 made_by_round m file index h is = ⊎_elim
     (λ late. absurd (false≢true (sym (ap (λ (f : FileState). (f.chunks index).is_open) (h.fresh file late)) ∙ is)))
     (λ made. made) (cases_lt m.file_count file)
 
-there_by_round : (m : Machine) (file index : ℕ) → Known m → IsTrue (chunk_at m file index).is_open → index < chunk_count m file
+pub there_by_round : (m : Machine) (file index : ℕ) → Known m → IsTrue (chunk_at m file index).is_open → index < chunk_count m file
 there_by_round m file index h is = ⊎_elim
     (λ there. there)
     (λ past. absurd (false≢true (sym (ap (λ (c : Chunk). c.is_open) (h.files file index past)) ∙ is))) (cases_lt index (chunk_count m file))

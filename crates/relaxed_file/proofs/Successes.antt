@@ -44,7 +44,7 @@ settled_entries_stay config m n reached way file index place e is s =
 pub found_at : {A : Type 0} (xs : List A) (x : A) (there : Contains xs x) → slice_get xs there.0 ≡ Some x
 found_at xs x there = slice_get_read xs (length xs) there.0 x refl there.1 (sym there.2)
 
-same_id : (a b : CallId) → IsTrue (same_call a b) → a ≡ b
+pub same_id : (a b : CallId) → IsTrue (same_call a b) → a ≡ b
 same_id a b h = let both = and_parts _ _ h in λ i. record { client = (eqb-true a.client b.client both.0) i; number = (eqb-true a.number b.number both.1) i }
 
 -- a success of a call is what the call asked for

@@ -1,25 +1,30 @@
 -- What holds in every run of the relaxed-file machine (sections 2.7 and 3).
-use Rattle.std.specs.Prelude.{◌≡◌, ℕ, ◌+◌, ◌-◌, ◌*◌, ◌<◌, ◌≤◌, ◌⊎◌, List, [], ◌∷◌, ◌++◌, length, Option, Some, None, IsTrue, IsFalse, IsSomeAnd, Contains, slice_get}
+use Rattle.std.specs.Prelude.{◌≡◌, ◌≢◌, ℕ, suc, ◌+◌, ◌-◌, ◌*◌, ◌/◌, ◌<◌, ◌≤◌, ◌⊎◌, nat_lt, List, [], ◌∷◌, ◌++◌, length, flat_map, filter_map, Option, Some, None, IsTrue, IsFalse, IsSomeAnd, MatchBool, Contains, slice_get}
 use Rattle.std.specs.List.{AllByRecursion}
 use Rattle.gfs_types.specs.declared.call.Call.{Call}
 use Rattle.gfs_types.specs.declared.call.Call.TheVariants as call
 use Rattle.gfs_types.specs.declared.answer.Answer.{Answer}
 use Rattle.gfs_types.specs.declared.answer.Answer.TheVariants as answer
+use Rattle.gfs_types.specs.declared.refusal.Refusal.{Refusal}
+use Rattle.gfs_types.specs.declared.refusal.Refusal.TheVariants.{Busy, TooLong, BadFd, NamesFull, Collected, NoReplica, Failed, Unknown, NoMemory}
 use Rattle.gfs_types.specs.declared.ids.Fd.{Fd}
 use Rattle.gfs_types.specs.declared.mutation.Mutation.{Mutation}
 use Rattle.gfs_types.specs.declared.mutation.Mutation.TheVariants.{Write, Append, Pad}
 use Rattle.gfs_types.specs.declared.config.Config.{Config}
 use Rattle.gfs_types.specs.Mutations.{start_of, end_of, is_placed_by_system, byte_of}
-use Rattle.gfs_types.specs.Image.{byte_at}
-use Rattle.gfs_types.specs.Paths.{hidden_name}
-use Rattle.relaxed_file.specs.Names.{IsTree, File, node_at}
-use Rattle.relaxed_file.specs.Order.{Entry, AreRoundsRising, IsSelection, last_cover, mutations_of}
+use Rattle.gfs_types.specs.Image.{byte_at, image_length, image_slice}
+use Rattle.gfs_types.specs.Paths.{Path, hidden_name}
+use Rattle.relaxed_file.specs.Names.{IsTree, Node, File, node_at}
+use Rattle.relaxed_file.specs.Order.{CallId, Entry, AreRoundsRising, IsSelection, last_cover, mutations_of}
 use Rattle.relaxed_file.specs.Sources.{sources_of}
-use Rattle.relaxed_file.specs.Parts.{has_part, part_start, part_bytes}
-use Rattle.relaxed_file.specs.Machine.{Machine, new_machine, Asked, OpenCall, IsOpen, chunk_at, chunk_count}
+use Rattle.relaxed_file.specs.Parts.{has_part, part_start, part_length, part_bytes}
+use Rattle.relaxed_file.specs.Machine.{Machine, new_machine, Asked, OpenCall, IsOpen, Outcome, Replies, Opens, Piece, chunk_size, chunk_at, chunk_count}
+use Rattle.relaxed_file.specs.NameStep.{is_in_trash, is_name_call, is_look, needs_room, refusal_of, outcome_of, is_refused}
+use Rattle.relaxed_file.specs.Locks.{is_snapshot, conflict}
+use Rattle.relaxed_file.specs.Chunks.{tries_in, tries_below}
 use Rattle.relaxed_file.specs.Reads.{IsLook}
-use Rattle.relaxed_file.specs.Answers.{IsSuccess, MayReturn}
-use Rattle.relaxed_file.specs.Run.{Action, Return, ReturnFd, Add, OpenRound, CloseRound, Place, Settle, Look, asked_file, Visible, visible, Allows, after, after_all, IsLawful, IsRunTo, LeadsTo, IsReached}
+use Rattle.relaxed_file.specs.Answers.{IsSuccess, is_too_long, MayReturn, MayReturnFd}
+use Rattle.relaxed_file.specs.Run.{Action, Invoke, Return, ReturnFd, Step, Add, OpenRound, CloseRound, Place, Settle, Tell, Look, file_of, asked_now, asked_file, Visible, visible, Allows, after, after_all, IsLawful, IsRunTo, LeadsTo, IsReached}
 
 -- A run goes on by an action that its machine allows.
 abbrev pub RunsGoOn : Type 0
@@ -208,3 +213,181 @@ HiddenNamesTellTheirMoment =
     (config : Config) (m : Machine) (action : Action) (told file : ℕ) → IsReached config m → Allows m action
     → node_at m.names (hidden_name told file) ≡ None → node_at (after m action).names (hidden_name told file) ≡ Some (File file)
     → (moment : ℕ) × (hidden_name moment file ≡ hidden_name told file) × (m.clock - m.config.skew_ms ≤ moment) × (moment ≤ m.clock)
+
+-- the client's open call is one in both states
+abbrev pub IsSameOpen : Machine → Machine → ℕ → Type 0
+IsSameOpen m n client = (one : OpenCall) × (two : OpenCall) × IsOpen m client one × IsOpen n client two × (one.number ≡ two.number)
+
+-- What a state gives a read of one chunk: with a round, which was opened by then, what a selection has there that leaves out no settled entry up to that round; without a round nothing, where the file has no such chunk.
+abbrev pub IsGiven : Machine → ℕ → ℕ → ℕ → ℕ → List ℕ → Option ℕ → Type 0
+IsGiven m file offset count index bytes (Some named) =
+    (named ≤ (chunk_at m file index).round) × (last : ℕ) × (chosen : List Entry) × (named ≤ last) × IsSelection last (chunk_at m file index).order chosen
+    × (bytes ≡ image_slice (chunk_size m file) (mutations_of chosen) (part_start (chunk_size m file) offset index) (part_length (chunk_size m file) offset count index))
+IsGiven m file offset count index bytes None = (chunk_count m file ≤ index) × (bytes ≡ [])
+
+-- a state of the run gave the piece, in which the client's open call was the same
+abbrev pub WasGiven : Config → Machine → ℕ → ℕ → ℕ → ℕ → Piece → Type 0
+WasGiven config m client file offset count piece =
+    (old : Machine) × IsReached config old × LeadsTo old m × IsSameOpen old m client × IsGiven old file offset count piece.index piece.bytes piece.round
+
+-- A piece for each part of the range, from a chunk on, and none past the first that is shorter than its part; a state gave each of them.
+abbrev pub WereGiven : Config → Machine → ℕ → ℕ → ℕ → ℕ → ℕ → List Piece → Type 0
+WereGiven config m client file offset count index [] = IsFalse (has_part (chunk_size m file) offset count index)
+WereGiven config m client file offset count index (piece ∷ rest) =
+    (piece.index ≡ index) × WasGiven config m client file offset count piece
+    × MatchBool (nat_lt (length piece.bytes) (part_length (chunk_size m file) offset count index)) (rest ≡ []) (WereGiven config m client file offset count (suc index) rest)
+
+-- A read is answered what states during the call gave, chunk by chunk from where its range begins, and the rounds of these, each of them opened by then; nothing settled up to such a round is left out of what its chunk gave (sections 2.4 and 2.7.1).
+abbrev pub ReadsGiveSelections : Type 0
+ReadsGiveSelections =
+    (config : Config) (m : Machine) (client file : ℕ) (fd : Fd) (offset count : ℕ) (bytes rounds : List ℕ)
+    → IsReached config m → MayAnswer m client file (call.Read fd offset count) (answer.Bytes bytes rounds)
+    → (pieces : List Piece) × WereGiven config m client file offset count (offset / chunk_size m file) pieces
+    × (bytes ≡ flat_map (λ piece. piece.bytes) pieces) × (rounds ≡ filter_map (λ piece. piece.round) pieces)
+
+-- The action answers the client.
+abbrev pub IsAnswerTo : ℕ → Action → Type 0
+IsAnswerTo client (Return who reply) = who ≡ client
+IsAnswerTo client (ReturnFd who fd file) = who ≡ client
+IsAnswerTo client other = ⊥
+
+-- The actions are lawful, and none of them answers the client.
+abbrev pub GoesUnanswered : Machine → ℕ → List Action → Type 0
+GoesUnanswered m client actions = IsLawful m actions × AllByRecursion (λ action. IsAnswerTo client action → ⊥) actions
+
+-- The client makes a call, and after these actions it may be answered so.
+abbrev pub MayEndIn : Machine → ℕ → Call → List Action → Answer → Type 0
+MayEndIn m client asked actions reply =
+    Allows m (Invoke client asked) × GoesUnanswered (after m (Invoke client asked)) client actions
+    × Allows (after_all (after m (Invoke client asked)) actions) (Return client reply)
+
+-- The action places a mutation for the client, or is a name step for it that meets no refusal.
+abbrev pub IsEffectFor : ℕ → Action → Type 0
+IsEffectFor client (Place who file index mutation) = who ≡ client
+IsEffectFor client (Step who moment outcome) = (who ≡ client) × IsFalse (is_refused outcome)
+IsEffectFor client other = ⊥
+
+-- the refusals that deny nothing: the call may have had its effect, or part of it
+abbrev pub DeniesNothing : Refusal → Type 0
+DeniesNothing Collected = Unit {0}
+DeniesNothing NoReplica = Unit {0}
+DeniesNothing Failed = Unit {0}
+DeniesNothing Unknown = Unit {0}
+DeniesNothing other = ⊥
+
+-- Of a call that is refused nothing was placed, and it changed no name, but for the refusals that deny nothing. Open and List never change any.
+abbrev pub RefusedCallsHadNoEffect : Type 0
+RefusedCallsHadNoEffect =
+    (config : Config) (m : Machine) (client : ℕ) (asked : Call) (actions : List Action) (reason : Refusal)
+    → IsReached config m → MayEndIn m client asked actions (answer.Refused reason) → IsFalse (is_look asked) → (DeniesNothing reason → ⊥)
+    → AllByRecursion (λ action. IsEffectFor client action → ⊥) actions
+
+-- Only Open and List take more than one name step in a call (section 4.1).
+abbrev pub NameStepsComeOnce : Type 0
+NameStepsComeOnce =
+    (m : Machine) (client moment again : ℕ) (outcome other : Outcome) (actions : List Action)
+    → Allows m (Step client moment outcome) → GoesUnanswered (after m (Step client moment outcome)) client actions
+    → Allows (after_all (after m (Step client moment outcome)) actions) (Step client again other)
+    → (current : OpenCall) × IsOpen m client current × IsTrue (is_look current.asked.call)
+
+-- In every run a call has at most so many entries in a chunk, pads aside, as the setting says (section 3.1).
+abbrev pub TriesAreLimited : Type 0
+TriesAreLimited =
+    (config : Config) (m : Machine) → IsReached config m → (id : CallId) (file index : ℕ) → tries_in id (chunk_at m file index) ≤ config.attempts
+
+-- In every run an append has at most so many entries in all chunks of a file, pads aside (section 3.1).
+abbrev pub AppendTriesAreLimited : Type 0
+AppendTriesAreLimited =
+    (config : Config) (m : Machine) (id : CallId) (asked : Asked) (fd : Fd) (bytes : List ℕ) (file : ℕ)
+    → IsReached config m → (m.clients id.client).calls id.number ≡ Some asked → asked.call ≡ call.Append fd bytes
+    → tries_below (m.files file).chunks id (chunk_count m file) ≤ config.attempts
+
+-- Between two rounds of a chunk that open, the first one closes, and the second one has a greater number (section 3.1).
+abbrev pub RoundsComeOneByOne : Type 0
+RoundsComeOneByOne =
+    (config : Config) (m : Machine) (file index round next : ℕ) (actions : List Action) → IsReached config m → Allows m (OpenRound file index round)
+    → IsLawful (after m (OpenRound file index round)) actions → Allows (after_all (after m (OpenRound file index round)) actions) (OpenRound file index next)
+    → Contains actions (CloseRound file index) × (round < next)
+
+-- What a name call comes to at a moment: what the names say of it, Busy by another client's snapshot that holds a lock which conflicts, or NamesFull where it needs room and no other refusal holds (section 4.1).
+pub data ComesTo (m : Machine) (client : ℕ) (asked : Call) (outcome : Outcome) : Type 0 where
+  by_names : outcome ≡ outcome_of m.names asked → ComesTo m client asked outcome
+  by_lock : (holder : ℕ) (snapshot : OpenCall) → holder ≢ client → IsOpen m holder snapshot → IsTrue snapshot.has_locks → snapshot.outcomes ≡ []
+      → IsTrue (conflict asked snapshot.asked.call) → outcome ≡ Replies (answer.Refused Busy) → ComesTo m client asked outcome
+  by_room : IsTrue (needs_room asked) → refusal_of m.names asked ≡ None → outcome ≡ Replies (answer.Refused NamesFull) → ComesTo m client asked outcome
+
+-- the call came to it in a state of the run in which the client's open call was the same
+abbrev pub CameTo : Config → Machine → ℕ → Call → Outcome → Type 0
+CameTo config m client asked outcome = (old : Machine) × IsReached config old × LeadsTo old m × IsSameOpen old m client × ComesTo old client asked outcome
+
+-- A name call is answered what it came to at one moment of the call, or Unknown, which tells nothing, or NoMemory.
+abbrev pub NameCallsAnswerOneMoment : Type 0
+NameCallsAnswerOneMoment =
+    (config : Config) (m : Machine) (client : ℕ) (current : OpenCall) (reply : Answer)
+    → IsReached config m → IsOpen m client current → IsTrue (is_name_call current.asked.call) → MayReturn m client current reply
+    → CameTo config m client current.asked.call (Replies reply) ⊎ ((reply ≡ answer.Refused Unknown) ⊎ (reply ≡ answer.Refused NoMemory))
+
+-- Open is answered a descriptor of the file that stood under its name at one moment of the call.
+abbrev pub OpensFindTheirFile : Type 0
+OpensFindTheirFile =
+    (config : Config) (m : Machine) (client : ℕ) (current : OpenCall) (fd file : ℕ)
+    → IsReached config m → IsOpen m client current → MayReturnFd m client current fd file → CameTo config m client current.asked.call (Opens file)
+
+-- the calls that put bytes into a file, and those that ask for what it holds
+abbrev pub Puts : Call → Type 0
+Puts (call.Write fd offset bytes) = Unit {0}
+Puts (call.Append fd bytes) = Unit {0}
+Puts other = ⊥
+
+abbrev pub AsksWhatItHolds : Call → Type 0
+AsksWhatItHolds (call.Read fd offset count) = Unit {0}
+AsksWhatItHolds (call.Length fd) = Unit {0}
+AsksWhatItHolds other = ⊥
+
+-- what a refusal says of a call on a descriptor, from the state in which it was made to the one that answers it
+abbrev pub IsReason : Machine → Machine → ℕ → Call → Refusal → Type 0
+IsReason m n client asked BadFd = file_of (m.clients client) asked ≡ None
+IsReason m n client asked TooLong = (file : ℕ) × (file_of (m.clients client) asked ≡ Some file) × IsTrue (is_too_long (chunk_size n file) (asked_now m client asked).chunks_before asked)
+IsReason m n client asked Collected = (file : ℕ) × (file_of (m.clients client) asked ≡ Some file) × IsTrue (n.files file).is_collected × (Puts asked ⊎ AsksWhatItHolds asked)
+IsReason m n client asked NoReplica = Puts asked ⊎ AsksWhatItHolds asked
+IsReason m n client asked Failed = Puts asked
+IsReason m n client asked Unknown = AsksWhatItHolds asked
+IsReason m n client asked NoMemory = Unit {0}
+IsReason m n client asked other = ⊥
+
+-- A call on a descriptor is refused for a reason: BadFd only where its descriptor was not open when it was made, Collected only for a file that is collected, Failed only where it puts bytes, Unknown only where it asks for what the file holds.
+abbrev pub FileCallsAreRefusedForAReason : Type 0
+FileCallsAreRefusedForAReason =
+    (m : Machine) (client : ℕ) (asked : Call) (actions : List Action) (reason : Refusal)
+    → IsFalse (is_name_call asked) → MayEndIn m client asked actions (answer.Refused reason)
+    → IsReason m (after_all (after m (Invoke client asked)) actions) client asked reason
+
+-- While a name outside the directory of deleted files stands for a directory or a file, no action makes it stand for another: nothing is made, renamed or copied over it (section 4.1).
+abbrev pub NamesAreNotTakenOver : Type 0
+NamesAreNotTakenOver =
+    (config : Config) (m : Machine) (action : Action) (path : Path) (old new : Node) → IsReached config m → Allows m action
+    → IsFalse (is_in_trash path) → node_at m.names path ≡ Some old → node_at (after m action).names path ≡ Some new → new ≡ old
+
+-- Once a file is collected, no client is told of its chunks, and it gets no more of them (section 4.4).
+abbrev pub CollectedFilesAreClosed : Type 0
+CollectedFilesAreClosed =
+    (config : Config) (m n : Machine) (file : ℕ) → IsReached config m → LeadsTo m n → IsTrue (m.files file).is_collected
+    → (chunk_count n file ≡ chunk_count m file) × ((client index : ℕ) → Allows n (Tell client file index) → ⊥)
+
+-- What a Length call finds: at one moment that the file has no chunk, or which chunk is the last; and then, at that moment or a later one, where a selection of that chunk ends, in which nothing is left out that is settled up to the chunk's round of the first moment.
+abbrev pub IsMeasured : Machine → Machine → ℕ → ℕ → Type 0
+IsMeasured old new file found =
+    ((chunk_count old file ≡ 0) × (found ≡ 0))
+    ⊎ ((index : ℕ) × (last : ℕ) × (chosen : List Entry) × (chunk_count old file ≡ suc index) × ((chunk_at old file index).round ≤ last)
+    × IsSelection last (chunk_at new file index).order chosen × (found ≡ index * chunk_size new file + image_length (chunk_size new file) (mutations_of chosen)))
+
+-- Length is answered what it found at moments of the call (sections 2.4 and 2.7.1).
+abbrev pub LengthsAreMeasured : Type 0
+LengthsAreMeasured =
+    (config : Config) (m : Machine) (client file : ℕ) (fd : Fd) (found : ℕ) → IsReached config m → MayAnswer m client file (call.Length fd) (answer.Length found)
+    → (old : Machine) × (new : Machine) × IsReached config old × LeadsTo old new × LeadsTo new m × IsSameOpen old m client × IsSameOpen new m client × IsMeasured old new file found
+
+-- In every run only snapshots hold locks from one step to another (section 4.1).
+abbrev pub OnlySnapshotsHoldLocks : Type 0
+OnlySnapshotsHoldLocks =
+    (config : Config) (m : Machine) (client : ℕ) (current : OpenCall) → IsReached config m → IsOpen m client current → IsTrue current.has_locks → IsTrue (is_snapshot current.asked.call)
