@@ -31,13 +31,6 @@ pub record Elapses (before now : ℕ) (past since : ℕ → List ℕ → Type 0)
   pub nothing_else : (t : ℕ) (c : List ℕ) → t ≤ before → since t c → past t c ⊎ may_leave c
   pub keeps : (t : ℕ) (c : List ℕ) → t ≤ before → past t c → since t c
 
--- A stop at any moment since old leaves bytes that have P.
-pub record LeavesOnly {D : Type 0} (moment : D → ℕ) (left_since : D → ℕ → List ℕ → Type 0) (old new : D) (P : List ℕ → Type 0) : Type 0 where
-  pub later : moment old ≤ moment new
-  pub each : (c : List ℕ) → left_since new (moment old) c → P c
-  -- for a run that began earlier
-  pub before : (t : ℕ) (c : List ℕ) → t ≤ moment old → left_since new t c → left_since old t c ⊎ P c
-
 -- `Device` is answered only where the disk has failed in this call.
 pub record HasCause {T : Type 0} (before now : ℕ) (result : Result T DiskFault) : Type 0 where
   pub later : before ≤ now

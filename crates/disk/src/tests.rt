@@ -7,7 +7,7 @@ ghost use Rattle.disk.specs.Device.{Only};
 use crate::{Disk, DiskFault, FaultDisk, FuseDisk, MemDisk};
 use gfs_types::torn::Torn;
 use linked_list_allocator::LocalHeap;
-use std::alloc::{Allocator, Global};
+use std::alloc::Global;
 use std::test::Fail;
 
 const WAYS: [Torn; 5] = [
@@ -184,14 +184,24 @@ fn a_fault_disk_fails_once(rt: HostRuntime) -> Result<(), Fail> {
     Ok(())
 }
 
-// How many single bytes, each its place's number and one more, can be written before one is refused.
-fn writes_taken<A: Allocator + Clone>(disk: &mut MemDisk<A>, count: u8) -> u8 {
+// How many single bytes, each its place's number and one more, can be written before one is refused. None: the refused write kept memory.
+fn writes_taken<D: Disk>(heap: &LocalHeap, disk: &mut D, count: u8) -> Option<u8> {
     for n in 0..count {
+        let used = heap.used();
         if put(disk, n as usize, &[n + 1]) == Some(Err(DiskFault::NoMemory)) {
-            return n;
+            return if heap.used() == used { Some(n) } else { None };
         }
     }
-    count
+    Some(count)
+}
+
+// What five bytes are after so many of these writes.
+fn after_writes(taken: u8, byte: Option<u8>) -> [u8; 5] {
+    let mut want = [0; 5];
+    for i in 0..taken.min(5) {
+        want[i as usize] = byte.unwrap_or(i + 1);
+    }
+    want
 }
 
 // The first five bytes.
@@ -211,22 +221,116 @@ fn refused_memory_changes_no_byte(rt: HostRuntime) -> Result<(), Fail> {
     for size in 1..100 {
         let heap = LocalHeap::new(rt.alloc(), size * 16)?;
         let Ok(mut disk) = MemDisk::new(&heap, 40) else {
+            assert_eq!(rt; heap.used(), 0, "heap {size}");
             no_disk = true;
             continue;
         };
-        let taken = writes_taken(&mut disk, 5).min(5) as usize;
-        let mut want = [1, 2, 3, 4, 5];
-        for i in taken..5 {
-            want[i] = 0;
-        }
+        let Some(taken) = writes_taken(&heap, &mut disk, 5) else {
+            return Err(Fail::new("a refused write kept memory"));
+        };
+        let want = after_writes(taken, None);
         assert!(rt; five(&mut disk) == Ok(want), "heap {size}");
         assert!(rt; disk.sync() == Ok(()));
-        met[taken] = true;
+        met[taken.min(5) as usize] = true;
         let mut stopped = FuseDisk::new(disk).stop(Torn::Byte(9));
         assert!(rt; five(&mut stopped) == Ok(want), "heap {size}");
     }
     assert!(rt; no_disk);
     assert_eq!(rt; met, [true; 6]);
+    Ok(())
+}
+
+// The same with a fuse: a stop without a sync tears what was written, and nothing of a refused write.
+#[test]
+fn refused_memory_leaves_a_fuse_disk(rt: HostRuntime) -> Result<(), Fail> {
+    let mut met = [false; 6];
+    for size in 1..100 {
+        let heap = LocalHeap::new(rt.alloc(), size * 16)?;
+        let Ok(disk) = MemDisk::new(&heap, 40) else {
+            continue;
+        };
+        let mut disk = FuseDisk::new(disk);
+        disk.arm(7);
+        let Some(taken) = writes_taken(&heap, &mut disk, 5) else {
+            return Err(Fail::new("a refused write kept memory"));
+        };
+        assert!(rt;
+            five(&mut disk) == Ok(after_writes(taken, None)),
+            "heap {size}"
+        );
+        assert_eq!(rt; disk.failures(), 0, "heap {size}");
+        met[taken.min(5) as usize] = true;
+        let mut stopped = disk.stop(Torn::Byte(9));
+        let torn = after_writes(taken, Some(9));
+        assert!(rt; five(&mut stopped) == Ok(torn), "heap {size}");
+    }
+    assert_eq!(rt; met, [true; 6]);
+    Ok(())
+}
+
+// The same with a disk that is to fail later: a refused write counts as a call that passed.
+#[test]
+fn refused_memory_leaves_a_fault_disk(rt: HostRuntime) -> Result<(), Fail> {
+    let mut met = [false; 6];
+    for size in 1..100 {
+        let heap = LocalHeap::new(rt.alloc(), size * 16)?;
+        let Ok(disk) = MemDisk::new(&heap, 40) else {
+            continue;
+        };
+        let mut disk = FaultDisk::new(disk, 7);
+        let Some(taken) = writes_taken(&heap, &mut disk, 5) else {
+            return Err(Fail::new("a refused write kept memory"));
+        };
+        let want = Ok(after_writes(taken, None));
+        assert!(rt; five(&mut disk) == want, "heap {size}");
+        assert_eq!(rt; disk.failures(), 0, "heap {size}");
+        met[taken.min(5) as usize] = true;
+        let passed = taken.saturating_add(1).min(5);
+        for _call in passed..6 {
+            assert!(rt; disk.sync() == Ok(()), "heap {size}");
+        }
+        assert!(rt; disk.sync() == Err(DiskFault::Device), "heap {size}");
+        assert!(rt; five(&mut disk.into_disk()) == want, "heap {size}");
+    }
+    assert_eq!(rt; met, [true; 6]);
+    Ok(())
+}
+
+// Whether a new disk in a heap of this size takes a write; None where there is no room for the disk.
+fn takes_a_write(alloc: Global, size: usize) -> Result<Option<bool>, Fail> {
+    let heap = LocalHeap::new(alloc, size)?;
+    let Ok(mut disk) = MemDisk::new(&heap, 40) else {
+        return Ok(None);
+    };
+    Ok(Some(put(&mut disk, 0, &[7]) == Some(Ok(()))))
+}
+
+// A write that fails has reached the disk only where there was memory for it.
+#[test]
+fn a_failed_write_without_memory_is_lost(rt: HostRuntime) -> Result<(), Fail> {
+    let failed = Some(Err(DiskFault::Device));
+    let (mut lost, mut reached) = (0u64, 0u64);
+    for size in 1..100 {
+        let Some(is_taken) = takes_a_write(rt.alloc(), size * 16)? else {
+            continue;
+        };
+        let want = if is_taken { [7, 0, 0, 0, 0] } else { [0; 5] };
+        let heap = LocalHeap::new(rt.alloc(), size * 16)?;
+        let mut fuse = FuseDisk::new(MemDisk::new(&heap, 40)?);
+        fuse.arm(0);
+        assert!(rt; put(&mut fuse, 0, &[7]) == failed, "heap {size}");
+        assert!(rt; five(&mut fuse.stop(Torn::New)) == Ok(want), "heap {size}");
+        let heap = LocalHeap::new(rt.alloc(), size * 16)?;
+        let mut fault = FaultDisk::new(MemDisk::new(&heap, 40)?, 0);
+        assert!(rt; put(&mut fault, 0, &[7]) == failed, "heap {size}");
+        assert!(rt; five(&mut fault.into_disk()) == Ok(want), "heap {size}");
+        if is_taken {
+            reached = reached.saturating_add(1);
+        } else {
+            lost = lost.saturating_add(1);
+        }
+    }
+    assert!(rt; lost > 0 && reached > 0, "{lost}, {reached}");
     Ok(())
 }
 

@@ -157,3 +157,23 @@ fn a_ticket_gives_back_its_own_names(rt: HostRuntime) -> Result<(), Fail> {
     assert!(rt; !other.conflicts(&first));
     Ok(())
 }
+
+#[test]
+fn names_given_back_are_taken_again(rt: HostRuntime) -> Result<(), Fail> {
+    let alloc = rt.alloc();
+    let mut table = LockTable::new(alloc);
+    let names = vec![in alloc;
+        lock(alloc, "/a", Mode::Write)?,
+        lock(alloc, "/b", Mode::Read)?,
+    ]?;
+    let first = table.try_take(&names)?;
+    table.give(first);
+    let second = table.try_take(&names)?;
+    assert!(rt; table.conflicts(&names));
+    table.give(second);
+    assert!(rt; !table.conflicts(&names));
+    let _third = table.try_take(&names)?;
+    let again = table.try_take(&names).map(|_ticket| ());
+    assert_eq!(rt; again, Err(TakeFault::Conflict));
+    Ok(())
+}

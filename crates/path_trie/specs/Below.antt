@@ -15,11 +15,7 @@ module _ {X : Type 0} where
   abbrev pub child_entries : Path → List (Path × X) → List (List ℕ × X)
   child_entries directory es = map (λ e. (last_part e.0, e.1)) (filter (λ e. is_child directory e.0) es)
 
-  -- what stands right below a directory, in the order of the paths
-  abbrev pub children : Names X → Path → List (Path × X)
-  children names directory = filter (λ e. is_child directory e.0) (entries names)
-
-  -- the same, each under the last part of its path
+  -- what stands right below a directory, each under the last part of its path, in the order of the paths
   abbrev pub children_by_part : Names X → Path → List (List ℕ × X)
   children_by_part names directory = child_entries directory (entries names)
 

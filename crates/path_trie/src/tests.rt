@@ -5,6 +5,7 @@ ghost use Rattle.std.specs.FinMap as map;
 ghost use Rattle.gfs_types.specs.declared.refusal.Refusal.TheVariants.{Exists};
 
 use crate::copy::TryCopy;
+use crate::parts::{is_at_or_below, is_below, is_child, last_part, parent, rest_below};
 use crate::trie::Trie;
 use gfs_types::no_memory::NoMemory;
 use gfs_types::path::{Path, PathFault};
@@ -146,39 +147,177 @@ fn copies_a_tree(rt: HostRuntime) -> Result<(), Fail> {
 }
 
 #[test]
+fn an_insert_over_a_path_replaces_its_value(rt: HostRuntime) -> Result<(), Fail> {
+    let alloc = rt.alloc();
+    let mut trie = tree(alloc)?;
+    for (text, value) in [("/d/b", 20), ("/", 100), ("/d/b", 21)] {
+        assert!(rt; put(alloc, &mut trie, text, value)?);
+        assert_eq!(rt; trie.len(), 8, "{text}");
+        assert_eq!(rt; at(alloc, &trie, text)?, Some(value), "{text}");
+    }
+    for (text, value) in [("/", 100), ("/d", 1), ("/d/b/x", 3), ("/d/a", 4)] {
+        assert_eq!(rt; at(alloc, &trie, text)?, Some(value), "{text}");
+    }
+    assert_eq!(rt; listed(alloc, &trie, "/d")?.as_str(), "a b ");
+    Ok(())
+}
+
+#[test]
+fn where_one_path_lies_from_another(rt: HostRuntime) {
+    let rows = [
+        ("/", "/", false, false, Some("")),
+        ("/", "/a", true, true, Some("/a")),
+        ("/", "/a/b", true, false, Some("/a/b")),
+        ("/d", "/d", false, false, Some("")),
+        ("/d", "/d/a", true, true, Some("/a")),
+        ("/d", "/d/a/b", true, false, Some("/a/b")),
+        ("/d", "/d-e", false, false, None),
+        ("/d/a", "/d", false, false, None),
+    ];
+    for (top, path, below, child, rest) in rows {
+        assert_eq!(rt; is_below(top, path), below, "{path} below {top}");
+        assert_eq!(rt; is_child(top, path), child, "{path} in {top}");
+        assert_eq!(rt; rest_below(top, path), rest, "{path} behind {top}");
+        assert_eq!(rt;
+            is_at_or_below(top, path),
+            rest.is_some(),
+            "{path} at {top}"
+        );
+    }
+}
+
+#[test]
+fn a_path_has_a_parent_and_a_last_part(rt: HostRuntime) {
+    let rows = [
+        ("/", "/", ""),
+        ("/a", "/", "a"),
+        ("/a/b", "/a", "b"),
+        ("/a/b/c.d", "/a/b", "c.d"),
+    ];
+    for (path, above, last) in rows {
+        assert_eq!(rt; parent(path), above, "{path}");
+        assert_eq!(rt; last_part(path), last, "{path}");
+    }
+}
+
+// The path of one of ten thousand files in a hundred directories.
+fn file_text(alloc: Global, number: u64) -> Result<String, Fail> {
+    Ok(format!(in alloc; "/d{}/f{}", number % 100, number)?)
+}
+
+// Puts a value at a file's path, in both maps.
+fn put_file(
+    alloc: Global,
+    trie: &mut Trie<u64, Global>,
+    map: &mut BTreeMap<String, u64>,
+    number: u64,
+    value: u64,
+) -> Result<bool, Fail> {
+    let text = file_text(alloc, number)?;
+    let is_put = put(alloc, trie, text.as_str(), value)?;
+    map.insert(text, value)?;
+    Ok(is_put && trie.len() == map.len())
+}
+
+// Takes what stands at a file's path out of both maps. Whether it was the same.
+fn is_removed_alike(
+    alloc: Global,
+    trie: &mut Trie<u64, Global>,
+    map: &mut BTreeMap<String, u64>,
+    number: u64,
+) -> Result<bool, Fail> {
+    let text = file_text(alloc, number)?;
+    let path = Path::parse(text.as_str(), alloc)?;
+    Ok(trie.remove(&path) == map.remove(text.as_str()))
+}
+
+// What stands right below a directory, by the map's calls.
+fn children_line(alloc: Global, trie: &Trie<u64, Global>, text: &str) -> Result<String, Fail> {
+    let path = Path::parse(text, alloc)?;
+    let mut line = String::new(alloc);
+    for child in &trie.children(alloc, &path)? {
+        let entry = format!(in alloc; "{}={} ", child.name(), child.value())?;
+        line.push_str(entry.as_str())?;
+    }
+    Ok(line)
+}
+
+// The same by a search of all names, none of which lies deeper below a directory.
+fn searched_line(alloc: Global, map: &BTreeMap<String, u64>, text: &str) -> Result<String, Fail> {
+    let front = format!(in alloc; "{text}/")?;
+    let mut line = String::new(alloc);
+    for (name, value) in map {
+        if let Some(last) = name.as_str().strip_prefix(front.as_str()) {
+            let entry = format!(in alloc; "{last}={value} ")?;
+            line.push_str(entry.as_str())?;
+        }
+    }
+    Ok(line)
+}
+
+// Whether both maps say the same of what lies at a path and below it: the first may be counted or not.
+fn has_alike(
+    alloc: Global,
+    trie: &Trie<u64, Global>,
+    map: &BTreeMap<String, u64>,
+    text: &str,
+) -> Result<bool, Fail> {
+    let path = Path::parse(text, alloc)?;
+    let front = format!(in alloc; "{text}/")?;
+    let (mut is_there, mut has_below) = (false, false);
+    for name in map.keys() {
+        is_there = is_there || name.as_str() == text;
+        has_below = has_below || name.as_str().starts_with(front.as_str());
+    }
+    Ok(trie.has_below(&path) == has_below && trie.has_at_or_below(&path) == (is_there || has_below))
+}
+
+// Ten thousand names in both maps: a new value at each fifth, then no value at each third, and none in `/d42`.
+fn ten_thousand(
+    alloc: Global,
+    trie: &mut Trie<u64, Global>,
+    map: &mut BTreeMap<String, u64>,
+) -> Result<bool, Fail> {
+    let mut all = true;
+    for i in 0..10_000u64 {
+        all = put_file(alloc, trie, map, i * 7919 % 10_000, i)? && all;
+    }
+    for i in 0..2_000u64 {
+        all = put_file(alloc, trie, map, i * 5, i + 10_000)? && all;
+    }
+    all = trie.len() == 10_000 && all;
+    for i in 0..10_000u64 {
+        if i % 3 == 0 || i % 100 == 42 {
+            all = is_removed_alike(alloc, trie, map, i)? && all;
+        }
+    }
+    Ok(all)
+}
+
+#[test]
 fn like_a_map_of_ten_thousand(rt: HostRuntime) -> Result<(), Fail> {
     let alloc = rt.alloc();
     let mut trie = Trie::new(alloc)?;
     let mut map = BTreeMap::new(alloc);
+    assert!(rt; ten_thousand(alloc, &mut trie, &mut map)?);
+    // 3,334 of them are multiples of three, and 66 more lie in `/d42`
+    assert_eq!(rt; trie.len(), 6_600);
     for i in 0..10_000u64 {
-        let place = i * 7919 % 10_000;
-        let text = format!(in alloc; "/d{}/f{}", place % 100, place)?;
-        assert!(rt; put(alloc, &mut trie, text.as_str(), i)?);
-        map.insert(text, i)?;
-    }
-    for i in 0..10_000u64 {
-        if i % 3 == 0 {
-            let text = format!(in alloc; "/d{}/f{}", i % 100, i)?;
-            let path = Path::parse(text.as_str(), alloc)?;
-            assert_eq!(rt; trie.remove(&path), map.remove(text.as_str()));
-        }
-    }
-    assert_eq!(rt; trie.len(), map.len());
-    for i in 0..10_000u64 {
-        let text = format!(in alloc; "/d{}/f{}", i % 100, i)?;
+        let text = file_text(alloc, i)?;
         assert_eq!(rt;
             at(alloc, &trie, text.as_str())?,
             map.get(text.as_str()).copied()
         );
     }
-    let mut line = String::new(alloc);
-    for name in map.keys() {
-        if let Some(last) = name.as_str().strip_prefix("/d7/") {
-            line.push_str(last)?;
-            line.push_str(" ")?;
-        }
+    for i in 0..101u64 {
+        let text = format!(in alloc; "/d{i}")?;
+        let line = children_line(alloc, &trie, text.as_str())?;
+        let searched = searched_line(alloc, &map, text.as_str())?;
+        assert_eq!(rt; line.as_str(), searched.as_str(), "{text}");
+        assert!(rt; has_alike(alloc, &trie, &map, text.as_str())?, "{text}");
+        let file = file_text(alloc, i * 99)?;
+        assert!(rt; has_alike(alloc, &trie, &map, file.as_str())?, "{file}");
     }
-    assert_eq!(rt; listed(alloc, &trie, "/d7")?.as_str(), line.as_str());
     Ok(())
 }
 

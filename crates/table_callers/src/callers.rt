@@ -1,12 +1,15 @@
-//! The callers of the pages `CALLING.md` of `chunk_table`, `leases` and `primary_order`.
+//! The callers of the pages `CALLING.md` of `chunk_table`, `leases`, `primary_order`, `record_append` and `number_map`.
 
-ghost use Rattle.std.specs.Prelude.{◌≡◌, IfOk, OnOk, OnErr};
+ghost use Rattle.std.specs.Prelude.{◌≡◌, ◌↔◌, ℕ, IfNone, IfOk, IfSome, IsErrOf, IsSome, OnOk, OnErr};
+ghost use Rattle.std.specs.FinMap as map;
 ghost use Rattle.chunk_table.specs.ChunkTable.{chunk_of, row_ended, row_granted, row_issued, with_row_changed};
 ghost use Rattle.chunk_table.specs.Refusals.{version_after};
-ghost use Rattle.gfs_types.specs.declared.refusal.Refusal.TheVariants.{NoData};
+ghost use Rattle.gfs_types.specs.declared.refusal.Refusal.TheVariants.{Exists, NoData};
 ghost use Rattle.leases.specs.LeaseHeld.{after_call, counts};
 ghost use Rattle.leases.specs.LeaseHeld.HeldCall.{Ask, Extend};
 ghost use Rattle.primary_order.specs.PrimaryOrder.{denied, known};
+ghost use Rattle.record_append.specs.Placing.{placing};
+ghost use Rattle.record_append.specs.declared.placing.Placing.TheVariants.{At};
 
 use chunk_table::fault::TableFault;
 use chunk_table::table::Table;
@@ -15,8 +18,11 @@ use gfs_types::lists::ServerList;
 use gfs_types::no_memory::NoMemory;
 use gfs_types::refusal::Refusal;
 use leases::held::Held;
+use number_map::NumberMap;
 use primary_order::answer::Accept;
 use primary_order::primary::Primary;
+use record_append::place;
+use record_append::placing::Placing;
 use std::test::Fail;
 
 /// Issues the chunk's next version and grants it to a primary and its members, until that moment.
@@ -59,6 +65,32 @@ fn refuse_without_data(
     Ok(primary.known(client, seq))
 }
 
+/// The offset of the record in this chunk, if it fits there.
+fn fits(length: u64, size: u64, chunk: u64) -> Option<u64>
+    ensures at { IfSome result (λ offset. placing length size chunk ≡ At offset) }
+    ensures nowhere { IfNone result ((offset : ℕ) → placing length size chunk ≡ At offset → ⊥) }
+{
+    match place(length, size, chunk) {
+        Placing::At(offset) => Some(offset),
+        Placing::Pad(_) | Placing::Full | Placing::TooLong => None,
+    }
+}
+
+/// Puts a value at a number, unless one stands there.
+fn add(values: &mut NumberMap<u64>, number: u64, value: u64) -> Result<(), Refusal>
+    ensures added { OnOk result (values.new ≡ map.insert values.old number value) }
+    ensures exists { IsErrOf result Exists ↔ IsSome (map.get values.old number) }
+    ensures refused { OnErr result (values.new ≡ values.old) }
+{
+    if values.get(number).is_some() {
+        return Err(Refusal::Exists);
+    }
+    match values.insert(number, value) {
+        Ok(()) => Ok(()),
+        Err(_) => Err(Refusal::NoMemory),
+    }
+}
+
 #[test]
 fn a_lease_is_granted_and_renewed(rt: HostRuntime) -> Result<(), Fail> {
     let alloc = rt.alloc();
@@ -80,4 +112,21 @@ fn a_lease_is_granted_and_renewed(rt: HostRuntime) -> Result<(), Fail> {
     let answer = refuse_without_data(&mut primary, ClientId(1), 1)?;
     assert_eq!(rt; answer, Some(Accept::Refused(Refusal::NoData)));
     Ok(())
+}
+
+#[test]
+fn a_record_fits_behind_a_chunk_of_less(rt: HostRuntime) {
+    assert_eq!(rt; fits(48, 16, 64), Some(48));
+    assert_eq!(rt; fits(49, 16, 64), None);
+    assert_eq!(rt; fits(0, 17, 64), None);
+    assert_eq!(rt; fits(64, 0, 64), None);
+}
+
+#[test]
+fn a_number_is_added_once(rt: HostRuntime) {
+    let mut values = NumberMap::new(rt.alloc());
+    assert_eq!(rt; add(&mut values, 7, 1), Ok(()));
+    assert_eq!(rt; add(&mut values, 7, 2), Err(Refusal::Exists));
+    assert_eq!(rt; values.get(7).copied(), Some(1));
+    assert_eq!(rt; values.get(8).copied(), None);
 }

@@ -1,4 +1,4 @@
-//! The callers that the pages `CALLING.md` of `chunk_table`, `leases` and `primary_order` show.
+//! The callers that the pages `CALLING.md` of `chunk_table`, `leases`, `primary_order`, `record_append` and `number_map` show.
 #![tactic(auto)]
 
 #[cfg(test)]

@@ -1,0 +1,11 @@
+//! Tests of locks on names and of the buffer of pushed data.
+#![tactic(auto)]
+
+#[cfg(test)]
+mod plain_buffer;
+#[cfg(test)]
+mod plain_locks;
+#[cfg(test)]
+mod random_buffer;
+#[cfg(test)]
+mod random_locks;
