@@ -81,7 +81,7 @@ impl<A: Allocator + Clone> World<A> {
     }
 
     /// One event, and what it answers. An event that names no such node, message or moment, a node that is down, or a call
-    /// of a later stage, changes nothing.
+    /// that this cell doesn't know, changes nothing.
     pub fn step(&mut self, event: Event) -> Option<Answer>
         ensures steps { WorldSteps self.old event result self.new }
         ensures explained { IsExplained self.new }

@@ -2,4 +2,6 @@
 #![tactic(auto)]
 
 #[cfg(test)]
+mod starts;
+#[cfg(test)]
 mod worked;

@@ -11,12 +11,12 @@ use gfs_types::lists::Text;
 use gfs_types::no_memory::NoMemory;
 use gfs_types::refusal::Refusal;
 use messages::event::Event;
-use std::alloc::Global;
+use std::alloc::{Allocator, Global};
 use std::test::Fail;
 
 /// What happens: a call, a delivery, or a tick of the client. Writes and reads are those of descriptor 1.
 #[derive(Clone, Copy)]
-enum Doing {
+pub enum Doing {
     Create(&'static str),
     Open(&'static str),
     Write(u64, &'static str),
@@ -27,7 +27,7 @@ enum Doing {
 
 /// What it is answered.
 #[derive(Clone, Copy)]
-enum Expected {
+pub enum Expected {
     Nothing,
     Done,
     Opened,
@@ -36,7 +36,7 @@ enum Expected {
 }
 
 /// A moment, what happens then, and its answer.
-type Step = (u64, Doing, Expected);
+pub type Step = (u64, Doing, Expected);
 
 fn call_of(alloc: Global, doing: Doing) -> Result<Option<Call>, NoMemory> {
     Ok(match doing {
@@ -51,7 +51,7 @@ fn call_of(alloc: Global, doing: Doing) -> Result<Option<Call>, NoMemory> {
     })
 }
 
-fn event_of(alloc: Global, moment: u64, doing: Doing) -> Result<Event, NoMemory> {
+pub fn event_of(alloc: Global, moment: u64, doing: Doing) -> Result<Event, NoMemory> {
     let client = ClientId(1);
     let now = Moment(moment);
     if let Some(call) = call_of(alloc, doing)? {
@@ -77,9 +77,9 @@ fn is_expected(answer: Option<&Answer>, expected: Expected) -> bool {
 }
 
 /// Takes the steps one after another: the place of the first that is answered otherwise, if one is.
-fn first_wrong(
+pub fn first_wrong<A: Allocator + Clone>(
     alloc: Global,
-    world: &mut World<Global>,
+    world: &mut World<A>,
     steps: &[Step],
 ) -> Result<Option<usize>, NoMemory> {
     let mut place: usize = 0;
@@ -117,7 +117,7 @@ fn runs_as_expected(
 }
 
 /// One server, and chunks of 64 bytes in blocks of 16.
-fn small_cell() -> Config {
+pub fn small_cell() -> Config {
     Config {
         chunk: 64,
         block: 16,
