@@ -1,3 +1,5 @@
+//! Tests: each call once, which data a full buffer drops, and refused memory.
+
 ghost use Rattle.std.specs.Prelude.{◌≡◌, IfOk, OnOk, OnErr};
 ghost use Rattle.data_push.specs.Buffers.{with_data};
 ghost use Rattle.data_push.specs.NextHop.{next_hop_of};

@@ -9,3 +9,4 @@ mod plain_locks;
 mod random_buffer;
 #[cfg(test)]
 mod random_locks;
+pub mod two_tickets;

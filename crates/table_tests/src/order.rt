@@ -1,23 +1,21 @@
+use crate::fixtures::held;
 use bytes::Bytes;
 use gfs_types::ids::{ClientId, Moment, Serial, ServerId, Version};
-use gfs_types::lists::ServerList;
 use gfs_types::mutation::Mutation;
 use gfs_types::refusal::Refusal;
-use leases::held::Held;
 use primary_order::answer::{Accept, Settled};
 use primary_order::primary::Primary;
-use std::alloc::{AllocError, Global};
 use std::test::Fail;
 
-// version 1 until moment 60,000, servers 1 to 3, clock bound 2,000
-fn held(alloc: Global) -> Result<Held, AllocError> {
-    let members = ServerList::new(Vec::from_slice(alloc, &[1u16, 2, 3])?);
-    Ok(Held::take(Version(1), Moment(60_000), members, 2_000))
-}
+const SERVERS: [u16; 3] = [1, 2, 3];
+
+const UNTIL: u64 = 60_000;
+
+const CLOCK_BOUND: u64 = 2_000;
 
 #[test]
 fn a_lease_counts_before_its_end_less_the_clock_bound(rt: HostRuntime) -> Result<(), Fail> {
-    let mut lease = held(rt.alloc())?;
+    let mut lease = held(rt.alloc(), &SERVERS, UNTIL, CLOCK_BOUND)?;
     assert_eq!(rt; lease.version(), Version(1));
     assert_eq!(rt; lease.until(), Moment(60_000));
     assert_eq!(rt; lease.members().len(), 3);
@@ -31,7 +29,7 @@ fn a_lease_counts_before_its_end_less_the_clock_bound(rt: HostRuntime) -> Result
     assert!(rt; !lease.valid(Moment(0)));
     lease.extend(Moment(90_000), Moment(0));
     assert!(rt; !lease.valid(Moment(0)));
-    let mut other = held(rt.alloc())?;
+    let mut other = held(rt.alloc(), &SERVERS, UNTIL, CLOCK_BOUND)?;
     other.end();
     assert!(rt; !other.valid(Moment(0)));
     Ok(())
@@ -42,7 +40,7 @@ fn a_mutation_is_settled_by_the_last_member(rt: HostRuntime) -> Result<(), Fail>
     let alloc = rt.alloc();
     let client = ClientId(7);
     let append = Mutation::Append(13, Bytes::from_static(b"abc"));
-    let mut primary = Primary::new(alloc, held(alloc)?);
+    let mut primary = Primary::new(alloc, held(alloc, &SERVERS, UNTIL, CLOCK_BOUND)?);
     assert_eq!(rt; primary.known(client, 1), None);
     assert_eq!(rt;
         primary.accept(alloc, client, 1, &append, Moment(10)),
@@ -90,7 +88,7 @@ fn refusals_are_kept(rt: HostRuntime) -> Result<(), Fail> {
     let alloc = rt.alloc();
     let client = ClientId(7);
     let write = Mutation::Write(0, Bytes::from_static(b"abc"));
-    let mut primary = Primary::new(alloc, held(alloc)?);
+    let mut primary = Primary::new(alloc, held(alloc, &SERVERS, UNTIL, CLOCK_BOUND)?);
     assert_eq!(rt; primary.deny(client, 1, Refusal::NoData), Ok(()));
     assert_eq!(rt;
         primary.accept(alloc, client, 1, &write, Moment(10)),
@@ -125,7 +123,7 @@ fn nothing_counts_after_the_end(rt: HostRuntime) -> Result<(), Fail> {
     let alloc = rt.alloc();
     let client = ClientId(7);
     let write = Mutation::Write(0, Bytes::from_static(b"abc"));
-    let mut primary = Primary::new(alloc, held(alloc)?);
+    let mut primary = Primary::new(alloc, held(alloc, &SERVERS, UNTIL, CLOCK_BOUND)?);
     assert_eq!(rt;
         primary.accept(alloc, client, 1, &write, Moment(10)),
         Ok(Accept::New(Serial(1)))

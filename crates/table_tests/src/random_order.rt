@@ -1,9 +1,9 @@
 //! Random lists of calls of a held lease and of a primary's order, beside plain ones.
 
+use crate::fixtures::held;
 use crate::plain_order::{PlainLease, PlainOrder};
 use bytes::Bytes;
-use gfs_types::ids::{ClientId, Moment, Serial, ServerId, Version};
-use gfs_types::lists::ServerList;
+use gfs_types::ids::{ClientId, Moment, Serial, ServerId};
 use gfs_types::mutation::Mutation;
 use gfs_types::refusal::Refusal;
 use leases::held::Held;
@@ -11,7 +11,7 @@ use primary_order::answer::Accept;
 use primary_order::primary::Primary;
 use rand::rngs::SmallRng;
 use rand::{RngExt, SeedableRng};
-use std::alloc::{AllocError, Global};
+use std::alloc::Global;
 use std::test::Fail;
 
 const LISTS: u64 = 400;
@@ -20,12 +20,9 @@ const CALLS: u64 = 50;
 
 const UNTIL: u64 = 60;
 
-const SKEW: u64 = 10;
+const CLOCK_BOUND: u64 = 10;
 
-fn held(alloc: Global) -> Result<Held, AllocError> {
-    let members = ServerList::new(Vec::from_slice(alloc, &[1u16, 2, 3])?);
-    Ok(Held::take(Version(1), Moment(UNTIL), members, SKEW))
-}
+const SERVERS: [u16; 3] = [1, 2, 3];
 
 // Makes one random call at both leases. Whether they answer the same, and end at the same moment.
 fn is_lease_alike(
@@ -72,8 +69,8 @@ fn random_calls_of_a_lease(rt: HostRuntime) -> Result<(), Fail> {
     let (mut over, mut counting) = (0u64, 0u64);
     for seed in 0..LISTS {
         let mut numbers = SmallRng::seed_from_u64(seed);
-        let mut held = held(rt.alloc())?;
-        let mut plain = PlainLease::new(UNTIL, SKEW);
+        let mut held = held(rt.alloc(), &SERVERS, UNTIL, CLOCK_BOUND)?;
+        let mut plain = PlainLease::new(UNTIL, CLOCK_BOUND);
         let difference = first_lease_difference(&mut numbers, &mut held, &mut plain);
         assert_eq!(rt; difference, None, "list {seed}");
         if plain.is_over {
@@ -248,8 +245,8 @@ fn random_calls_of_a_primary(rt: HostRuntime) -> Result<(), Fail> {
     };
     for seed in 0..LISTS {
         let mut numbers = SmallRng::seed_from_u64(seed);
-        let mut primary = Primary::new(alloc, held(alloc)?);
-        let mut plain = PlainOrder::new(alloc, PlainLease::new(UNTIL, SKEW));
+        let mut primary = Primary::new(alloc, held(alloc, &SERVERS, UNTIL, CLOCK_BOUND)?);
+        let mut plain = PlainOrder::new(alloc, PlainLease::new(UNTIL, CLOCK_BOUND));
         let difference = first_order_difference(
             &mut numbers,
             alloc,

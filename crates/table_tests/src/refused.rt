@@ -1,16 +1,15 @@
 //! Refused memory: a refused call has changed nothing, and goes through when it is made again. These tests pass whichever allocation is refused (`tools/refused`).
 
+use crate::fixtures::held;
 use crate::plain_table::{PlainTable, TableCall, call_table};
 use chunk_table::fault::TableFault;
 use chunk_table::table::Table;
-use gfs_types::ids::{ClientId, Moment, Serial, ServerId, Version};
-use gfs_types::lists::ServerList;
+use gfs_types::ids::{ClientId, Moment, Serial, ServerId};
 use gfs_types::mutation::Mutation;
 use gfs_types::refusal::Refusal;
-use leases::held::Held;
 use primary_order::answer::Accept;
 use primary_order::primary::Primary;
-use std::alloc::{AllocError, Global};
+use std::alloc::Global;
 use std::test::Fail;
 
 const CALLS: [TableCall; 8] = [
@@ -75,11 +74,6 @@ fn a_refused_call_leaves_the_table(rt: HostRuntime) -> Result<(), Fail> {
     Ok(())
 }
 
-fn held(alloc: Global) -> Result<Held, AllocError> {
-    let members = ServerList::new(Vec::from_slice(alloc, &[1u16, 2])?);
-    Ok(Held::take(Version(1), Moment(60), members, 10))
-}
-
 // An attempt is numbered as the next, also where it found no memory before.
 fn is_numbered(alloc: Global, primary: &mut Primary, client: ClientId) -> bool {
     let Serial(last) = primary.serial();
@@ -107,9 +101,9 @@ fn is_denied(primary: &mut Primary, client: ClientId) -> bool {
 #[test]
 fn a_refused_attempt_is_new_again(rt: HostRuntime) -> Result<(), Fail> {
     let alloc = rt.alloc();
-    let lease = match held(alloc) {
+    let lease = match held(alloc, &[1, 2], 60, 10) {
         Ok(lease) => lease,
-        Err(_) => held(alloc)?,
+        Err(_) => held(alloc, &[1, 2], 60, 10)?,
     };
     let mut primary = Primary::new(alloc, lease);
     for number in 1..=13u64 {
