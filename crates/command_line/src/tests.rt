@@ -1,8 +1,82 @@
+//! Tests: what words of a command line set, refuse and show. Names and defaults are those of `docs/SCRIPT.md`.
+
 use crate::command::{CommandFault, Request, parse};
 use crate::options::Options;
 use gfs_types::config::Config;
 use std::alloc::{AllocError, Global};
 use std::test::Fail;
+
+/// Each setting's option and default.
+const SETTINGS: [(&str, u64); 16] = [
+    ("servers", 3),
+    ("clients", 1),
+    ("chunk", 1_048_576),
+    ("block", 65_536),
+    ("goal", 3),
+    ("lease-ms", 60_000),
+    ("skew-ms", 2_000),
+    ("attempt-ms", 5_000),
+    ("attempts", 5),
+    ("cache-entries", 256),
+    ("cache-ms", 60_000),
+    ("push-entries", 64),
+    ("keep-ms", 259_200_000),
+    ("slots", 32),
+    ("log-bytes", 16_777_216),
+    ("journal", 1_048_576),
+];
+
+/// The settings in the order of the table.
+fn numbers(options: &Options) -> [u64; 16] {
+    let Config {
+        chunk,
+        block,
+        goal,
+        lease_ms,
+        skew_ms,
+        attempt_ms,
+        attempts,
+        cache_entries,
+        cache_ms,
+        push_entries,
+        keep_ms,
+        slots,
+        log_bytes,
+        journal,
+    } = options.config;
+    [
+        options.servers,
+        options.clients,
+        u64::from(chunk),
+        u64::from(block),
+        u64::from(goal),
+        lease_ms,
+        skew_ms,
+        attempt_ms,
+        u64::from(attempts),
+        u64::from(cache_entries),
+        cache_ms,
+        u64::from(push_entries),
+        keep_ms,
+        u64::from(slots),
+        log_bytes,
+        u64::from(journal),
+    ]
+}
+
+/// The defaults, with these settings changed.
+fn changed(changes: &[(&str, u64)]) -> [u64; 16] {
+    let mut numbers = [0; 16];
+    for (number, (name, default)) in numbers.iter_mut().zip(SETTINGS.as_slice()) {
+        *number = *default;
+        for (setting, value) in changes {
+            if setting == name {
+                *number = *value;
+            }
+        }
+    }
+    numbers
+}
 
 /// The words of a command line, which one space separates.
 fn words(alloc: Global, line: &str) -> Result<Vec<String>, AllocError> {
@@ -13,196 +87,72 @@ fn words(alloc: Global, line: &str) -> Result<Vec<String>, AllocError> {
     Ok(words)
 }
 
-/// The file and the options of a command line that runs a script.
-fn is_sim(alloc: Global, line: &str, file: &str, options: &Options) -> Result<bool, AllocError> {
+/// The settings of a command line that runs the script of this file.
+fn asked(alloc: Global, line: &str, file: &str) -> Result<Option<[u64; 16]>, AllocError> {
     let words = words(alloc, line)?;
     Ok(match parse(alloc, words.as_slice()) {
-        Ok(
-            Request::Sim {
-                file: f,
-                options: o,
-            },
-        ) => f == file && o == *options,
-        _ => false,
+        Ok(Request::Sim { file: f, options }) if f == file => Some(numbers(&options)),
+        _ => None,
     })
 }
 
 #[test]
 fn sets_each_option(rt: HostRuntime) -> Result<(), Fail> {
     let alloc = rt.alloc();
-    let none = Options::default();
-    let config = none.config;
-    let with = |config: Config| Options { config, ..none };
-    assert!(rt; none.servers == 3 && none.clients == 1);
-    let rows = [
-        ("gfscell sim a.gfs", none),
-        (
-            "gfscell sim a.gfs --servers 77",
-            Options {
-                servers: 77,
-                ..none
-            },
-        ),
-        (
-            "gfscell sim a.gfs --clients 77",
-            Options {
-                clients: 77,
-                ..none
-            },
-        ),
-        (
-            "gfscell sim a.gfs --chunk 77",
-            with(Config {
-                chunk: 77,
-                block: 1,
-                ..config
-            }),
-        ),
-        (
-            "gfscell sim a.gfs --block 77",
-            with(Config {
-                block: 77,
-                ..config
-            }),
-        ),
-        (
-            "gfscell sim a.gfs --goal 77",
-            with(Config { goal: 77, ..config }),
-        ),
-        (
-            "gfscell sim a.gfs --lease-ms 77",
-            with(Config {
-                lease_ms: 77,
-                ..config
-            }),
-        ),
-        (
-            "gfscell sim a.gfs --skew-ms 77",
-            with(Config {
-                skew_ms: 77,
-                ..config
-            }),
-        ),
-        (
-            "gfscell sim a.gfs --attempt-ms 77",
-            with(Config {
-                attempt_ms: 77,
-                ..config
-            }),
-        ),
-        (
-            "gfscell sim a.gfs --attempts 77",
-            with(Config {
-                attempts: 77,
-                ..config
-            }),
-        ),
-        (
-            "gfscell sim a.gfs --cache-entries 77",
-            with(Config {
-                cache_entries: 77,
-                ..config
-            }),
-        ),
-        (
-            "gfscell sim a.gfs --cache-ms 77",
-            with(Config {
-                cache_ms: 77,
-                ..config
-            }),
-        ),
-        (
-            "gfscell sim a.gfs --push-entries 77",
-            with(Config {
-                push_entries: 77,
-                ..config
-            }),
-        ),
-        (
-            "gfscell sim a.gfs --keep-ms 77",
-            with(Config {
-                keep_ms: 77,
-                ..config
-            }),
-        ),
-        (
-            "gfscell sim a.gfs --slots 77",
-            with(Config {
-                slots: 77,
-                ..config
-            }),
-        ),
-        (
-            "gfscell sim a.gfs --log-bytes 77",
-            with(Config {
-                log_bytes: 77,
-                ..config
-            }),
-        ),
-        (
-            "gfscell sim a.gfs --journal 77",
-            with(Config {
-                journal: 77,
-                ..config
-            }),
-        ),
-        // the greatest power of two that divides the chunk and is at most 65,536
-        (
-            "gfscell sim a.gfs --chunk 64",
-            with(Config {
-                chunk: 64,
-                block: 64,
-                ..config
-            }),
-        ),
-        (
-            "gfscell sim a.gfs --chunk 48",
-            with(Config {
-                chunk: 48,
-                block: 16,
-                ..config
-            }),
-        ),
-        (
-            "gfscell sim a.gfs --chunk 131072",
-            with(Config {
-                chunk: 131_072,
-                ..config
-            }),
-        ),
-        (
-            "gfscell sim a.gfs --chunk 64 --block 16",
-            with(Config {
-                chunk: 64,
-                block: 16,
-                ..config
-            }),
-        ),
-        // other forms
-        (
-            "gfscell sim --servers=007 a.gfs",
-            Options { servers: 7, ..none },
-        ),
-        (
-            "gfscell sim a.gfs --servers 18446744073709551615",
-            Options {
-                servers: u64::MAX,
-                ..none
-            },
-        ),
-        (
-            "gfscell sim a.gfs --goal 4294967298",
-            with(Config {
-                goal: u32::MAX,
-                ..config
-            }),
-        ),
-    ];
-    for (line, options) in rows {
-        assert!(rt; is_sim(alloc, line, "a.gfs", &options)?, "{line}");
+    for (name, _) in SETTINGS {
+        let line = format!(in alloc; "gfscell sim a.gfs --{name} 77")?;
+        // the greatest power of two that divides 77 is 1
+        let expected = if name == "chunk" {
+            changed(&[("chunk", 77), ("block", 1)])
+        } else {
+            changed(&[(name, 77)])
+        };
+        let asked = asked(alloc, line.as_str(), "a.gfs")?;
+        assert_eq!(rt; asked, Some(expected), "{line}");
     }
-    assert!(rt; is_sim(alloc, "gfscell sim -", "-", &none)?);
-    assert!(rt; is_sim(alloc, "gfscell sim -- -f", "-f", &none)?);
+    Ok(())
+}
+
+/// Command lines, and the settings that they change.
+const LINES: [(&str, &[(&str, u64)]); 8] = [
+    ("gfscell sim a.gfs", &[]),
+    // the greatest power of two that divides the chunk and is at most 65,536
+    (
+        "gfscell sim a.gfs --chunk 64",
+        &[("chunk", 64), ("block", 64)],
+    ),
+    (
+        "gfscell sim a.gfs --chunk 48",
+        &[("chunk", 48), ("block", 16)],
+    ),
+    ("gfscell sim a.gfs --chunk 131072", &[("chunk", 131_072)]),
+    (
+        "gfscell sim a.gfs --chunk 64 --block 16",
+        &[("chunk", 64), ("block", 16)],
+    ),
+    // other forms
+    ("gfscell sim --servers=007 a.gfs", &[("servers", 7)]),
+    (
+        "gfscell sim a.gfs --servers 18446744073709551615",
+        &[("servers", u64::MAX)],
+    ),
+    (
+        "gfscell sim a.gfs --goal 4294967298",
+        &[("goal", 4_294_967_295)],
+    ),
+];
+
+#[test]
+fn sets_options_together(rt: HostRuntime) -> Result<(), Fail> {
+    let alloc = rt.alloc();
+    for (line, changes) in LINES {
+        let asked = asked(alloc, line, "a.gfs")?;
+        assert_eq!(rt; asked, Some(changed(changes)), "{line}");
+    }
+    let defaults = changed(&[]);
+    assert_eq!(rt; numbers(&Options::default()), defaults);
+    assert_eq!(rt; asked(alloc, "gfscell sim -", "-")?, Some(defaults));
+    assert_eq!(rt; asked(alloc, "gfscell sim -- -f", "-f")?, Some(defaults));
     Ok(())
 }
 
