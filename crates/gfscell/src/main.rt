@@ -11,12 +11,11 @@ use command_line::command::{CommandFault, Request, parse};
 use command_line::options::Options;
 use shell::fault::ScriptFault;
 use shell::run::run_script;
-use std::env;
 use std::error::Error;
-use std::fmt;
 use std::fs::File;
 use std::io::{self, BufReader, BufWriter, ErrorKind, Read};
 use std::process::ExitCode;
+use std::{env, fmt};
 
 /// Why the program fails.
 #[derive(Debug, Drop)]
