@@ -13,15 +13,15 @@ use Rattle.cell_protocol.specs.MasterAsks.{takes_ask}
 use Rattle.cell_protocol.specs.MasterVersions.{takes_recorded}
 
 abbrev pub master_takes : MasterState → Bool → Message → Body → Does MasterState
-master_takes m refused msg (body.Name number deadline c) = takes_name m msg.sender number deadline.0 c refused
-master_takes m refused msg (body.Look number c) = takes_look m msg.sender number c
-master_takes m refused msg (body.Ask number file wanted deadline lost) = takes_ask m msg.sender number file.0 wanted deadline.0
-master_takes m refused msg (body.Recorded handle version) = takes_recorded m handle.0 version.0
-master_takes m refused msg other = stays m
+master_takes m refused arrived (body.Name number deadline c) = takes_name m arrived.sender number deadline.0 c refused
+master_takes m refused arrived (body.Look number c) = takes_look m arrived.sender number c
+master_takes m refused arrived (body.Ask number file wanted deadline lost) = takes_ask m arrived.sender number file.0 wanted deadline.0
+master_takes m refused arrived (body.Recorded handle version) = takes_recorded m handle.0 version.0
+master_takes m refused arrived other = stays m
 
 -- at a tick only the clock moves
 abbrev pub master_does : MasterState → Bool → Input → Does MasterState
-master_does m refused (input.Deliver msg) = master_takes m refused msg msg.body
+master_does m refused (input.Deliver arrived) = master_takes m refused arrived arrived.body
 master_does m refused input.Tick = stays m
 
 -- now is the greatest moment that it was given

@@ -10,7 +10,7 @@ ghost use Rattle.gfs_types.specs.declared.call.Call.TheVariants as call;
 ghost use Rattle.gfs_types.specs.declared.answer.Answer.TheVariants as answer;
 ghost use Rattle.messages.specs.declared.message.NameReply.TheVariants.{Answered};
 ghost use Rattle.relaxed_file.specs.Machine.{Replies};
-ghost use Rattle.gfs_types.specs.Paths.{is_path, parent};
+ghost use Rattle.gfs_types.specs.Paths.{is_path};
 ghost use Rattle.master_cell.specs.NameKinds.{named};
 ghost use Rattle.cell_protocol.specs.Doing.{does, NamesSo};
 ghost use Rattle.cell_protocol.specs.Master.{is_master_within_limits};
@@ -29,6 +29,7 @@ use gfs_types::no_memory::NoMemory;
 use gfs_types::path::{Path, PathFault};
 use gfs_types::refusal::Refusal;
 use messages::message::{Body, NameReply};
+use path_trie::parts;
 use std::alloc::{Allocator, Global};
 
 impl<A: Allocator + Clone> Master<A> {
@@ -241,7 +242,7 @@ impl<A: Allocator + Clone> Master<A> {
         if is_in_trash(path.as_str()) {
             return Ok(Some(Refusal::Reserved));
         }
-        let Ok(parent) = Path::parse(parent_of(path.as_str()), self.alloc) else {
+        let Ok(parent) = Path::parse(parts::parent(path.as_str()), self.alloc) else {
             return Err(NoMemory);
         };
         if !self.is_dir(&parent) {
@@ -307,16 +308,6 @@ fn refused(refusal: Refusal) -> NameReply
     ensures { result ≡ Answered (answer.Refused refusal) }
 {
     NameReply::Answered(Answer::Refused(refusal))
-}
-
-/// The directory right above a path.
-fn parent_of(path: &str) -> &str
-    ensures { result.now ≡ parent path.now }
-{
-    match path.rsplit_once('/') {
-        Some((front, _)) if !front.is_empty() => front,
-        _ => "/",
-    }
 }
 
 /// Whether a path is that of the directory of deleted files, or below it.

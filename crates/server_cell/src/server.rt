@@ -119,11 +119,7 @@ impl Server {
         ensures { IfOk result (λ e. server_takes self.old message.now message.now.body ≡ does self.new e) }
     {
         match &message.body {
-            Body::Push {
-                data,
-                bytes,
-                rest: _,
-            } => self.takes_push(*data, bytes),
+            Body::Push { data, bytes, .. } => self.takes_push(*data, bytes),
             Body::Mutate {
                 data,
                 handle,
@@ -144,16 +140,15 @@ impl Server {
                 version,
             } => self.takes_len(message.sender, *number, *handle, *version),
             Body::Create {
-                order: _,
                 handle,
                 version,
+                ..
             } => self.takes_create(*handle, *version),
             Body::Grant {
-                order: _,
                 handle,
                 version,
                 end,
-                members: _,
+                ..
             } => { self.takes_grant(*handle, *version, *end) }
             _ => Ok(Effects::none(self.alloc)),
         }
