@@ -1,7 +1,7 @@
 -- Entries of mutations that lie within the largest chunk.
 use Rattle.std.proofs.lemmas.List.Elements.{All-nil, All-cons, All-head, All-tail}
-use Rattle.std.proofs.Common.{◌≡◌, ◌≤◌, ◌<◌, arith, ℕ, Bool, true, false, List, [], ◌∷◌, refl}
-use Rattle.std.specs.Prelude.{◌==◌, ◌^◌, All, if◌then◌else◌, filter, map}
+use Rattle.std.proofs.Common.{◌≤◌, ◌<◌, arith, ℕ, Bool, true, false, List, [], ◌∷◌}
+use Rattle.std.specs.Prelude.{◌==◌, ◌^◌, All, if◌then◌else◌, map}
 use Rattle.gfs_types.specs.declared.mutation.Mutation.{Mutation}
 use Rattle.gfs_types.specs.declared.mutation.Mutation.TheVariants as mutation
 use Rattle.gfs_types.specs.Mutations.{end_of}

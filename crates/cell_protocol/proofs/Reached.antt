@@ -1,11 +1,11 @@
 -- How a world that was reached goes on, and how runs are put together.
-use Rattle.std.proofs.Common.{◌≡◌, List, [], ◌∷◌, ◌++◌, Option, refl, sym, ap, ◌∙◌}
+use Rattle.std.proofs.Common.{◌≡◌, List, [], ◌∷◌, ◌++◌, Option, refl, ap, ◌∙◌}
 use Rattle.std.specs.Option.{option_to_list}
 use Rattle.gfs_types.specs.declared.config.Config.{Config}
 use Rattle.messages.specs.declared.event.Event.{Event}
 use Rattle.gfs_types.specs.declared.answer.Answer.{Answer}
 use Rattle.cell_protocol.specs.Choice.{Choice}
-use Rattle.cell_protocol.specs.World.{WorldState, Happened, new_world, happens, after_events, IsReached}
+use Rattle.cell_protocol.specs.World.{WorldState, new_world, happens, after_events, IsReached}
 use Rattle.cell_protocol.specs.Conforms.{WorldSteps, WorldRuns, answers_of}
 
 after-push : (steps : List (Event × Choice)) (w : WorldState) (s : Event × Choice) → after_events w (steps ++ s ∷ []) ≡ (happens (after_events w steps) s.0 s.1).world

@@ -7,7 +7,7 @@ use Rattle.gfs_types.specs.declared.ids.DataId.{DataId}
 use Rattle.gfs_types.specs.declared.ids.Node.{Node}
 use Rattle.gfs_types.specs.declared.mutation.Mutation.{Mutation}
 use Rattle.gfs_types.specs.declared.mutation.Mutation.TheVariants as mutation
-use Rattle.gfs_types.specs.Mutations.{start_of, end_of}
+use Rattle.gfs_types.specs.Mutations.{start_of}
 use Rattle.messages.specs.declared.message.Body.{Body}
 use Rattle.messages.specs.declared.message.Body.TheVariants as body
 use Rattle.messages.specs.declared.message.Message.{Message}
@@ -23,10 +23,10 @@ use Rattle.cell_protocol.specs.declared.standing.Kept.{Kept}
 use Rattle.cell_protocol.specs.Bounds.{largest_chunk, IsWithin, AllSeenWithin}
 use Rattle.cell_protocol.specs.Choice.{Choice, Ending, Goes, Lost}
 use Rattle.cell_protocol.specs.Seen.{Does, stays, ends}
-use Rattle.cell_protocol.specs.Server.{ServerState, Replica, server_says, server_refuses}
+use Rattle.cell_protocol.specs.Server.{ServerState, Replica}
 use Rattle.cell_protocol.specs.ServerReads.{reads_from, measures}
-use Rattle.cell_protocol.specs.ServerOrders.{creates, has_version, with_lease}
-use Rattle.cell_protocol.specs.ServerWrites.{bytes_of, may_place, places, places_within, appends_as, mutates_with, mutates_new, mutates_as, answers_attempt, refuses_attempt, is_held, takes_mutate}
+use Rattle.cell_protocol.specs.ServerOrders.{creates, has_version}
+use Rattle.cell_protocol.specs.ServerWrites.{bytes_of, may_place, places, places_within, appends_as, mutates_with, mutates_new, mutates_as, is_held, takes_mutate}
 use Rattle.cell_protocol.specs.ServerStep.{server_takes, server_does, server_at, server_step}
 
 abbrev IsGood : Does ServerState → Type 0

@@ -54,8 +54,3 @@ impl Counts {
         answered && stored && appended && refused && left_open && told_apart && delivered
     }
 }
-
-/// Counts one more.
-pub fn count(counter: &mut u64) {
-    *counter = counter.saturating_add(1);
-}

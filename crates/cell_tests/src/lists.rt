@@ -1,8 +1,9 @@
 //! Random lists of events: calls, deliveries in any order, repeats, losses and ticks, under clocks that are kept.
 
-use crate::counts::{Counts, count};
+use crate::counts::Counts;
 use crate::model::Model;
 use bytes::Bytes;
+use file_model::small::count;
 use gfs_types::call::Call;
 use gfs_types::config::Config;
 use gfs_types::ids::{ClientId, Fd, Moment, Node, ServerId};

@@ -5,11 +5,12 @@
 //! stand in its chunk's order or not; one that succeeded stands there. So the model keeps each order that may stand, and
 //! each answer leaves those that explain it.
 
-use crate::counts::{Counts, count};
+use crate::counts::Counts;
 use crate::names::PlainNames;
 use bytes::Bytes;
 use file_model::chunks::Part;
 use file_model::files::{PlainFile, Reading};
+use file_model::small::count;
 use gfs_types::answer::Answer;
 use gfs_types::call::Call;
 use gfs_types::ids::Fd;

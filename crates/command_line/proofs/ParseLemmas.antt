@@ -13,7 +13,7 @@ use Rattle.clap.proofs.OnLiterals.{clap_on_literals}
 use Rattle.command_line.specs.Program.{option_names, program}
 use Rattle.command_line.proofs.FaultLemmas.{are_alike, faults_are_alike, first_tells}
 use Rattle.command_line.specs.Asking.{asked_by, to_be_shown, nothing, Answers, Becomes, all_numbered, faults, is_shown, options_of, run_asked, run_of}
-use Rattle.command_line.specs.declared.options.Options.{Options}
+use Rattle.script.specs.declared.options.Options.{Options}
 use Rattle.command_line.specs.declared.command.CommandFault.{CommandFault}
 use Rattle.command_line.specs.declared.command.CommandFault.TheVariants.{Bad, NoMemory}
 use Rattle.command_line.specs.declared.command.Request.{Request}

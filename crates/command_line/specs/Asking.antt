@@ -12,7 +12,7 @@ use Rattle.gfs_types.specs.Settings.{block_for, default_settings}
 use Rattle.gfs_types.specs.declared.config.Config.{Config}
 use Rattle.script.specs.Numbers.{number_of}
 use Rattle.command_line.specs.Program.{option_names, program}
-use Rattle.command_line.specs.declared.options.Options.{Options}
+use Rattle.script.specs.declared.options.Options.{Options}
 use Rattle.command_line.specs.declared.command.CommandFault.{CommandFault}
 use Rattle.command_line.specs.declared.command.CommandFault.TheVariants.{Bad, NoMemory}
 use Rattle.command_line.specs.declared.command.Request.{Request}

@@ -7,11 +7,12 @@ ghost use Rattle.command_line.specs.Asking.{Answers, Becomes, all_numbered, conf
 ghost use Rattle.command_line.specs.Faults.{fault_text};
 ghost use Rattle.command_line.specs.declared.command.CommandFault.TheVariants.{Bad, NoMemory};
 
-use crate::options::{Options, narrowed};
+use crate::narrowed::narrowed;
 use clap::error::ErrorKind;
 use clap::{Arg, ArgAction, ArgMatches, Command};
 use gfs_types::config::{Config, default_block};
 use script::numbers::number;
+use script::options::Options;
 use std::alloc::{AllocError, Global};
 use std::error::Error;
 use std::fmt;

@@ -3,6 +3,6 @@
 #![tactic(auto)]
 
 pub mod command;
-pub mod options;
+pub mod narrowed;
 #[cfg(test)]
 mod tests;

@@ -1,8 +1,8 @@
 //! Tests: what words of a command line set, refuse and show. Names and defaults are those of `docs/SCRIPT.md`.
 
 use crate::command::{CommandFault, Request, parse};
-use crate::options::Options;
 use gfs_types::config::Config;
+use script::options::Options;
 use std::alloc::{AllocError, Global};
 use std::test::Fail;
 

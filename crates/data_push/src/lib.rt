@@ -4,8 +4,6 @@
 mod buffer;
 mod hop;
 pub mod laws;
-#[cfg(test)]
-mod tests;
 
 pub use buffer::Buffer;
 pub use hop::next_hop;

@@ -6,8 +6,6 @@ mod fault;
 mod fuse;
 mod memory;
 mod past_write;
-#[cfg(test)]
-mod tests;
 
 pub use device::{Disk, DiskFault};
 pub use fault::FaultDisk;

@@ -2,8 +2,8 @@
 #![tactic(auto)]
 
 use anyhow::{Context, Result};
-use command_line::options::Options;
 use gfs_types::config::Config;
+use script::options::Options;
 use shell::run::run_script;
 use std::fs::File;
 use std::io::{self, BufReader, BufWriter};

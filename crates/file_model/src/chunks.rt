@@ -3,6 +3,7 @@
 ghost use Rattle.std.specs.Prelude.{◌<◌, ◌^◌, All, IsTrue};
 ghost use Rattle.gfs_types.specs.Mutations as change;
 
+use crate::small::{are_small, is_small, slice_of};
 use gfs_types::mutation::Mutation;
 use gfs_types::no_memory::NoMemory;
 use plain_programs::entry::Entry;
@@ -169,24 +170,6 @@ pub struct Part<'a> {
     pub bytes: &'a [u8],
 }
 
-/// Whether a mutation is as small as those of these tests.
-fn is_small(chunk: u64, mutation: &Mutation) -> bool
-    ensures { IsTrue result → change.end_of chunk mutation.now < 2 ^ 64 }
-{
-    match mutation {
-        Mutation::Write(offset, bytes) | Mutation::Append(offset, bytes) => {
-            *offset <= 4_096 && bytes.len() <= 4_096
-        }
-        Mutation::Pad(_) => chunk <= 4_096,
-    }
-}
-
-fn are_small(chunk: u64, mutations: &[Mutation]) -> bool
-    ensures { IsTrue result → All (λ m. change.end_of chunk m < 2 ^ 64) mutations.now }
-{
-    mutations.iter().all(|mutation| is_small(chunk, mutation))
-}
-
 fn are_small_entries(chunk: u64, entries: &[Entry]) -> bool
     ensures { IsTrue result → All (λ e. change.end_of chunk e.mutation < 2 ^ 64) entries.now }
 {
@@ -218,14 +201,4 @@ fn is_right_in(regions: &[Region], image: &[u8], part: &Part) -> bool {
 
 fn is_determined(regions: &[Region], place: u64) -> bool {
     regions.iter().any(|region| region.determined && region.from <= place && place < region.to)
-}
-
-/// At most `count` bytes from a place on.
-fn slice_of(bytes: &[u8], from: usize, count: usize) -> &[u8] {
-    if bytes.len() < from {
-        return &[];
-    }
-    let rest = &bytes[from..];
-    let end = rest.len().min(count);
-    &rest[..end]
 }

@@ -5,3 +5,4 @@ pub mod appends;
 pub mod chunks;
 pub mod files;
 pub mod late;
+pub mod small;

@@ -1,7 +1,7 @@
 -- What a fault of the program is printed as.
 use Rattle.std.specs.Prelude.{ℕ, List}
 use Rattle.command_line.specs.Faults as command
-use Rattle.shell.specs.Faults as script
+use Rattle.script.specs.ScriptFaults as script
 use Rattle.gfscell.specs.declared.ProgramFault.{ProgramFault}
 use Rattle.gfscell.specs.declared.ProgramFault.TheVariants.{Command, Script}
 

@@ -8,8 +8,8 @@ ghost use Rattle.gfscell.specs.Status.{status_of};
 ghost use Rattle.gfscell.specs.declared.ProgramFault.TheVariants as faults;
 
 use command_line::command::{CommandFault, Request, parse};
-use command_line::options::Options;
-use shell::fault::ScriptFault;
+use script::options::Options;
+use script::script_fault::ScriptFault;
 use shell::run::run_script;
 use std::error::Error;
 use std::fs::File;

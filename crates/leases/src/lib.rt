@@ -4,5 +4,3 @@
 pub mod held;
 pub mod laws;
 pub mod master;
-#[cfg(test)]
-mod tests;

@@ -20,7 +20,7 @@ use Rattle.cell_protocol.specs.Choice.{Choice, Ending, Goes, Lost}
 use Rattle.cell_protocol.specs.Seen.{Does, ends}
 use Rattle.cell_protocol.specs.Master.{MasterState, has_lease, is_master_within_limits}
 use Rattle.cell_protocol.specs.MasterNames.{is_changing, names_by, names_anew, names_kept}
-use Rattle.cell_protocol.specs.MasterAsks.{Asker, looks_at_row, looks_at, mutates_row, mutates_at, asks_to_write, asks_to_append, asks_for, asks_of, takes_ask}
+use Rattle.cell_protocol.specs.MasterAsks.{Asker, looks_at_row, looks_at, mutates_row, mutates_at, asks_for, asks_of}
 use Rattle.cell_protocol.specs.MasterVersions.{learns}
 use Rattle.cell_protocol.specs.MasterStep.{master_takes, master_does, master_at, master_goes, master_step}
 

@@ -3,5 +3,3 @@
 
 pub mod lock_set;
 pub mod table;
-#[cfg(test)]
-mod tests;

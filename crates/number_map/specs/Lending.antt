@@ -1,5 +1,5 @@
 -- What becomes of a map once a borrow of one of its values ends.
-use Rattle.std.specs.Prelude.{◌≡◌, ℕ, Option, OnSome, IsSome}
+use Rattle.std.specs.Prelude.{◌≡◌, ℕ, Option, OnSome}
 use Rattle.std.specs.Ordering.{nat_cmp}
 use Rattle.std.specs.FinMap as map
 use Rattle.std.specs.Borrow.{LendsSo, MutBor, Fml}

@@ -1,12 +1,11 @@
-//! Tests of locks on names and of the buffer of pushed data.
+//! Tests of the buffer of pushed data and of disks.
 #![tactic(auto)]
 
 #[cfg(test)]
+mod buffers;
+#[cfg(test)]
+mod disks;
+#[cfg(test)]
 mod plain_buffer;
 #[cfg(test)]
-mod plain_locks;
-#[cfg(test)]
 mod random_buffer;
-#[cfg(test)]
-mod random_locks;
-pub mod two_tickets;

@@ -1,5 +1,5 @@
 -- What a path has behind a name that it lies at or below, and where a path goes that is moved with it.
-use Rattle.std.proofs.Common.{◌≡◌, ◌≢◌, ◌⊎◌, ℕ, ◌+◌, Bool, true, false, not, cond, ◌&&◌, ◌||◌, nat_eq, List, [], ◌∷◌, ◌++◌, take, drop, length, map, filter, refl, sym, ap, subst, ◌∙◌, inl, inr, arith}
+use Rattle.std.proofs.Common.{◌≡◌, ◌⊎◌, ℕ, Bool, true, false, not, cond, ◌&&◌, ◌||◌, nat_eq, List, [], ◌∷◌, ◌++◌, take, drop, length, map, filter, refl, sym, ap, subst, ◌∙◌, inl, inr}
 use mathlib.Core.Bool.{false≢true}
 use Rattle.std.specs.List.{starts_with, list_all}
 use Rattle.std.specs.Str.{bytes_eq}

@@ -1,14 +1,13 @@
 -- Taking all names that pass a test, before and after others were added.
-use Rattle.std.proofs.Common.{◌≡◌, ℕ, Bool, true, false, not, cond, ◌||◌, List, [], ◌∷◌, Option, Some, None, String, string_bytes, refl, sym, ap, subst, ◌∙◌}
+use Rattle.std.proofs.Common.{◌≡◌, ℕ, Bool, true, false, not, cond, ◌||◌, List, [], ◌∷◌, Option, Some, None, String, string_bytes, refl, sym, ap, ◌∙◌}
 use mathlib.Core.Bool.{false≢true}
 use Rattle.std.specs.declared.cmp.Ordering.TheVariants.{Equal}
 use Rattle.std.specs.Ordering.{nat_cmp, eq_by_cmp}
 use Rattle.std.specs.Cmp.Lexicographic.{slice_cmp, nat_list_cmp_total}
 use Rattle.std.specs.List.{list_any, filter}
-use Rattle.std.specs.Str.{bytes_eq}
 use Rattle.std.proofs.lemmas.Map.Text.{is_eq-slice_cmp}
 use Rattle.std.proofs.lemmas.Slice.Eq.{bytes_eq-Decides}
-use Rattle.std.specs.FinMap.{get, entries, insert, retain_keys, find, from_entries, get-entries, get-insert, get-retain_keys, get-from_entries, same_map}
+use Rattle.std.specs.FinMap.{get, entries, insert, retain_keys, find, get-entries, get-insert, get-retain_keys, get-from_entries, same_map}
 use Rattle.std.specs.FinMap.Entries.{where_key, find-where_key}
 use Rattle.path_trie.specs.Texts.{Names, by_bytes}
 use Rattle.path_trie.proofs.Entries.{bytes_exact, names_of}

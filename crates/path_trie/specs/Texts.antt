@@ -2,7 +2,7 @@
 use Rattle.std.specs.Prelude.{ℕ, List, map, String, string_bytes}
 use Rattle.std.specs.Ordering.{nat_cmp}
 use Rattle.std.specs.Cmp.Lexicographic.{slice_cmp}
-use Rattle.std.specs.FinMap.{FinMap, from_entries}
+use Rattle.std.specs.FinMap.{FinMap}
 
 -- a finite map of full paths, in the order of their bytes
 abbrev pub Names : Type 0 → Type 0

@@ -1,6 +1,6 @@
 //! Copies of all that stands at a path and below it.
 
-ghost use Rattle.std.specs.Prelude.{◌≡◌, ◌++◌, false, true, not, string_bytes, MatchOption, IsOk, IfSome, IfOk, OnOk, OnErr};
+ghost use Rattle.std.specs.Prelude.{◌≡◌, ◌++◌, false, true, not, string_bytes, MatchOption, IsOk, Ok, IfSome, IfOk, OnOk, OnErr};
 ghost use Rattle.std.specs.FinMap as map;
 ghost use Rattle.std.specs.List.{list_all};
 ghost use Rattle.std.specs.BTreeMap.{IsOrdered};
@@ -23,6 +23,15 @@ pub trait TryCopy {
     where
         Self: Sized,
         ensures { IfOk result (λ v. v ≡ self.now) };
+}
+
+impl TryCopy for u64 {
+    /// The number. Takes no memory.
+    fn try_copy(&self) -> Result<u64, NoMemory>
+        ensures { result ≡ Ok self.now }
+    {
+        Ok(*self)
+    }
 }
 
 impl<V: TryCopy + Drop, A: Allocator + Clone> Trie<V, A> {

@@ -4,6 +4,4 @@
 pub mod child;
 pub mod copy;
 pub mod parts;
-#[cfg(test)]
-mod tests;
 pub mod trie;

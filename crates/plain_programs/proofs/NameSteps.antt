@@ -1,5 +1,5 @@
 -- A snapshot's copies one after another, and a name step by its parts.
-use Rattle.std.proofs.Common.{◌≡◌, ℕ, suc, ◌-◌, Bool, true, false, cond, List, [], ◌∷◌, Option, Some, None, refl, sym, ap, subst, ◌∙◌, arith}
+use Rattle.std.proofs.Common.{◌≡◌, ℕ, suc, ◌-◌, Bool, true, false, cond, List, [], ◌∷◌, Some, None, refl, sym, ap, subst, ◌∙◌, arith}
 use Rattle.gfs_types.specs.declared.call.Call.{Call}
 use Rattle.gfs_types.specs.declared.call.Call.TheVariants as call
 use Rattle.gfs_types.specs.declared.refusal.Refusal.{Refusal}
@@ -7,7 +7,7 @@ use Rattle.gfs_types.specs.declared.answer.Answer.TheVariants as answer
 use Rattle.gfs_types.specs.Paths.{Path}
 use Rattle.relaxed_file.specs.Names.{Node, Dir, File, node_at, copied_entries, with_copies, id_after_all}
 use Rattle.relaxed_file.specs.Machine.{Machine, Outcome, Replies}
-use Rattle.relaxed_file.specs.NameStep.{refusal_of, done_outcome, outcome_of, outcome_by, opened, is_refused, performed}
+use Rattle.relaxed_file.specs.NameStep.{refusal_of, done_outcome, outcome_by, opened, is_refused, performed}
 use Rattle.plain_programs.specs.NameTables.{NameTable, HasTable, Performs, IsNameStep, with_copy, with_all_copies}
 
 all_names : (es : List (Path × Node)) (t : NameTable) → with_copies t.names (suc t.file_count) es ≡ (with_all_copies t es).names

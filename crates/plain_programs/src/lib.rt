@@ -11,10 +11,6 @@ pub mod name_kind;
 pub mod name_list;
 mod name_refusals;
 pub mod name_table;
-#[cfg(test)]
-mod name_tests;
 pub mod outcome;
 pub mod regions;
 pub mod selection;
-#[cfg(test)]
-mod tests;

@@ -27,6 +27,3 @@ pub fn place(length: u64, size: u64, chunk: u64) -> Placing
     }
     Placing::At(length)
 }
-
-#[cfg(test)]
-mod tests;

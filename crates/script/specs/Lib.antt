@@ -4,3 +4,4 @@ pub mod Words
 pub mod Lines
 pub mod Answers
 pub mod Faults
+pub mod ScriptFaults

@@ -1,8 +1,6 @@
 //! A chunk as the list of its mutations.
 
-ghost use Rattle.std.specs.Prelude.{◌<◌, ◌^◌, All, IsTrue};
-ghost use Rattle.gfs_types.specs.Mutations as change;
-
+use file_model::small::are_small;
 use gfs_types::mutation::Mutation;
 use gfs_types::no_memory::NoMemory;
 use plain_programs::image::{image, length};
@@ -50,22 +48,4 @@ impl PlainChunk {
             Ok(None)
         }
     }
-}
-
-/// Whether a mutation is as small as those of these tests.
-fn is_small(chunk: u64, mutation: &Mutation) -> bool
-    ensures { IsTrue result → change.end_of chunk mutation.now < 2 ^ 64 }
-{
-    match mutation {
-        Mutation::Write(offset, bytes) | Mutation::Append(offset, bytes) => {
-            *offset <= 4_096 && bytes.len() <= 4_096
-        }
-        Mutation::Pad(_) => chunk <= 4_096,
-    }
-}
-
-fn are_small(chunk: u64, mutations: &[Mutation]) -> bool
-    ensures { IsTrue result → All (λ m. change.end_of chunk m < 2 ^ 64) mutations.now }
-{
-    mutations.iter().all(|mutation| is_small(chunk, mutation))
 }

@@ -1,5 +1,6 @@
 //! How much came to pass in the scripts of a test.
 
+use file_model::small::count;
 use gfs_types::answer::Answer;
 use gfs_types::refusal::Refusal;
 
@@ -55,9 +56,4 @@ impl Counts {
             Answer::Refused(_) => count(&mut self.refused),
         }
     }
-}
-
-/// Counts one more.
-fn count(counter: &mut u64) {
-    *counter = counter.saturating_add(1);
 }

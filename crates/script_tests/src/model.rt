@@ -2,6 +2,7 @@
 
 use crate::file::PlainFile;
 use bytes::Bytes;
+use file_model::small::slice_of;
 use gfs_types::answer::Answer;
 use gfs_types::call::Call;
 use gfs_types::ids::{Fd, FileId};
@@ -156,19 +157,9 @@ impl PlainCell {
             let bytes = Bytes::new();
             return Ok(Answer::Bytes { bytes, rounds });
         };
-        let part = part_of(held.as_slice(), start as usize, count as usize);
+        let part = slice_of(held.as_slice(), start as usize, count as usize);
         let bytes = Bytes::copy_from_slice(self.alloc, part)?;
         rounds.push(1)?;
         Ok(Answer::Bytes { bytes, rounds })
     }
-}
-
-/// At most `count` bytes from a place on.
-fn part_of(bytes: &[u8], from: usize, count: usize) -> &[u8] {
-    if bytes.len() < from {
-        return &[];
-    }
-    let rest = &bytes[from..];
-    let end = rest.len().min(count);
-    &rest[..end]
 }

@@ -16,13 +16,14 @@ use Rattle.cell_protocol.specs.World.{WorldState, new_world}
 use Rattle.script.specs.declared.lines.Line.{Line}
 use Rattle.script.specs.declared.lines.Line.TheVariants as line
 use Rattle.script.specs.Lines.{line_of, is_skipped, line_for, words_of}
-use Rattle.shell.specs.Faults.{IsOfRead, IsOfStart, IsOfWrite}
+use Rattle.script.specs.ScriptFaults.{IsOfRead, IsOfWrite}
+use Rattle.shell.specs.Faults.{IsOfStart}
 use Rattle.shell.specs.Printing.{Prints}
 use Rattle.shell.specs.Reading.{line_feed, longest_line, HasNoFeed, EndsLine, ReadsLine}
 use Rattle.shell.specs.Scripts.{lines_in, AreRead, Leaves, RunsLines}
 use Rattle.shell.specs.Stopped.{last_number, has_client, IsBad, IsUnanswered, IsBadNext, IsUnansweredNext, StopsWith, Stops, StopsOn}
-use Rattle.shell.specs.declared.fault.ScriptFault.{ScriptFault}
-use Rattle.shell.specs.declared.fault.ScriptFault.TheVariants as fault
+use Rattle.script.specs.declared.script_fault.ScriptFault.{ScriptFault}
+use Rattle.script.specs.declared.script_fault.ScriptFault.TheVariants as fault
 use Rattle.shell.proofs.Bytes.{keeps_all}
 use Rattle.shell.proofs.Lines.{nothing_left}
 use Rattle.shell.proofs.Printing.{appends_kept}

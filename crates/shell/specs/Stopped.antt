@@ -13,8 +13,8 @@ use Rattle.script.specs.Lines.{line_of}
 use Rattle.shell.specs.Chunks.{regions_shown, replicas_shown}
 use Rattle.shell.specs.Printing.{Reaches, MayAsk, calls_of, lines_of}
 use Rattle.shell.specs.Scripts.{IsLine, asked_on, lines_in, ComeTo}
-use Rattle.shell.specs.declared.fault.ScriptFault.{ScriptFault}
-use Rattle.shell.specs.declared.fault.ScriptFault.TheVariants as fault
+use Rattle.script.specs.declared.script_fault.ScriptFault.{ScriptFault}
+use Rattle.script.specs.declared.script_fault.ScriptFault.TheVariants as fault
 
 -- the greatest number of a line
 abbrev pub last_number : ℕ

@@ -4,11 +4,11 @@ ghost use Rattle.std.specs.Prelude.{◌≡◌, IfErr, OnOk};
 ghost use Rattle.shell.specs.Scripts.{IsIdle, IsLine, Runs, RunsAll, RunsTheScript, asked_on};
 ghost use Rattle.shell.specs.Stopped.{Stops, StopsOn, StopsWith};
 
-use crate::fault::ScriptFault;
 use crate::reading::read_line;
 use crate::simulator::Simulator;
-use command_line::options::Options;
 use script::lines::{Line, parse};
+use script::options::Options;
+use script::script_fault::ScriptFault;
 use std::alloc::{Allocator, Global};
 use std::io::{BufRead, Write};
 

@@ -4,23 +4,25 @@ ghost use Rattle.std.specs.Prelude.{◌≡◌, ◌≢◌, ◌∷◌, [], Some, I
 ghost use Rattle.std.specs.Option.{is_some};
 ghost use Rattle.std.specs.Io.KnownBytes.{Appends, Keeps};
 ghost use Rattle.shell.specs.Chunks.{regions_shown, replicas_shown};
-ghost use Rattle.shell.specs.Faults.{IsOfStart, IsOfWrite};
+ghost use Rattle.script.specs.ScriptFaults.{IsOfWrite};
+ghost use Rattle.shell.specs.Faults.{IsOfStart, start_fault};
 ghost use Rattle.shell.specs.Printing.{Adds, Follows, Prints, after_round, after_rounds, answers_at, asked_by, line_at, node_of, now_of};
 ghost use Rattle.shell.specs.Reading.{with_feed};
 ghost use Rattle.shell.specs.Stopped.{has_client};
 ghost use Rattle.cell_protocol.specs.World.{new_world};
 ghost use Rattle.relaxed_file.specs.Run.{Called};
 
-use crate::chunk_lines::{RegionsLine, ReplicasLine};
-use crate::fault::ScriptFault;
+use cell_core::fault::StartFault;
 use cell_core::world::World;
-use command_line::options::Options;
+use chunk_lines::{RegionsLine, ReplicasLine};
 use gfs_types::answer::Answer;
 use gfs_types::call::Call;
 use gfs_types::ids::{ClientId, Moment, Node, ServerId};
 use messages::event::Event;
 use script::answers::AnswerLine;
 use script::lines::FileChunk;
+use script::options::Options;
+use script::script_fault::ScriptFault;
 use std::alloc::{Allocator, Global};
 use std::fmt;
 use std::io::Write;
@@ -81,7 +83,7 @@ impl<A: Allocator + Clone> Simulator<A> {
                 servers,
                 clients,
             }),
-            Err(fault) => Err(ScriptFault::of_start(&fault)),
+            Err(fault) => Err(of_start(&fault)),
         }
     }
 
@@ -279,6 +281,17 @@ impl<A: Allocator + Clone> Simulator<A> {
         };
         print_line(&line, writer)?;
         Ok(true)
+    }
+}
+
+/// Why there is no cell.
+fn of_start(fault: &StartFault) -> ScriptFault
+    ensures fault { result ≡ start_fault fault.now }
+    ensures either { IsOfStart result }
+{
+    match fault {
+        StartFault::NoMemory => ScriptFault::NoMemory,
+        StartFault::Config(_) | StartFault::Count | StartFault::NamesFull => ScriptFault::Start,
     }
 }
 

@@ -1,4 +1,4 @@
-use Rattle.std.proofs.Common.{◌≡◌, ◌<◌, ◌++◌, [], ◌∷◌, ◌∙◌, ap, subst}
+use Rattle.std.proofs.Common.{◌++◌, [], ◌∷◌, ◌∙◌, ap}
 use Rattle.plain_programs.proofs.Images.{byte_taken}
 use Rattle.plain_programs.proofs.image.image.Goals as goal
 

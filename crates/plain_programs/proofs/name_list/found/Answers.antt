@@ -1,4 +1,4 @@
-use Rattle.std.proofs.Common.{◌≡◌, Some, sym, ap, ◌∙◌}
+use Rattle.std.proofs.Common.{Some, sym, ap, ◌∙◌}
 use Rattle.std.specs.Str.{bytes_eq}
 use Rattle.plain_programs.proofs.Sorted.{found_here, found_later}
 use Rattle.plain_programs.proofs.name_list.found.Goals as goal

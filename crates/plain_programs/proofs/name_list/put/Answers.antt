@@ -1,4 +1,4 @@
-use Rattle.std.proofs.Common.{◌≡◌, ◌≤◌, arith, not, filter, length, sym, subst, ap, ◌∙◌}
+use Rattle.std.proofs.Common.{◌≤◌, arith, not, filter, length, ap, ◌∙◌}
 use Rattle.std.specs.Str.{bytes_eq}
 use Rattle.std.specs.List.{insert}
 use Rattle.std.specs.FinMap.Entries.{find, put}

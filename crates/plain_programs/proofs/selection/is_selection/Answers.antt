@@ -1,9 +1,9 @@
-use Rattle.std.proofs.Common.{◌≡◌, ◌+◌, ◌<◌, ◌≤◌, ℕ, Bool, List, length, drop, Some, true, false, refl, sym, ap, subst, ◌∙◌, arith, eq-eqb}
+use Rattle.std.proofs.Common.{◌≡◌, ◌+◌, ◌<◌, ◌≤◌, ℕ, Bool, length, drop, Some, false, sym, subst, ◌∙◌, arith, eq-eqb}
 use Rattle.std.specs.Prelude.{◌↔◌, IsTrue, slice_get}
 use Rattle.std.proofs.lemmas.Bool.{eqb-true}
 use Rattle.std.proofs.lemmas.Option.{slice_get_within}
 use mathlib.Core.Bool.{false≢true}
-use Rattle.relaxed_file.specs.Order.{Entry, IsSelection}
+use Rattle.relaxed_file.specs.Order.{IsSelection}
 use Rattle.plain_programs.proofs.Selections.{next_taken, next_left, next_missing, at_end}
 use Rattle.plain_programs.proofs.selection.is_selection.Goals.{then-is_next, else-is_next+else-is_settled, else-is_settled-via-then-is_settled+else-round-last, else-is_settled-via-else-is_settled}
 use Rattle.plain_programs.proofs.selection.is_selection.Goals as goal

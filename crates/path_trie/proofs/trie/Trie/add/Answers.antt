@@ -1,4 +1,4 @@
-use Rattle.std.proofs.Common.{sym, ap, ◌∙◌, string_bytes}
+use Rattle.std.proofs.Common.{ap, ◌∙◌, string_bytes}
 use Rattle.std.specs.FinMap as map
 use Rattle.path_trie.proofs.Entries.{inserted}
 use Rattle.path_trie.proofs.trie.Trie.add.Goals as goal

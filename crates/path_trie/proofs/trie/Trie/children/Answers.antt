@@ -2,7 +2,7 @@ use Rattle.std.proofs.Common.{◌≡◌, sym, ap, ◌∙◌}
 use Rattle.std.specs.FinMap.{entries}
 use Rattle.path_trie.specs.Below.{child_entries, children_by_part}
 use Rattle.path_trie.specs.Texts.{by_bytes}
-use Rattle.path_trie.proofs.Entries.{entries_by_bytes, names_of}
+use Rattle.path_trie.proofs.Entries.{entries_by_bytes}
 use Rattle.path_trie.proofs.Outcomes.{if_ok_along}
 use Rattle.path_trie.proofs.trie.Trie.children.Goals as goal
 

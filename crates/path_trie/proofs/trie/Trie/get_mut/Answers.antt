@@ -1,4 +1,4 @@
-use Rattle.std.proofs.Common.{◌≡◌, sym, ap, ◌∙◌, IsSome, subst, Option}
+use Rattle.std.proofs.Common.{sym, ap, ◌∙◌, IsSome, subst}
 use Rattle.std.specs.FinMap as map
 use Rattle.std.specs.BTreeMap.{get_by_text}
 use Rattle.path_trie.proofs.Entries.{get_by_bytes, inserted, names_of}

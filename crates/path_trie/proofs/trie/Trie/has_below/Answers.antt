@@ -1,6 +1,5 @@
-use Rattle.std.proofs.Common.{string_bytes, sym, ap, ◌∙◌}
+use Rattle.std.proofs.Common.{sym, ap, ◌∙◌}
 use Rattle.std.specs.List.{list_any}
-use Rattle.std.specs.FinMap.{entries}
 use Rattle.gfs_types.specs.Paths.{is_below}
 use Rattle.path_trie.specs.Texts.{by_bytes}
 use Rattle.path_trie.specs.Below.{has_below}

@@ -1,8 +1,7 @@
-use Rattle.std.proofs.Common.{not, string_bytes, sym, ap, ◌∙◌, rules}
+use Rattle.std.proofs.Common.{not, string_bytes, ap, ◌∙◌, rules}
 use Rattle.std.specs.FinMap as map
 use Rattle.gfs_types.specs.Paths.{is_at_or_below}
 use Rattle.std.proofs.lemmas.Map.Made.{filter_same_pairs}
-use Rattle.path_trie.proofs.Entries.{names_of}
 use Rattle.path_trie.proofs.Retained.{retained}
 use Rattle.path_trie.specs.Texts.{by_bytes}
 use Rattle.path_trie.proofs.trie.Trie.remove_all.Goals as goal

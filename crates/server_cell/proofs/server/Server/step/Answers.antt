@@ -1,6 +1,5 @@
 use Rattle.std.proofs.Common.{subst}
 use Rattle.cell_protocol.specs.Bounds.{AllSeenWithin}
-use Rattle.cell_protocol.specs.Conforms.{ServerSteps}
 use Rattle.cell_protocol.proofs.Goes.{server_did}
 use Rattle.cell_protocol.proofs.Exits.{server_lost}
 use Rattle.cell_protocol.proofs.Within.{seen_within}

@@ -1,0 +1,475 @@
+//! The namespace: what no contract says, each call once, and refused memory.
+
+ghost use Rattle.std.specs.Prelude.{◌≡◌, ◌↔◌, None, IsSome, IsErrOf, OnOk, OnErr};
+ghost use Rattle.std.specs.FinMap as map;
+ghost use Rattle.gfs_types.specs.declared.refusal.Refusal.TheVariants.{Exists};
+
+use gfs_types::no_memory::NoMemory;
+use gfs_types::path::{Path, PathFault};
+use gfs_types::refusal::Refusal;
+use linked_list_allocator::LocalHeap;
+use path_trie::copy::TryCopy;
+use path_trie::parts::{is_at_or_below, is_below, is_child, last_part, parent, rest_below};
+use path_trie::trie::Trie;
+use std::alloc::{Allocator, Global};
+use std::collections::BTreeMap;
+use std::test::Fail;
+
+// The caller of CALLING.md.
+/// Makes an entry for a new file, unless something stands at its path.
+fn create<A: Allocator + Clone>(
+    names: &mut Trie<u64, A>,
+    path: &Path,
+    file: u64,
+) -> Result<(), Refusal>
+    ensures made { OnOk result (names.new ≡ map.insert names.old path.now file) }
+    ensures exists { IsErrOf result Exists ↔ IsSome (map.get names.old path.now) }
+    ensures refused { OnErr result (names.new ≡ names.old) }
+{
+    if names.get(path).is_some() {
+        return Err(Refusal::Exists);
+    }
+    match names.insert(path, file) {
+        Ok(()) => Ok(()),
+        Err(_) => Err(Refusal::NoMemory),
+    }
+}
+
+fn put<A: Allocator + Clone>(
+    alloc: Global,
+    trie: &mut Trie<u64, A>,
+    text: &str,
+    value: u64,
+) -> Result<bool, Fail> {
+    let path = Path::parse(text, alloc)?;
+    Ok(trie.insert(&path, value).is_ok())
+}
+
+fn at<A: Allocator + Clone>(
+    alloc: Global,
+    trie: &Trie<u64, A>,
+    text: &str,
+) -> Result<Option<u64>, Fail> {
+    let path = Path::parse(text, alloc)?;
+    Ok(trie.get(&path).copied())
+}
+
+fn listed<A: Allocator + Clone>(
+    alloc: Global,
+    trie: &Trie<u64, A>,
+    text: &str,
+) -> Result<String, Fail> {
+    let path = Path::parse(text, alloc)?;
+    let mut line = String::new(alloc);
+    for child in &trie.children(alloc, &path)? {
+        line.push_str(child.name())?;
+        line.push_str(" ")?;
+    }
+    Ok(line)
+}
+
+fn tree(alloc: Global) -> Result<Trie<u64, Global>, Fail> {
+    let mut trie = Trie::new(alloc)?;
+    let rows = [
+        ("/", 0),
+        ("/d", 1),
+        ("/d/b", 2),
+        ("/d/b/x", 3),
+        ("/d/a", 4),
+        ("/d-e", 5),
+        ("/dd", 6),
+        ("/.gone", 7),
+    ];
+    for (text, value) in rows {
+        put(alloc, &mut trie, text, value)?;
+    }
+    Ok(trie)
+}
+
+#[test]
+fn each_call(rt: HostRuntime) -> Result<(), Fail> {
+    let alloc = rt.alloc();
+    let mut trie = tree(alloc)?;
+    assert_eq!(rt; trie.len(), 8);
+    assert_eq!(rt; at(alloc, &trie, "/d/b/x")?, Some(3));
+    assert_eq!(rt; at(alloc, &trie, "/d/c")?, None);
+    assert_eq!(rt; listed(alloc, &trie, "/")?.as_str(), ".gone d d-e dd ");
+    assert_eq!(rt; listed(alloc, &trie, "/d")?.as_str(), "a b ");
+    assert_eq!(rt; listed(alloc, &trie, "/d/b/x")?.as_str(), "");
+    let directory = Path::parse("/d", alloc)?;
+    let file = Path::parse("/d-e", alloc)?;
+    assert!(rt; trie.has_below(&directory));
+    assert!(rt; !trie.has_below(&file));
+    assert!(rt; trie.has_at_or_below(&file));
+    if let Some(value) = trie.get_mut(&file) {
+        *value = 50;
+    }
+    assert_eq!(rt; at(alloc, &trie, "/d-e")?, Some(50));
+    assert_eq!(rt; create(&mut trie, &file, 51), Err(Refusal::Exists));
+    assert_eq!(rt; trie.remove(&file), Some(50));
+    assert_eq!(rt; trie.remove(&file), None);
+    assert!(rt; !trie.has_at_or_below(&file));
+    assert_eq!(rt; trie.len(), 7);
+    assert_eq!(rt; create(&mut trie, &file, 51), Ok(()));
+    assert_eq!(rt; at(alloc, &trie, "/d-e")?, Some(51));
+    let children = trie.children(alloc, &directory)?;
+    let values: Vec<u64> = children.iter().map(|child| *child.value()).collect(alloc)?;
+    assert_eq!(rt; values.as_slice(), [4, 2].as_slice());
+    for child in children {
+        assert_eq!(rt; child.into_name().as_str().len(), 1);
+    }
+    Ok(())
+}
+
+#[test]
+fn copies_a_tree(rt: HostRuntime) -> Result<(), Fail> {
+    let alloc = rt.alloc();
+    let mut trie = tree(alloc)?;
+    let from = Path::parse("/d", alloc)?;
+    let to = Path::parse("/e", alloc)?;
+    if trie.has_at_or_below(&to) {
+        return Err(Fail::new("something stands there"));
+    }
+    trie.copy_below(&from, &to)?;
+    assert_eq!(rt; trie.len(), 12);
+    assert_eq!(rt; listed(alloc, &trie, "/e")?.as_str(), "a b ");
+    assert_eq!(rt; at(alloc, &trie, "/e")?, Some(1));
+    assert_eq!(rt; at(alloc, &trie, "/e/b/x")?, Some(3));
+    assert_eq!(rt; at(alloc, &trie, "/d/b/x")?, Some(3));
+    assert_eq!(rt; at(alloc, &trie, "/e-e")?, None);
+    Ok(())
+}
+
+#[test]
+fn an_insert_over_a_path_replaces_its_value(rt: HostRuntime) -> Result<(), Fail> {
+    let alloc = rt.alloc();
+    let mut trie = tree(alloc)?;
+    for (text, value) in [("/d/b", 20), ("/", 100), ("/d/b", 21)] {
+        assert!(rt; put(alloc, &mut trie, text, value)?);
+        assert_eq!(rt; trie.len(), 8, "{text}");
+        assert_eq!(rt; at(alloc, &trie, text)?, Some(value), "{text}");
+    }
+    for (text, value) in [("/", 100), ("/d", 1), ("/d/b/x", 3), ("/d/a", 4)] {
+        assert_eq!(rt; at(alloc, &trie, text)?, Some(value), "{text}");
+    }
+    assert_eq!(rt; listed(alloc, &trie, "/d")?.as_str(), "a b ");
+    Ok(())
+}
+
+#[test]
+fn where_one_path_lies_from_another(rt: HostRuntime) {
+    let rows = [
+        ("/", "/", false, false, Some("")),
+        ("/", "/a", true, true, Some("/a")),
+        ("/", "/a/b", true, false, Some("/a/b")),
+        ("/d", "/d", false, false, Some("")),
+        ("/d", "/d/a", true, true, Some("/a")),
+        ("/d", "/d/a/b", true, false, Some("/a/b")),
+        ("/d", "/d-e", false, false, None),
+        ("/d/a", "/d", false, false, None),
+    ];
+    for (top, path, below, child, rest) in rows {
+        assert_eq!(rt; is_below(top, path), below, "{path} below {top}");
+        assert_eq!(rt; is_child(top, path), child, "{path} in {top}");
+        assert_eq!(rt; rest_below(top, path), rest, "{path} behind {top}");
+        assert_eq!(rt;
+            is_at_or_below(top, path),
+            rest.is_some(),
+            "{path} at {top}"
+        );
+    }
+}
+
+#[test]
+fn a_path_has_a_parent_and_a_last_part(rt: HostRuntime) {
+    let rows = [
+        ("/", "/", ""),
+        ("/a", "/", "a"),
+        ("/a/b", "/a", "b"),
+        ("/a/b/c.d", "/a/b", "c.d"),
+    ];
+    for (path, above, last) in rows {
+        assert_eq!(rt; parent(path), above, "{path}");
+        assert_eq!(rt; last_part(path), last, "{path}");
+    }
+}
+
+// The path of one of ten thousand files in a hundred directories.
+fn file_text(alloc: Global, number: u64) -> Result<String, Fail> {
+    Ok(format!(in alloc; "/d{}/f{}", number % 100, number)?)
+}
+
+// Puts a value at a file's path, in both maps.
+fn put_file(
+    alloc: Global,
+    trie: &mut Trie<u64, Global>,
+    map: &mut BTreeMap<String, u64>,
+    number: u64,
+    value: u64,
+) -> Result<bool, Fail> {
+    let text = file_text(alloc, number)?;
+    let is_put = put(alloc, trie, text.as_str(), value)?;
+    map.insert(text, value)?;
+    Ok(is_put && trie.len() == map.len())
+}
+
+// Takes what stands at a file's path out of both maps. Whether it was the same.
+fn is_removed_alike(
+    alloc: Global,
+    trie: &mut Trie<u64, Global>,
+    map: &mut BTreeMap<String, u64>,
+    number: u64,
+) -> Result<bool, Fail> {
+    let text = file_text(alloc, number)?;
+    let path = Path::parse(text.as_str(), alloc)?;
+    Ok(trie.remove(&path) == map.remove(text.as_str()))
+}
+
+// What stands right below a directory, by the map's calls.
+fn children_line(alloc: Global, trie: &Trie<u64, Global>, text: &str) -> Result<String, Fail> {
+    let path = Path::parse(text, alloc)?;
+    let mut line = String::new(alloc);
+    for child in &trie.children(alloc, &path)? {
+        let entry = format!(in alloc; "{}={} ", child.name(), child.value())?;
+        line.push_str(entry.as_str())?;
+    }
+    Ok(line)
+}
+
+// The same by a search of all names, none of which lies deeper below a directory.
+fn searched_line(alloc: Global, map: &BTreeMap<String, u64>, text: &str) -> Result<String, Fail> {
+    let front = format!(in alloc; "{text}/")?;
+    let mut line = String::new(alloc);
+    for (name, value) in map {
+        if let Some(last) = name.as_str().strip_prefix(front.as_str()) {
+            let entry = format!(in alloc; "{last}={value} ")?;
+            line.push_str(entry.as_str())?;
+        }
+    }
+    Ok(line)
+}
+
+// Whether both maps say the same of what lies at a path and below it: the first may be counted or not.
+fn has_alike(
+    alloc: Global,
+    trie: &Trie<u64, Global>,
+    map: &BTreeMap<String, u64>,
+    text: &str,
+) -> Result<bool, Fail> {
+    let path = Path::parse(text, alloc)?;
+    let front = format!(in alloc; "{text}/")?;
+    let (mut is_there, mut has_below) = (false, false);
+    for name in map.keys() {
+        is_there = is_there || name.as_str() == text;
+        has_below = has_below || name.as_str().starts_with(front.as_str());
+    }
+    Ok(trie.has_below(&path) == has_below && trie.has_at_or_below(&path) == (is_there || has_below))
+}
+
+// Ten thousand names in both maps: a new value at each fifth, then no value at each third, and none in `/d42`.
+fn ten_thousand(
+    alloc: Global,
+    trie: &mut Trie<u64, Global>,
+    map: &mut BTreeMap<String, u64>,
+) -> Result<bool, Fail> {
+    let mut all = true;
+    for i in 0..10_000u64 {
+        all = put_file(alloc, trie, map, i * 7919 % 10_000, i)? && all;
+    }
+    for i in 0..2_000u64 {
+        all = put_file(alloc, trie, map, i * 5, i + 10_000)? && all;
+    }
+    all = trie.len() == 10_000 && all;
+    for i in 0..10_000u64 {
+        if i % 3 == 0 || i % 100 == 42 {
+            all = is_removed_alike(alloc, trie, map, i)? && all;
+        }
+    }
+    Ok(all)
+}
+
+#[test]
+fn like_a_map_of_ten_thousand(rt: HostRuntime) -> Result<(), Fail> {
+    let alloc = rt.alloc();
+    let mut trie = Trie::new(alloc)?;
+    let mut map = BTreeMap::new(alloc);
+    assert!(rt; ten_thousand(alloc, &mut trie, &mut map)?);
+    // 3,334 of them are multiples of three, and 66 more lie in `/d42`
+    assert_eq!(rt; trie.len(), 6_600);
+    for i in 0..10_000u64 {
+        let text = file_text(alloc, i)?;
+        assert_eq!(rt;
+            at(alloc, &trie, text.as_str())?,
+            map.get(text.as_str()).copied()
+        );
+    }
+    for i in 0..101u64 {
+        let text = format!(in alloc; "/d{i}")?;
+        let line = children_line(alloc, &trie, text.as_str())?;
+        let searched = searched_line(alloc, &map, text.as_str())?;
+        assert_eq!(rt; line.as_str(), searched.as_str(), "{text}");
+        assert!(rt; has_alike(alloc, &trie, &map, text.as_str())?, "{text}");
+        let file = file_text(alloc, i * 99)?;
+        assert!(rt; has_alike(alloc, &trie, &map, file.as_str())?, "{file}");
+    }
+    Ok(())
+}
+
+const NAMES: [&str; 8] = ["/", "/d", "/d/a", "/d/b", "/d/c", "/d/d", "/d/e", "/d/f"];
+
+const COPIES: [&str; 7] = ["/e", "/e/a", "/e/b", "/e/c", "/e/d", "/e/e", "/e/f"];
+
+// Puts the names in turn, and gives how many were put before one was refused.
+fn names_put<A: Allocator + Clone>(alloc: Global, trie: &mut Trie<u64, A>) -> Result<usize, Fail> {
+    let mut count = 0;
+    for text in NAMES {
+        if !put(alloc, trie, text, 7)? {
+            return Ok(count);
+        }
+        count = count.saturating_add(1).min(NAMES.len());
+    }
+    Ok(count)
+}
+
+// How many of these names stand in the map.
+fn names_there<A: Allocator + Clone>(
+    alloc: Global,
+    trie: &Trie<u64, A>,
+    names: &[&str],
+) -> Result<usize, Fail> {
+    let mut count = 0usize;
+    for text in names {
+        if at(alloc, trie, text)? == Some(7) {
+            count = count.saturating_add(1);
+        }
+    }
+    Ok(count)
+}
+
+fn copied<V: TryCopy + Drop, A: Allocator + Clone>(
+    alloc: Global,
+    trie: &mut Trie<V, A>,
+) -> Result<bool, Fail> {
+    let from = Path::parse("/d", alloc)?;
+    let to = Path::parse("/e", alloc)?;
+    if trie.has_at_or_below(&to) {
+        return Err(Fail::new("something stands there"));
+    }
+    Ok(trie.copy_below(&from, &to).is_ok())
+}
+
+// Heaps that grow by the least block, so that each allocation in turn is the first to be refused: those of eight names, and those of a copy of seven.
+#[test]
+fn refused_memory_leaves_the_map(rt: HostRuntime) -> Result<(), Fail> {
+    let alloc = rt.alloc();
+    let (mut met, mut refused_copies, mut copies) = ([false; 9], 0u64, 0u64);
+    for size in 1..200 {
+        let heap = LocalHeap::new(alloc, size * 16)?;
+        let mut trie = Trie::new(&heap)?;
+        let count = names_put(alloc, &mut trie)?;
+        met[count.min(8)] = true;
+        assert_eq!(rt; trie.len(), count, "heap {size}");
+        assert_eq!(rt; names_there(alloc, &trie, &NAMES)?, count, "heap {size}");
+        if count < 8 {
+            continue;
+        }
+        let used = heap.used();
+        let is_copied = copied(alloc, &mut trie)?;
+        let (more, len) = if is_copied { (7, 15) } else { (0, 8) };
+        assert_eq!(rt; trie.len(), len, "heap {size}");
+        assert_eq!(rt; names_there(alloc, &trie, &NAMES)?, 8, "heap {size}");
+        assert_eq!(rt; names_there(alloc, &trie, &COPIES)?, more, "heap {size}");
+        if is_copied {
+            copies = copies.saturating_add(1);
+        } else {
+            refused_copies = refused_copies.saturating_add(1);
+            assert_eq!(rt; heap.used(), used, "heap {size}");
+        }
+    }
+    assert_eq!(rt; met, [true; 9]);
+    assert!(rt;
+        copies > 0 && refused_copies > 7,
+        "{copies}, {refused_copies}"
+    );
+    Ok(())
+}
+
+// Three names, and the directory of two of them.
+fn three_names(alloc: Global) -> Result<(Trie<u64, Global>, Path), PathFault> {
+    let mut trie = Trie::new(alloc)?;
+    for (text, value) in [("/b", 2), ("/a", 1), ("/a/c", 3)] {
+        let path = Path::parse(text, alloc)?;
+        if trie.insert(&path, value).is_err() {
+            return Err(PathFault::NoMemory);
+        }
+    }
+    Ok((trie, Path::parse("/", alloc)?))
+}
+
+// The values right below a directory that has two.
+fn two_values(
+    alloc: Global,
+    trie: &Trie<u64, Global>,
+    directory: &Path,
+) -> Result<[u64; 2], NoMemory> {
+    let children = trie.children(alloc, directory)?;
+    Ok(match children.as_slice() {
+        [first, second] => [*first.value(), *second.value()],
+        _ => [0, 0],
+    })
+}
+
+// It passes too where one allocation is refused, whichever that is (`tools/refused`): a refused listing goes through when it is made again.
+#[test]
+fn a_refused_listing_is_made_again(rt: HostRuntime) -> Result<(), Fail> {
+    let alloc = rt.alloc();
+    let (trie, directory) = match three_names(alloc) {
+        Ok(names) => names,
+        Err(_) => three_names(alloc)?,
+    };
+    let values = match two_values(alloc, &trie, &directory) {
+        Ok(values) => values,
+        Err(NoMemory) => two_values(alloc, &trie, &directory)?,
+    };
+    assert_eq!(rt; values, [1, 2]);
+    Ok(())
+}
+
+// A value that can or can't be copied.
+#[derive(Clone, Copy)]
+struct Item {
+    number: u64,
+    is_refused: bool,
+}
+
+impl TryCopy for Item {
+    fn try_copy(&self) -> Result<Item, NoMemory> {
+        if self.is_refused {
+            return Err(NoMemory);
+        }
+        Ok(*self)
+    }
+}
+
+#[test]
+fn a_value_that_is_not_copied_leaves_the_map(rt: HostRuntime) -> Result<(), Fail> {
+    let alloc = rt.alloc();
+    for refused in 0..9 {
+        let mut trie = Trie::new(alloc)?;
+        for (number, text) in NAMES.iter().enumerate() {
+            let value = Item {
+                number: number as u64,
+                is_refused: number == refused,
+            };
+            let path = Path::parse(text, alloc)?;
+            assert!(rt; trie.insert(&path, value).is_ok());
+        }
+        // the first name lies outside of the copy, and the ninth isn't there
+        let is_copied = copied(alloc, &mut trie)?;
+        assert_eq!(rt; is_copied, refused == 0 || refused == 8);
+        assert_eq!(rt; trie.len(), if is_copied { 15 } else { 8 });
+        let path = Path::parse("/d/f", alloc)?;
+        assert!(rt; trie.get(&path).is_some_and(|value| value.number == 7));
+    }
+    Ok(())
+}
