@@ -273,7 +273,7 @@ module _ (from to : Path) where
         | false ↦ λ is. ⊎_elim (λ here. absurd (true≢false (sym in_it ∙ ap (is_at_or_below from) (sym here.0) ∙ is))) (λ later. copy_there es k v later in_it) h
       ] refl
 
-  copied_of : (es : List (Path × Node)) (x : Path) (v : Node) → HasAt (copies es) x v → (k : Path) × HasAt es k v × (is_at_or_below from k ≡ true) × (x ≡ to ++ drop (length from) k)
+  pub copied_of : (es : List (Path × Node)) (x : Path) (v : Node) → HasAt (copies es) x v → (k : Path) × HasAt es k v × (is_at_or_below from k ≡ true) × (x ≡ to ++ drop (length from) k)
   copied_of [] x v h = absurd h
   copied_of (e ∷ es) x v h =
       elim (is_at_or_below from e.0) as (λ b. is_at_or_below from e.0 ≡ b → HasAt (list_map copy (cond b (e ∷ filter (λ f. is_at_or_below from f.0) es) (filter (λ f. is_at_or_below from f.0) es))) x v

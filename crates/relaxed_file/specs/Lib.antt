@@ -14,3 +14,5 @@ pub mod Traces
 pub mod Laws
 pub mod RunLaws
 pub mod NotRuns
+pub mod EntryLaws
+pub mod NameLaws
