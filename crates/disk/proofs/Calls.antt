@@ -184,12 +184,12 @@ write_goes_on disk at v room =
     let first : bytes_before ws now ≡ first_bytes disk = before_push disk.writes w now ∙ ap (bytes_before disk.writes) back in
     let count = syncs_push disk.writes w refl in record {
       later = omega (arith, count);
-      nothing_else = λ t c le left. elim (since_push t (λ d. d ≡ first_bytes disk) disk.writes w now c refl (subst (λ s. MightHaveLeft t (λ d. d ≡ s) ws now c) first left)) [
-        | inl past ↦ inl (subst (λ s. MightHaveLeft t (λ d. d ≡ first_bytes disk) disk.writes s c) back past)
+      nothing_else = λ t c le left. elim (since_push (t - disk.forgotten) (λ d. d ≡ first_bytes disk) disk.writes w now c refl (subst (λ s. MightHaveLeft (t - disk.forgotten) (λ d. d ≡ s) ws now c) first left)) [
+        | inl past ↦ inl (subst (λ s. MightHaveLeft (t - disk.forgotten) (λ d. d ≡ first_bytes disk) disk.writes s c) back past)
         | inr may ↦ inr (subst (λ s. MayLeave (λ d. d ≡ s) ws now c) (sym first) may)
       ];
-      keeps = λ t c le past. subst (λ s. MightHaveLeft t (λ d. d ≡ s) ws now c) (sym first)
-          (keeps_push t (λ d. d ≡ first_bytes disk) disk.writes w now c refl (subst (λ s. MightHaveLeft t (λ d. d ≡ first_bytes disk) disk.writes s c) (sym back) past));
+      keeps = λ t c le past. subst (λ s. MightHaveLeft (t - disk.forgotten) (λ d. d ≡ s) ws now c) (sym first)
+          (keeps_push (t - disk.forgotten) (λ d. d ≡ first_bytes disk) disk.writes w now c refl (subst (λ s. MightHaveLeft (t - disk.forgotten) (λ d. d ≡ first_bytes disk) disk.writes s c) (sym back) past));
     }
 
 -- The clauses of a sync.
@@ -202,12 +202,12 @@ sync_goes_on disk =
     let ws = marked disk.writes in
     let now = disk.bytes in
     let first : bytes_before ws now ≡ first_bytes disk = before_marked disk.writes now in record {
-      later = syncs_marked disk.writes;
-      nothing_else = λ t c le left. elim (since_marked t (λ d. d ≡ first_bytes disk) disk.writes now c (subst (λ s. MightHaveLeft t (λ d. d ≡ s) ws now c) first left)) [
+      later = omega (arith, syncs_marked disk.writes);
+      nothing_else = λ t c le left. elim (since_marked (t - disk.forgotten) (λ d. d ≡ first_bytes disk) disk.writes now c (subst (λ s. MightHaveLeft (t - disk.forgotten) (λ d. d ≡ s) ws now c) first left)) [
         | inl past ↦ inl past
         | inr may ↦ inr (subst (λ s. MayLeave (λ d. d ≡ s) ws now c) (sym first) may)
       ];
-      keeps = λ t c le past. subst (λ s. MightHaveLeft t (λ d. d ≡ s) ws now c) (sym first) (keeps_marked t (λ d. d ≡ first_bytes disk) disk.writes now c past);
+      keeps = λ t c le past. subst (λ s. MightHaveLeft (t - disk.forgotten) (λ d. d ≡ s) ws now c) (sym first) (keeps_marked (t - disk.forgotten) (λ d. d ≡ first_bytes disk) disk.writes now c past);
     }
 
 pub stays : (disk : DiskState) → GoesOn disk disk

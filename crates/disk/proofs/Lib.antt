@@ -1,3 +1,6 @@
 mod Ranges
 mod Calls
 mod Stops
+mod Forgetting
+mod Places
+mod Taken

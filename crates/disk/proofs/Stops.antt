@@ -15,11 +15,11 @@ abbrev InTurn : (List ℕ → Type 0) → List Write → List ℕ → Type 0
 InTurn P [] = P
 InTurn P (w ∷ ws) = InTurn (AfterWrite P w) ws
 
-or_false : (a b : Bool) → (a || b) ≡ false → (a ≡ false) × (b ≡ false)
+pub or_false : (a b : Bool) → (a || b) ≡ false → (a ≡ false) × (b ≡ false)
 or_false true b h = cc
 or_false false b h = (refl, h)
 
-none_unsynced : (ws : List Write) → has_sync ws ≡ false → unsynced ws ≡ ws
+pub none_unsynced : (ws : List Write) → has_sync ws ≡ false → unsynced ws ≡ ws
 none_unsynced [] h = refl
 none_unsynced (w ∷ ws) h = rw h refl
 
@@ -77,7 +77,7 @@ fits_unsynced n (w ∷ ws) fits = by (fits_unsynced n ws (fits_cons n w ws fits)
     by on false is = rw is fits
 
 -- Each way to settle the torn ranges is one that a stop may leave.
-pub settled_left : (torn : Torn) (disk : DiskState) → all_fit (length disk.bytes) disk.writes ≡ true → LeftBy disk (settled torn disk)
+pub settled_left : (torn : Torn) (disk : DiskState) → all_fit (length disk.bytes) disk.writes ≡ true → LeftBy disk (settled torn disk.bytes disk.writes)
 settled_left Old disk fits =
     let us = unsynced disk.writes in
     let old = bytes_before us disk.bytes in

@@ -4,3 +4,4 @@ pub mod Writes
 pub mod Failing
 pub mod Laws
 pub mod Faults
+pub mod Pages

@@ -2,7 +2,7 @@
 use Rattle.std.specs.Prelude.{◌≡◌, ◌⊎◌, ℕ, suc, ◌+◌, ◌-◌, ◌≤◌, nat_le, Bool, true, false, ◌&&◌, ◌||◌, if◌then◌else◌, List, [], ◌∷◌, ◌++◌, length, replicate}
 use Rattle.gfs_types.specs.declared.torn.Torn.{Torn}
 use Rattle.gfs_types.specs.declared.torn.Torn.TheVariants.{Old, New, Byte}
-use Rattle.disk.specs.Device.{ChangesOnly, Elapses}
+use Rattle.disk.specs.Device.{ChangesOnly, Elapses, Forgets}
 use Rattle.disk.specs.Bytes.{put_at, range_at}
 
 -- a write: where it was, the bytes that it wrote over, and whether a sync came next
@@ -11,10 +11,11 @@ pub record Write : Type 0 where
   pub old : List ℕ
   pub synced : Bool
 
--- what a read gives, and all writes, the last at the end
+-- what a read gives, the writes that are kept, the last at the end, and how often a sync came after one that isn't
 pub record DiskState : Type 0 where
   pub bytes : List ℕ
   pub writes : List Write
+  pub forgotten : ℕ
 
 -- each write lies in a disk of n bytes
 abbrev pub all_fit : ℕ → List Write → Bool
@@ -57,7 +58,11 @@ MightHaveLeft t P (w ∷ ws) now c =
     LeftBeforeSync w.synced t P w c
     ⊎ MightHaveLeft (if w.synced then t - 1 else t) (AfterNext w.synced P w (bytes_before ws now)) ws now c
 
--- At first a stop leaves what a read gives.
+-- The moment is the number of syncs that came after a write.
+abbrev pub moment_of : DiskState → ℕ
+moment_of disk = disk.forgotten + syncs disk.writes
+
+-- Before the writes that are kept a stop leaves what a read gives.
 abbrev pub first_bytes : DiskState → List ℕ
 first_bytes disk = bytes_before disk.writes disk.bytes
 
@@ -65,22 +70,27 @@ abbrev pub LeftBy : DiskState → List ℕ → Type 0
 LeftBy disk = MayLeave (λ c. c ≡ first_bytes disk) disk.writes disk.bytes
 
 abbrev pub LeftSince : DiskState → ℕ → List ℕ → Type 0
-LeftSince disk t = MightHaveLeft t (λ c. c ≡ first_bytes disk) disk.writes disk.bytes
+LeftSince disk t = MightHaveLeft (t - disk.forgotten) (λ c. c ≡ first_bytes disk) disk.writes disk.bytes
 
 -- time goes on from one state of the disk to another
 abbrev pub GoesOn : DiskState → DiskState → Type 0
-GoesOn old new = Elapses (syncs old.writes) (syncs new.writes) (LeftSince old) (LeftSince new) (LeftBy new)
+GoesOn old new = Elapses (moment_of old) (moment_of new) (LeftSince old) (LeftSince new) (LeftBy new)
+
+-- what was before this moment is told no more
+abbrev pub BeginsAnew : DiskState → DiskState → Type 0
+BeginsAnew old new = Forgets (moment_of old) (moment_of new) (LeftSince old) (LeftSince new) (LeftBy new)
 
 -- The calls.
 
 abbrev pub new_disk : ℕ → DiskState
-new_disk size = record { bytes = replicate size 0; writes = [] }
+new_disk size = record { bytes = replicate size 0; writes = []; forgotten = 0 }
 
 -- after a write
 abbrev pub written : DiskState → ℕ → List ℕ → DiskState
 written disk at bytes = record {
   bytes = put_at disk.bytes at bytes;
   writes = disk.writes ++ record { at = at; old = range_at disk.bytes at (length bytes); synced = false } ∷ [];
+  forgotten = disk.forgotten;
 }
 
 abbrev pub marked : List Write → List Write
@@ -90,7 +100,7 @@ marked (w ∷ v ∷ ws) = w ∷ marked (v ∷ ws)
 
 -- after a sync
 abbrev pub synced : DiskState → DiskState
-synced disk = record { bytes = disk.bytes; writes = marked disk.writes }
+synced disk = record disk { writes = marked disk.writes }
 
 -- Stops.
 
@@ -110,11 +120,25 @@ filled byte [] bytes = bytes
 filled byte (w ∷ ws) bytes = filled byte ws (put_at bytes w.at (replicate (length w.old) byte))
 
 -- what a stop leaves: in the ranges that were written since the last sync the old bytes, the new ones, or one byte everywhere
-abbrev pub settled : Torn → DiskState → List ℕ
-settled Old disk = bytes_before (unsynced disk.writes) disk.bytes
-settled New disk = disk.bytes
-settled (Byte byte) disk = filled byte (unsynced disk.writes) (bytes_before (unsynced disk.writes) disk.bytes)
+abbrev pub settled : Torn → List ℕ → List Write → List ℕ
+settled Old bytes writes = bytes_before (unsynced writes) bytes
+settled New bytes writes = bytes
+settled (Byte byte) bytes writes = filled byte (unsynced writes) (bytes_before (unsynced writes) bytes)
 
 -- after a stop that was settled so: nothing is left to tear
 abbrev pub stopped : Torn → DiskState → DiskState
-stopped torn disk = record { bytes = settled torn disk; writes = [] }
+stopped torn disk = record { bytes = settled torn disk.bytes disk.writes; writes = []; forgotten = 0 }
+
+-- Forgetting.
+
+-- with the writes since the last sync alone
+abbrev pub past_forgotten : DiskState → DiskState
+past_forgotten disk = record disk { writes = unsynced disk.writes; forgotten = moment_of disk }
+
+-- the greatest count of syncs that are forgotten; past it nothing more is
+abbrev pub most_forgotten : ℕ
+most_forgotten = 4611686018427387903
+
+-- after what was before this moment is forgotten
+abbrev pub begun_anew : DiskState → DiskState
+begun_anew disk = if nat_le (moment_of disk) most_forgotten then past_forgotten disk else disk

@@ -3,7 +3,7 @@
 ghost use Rattle.std.specs.Prelude.{◌≡◌, ◌≤◌, ◌+◌, List, ℕ, Some, length, take, drop, OnOk, IsErrOf};
 ghost use Rattle.disk.specs.declared.device.DiskFault.TheVariants.{NoMemory};
 ghost use Rattle.disk.specs.Faults.{fault_text};
-ghost use Rattle.disk.specs.Device.{ChangesOnly, Elapses, Follows, HasCause, Holds, NoMore, Only};
+ghost use Rattle.disk.specs.Device.{ChangesOnly, Elapses, Follows, Forgets, HasCause, Holds, NoMore, Only};
 
 use std::alloc::{AllocError, AllocFailed};
 use std::error::Error;
@@ -101,6 +101,13 @@ pub trait Disk {
         ensures time { Elapses (moment self.old) (moment self.new) (left_since self.old) (left_since self.new) (may_leave self.new) }
         ensures cause { HasCause (failed self.old) (failed self.new) result }
         ensures no_memory_needed { IsErrOf result NoMemory → ⊥ };
+
+    /// Sets the moment since which the disk tells what a stop might have left: this one. Each call of a store sets it as it begins. Changes no byte, and gives back the memory that was kept for what came before.
+    fn forget_past(&mut self)
+        ensures seen { seen self.new ≡ seen self.old }
+        ensures crash { NoMore (may_leave self.old) (may_leave self.new) }
+        ensures time { Forgets (moment self.old) (moment self.new) (left_since self.old) (left_since self.new) (may_leave self.new) }
+        ensures failed { failed self.new ≡ failed self.old };
 
     /// Lets that many calls of `read`, `write_at` and `sync` pass and fails each later one, where the disk can be told to fail. Changes no byte.
     fn arm(&mut self, calls: u64)

@@ -5,7 +5,7 @@ ghost use Rattle.disk.specs.declared.device.DiskFault.TheVariants.{NoMemory};
 ghost use Rattle.disk.specs.Device.{ChangesOnly, Follows, HasCause, Holds, NoMore, Only};
 ghost use Rattle.disk.specs.Failing.{FailsWhere, count_failed, none_left, passed};
 ghost use Rattle.disk.specs.Laws.{left_now, left_only_now};
-ghost use Rattle.disk.specs.Writes.{GoesOn, LeftBy, LeftSince, synced, syncs, written};
+ghost use Rattle.disk.specs.Writes.{BeginsAnew, GoesOn, LeftBy, LeftSince, begun_anew, moment_of, synced, written};
 
 use crate::device::{Disk, DiskFault};
 use crate::memory::MemDisk;
@@ -72,7 +72,7 @@ impl<A: Allocator + Clone> Disk for FaultDisk<A> {
 
     ghost may_leave = { λ f c. LeftBy f.disk c };
 
-    ghost moment = { λ f. syncs f.disk.writes };
+    ghost moment = { λ f. moment_of f.disk };
 
     ghost left_since = { λ f t c. LeftSince f.disk t c };
 
@@ -146,6 +146,16 @@ impl<A: Allocator + Clone> Disk for FaultDisk<A> {
             return Err(DiskFault::Device);
         }
         self.disk.sync()
+    }
+
+    fn forget_past(&mut self)
+        ensures begun { self.new ≡ record self.old { disk = begun_anew self.old.disk } }
+        ensures seen { self.new.disk.bytes ≡ self.old.disk.bytes }
+        ensures crash { NoMore (LeftBy self.old.disk) (LeftBy self.new.disk) }
+        ensures time { BeginsAnew self.old.disk self.new.disk }
+        ensures failed { count_failed self.new.left ≡ count_failed self.old.left }
+    {
+        self.disk.forget_past();
     }
 
     fn arm(&mut self, calls: u64)

@@ -5,7 +5,7 @@ ghost use Rattle.disk.specs.declared.device.DiskFault.TheVariants.{NoMemory};
 ghost use Rattle.disk.specs.Device.{ChangesOnly, Follows, HasCause, Holds, NoMore, Only};
 ghost use Rattle.disk.specs.Failing.{FailsWhere, is_burnt, spent};
 ghost use Rattle.disk.specs.Laws.{left_now, left_only_now};
-ghost use Rattle.disk.specs.Writes.{GoesOn, LeftBy, LeftSince, stopped, synced, syncs, written};
+ghost use Rattle.disk.specs.Writes.{BeginsAnew, GoesOn, LeftBy, LeftSince, begun_anew, moment_of, stopped, synced, written};
 
 use crate::device::{Disk, DiskFault};
 use crate::memory::MemDisk;
@@ -79,7 +79,7 @@ impl<A: Allocator + Clone> Disk for FuseDisk<A> {
 
     ghost may_leave = { λ f c. LeftBy f.disk c };
 
-    ghost moment = { λ f. syncs f.disk.writes };
+    ghost moment = { λ f. moment_of f.disk };
 
     ghost left_since = { λ f t c. LeftSince f.disk t c };
 
@@ -151,6 +151,16 @@ impl<A: Allocator + Clone> Disk for FuseDisk<A> {
             return Err(DiskFault::Device);
         }
         self.disk.sync()
+    }
+
+    fn forget_past(&mut self)
+        ensures begun { self.new ≡ record self.old { disk = begun_anew self.old.disk } }
+        ensures seen { self.new.disk.bytes ≡ self.old.disk.bytes }
+        ensures crash { NoMore (LeftBy self.old.disk) (LeftBy self.new.disk) }
+        ensures time { BeginsAnew self.old.disk self.new.disk }
+        ensures failed { self.new.failures ≡ self.old.failures }
+    {
+        self.disk.forget_past();
     }
 
     fn arm(&mut self, calls: u64)

@@ -5,6 +5,8 @@ mod device;
 mod fault;
 mod fuse;
 mod memory;
+mod page;
+mod pages;
 mod past_write;
 
 pub use device::{Disk, DiskFault};

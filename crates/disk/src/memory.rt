@@ -1,35 +1,42 @@
 //! A disk in memory.
 
-ghost use Rattle.std.specs.Prelude.{◌≡◌, ◌≤◌, ◌+◌, length, replicate, take, drop, true, IfErr, IfOk, IsErrOf, IsOk, OnErr, OnOk};
+ghost use Rattle.std.specs.Prelude.{◌≡◌, ◌≤◌, ◌+◌, length, take, drop, true, IfErr, IfOk, IsErrOf, IsOk, OnErr, OnOk};
 ghost use Rattle.disk.specs.declared.device.DiskFault.TheVariants.{NoMemory};
-ghost use Rattle.disk.specs.Bytes.{put_at, range_at};
+ghost use Rattle.disk.specs.Bytes.{range_at};
 ghost use Rattle.disk.specs.Device.{ChangesOnly, Follows, HasCause, Holds, NoMore, Only};
-ghost use Rattle.disk.specs.Writes.{GoesOn, LeftBy, LeftSince, all_fit, bytes_before, filled, marked, new_disk, settled, stopped, synced, syncs, unsynced, written};
+ghost use Rattle.disk.specs.Writes.{BeginsAnew, GoesOn, LeftBy, LeftSince, all_fit, begun_anew, bytes_before, filled, marked, moment_of, new_disk, settled, stopped, synced, syncs, unsynced, written};
 ghost use Rattle.disk.specs.Laws.{left_now, left_only_now};
+ghost use Rattle.disk.specs.Pages.{Keeps, all_taken, bytes_of};
 
 use crate::device::{Disk, DiskFault};
+use crate::pages::Pages;
 use crate::past_write::PastWrite;
 use gfs_types::torn::Torn;
 use std::alloc::{AllocError, Allocator, Global};
 use std::marker::Model;
 
-/// A disk in memory, which never fails. It keeps what each write wrote over, so that a stop is defined.
+// Past this count of syncs the disk forgets no more, so that the moment never falls.
+const MOST_FORGOTTEN: u64 = 4_611_686_018_427_387_903;
+
+/// A disk in memory, which never fails. Until `forget_past` it keeps what each write wrote over, so that a stop is defined.
 #[derive(Drop)]
 pub struct MemDisk<A: Allocator = Global> {
     alloc: A,
-    bytes: Vec<u8, A>,
+    bytes: Pages<A>,
     writes: Vec<PastWrite<A>, A>,
+    forgotten: u64,
 }
 
 impl<A: Allocator> Model for MemDisk<A> {
-    ghost use Rattle.std.specs.Prelude.{◌≡◌, length, true};
+    ghost use Rattle.std.specs.Prelude.{◌≡◌, true};
+    ghost use Rattle.disk.specs.Pages.{all_taken, bytes_of};
     ghost use Rattle.disk.specs.Writes.{DiskState, all_fit};
 
     ghost Value = { DiskState };
 
-    ghost view = { λ m. record { bytes = m.bytes.items; writes = m.writes.items } };
+    ghost view = { λ m. record { bytes = bytes_of m.bytes; writes = m.writes.items; forgotten = m.forgotten } };
 
-    ghost invariant = { λ m. all_fit (length m.bytes.items) m.writes.items ≡ true };
+    ghost invariant = { λ m. (all_fit m.bytes.size m.writes.items ≡ true) × (all_taken m.bytes.pages m.writes.items ≡ true) };
 }
 
 impl<A: Allocator + Clone> MemDisk<A> {
@@ -37,12 +44,13 @@ impl<A: Allocator + Clone> MemDisk<A> {
     pub fn new(alloc: A, size: usize) -> Result<MemDisk<A>, AllocError>
         ensures { IfOk result (λ m. m ≡ new_disk size) }
     {
-        let bytes = vec![in alloc.clone()?; 0; size]?;
+        let bytes = Pages::new(alloc.clone()?, size)?;
         let writes = Vec::new(alloc.clone()?);
         Ok(MemDisk {
             alloc,
             bytes,
             writes,
+            forgotten: 0,
         })
     }
 
@@ -50,8 +58,7 @@ impl<A: Allocator + Clone> MemDisk<A> {
         requires { at + length out.old ≤ length self.now.bytes }
         ensures { out.new ≡ range_at self.now.bytes at (length out.old) }
     {
-        let n = out.len();
-        out.copy_from_slice(&self.bytes[at..at + n]);
+        self.bytes.read(at, out);
     }
 
     pub(crate) fn put(&mut self, at: usize, bytes: &[u8]) -> Result<(), AllocError>
@@ -59,13 +66,14 @@ impl<A: Allocator + Clone> MemDisk<A> {
         ensures ok { OnOk result (self.new ≡ written self.old at bytes.now) }
         ensures err { OnErr result (self.new ≡ self.old) }
     {
-        let old = Vec::from_slice(self.alloc.clone()?, &self.bytes[at..at + bytes.len()])?;
+        let old = read_out(self.alloc.clone()?, &self.bytes, at, bytes.len())?;
+        self.bytes.take(at, bytes.len())?;
         self.writes.push(PastWrite {
             at,
             old,
             synced: false,
         })?;
-        write_over(&mut self.bytes, at, bytes);
+        self.bytes.put(at, bytes);
         Ok(())
     }
 
@@ -78,6 +86,7 @@ impl<A: Allocator + Clone> MemDisk<A> {
             alloc,
             mut bytes,
             mut writes,
+            forgotten: _,
         } = self;
         settle_bytes(&mut bytes, &writes, torn);
         writes.clear();
@@ -85,6 +94,7 @@ impl<A: Allocator + Clone> MemDisk<A> {
             alloc,
             bytes,
             writes,
+            forgotten: 0,
         }
     }
 
@@ -94,6 +104,17 @@ impl<A: Allocator + Clone> MemDisk<A> {
     {
         mark_last(&mut self.writes);
     }
+
+    // Drops the writes up to the last sync.
+    fn begin_anew(&mut self)
+        ensures { self.new ≡ begun_anew self.old }
+    {
+        let moment = self.forgotten.saturating_add(count_syncs(&self.writes));
+        if moment <= MOST_FORGOTTEN {
+            keep_unsynced(&mut self.writes);
+            self.forgotten = moment;
+        }
+    }
 }
 
 impl<A: Allocator + Clone> Disk for MemDisk<A> {
@@ -101,7 +122,7 @@ impl<A: Allocator + Clone> Disk for MemDisk<A> {
 
     ghost may_leave = { λ m c. LeftBy m c };
 
-    ghost moment = { λ m. syncs m.writes };
+    ghost moment = { λ m. moment_of m };
 
     ghost left_since = { λ m t c. LeftSince m t c };
 
@@ -166,6 +187,15 @@ impl<A: Allocator + Clone> Disk for MemDisk<A> {
         Ok(())
     }
 
+    fn forget_past(&mut self)
+        ensures begun { self.new ≡ begun_anew self.old }
+        ensures seen { self.new.bytes ≡ self.old.bytes }
+        ensures crash { NoMore (LeftBy self.old) (LeftBy self.new) }
+        ensures time { BeginsAnew self.old self.new }
+    {
+        self.begin_anew();
+    }
+
     fn arm(&mut self, calls: u64)
         ensures same { self.new ≡ self.old }
         ensures seen { self.new.bytes ≡ self.old.bytes }
@@ -176,12 +206,18 @@ impl<A: Allocator + Clone> Disk for MemDisk<A> {
     }
 }
 
-// Writes over what is there.
-fn write_over<A: Allocator>(all: &mut Vec<u8, A>, at: usize, bytes: &[u8])
-    requires { at + length bytes.now ≤ length all.old.items }
-    ensures { all.new.items ≡ put_at all.old.items at bytes.now }
+fn read_out<A: Allocator + Clone>(
+    alloc: A,
+    bytes: &Pages<A>,
+    at: usize,
+    count: usize,
+) -> Result<Vec<u8, A>, AllocError>
+    requires { at + count ≤ bytes.now.size }
+    ensures { IfOk result (λ v. v.items ≡ range_at (bytes_of bytes.now) at count) }
 {
-    all[at..at + bytes.len()].copy_from_slice(bytes);
+    let mut out = vec![in alloc; 0; count]?;
+    bytes.read(at, &mut out);
+    Ok(out)
 }
 
 // Marks the last write as synced.
@@ -195,10 +231,33 @@ fn mark_last<A: Allocator>(writes: &mut Vec<PastWrite<A>, A>)
     }
 }
 
+// How often a sync came after a write.
+fn count_syncs<A: Allocator>(writes: &[PastWrite<A>]) -> u64
+    ensures { result ≡ syncs writes.now }
+{
+    let mut count = 0;
+    for write in writes {
+        if write.synced {
+            count += 1;
+        }
+    }
+    count
+}
+
+// Drops the writes before the last sync.
+fn keep_unsynced<A: Allocator>(writes: &mut Vec<PastWrite<A>, A>)
+    ensures { writes.new.items ≡ unsynced writes.old.items }
+{
+    let start = first_unsynced(writes);
+    writes.rotate_left(start);
+    writes.truncate(writes.len() - start);
+}
+
 // Settles what these writes left unsynced.
-fn settle_bytes<A: Allocator>(bytes: &mut Vec<u8, A>, writes: &[PastWrite<A>], torn: Torn)
-    requires { all_fit (length bytes.old.items) writes.now ≡ true }
-    ensures { bytes.new.items ≡ settled torn (record { bytes = bytes.old.items; writes = writes.now }) }
+fn settle_bytes<A: Allocator + Clone>(bytes: &mut Pages<A>, writes: &[PastWrite<A>], torn: Torn)
+    requires fit { all_fit bytes.old.size writes.now ≡ true }
+    requires taken { all_taken bytes.old.pages writes.now ≡ true }
+    ensures { bytes_of bytes.new ≡ settled torn (bytes_of bytes.old) writes.now }
 {
     let start = first_unsynced(writes);
     match torn {
@@ -227,30 +286,26 @@ fn first_unsynced<A: Allocator>(writes: &[PastWrite<A>]) -> usize
 }
 
 // Puts back what these writes wrote over, the last first.
-fn undo<A: Allocator>(bytes: &mut Vec<u8, A>, writes: &[PastWrite<A>])
-    requires { all_fit (length bytes.old.items) writes.now ≡ true }
-    ensures { bytes.new.items ≡ bytes_before writes.now bytes.old.items }
+fn undo<A: Allocator + Clone>(bytes: &mut Pages<A>, writes: &[PastWrite<A>])
+    requires fit { all_fit bytes.old.size writes.now ≡ true }
+    requires taken { all_taken bytes.old.pages writes.now ≡ true }
+    ensures undone { bytes_of bytes.new ≡ bytes_before writes.now (bytes_of bytes.old) }
+    ensures keeps { Keeps bytes.old bytes.new }
 {
     let count = writes.len();
     for k in 0..count {
         let write = &writes[count - 1 - k];
-        write_over(bytes, write.at, &write.old);
+        bytes.put(write.at, &write.old);
     }
 }
 
 // Fills the ranges of these writes.
-fn fill_ranges<A: Allocator>(bytes: &mut Vec<u8, A>, writes: &[PastWrite<A>], byte: u8)
-    requires { all_fit (length bytes.old.items) writes.now ≡ true }
-    ensures { bytes.new.items ≡ filled byte writes.now bytes.old.items }
+fn fill_ranges<A: Allocator + Clone>(bytes: &mut Pages<A>, writes: &[PastWrite<A>], byte: u8)
+    requires fit { all_fit bytes.old.size writes.now ≡ true }
+    requires taken { all_taken bytes.old.pages writes.now ≡ true }
+    ensures { bytes_of bytes.new ≡ filled byte writes.now (bytes_of bytes.old) }
 {
     for write in writes {
-        fill_range(bytes, write.at, write.old.len(), byte);
+        bytes.fill(write.at, write.old.len(), byte);
     }
-}
-
-fn fill_range<A: Allocator>(all: &mut Vec<u8, A>, at: usize, count: usize, byte: u8)
-    requires { at + count ≤ length all.old.items }
-    ensures { all.new.items ≡ put_at all.old.items at (replicate count byte) }
-{
-    all[at..at + count].fill(byte);
 }

@@ -184,12 +184,18 @@ fn a_fault_disk_fails_once(rt: HostRuntime) -> Result<(), Fail> {
     Ok(())
 }
 
-// How many single bytes, each its place's number and one more, can be written before one is refused. None: the refused write kept memory.
+// How many single bytes, each its place's number and one more, can be written before one is refused. None: refused once more, the write kept memory again.
 fn writes_taken<D: Disk>(heap: &LocalHeap, disk: &mut D, count: u8) -> Option<u8> {
     for n in 0..count {
-        let used = heap.used();
-        if put(disk, n as usize, &[n + 1]) == Some(Err(DiskFault::NoMemory)) {
-            return if heap.used() == used { Some(n) } else { None };
+        let refused = Some(Err(DiskFault::NoMemory));
+        if put(disk, n as usize, &[n + 1]) == refused {
+            let used = heap.used();
+            let again = put(disk, n as usize, &[n + 1]) == refused;
+            return if again && heap.used() == used {
+                Some(n)
+            } else {
+                None
+            };
         }
     }
     Some(count)
@@ -214,17 +220,14 @@ fn five<D: Disk>(disk: &mut D) -> Result<[u8; 5], DiskFault> {
     Ok(out)
 }
 
-// Heaps that grow by the least block, so that each allocation in turn is the first to be refused: the disk's own, and those of five writes.
+// Heaps that grow by the least block, so that each allocation in turn is the first to be refused: those of five writes.
 #[test]
 fn refused_memory_changes_no_byte(rt: HostRuntime) -> Result<(), Fail> {
-    let (mut no_disk, mut met) = (false, [false; 6]);
+    let mut met = [false; 6];
     for size in 1..100 {
         let heap = LocalHeap::new(rt.alloc(), size * 16)?;
-        let Ok(mut disk) = MemDisk::new(&heap, 40) else {
-            assert_eq!(rt; heap.used(), 0, "heap {size}");
-            no_disk = true;
-            continue;
-        };
+        let mut disk = MemDisk::new(&heap, 40)?;
+        assert_eq!(rt; heap.used(), 0, "heap {size}");
         let Some(taken) = writes_taken(&heap, &mut disk, 5) else {
             return Err(Fail::new("a refused write kept memory"));
         };
@@ -235,7 +238,6 @@ fn refused_memory_changes_no_byte(rt: HostRuntime) -> Result<(), Fail> {
         let mut stopped = FuseDisk::new(disk).stop(Torn::Byte(9));
         assert!(rt; five(&mut stopped) == Ok(want), "heap {size}");
     }
-    assert!(rt; no_disk);
     assert_eq!(rt; met, [true; 6]);
     Ok(())
 }
@@ -268,7 +270,7 @@ fn refused_memory_leaves_a_fuse_disk(rt: HostRuntime) -> Result<(), Fail> {
     Ok(())
 }
 
-// The same with a disk that is to fail later: a refused write counts as a call that passed.
+// The same with a disk that is to fail later: a refused write, done twice, counts as calls that passed.
 #[test]
 fn refused_memory_leaves_a_fault_disk(rt: HostRuntime) -> Result<(), Fail> {
     let mut met = [false; 6];
@@ -285,7 +287,11 @@ fn refused_memory_leaves_a_fault_disk(rt: HostRuntime) -> Result<(), Fail> {
         assert!(rt; five(&mut disk) == want, "heap {size}");
         assert_eq!(rt; disk.failures(), 0, "heap {size}");
         met[taken.min(5) as usize] = true;
-        let passed = taken.saturating_add(1).min(5);
+        let passed = if taken == 5 {
+            5
+        } else {
+            taken.saturating_add(2)
+        };
         for _call in passed..6 {
             assert!(rt; disk.sync() == Ok(()), "heap {size}");
         }
@@ -331,6 +337,122 @@ fn a_failed_write_without_memory_is_lost(rt: HostRuntime) -> Result<(), Fail> {
         }
     }
     assert!(rt; lost > 0 && reached > 0, "{lost}, {reached}");
+    Ok(())
+}
+
+// Rounds of a store: each forgets what was before it, writes to one place and syncs.
+fn write_in_rounds<D: Disk>(disk: &mut D, rounds: u64) -> Option<Result<(), DiskFault>> {
+    for round in 0..rounds {
+        disk.forget_past();
+        if put(disk, 1, &[(round % 200) as u8, 9]) != Some(Ok(())) {
+            return None;
+        }
+        if disk.sync() != Ok(()) {
+            return None;
+        }
+    }
+    Some(Ok(()))
+}
+
+#[test]
+fn memory_stays_where_the_past_is_forgotten(rt: HostRuntime) -> Result<(), Fail> {
+    let heap = LocalHeap::new(rt.alloc(), 10_000)?;
+    let mut disk = MemDisk::new(&heap, 4)?;
+    assert!(rt; write_in_rounds(&mut disk, 1_000).is_some());
+    let used = heap.used();
+    assert!(rt; write_in_rounds(&mut disk, 50_000).is_some());
+    assert_eq!(rt; heap.used(), used);
+    Ok(())
+}
+
+// What is unsynced may still be torn, and what was synced stays.
+#[test]
+fn forgetting_leaves_what_a_stop_may_leave(rt: HostRuntime) -> Result<(), Fail> {
+    for torn in WAYS {
+        let mut disk = FuseDisk::new(one_to_four(rt.alloc())?);
+        assert!(rt; put(&mut disk, 0, &[5]) == Some(Ok(())));
+        assert!(rt; disk.sync() == Ok(()));
+        assert!(rt; put(&mut disk, 1, &[6]) == Some(Ok(())));
+        disk.forget_past();
+        assert!(rt; four(&mut disk) == Ok([5, 6, 3, 4]));
+        assert!(rt; put(&mut disk, 2, &[7]) == Some(Ok(())));
+        let want = [5, settled(torn, 2, 6), settled(torn, 3, 7), 4];
+        assert!(rt; four(&mut disk.stop(torn)) == Ok(want));
+    }
+    Ok(())
+}
+
+// Takes no call from a fuse, and no failure from a disk that is to fail once.
+#[test]
+fn forgetting_is_no_call_that_fails(rt: HostRuntime) -> Result<(), Fail> {
+    let mut fuse = FuseDisk::new(one_to_four(rt.alloc())?);
+    fuse.arm(1);
+    fuse.forget_past();
+    assert!(rt; fuse.sync() == Ok(()));
+    assert!(rt; fuse.sync() == Err(DiskFault::Device));
+    let mut fault = FaultDisk::new(one_to_four(rt.alloc())?, 1);
+    fault.forget_past();
+    assert!(rt; fault.sync() == Ok(()));
+    assert!(rt; fault.sync() == Err(DiskFault::Device));
+    Ok(())
+}
+
+const PAGE: usize = 4_096;
+
+// The bytes of a range; None where it isn't on the disk.
+fn bytes_at<D: Disk>(disk: &mut D, at: usize, out: &mut [u8]) -> Option<Result<(), DiskFault>> {
+    let size = disk.size();
+    if at > size || out.len() > size - at {
+        return None;
+    }
+    Some(disk.read(at, out))
+}
+
+#[test]
+fn a_large_disk_takes_the_pages_that_are_written(rt: HostRuntime) -> Result<(), Fail> {
+    let heap = LocalHeap::new(rt.alloc(), 40 * PAGE)?;
+    let mut disk = MemDisk::new(&heap, 100 * PAGE)?;
+    assert_eq!(rt; disk.size(), 100 * PAGE);
+    let mut out = [1; 10];
+    assert!(rt; bytes_at(&mut disk, 99 * PAGE, &mut out) == Some(Ok(())));
+    assert_eq!(rt; out, [0; 10]);
+    assert_eq!(rt; heap.used(), 0);
+    assert!(rt; put(&mut disk, 99 * PAGE + 4_090, &[7, 8]) == Some(Ok(())));
+    let used = heap.used();
+    assert!(rt; used < 3 * PAGE, "{used}");
+    assert!(rt; bytes_at(&mut disk, 99 * PAGE + 4_086, &mut out) == Some(Ok(())));
+    assert_eq!(rt; out, [0, 0, 0, 0, 7, 8, 0, 0, 0, 0]);
+    assert!(rt; bytes_at(&mut disk, 100 * PAGE - 9, &mut out) == None);
+    Ok(())
+}
+
+// A range over three pages, written over again in part and settled in each way.
+#[test]
+fn a_stop_settles_a_range_over_pages(rt: HostRuntime) -> Result<(), Fail> {
+    let new = [5; 5_000];
+    for torn in WAYS {
+        let mut disk = FuseDisk::new(MemDisk::new(rt.alloc(), 3 * PAGE - 100)?);
+        assert!(rt; put(&mut disk, 4_000, &[3; 7_000]) == Some(Ok(())));
+        assert!(rt; disk.sync() == Ok(()));
+        assert!(rt; put(&mut disk, 4_090, &new) == Some(Ok(())));
+        let mut stopped = disk.stop(torn);
+        let mut out = [1; 10_000];
+        assert!(rt; bytes_at(&mut stopped, 2_000, &mut out) == Some(Ok(())));
+        for i in 0..10_000 {
+            let place = 2_000 + i;
+            let old = if place >= 4_000 && place < 11_000 {
+                3
+            } else {
+                0
+            };
+            let want = if place >= 4_090 && place < 9_090 {
+                settled(torn, old, 5)
+            } else {
+                old
+            };
+            assert_eq!(rt; out[i], want, "place {place}");
+        }
+    }
     Ok(())
 }
 

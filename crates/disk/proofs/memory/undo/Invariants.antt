@@ -1,8 +1,9 @@
-use Rattle.std.proofs.Common.{◌≡◌, ◌-◌, length, drop}
+use Rattle.std.proofs.Common.{◌≡◌, ◌-◌, drop}
+use Rattle.disk.specs.Pages.{Keeps, bytes_of}
 use Rattle.disk.specs.Writes.{bytes_before}
 use Rattle.disk.proofs.memory.undo.Given as goal
 
 abbrev pub invariant-loop-k : goal.invariant-loop-k
 invariant-loop-k g l =
-    (l.bytes.items ≡ bytes_before (drop (l.count - l.k) l.writes) l.fn.bytes.items)
-    × (length l.bytes.items ≡ length l.fn.bytes.items)
+    (bytes_of l.bytes ≡ bytes_before (drop (l.count - l.k) l.writes) (bytes_of l.fn.bytes))
+    × Keeps l.fn.bytes l.bytes
