@@ -1,0 +1,40 @@
+//! Why bytes could not be read.
+
+ghost use Rattle.std.specs.Prelude.{◌≡◌, Some, codes};
+ghost use Rattle.log_codec.specs.declared.fault.DecodeFault.TheVariants.{NoMemory as OutOfMemory};
+
+use gfs_types::no_memory::NoMemory;
+use std::alloc::{AllocError, AllocFailed};
+
+/// Why bytes could not be read.
+#[derive(Clone, Copy, Debug, PartialEq, Eq)]
+pub enum DecodeFault {
+    /// The bytes are not in the grammar.
+    Damaged,
+    /// An allocator refused what the record needs.
+    NoMemory,
+}
+
+impl From<AllocError> for DecodeFault {
+    ghost from_gives = { λ _ e. e ≡ OutOfMemory };
+
+    fn from(_error: AllocError) -> DecodeFault {
+        DecodeFault::NoMemory
+    }
+}
+
+impl<T: Drop> From<AllocFailed<T>> for DecodeFault {
+    ghost from_gives = { λ _ e. e ≡ OutOfMemory };
+
+    fn from(_failed: AllocFailed<T>) -> DecodeFault {
+        DecodeFault::NoMemory
+    }
+}
+
+impl From<NoMemory> for DecodeFault {
+    ghost from_gives = { λ _ e. e ≡ OutOfMemory };
+
+    fn from(_error: NoMemory) -> DecodeFault {
+        DecodeFault::NoMemory
+    }
+}
