@@ -1,13 +1,14 @@
 -- Each change of the table keeps it sound.
 use Rattle.std.proofs.Common.{◌≡◌, ℕ, ◌+◌, ◌-◌, ◌<◌, ◌≤◌, true, cond, eqb, ◌==◌, List, [], ◌∷◌, ◌++◌, length, get_or, refl, sym, ap, ◌∙◌, subst, Some, None, Option, OnSome, IfSome, is_some, unwrap_or, arith, length-append}
 use Rattle.std.proofs.Math.ListN.{set, length-set}
+use Rattle.std.proofs.Math.Nat.{le-max_right, max-le}
 use Rattle.std.specs.Option.{option_map}
 use Rattle.std.specs.Ordering.{nat_cmp}
 use Rattle.std.specs.Cmp.{nat_cmp_total}
 use Rattle.std.specs.List.{sum_by}
 use Rattle.std.proofs.lemmas.List.Sums.{sum_by-append, sum_by-set, sum_by-le-sum_by, count_by-le-length}
 use Rattle.std.specs.FinMap.{get, insert, remove, empty, entries, get-empty, get-insert, get-remove, len-empty, len-entries}
-use Rattle.chunk_table.specs.ChunkTable.{NumberTable, ChunkRow, TableState, counter_limit, new_row, row_issued, row_granted, row_ended, changed_at, share_one, share_all, leave_one, leave_all}
+use Rattle.chunk_table.specs.ChunkTable.{NumberTable, ChunkRow, TableState, counter_limit, new_row, row_issued, row_granted, row_ended, row_put, changed_at, share_one, share_all, leave_one, leave_all}
 use Rattle.chunk_table.specs.Owners.{total, times, owners, all_owners, references_in, references_at, IsSoundRow, IsSoundFile, IsSound}
 use Rattle.chunk_table.proofs.Lookups.{at_key, get_changed, key_itself}
 use Rattle.chunk_table.proofs.Sums.{total_added, total_removed, total_replaced}
@@ -313,20 +314,32 @@ module _ (files : NumberTable (List ℕ)) (chunks : NumberTable ChunkRow) (nf nh
     h.1,
   )
 
-  pub holds_issued : (k : ℕ) (seen : ChunkRow) → Some seen ≡ get chunks k → seen.issued < counter_limit → Holds files (changed_at chunks k row_issued) nf nh n
-  holds_issued k seen e lt = holds_changed k row_issued (λ _. refl) (λ row is sound. record {
+  pub holds_issued : (k : ℕ) (seen : ChunkRow) (version : ℕ) → Some seen ≡ get chunks k → version ≡ seen.issued + 1 → seen.issued < counter_limit → Holds files (changed_at chunks k (row_issued version)) nf nh n
+  holds_issued k seen version e next lt = holds_changed k (row_issued version) (λ _. refl) (λ row is sound. record {
     from_one = sound.from_one;
     given = sound.given;
-    granted_was_issued = (let w = sound.granted_was_issued in omega arith);
-    within_limit = (let same : seen ≡ row = (let both : Some seen ≡ Some row = e ∙ is in cc) in let i = ap (λ r. r.issued) same in omega arith);
+    granted_was_issued = (let same : seen ≡ row = (let both : Some seen ≡ Some row = e ∙ is in cc) in let i = ap (λ r. r.issued) same in let w = sound.granted_was_issued in omega arith);
+    within_limit = omega arith;
   })
 
-  pub holds_granted : (k primary : ℕ) (members : List ℕ) → Holds files (changed_at chunks k (row_granted primary members)) nf nh n
-  holds_granted k primary members = holds_changed k (row_granted primary members) (λ _. refl) (λ row is sound. record {
+  pub holds_granted : (k : ℕ) (seen : ChunkRow) (version primary : ℕ) (members : List ℕ) → Some seen ≡ get chunks k → seen.issued ≡ version → Holds files (changed_at chunks k (row_granted version primary members)) nf nh n
+  holds_granted k seen version primary members e issued = holds_changed k (row_granted version primary members) (λ _. refl) (λ row is sound. record {
     from_one = sound.from_one;
     given = sound.given;
-    granted_was_issued = omega arith;
-    within_limit = sound.within_limit;
+    granted_was_issued = le-max_right row.issued version;
+    within_limit =
+        (let same : seen ≡ row = (let both : Some seen ≡ Some row = e ∙ is in cc) in
+        let i = ap (λ r. r.issued) same in
+        let w = sound.within_limit in
+        max-le w (omega arith));
+  })
+
+  pub holds_put : (k granted issued primary : ℕ) (members : List ℕ) → granted ≤ issued → issued ≤ counter_limit → Holds files (changed_at chunks k (row_put granted issued primary members)) nf nh n
+  holds_put k granted issued primary members low high = holds_changed k (row_put granted issued primary members) (λ _. refl) (λ row is sound. record {
+    from_one = sound.from_one;
+    given = sound.given;
+    granted_was_issued = low;
+    within_limit = high;
   })
 
   pub holds_ended : (k moment : ℕ) → Holds files (changed_at chunks k (row_ended moment)) nf nh n

@@ -1,5 +1,5 @@
 -- The master's files as lists of chunks, and what it keeps of each chunk (sections 2.6.1, 3.1 and 3.4).
-use Rattle.std.specs.Prelude.{ℕ, ◌+◌, ◌-◌, nat_le, if◌then◌else◌, List, [], ◌∷◌, ◌++◌, Option, Some, None, unwrap_or, slice_set, slice_index, refl}
+use Rattle.std.specs.Prelude.{ℕ, ◌+◌, ◌-◌, nat_le, if◌then◌else◌, List, [], ◌∷◌, ◌++◌, max, Option, Some, None, unwrap_or, slice_set, slice_index, refl}
 use Rattle.std.specs.Ordering.{nat_cmp}
 use Rattle.std.specs.FinMap as map
 use Rattle.std.specs.Coded.{Coded, code_by, coded×, coded_ℕ, coded_list}
@@ -77,6 +77,10 @@ changed_at chunks handle change = changed_by chunks handle change (map.get chunk
 abbrev pub change_row : ChunkTable → ℕ → (ChunkRow → ChunkRow) → ChunkTable
 change_row t handle change = record t { chunks = changed_at t.chunks handle change }
 
+-- a chunk with this row
+abbrev pub with_row : ChunkTable → ℕ → ChunkRow → ChunkTable
+with_row t handle row = record t { chunks = map.insert t.chunks handle row }
+
 -- one owner more
 abbrev pub row_shared : ChunkRow → ChunkRow
 row_shared row = record row { references = row.references + 1 }
@@ -114,30 +118,40 @@ add_chunk t file handle =
 
 -- a chunk without owner, whose version number was issued
 abbrev pub add_copy : ChunkTable → ℕ → ℕ → ChunkTable
-add_copy t handle version = record t { chunks = map.insert t.chunks handle (record new_row { issued = version }) }
+add_copy t handle version = with_row t handle (record new_row { issued = version })
 
--- the next version number
-abbrev pub row_issued : ChunkRow → ChunkRow
-row_issued row = record row { issued = row.issued + 1 }
+-- a version number is issued
+abbrev pub row_issued : ℕ → ChunkRow → ChunkRow
+row_issued version row = record row { issued = version }
 
--- the issued version gets a primary and its members; the lease's end is set apart
-abbrev pub row_granted : ℕ → List ℕ → ChunkRow → ChunkRow
-row_granted primary members row = record row { granted = row.issued; primary = primary; members = members; lease_end = 0 }
+abbrev pub issue : ChunkTable → ℕ → ℕ → ChunkTable
+issue t handle version = change_row t handle (row_issued version)
+
+-- an issued version gets a primary and its members; the lease's end is set apart
+abbrev pub row_granted : ℕ → ℕ → List ℕ → ChunkRow → ChunkRow
+row_granted version primary members row =
+    record row { granted = version; issued = max row.issued version; primary = primary; members = members; lease_end = 0 }
+
+abbrev pub grant : ChunkTable → ℕ → ℕ → ℕ → List ℕ → ChunkTable
+grant t handle version primary members = change_row t handle (row_granted version primary members)
+
+-- versions and the last lease's servers as a checkpoint has them
+abbrev pub row_put : ℕ → ℕ → ℕ → List ℕ → ChunkRow → ChunkRow
+row_put granted issued primary members row = record row { granted = granted; issued = issued; primary = primary; members = members }
 
 abbrev pub row_ended : ℕ → ChunkRow → ChunkRow
 row_ended moment row = record row { lease_end = moment }
+
+abbrev pub set_end : ChunkTable → ℕ → ℕ → ChunkTable
+set_end t handle moment = change_row t handle (row_ended moment)
 
 -- a file of the same chunks
 abbrev pub copy_file : ChunkTable → ℕ → ℕ → ChunkTable
 copy_file t from to = record { files = map.insert t.files to (handles_of t from); chunks = share_all t.chunks (handles_of t from) }
 
 -- a file's chunk of this index becomes another one
-abbrev pub swap : ChunkTable → ℕ → ℕ → ℕ → ChunkTable
-swap t file index to =
-    record {
-      files = map.insert t.files file (slice_set (handles_of t file) index to);
-      chunks = leave_one (share_one t.chunks to) (slice_index (handles_of t file) index);
-    }
+abbrev pub swap : ChunkTable → ℕ → ℕ → ℕ → ℕ → ChunkTable
+swap t file index from to = record { files = map.insert t.files file (slice_set (handles_of t file) index to); chunks = leave_one (share_one t.chunks to) from }
 
 -- the file goes, and with it each chunk that no other file owns
 abbrev pub drop_file : ChunkTable → ℕ → ChunkTable
@@ -157,7 +171,7 @@ abbrev pub with_shared : TableState → ℕ → TableState
 with_shared s file = record { table = copy_file s.table file s.next_file; next_file = s.next_file + 1; next_handle = s.next_handle }
 
 abbrev pub with_swapped : TableState → ℕ → ℕ → ℕ → TableState
-with_swapped s file index to = record s { table = swap s.table file index to }
+with_swapped s file index to = record s { table = swap s.table file index (slice_index (handles_of s.table file) index) to }
 
 abbrev pub without_file : TableState → ℕ → TableState
 without_file s file = record s { table = drop_file s.table file }

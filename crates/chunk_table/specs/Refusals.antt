@@ -41,6 +41,14 @@ grant_refusal_of version (Some row) = if (row.issued == version) && nat_lt row.g
 abbrev pub grant_refusal : TableState → ℕ → ℕ → Option TableFault
 grant_refusal s handle version = grant_refusal_of version (chunk_of s.table handle)
 
+abbrev pub put_row_refusal_of : ℕ → ℕ → Option ChunkRow → Option TableFault
+put_row_refusal_of granted issued None = Some NoChunk
+put_row_refusal_of granted issued (Some row) = if nat_lt issued granted then Some NotIssued else limit_unless (nat_le issued counter_limit)
+
+-- a granted version was issued
+abbrev pub put_row_refusal : TableState → ℕ → ℕ → ℕ → Option TableFault
+put_row_refusal s handle granted issued = put_row_refusal_of granted issued (chunk_of s.table handle)
+
 abbrev pub share_refusal_of : TableState → Option (List ℕ) → Option TableFault
 share_refusal_of s None = Some NoFile
 share_refusal_of s (Some handles) = limit_unless (nat_lt s.next_file counter_limit && nat_le (all_owners s.table.files + length handles) counter_limit)

@@ -1,7 +1,7 @@
 //! What the master keeps of a chunk (GFS paper, sections 2.6.1 and 3.1).
 
 ghost use Rattle.std.specs.Prelude.{◌≡◌, ◌<◌};
-ghost use Rattle.chunk_table.specs.ChunkTable.{new_row, counter_limit, row_issued, row_granted, row_ended, row_shared, row_left};
+ghost use Rattle.chunk_table.specs.ChunkTable.{new_row, counter_limit, row_issued, row_granted, row_ended, row_put, row_shared, row_left};
 
 use gfs_types::ids::{Moment, ServerId, Version};
 use gfs_types::lists::ServerList;
@@ -92,20 +92,35 @@ impl Chunk {
         }
     }
 
-    pub(crate) fn issue(&mut self)
-        requires { self.old.issued < counter_limit }
-        ensures { self.new ≡ row_issued self.old }
+    pub(crate) fn issue(&mut self, version: Version)
+        ensures { self.new ≡ row_issued version.0 self.old }
     {
-        self.issued = Version(self.issued.0 + 1);
+        self.issued = version;
     }
 
-    pub(crate) fn grant(&mut self, primary: ServerId, members: ServerList)
-        ensures { self.new ≡ row_granted primary.0 members self.old }
+    pub(crate) fn grant(&mut self, version: Version, primary: ServerId, members: ServerList)
+        ensures { self.new ≡ row_granted version.0 primary.0 members self.old }
     {
-        self.granted = self.issued;
+        self.granted = version;
+        self.issued = Version(self.issued.0.max(version.0));
         self.primary = primary;
         self.members = members;
         self.lease_end = Moment(0);
+    }
+
+    pub(crate) fn put(
+        &mut self,
+        granted: Version,
+        issued: Version,
+        primary: ServerId,
+        members: ServerList,
+    )
+        ensures { self.new ≡ row_put granted.0 issued.0 primary.0 members self.old }
+    {
+        self.granted = granted;
+        self.issued = issued;
+        self.primary = primary;
+        self.members = members;
     }
 
     pub(crate) fn set_end(&mut self, moment: Moment)

@@ -2,33 +2,48 @@
 
 ghost use Rattle.std.specs.Prelude.{◌≡◌, ℕ, ◌+◌, ◌<◌, ◌≤◌, length, IfSome, OnSome};
 ghost use Rattle.std.specs.FinMap as map;
-ghost use Rattle.chunk_table.specs.ChunkTable.{counter_limit, changed_at, row_issued, row_granted, row_ended, share_one, share_all, leave_one, leave_all};
+ghost use Rattle.chunk_table.specs.ChunkTable.{counter_limit, changed_at, row_issued, row_granted, row_ended, row_put, share_one, share_all, leave_one, leave_all};
 ghost use Rattle.chunk_table.specs.Owners.{references_at};
 
 use crate::chunk::Chunk;
-use gfs_types::ids::{Moment, ServerId};
+use gfs_types::ids::{Moment, ServerId, Version};
 use gfs_types::lists::ServerList;
 use number_map::NumberMap;
 
-pub(crate) fn issue_at(chunks: &mut NumberMap<Chunk>, handle: u64)
-    requires { IfSome (map.get chunks.old handle) (λ row. row.issued < counter_limit) }
-    ensures { chunks.new ≡ changed_at chunks.old handle row_issued }
+pub(crate) fn issue_at(chunks: &mut NumberMap<Chunk>, handle: u64, version: Version)
+    ensures { chunks.new ≡ changed_at chunks.old handle (row_issued version.0) }
 {
     if let Some(chunk) = chunks.get_mut(handle) {
-        chunk.issue();
+        chunk.issue(version);
     }
 }
 
 pub(crate) fn grant_at(
     chunks: &mut NumberMap<Chunk>,
     handle: u64,
+    version: Version,
     primary: ServerId,
     members: ServerList,
 )
-    ensures { chunks.new ≡ changed_at chunks.old handle (row_granted primary.0 members) }
+    ensures { chunks.new ≡ changed_at chunks.old handle (row_granted version.0 primary.0 members) }
 {
     if let Some(chunk) = chunks.get_mut(handle) {
-        chunk.grant(primary, members);
+        chunk.grant(version, primary, members);
+    }
+}
+
+pub(crate) fn put_at(
+    chunks: &mut NumberMap<Chunk>,
+    handle: u64,
+    granted: Version,
+    issued: Version,
+    primary: ServerId,
+    members: ServerList,
+)
+    ensures { chunks.new ≡ changed_at chunks.old handle (row_put granted.0 issued.0 primary.0 members) }
+{
+    if let Some(chunk) = chunks.get_mut(handle) {
+        chunk.put(granted, issued, primary, members);
     }
 }
 

@@ -2,13 +2,13 @@
 
 ghost use Rattle.std.specs.Prelude.{◌≡◌, ℕ, ◌<◌, ◌≤◌, Some, None, IfOk, OnOk, OnErr};
 ghost use Rattle.std.specs.Option.{option_copied};
-ghost use Rattle.chunk_table.specs.ChunkTable.{counter_limit, new_table, new_chunk_table, file_of, chunk_of, row_issued, row_granted, row_ended, with_file, with_chunk, with_row_changed, with_shared, with_swapped, without_file, with_copy, without_copy};
+ghost use Rattle.chunk_table.specs.ChunkTable.{counter_limit, new_table, new_chunk_table, file_of, chunk_of, row_issued, row_granted, row_ended, row_put, with_file, with_chunk, with_row_changed, with_shared, with_swapped, without_file, with_copy, without_copy};
 ghost use Rattle.chunk_table.specs.Owners.{IsSound};
-ghost use Rattle.chunk_table.specs.Refusals.{RefusedFor, RefusedExactly, add_file_refusal, add_chunk_refusal, issue_refusal, grant_refusal, share_refusal, swap_refusal, drop_refusal, start_copy_refusal, give_up_copy_refusal, version_after};
+ghost use Rattle.chunk_table.specs.Refusals.{RefusedFor, RefusedExactly, add_file_refusal, add_chunk_refusal, issue_refusal, grant_refusal, put_row_refusal, share_refusal, swap_refusal, drop_refusal, start_copy_refusal, give_up_copy_refusal, version_after};
 
 use crate::COUNTER_LIMIT;
 use crate::chunk::Chunk;
-use crate::chunks::{end_at, grant_at, issue_at, leave_at, leave_each, share_at};
+use crate::chunks::{end_at, grant_at, issue_at, leave_at, leave_each, put_at, share_at};
 use crate::fault::TableFault;
 use crate::files::{push_at, set_at, share_file};
 use gfs_types::ids::{FileId, Handle, Moment, ServerId, Version};
@@ -163,7 +163,7 @@ impl Table {
     pub fn issue(&mut self, handle: Handle) -> Result<Version, TableFault>
         ensures refusal { RefusedExactly result (issue_refusal self.old handle.0) }
         ensures version { IfOk result (λ version. version.0 ≡ version_after (chunk_of self.old.table handle.0)) }
-        ensures ok { OnOk result (self.new ≡ with_row_changed self.old handle.0 row_issued) }
+        ensures ok { OnOk result (self.new ≡ with_row_changed self.old handle.0 (row_issued (version_after (chunk_of self.old.table handle.0)))) }
         ensures err { OnErr result (self.new ≡ self.old) }
     {
         let Some(chunk) = self.chunks.get(handle.0) else {
@@ -173,8 +173,9 @@ impl Table {
         if issued >= COUNTER_LIMIT {
             return Err(TableFault::Limit);
         }
-        issue_at(&mut self.chunks, handle.0);
-        Ok(Version(issued + 1))
+        let version = Version(issued + 1);
+        issue_at(&mut self.chunks, handle.0, version);
+        Ok(version)
     }
 
     /// Grants the version that was issued last to a primary and its members. The lease's end is 0 until it is set.
@@ -187,7 +188,7 @@ impl Table {
         members: ServerList,
     ) -> Result<(), TableFault>
         ensures refusal { RefusedExactly result (grant_refusal self.old handle.0 version.0) }
-        ensures ok { OnOk result (self.new ≡ with_row_changed self.old handle.0 (row_granted primary.0 members)) }
+        ensures ok { OnOk result (self.new ≡ with_row_changed self.old handle.0 (row_granted version.0 primary.0 members)) }
         ensures err { OnErr result (self.new ≡ self.old) }
     {
         let Some(chunk) = self.chunks.get(handle.0) else {
@@ -196,7 +197,41 @@ impl Table {
         if chunk.issued() != version || chunk.granted() >= version {
             return Err(TableFault::NotIssued);
         }
-        grant_at(&mut self.chunks, handle.0, primary, members);
+        grant_at(&mut self.chunks, handle.0, version, primary, members);
+        Ok(())
+    }
+
+    /// Gives a chunk these versions and the servers of its last lease, as a checkpoint has them.
+    /// Refused: NoChunk; NotIssued (the granted version is past the issued one); Limit. Takes no memory.
+    pub fn put_row(
+        &mut self,
+        handle: Handle,
+        granted: Version,
+        issued: Version,
+        primary: ServerId,
+        members: ServerList,
+    ) -> Result<(), TableFault>
+        ensures refusal { RefusedExactly result (put_row_refusal self.old handle.0 granted.0 issued.0) }
+        ensures ok { OnOk result (self.new ≡ with_row_changed self.old handle.0 (row_put granted.0 issued.0 primary.0 members)) }
+        ensures err { OnErr result (self.new ≡ self.old) }
+    {
+        if self.chunks.get(handle.0).is_none() {
+            return Err(TableFault::NoChunk);
+        }
+        if issued < granted {
+            return Err(TableFault::NotIssued);
+        }
+        if issued.0 > COUNTER_LIMIT {
+            return Err(TableFault::Limit);
+        }
+        put_at(
+            &mut self.chunks,
+            handle.0,
+            granted,
+            issued,
+            primary,
+            members,
+        );
         Ok(())
     }
 

@@ -14,7 +14,7 @@ over_later s now e =
     let h = not_before (s.latest + s.skew) s.lease.until e in
     is_not_before (max s.latest now + s.skew) s.lease.until (omega arith)
 
-kept_if : (s : HeldState) (until : ℕ) (b : Bool) → counts s ≡ b → b ≡ false → counts (cond (b && ltb s.lease.until until) (record s { lease = record s.lease { until = until } }) s) ≡ false
+kept_if : (s : HeldState) (until : ℕ) (b : Bool) → counts s ≡ b → b ≡ false → counts (record s { lease = cond (b && ltb s.lease.until until) (record s.lease { until = until }) s.lease }) ≡ false
 kept_if s until true e f = cc
 kept_if s until false e f = e
 
@@ -30,7 +30,7 @@ over_all (call ∷ rest) s e = over_all rest (after_call s call) (over_after s c
 pub never_again : (s : HeldState) (calls : List HeldCall) (now : ℕ) → counts s ≡ false → counts (at_moment (after_calls s calls) now) ≡ false
 never_again s calls now e = over_later (after_calls s calls) now (over_all calls s e)
 
-moved_if : (s : HeldState) (until : ℕ) (b c : Bool) → ltb s.lease.until until ≡ c → s.lease.until ≤ (cond (b && c) (record s { lease = record s.lease { until = until } }) s).lease.until
+moved_if : (s : HeldState) (until : ℕ) (b c : Bool) → ltb s.lease.until until ≡ c → s.lease.until ≤ (cond (b && c) (record s.lease { until = until }) s.lease).until
 moved_if s until true true e = (let lt : s.lease.until < until = grind (arith, nat_tests) in omega arith)
 moved_if s until true false e = omega arith
 moved_if s until false c e = omega arith

@@ -17,6 +17,10 @@ pub record HeldState : Type 0 where
 abbrev pub counts_at : ℕ → LeaseHeld → ℕ → Bool
 counts_at skew l now = nat_lt (now + skew) l.until
 
+-- The end moves on only where the lease still counts and the new end is later.
+abbrev pub extended : ℕ → LeaseHeld → ℕ → ℕ → LeaseHeld
+extended skew l until now = if counts_at skew l now && nat_lt l.until until then record l { until = until } else l
+
 -- the state at a moment; an earlier moment than the greatest changes nothing
 abbrev pub at_moment : HeldState → ℕ → HeldState
 at_moment s now = record s { latest = max s.latest now }
@@ -25,9 +29,8 @@ at_moment s now = record s { latest = max s.latest now }
 abbrev pub counts : HeldState → Bool
 counts s = counts_at s.skew s.lease s.latest
 
--- The end moves on only where the lease still counts and the new end is later.
 abbrev pub extended_if : HeldState → ℕ → HeldState
-extended_if s until = if counts s && nat_lt s.lease.until until then record s { lease = record s.lease { until = until } } else s
+extended_if s until = record s { lease = extended s.skew s.lease until s.latest }
 
 -- What is done with a held lease.
 pub data HeldCall : Type 0 where

@@ -4,6 +4,7 @@ ghost use Rattle.std.specs.Prelude.{◌≡◌, ℕ};
 ghost use Rattle.leases.specs.LeaseHeld.{counts, after_call};
 ghost use Rattle.leases.specs.LeaseHeld.HeldCall.{Ask, Extend, End};
 
+use crate::lease::Lease;
 use gfs_types::ids::{Moment, Version};
 use gfs_types::lists::ServerList;
 use std::marker::Model;
@@ -12,9 +13,7 @@ use std::marker::Model;
 /// once it does not count it never counts again.
 #[derive(Drop)]
 pub struct Held {
-    version: Version,
-    until: Moment,
-    members: ServerList,
+    lease: Lease,
     skew_ms: u64,
     latest: u64,
 }
@@ -25,7 +24,7 @@ impl Model for Held {
     ghost Value = { HeldState };
 
     ghost view = { λ h. record {
-      lease = record { version = h.version.0; until = h.until.0; members = h.members };
+      lease = h.lease;
       skew = h.skew_ms;
       latest = h.latest;
     } };
@@ -37,9 +36,7 @@ impl Held {
         ensures { result ≡ record { lease = record { version = version.0; until = until.0; members = members }; skew = skew_ms; latest = 0 } }
     {
         Held {
-            version,
-            until,
-            members,
+            lease: Lease::new(version, until, members),
             skew_ms,
             latest: 0,
         }
@@ -49,21 +46,21 @@ impl Held {
     pub fn version(&self) -> Version
         ensures { result.0 ≡ self.now.lease.version }
     {
-        self.version
+        self.lease.version
     }
 
     /// The end that the master told, 0 once the lease was ended.
     pub fn until(&self) -> Moment
         ensures { result.0 ≡ self.now.lease.until }
     {
-        self.until
+        self.lease.until
     }
 
     /// The members, the primary among them.
     pub fn members(&self) -> &ServerList
         ensures { result.now ≡ self.now.lease.members }
     {
-        &self.members
+        &self.lease.members
     }
 
     /// Whether the lease counts at that moment. An earlier moment than the greatest so far counts as that one.
@@ -72,22 +69,21 @@ impl Held {
         ensures value { result ≡ counts self.new }
     {
         self.latest = self.latest.max(now.0);
-        self.latest < self.until.0.saturating_sub(self.skew_ms)
+        self.lease.counts(self.skew_ms, Moment(self.latest))
     }
 
     /// Moves the end on. Nothing but the greatest moment changes where the lease does not count or the end is not later.
     pub fn extend(&mut self, until: Moment, now: Moment)
         ensures { self.new ≡ after_call self.old (Extend until.0 now.0) }
     {
-        if self.valid(now) && self.until.0 < until.0 {
-            self.until = until;
-        }
+        self.latest = self.latest.max(now.0);
+        self.lease.extend(self.skew_ms, until, Moment(self.latest));
     }
 
     /// Ends the lease: it counts no more.
     pub fn end(&mut self)
         ensures { self.new ≡ after_call self.old End }
     {
-        self.until = Moment(0);
+        self.lease.until = Moment(0);
     }
 }

@@ -62,7 +62,7 @@ owes_refused p r None serial member h = h
 owes_refused p r (Some w) serial member h = h
 
 same_members_if : (s : HeldState) (until : ℕ) (b : Bool)
-    → (cond b (record s { lease = record s.lease { until = until } }) s).lease.members ≡ s.lease.members
+    → (cond b (record s.lease { until = until }) s.lease).members ≡ s.lease.members
 same_members_if s until true = refl
 same_members_if s until false = refl
 

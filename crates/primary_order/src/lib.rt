@@ -5,6 +5,7 @@
 pub mod answer;
 pub mod kept;
 pub mod laws;
+pub mod order;
 pub mod primary;
 pub mod waiting;
 

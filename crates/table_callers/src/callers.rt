@@ -34,7 +34,7 @@ fn lease(
     until: Moment,
 ) -> Result<Version, TableFault>
     ensures version { IfOk result (λ version. version.0 ≡ version_after (chunk_of table.old.table handle.0)) }
-    ensures granted { OnOk result (table.new ≡ with_row_changed (with_row_changed (with_row_changed table.old handle.0 row_issued) handle.0 (row_granted primary.0 members)) handle.0 (row_ended until.0)) }
+    ensures granted { IfOk result (λ version. table.new ≡ with_row_changed (with_row_changed (with_row_changed table.old handle.0 (row_issued version.0)) handle.0 (row_granted version.0 primary.0 members)) handle.0 (row_ended until.0)) }
 {
     let version = table.issue(handle)?;
     table.grant(handle, version, primary, members)?;

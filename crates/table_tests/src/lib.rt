@@ -16,4 +16,6 @@ mod random_table;
 #[cfg(test)]
 mod refused;
 #[cfg(test)]
+mod serial_order;
+#[cfg(test)]
 mod table;

@@ -2,7 +2,7 @@ use chunk_table::fault::TableFault;
 use chunk_table::table::Table;
 use gfs_types::ids::{FileId, Handle, Moment, ServerId, Version};
 use gfs_types::lists::ServerList;
-use leases::master::{ended, extend, may_issue};
+use leases::master::{ended, may_issue};
 use rand::rngs::SmallRng;
 use rand::{RngExt, SeedableRng};
 use std::alloc::{AllocError, Global};
@@ -58,6 +58,41 @@ fn each_call_of_the_table(rt: HostRuntime) -> Result<(), Fail> {
 }
 
 #[test]
+fn a_row_as_a_checkpoint_has_it(rt: HostRuntime) -> Result<(), Fail> {
+    let alloc = rt.alloc();
+    let mut table = Table::new(alloc);
+    table.add_file()?;
+    table.add_chunk(FileId(1))?;
+    let (none, two, three) = (Version(0), Version(2), Version(3));
+    let members = servers(alloc, &[1, 2])?;
+    assert_eq!(rt;
+        table.put_row(Handle(2), none, none, ServerId(0), members),
+        Err(TableFault::NoChunk)
+    );
+    let members = servers(alloc, &[1, 2])?;
+    assert_eq!(rt;
+        table.put_row(Handle(1), three, two, ServerId(1), members),
+        Err(TableFault::NotIssued)
+    );
+    let past = Version(4_611_686_018_427_387_904);
+    let members = servers(alloc, &[1, 2])?;
+    assert_eq!(rt;
+        table.put_row(Handle(1), two, past, ServerId(1), members),
+        Err(TableFault::Limit)
+    );
+    let members = servers(alloc, &[1, 2])?;
+    assert_eq!(rt;
+        table.put_row(Handle(1), two, three, ServerId(1), members),
+        Ok(())
+    );
+    assert_eq!(rt; table.chunk(Handle(1)).map(|c| c.granted()), Some(two));
+    assert_eq!(rt; table.chunk(Handle(1)).map(|c| c.issued()), Some(three));
+    assert_eq!(rt; table.chunk(Handle(1)).map(|c| c.references()), Some(1));
+    assert_eq!(rt; table.issue(Handle(1)), Ok(Version(4)));
+    Ok(())
+}
+
+#[test]
 fn shared_chunks(rt: HostRuntime) -> Result<(), Fail> {
     let alloc = rt.alloc();
     let mut table = Table::new(alloc);
@@ -95,31 +130,6 @@ fn shared_chunks(rt: HostRuntime) -> Result<(), Fail> {
     assert_eq!(rt; table.add_file(), Ok(FileId(3)));
     assert_eq!(rt; table.add_chunk(FileId(3)), Ok(Handle(4)));
     table.is_sound();
-    Ok(())
-}
-
-#[test]
-fn leases_are_extended(rt: HostRuntime) -> Result<(), Fail> {
-    let alloc = rt.alloc();
-    let mut table = Table::new(alloc);
-    table.add_file()?;
-    table.add_chunk(FileId(1))?;
-    table.set_end(Handle(1), Moment(60_000));
-    extend(&mut table, Handle(1), Moment(10_000), 60_000);
-    assert_eq!(rt;
-        table.chunk(Handle(1)).map(|c| c.lease_end()),
-        Some(Moment(70_000))
-    );
-    extend(&mut table, Handle(1), Moment(5_000), 60_000);
-    assert_eq!(rt;
-        table.chunk(Handle(1)).map(|c| c.lease_end()),
-        Some(Moment(70_000))
-    );
-    extend(&mut table, Handle(1), Moment(70_000), 60_000);
-    assert_eq!(rt;
-        table.chunk(Handle(1)).map(|c| c.lease_end()),
-        Some(Moment(70_000))
-    );
     Ok(())
 }
 

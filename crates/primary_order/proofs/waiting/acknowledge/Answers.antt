@@ -1,5 +1,5 @@
-use Rattle.std.proofs.Common.{◌≡◌, false, sym, ap, ◌∙◌}
-use Rattle.primary_order.specs.PrimaryOrder.{less_member, is_last}
+use Rattle.std.proofs.Common.{◌≡◌, false, sym, ◌∙◌}
+use Rattle.primary_order.specs.PrimaryOrder.{is_last}
 use Rattle.primary_order.proofs.Lent.{less_lent}
 use Rattle.primary_order.proofs.waiting.acknowledge.Goals as goal
 

@@ -1,4 +1,4 @@
-use Rattle.std.proofs.Common.{◌≡◌, ap, sym, ◌∙◌, is_some}
+use Rattle.std.proofs.Common.{◌≡◌, ap, ◌∙◌, is_some}
 use Rattle.std.specs.FinMap as map
 use Rattle.primary_order.specs.declared.primary.Primary.{Primary}
 use Rattle.primary_order.specs.PrimaryOrder.{restored, seen_at}
