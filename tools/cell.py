@@ -1,5 +1,7 @@
 """A cell that runs by the definitions: events in, answers and messages out."""
-from antt import Program, apply
+import state
+from translate import Program
+from words import apply
 
 REFUSALS = {
     'BadPath': 1, 'NoParent': 2, 'Exists': 3, 'NotFound': 4, 'NotFile': 5, 'NotDir': 6, 'NotEmpty': 7, 'Reserved': 8,
@@ -88,14 +90,14 @@ class Cell:
         self.event_count = 0
 
     def definition(self, module, name):
-        return self.program.function('protocol', module, name)
+        return self.program.function(state.PROTOCOL, module, name)
 
     def nodes(self):
         return (['master'] + [f's{i + 1}' for i in range(self.server_count)]
                 + [f'c{i + 1}' for i in range(self.client_count)])
 
     def is_open(self, client):
-        return self.world['clients'][int(client[1:]) - 1]['current'][0] == 'Some'
+        return state.is_in_call(state.client(self.world, int(client[1:])))
 
     def take(self, event, choice=None):
         """One event. The answer that it gives, if any."""
@@ -104,7 +106,7 @@ class Cell:
             choice = self.choose(event, self) if self.choose else GOES
         happened = apply(self.happens, self.world, event, choice)
         self.world = happened['world']
-        for message in self.world['sent'][len(self.messages) - 1:]:
+        for message in state.sent(self.world)[len(self.messages) - 1:]:
             self.messages.append(SentMessage(message))
         answer = happened['out']['answer']
         return answer[1] if answer[0] == 'Some' else None

@@ -1,303 +1,371 @@
-"""Facts that hold of a cell after every event, whatever the list of events."""
-import itertools
-
-from antt import apply
+"""Facts that hold of a cell after every event, whatever the list of events: what its nodes keep, and what they may change."""
+import state
 from cell import GOES
+from words import apply
 
 
 class Broken(Exception):
     """A fact that does not hold."""
 
 
-def covered(mutation, chunk):
-    """Where a mutation begins, and the bytes that it puts there."""
-    if mutation[0] == 'Pad':
-        return mutation[1], [0] * (chunk - mutation[1])
-    return mutation[1], mutation[2]
+def is_part(entries, last_round, part, begin, end, must=None):
+    """Whether the image of some selection of the entries up to a round, cut to begin..end, is this part.
 
-
-def image(mutations, chunk):
-    """The bytes of a chunk to which these were applied in order."""
-    found = []
-    for mutation in mutations:
-        offset, content = covered(mutation, chunk)
-        found += [0] * (offset - len(found))
-        found[offset:offset + len(content)] = content
-    return found
-
-
-def selections(order, greatest_round):
-    """Each choice of entries up to a round that leaves out no settled one; none where there are too many to try."""
-    entries = [placed['entry'] for placed in order if placed['entry']['round'] <= greatest_round]
-    free = [place for place, entry in enumerate(entries) if not entry['settled']]
-    if len(free) > 12:
-        return None
-    return [[e['mutation'] for i, e in enumerate(entries) if i not in {f for f, out in zip(free, left_out) if out}]
-            for left_out in itertools.product((False, True), repeat=len(free))]
-
-
-def orders_of(cell):
-    return cell.world['observer']['orders'].items
-
-
-def check_replicas(cell, before):
-    """Each replica on a disk is the image of a selection of its chunk's order up to its version."""
-    chunk = cell.settings['chunk']
-    are_orders_same = cell.world['observer']['orders'] is before['observer']['orders']
-    for server, old in zip(cell.world['servers'], before['servers']):
-        if are_orders_same and server['disk'] is old['disk']:
+    A selection leaves out none that must be in: the settled ones, or those that `must` says. From the last one back an
+    entry is taken wherever it fits, which never stands in the way of an earlier one.
+    """
+    past = begin + len(part)
+    is_cut = len(part) == end - begin
+    covered = [False] * len(part)
+    greatest = 0
+    for entry in reversed(entries):
+        if entry.round > last_round:
             continue
-        for handle, replica in server['disk']['replicas'].items.items():
-            choices = selections(orders_of(cell).get(handle, []), replica['version'])
-            if choices is not None and not any(image(chosen, chunk) == replica['bytes'] for chosen in choices):
-                raise Broken(f'server {server["id"]}: the replica of chunk {handle} at version {replica["version"]} is no selection')
+        finish = entry.offset + len(entry.content)
+        places = range(max(begin, entry.offset), min(past, finish))
+        fits = is_cut or finish <= past
+        if fits and all(covered[p - begin] or part[p - begin] == entry.content[p - entry.offset] for p in places):
+            greatest = max(greatest, finish)
+            for place in places:
+                covered[place - begin] = True
+        elif entry.is_settled if must is None else (entry.round, entry.serial) in must:
+            return False
+    return (not part or greatest >= past) and all(is_covered or byte == 0 for is_covered, byte in zip(covered, part))
 
 
-def check_orders(cell, before):
-    """Rounds never fall, and appends and pads begin at or past each settled end and each end of their own round."""
-    chunk = cell.settings['chunk']
-    for handle, order in orders_of(cell).items():
-        if order is before['observer']['orders'].items.get(handle):
-            continue
-        entries = [placed['entry'] for placed in order]
-        for place, entry in enumerate(entries):
-            for earlier in entries[:place]:
-                if entry['round'] < earlier['round']:
-                    raise Broken(f'chunk {handle}: a round falls')
-                if entry['mutation'][0] != 'Write' and (earlier['settled'] or earlier['round'] == entry['round']):
-                    offset, content = covered(earlier['mutation'], chunk)
-                    if offset + len(content) > entry['mutation'][1]:
+class Facts:
+    """The facts of one cell. It remembers what earlier messages said."""
+
+    def __init__(self, cell):
+        self.cell = cell
+        self.chunk = cell.settings['chunk']
+        self.skew = cell.settings['skew_ms']
+        # what servers said that they have, as (server, handle, version), and what members acknowledged, with the serial
+        self.said = set()
+        self.acked = set()
+        self.order_numbers = set()
+        # by (handle, version): the members; by (server, handle, version): the ends that the master told
+        self.grants = {}
+        self.ends = {}
+        self.lapsed = set()
+
+    def world(self):
+        return self.cell.world
+
+    def entries_of(self, handle, world=None):
+        return state.entries(state.orders(world or self.world()).get(handle, []), self.chunk)
+
+    def check(self, event, before):
+        """All facts, after an event in the world before."""
+        new = self.cell.messages[len(state.sent(before)) + 1:]
+        self.check_messages(new)
+        self.check_replicas(before)
+        self.check_serials(before)
+        self.check_drops(event, before)
+        if state.orders(self.world()) is not state.orders(before):
+            self.check_orders(before)
+            self.check_new_entries(before)
+            self.check_settled(event, before)
+        self.check_log(before)
+        self.check_chunks()
+        self.check_expired(event, before)
+        self.check_clones(new)
+        self.check_snapshots()
+        self.check_grants(before)
+        self.check_leases()
+        self.check_open_rounds()
+        self.check_told_leases()
+        self.check_lapsed(before)
+        if not state.is_kept(self.world()):
+            raise Broken('clocks or disks were not kept')
+
+    # ------------------------------------------------------------ replicas and orders
+
+    def check_replicas(self, before):
+        """Each replica on a disk is the image of a selection of its chunk's order up to its version, and its serial is at least that of each settled entry under it."""
+        old_orders = state.orders(before)
+        for server, old in zip(state.servers(self.world()), state.servers(before)):
+            known = state.replicas(old)
+            for handle, replica in state.replicas(server).items():
+                order = state.orders(self.world()).get(handle)
+                if order is old_orders.get(handle) and known.get(handle) == replica:
+                    continue
+                entries = self.entries_of(handle)
+                name = f'server {state.server_number(server)}: the replica of chunk {handle} at version {replica.version}'
+                if not is_part(entries, replica.version, replica.bytes, 0, self.chunk + 1):
+                    raise Broken(name + ' is no selection')
+                if any(e.is_settled and e.round == replica.version and e.serial > replica.serial for e in entries):
+                    raise Broken(name + ' has a last serial below that of a settled entry')
+
+    def check_serials(self, before):
+        """The last serial of a replica never falls under one version."""
+        for server, old in zip(state.servers(self.world()), state.servers(before)):
+            if state.disk(server) is state.disk(old):
+                continue
+            known = state.replicas(old)
+            for handle, replica in state.replicas(server).items():
+                was = known.get(handle)
+                if was and was.version == replica.version and replica.serial < was.serial:
+                    raise Broken(f'server {state.server_number(server)}: the last serial of chunk {handle} falls')
+
+    def check_drops(self, event, before):
+        """A replica goes by a Drop that names its version or a newer one, or because its bytes rotted."""
+        if event[0] == 'Restart':
+            return
+        for server, old in zip(state.servers(self.world()), state.servers(before)):
+            if state.disk(server) is state.disk(old):
+                continue
+            left = state.replicas(server)
+            for handle, was in state.replicas(old).items():
+                if handle not in left and not was.changed and not self.drops(event, handle, was.version):
+                    raise Broken(f'server {state.server_number(server)}: chunk {handle} at version {was.version} is dropped, and no order says so')
+
+    def drops(self, event, handle, version):
+        message = self.cell.messages[event[1]] if event[0] == 'Deliver' else None
+        return message and message.kind == 'Drop' and state.number(message.body[2]) == handle and state.number(message.body[3]) >= version
+
+    def check_orders(self, before):
+        """Rounds never fall, serials rise within a round, and appends and pads begin at or past each settled end and each end of their own round."""
+        old_orders = state.orders(before)
+        for handle, order in state.orders(self.world()).items():
+            if order is old_orders.get(handle):
+                continue
+            entries = self.entries_of(handle)
+            for place, entry in enumerate(entries):
+                for earlier in entries[:place]:
+                    is_same = earlier.round == entry.round
+                    if entry.round < earlier.round or (is_same and entry.serial <= earlier.serial):
+                        raise Broken(f'chunk {handle}: a round or a serial falls')
+                    if entry.kind != 'Write' and (earlier.is_settled or is_same) and earlier.offset + len(earlier.content) > entry.offset:
                         raise Broken(f'chunk {handle}: an append begins below an end')
+
+    def new_entries(self, before):
+        """The entries that an event placed, as (handle, entry). A copy of a chunk begins with the order of its source."""
+        old = state.orders(before)
+        found = []
+        for handle, order in state.orders(self.world()).items():
+            if order is old.get(handle) or len(order) <= len(old.get(handle, [])):
+                continue
+            entries = self.entries_of(handle)
+            if handle not in old and (handle, entries[-1].round) not in self.grants:
+                if not any(entries == self.entries_of(other) for other in old):
+                    raise Broken(f'chunk {handle} begins with an order that is of no chunk')
+            else:
+                found.append((handle, entries[-1]))
+        return found
+
+    def check_new_entries(self, before):
+        """Each new entry is of a granted version. None is placed in a shared chunk, nor for a call that is over while its client is up."""
+        master = state.master(self.world())
+        for handle, entry in self.new_entries(before):
+            if (handle, entry.round) not in self.grants:
+                raise Broken(f'chunk {handle}: an entry of a round that was not granted')
+            row = state.rows(state.logged(master)).get(handle) if state.is_up(master) else None
+            if row and row.references > 1:
+                raise Broken(f'an entry in the shared chunk {handle}')
+            client = state.client(before, entry.client)
+            if state.is_up(client) and not state.is_in_call(client):
+                raise Broken(f'an entry in chunk {handle} for a call that is over')
+
+    def check_settled(self, event, before):
+        """An entry becomes settled by its primary's step, while the lease counts and when each member has acknowledged it."""
+        old_orders = state.orders(before)
+        for handle, order in state.orders(self.world()).items():
+            if order is old_orders.get(handle) or handle not in old_orders:
+                continue
+            old = self.entries_of(handle, before)
+            for place, entry in enumerate(self.entries_of(handle)):
+                if not entry.is_settled or (place < len(old) and old[place].is_settled):
+                    continue
+                members = self.grants.get((handle, entry.round), [])
+                for member in members[1:]:
+                    if (f's{member}', handle, entry.round, entry.serial) not in self.acked:
+                        raise Broken(f'chunk {handle}: an entry is settled that server {member} did not acknowledge')
+                primary = state.server(before, f's{members[0]}')
+                lease = state.leases(primary).get(handle)
+                if not lease or lease.version != entry.round or max(state.now_of(primary), state.number(event[2])) + self.skew >= lease.until:
+                    raise Broken(f'chunk {handle}: an entry is settled by a server whose lease does not count')
+
+    # ------------------------------------------------------------ the master's state
+
+    def check_log(self, before):
+        """The log replayed is the logged state, but for lease ends and copies under way."""
+        master = state.master(self.world())
+        old = state.master(before)
+        if not state.is_up(master) or (state.logged(master) is state.logged(old) and state.log_of(master) is state.log_of(old)):
+            return
+        kept = apply(self.cell.definition('Logged', 'all_copies_given_up'), state.logged(master))
+        replayed = self.replayed(state.log_of(master))
+        for field in state.LOGGED_FIELDS:
+            if kept[field] != replayed[field]:
+                raise Broken(f'the log and the state differ in {field}')
+        if state.files(kept) != state.files(replayed) or without_lease_ends(kept) != without_lease_ends(replayed):
+            raise Broken('the log and the state differ in the table of chunks')
+
+    def replayed(self, log):
+        return state.kept_of(log, lambda: apply(self.cell.definition('Logged', 'replayed'), log))
+
+    def check_chunks(self):
+        """The granted version is at most the issued one, the reference count is the number of owners, and each file has one name."""
+        master = state.master(self.world())
+        if not state.is_up(master):
+            return
+        logged = state.logged(master)
+        counts = {}
+        for handles in state.files(logged).values():
+            for handle in handles:
+                counts[handle] = counts.get(handle, 0) + 1
+        for handle, row in state.rows(logged).items():
+            if row.granted > row.issued:
+                raise Broken(f'chunk {handle}: granted above issued')
+            if counts.get(handle, 0) != row.references:
+                raise Broken(f'chunk {handle}: the reference count is not the number of owners')
+        if sorted(node[1] for node in state.names(logged).values() if node[0] == 'File') != sorted(state.files(logged)):
+            raise Broken('the names and the files differ')
+
+    def check_expired(self, event, before):
+        """A file is collected once it was hidden for long enough."""
+        old, new = state.master(before), state.master(self.world())
+        if not (state.is_up(old) and state.is_up(new)) or event[0] == 'Restart' or state.logged(old) is state.logged(new):
+            return
+        left = state.files(state.logged(new))
+        for path, node in state.names(state.logged(old)).items():
+            if node[0] == 'File' and node[1] not in left:
+                hidden = bytes(path)
+                if not hidden.startswith(b'/.gone/') or int(hidden[7:27]) + self.cell.settings['keep_ms'] > state.now_of(new):
+                    raise Broken(f'file {node[1]} is collected too early')
+
+    def check_clones(self, new):
+        """A Clone names a version that is granted or newer and under no attempt, of a chunk without a lease, and its source said that it has it."""
+        master = state.master(self.world())
+        for message in new:
+            if message.kind != 'Clone':
+                continue
+            handle, version, source = state.numbers(message.body[2:5])
+            row = state.rows(state.logged(master))[handle]
+            if row.granted == 0 or version < row.granted or row.lease_end > state.now_of(master):
+                raise Broken(f'chunk {handle}: a clone of a version that is not granted, or under a lease')
+            if state.attempted_versions(master).get(handle) == version:
+                raise Broken(f'chunk {handle}: a clone of version {version}, which is under attempt')
+            if (f's{source}', handle, version) not in self.said:
+                raise Broken(f'chunk {handle}: a clone from a server that did not say that it has version {version}')
+
+    def check_snapshots(self):
+        """No snapshot waits at its deadline or later."""
+        master = state.master(self.world())
+        if state.is_up(master) and any(s.deadline <= state.now_of(master) for s in state.pending_snapshots(master)):
+            raise Broken('a snapshot waits past its deadline')
+
+    # ------------------------------------------------------------ versions and leases
+
+    def check_messages(self, new):
+        """No two orders have one number; a version is granted once, to the first member, and its members said that they have it."""
+        for message in new:
+            body = message.body
+            if message.kind in ('Recorded', 'Cloned'):
+                self.said.add((message.sender, *state.numbers(body[1:3])))
+            elif message.kind == 'Acked':
+                self.acked.add((message.sender, *state.numbers(body[1:4])))
+            elif message.kind == 'Report':
+                self.said.update((message.sender, state.number(line['handle']), state.number(line['version'])) for line in body[1])
+            elif message.kind in ('Create', 'SetVersion', 'Grant', 'Revoke', 'Drop', 'Clone', 'CopyLocal'):
+                order = (body[1]['epoch'], body[1]['count'])
+                if order in self.order_numbers:
+                    raise Broken(f'two orders have the number {order}')
+                self.order_numbers.add(order)
+            if message.kind == 'Grant':
+                self.check_grant(message.receiver, state.numbers(body[2:4]), state.numbers(body[5]))
+            if message.kind in ('Grant', 'Extend'):
+                handle, version, end = state.numbers(body[2:5] if message.kind == 'Grant' else body[1:4])
+                self.ends.setdefault((message.receiver, handle, version), set()).add(end)
+
+    def check_grant(self, primary, version, members):
+        if tuple(version) in self.grants:
+            raise Broken(f'chunk and version {version} are granted twice')
+        self.grants[tuple(version)] = members
+        if any((f's{member}', *version) not in self.said for member in members):
+            raise Broken(f'chunk and version {version} are granted, and a member did not record it')
+        if f's{members[0]}' != primary:
+            raise Broken(f'chunk and version {version} are granted to another one than the first member')
+
+    def check_within(self, granted, logged, where):
+        """Each granted version is at most what the chunk's row says, and its handle was used."""
+        rows = state.rows(logged)
+        for handle, version in granted.items():
+            if handle >= state.next_handle(logged) or (handle in rows and rows[handle].granted < version):
+                raise Broken(f'chunk {handle}: version {version} was granted, and {where} does not say so')
+
+    def check_grants(self, before):
+        """What was granted is in the state and in each log that a restart may find, and version attempts are above it."""
+        master, old = state.master(self.world()), state.master(before)
+        granted = {}
+        for handle, version in self.grants:
+            granted[handle] = max(version, granted.get(handle, 0))
+        if state.is_up(master):
+            self.check_within(granted, state.logged(master), 'the state')
+            rows = state.rows(state.logged(master))
+            for handle, version in state.attempted_versions(master).items():
+                if version < 1 or (handle in rows and version <= rows[handle].granted):
+                    raise Broken(f'chunk {handle}: the attempt at version {version} is not above what was granted')
+        if state.log_of(master) is not state.log_of(old) or state.under_way(master) is not state.under_way(old):
+            for made in {False, bool(state.under_way(master))}:
+                found = apply(self.cell.definition('MasterStep', 'found_log'), master, {**GOES, 'decided': [made]})
+                self.check_within(granted, self.replayed(found), 'the log')
+
+    def counting(self):
+        """The leases that may count, as (server, handle, lease)."""
+        return [(server, handle, lease) for server in state.servers(self.world()) for handle, lease in state.leases(server).items()
+                if state.greatest(self.world()) < lease.until]
+
+    def check_leases(self):
+        """A lease that may count for its primary has not ended at a master that is up and has the chunk."""
+        master = state.master(self.world())
+        if not state.is_up(master):
+            return
+        rows = state.rows(state.logged(master))
+        for server, handle, lease in self.counting():
+            row = rows.get(handle)
+            if not row:
+                continue
+            if row.granted != lease.version or row.lease_end < lease.until:
+                raise Broken(f'chunk {handle}: a lease that may count ended at the master')
+            if row.primary != state.server_number(server) or row.members != lease.members:
+                raise Broken(f'chunk {handle}: a lease that may count is of another primary or of other members than the master logged')
+            if row.references > 1:
+                raise Broken(f'chunk {handle}: shared, and a lease of it may count')
+
+    def check_open_rounds(self):
+        """At most one lease of a chunk may count, whether its master is up or not."""
+        handles = [handle for _, handle, _ in self.counting()]
+        if len(handles) != len(set(handles)):
+            raise Broken('two leases of a chunk may count')
+
+    def check_told_leases(self):
+        """A lease is of a Grant to its server, with these members, and ends as that or an Extend of its version tells."""
+        for server in state.servers(self.world()):
+            for handle, lease in state.leases(server).items():
+                ends = self.ends.get((f's{state.server_number(server)}', handle, lease.version), ())
+                if self.grants.get((handle, lease.version)) != lease.members or lease.until not in ends:
+                    raise Broken(f'chunk {handle}: a lease that the master did not tell')
+
+    def check_lapsed(self, before):
+        """A lease that no longer counts for its primary never counts again, nor is one extended that ended at the master."""
+        for server in state.servers(self.world()):
+            for handle, held in state.leases(server).items():
+                lease = (state.server_number(server), handle, held.version)
+                if state.now_of(server) + self.skew >= held.until:
+                    self.lapsed.add(lease)
+                elif lease in self.lapsed:
+                    raise Broken(f'chunk {handle}: a lease that lapsed counts again at server {lease[0]}')
+        old, new = state.master(before), state.master(self.world())
+        if not (state.is_up(old) and state.is_up(new) and state.epoch(state.logged(old)) == state.epoch(state.logged(new))):
+            return
+        old_rows = state.rows(state.logged(old))
+        for handle, row in state.rows(state.logged(new)).items():
+            was = old_rows.get(handle)
+            if was and was.granted == row.granted and was.lease_end < row.lease_end and was.lease_end <= state.now_of(new):
+                raise Broken(f'chunk {handle}: a lease that ended at the master is extended')
 
 
 def without_lease_ends(logged):
-    return {handle: {k: v for k, v in row.items() if k != 'lease_end'} for handle, row in logged['table']['chunks'].items.items()}
-
-
-def check_log(cell, before):
-    """The log replayed is the logged state, but for lease ends and copies under way."""
-    master = cell.world['master']
-    if not master['up'] or (master['logged'] is before['master']['logged'] and master['disk'] is before['master']['disk']):
-        return
-    kept = apply(cell.definition('Logged', 'all_copies_given_up'), master['logged'])
-    replayed = apply(cell.definition('Logged', 'replayed'), master['disk'])
-    for field in ('next_file', 'next_handle', 'epoch', 'names', 'kept'):
-        if kept[field] != replayed[field]:
-            raise Broken(f'the log and the state differ in {field}')
-    if kept['table']['files'] != replayed['table']['files'] or without_lease_ends(kept) != without_lease_ends(replayed):
-        raise Broken('the log and the state differ in the table of chunks')
-
-
-def check_chunks(cell):
-    """The granted version is at most the issued one, and the reference count is the number of owners."""
-    master = cell.world['master']
-    files = master['logged']['table']['files'].items.values()
-    for handle, row in master['logged']['table']['chunks'].items.items():
-        if row['granted'] > row['issued']:
-            raise Broken(f'chunk {handle}: granted above issued')
-        if master['up'] and sum(handles.count(handle) for handles in files) != row['references']:
-            raise Broken(f'chunk {handle}: the reference count is not the number of owners')
-
-
-def check_names(cell):
-    """Each file has one name, and each name's file is there."""
-    master = cell.world['master']
-    named = sorted(node[1] for node in master['logged']['names'].items.values() if node[0] == 'File')
-    if master['up'] and named != sorted(master['logged']['table']['files'].items):
-        raise Broken('the names and the files differ')
-
-
-def check_leases(cell):
-    """While clocks are kept, a lease that counts for its primary has not ended at a master that is up and has the chunk."""
-    master = cell.world['master']
-    greatest = cell.world['observer']['greatest']
-    for server in cell.world['servers']:
-        for handle, primary in server['leases'].items.items():
-            row = master['logged']['table']['chunks'].items.get(handle)
-            if master['up'] and row and greatest < primary['held']['until']:
-                if row['granted'] != primary['held']['version'] or row['lease_end'] < primary['held']['until']:
-                    raise Broken(f'chunk {handle}: a lease that may count ended at the master')
-                if row['primary'] != server['id'] or row['members'] != primary['held']['members']:
-                    raise Broken(f'chunk {handle}: a lease that may count is of another primary or of other members than the master logged')
-                if row['references'] > 1:
-                    raise Broken(f'chunk {handle}: shared, and a lease of it may count')
-
-
-def check_open_rounds(cell):
-    """While clocks are kept, at most one lease of a chunk may count, whether its master is up or not."""
-    greatest = cell.world['observer']['greatest']
-    counting = [handle for server in cell.world['servers'] for handle, primary in server['leases'].items.items() if greatest < primary['held']['until']]
-    for handle in counting:
-        if counting.count(handle) > 1:
-            raise Broken(f'chunk {handle}: two leases may count')
-
-
-def check_told(cell, used):
-    """A lease is of a Grant to its server, with these members, and ends as that or an Extend of its version tells."""
-    for server in cell.world['servers']:
-        for handle, primary in server['leases'].items.items():
-            held = primary['held']
-            lease = (f's{server["id"]}', handle, held['version'])
-            if used.get('members', {}).get(lease) != list(held['members']) or held['until'] not in used.get('ends', {}).get(lease, ()):
-                raise Broken(f'chunk {handle}: a lease that the master did not tell')
-
-
-def check_lapsed(cell, before, used):
-    """A lease that no longer counts for its primary never counts again, nor is one extended that ended at the master."""
-    for server in cell.world['servers']:
-        for handle, primary in server['leases'].items.items():
-            lease = (server['id'], handle, primary['held']['version'])
-            if server['now'] + cell.settings['skew_ms'] >= primary['held']['until']:
-                used.setdefault('lapsed', set()).add(lease)
-            elif lease in used.get('lapsed', ()):
-                raise Broken(f'chunk {handle}: a lease that lapsed counts again at server {server["id"]}')
-    old, new = before['master'], cell.world['master']
-    if not (old['up'] and new['up'] and old['logged']['epoch'] == new['logged']['epoch']):
-        return
-    for handle, row in new['logged']['table']['chunks'].items.items():
-        was = old['logged']['table']['chunks'].items.get(handle)
-        if was and was['granted'] == row['granted'] and was['lease_end'] < row['lease_end'] and was['lease_end'] <= new['now']:
-            raise Broken(f'chunk {handle}: a lease that ended at the master is extended')
-
-
-def check_serials(cell, before):
-    """The last serial of a replica never falls under one version."""
-    for server, old in zip(cell.world['servers'], before['servers']):
-        for handle, replica in server['disk']['replicas'].items.items():
-            was = old['disk']['replicas'].items.get(handle)
-            if was and was['version'] == replica['version'] and replica['serial'] < was['serial']:
-                raise Broken(f'server {server["id"]}: the last serial of chunk {handle} falls')
-
-
-ORDERS = ('Create', 'SetVersion', 'Grant', 'Revoke', 'Drop', 'Clone', 'CopyLocal')
-
-
-def check_messages(cell, used):
-    """No two orders have one number; a version is granted once, and its members said that they have it. `used` holds what earlier messages had."""
-    recorded = used.setdefault('recorded', set())
-    for message in cell.messages[used.get('seen', 1):]:
-        if message.kind == 'Recorded':
-            recorded.add((message.sender, message.body[1]['0'], message.body[2]['0']))
-        if message.kind == 'Report':
-            recorded.update((message.sender, line['handle']['0'], line['version']['0']) for line in message.body[1])
-        if message.kind in ORDERS:
-            number = (message.body[1]['epoch'], message.body[1]['count'])
-            if number in used.setdefault('numbers', set()):
-                raise Broken(f'two orders have the number {number}')
-            used['numbers'].add(number)
-        if message.kind == 'Grant':
-            version = (message.body[2]['0'], message.body[3]['0'])
-            if version in used.setdefault('grants', set()):
-                raise Broken(f'chunk and version {version} are granted twice')
-            used['grants'].add(version)
-            used.setdefault('members', {})[(message.receiver, *version)] = list(message.body[5])
-            if any((f's{member}', *version) not in recorded for member in message.body[5]):
-                raise Broken(f'chunk and version {version} are granted, and a member did not record it')
-            if f's{message.body[5][0]}' != message.receiver:
-                raise Broken(f'chunk and version {version} are granted to another one than the first member')
-        if message.kind in ('Grant', 'Extend'):
-            handle, version, end = message.body[2:5] if message.kind == 'Grant' else message.body[1:4]
-            used.setdefault('ends', {}).setdefault((message.receiver, handle['0'], version['0']), set()).add(end['0'])
-    used['seen'] = len(cell.messages)
-
-
-def check_within(granted, logged, where):
-    """Each granted version is at most what the chunk's row says, and its handle was used."""
-    for handle, version in granted.items():
-        row = logged['table']['chunks'].items.get(handle)
-        if handle >= logged['next_handle'] or (row and row['granted'] < version):
-            raise Broken(f'chunk {handle}: version {version} was granted, and {where} does not say so')
-
-
-def check_grants(cell, before, used):
-    """What was granted is in the state and in each log that a restart may find, and version attempts are above it."""
-    master = cell.world['master']
-    granted = {}
-    for handle, version in used.get('grants', ()):
-        granted[handle] = max(version, granted.get(handle, 0))
-    if master['up']:
-        check_within(granted, master['logged'], 'the state')
-        for handle, attempt in master['attempts'].items.items():
-            row = master['logged']['table']['chunks'].items.get(handle)
-            if attempt['version'] < 1 or (row and attempt['version'] <= row['granted']):
-                raise Broken(f'chunk {handle}: the attempt at version {attempt["version"]} is not above what was granted')
-    if master['disk'] is not before['master']['disk'] or master['under_way'] is not before['master']['under_way']:
-        for made in {False, bool(master['under_way'])}:
-            found = apply(cell.definition('MasterStep', 'found_log'), master, {**GOES, 'decided': [made]})
-            check_within(granted, apply(cell.definition('Logged', 'replayed'), found), 'the log')
-
-
-def check_new_entries(cell, before):
-    """No entry is placed in a shared chunk, nor for a call that is over while its client is up."""
-    if not (cell.world['master']['up'] and before['master']['up']):
-        return
-    for handle, order in orders_of(cell).items():
-        old = before['observer']['orders'].items.get(handle)
-        if old is None or len(old) >= len(order):
-            continue
-        row = cell.world['master']['logged']['table']['chunks'].items.get(handle)
-        if row and row['references'] > 1:
-            raise Broken(f'an entry in the shared chunk {handle}')
-        client = order[-1]['entry']['call']['client'] - 1
-        if cell.world['clients'][client]['up'] and before['clients'][client]['current'][0] == 'None':
-            raise Broken(f'an entry in chunk {handle} for a call that is over')
-
-
-def settled_for(order, client, number, place=None):
-    return any(
-        p['entry']['settled'] and p['entry']['call'] == {'client': client, 'number': number}
-        and (place is None or p['entry']['mutation'][:2] == ('Append', place)) for p in order)
-
-
-def check_answer(cell, client, asked, answer):
-    """A success has its settled entry; a read is a part of a selection of the round that it names, or a later one."""
-    chunk = cell.settings['chunk']
-    handles = cell.world['observer']['files'].items.get(asked.get('file'))
-
-    def order(index):
-        return orders_of(cell).get(handles[index], []) if handles and index < len(handles) else []
-    call, number = asked['call'], asked['number']
-    if answer[0] == 'At':
-        index, place = divmod(answer[1], chunk)
-        if handles is not None and not settled_for(order(index), client, number, place):
-            raise Broken('an append is answered without its settled entry')
-    if answer[0] == 'Done' and call[0] == 'write' and handles is not None:
-        for index in range(call[2] // chunk, (call[2] + len(call[3]) - 1) // chunk + 1):
-            if not settled_for(order(index), client, number):
-                raise Broken('a write is answered without a settled entry')
-    if answer[0] == 'Bytes' and handles is not None:
-        place = call[2]
-        for round_ in answer[2]:
-            index = place // chunk
-            end = min(call[2] + call[3], (index + 1) * chunk)
-            part = list(answer[1][place - call[2]:end - call[2]])
-            check_part(order(index), round_, part, place - index * chunk, end - index * chunk, chunk)
-            place = end
-
-
-def check_part(order, round_, part, begin, end, chunk):
-    last = max([placed['entry']['round'] for placed in order] + [round_])
-    for later in range(round_, last + 1):
-        choices = selections(order, later)
-        if choices is None or any(image(chosen, chunk)[begin:end] == part for chosen in choices):
-            return
-    raise Broken('a read is part of no selection')
-
-
-def check_all(cell, before, used):
-    """All facts that need no answer."""
-    check_replicas(cell, before)
-    check_orders(cell, before)
-    check_log(cell, before)
-    check_chunks(cell)
-    check_names(cell)
-    check_messages(cell, used)
-    check_grants(cell, before, used)
-    check_new_entries(cell, before)
-    check_leases(cell)
-    check_open_rounds(cell)
-    check_told(cell, used)
-    check_lapsed(cell, before, used)
-    check_serials(cell, before)
-    if not cell.world['observer']['are_clocks_kept']:
-        raise Broken('clocks were not kept')
+    return {handle: row._replace(lease_end=0) for handle, row in state.rows(logged).items()}

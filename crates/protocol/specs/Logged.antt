@@ -8,7 +8,7 @@ use Rattle.gfs_types.specs.Paths.{Path}
 use Rattle.relaxed_file.specs.Names.{Names, Node, Dir, File, first_names, node_at, copied_entries, with_copies, id_after, id_after_all}
 use Rattle.relaxed_file.specs.NameStep.{with_node, hidden}
 use Rattle.protocol.specs.Tables.{Table, removed_all}
-use Rattle.protocol.specs.ChunkTable.{ChunkRow, ChunkTable, new_row, new_chunk_table, with_owner, handles_of, add_file, add_chunk, issue, grant, copy_file, drop_file, swap, change_row, with_row}
+use Rattle.chunk_table.specs.ChunkTable.{ChunkRow, ChunkTable, new_row, new_chunk_table, row_shared, handles_of, add_file, add_chunk, copy_file, drop_file, change_row, with_row, issue, grant, swap}
 use Rattle.protocol.specs.Sending.{client_id, file_id, handle_of, version_of, server_id}
 
 -- A client's last changing name call, and its answer: Done where there is no refusal.
@@ -89,7 +89,7 @@ swapped_in l handle (Some c) = record l { table = swap l.table c.file c.index c.
 -- a chunk of a file item, with one owner more
 abbrev pub owned_row : Option ChunkRow → ChunkRow
 owned_row None = record new_row { references = 1 }
-owned_row (Some row) = with_owner row
+owned_row (Some row) = row_shared row
 
 abbrev pub with_owned : Table ChunkRow → List ℕ → Table ChunkRow
 with_owned rows [] = rows

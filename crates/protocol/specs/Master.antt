@@ -1,5 +1,5 @@
 -- The master: what its log says, and what it knows until it stops (sections 2.4, 2.6 and 3.1).
-use Rattle.std.specs.Prelude.{ℕ, suc, ◌+◌, Bool, false, not, ◌&&◌, nat_lt, nat_le, if◌then◌else◌, List, [], ◌∷◌, ◌++◌, filter, Option, Some, None, unwrap_or}
+use Rattle.std.specs.Prelude.{ℕ, suc, ◌-◌, Bool, false, not, ◌&&◌, nat_lt, nat_le, if◌then◌else◌, List, [], ◌∷◌, ◌++◌, filter, Option, Some, None, unwrap_or}
 use Rattle.std.specs.List.{filter_map}
 use Rattle.std.specs.FinMap as table
 use Rattle.gfs_types.specs.declared.config.Config.{Config}
@@ -13,10 +13,10 @@ use Rattle.log_records.specs.declared.record.Record.TheVariants as log
 use Rattle.gfs_types.specs.Paths.{Path}
 use Rattle.protocol.specs.Tables.{Table, first_numbers, removed_all}
 use Rattle.protocol.specs.Sending.{message, the_server}
-use Rattle.protocol.specs.ChunkTable.{ChunkRow, ChunkTable, set_end, has_ended}
+use Rattle.chunk_table.specs.ChunkTable.{ChunkRow, ChunkTable, set_end}
 use Rattle.protocol.specs.LogSizes.{record_fits, checkpoint_fits}
 use Rattle.protocol.specs.Logged.{Logged, first_logged, LogDisk, LogChange, AppendRecord, WriteCheckpoint, log_changed, after_record, checkpoint_of, copies_given_up}
-use Rattle.protocol.specs.Seen.{Seen}
+use Rattle.protocol.specs.declared.seen.Seen.{Seen}
 
 -- A version number that was issued and is neither granted nor given up: the servers that it was sent to, those that recorded it, and when it was issued.
 pub record VersionAttempt : Type 0 where
@@ -167,7 +167,7 @@ version_held m handle server = table.get (held_by m server) handle
 
 -- a server is present while its last report is younger than a lease
 abbrev pub is_present : MasterState → ℕ → Bool
-is_present m server = nat_lt m.now (unwrap_or (table.get m.reported server) 0 + m.config.lease_ms)
+is_present m server = nat_lt (m.now - unwrap_or (table.get m.reported server) 0) m.config.lease_ms
 
 abbrev pub chunks_held : MasterState → ℕ → ℕ
 chunks_held m server = table.len (held_by m server)
@@ -191,6 +191,10 @@ current_holders m handle row = holders_where m handle (λ v. nat_le row.granted 
 
 abbrev pub present_current_holders : MasterState → ℕ → ChunkRow → List HeldAt
 present_current_holders m handle row = filter (λ h. is_present m h.server) (current_holders m handle row)
+
+-- whether the chunk's lease has ended for the master
+abbrev pub has_ended : ChunkRow → ℕ → Bool
+has_ended row now = nat_le row.lease_end now
 
 -- the lease of a chunk that was granted has not ended
 abbrev pub has_lease : MasterState → ChunkRow → Bool

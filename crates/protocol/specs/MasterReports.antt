@@ -5,7 +5,7 @@ use Rattle.messages.specs.declared.message.Body.TheVariants as body
 use Rattle.messages.specs.declared.message.ReplicaLine.{ReplicaLine}
 use Rattle.messages.specs.declared.message.LeaseLine.{LeaseLine}
 use Rattle.protocol.specs.Sending.{the_server, moment_of}
-use Rattle.protocol.specs.ChunkTable.{ChunkRow, chunk_of}
+use Rattle.chunk_table.specs.ChunkTable.{ChunkRow, chunk_of}
 use Rattle.protocol.specs.Master.{MasterState, MasterDoing, tells, orders, ends_at, held_by, has_lease}
 use Rattle.protocol.specs.MasterSnapshots.{waits_for}
 use Rattle.protocol.specs.MasterVersions.{learns}

@@ -15,9 +15,9 @@ use Rattle.relaxed_file.specs.Names.{Node, Dir, File, copied_entries}
 use Rattle.relaxed_file.specs.NameStep.{needs_room}
 use Rattle.protocol.specs.Tables.{has_number, rising}
 use Rattle.protocol.specs.Sending.{the_client, client_id, handle_of, version_of}
-use Rattle.protocol.specs.ChunkTable.{ChunkRow, ChunkTable, handles_of, chunk_of, has_ended}
+use Rattle.chunk_table.specs.ChunkTable.{ChunkRow, ChunkTable, handles_of, chunk_of}
 use Rattle.protocol.specs.Logged.{Logged, copies_that}
-use Rattle.protocol.specs.Master.{MasterState, MasterDoing, PendingSnapshot, tells, orders, logs, without_attempts, gives_up_copies, has_lease}
+use Rattle.protocol.specs.Master.{MasterState, MasterDoing, PendingSnapshot, tells, orders, logs, without_attempts, gives_up_copies, has_lease, has_ended}
 
 abbrev pub node_handles : ChunkTable → Node → List ℕ
 node_handles t Dir = []

@@ -1,6 +1,6 @@
 -- A step of the master (sections 2.6 and 4).
 use Rattle.std.specs.Prelude.{ℕ, suc, ◌+◌, ◌-◌, ◌*◌, max, Bool, true, false, not, ◌==◌, ◌&&◌, nat_lt, nat_le, if◌then◌else◌, List, [], ◌∷◌, map, filter, take, drop, Option, Some, None, is_some}
-use Rattle.std.specs.List.{list_all, filter_map}
+use Rattle.std.specs.List.{list_all}
 use Rattle.std.specs.Str.{byte}
 use Rattle.std.specs.FinMap as table
 use Rattle.gfs_types.specs.declared.config.Config.{Config}
@@ -15,7 +15,7 @@ use Rattle.relaxed_file.specs.Names.{Node, Dir, File}
 use Rattle.protocol.specs.Tables.{Table, counter_limit, first_numbers, first_of_list, kept_where, map_values}
 use Rattle.protocol.specs.Choice.{Choice, Ending, Goes, Lost, Stops, in_order, decided_changes, made_changes, change_under_way}
 use Rattle.protocol.specs.Sending.{client_number, server_number, file_id}
-use Rattle.protocol.specs.ChunkTable.{ChunkRow, chunk_of}
+use Rattle.chunk_table.specs.ChunkTable.{ChunkRow, chunk_of}
 use Rattle.protocol.specs.Logged.{Logged, LogDisk, first_logged, log_changed_by_all, replayed}
 use Rattle.protocol.specs.Seen.{Taken, no_output, down_output, no_step}
 use Rattle.protocol.specs.Master.{MasterState, MasterDoing, VersionAttempt, stopped_master, master_begins, logs, gives_up_copies, holders_where}
@@ -28,7 +28,7 @@ use Rattle.protocol.specs.MasterClones.{clones_next}
 
 -- a version attempt that takes too long is given up
 abbrev pub is_in_time : MasterState → ℕ × VersionAttempt → Bool
-is_in_time m e = nat_lt m.now (e.1.begun + m.config.attempt_ms)
+is_in_time m e = nat_lt (m.now - e.1.begun) m.config.attempt_ms
 
 abbrev pub gives_up_attempts : MasterDoing → MasterDoing
 gives_up_attempts d = record d { master = record d.master { attempts = kept_where (is_in_time d.master) d.master.attempts } }
@@ -56,13 +56,27 @@ number_from before (c ∷ rest) = number_from (before * 10 + (c - byte "0")) res
 abbrev pub hidden_moment : Path → ℕ
 hidden_moment path = number_from 0 (take 20 (drop 7 path))
 
-abbrev pub expired_file : Config → ℕ → Path → Node → Option ℕ
-expired_file config now path Dir = None
-expired_file config now path (File id) = if is_child trash path && nat_le (hidden_moment path + config.keep_ms) now then Some id else None
+-- a hidden file was kept long enough
+abbrev pub is_old : MasterState → Path → Bool
+is_old m path = nat_le (hidden_moment path) m.now && nat_le m.config.keep_ms (m.now - hidden_moment path)
 
--- the hidden files that were kept long enough, in the order of their names (section 4.4)
+-- the hidden names in order, the oldest first
+abbrev pub hidden_names : MasterState → List (Path × Node)
+hidden_names m = filter (λ e. is_child trash e.0) (table.entries m.logged.names)
+
+abbrev pub old_file : MasterState → Path → Node → Option ℕ
+old_file m path Dir = None
+old_file m path (File id) = if is_old m path then Some id else None
+
+-- those before the first that there is not
+abbrev pub before_none : {X : Type 0} → List (Option X) → List X
+before_none [] = []
+before_none (None ∷ rest) = []
+before_none (Some x ∷ rest) = x ∷ before_none rest
+
+-- the hidden files that were kept long enough, in the order of their names, up to the first that stays (section 4.4)
 abbrev pub expired_files : MasterState → List ℕ
-expired_files m = filter_map (λ e. expired_file m.config m.now e.0 e.1) (table.entries m.logged.names)
+expired_files m = before_none (map (λ e. old_file m e.0 e.1) (hidden_names m))
 
 abbrev pub expires_all : MasterDoing → List ℕ → MasterDoing
 expires_all d [] = d
@@ -116,10 +130,15 @@ master_ends m d choice (Stops made) =
       seen = [];
     }
 
-abbrev pub master_bounded : MasterState → MasterDoing → Choice → Taken MasterState
-master_bounded m d choice = if is_within_limits d.master then master_ends m d choice choice.ending else no_step m
+-- A step that goes through raises no counter past its limit: one that would changes nothing. A master may be put down in any step.
+abbrev pub may_end : MasterDoing → Ending → Bool
+may_end d Goes = is_within_limits d.master
+may_end d other = true
 
--- One that is down takes nothing. A step that would raise a counter past its limit changes nothing.
+abbrev pub master_bounded : MasterState → MasterDoing → Choice → Taken MasterState
+master_bounded m d choice = if may_end d choice.ending then master_ends m d choice choice.ending else no_step m
+
+-- one that is down takes nothing
 abbrev pub master_step : MasterState → ℕ → Input → Choice → Taken MasterState
 master_step m moment i choice = if m.up then master_bounded m (master_goes m moment i choice.refused) choice else no_step m
 

@@ -1,5 +1,5 @@
 -- How the master issues version numbers, copies shared chunks and grants leases (sections 3.1, 3.4 and 4.5).
-use Rattle.std.specs.Prelude.{ℕ, suc, ◌+◌, Bool, true, false, ◌==◌, ◌&&◌, nat_lt, if◌then◌else◌, List, [], ◌∷◌, ◌++◌, map, filter, take, Option, Some, None, is_some}
+use Rattle.std.specs.Prelude.{ℕ, suc, ◌+◌, ◌-◌, Bool, true, false, ◌==◌, ◌&&◌, nat_lt, if◌then◌else◌, List, [], ◌∷◌, ◌++◌, map, filter, take, Option, Some, None, is_some}
 use Rattle.std.specs.FinMap as table
 use Rattle.gfs_types.specs.declared.ids.Node.{Node}
 use Rattle.gfs_types.specs.declared.ids.OrderNo.{OrderNo}
@@ -10,9 +10,9 @@ use Rattle.messages.specs.declared.message.Group.{Group}
 use Rattle.log_records.specs.declared.record.Record.TheVariants as log
 use Rattle.protocol.specs.Tables.{ranked, rising, first_of_list, same_numbers, with_number, has_number}
 use Rattle.protocol.specs.Sending.{server_id, file_id, handle_of, version_of, moment_of}
-use Rattle.protocol.specs.ChunkTable.{ChunkRow, chunk_of}
+use Rattle.chunk_table.specs.ChunkTable.{ChunkRow, chunk_of}
 use Rattle.protocol.specs.Logged.{Logged, copies_that}
-use Rattle.protocol.specs.Seen.{CopyStarted}
+use Rattle.protocol.specs.declared.seen.Seen.TheVariants.{CopyStarted}
 use Rattle.protocol.specs.Master.{MasterState, MasterDoing, VersionAttempt, HeldAt, tells, orders, logs, with_attempt, without_attempt, gives_up_copy, ends_at, servers_of, version_held, is_present, chunks_held, holders_where, current_holders, present_current_holders, has_lease}
 use Rattle.protocol.specs.MasterSnapshots.{waits_for}
 
@@ -119,7 +119,7 @@ copy_targets m handle row =
 -- a copy that is on the disk is ordered, and the client waits
 abbrev pub sends_copy_started : MasterDoing → Asker → ℕ → ℕ → ℕ → List VersionTarget → MasterDoing
 sends_copy_started d a handle copy version targets =
-    let seen : MasterDoing = record d { seen = d.seen ++ CopyStarted handle copy ∷ [] } in
+    let seen : MasterDoing = record d { seen = d.seen ++ CopyStarted (handle_of handle) (handle_of copy) ∷ [] } in
     tells_to_wait (sends_copies (with_attempt seen copy (new_attempt d.master version targets)) handle copy version targets) a
 
 abbrev pub copies_to : MasterDoing → Asker → ℕ → ChunkRow → List VersionTarget → MasterDoing
@@ -187,7 +187,7 @@ grants_to d handle a (primary ∷ rest) = grants d handle a primary (primary ∷
 
 -- a number is granted only when all of the set have recorded it, in time
 abbrev pub is_complete : MasterState → VersionAttempt → Bool
-is_complete m a = same_numbers a.servers a.recorded && nat_lt m.now (a.begun + m.config.attempt_ms)
+is_complete m a = same_numbers a.servers a.recorded && nat_lt (m.now - a.begun) m.config.attempt_ms
 
 abbrev pub with_recorded : MasterDoing → ℕ → VersionAttempt → MasterDoing
 with_recorded d handle a = if is_complete d.master a then grants_to (with_attempt d handle a) handle a (rising a.servers) else with_attempt d handle a

@@ -8,7 +8,8 @@ use Rattle.gfs_types.specs.declared.mutation.Mutation.{Mutation}
 use Rattle.relaxed_file.specs.Order.{CallId, Entry}
 use Rattle.relaxed_file.specs.Run.{Visible, Called, Answered, Passed}
 use Rattle.protocol.specs.Tables.{Table}
-use Rattle.protocol.specs.Seen.{Seen, Numbered, BecameSettled, CopyStarted}
+use Rattle.protocol.specs.declared.seen.Seen.{Seen}
+use Rattle.protocol.specs.declared.seen.Seen.TheVariants.{Numbered, BecameSettled, CopyStarted}
 
 -- An entry of a chunk's order, with the serial that its primary gave it, and the number of the attempt.
 pub record Placed : Type 0 where
@@ -75,9 +76,9 @@ new_entry trace version serial id mutation =
 
 -- The orders after what was seen, under a trace. A copy of a chunk has the order of its source.
 abbrev pub orders_after : List Visible → Table (List Placed) → Seen → Table (List Placed)
-orders_after trace orders (Numbered handle version serial id mutation) = table.insert orders handle (placed_in orders handle ++ new_entry trace version serial id mutation ∷ [])
-orders_after trace orders (BecameSettled handle version serial) = table.insert orders handle (map (settled_as version serial) (placed_in orders handle))
-orders_after trace orders (CopyStarted handle copy) = table.insert orders copy (placed_in orders handle)
+orders_after trace orders (Numbered handle version serial id mutation) = table.insert orders handle.0 (placed_in orders handle.0 ++ new_entry trace version.0 serial.0 id mutation ∷ [])
+orders_after trace orders (BecameSettled handle version serial) = table.insert orders handle.0 (map (settled_as version.0 serial.0) (placed_in orders handle.0))
+orders_after trace orders (CopyStarted handle copy) = table.insert orders copy.0 (placed_in orders handle.0)
 
 abbrev pub orders_after_all : List Visible → Table (List Placed) → List Seen → Table (List Placed)
 orders_after_all trace orders [] = orders

@@ -12,9 +12,9 @@ use Rattle.messages.specs.declared.event.Input.TheVariants as input
 use Rattle.protocol.specs.Tables.{Table, kept_where, map_values}
 use Rattle.protocol.specs.Choice.{Choice, Ending, Goes, Lost, Stops, in_order, decided_changes, made_changes, change_under_way}
 use Rattle.protocol.specs.Sending.{handle_of, version_of, server_number}
-use Rattle.protocol.specs.Replicas.{Replica, ServerDisk, disk_changed_by_all}
-use Rattle.protocol.specs.LeaseHeld.{counts_at}
-use Rattle.protocol.specs.PrimaryOrder.{Primary}
+use Rattle.replica_store.specs.Replicas.{Replica, ServerDisk, disk_changed_by_all}
+use Rattle.leases.specs.LeaseHeld.{counts_at}
+use Rattle.primary_order.specs.declared.order.SerialOrder.{SerialOrder}
 use Rattle.protocol.specs.Seen.{is_numbering, Taken, no_output, down_output, no_step}
 use Rattle.protocol.specs.Server.{ServerState, ServerDoing, started_server, stopped_server, server_begins, says}
 use Rattle.protocol.specs.ServerReads.{takes_read, takes_len, takes_copy_ask}
@@ -24,20 +24,20 @@ use Rattle.protocol.specs.ServerOrders.{on_order, takes_create, takes_set_versio
 abbrev pub replica_line : ℕ × Replica → ReplicaLine
 replica_line e = record { handle = handle_of e.0; version = version_of e.1.version }
 
-abbrev pub lease_line : ℕ × Primary → LeaseLine
+abbrev pub lease_line : ℕ × SerialOrder → LeaseLine
 lease_line e = record { handle = handle_of e.0; version = version_of e.1.held.version; wants_more = e.1.wants_more }
 
-abbrev pub asks_no_more : Primary → Primary
+abbrev pub asks_no_more : SerialOrder → SerialOrder
 asks_no_more p = record p { wants_more = false }
 
 -- the leases that count now
-abbrev pub counting_leases : ServerState → Table Primary
+abbrev pub counting_leases : ServerState → Table SerialOrder
 counting_leases s = kept_where (λ e. counts_at s.config.skew_ms e.1.held s.now) s.leases
 
 -- At a tick a lease that no longer counts is forgotten, and the server reports its replicas and leases to the master.
 abbrev pub server_ticks : ServerDoing → ServerDoing
 server_ticks d =
-    let leases : Table Primary = counting_leases d.server in
+    let leases : Table SerialOrder = counting_leases d.server in
     record (says d Master (body.Report (map replica_line (table.entries d.server.disk.replicas)) (map lease_line (table.entries leases)))) {
       server = record d.server { leases = map_values asks_no_more leases };
     }
@@ -75,7 +75,7 @@ abbrev pub server_goes : ServerState → ℕ → Input → ServerDoing
 server_goes s moment i = server_does (server_begins (server_at s moment)) i
 
 abbrev pub server_ends : ServerState → ServerDoing → Choice → Ending → Taken ServerState
-server_ends s d choice Goes = record { state = d.server; out = record { sent = in_order choice.order d.sent; answer = None; down = false }; seen = d.seen }
+server_ends s d choice Goes = record { state = record d.server { disk = disk_changed_by_all d.server.disk d.changes }; out = record { sent = in_order choice.order d.sent; answer = None; down = false }; seen = d.seen }
 server_ends s d choice Lost = record { state = stopped_server s s.disk []; out = down_output; seen = [] }
 server_ends s d choice (Stops made) =
     record {

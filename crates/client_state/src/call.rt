@@ -1,0 +1,87 @@
+//! A client's open call.
+
+use crate::gathered::Gathered;
+use gfs_types::answer::Answer;
+use gfs_types::call::Call;
+use gfs_types::ids::{FileId, Handle, Moment, ServerId, Version};
+use gfs_types::lists::{RoundList, Sequence};
+use messages::message_lists::HolderList;
+
+/// An attempt that its primary refused for want of a lease or a replica: it may still be placed at that index under that
+/// version, up to that moment.
+#[derive(Clone, Copy, Debug)]
+pub struct LiveAttempt {
+    pub index: u64,
+    pub version: Version,
+    pub until: Moment,
+}
+
+/// What an attempt keeps of a location.
+#[derive(Clone, Copy, Debug)]
+pub struct ToldChunk {
+    pub index: u64,
+    pub handle: Handle,
+    /// The granted version that was told.
+    pub round: Version,
+}
+
+/// How far a call has come.
+#[derive(Drop)]
+pub enum Stage {
+    /// A name call's request is out.
+    AskedNames,
+    /// The master was asked for a chunk, by an ask of this number.
+    AskedWhere(u64),
+    /// It is to ask again.
+    MustAskAgain,
+    /// The data of this number were sent to the members of this primary.
+    SentData {
+        chunk: ToldChunk,
+        primary: ServerId,
+        number: u64,
+    },
+    /// The primary was asked to place them.
+    SentMutate {
+        chunk: ToldChunk,
+        number: u64,
+    },
+    /// A server was asked to read, by an ask of this number; these are left.
+    SentRead {
+        chunk: ToldChunk,
+        left: HolderList,
+        number: u64,
+    },
+    /// The attempt has ended.
+    IsOver,
+    /// What completed the call, which is answered once none of its attempts is live.
+    HasAnswer(Answer),
+}
+
+/// A call that has no answer yet.
+#[derive(Drop)]
+pub struct CurrentCall {
+    /// The number of a name call.
+    pub number: u64,
+    pub asked: Call,
+    /// The file of its descriptor; 0 for a name call.
+    pub file: FileId,
+    /// The part's chunk; of an append the index below which it doesn't look.
+    pub index: u64,
+    /// Of an append's first attempt the last chunk that it knows of.
+    pub last_chunk: Option<u64>,
+    /// The attempts that the part has left, of which each is counted down as it ends.
+    pub left: u32,
+    /// When the last attempt that was begun ends.
+    pub deadline: Moment,
+    pub stage: Stage,
+    /// Whether the primary answered the attempt before that it has no lease or no replica.
+    pub lost_lease: bool,
+    /// Whether the master's last answer named no holder.
+    pub is_nobody_told: bool,
+    /// Whether the attempt found no server that answers a read.
+    pub is_nobody_serving: bool,
+    pub live: Sequence<LiveAttempt>,
+    /// What a read has read so far.
+    pub bytes: Gathered,
+    pub rounds: RoundList,
+}

@@ -1,0 +1,9 @@
+//! The bytes that a read holds.
+
+use bytes::Bytes;
+
+#[derive(Drop)]
+pub enum Held {
+    One(Bytes),
+    Many(Vec<u8>),
+}

@@ -1,0 +1,14 @@
+pub mod Each
+pub mod Sent
+pub mod Ghost
+pub mod Leases
+pub mod Versions
+pub mod OrdersSay
+pub mod ReplicaParts
+pub mod AttemptParts
+pub mod Advance
+pub mod Allowed
+pub mod Explained
+pub mod Actions
+pub mod MachineParts
+pub mod ClientParts

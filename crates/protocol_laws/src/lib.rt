@@ -1,0 +1,4 @@
+//! Laws of every list of events of the cell that `protocol` defines.
+#![tactic(auto)]
+
+pub mod laws;
