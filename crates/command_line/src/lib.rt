@@ -4,5 +4,3 @@
 
 pub mod command;
 pub mod narrowed;
-#[cfg(test)]
-mod tests;

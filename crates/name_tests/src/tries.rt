@@ -8,8 +8,6 @@ use gfs_types::no_memory::NoMemory;
 use gfs_types::path::{Path, PathFault};
 use gfs_types::refusal::Refusal;
 use linked_list_allocator::LocalHeap;
-use path_trie::copy::TryCopy;
-use path_trie::parts::{is_at_or_below, is_below, is_child, last_part, parent, rest_below};
 use path_trie::trie::Trie;
 use std::alloc::{Allocator, Global};
 use std::collections::BTreeMap;
@@ -138,60 +136,6 @@ fn copies_a_tree(rt: HostRuntime) -> Result<(), Fail> {
     assert_eq!(rt; at(alloc, &trie, "/d/b/x")?, Some(3));
     assert_eq!(rt; at(alloc, &trie, "/e-e")?, None);
     Ok(())
-}
-
-#[test]
-fn an_insert_over_a_path_replaces_its_value(rt: HostRuntime) -> Result<(), Fail> {
-    let alloc = rt.alloc();
-    let mut trie = tree(alloc)?;
-    for (text, value) in [("/d/b", 20), ("/", 100), ("/d/b", 21)] {
-        assert!(rt; put(alloc, &mut trie, text, value)?);
-        assert_eq!(rt; trie.len(), 8, "{text}");
-        assert_eq!(rt; at(alloc, &trie, text)?, Some(value), "{text}");
-    }
-    for (text, value) in [("/", 100), ("/d", 1), ("/d/b/x", 3), ("/d/a", 4)] {
-        assert_eq!(rt; at(alloc, &trie, text)?, Some(value), "{text}");
-    }
-    assert_eq!(rt; listed(alloc, &trie, "/d")?.as_str(), "a b ");
-    Ok(())
-}
-
-#[test]
-fn where_one_path_lies_from_another(rt: HostRuntime) {
-    let rows = [
-        ("/", "/", false, false, Some("")),
-        ("/", "/a", true, true, Some("/a")),
-        ("/", "/a/b", true, false, Some("/a/b")),
-        ("/d", "/d", false, false, Some("")),
-        ("/d", "/d/a", true, true, Some("/a")),
-        ("/d", "/d/a/b", true, false, Some("/a/b")),
-        ("/d", "/d-e", false, false, None),
-        ("/d/a", "/d", false, false, None),
-    ];
-    for (top, path, below, child, rest) in rows {
-        assert_eq!(rt; is_below(top, path), below, "{path} below {top}");
-        assert_eq!(rt; is_child(top, path), child, "{path} in {top}");
-        assert_eq!(rt; rest_below(top, path), rest, "{path} behind {top}");
-        assert_eq!(rt;
-            is_at_or_below(top, path),
-            rest.is_some(),
-            "{path} at {top}"
-        );
-    }
-}
-
-#[test]
-fn a_path_has_a_parent_and_a_last_part(rt: HostRuntime) {
-    let rows = [
-        ("/", "/", ""),
-        ("/a", "/", "a"),
-        ("/a/b", "/a", "b"),
-        ("/a/b/c.d", "/a/b", "c.d"),
-    ];
-    for (path, above, last) in rows {
-        assert_eq!(rt; parent(path), above, "{path}");
-        assert_eq!(rt; last_part(path), last, "{path}");
-    }
 }
 
 // The path of one of ten thousand files in a hundred directories.
@@ -346,10 +290,7 @@ fn names_there<A: Allocator + Clone>(
     Ok(count)
 }
 
-fn copied<V: TryCopy + Drop, A: Allocator + Clone>(
-    alloc: Global,
-    trie: &mut Trie<V, A>,
-) -> Result<bool, Fail> {
+fn copied<A: Allocator + Clone>(alloc: Global, trie: &mut Trie<u64, A>) -> Result<bool, Fail> {
     let from = Path::parse("/d", alloc)?;
     let to = Path::parse("/e", alloc)?;
     if trie.has_at_or_below(&to) {
@@ -432,44 +373,5 @@ fn a_refused_listing_is_made_again(rt: HostRuntime) -> Result<(), Fail> {
         Err(NoMemory) => two_values(alloc, &trie, &directory)?,
     };
     assert_eq!(rt; values, [1, 2]);
-    Ok(())
-}
-
-// A value that can or can't be copied.
-#[derive(Clone, Copy)]
-struct Item {
-    number: u64,
-    is_refused: bool,
-}
-
-impl TryCopy for Item {
-    fn try_copy(&self) -> Result<Item, NoMemory> {
-        if self.is_refused {
-            return Err(NoMemory);
-        }
-        Ok(*self)
-    }
-}
-
-#[test]
-fn a_value_that_is_not_copied_leaves_the_map(rt: HostRuntime) -> Result<(), Fail> {
-    let alloc = rt.alloc();
-    for refused in 0..9 {
-        let mut trie = Trie::new(alloc)?;
-        for (number, text) in NAMES.iter().enumerate() {
-            let value = Item {
-                number: number as u64,
-                is_refused: number == refused,
-            };
-            let path = Path::parse(text, alloc)?;
-            assert!(rt; trie.insert(&path, value).is_ok());
-        }
-        // the first name lies outside of the copy, and the ninth isn't there
-        let is_copied = copied(alloc, &mut trie)?;
-        assert_eq!(rt; is_copied, refused == 0 || refused == 8);
-        assert_eq!(rt; trie.len(), if is_copied { 15 } else { 8 });
-        let path = Path::parse("/d/f", alloc)?;
-        assert!(rt; trie.get(&path).is_some_and(|value| value.number == 7));
-    }
     Ok(())
 }

@@ -2,10 +2,8 @@
 #![tactic(auto)]
 
 #[cfg(test)]
-mod message_copies;
+mod copies;
 #[cfg(test)]
-mod records;
-#[cfg(test)]
-mod samples;
+mod gathered;
 #[cfg(test)]
 mod values;
