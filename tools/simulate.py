@@ -36,6 +36,7 @@ class Simulation:
         self.parts = [(name, self.definition(module, name)) for module, name in PARTS]
         self.message_parts = [(name, self.definition(module, name)) for module, name in MESSAGE_PARTS]
         self.machine_part = self.definition('MachineParts', 'IsMachine')
+        self.shown_part = self.definition('Explained', 'IsShown')
         self.clients_part = self.definition('ClientParts', 'AreClients')
         self.client_message = self.definition('ClientParts', 'ClientInFlight')
         self.actions_at = self.definition('Actions', 'actions_at')
@@ -102,6 +103,10 @@ class Simulation:
         return machine
 
     def check_parts(self, world, messages):
+        # what was under way isn't shown, so the machine that takes it as lost is the one that agrees
+        del statements.broken[:]
+        if not apply(self.shown_part, world, self.machines[False]):
+            raise Broken(f'IsShown: {statements.broken}')
         for found, ghost, was_made in self.decisions(world):
             del statements.broken[:]
             if not apply(self.machine_part, found, self.machines[was_made], self.spots):

@@ -13,12 +13,15 @@ class StaleEdit(Exception):
     """An edit whose old text no longer stands once in its file."""
 
 
+def edits_in(folder):
+    return sorted(glob.glob(os.path.join(HERE, folder, '*.edit')))
+
+
 def edits_named(names):
-    """The edits of tools/wrong, or those of these names there or in tools/wrong_by_laws."""
-    paths = sorted(glob.glob(os.path.join(HERE, 'wrong', '*.edit')))
+    """The edits of tools/wrong, or those of these names there, in tools/wrong_by_parts or in tools/wrong_by_laws."""
     if not names:
-        return paths
-    paths += sorted(glob.glob(os.path.join(HERE, 'wrong_by_laws', '*.edit')))
+        return edits_in('wrong')
+    paths = edits_in('wrong') + edits_in('wrong_by_parts') + edits_in('wrong_by_laws')
     found = [path for path in paths if os.path.basename(path)[:-5] in names]
     unknown = set(names) - {os.path.basename(path)[:-5] for path in found}
     if unknown:
@@ -61,9 +64,9 @@ def edited_copy(path, folder):
 
 
 def stale_edits():
-    """What is wrong with the edits of tools/wrong."""
+    """What is wrong with the edits of tools/wrong and tools/wrong_by_parts."""
     faults = []
-    for path in edits_named([]):
+    for path in edits_in('wrong') + edits_in('wrong_by_parts'):
         for target, old, _ in edits_of(path):
             place = os.path.join(CRATES_FOLDER, target)
             content = open(place, encoding='utf8').read() if os.path.exists(place) else ''

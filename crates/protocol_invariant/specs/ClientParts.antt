@@ -1,5 +1,5 @@
 -- Clients at the machine: what a client waits for is its open call's, what it noted and keeps of locations are its notes, and what it is told or answered while it waits was so.
-use Rattle.std.specs.Prelude.{◌≡◌, ◌⊎◌, ℕ, suc, ◌+◌, ◌*◌, ◌==◌, ◌&&◌, ◌-◌, ◌≤◌, ◌<◌, nat_le, Bool, false, [], length, filter, Option, Some, None, IfSome, IsSomeAnd, IsSome, IsTrue, Contains}
+use Rattle.std.specs.Prelude.{◌≡◌, ◌⊎◌, ℕ, suc, ◌+◌, ◌*◌, ◌==◌, ◌&&◌, ◌-◌, ◌≤◌, ◌<◌, nat_le, Bool, false, [], length, filter, Option, Some, None, IfSome, IsSomeAnd, IsSome, IsTrue, IsFalse, Contains}
 use Rattle.std.specs.List.{AllByRecursion, list_any}
 use Rattle.std.specs.FinMap as table
 use Rattle.gfs_types.specs.declared.call.Call.{Call}
@@ -13,7 +13,11 @@ use Rattle.messages.specs.declared.message.Body.TheVariants as body
 use Rattle.messages.specs.declared.message.NameReply.{NameReply}
 use Rattle.messages.specs.declared.message.NameReply.TheVariants.{Opened, Answered}
 use Rattle.messages.specs.declared.message.Location.{Location}
-use Rattle.relaxed_file.specs.Parts.{has_part}
+use Rattle.messages.specs.declared.message.Wanted.{Wanted}
+use Rattle.messages.specs.declared.message.Wanted.TheVariants as wanted
+use Rattle.relaxed_file.specs.Order.{CallId}
+use Rattle.relaxed_file.specs.Parts.{has_part, is_range_too_long}
+use Rattle.relaxed_file.specs.Chunks.{is_last_chunk_full}
 use Rattle.relaxed_file.specs.NameStep.{refusal_of}
 use Rattle.relaxed_file.specs.Machine.{Machine, OpenCall, Outcome, Replies, Opens, Offer, Told, NoSuchChunk, chunk_at, chunk_count}
 use Rattle.protocol.specs.Tables.{element_at}
@@ -26,13 +30,13 @@ use Rattle.client_state.specs.declared.call.ToldChunk.{ToldChunk}
 use Rattle.client_state.specs.declared.call.CurrentCall.{CurrentCall}
 use Rattle.client_state.specs.declared.call.Stage.{Stage}
 use Rattle.client_state.specs.declared.call.Stage.TheVariants.{AskedNames, AskedWhere, SentData, SentMutate, SentRead, HasAnswer}
-use Rattle.protocol.specs.ClientAttempts.{is_length}
+use Rattle.protocol.specs.ClientAttempts.{is_length, read_start, read_count}
 use Rattle.protocol.specs.ClientCache.{last_opened}
 use Rattle.protocol.specs.Observer.{entries_of}
 use Rattle.protocol.specs.World.{WorldState}
 use Rattle.protocol_invariant.specs.Each.{EachEntry, EachClient, EachNumber}
-use Rattle.protocol_invariant.specs.Ghost.{Ghost, purpose_of, logged_of}
-use Rattle.protocol_invariant.specs.Allowed.{IsReturn, IsCauseOf, HasOne, is_write}
+use Rattle.protocol_invariant.specs.Ghost.{Ghost, Purpose, purpose_of, logged_of}
+use Rattle.protocol_invariant.specs.Allowed.{AreEarlierSettled, IsReturn, IsCauseOf, HasOne, is_write}
 
 -- the client is up and waits at this stage, and its open call at the machine is this
 abbrev pub WhileAt : WorldState → Machine → ℕ → (CurrentCall → OpenCall → Type 0) → Type 0
@@ -131,11 +135,41 @@ pub record AreClients (w : WorldState) (m : Machine) (g : Ghost) : Type 0 where
   pub snapshots : AllByRecursion (IsPending w m g) w.master.snapshots
   pub kept : EachEntry (logged_of w.master).kept (λ client k. IsKeptAnswer m g client k)
 
+-- the open call of this number, which took no step
+abbrev pub IsOpenUntaken : Machine → ℕ → ℕ → Call → Type 0
+IsOpenUntaken m client call c = IsSomeAnd (m.clients client).open_call (λ o. (o.number ≡ call) × (o.asked.call ≡ c) × (o.outcomes ≡ []))
+
 -- A name call's request: as long as it may be taken, its call is open and took no step, or it was answered.
 pub record IsNameRequest (w : WorldState) (m : Machine) (g : Ghost) (client number deadline : ℕ) (c : Call) : Type 0 where
-  pub called : IsSomeAnd (table.get g.name_calls client) (λ calls. IsSome (table.get calls number))
-  pub still_open : w.observer.greatest < deadline + w.config.skew_ms
-      → IsSomeAnd (m.clients client).open_call (λ o. o.asked.call ≡ c) ⊎ IsSomeAnd (table.get (logged_of w.master).kept client) (λ k. number ≤ k.number)
+  pub called : IsSomeAnd (table.get g.name_calls client) (λ calls. IsSomeAnd (table.get calls number) (λ call.
+      w.observer.greatest < deadline + w.config.skew_ms
+      → IsOpenUntaken m client call c ⊎ IsSomeAnd (table.get (logged_of w.master).kept client) (λ k. number ≤ k.number)))
+
+-- What a call asks the master for: a part of it, before which all earlier ones are settled; of an append the last chunk, or one past a chunk that is full.
+abbrev pub IsWantedBy : Machine → CallId → ℕ → Wanted → Call → Type 0
+IsWantedBy m id file (wanted.Read index) (call.Read fd offset count) = IsTrue (has_part m.config.chunk offset count index)
+IsWantedBy m id file (wanted.Write index) (call.Write fd offset bytes) =
+    IsFalse (is_range_too_long offset (length bytes)) × IsTrue (has_part m.config.chunk offset (length bytes) index) × AreEarlierSettled m id file offset (length bytes) index
+IsWantedBy m id file (wanted.Append after) (call.Append fd bytes) =
+    (4 * length bytes ≤ m.config.chunk) × (after ≤ chunk_count m file) × (chunk_count m file ≡ after → IsTrue (is_last_chunk_full m file after))
+IsWantedBy m id file wanted.Last (call.Length fd) = Unit {0}
+IsWantedBy m id file other c = ⊥
+
+-- an ask is for a call of its client on that file
+abbrev pub IsAsk : Machine → Ghost → ℕ → ℕ → ℕ → Wanted → Type 0
+IsAsk m g client number file asked_for =
+    IsSomeAnd (purpose_of g client number) (λ p. (p.file ≡ file) × IsSomeAnd ((m.clients client).calls p.call) (λ asked.
+    (asked.file ≡ Some file) × IsWantedBy m (record { client = client; number = p.call }) file asked_for asked.call))
+
+-- a reading that the client waits for: its handle stands for the place that was told, up to the version that is read
+abbrev pub IsReadingOf : WorldState → Machine → Ghost → ℕ → ℕ → ℕ → ℕ → (Purpose → CurrentCall → Type 0) → Type 0
+IsReadingOf w m g client number handle version P =
+    WhileAt w m client (λ c o. IsSentRead number c.stage → IsSomeAnd (purpose_of g client number) (λ p.
+    (p.round ≤ version) × StandsFor w m p.file p.index handle version × P p c))
+
+-- the range of a part
+abbrev pub IsRangeOf : ℕ → ℕ → ℕ → Purpose → CurrentCall → Type 0
+IsRangeOf size offset count p c = (offset ≡ read_start size p.index c.asked) × (count ≡ read_count size p.index c.asked)
 
 -- the outcome that a reply tells
 abbrev pub outcome_told : NameReply → Outcome
@@ -149,6 +183,9 @@ MasterRefuses w m client number other refusal = Unit {0}
 -- what messages to and from clients say at the machine
 abbrev pub ClientSays : WorldState → Machine → Ghost → Message → Body → Type 0
 ClientSays w m g x (body.Name number deadline c) = IsNameRequest w m g (client_number x.sender) number deadline.0 c
+ClientSays w m g x (body.Ask number file asked_for deadline lost) = IsAsk m g (client_number x.sender) number file.0 asked_for
+ClientSays w m g x (body.Read number handle version offset count) = IsReadingOf w m g (client_number x.sender) number handle.0 version.0 (IsRangeOf w.config.chunk offset count)
+ClientSays w m g x (body.Len number handle version) = IsReadingOf w m g (client_number x.sender) number handle.0 version.0 (λ p c. IsTrue (is_length c.asked))
 ClientSays w m g x (body.Named number reply) = WhileAt w m (client_number x.receiver) (λ c o. IsAskedNames number c c.stage → Contains o.outcomes (outcome_told reply))
 ClientSays w m g x (body.Told number location) = WhileAt w m (client_number x.receiver) (λ c o. IsAskedWhere number c.stage → IsTold w m c o location)
 ClientSays w m g x (body.Refused number refusal) = MasterRefuses w m (client_number x.receiver) number x.sender refusal

@@ -12,3 +12,4 @@ pub mod Explained
 pub mod Actions
 pub mod MachineParts
 pub mod ClientParts
+pub mod Simulates

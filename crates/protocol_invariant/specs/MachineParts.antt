@@ -25,10 +25,11 @@ pub record IsFileAt (w : WorldState) (m : Machine) (file : ℕ) (handles : List 
   pub count_is : chunk_count m file ≡ length handles
   pub chunks : EachPlace handles (λ index handle. IsSomeAnd (chunk_of (logged_of w.master).table handle) (IsChunkAt w m file index handle))
 
--- a round whose lease may count is open at the machine
+-- a round whose lease may count is open at the machine, in the chunk that has this order; also where its file is collected since
 abbrev pub IsOpenRound : WorldState → Machine → Table Spot → ℕ → SerialOrder → Type 0
 IsOpenRound w m spots handle p =
-    w.observer.greatest < p.held.until → IsSomeAnd (table.get spots handle) (λ s. ((chunk_at m s.file s.index).round ≡ p.held.version) × IsTrue (chunk_at m s.file s.index).is_open)
+    w.observer.greatest < p.held.until → IsSomeAnd (table.get spots handle) (λ s. ((chunk_at m s.file s.index).round ≡ p.held.version) × IsTrue (chunk_at m s.file s.index).is_open
+    × (entries_of w.observer handle ≡ (chunk_at m s.file s.index).order))
 
 -- a client's descriptors and calls are the machine's while it is up, and it waits for its open call
 pub record IsClientAt (w : WorldState) (m : Machine) (client : ℕ) (c : ClientState) : Type 0 where
@@ -38,6 +39,11 @@ pub record IsClientAt (w : WorldState) (m : Machine) (client : ℕ) (c : ClientS
   pub idle : IsTrue c.up → c.current ≡ None → (m.clients client).open_call ≡ None
   pub current : IsTrue c.up → IfSome c.current (λ current. IsSomeAnd (m.clients client).open_call (λ o. o.asked.call ≡ current.asked))
 
+-- a file as the world shows it while the master is down
+abbrev pub IsShownFile : WorldState → Machine → ℕ → List ℕ → Type 0
+IsShownFile w m file handles =
+    (length handles ≤ chunk_count m file) × EachPlace handles (λ index handle. entries_of w.observer handle ≡ (chunk_at m file index).order)
+
 pub record IsMachine (w : WorldState) (m : Machine) (spots : Table Spot) : Type 0 where
   pub clock_is : m.clock ≡ w.observer.greatest
   pub names_are : m.names ≡ (logged_of w.master).names
@@ -45,5 +51,6 @@ pub record IsMachine (w : WorldState) (m : Machine) (spots : Table Spot) : Type 
   pub files : EachEntry (logged_of w.master).table.files (λ file handles. IsFileAt w m file handles)
   -- and no others
   pub collected : EachNumber m.file_count (λ n. (table.contains_key (logged_of w.master).table.files (suc n) ≡ true) ⊎ IsTrue (m.files (suc n)).is_collected)
+  pub shown : IsFalse w.master.up → EachEntry w.observer.files (λ file handles. IsShownFile w m file handles)
   pub rounds : EachServer w (λ server s. EachEntry s.leases (λ handle p. IsOpenRound w m spots handle p))
   pub clients : EachClient w (λ client c. IsClientAt w m client c)
