@@ -76,14 +76,14 @@ pub trait ReplicaStore {
         ensures nothing { under_way self.new ≡ [] }
         ensures value { IfOk result (λ b. b ≡ read_at (disk self.old) handle.0 offset count) };
 
-    /// Makes a change, which a stop leaves made or not. After an error it is under way: the store is to be opened again, which finds it
-    /// made or not.
-    fn commit(&mut self, change: &StoreChange) -> Result<(), StoreFault>
+    /// Makes a change, which a stop leaves made or not. After an error it is under way, and the store keeps it: the store is to be opened
+    /// again, which finds it made or not.
+    fn commit(&mut self, change: StoreChange) -> Result<(), StoreFault>
         requires { under_way self.old ≡ [] }
-        ensures disk { OnOk result (disk self.new ≡ disk_changed (disk self.old) change.now) }
+        ensures disk { OnOk result (disk self.new ≡ disk_changed (disk self.old) change) }
         ensures nothing { OnOk result (under_way self.new ≡ []) }
         ensures err { OnErr result (disk self.new ≡ disk self.old) }
-        ensures open { OnErr result (under_way self.new ≡ change.now ∷ []) };
+        ensures open { OnErr result (under_way self.new ≡ change ∷ []) };
 
     /// Opens the store again, as a restart does, and finds what was under way made or not. An error leaves all as it was.
     fn reopen(&mut self) -> Result<(), StoreFault>
@@ -102,13 +102,13 @@ pub trait ReplicaStore {
 }
 
 /// Makes changes in their order. At an error some were made, from the first on, and the next one is under way.
-pub fn commit_all<S: ReplicaStore>(store: &mut S, changes: &ChangeList) -> Result<(), StoreFault>
+pub fn commit_all<S: ReplicaStore>(store: &mut S, changes: ChangeList) -> Result<(), StoreFault>
     requires { S.under_way store.old ≡ [] }
-    ensures disk { OnOk result (S.disk store.new ≡ disk_changed_by_all (S.disk store.old) changes.now) }
+    ensures disk { OnOk result (S.disk store.new ≡ disk_changed_by_all (S.disk store.old) changes) }
     ensures nothing { OnOk result (S.under_way store.new ≡ []) }
-    ensures err { OnErr result (MadePart (S.disk store.old) changes.now (S.disk store.new) (S.under_way store.new)) }
+    ensures err { OnErr result (MadePart (S.disk store.old) changes (S.disk store.new) (S.under_way store.new)) }
 {
-    for change in changes.as_slice() {
+    for change in changes.into_vec() {
         store.commit(change)?;
     }
     Ok(())
