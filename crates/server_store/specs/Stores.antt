@@ -1,0 +1,27 @@
+-- What a server asks of the store of its replicas, in the words of its disk.
+use Rattle.std.specs.Prelude.{◌≡◌, ◌⊎◌, ℕ, List, take, drop, map}
+use Rattle.std.specs.FinMap.{entries}
+use Rattle.messages.specs.declared.message.ReplicaLine.{ReplicaLine}
+use Rattle.replica_store.specs.declared.change.StoreChange.{StoreChange}
+use Rattle.replica_store.specs.Replicas.{Replica, ServerDisk, replica_of, replica_becomes, rotten_replica, disk_changed_by_all}
+
+-- a disk after a stop: the change under way was made, or it was not
+abbrev pub IsFound : ServerDisk → List StoreChange → ServerDisk → Type 0
+IsFound old under_way new = (new ≡ old) ⊎ (new ≡ disk_changed_by_all old under_way)
+
+-- some of the changes were made, from the first on, and the next one is under way
+pub record MadePart (old : ServerDisk) (changes : List StoreChange) (new : ServerDisk) (under_way : List StoreChange) : Type 0 where
+  pub made : ℕ
+  pub disk_is : new ≡ disk_changed_by_all old (take made changes)
+  pub next_is : under_way ≡ take 1 (drop made changes)
+
+-- a byte of a replica becomes another on the disk, past its digest
+abbrev pub disk_rotten : ServerDisk → ℕ → ℕ → ℕ → ServerDisk
+disk_rotten d handle place byte = replica_becomes (λ r. rotten_replica r place byte) d handle (replica_of d handle)
+
+abbrev pub line_of : ℕ × Replica → ReplicaLine
+line_of e = record { handle = record { 0 = e.0 }; version = record { 0 = e.1.version } }
+
+-- the replicas with their versions, in rising handle
+abbrev pub replica_lines : ServerDisk → List ReplicaLine
+replica_lines d = map line_of (entries d.replicas)

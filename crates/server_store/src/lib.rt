@@ -1,0 +1,5 @@
+//! What a chunkserver asks of its replicas' store, whatever keeps them.
+#![tactic(auto)]
+
+pub mod fault;
+pub mod store;
