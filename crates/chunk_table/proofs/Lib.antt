@@ -3,3 +3,4 @@ pub mod Sums
 pub mod Counts
 pub mod FileLists
 pub mod Sound
+pub mod Owning

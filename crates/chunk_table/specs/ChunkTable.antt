@@ -149,6 +149,22 @@ set_end t handle moment = change_row t handle (row_ended moment)
 abbrev pub copy_file : ChunkTable → ℕ → ℕ → ChunkTable
 copy_file t from to = record { files = map.insert t.files to (handles_of t from); chunks = share_all t.chunks (handles_of t from) }
 
+-- a chunk that a file puts in its list: one owner more, or a new one
+abbrev pub owned_row : Option ChunkRow → ChunkRow
+owned_row None = record new_row { references = 1 }
+owned_row (Some row) = row_shared row
+
+abbrev pub own_one : NumberTable ChunkRow → ℕ → NumberTable ChunkRow
+own_one rows handle = map.insert rows handle (owned_row (map.get rows handle))
+
+abbrev pub with_owned : NumberTable ChunkRow → List ℕ → NumberTable ChunkRow
+with_owned rows [] = rows
+with_owned rows (handle ∷ rest) = with_owned (own_one rows handle) rest
+
+-- a file with its list, as a checkpoint has it
+abbrev pub put_file : ChunkTable → ℕ → List ℕ → ChunkTable
+put_file t file handles = record { files = map.insert t.files file handles; chunks = with_owned t.chunks handles }
+
 -- a file's chunk of this index becomes another one
 abbrev pub swap : ChunkTable → ℕ → ℕ → ℕ → ℕ → ChunkTable
 swap t file index from to = record { files = map.insert t.files file (slice_set (handles_of t file) index to); chunks = leave_one (share_one t.chunks to) from }
@@ -181,3 +197,9 @@ with_copy s version = record { table = add_copy s.table s.next_handle version; n
 
 abbrev pub without_copy : TableState → ℕ → TableState
 without_copy s handle = record s { table = record s.table { chunks = map.remove s.table.chunks handle } }
+
+abbrev pub with_counters : TableState → ℕ → ℕ → TableState
+with_counters s next_file next_handle = record s { next_file = next_file; next_handle = next_handle }
+
+abbrev pub with_put_file : TableState → ℕ → List ℕ → TableState
+with_put_file s file handles = record s { table = put_file s.table file handles }

@@ -1,7 +1,8 @@
 -- Why a change of the table is refused: the first cause that holds.
 use Rattle.std.specs.Prelude.{◌≡◌, ℕ, ◌+◌, Bool, ◌&&◌, ◌==◌, nat_lt, nat_le, if◌then◌else◌, List, length, Option, Some, None, unwrap_or, Result, MatchResult}
+use Rattle.std.specs.List.{list_all}
 use Rattle.chunk_table.specs.declared.fault.TableFault.{TableFault}
-use Rattle.chunk_table.specs.declared.fault.TableFault.TheVariants.{NoFile, NoChunk, NoIndex, NotIssued, Owned, Limit, NoMemory}
+use Rattle.chunk_table.specs.declared.fault.TableFault.TheVariants.{NoFile, NoChunk, NoIndex, NotIssued, Owned, Exists, NotGiven, Limit, NoMemory}
 use Rattle.chunk_table.specs.ChunkTable.{ChunkRow, TableState, counter_limit, file_of, chunk_of}
 use Rattle.chunk_table.specs.Owners.{all_owners}
 
@@ -48,6 +49,25 @@ put_row_refusal_of granted issued (Some row) = if nat_lt issued granted then Som
 -- a granted version was issued
 abbrev pub put_row_refusal : TableState → ℕ → ℕ → ℕ → Option TableFault
 put_row_refusal s handle granted issued = put_row_refusal_of granted issued (chunk_of s.table handle)
+
+-- counters only rise
+abbrev pub counters_refusal : TableState → ℕ → ℕ → Option TableFault
+counters_refusal s next_file next_handle =
+    limit_unless (nat_le s.next_file next_file && nat_le next_file counter_limit && nat_le s.next_handle next_handle && nat_le next_handle counter_limit)
+
+-- numbers are given out from 1
+abbrev pub is_given : ℕ → ℕ → Bool
+is_given next number = nat_le 1 number && nat_lt number next
+
+abbrev pub put_file_refusal_of : TableState → ℕ → List ℕ → Option (List ℕ) → Option TableFault
+put_file_refusal_of s file handles (Some old) = Some Exists
+put_file_refusal_of s file handles None =
+    if is_given s.next_file file && list_all (is_given s.next_handle) handles
+    then limit_unless (nat_le (all_owners s.table.files + length handles) counter_limit) else Some NotGiven
+
+-- a file that the table does not have, of chunks whose handles were given out
+abbrev pub put_file_refusal : TableState → ℕ → List ℕ → Option TableFault
+put_file_refusal s file handles = put_file_refusal_of s file handles (file_of s.table file)
 
 abbrev pub share_refusal_of : TableState → Option (List ℕ) → Option TableFault
 share_refusal_of s None = Some NoFile

@@ -1,14 +1,16 @@
 //! Changes of single chunks in the map by handle. None of them takes memory.
 
-ghost use Rattle.std.specs.Prelude.{◌≡◌, ℕ, ◌+◌, ◌<◌, ◌≤◌, length, IfSome, OnSome};
+ghost use Rattle.std.specs.Prelude.{◌≡◌, ℕ, ◌+◌, ◌<◌, ◌≤◌, length, IfSome, OnSome, OnOk};
 ghost use Rattle.std.specs.FinMap as map;
-ghost use Rattle.chunk_table.specs.ChunkTable.{counter_limit, changed_at, row_issued, row_granted, row_ended, row_put, share_one, share_all, leave_one, leave_all};
+ghost use Rattle.chunk_table.specs.ChunkTable.{counter_limit, changed_at, row_issued, row_granted, row_ended, row_put, share_one, share_all, leave_one, leave_all, own_one, with_owned};
 ghost use Rattle.chunk_table.specs.Owners.{references_at};
 
 use crate::chunk::Chunk;
 use gfs_types::ids::{Moment, ServerId, Version};
 use gfs_types::lists::ServerList;
+use gfs_types::no_memory::NoMemory;
 use number_map::NumberMap;
+use std::alloc::Global;
 
 pub(crate) fn issue_at(chunks: &mut NumberMap<Chunk>, handle: u64, version: Version)
     ensures { chunks.new ≡ changed_at chunks.old handle (row_issued version.0) }
@@ -94,4 +96,34 @@ pub(crate) fn leave_each(chunks: &mut NumberMap<Chunk>, handles: &[u64])
     for handle in handles {
         leave_at(chunks, *handle);
     }
+}
+
+pub(crate) fn own_at(
+    alloc: Global,
+    chunks: &mut NumberMap<Chunk>,
+    handle: u64,
+) -> Result<(), NoMemory>
+    requires { references_at chunks.old handle < counter_limit }
+    ensures { OnOk result (chunks.new ≡ own_one chunks.old handle) }
+{
+    if chunks.get(handle).is_some() {
+        share_at(chunks, handle);
+        return Ok(());
+    }
+    chunks.insert(handle, Chunk::new(alloc, Version(0), 1))?;
+    Ok(())
+}
+
+pub(crate) fn own_each(
+    alloc: Global,
+    chunks: &mut NumberMap<Chunk>,
+    handles: &[u64],
+) -> Result<(), NoMemory>
+    requires { (handle : ℕ) → references_at chunks.old handle + length handles.now ≤ counter_limit }
+    ensures { OnOk result (chunks.new ≡ with_owned chunks.old handles.now) }
+{
+    for handle in handles {
+        own_at(alloc, chunks, *handle)?;
+    }
+    Ok(())
 }

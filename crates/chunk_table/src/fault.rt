@@ -1,6 +1,6 @@
 //! Why a change of the table was refused.
 
-/// A change that was refused has changed nothing.
+/// A change that was refused has changed nothing; a table that refuses a file of a checkpoint is dropped.
 #[derive(Clone, Copy, Debug, PartialEq, Eq)]
 pub enum TableFault {
     /// The table has no such file.
@@ -13,6 +13,10 @@ pub enum TableFault {
     NotIssued,
     /// The chunk has an owner.
     Owned,
+    /// The table has that file.
+    Exists,
+    /// That file id or handle was not given out.
+    NotGiven,
     /// A counter would pass [`crate::COUNTER_LIMIT`].
     Limit,
     /// The allocator refused a growth. No other cause held.

@@ -1,14 +1,15 @@
 //! The table of files and chunks.
 
 ghost use Rattle.std.specs.Prelude.{◌≡◌, ℕ, ◌<◌, ◌≤◌, Some, None, IfOk, OnOk, OnErr};
+ghost use Rattle.std.specs.List.{list_all};
 ghost use Rattle.std.specs.Option.{option_copied};
-ghost use Rattle.chunk_table.specs.ChunkTable.{counter_limit, new_table, new_chunk_table, file_of, chunk_of, row_issued, row_granted, row_ended, row_put, with_file, with_chunk, with_row_changed, with_shared, with_swapped, without_file, with_copy, without_copy};
+ghost use Rattle.chunk_table.specs.ChunkTable.{counter_limit, new_table, new_chunk_table, file_of, chunk_of, row_issued, row_granted, row_ended, row_put, with_file, with_chunk, with_row_changed, with_shared, with_swapped, without_file, with_copy, without_copy, with_counters, with_put_file};
 ghost use Rattle.chunk_table.specs.Owners.{IsSound};
-ghost use Rattle.chunk_table.specs.Refusals.{RefusedFor, RefusedExactly, add_file_refusal, add_chunk_refusal, issue_refusal, grant_refusal, put_row_refusal, share_refusal, swap_refusal, drop_refusal, start_copy_refusal, give_up_copy_refusal, version_after};
+ghost use Rattle.chunk_table.specs.Refusals.{RefusedFor, RefusedExactly, add_file_refusal, add_chunk_refusal, issue_refusal, grant_refusal, put_row_refusal, share_refusal, swap_refusal, drop_refusal, start_copy_refusal, give_up_copy_refusal, version_after, is_given, counters_refusal, put_file_refusal};
 
 use crate::COUNTER_LIMIT;
 use crate::chunk::Chunk;
-use crate::chunks::{end_at, grant_at, issue_at, leave_at, leave_each, put_at, share_at};
+use crate::chunks::{end_at, grant_at, issue_at, leave_at, leave_each, own_each, put_at, share_at};
 use crate::fault::TableFault;
 use crate::files::{push_at, set_at, share_file};
 use gfs_types::ids::{FileId, Handle, Moment, ServerId, Version};
@@ -235,6 +236,66 @@ impl Table {
         Ok(())
     }
 
+    /// Sets the id that the next file takes and the handle that the next chunk takes, as a checkpoint has them.
+    /// Refused: Limit, where one is past [`COUNTER_LIMIT`] or less than before. Takes no memory.
+    pub fn put_counters(&mut self, next_file: FileId, next_handle: Handle) -> Result<(), TableFault>
+        ensures refusal { RefusedExactly result (counters_refusal self.old next_file.0 next_handle.0) }
+        ensures ok { OnOk result (self.new ≡ with_counters self.old next_file.0 next_handle.0) }
+        ensures err { OnErr result (self.new ≡ self.old) }
+    {
+        if next_file.0 < self.next_file
+            || next_file.0 > COUNTER_LIMIT
+            || next_handle.0 < self.next_handle
+            || next_handle.0 > COUNTER_LIMIT
+        {
+            return Err(TableFault::Limit);
+        }
+        self.next_file = next_file.0;
+        self.next_handle = next_handle.0;
+        Ok(())
+    }
+
+    /// The table with a file of this list, as a checkpoint has it: each chunk of the list gets one owner more, and is new where the
+    /// table doesn't have it. Id and handles are below the counters. A table that refuses is dropped.
+    /// Refused: Exists; NotGiven; Limit; NoMemory.
+    pub fn put_file(self, file: FileId, handles: HandleList) -> Result<Table, TableFault>
+        ensures refusal { RefusedFor result (put_file_refusal self file.0 handles) }
+        ensures ok { IfOk result (λ table. table ≡ with_put_file self file.0 handles) }
+    {
+        let Table {
+            alloc,
+            mut files,
+            mut chunks,
+            next_file,
+            next_handle,
+            owners,
+        } = self;
+        if files.get(file.0).is_some() {
+            return Err(TableFault::Exists);
+        }
+        if !is_given(next_file, file.0) || !all_given(next_handle, handles.as_slice()) {
+            return Err(TableFault::NotGiven);
+        }
+        let count = handles.len() as u64;
+        if count > COUNTER_LIMIT - owners {
+            return Err(TableFault::Limit);
+        }
+        let Ok(()) = own_each(alloc, &mut chunks, handles.as_slice()) else {
+            return Err(TableFault::NoMemory);
+        };
+        let Ok(()) = files.insert(file.0, handles) else {
+            return Err(TableFault::NoMemory);
+        };
+        Ok(Table {
+            alloc,
+            files,
+            chunks,
+            next_file,
+            next_handle,
+            owners: owners + count,
+        })
+    }
+
     /// Sets the moment at which a chunk's lease ends; 0 ends it. Nothing changes where there is no such chunk. Takes no memory.
     pub fn set_end(&mut self, handle: Handle, moment: Moment)
         ensures { self.new ≡ with_row_changed self.old handle.0 (row_ended moment.0) }
@@ -363,4 +424,17 @@ impl Table {
         self.chunks.remove(copy.0);
         Ok(())
     }
+}
+
+// Whether a number was given out.
+fn is_given(next: u64, number: u64) -> bool
+    ensures { result ≡ is_given next number }
+{
+    number >= 1 && number < next
+}
+
+fn all_given(next: u64, numbers: &[u64]) -> bool
+    ensures { result ≡ list_all (is_given next) numbers.now }
+{
+    numbers.iter().all(|number| is_given(next, *number))
 }

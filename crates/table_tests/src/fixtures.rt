@@ -1,7 +1,7 @@
 //! What several of these tests begin with.
 
 use gfs_types::ids::{Moment, Version};
-use gfs_types::lists::ServerList;
+use gfs_types::lists::{HandleList, ServerList};
 use leases::held::Held;
 use std::alloc::{AllocError, Global};
 
@@ -14,4 +14,9 @@ pub fn held(
 ) -> Result<Held, AllocError> {
     let members = ServerList::new(Vec::from_slice(alloc, servers)?);
     Ok(Held::take(Version(1), Moment(until), members, clock_bound))
+}
+
+/// A file's list of handles.
+pub fn handles(alloc: Global, numbers: &[u64]) -> Result<HandleList, AllocError> {
+    Ok(HandleList::new(Vec::from_slice(alloc, numbers)?))
 }

@@ -2,6 +2,8 @@
 #![tactic(auto)]
 
 #[cfg(test)]
+mod checkpoint;
+#[cfg(test)]
 mod fixtures;
 #[cfg(test)]
 mod order;
