@@ -41,12 +41,13 @@ pub record IsCopyOrder (w : WorldState) (g : Ghost) (handle version copy copy_ve
   pub raise : IsRaise w g copy copy_version version server
   pub same : filter (λ p. nat_le p.entry.round version) (order_of w.observer copy) ≡ filter (λ p. nat_le p.entry.round version) (order_of w.observer handle)
 
--- A Grant that may still be taken: its version is the last one, and nothing was numbered under it.
+-- A Grant that may still be taken: nothing was numbered under its version, which is the last one, or its lease has ended already.
 pub record IsGrant (w : WorldState) (g : Ghost) (handle version server until : ℕ) (members : List ℕ) : Type 0 where
   pub granted : IsSomeAnd (grant_of g.sent handle version) (λ grant. (grant.primary ≡ server) × (grant.members ≡ members) × (grant.until ≡ until))
   pub member : IsTrue (has_number members server)
-  pub empty : AllByRecursion (λ p. p.entry.round < version) (order_of w.observer handle)
-  pub last : IfRow w handle (λ row. row.granted ≡ version)
+  pub empty : AllByRecursion (λ p. (p.entry.round < version) ⊎ (version < p.entry.round)) (order_of w.observer handle)
+  pub last : (until ≤ w.observer.greatest)
+      ⊎ (IfRow w handle (λ row. row.granted ≡ version) × AllByRecursion (λ p. p.entry.round < version) (order_of w.observer handle))
 
 -- A later end of a lease: it ends within a lease's time, and while the lease may count, no later than at the master.
 pub record IsExtend (w : WorldState) (g : Ghost) (handle version until server : ℕ) : Type 0 where
