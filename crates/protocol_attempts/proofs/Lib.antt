@@ -1,0 +1,6 @@
+pub mod Events
+pub mod ClientWalk
+pub mod ClientNumbers
+pub mod Senders
+pub mod RequestsOnce
+pub mod NumbersRise
