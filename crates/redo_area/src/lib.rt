@@ -1,0 +1,10 @@
+//! Changes of a disk that a stop leaves made as a whole or not at all.
+#![tactic(auto)]
+
+mod making;
+mod range;
+mod staging;
+mod step;
+
+pub use making::commit;
+pub use range::{RedoArea, RedoRange};

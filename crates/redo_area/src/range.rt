@@ -1,0 +1,17 @@
+//! The ranges of a change, and the area that they are written to first.
+
+use bytes::Bytes;
+
+/// One range of a change: where on the disk it begins, and its new bytes.
+#[derive(Debug, Drop)]
+pub struct RedoRange {
+    pub place: usize,
+    pub bytes: Bytes,
+}
+
+/// Where on the disk the redo area begins, and how many bytes it has.
+#[derive(Clone, Copy, Debug, PartialEq, Eq)]
+pub struct RedoArea {
+    pub place: usize,
+    pub size: usize,
+}

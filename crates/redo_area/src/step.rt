@@ -1,0 +1,33 @@
+//! One call of a disk, as one more of a run.
+
+ghost use Rattle.std.specs.Prelude.{◌≡◌, ◌≤◌, ◌+◌, ℕ, Bool, List, length, OnOk};
+ghost use Rattle.disk.specs.Bytes.{put_at};
+ghost use Rattle.disk.specs.Device.{HasCause, Only};
+ghost use Rattle.redo_area.specs.Moments.{ChangesBut, Misses};
+
+use disk::{Disk, DiskFault};
+
+// Writes these bytes. A run that keeps some places goes on where they lie outside of the range.
+pub fn write<D: Disk>(disk: &mut D, at: usize, bytes: &[u8]) -> Result<(), DiskFault>
+    requires { at + length bytes.now ≤ length (D.seen disk.old) }
+    ensures written { OnOk result (D.seen disk.new ≡ put_at (D.seen disk.old) at bytes.now) }
+    ensures size { length (D.seen disk.new) ≡ length (D.seen disk.old) }
+    ensures goes_on { (start : D) (kept : ℕ → Bool) → Misses kept at (length bytes.now)
+        → ChangesBut D.seen D.may_leave D.moment D.left_since kept start disk.old
+        → ChangesBut D.seen D.may_leave D.moment D.left_since kept start disk.new }
+    ensures cause { HasCause (D.failed disk.old) (D.failed disk.new) result }
+{
+    disk.write_at(at, bytes)
+}
+
+// Makes all durable. Any run goes on.
+pub fn sync<D: Disk>(disk: &mut D) -> Result<(), DiskFault>
+    ensures durable { OnOk result (Only (D.seen disk.new) (D.may_leave disk.new)) }
+    ensures seen { D.seen disk.new ≡ D.seen disk.old }
+    ensures goes_on { (start : D) (kept : ℕ → Bool)
+        → ChangesBut D.seen D.may_leave D.moment D.left_since kept start disk.old
+        → ChangesBut D.seen D.may_leave D.moment D.left_since kept start disk.new }
+    ensures cause { HasCause (D.failed disk.old) (D.failed disk.new) result }
+{
+    disk.sync()
+}
