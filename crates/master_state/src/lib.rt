@@ -1,0 +1,10 @@
+//! The master's state that its operation log keeps, and the replay of each record (GFS paper, section 2.6.3).
+#![tactic(auto)]
+
+pub mod chunks;
+pub mod fault;
+mod hidden;
+pub mod kept;
+pub mod names;
+pub mod nodes;
+pub mod state;
