@@ -1,0 +1,2 @@
+pub mod DropOrders
+pub mod HiddenNames
