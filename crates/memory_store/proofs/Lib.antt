@@ -1,0 +1,3 @@
+pub mod Lent
+pub mod Sorted
+pub mod Writing

@@ -1,0 +1,10 @@
+//! A store of replicas in memory. It stands behind the trait of every store, and forgets nothing but what a stop of its host forgets.
+#![tactic(auto)]
+
+mod ordered;
+mod replica;
+mod rotten;
+mod store;
+mod table;
+
+pub use store::MemoryStore;

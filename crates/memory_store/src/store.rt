@@ -1,0 +1,238 @@
+//! The store.
+
+ghost use Rattle.std.specs.Prelude.{◌≡◌, ◌≤◌, [], map, IfOk, OnOk, OnErr};
+ghost use Rattle.std.specs.Option.{option_copied};
+ghost use Rattle.std.specs.BTreeMap.{IsOrdered};
+ghost use Rattle.std.specs.Ordering.{nat_cmp};
+ghost use Rattle.replica_store.specs.Replicas.{new_server_disk, disk_changed, replica_of};
+ghost use Rattle.server_store.specs.Stores.{line_of};
+
+use crate::ordered::OrderedMap;
+use crate::replica::MemoryReplica;
+use crate::table::{ReplicaTable, copy, raise, rot, write, zero};
+use bytes::Bytes;
+use gfs_types::ids::{Handle, OrderNo};
+use gfs_types::no_memory::NoMemory;
+use messages::message::ReplicaLine;
+use messages::message_lists::ReplicaList;
+use replica_store::change::StoreChange;
+use replica_store::row::Row;
+use server_store::fault::StoreFault;
+use server_store::store::ReplicaStore;
+use std::alloc::Global;
+use std::collections::BTreeMap;
+use std::marker::Model;
+
+/// A server's replicas in memory. Each call takes O(log n) of the replicas and what the bytes that it touches take; a replica of which bytes
+/// rotted is read whole.
+#[derive(Drop)]
+pub struct MemoryStore {
+    alloc: Global,
+    block: u64,
+    order: OrderNo,
+    replicas: ReplicaTable,
+    under_way: Option<StoreChange>,
+}
+
+impl Model for MemoryStore {
+    ghost use Rattle.std.specs.Prelude.{◌≤◌, List};
+    ghost use Rattle.std.specs.FinMap as map;
+    ghost use Rattle.std.specs.Option.{option_to_list};
+    ghost use Rattle.std.specs.Coded.{codes, coded_ℕ};
+    ghost use Rattle.replica_store.specs.Replicas.{ServerDisk};
+    ghost use Rattle.replica_store.specs.declared.change.StoreChange.{StoreChange as StoreChangeValue};
+
+    ghost Value = { ServerDisk × List StoreChangeValue };
+
+    ghost coded = { Prim.hlevel (codes, map.code, coded_ℕ) };
+
+    ghost view = { λ s. (
+      record {
+        block = s.block;
+        epoch = s.order.epoch;
+        count = s.order.count;
+        replicas = s.replicas;
+      },
+      option_to_list s.under_way,
+    ) };
+
+    ghost invariant = { λ s. 1 ≤ s.block };
+}
+
+impl MemoryStore {
+    /// An empty store, with blocks of so many bytes.
+    pub fn new(alloc: Global, block: u32) -> MemoryStore
+        requires { 1 ≤ block }
+        ensures { result ≡ (new_server_disk block, []) }
+    {
+        MemoryStore {
+            alloc,
+            block: u64::from(block),
+            order: OrderNo { epoch: 0, count: 0 },
+            replicas: OrderedMap::new(alloc),
+            under_way: None,
+        }
+    }
+
+    fn replica(&self, handle: Handle) -> Option<&MemoryReplica>
+        ensures { option_copied result ≡ replica_of self.now.0 handle.0 }
+    {
+        self.replicas.get(handle.0)
+    }
+
+    // At an error nothing changed.
+    fn make(&mut self, change: &StoreChange) -> Result<(), NoMemory>
+        ensures ok { OnOk result (self.new.0 ≡ disk_changed self.old.0 change.now) }
+        ensures err { OnErr result (self.new.0 ≡ self.old.0) }
+        ensures under_way { self.new.1 ≡ self.old.1 }
+    {
+        let alloc = self.alloc;
+        match change {
+            StoreChange::SetOrder(order) => {
+                self.order = *order;
+                Ok(())
+            }
+            StoreChange::Put {
+                handle,
+                version,
+                serial,
+                bytes,
+            } => {
+                let replica = MemoryReplica::stored(alloc, *version, *serial, bytes.as_slice())?;
+                self.replicas.insert(handle.0, replica)?;
+                Ok(())
+            }
+            StoreChange::Write {
+                handle,
+                serial,
+                offset,
+                bytes,
+            } => write(
+                &mut self.replicas,
+                alloc,
+                handle.0,
+                *serial,
+                *offset,
+                bytes.as_slice(),
+            ),
+            StoreChange::Zero {
+                handle,
+                serial,
+                offset,
+                count,
+            } => zero(
+                &mut self.replicas,
+                alloc,
+                handle.0,
+                *serial,
+                *offset,
+                *count,
+            ),
+            StoreChange::Raise { handle, version } => {
+                raise(&mut self.replicas, handle.0, *version);
+                Ok(())
+            }
+            StoreChange::Copy {
+                handle,
+                copy: other,
+                version,
+            } => copy(&mut self.replicas, alloc, handle.0, other.0, *version),
+            StoreChange::Remove(handle) => {
+                self.replicas.remove(handle.0);
+                Ok(())
+            }
+        }
+    }
+}
+
+impl ReplicaStore for MemoryStore {
+    ghost disk = { λ s. s.0 };
+
+    ghost under_way = { λ s. s.1 };
+
+    fn row(&self, handle: Handle) -> Option<Row> {
+        Some(self.replica(handle)?.row())
+    }
+
+    fn order(&self) -> OrderNo {
+        self.order
+    }
+
+    fn len(&self) -> usize {
+        self.replicas.len()
+    }
+
+    fn is_full(&self, slots: u32) -> bool {
+        slots as usize <= self.replicas.len()
+    }
+
+    fn list(&self, alloc: Global) -> Result<ReplicaList, NoMemory> {
+        let lines = lines_of(alloc, self.replicas.kept())?;
+        Ok(lines)
+    }
+
+    fn is_writable(&mut self, handle: Handle, offset: u64, end: u64) -> Result<bool, StoreFault> {
+        match self.replica(handle) {
+            None => Ok(true),
+            Some(replica) => Ok(replica.is_writable(self.alloc, self.block, offset, end)?),
+        }
+    }
+
+    fn is_copyable(&mut self, handle: Handle) -> Result<bool, StoreFault> {
+        match self.replica(handle) {
+            None => Ok(false),
+            Some(replica) => {
+                let count = replica.row().count;
+                Ok(replica.is_readable(self.alloc, self.block, 0, count)?)
+            }
+        }
+    }
+
+    fn read(
+        &mut self,
+        alloc: Global,
+        handle: Handle,
+        offset: u64,
+        count: u64,
+    ) -> Result<Option<Bytes>, StoreFault> {
+        let Some(replica) = self.replica(handle) else {
+            return Ok(None);
+        };
+        if !replica.is_readable(alloc, self.block, offset, count)? {
+            return Ok(None);
+        }
+        Ok(Some(replica.read(alloc, offset, count)?))
+    }
+
+    fn commit(&mut self, change: StoreChange) -> Result<(), StoreFault> {
+        if self.make(&change).is_err() {
+            self.under_way = Some(change);
+            return Err(StoreFault::NoMemory);
+        }
+        Ok(())
+    }
+
+    fn reopen(&mut self) -> Result<(), StoreFault> {
+        self.under_way = None;
+        Ok(())
+    }
+
+    fn rot(&mut self, handle: Handle, place: u64, byte: u8) -> Result<(), StoreFault> {
+        rot(&mut self.replicas, handle.0, place, byte)?;
+        Ok(())
+    }
+}
+
+fn lines_of(alloc: Global, kept: &BTreeMap<u64, MemoryReplica>) -> Result<ReplicaList, NoMemory>
+    ensures all { IfOk result (λ l. l ≡ map line_of kept.now.entries) }
+    ensures ordered { IfOk result (λ _. IsOrdered nat_cmp kept.now) }
+{
+    let mut lines = Vec::new(alloc);
+    for (handle, replica) in kept {
+        lines.push(ReplicaLine {
+            handle: Handle(*handle),
+            version: replica.version(),
+        })?;
+    }
+    Ok(ReplicaList::new(lines))
+}

@@ -1,0 +1,53 @@
+//! What a step gives, as far as it was taken.
+
+ghost use Rattle.std.specs.Prelude.{◌≡◌, ◌++◌, ◌∷◌, [], OnOk};
+
+use gfs_types::lists::Sequence;
+use messages::message::Message;
+use messages::message_lists::MessageList;
+use protocol::seen::{Seen, SeenList};
+use replica_store::change::{ChangeList, StoreChange};
+use server_store::fault::StoreFault;
+use std::alloc::Global;
+
+/// The messages to send, the changes of the disk, and what is seen, each in order.
+#[derive(Drop)]
+pub struct Effects {
+    pub sent: MessageList,
+    pub changes: ChangeList,
+    pub seen: SeenList,
+}
+
+impl Effects {
+    /// Nothing so far. Takes no memory.
+    pub fn none(alloc: Global) -> Effects
+        ensures { result ≡ record { sent = []; changes = []; seen = [] } }
+    {
+        Effects {
+            sent: Sequence::empty(alloc),
+            changes: Sequence::empty(alloc),
+            seen: Sequence::empty(alloc),
+        }
+    }
+
+    pub(crate) fn send(&mut self, message: Message) -> Result<(), StoreFault>
+        ensures { OnOk result (self.new ≡ record self.old { sent = self.old.sent ++ message ∷ [] }) }
+    {
+        self.sent.push(message)?;
+        Ok(())
+    }
+
+    pub(crate) fn change(&mut self, change: StoreChange) -> Result<(), StoreFault>
+        ensures { OnOk result (self.new ≡ record self.old { changes = self.old.changes ++ change ∷ [] }) }
+    {
+        self.changes.push(change)?;
+        Ok(())
+    }
+
+    pub(crate) fn show(&mut self, seen: Seen) -> Result<(), StoreFault>
+        ensures { OnOk result (self.new ≡ record self.old { seen = self.old.seen ++ seen ∷ [] }) }
+    {
+        self.seen.push(seen)?;
+        Ok(())
+    }
+}

@@ -1,0 +1,155 @@
+//! The chunkserver, and what all handlers share.
+
+ghost use Rattle.std.specs.Prelude.{◌≡◌, ◌≤◌, [], OnOk};
+ghost use Rattle.std.specs.Option.{option_copied};
+ghost use Rattle.protocol.specs.Server.{says, refuses, drops_corrupt, primary_of, frame};
+ghost use Rattle.protocol.specs.ServerStep.{server_at};
+ghost use Rattle.protocol.specs.ServerWrites.{refuses_attempt, answers_settled};
+ghost use Rattle.server_node.specs.Doing.{doing};
+
+use crate::effects::Effects;
+use data_push::Buffer;
+use gfs_types::config::Config;
+use gfs_types::ids::{DataId, Handle, Moment, Node, ServerId, Version};
+use gfs_types::refusal::Refusal;
+use messages::message::{Body, Message};
+use number_map::NumberMap;
+use primary_order::order::SerialOrder;
+use replica_store::change::StoreChange;
+use server_store::fault::StoreFault;
+use server_store::store::ReplicaStore;
+use std::alloc::Global;
+use std::marker::Model;
+
+/// A chunkserver (section 2.3).
+#[derive(Drop)]
+pub struct Server<S: ReplicaStore> {
+    pub(crate) config: Config,
+    pub(crate) id: ServerId,
+    pub(crate) up: bool,
+    pub(crate) clock: u64,
+    pub(crate) store: S,
+    pub(crate) leases: NumberMap<SerialOrder>,
+    pub(crate) pushed: Buffer,
+    pub(crate) clones: NumberMap<u64>,
+    pub(crate) alloc: Global,
+}
+
+impl<S: ReplicaStore> Model for Server<S> {
+    ghost use Rattle.std.specs.Prelude.{◌≡◌, ◌≤◌, max};
+    ghost use Rattle.std.specs.FinMap as map;
+    ghost use Rattle.std.specs.Coded.{codes, coded_ℕ};
+    ghost use Rattle.protocol.specs.Server.{ServerState};
+
+    ghost Value = { ServerState };
+
+    ghost coded = { Prim.hlevel (codes, map.code, coded_ℕ) };
+
+    ghost view = { λ s. record {
+      config = s.config;
+      id = s.id.0;
+      up = s.up;
+      now = s.clock;
+      disk = S.disk s.store;
+      under_way = S.under_way s.store;
+      leases = s.leases;
+      pushed = s.pushed;
+      clones = s.clones;
+    } };
+
+    ghost invariant = { λ s. (64 ≤ s.config.chunk) × (s.config.chunk ≤ 67108864) × (s.config.skew_ms ≤ 60000) × (s.clock ≤ 4000000000000000) × (s.pushed.limit ≡ max 1 s.config.push_entries) };
+}
+
+impl<S: ReplicaStore> Server<S> {
+    pub(crate) fn move_clock(&mut self, now: Moment)
+        requires { now.0 ≤ 4000000000000000 }
+        ensures { self.new ≡ server_at self.old now.0 }
+    {
+        self.clock = self.clock.max(now.0);
+    }
+
+    pub(crate) fn says(
+        &self,
+        effects: &mut Effects,
+        receiver: Node,
+        body: Body,
+    ) -> Result<(), StoreFault>
+        ensures { OnOk result (says (doing self.now effects.old) receiver body ≡ doing self.now effects.new) }
+    {
+        effects.send(Message {
+            number: 0,
+            sender: Node::Server(self.id),
+            receiver,
+            body,
+        })
+    }
+
+    pub(crate) fn refuses(
+        &self,
+        effects: &mut Effects,
+        receiver: Node,
+        number: u64,
+        refusal: Refusal,
+    ) -> Result<(), StoreFault>
+        ensures { OnOk result (refuses (doing self.now effects.old) receiver number refusal ≡ doing self.now effects.new) }
+    {
+        self.says(effects, receiver, Body::Refused { number, refusal })
+    }
+
+    // The client of an attempt is refused.
+    pub(crate) fn refuses_attempt(
+        &self,
+        effects: &mut Effects,
+        id: DataId,
+        refusal: Refusal,
+    ) -> Result<(), StoreFault>
+        ensures { OnOk result (refuses_attempt (doing self.now effects.old) id refusal ≡ doing self.now effects.new) }
+    {
+        self.refuses(effects, Node::Client(id.client), id.seq, refusal)
+    }
+
+    // The client of a settled attempt is answered: its place, or that the chunk is full now.
+    pub(crate) fn answers_settled(
+        &self,
+        effects: &mut Effects,
+        id: DataId,
+        place: Option<u64>,
+    ) -> Result<(), StoreFault>
+        ensures { OnOk result (answers_settled (doing self.now effects.old) id place ≡ doing self.now effects.new) }
+    {
+        match place {
+            None => self.refuses_attempt(effects, id, Refusal::ChunkFull),
+            Some(place) => {
+                let body = Body::Done { data: id, place };
+                self.says(effects, Node::Client(id.client), body)
+            }
+        }
+    }
+
+    // A replica that doesn't match its checksums is dropped, and with it the lease.
+    pub(crate) fn drops_corrupt(
+        &mut self,
+        effects: &mut Effects,
+        handle: Handle,
+    ) -> Result<(), StoreFault>
+        ensures goes { OnOk result (drops_corrupt (doing self.old effects.old) handle.0 ≡ doing self.new effects.new) }
+        ensures frame { frame self.new ≡ frame self.old }
+    {
+        self.leases.remove(handle.0);
+        effects.change(StoreChange::Remove(handle))
+    }
+
+    // The lease of a chunk, where it is of that version and counts now.
+    pub(crate) fn primary_of(&self, handle: Handle, version: Version) -> Option<&SerialOrder>
+        ensures { option_copied result ≡ primary_of self.now handle.0 version.0 }
+    {
+        let primary = self.leases.get(handle.0)?;
+        let held = primary.held();
+        let counts = held.counts(self.config.skew_ms, Moment(self.clock));
+        if held.version() == version && counts {
+            Some(primary)
+        } else {
+            None
+        }
+    }
+}
