@@ -1,24 +1,15 @@
 -- What a step or a call of a client does to its numbers, what it sends, and for which data it waits then.
-use Rattle.std.proofs.Common.{◌≡◌, ◌⊎◌, ℕ, suc, ◌≤◌, true, false, List, [], ◌∷◌, Option, Some, None, refl, sym, ap, subst, ◌∙◌, inl, inr, arith}
-use Rattle.std.specs.Prelude.{◌==◌, nat_lt, max, IsTrue}
-use Rattle.std.proofs.lemmas.Option.{none-some}
-use Rattle.std.proofs.Math.Nat.{le-max_left}
+use Rattle.std.proofs.Common.{◌≡◌, ◌⊎◌, ℕ, suc, ◌≤◌, false, List, [], Some, None, refl, sym, ap, subst, ◌∙◌, inl, inr, arith}
 use Rattle.std.specs.Option.{option_to_list}
-use Rattle.gfs_types.specs.declared.ids.ServerId.{ServerId}
-use Rattle.gfs_types.specs.declared.ids.FileId.{FileId}
-use Rattle.gfs_types.specs.declared.ids.Fd.{Fd}
 use Rattle.gfs_types.specs.declared.ids.Node.{Node}
 use Rattle.gfs_types.specs.declared.ids.Node.TheVariants.{Master}
 use Rattle.gfs_types.specs.declared.call.Call.{Call}
-use Rattle.gfs_types.specs.declared.answer.Answer.{Answer}
 use Rattle.gfs_types.specs.declared.answer.Answer.TheVariants as answer
 use Rattle.gfs_types.specs.declared.refusal.Refusal.TheVariants.{NoMemory}
 use Rattle.messages.specs.declared.message.Body.{Body}
 use Rattle.messages.specs.declared.message.Body.TheVariants as body
 use Rattle.messages.specs.declared.message.Message.{Message}
-use Rattle.messages.specs.declared.message.Location.{Location}
 use Rattle.messages.specs.declared.message.Holder.{Holder}
-use Rattle.messages.specs.declared.message.Group.{Group}
 use Rattle.messages.specs.declared.event.Input.{Input}
 use Rattle.messages.specs.declared.event.Input.TheVariants as input
 use Rattle.relaxed_file.specs.NameStep.{is_look}
@@ -32,13 +23,13 @@ use Rattle.client_state.specs.declared.call.ToldChunk.{ToldChunk}
 use Rattle.client_state.specs.declared.call.Stage.{Stage}
 use Rattle.client_state.specs.declared.call.Stage.TheVariants.{AskedNames, AskedWhere, MustAskAgain, SentData, SentMutate, SentRead, IsOver, HasAnswer}
 use Rattle.protocol.specs.Client.{file_chunk, ClientState, ClientDoing, stopped_client, client_begins, committed, with_current, answers}
-use Rattle.protocol.specs.ClientAttempts.{is_length, bytes_to_send, wanted_by, read_start, read_count, read_body, asks, read_planned, again_planned, push_planned_to, mutate_planned, chunk_of, name_planned}
+use Rattle.protocol.specs.ClientAttempts.{is_length, bytes_to_send, wanted_by, read_start, read_count, read_body, read_planned, again_planned, mutate_planned, chunk_of, name_planned}
 use Rattle.protocol.specs.ClientTakes.{opens}
 use Rattle.protocol.specs.ClientStep.{client_at, client_goes, client_call_goes, may_step, client_ends, client_call, client_step}
 use Rattle.protocol_laws.proofs.Steps.{on_cond, none_some, same_some}
 use Rattle.protocol_laws.proofs.ServerMoves.{IsCameIn}
 use Rattle.protocol_attempts.specs.Laws.{data_number, waited_data}
-use Rattle.protocol_attempts.proofs.ClientWalk.{IsIdle, HoldsAt, KeepsClient, KeepsCalls, step_kept, call_kept, once_more, closed}
+use Rattle.protocol_attempts.proofs.ClientWalk.{IsIdle, HoldsAt, KeepsClient, step_kept, call_kept, closed}
 
 -- what a client sends as it goes from one state to another
 abbrev pub IsSaid : ClientState → ClientState → Body → Type 0

@@ -1,18 +1,15 @@
 -- What a client's step or call is made of: a call in hand is changed, a location is found, heard or dropped, and at the end one request is sent, or the call waits or is answered.
-use Rattle.std.proofs.Common.{◌≡◌, ℕ, suc, ◌+◌, true, false, List, [], ◌∷◌, ◌++◌, length, Option, Some, None, refl, sym, ap, subst, ◌∙◌}
-use Rattle.std.specs.Prelude.{nat_lt, ◌==◌, ◌&&◌, ◌||◌, not, ◌/◌, IsTrue}
+use Rattle.std.proofs.Common.{◌≡◌, ℕ, suc, ◌+◌, true, false, List, [], ◌∷◌, ◌++◌, length, Option, Some, None, refl, ap, ◌∙◌}
+use Rattle.std.specs.Prelude.{nat_lt, ◌==◌, ◌&&◌, ◌||◌, not, ◌/◌}
 use Rattle.std.proofs.lemmas.Bool.{eqb-true}
 use Rattle.std.specs.Option.{option_to_list}
 use Rattle.std.specs.List.{list_any}
 use Rattle.std.specs.FinMap as table
 use Rattle.gfs_types.specs.declared.ids.ServerId.{ServerId}
-use Rattle.gfs_types.specs.declared.ids.Node.{Node}
-use Rattle.gfs_types.specs.declared.ids.Node.TheVariants.{Master}
 use Rattle.gfs_types.specs.declared.ids.DataId.{DataId}
 use Rattle.gfs_types.specs.declared.ids.FileId.{FileId}
 use Rattle.gfs_types.specs.declared.ids.Fd.{Fd}
 use Rattle.gfs_types.specs.declared.ids.Moment.{Moment}
-use Rattle.gfs_types.specs.declared.ids.OrderNo.{OrderNo}
 use Rattle.gfs_types.specs.declared.call.Call.{Call}
 use Rattle.gfs_types.specs.declared.call.Call.TheVariants as call
 use Rattle.gfs_types.specs.declared.answer.Answer.{Answer}
@@ -29,14 +26,11 @@ use Rattle.messages.specs.declared.message.Holder.{Holder}
 use Rattle.messages.specs.declared.message.Group.{Group}
 use Rattle.messages.specs.declared.event.Input.{Input}
 use Rattle.messages.specs.declared.event.Input.TheVariants as input
-use Rattle.relaxed_file.specs.NameStep.{is_look, is_name_call}
+use Rattle.relaxed_file.specs.NameStep.{is_name_call}
 use Rattle.relaxed_file.specs.Parts.{is_range_too_long}
 use Rattle.protocol.specs.Tables.{is_empty_list}
-use Rattle.protocol.specs.Sending.{message, the_server, moment_of, data_id, order_number}
-use Rattle.protocol.specs.Choice.{Choice, Ending, Goes, Lost, Stops}
-use Rattle.protocol.specs.Seen.{Taken, no_step}
-use Rattle.protocol.specs.MasterSnapshots.{first_is_true}
-use Rattle.protocol.specs.PushBuffer.{next_hop, hops_after}
+use Rattle.protocol.specs.Sending.{moment_of}
+use Rattle.protocol.specs.PushBuffer.{next_hop}
 use Rattle.client_state.specs.declared.call.CurrentCall.{CurrentCall}
 use Rattle.client_state.specs.declared.kept.Place.{Place}
 use Rattle.client_state.specs.declared.kept.Cached.{Cached}
@@ -46,9 +40,9 @@ use Rattle.client_state.specs.declared.call.Stage.TheVariants.{AskedNames, Asked
 use Rattle.protocol.specs.Client.{file_chunk, place_in_file, ClientState, ClientDoing, client_begins, committed, with_current, answers}
 use Rattle.protocol.specs.ClientCache.{cached, cache_after_look, with_location}
 use Rattle.protocol.specs.ClientFiles.{files_after_close, last_append, with_last_append}
-use Rattle.protocol.specs.ClientAttempts.{is_mutation, is_length, is_append, bytes_to_send, read_start, read_count, wanted_by, has_next_part, is_live_at, completes, last_refusal, gives_up, ended, is_last_attempt, ends_refused, asks, read_planned, reads_next, again_planned, push_planned_to, push_planned, mutate_planned, chunk_of, goes_on_at, will_do, begins_with, begins_at, chunk_to_find, attempts, name_planned, attempts_names, begins_next_part, forgets}
+use Rattle.protocol.specs.ClientAttempts.{is_mutation, is_length, is_append, read_count, has_next_part, is_live_at, completes, last_refusal, gives_up, ended, is_last_attempt, ends_refused, asks, read_planned, reads_next, again_planned, push_planned_to, push_planned, mutate_planned, chunk_of, goes_on_at, will_do, begins_with, begins_at, chunk_to_find, attempts, name_planned, attempts_names, begins_next_part, forgets}
 use Rattle.protocol.specs.ClientTakes.{opens, takes_reply, takes_named, takes_wait, gets, told_none, told_location, told, takes_told, is_own_data, takes_pushed, less_live, succeeds, takes_done, takes_bytes, takes_len_is, master_refuses, stays_live, finds_full, primary_refuses, takes_refused, client_takes}
-use Rattle.protocol.specs.ClientStep.{new_call, calls_names, calls_file, calls_on, fd_of, calls, ticks_names, ends_unanswered, ticks_unanswered, ticks_at, takes_at, client_does, client_at, client_goes, client_call_goes, may_step, client_ends, client_call, client_step}
+use Rattle.protocol.specs.ClientStep.{new_call, calls_names, calls_file, calls_on, fd_of, calls, ticks_names, ends_unanswered, ticks_unanswered, ticks_at, takes_at, client_does}
 use Rattle.protocol_laws.proofs.Steps.{on_cond}
 use Rattle.protocol_laws.proofs.ServerMoves.{IsCameIn}
 

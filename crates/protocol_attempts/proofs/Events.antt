@@ -1,5 +1,5 @@
 -- What holds after each event by cases: the master, a server or a client takes a step, the master or a server starts again, a client is called, or a byte rots.
-use Rattle.std.proofs.Common.{◌≡◌, ℕ, zero, suc, ◌-◌, Bool, List, [], ◌∷◌, ◌++◌, Option, Some, None, refl, sym, ap, subst, ◌∙◌, arith}
+use Rattle.std.proofs.Common.{◌≡◌, ℕ, zero, suc, ◌-◌, Bool, List, [], ◌∷◌, Option, Some, None, refl, subst, arith}
 use Rattle.std.specs.Prelude.{nat_lt, nat_le, ◌&&◌, not, IsTrue}
 use Rattle.std.proofs.lemmas.Bool.{and_parts}
 use Rattle.gfs_types.specs.declared.config.Config.{Config}

@@ -1,5 +1,5 @@
 -- The numbers of a client rise, and what it sends later has later numbers.
-use Rattle.std.proofs.Common.{◌≡◌, ◌⊎◌, ℕ, zero, suc, ◌≤◌, ◌<◌, Bool, true, false, List, [], ◌∷◌, ◌++◌, length, Option, Some, None, refl, sym, ap, subst, ◌∙◌, inl, inr, arith}
+use Rattle.std.proofs.Common.{◌≡◌, ◌⊎◌, ℕ, suc, ◌≤◌, ◌<◌, true, false, List, [], ◌∷◌, ◌++◌, length, Option, Some, None, refl, sym, subst, ◌∙◌, inl, inr, arith}
 use Rattle.std.specs.Prelude.{◌&&◌, max, is_none, IsTrue}
 use Rattle.std.specs.Option.{option_to_list}
 use Rattle.std.proofs.lemmas.Bool.{true≢false}
@@ -16,17 +16,17 @@ use Rattle.protocol.specs.Client.{ClientState, ClientDoing, stopped_client}
 use Rattle.protocol.specs.ClientStep.{client_at, has_room_to_count}
 use Rattle.protocol.specs.MasterStep.{master_step, master_restart}
 use Rattle.protocol.specs.ServerStep.{server_step, server_restart}
-use Rattle.protocol.specs.World.{WorldState, Happened, stamped, after_events, IsReached}
-use Rattle.protocol_laws.proofs.Steps.{none_some, same_some, same_or_not}
+use Rattle.protocol.specs.World.{WorldState, stamped, after_events, IsReached}
+use Rattle.protocol_laws.proofs.Steps.{same_some, same_or_not}
 use Rattle.protocol_laws.proofs.Entries.{AllOf}
 use Rattle.protocol_laws.proofs.RisingOrders.{set_cases}
 use Rattle.protocol_laws.proofs.MembersRecorded.{place_below, place_cases, all_at}
-use Rattle.protocol_laws.proofs.MessagesSent.{IsSent, IsSameMessage, numbered_sent}
+use Rattle.protocol_laws.proofs.MessagesSent.{numbered_sent}
 use Rattle.protocol_attempts.specs.Laws.{is_from_client, waited_data, IsLaterRequest, ClientNumbersRise, LaterRequestsHaveLaterNumbers}
-use Rattle.protocol_attempts.proofs.Events.{HoldsAfter, holds_on, holds_after}
+use Rattle.protocol_attempts.proofs.Events.{HoldsAfter, holds_on}
 use Rattle.protocol_attempts.proofs.ClientNumbers.{IsSaid, IsStepOf, of_step, of_call}
 use Rattle.protocol_attempts.proofs.Senders.{AreNotClients, one_client, server_sends, server_restart_sends, master_sends, master_restart_sends}
-use Rattle.protocol_attempts.proofs.RequestsOnce.{IsNumbered, AreNumbered, AreFrom, not_other, from_itself, own_sender, first_and, at_numbered, each_event, numbered_reached}
+use Rattle.protocol_attempts.proofs.RequestsOnce.{IsNumbered, AreNumbered, not_other, from_itself, own_sender, first_and, at_numbered, each_event, numbered_reached}
 
 -- a client's state is one that comes after another
 abbrev pub IsAfter : ClientState → ClientState → Type 0

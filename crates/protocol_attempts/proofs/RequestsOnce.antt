@@ -1,38 +1,28 @@
 -- A client's requests carry numbers that it used, each once; and its numbers rise.
 use Rattle.std.proofs.Common.{◌≡◌, ◌⊎◌, ℕ, zero, suc, ◌+◌, ◌≤◌, ◌<◌, Bool, true, false, List, [], ◌∷◌, ◌++◌, length, map, Option, Some, None, refl, sym, ap, subst, ◌∙◌, inl, inr, arith}
-use Rattle.std.specs.Prelude.{◌==◌, ◌&&◌, nat_lt, max, is_none, IsTrue}
+use Rattle.std.specs.Prelude.{◌==◌, ◌&&◌, is_none, IsTrue}
 use Rattle.std.specs.Option.{option_to_list}
-use Rattle.std.proofs.lemmas.Bool.{eqb-true, eqb-false, true≢false}
-use Rattle.std.proofs.Math.Nat.{le-max_left}
+use Rattle.std.proofs.lemmas.Bool.{eqb-true, true≢false}
 use Rattle.gfs_types.specs.declared.config.Config.{Config}
 use Rattle.gfs_types.specs.declared.ids.Node.{Node}
-use Rattle.gfs_types.specs.declared.ids.Node.TheVariants as node
-use Rattle.gfs_types.specs.declared.answer.Answer.TheVariants as answer
-use Rattle.gfs_types.specs.declared.refusal.Refusal.TheVariants.{NoMemory}
-use Rattle.gfs_types.specs.declared.call.Call.{Call}
-use Rattle.messages.specs.declared.event.Event.{Event}
-use Rattle.messages.specs.declared.event.Input.{Input}
 use Rattle.messages.specs.declared.message.Body.{Body}
 use Rattle.messages.specs.declared.message.Body.TheVariants as body
 use Rattle.messages.specs.declared.message.Message.{Message}
 use Rattle.client_state.specs.declared.call.CurrentCall.{CurrentCall}
 use Rattle.protocol.specs.Tables.{element_at, with_at, first_numbers}
 use Rattle.protocol.specs.Sending.{the_client}
-use Rattle.protocol.specs.Choice.{Choice, Ending, Goes, Lost, Stops}
-use Rattle.protocol.specs.Seen.{Taken, no_step}
-use Rattle.protocol.specs.MasterSnapshots.{first_is_true}
-use Rattle.protocol.specs.Client.{ClientState, ClientDoing, new_client, stopped_client, client_begins, answers}
-use Rattle.protocol.specs.ClientStep.{client_at, client_goes, client_call_goes, has_room_to_count, may_step, may_call, client_ends, client_call, client_step}
+use Rattle.protocol.specs.Client.{ClientState, ClientDoing, new_client, stopped_client}
+use Rattle.protocol.specs.ClientStep.{client_at, has_room_to_count}
 use Rattle.protocol.specs.MasterStep.{master_step, master_restart}
 use Rattle.protocol.specs.ServerStep.{server_step, server_restart}
-use Rattle.protocol.specs.World.{WorldState, Happened, stamped, new_world, after_events, IsReached}
-use Rattle.protocol_laws.proofs.Steps.{on_cond, none_some, same_some, tally, count-cons, count-append, same_or_not}
+use Rattle.protocol.specs.World.{WorldState, stamped, new_world, IsReached}
+use Rattle.protocol_laws.proofs.Steps.{none_some, same_some, tally, count-cons, count-append, same_or_not}
 use Rattle.protocol_laws.proofs.Entries.{AllOf, same_number}
 use Rattle.protocol_laws.proofs.RisingOrders.{set_cases}
-use Rattle.protocol_laws.proofs.MembersRecorded.{kept_place, place_cases, all_at}
+use Rattle.protocol_laws.proofs.MembersRecorded.{place_cases, all_at}
 use Rattle.protocol_laws.proofs.MessagesSent.{IsSent, IsSameMessage, numbered_sent}
-use Rattle.protocol_attempts.specs.Laws.{is_from_client, is_request, is_mutate, requests_under, mutates_under, data_number, waited_data, IsRequestOf, IsLaterRequest, RequestsAreNumberedOnce, RequestsCarryUsedNumbers, ClientNumbersRise, LaterRequestsHaveLaterNumbers}
-use Rattle.protocol_attempts.proofs.Events.{HoldsAfter, world_reached, holds_on}
+use Rattle.protocol_attempts.specs.Laws.{is_from_client, is_request, is_mutate, requests_under, mutates_under, waited_data, IsRequestOf, RequestsAreNumberedOnce, RequestsCarryUsedNumbers}
+use Rattle.protocol_attempts.proofs.Events.{HoldsAfter, world_reached}
 use Rattle.protocol_attempts.proofs.ClientNumbers.{IsSaid, IsStepOf, of_step, of_call}
 use Rattle.protocol_attempts.proofs.Senders.{AreNotClients, ByBody, count_of, count-stamped, count-with-others, one_client, server_sends, server_restart_sends, master_sends, master_restart_sends}
 

@@ -1,15 +1,12 @@
 -- Who sends: the master and the servers send under their own names, so that no message of theirs is a client's.
-use Rattle.std.proofs.Common.{◌≡◌, ℕ, suc, ◌+◌, Bool, true, false, List, [], ◌∷◌, ◌++◌, map, Option, Some, None, refl, sym, ap, subst, ◌∙◌, arith}
-use Rattle.std.specs.Prelude.{nat_lt, ◌&&◌, count_by}
-use Rattle.gfs_types.specs.declared.ids.Node.{Node}
-use Rattle.gfs_types.specs.declared.ids.Node.TheVariants as node
+use Rattle.std.proofs.Common.{◌≡◌, ℕ, suc, Bool, true, false, List, [], ◌∷◌, ◌++◌, refl, arith}
+use Rattle.std.specs.Prelude.{◌&&◌, count_by}
 use Rattle.messages.specs.declared.message.Body.{Body}
 use Rattle.messages.specs.declared.message.Message.{Message}
 use Rattle.messages.specs.declared.event.Input.{Input}
 use Rattle.messages.specs.declared.event.Input.TheVariants as input
-use Rattle.protocol.specs.Choice.{Choice, Ending, Goes, Lost, Stops, in_order}
+use Rattle.protocol.specs.Choice.{Choice, Ending, Goes, Lost, Stops}
 use Rattle.protocol.specs.Seen.{Taken, no_step}
-use Rattle.protocol.specs.Sending.{the_server, the_client}
 use Rattle.protocol.specs.World.{stamped}
 use Rattle.protocol.specs.Server.{ServerState, ServerDoing}
 use Rattle.protocol.specs.ServerStep.{server_goes, server_ends, server_step, server_restarts, server_restart}
