@@ -1,0 +1,7 @@
+//! Which chunk gets a new replica (GFS paper, section 4.3).
+#![tactic(auto)]
+
+pub mod clone_order;
+pub mod holders;
+pub mod next;
+mod servers;
