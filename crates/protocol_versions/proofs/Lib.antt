@@ -1,1 +1,3 @@
 pub mod EndedLeases
+pub mod ScenesGoOn
+pub mod LeasesStayOver

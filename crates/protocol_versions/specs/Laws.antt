@@ -17,8 +17,10 @@ use Rattle.protocol.specs.Master.{VersionAttempt}
 use Rattle.protocol.specs.Server.{ServerState, primary_of}
 use Rattle.protocol.specs.ServerStep.{server_at}
 use Rattle.protocol.specs.Observer.{observed_moment}
-use Rattle.protocol.specs.World.{WorldState, IsReached}
-use Rattle.protocol_laws.specs.Laws.{HoldsLastingLease}
+use Rattle.messages.specs.declared.event.Event.{Event}
+use Rattle.protocol.specs.Choice.{Choice}
+use Rattle.protocol.specs.World.{WorldState, after_events, IsReached}
+use Rattle.protocol_laws.specs.Laws.{grants_of, HoldsLastingLease}
 
 -- the server that this node is refuses the order by its number
 abbrev pub IsRefusedBy : List ServerState → Node → OrderNo → Type 0
@@ -55,6 +57,12 @@ AttemptedChunksHaveNoLease =
     (config : Config) (servers clients : ℕ) (w : WorldState) → IsReached config servers clients w → IsTrue w.observer.are_clocks_kept → IsTrue w.master.up
     → (handle : ℕ) (a : VersionAttempt) → table.get w.master.attempts handle ≡ Some a → (row : ChunkRow) → chunk_of w.master.logged.table handle ≡ Some row
     → (row.granted < a.version) × AreLeasesOver w handle
+
+-- A lease that was granted and is over stays over in all that follows, as long as clocks are kept: no server holds it so that it lasts, nor will (section 3.1).
+abbrev pub LeasesStayOver : Type 0
+LeasesStayOver =
+    (config : Config) (servers clients : ℕ) (w : WorldState) → IsReached config servers clients w → (handle version : ℕ) → 1 ≤ grants_of handle version w.sent → IsLeaseOver w handle version
+    → (steps : List (Event × Choice)) → IsTrue (after_events w steps).observer.are_clocks_kept → IsLeaseOver (after_events w steps) handle version
 
 -- Under a version whose lease is over no server numbers a mutation: as it begins a step, no lease of it counts for its primary (section 3.1).
 abbrev pub OverLeasesNumberNothing : Type 0
