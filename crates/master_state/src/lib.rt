@@ -5,6 +5,8 @@ pub mod chunks;
 pub mod fault;
 mod hidden;
 pub mod kept;
+pub mod looks;
 pub mod names;
 pub mod nodes;
+pub mod refusals;
 pub mod state;

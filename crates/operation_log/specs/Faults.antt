@@ -1,0 +1,11 @@
+-- The texts of a log's faults.
+use Rattle.std.specs.Prelude.{ℕ, List, codes}
+use Rattle.operation_log.specs.declared.fault.LogFault.{LogFault}
+use Rattle.operation_log.specs.declared.fault.LogFault.TheVariants.{Full, Unwritable, NoMemory, Device, Damaged}
+
+abbrev pub fault_text : LogFault → List ℕ
+fault_text Full = codes "log is full"
+fault_text Unwritable = codes "no log record"
+fault_text NoMemory = codes "no memory"
+fault_text Device = codes "disk failed"
+fault_text Damaged = codes "log is damaged"
