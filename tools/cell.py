@@ -137,7 +137,7 @@ class Cell:
         return self.looked_up('handle_at', file, index)
 
     def regions(self, file, index):
-        return [(r['from'], r['to'], r['is_determined']) for r in self.looked_up('regions_at', file, index)]
+        return [(r['from'], r['to'], r['determined']) for r in self.looked_up('regions_at', file, index)]
 
     def replicas(self, file, index):
         return [(r['server'], r['version'], r['count']) for r in self.looked_up('replicas_at', file, index)['1']]

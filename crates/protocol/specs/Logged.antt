@@ -8,7 +8,7 @@ use Rattle.gfs_types.specs.Paths.{Path}
 use Rattle.relaxed_file.specs.Names.{Names, Node, Dir, File, first_names, node_at, copied_entries, with_copies, id_after, id_after_all}
 use Rattle.relaxed_file.specs.NameStep.{with_node, hidden}
 use Rattle.protocol.specs.Tables.{Table, removed_all}
-use Rattle.chunk_table.specs.ChunkTable.{ChunkRow, ChunkTable, new_row, new_chunk_table, row_shared, handles_of, add_file, add_chunk, copy_file, drop_file, change_row, with_row, issue, grant, swap}
+use Rattle.chunk_table.specs.ChunkTable.{ChunkRow, ChunkTable, new_row, new_chunk_table, handles_of, add_file, add_chunk, copy_file, drop_file, change_row, with_row, issue, grant, put_file, swap}
 use Rattle.protocol.specs.Sending.{client_id, file_id, handle_of, version_of, server_id}
 
 -- A client's last changing name call, and its answer: Done where there is no refusal.
@@ -86,15 +86,6 @@ abbrev pub swapped_in : Logged → ℕ → Option Copy → Logged
 swapped_in l handle None = l
 swapped_in l handle (Some c) = record l { table = swap l.table c.file c.index c.source handle; copies = table.remove l.copies handle }
 
--- a chunk of a file item, with one owner more
-abbrev pub owned_row : Option ChunkRow → ChunkRow
-owned_row None = record new_row { references = 1 }
-owned_row (Some row) = row_shared row
-
-abbrev pub with_owned : Table ChunkRow → List ℕ → Table ChunkRow
-with_owned rows [] = rows
-with_owned rows (handle ∷ rest) = with_owned (table.insert rows handle (owned_row (table.get rows handle))) rest
-
 -- the state after a record or an item
 abbrev pub after_record : Logged → Record → Logged
 after_record l (log.Epoch epoch) = record l { epoch = epoch }
@@ -122,10 +113,7 @@ after_record l (log.CopyStart file index handle copy copy_version) =
 after_record l (log.Counters next_file next_handle epoch) = record l { next_file = next_file.0; next_handle = next_handle.0; epoch = epoch }
 after_record l (log.DirItem path) = record l { names = table.insert l.names path Dir }
 after_record l (log.FileItem path file handles) =
-    record l {
-      names = table.insert l.names path (File file.0);
-      table = record { files = table.insert l.table.files file.0 handles; chunks = with_owned l.table.chunks handles };
-    }
+    record l { names = table.insert l.names path (File file.0); table = put_file l.table file.0 handles }
 after_record l (log.ChunkItem handle granted issued primary members) =
     record l { table = change_row l.table handle.0 (λ row. record row { granted = granted.0; issued = issued.0; primary = primary.0; members = members }) }
 after_record l (log.ClientItem client n refusal) = with_answer l client.0 n refusal

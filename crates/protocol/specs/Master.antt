@@ -14,6 +14,7 @@ use Rattle.gfs_types.specs.Paths.{Path}
 use Rattle.protocol.specs.Tables.{Table, first_numbers, removed_all}
 use Rattle.protocol.specs.Sending.{message, the_server}
 use Rattle.chunk_table.specs.ChunkTable.{ChunkRow, ChunkTable, set_end}
+use Rattle.leases.specs.LeaseEnds.{has_ended}
 use Rattle.protocol.specs.LogSizes.{record_fits, checkpoint_fits}
 use Rattle.protocol.specs.Logged.{Logged, first_logged, LogDisk, LogChange, AppendRecord, WriteCheckpoint, log_changed, after_record, checkpoint_of, copies_given_up}
 use Rattle.protocol.specs.declared.seen.Seen.{Seen}
@@ -191,10 +192,6 @@ current_holders m handle row = holders_where m handle (λ v. nat_le row.granted 
 
 abbrev pub present_current_holders : MasterState → ℕ → ChunkRow → List HeldAt
 present_current_holders m handle row = filter (λ h. is_present m h.server) (current_holders m handle row)
-
--- whether the chunk's lease has ended for the master
-abbrev pub has_ended : ChunkRow → ℕ → Bool
-has_ended row now = nat_le row.lease_end now
 
 -- the lease of a chunk that was granted has not ended
 abbrev pub has_lease : MasterState → ChunkRow → Bool

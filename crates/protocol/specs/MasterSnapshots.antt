@@ -17,7 +17,8 @@ use Rattle.protocol.specs.Tables.{has_number, rising}
 use Rattle.protocol.specs.Sending.{the_client, client_id, handle_of, version_of}
 use Rattle.chunk_table.specs.ChunkTable.{ChunkRow, ChunkTable, handles_of, chunk_of}
 use Rattle.protocol.specs.Logged.{Logged, copies_that}
-use Rattle.protocol.specs.Master.{MasterState, MasterDoing, PendingSnapshot, tells, orders, logs, without_attempts, gives_up_copies, has_lease, has_ended}
+use Rattle.protocol.specs.Master.{MasterState, MasterDoing, PendingSnapshot, tells, orders, logs, without_attempts, gives_up_copies, has_lease}
+use Rattle.leases.specs.LeaseEnds.{has_ended}
 
 abbrev pub node_handles : ChunkTable → Node → List ℕ
 node_handles t Dir = []

@@ -18,7 +18,8 @@ use Rattle.protocol.specs.Tables.{Table, removed_all, element_at, rising, has_nu
 use Rattle.protocol.specs.Sending.{the_server, file_id, handle_of, version_of, moment_of, order_number}
 use Rattle.protocol.specs.Logged.{Logged, after_record, swapped_in}
 use Rattle.chunk_table.specs.ChunkTable.{ChunkRow, new_row, changed_by, chunk_of, file_of, handles_of, grant}
-use Rattle.protocol.specs.Master.{MasterDoing, VersionAttempt, HeldAt, tells, orders, ends_at, with_attempt, gives_up_copy, appends, writes_checkpoint, holders_where, current_holders, has_ended}
+use Rattle.protocol.specs.Master.{MasterDoing, VersionAttempt, HeldAt, tells, orders, ends_at, with_attempt, gives_up_copy, appends, writes_checkpoint, holders_where, current_holders}
+use Rattle.leases.specs.LeaseEnds.{has_ended}
 use Rattle.protocol.specs.MasterSnapshots.{revokes, waits_for}
 use Rattle.protocol.specs.MasterVersions.{Asker, VersionTarget, target_servers, holder_line, group_of, tells_location, tells_holders, tells_none, tells_to_wait, version_order, sends_versions, new_attempt, sends_issued, issues_to, targets_by, recorded_holders, issues_own, is_attempted, copy_order, sends_copies, copy_targets, sends_copy_started, copies_to, begins_copy, copy_for, is_copied, wants_own, wants_own_of, issues_copy, wants_copy, wants_by, wants_primary, holder_target, sends_grant, grants_to, is_complete, with_recorded, learns_attempt, learns}
 use Rattle.protocol.specs.MasterAsks.{looks_at_row, looks_at, mutates_row, mutates_at, adds_chunk, with_index, asks_to_write, asks_to_append, asks_for_last, asks_for, asks_of, takes_ask}

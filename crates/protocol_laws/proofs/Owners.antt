@@ -11,8 +11,7 @@ use Rattle.std.specs.FinMap.Entries.{find, put, by_order}
 use Rattle.std.specs.declared.cmp.Ordering.{Ordering}
 use Rattle.std.specs.declared.cmp.Ordering.TheVariants.{Less, Equal, Greater}
 use Rattle.protocol.specs.Tables.{removed_all, element_at, with_at}
-use Rattle.chunk_table.specs.ChunkTable.{ChunkRow, ChunkTable, new_row, new_chunk_table, row_shared, changed_by, share_one, share_all, left_by, leave_one, leave_all, handles_of, add_file, add_chunk, copy_file, drop_file, with_row, swap}
-use Rattle.protocol.specs.Logged.{owned_row, with_owned}
+use Rattle.chunk_table.specs.ChunkTable.{ChunkRow, ChunkTable, new_row, new_chunk_table, row_shared, changed_by, share_one, share_all, left_by, leave_one, leave_all, handles_of, add_file, add_chunk, copy_file, drop_file, with_row, swap, owned_row, with_owned}
 use Rattle.protocol_laws.specs.Laws.{times_in}
 use Rattle.protocol_laws.proofs.Steps.{on_cond, none_some, same_some, tally, count-cons, count-append, same_or_not, put_there, put_other, gone_there, gone_other, now_gone}
 use Rattle.protocol_laws.proofs.Entries.{same_number}

@@ -14,8 +14,8 @@ use Rattle.relaxed_file.specs.Names.{Node, Dir, File}
 use Rattle.relaxed_file.proofs.NamesTree.{Tree}
 use Rattle.protocol.specs.Tables.{Table, removed_all}
 use Rattle.protocol.specs.Sending.{file_id, handle_of}
-use Rattle.chunk_table.specs.ChunkTable.{ChunkRow, ChunkTable, handles_of}
-use Rattle.protocol.specs.Logged.{Logged, KeptCall, Copy, first_logged, after_record, after_records, copies_given_up, all_copies_given_up, owned_row, with_owned, checkpoint_of, name_item, node_item, chunk_item, client_item}
+use Rattle.chunk_table.specs.ChunkTable.{ChunkRow, ChunkTable, handles_of, owned_row, with_owned}
+use Rattle.protocol.specs.Logged.{Logged, KeptCall, Copy, first_logged, after_record, after_records, copies_given_up, all_copies_given_up, checkpoint_of, name_item, node_item, chunk_item, client_item}
 use Rattle.protocol_laws.specs.Laws.{times_in}
 use Rattle.protocol_laws.proofs.Steps.{none_some, same_some, removed_cases, now_gone}
 use Rattle.protocol_laws.proofs.Entries.{AllOf, all_filtered, all_found, IsFound, same_number}

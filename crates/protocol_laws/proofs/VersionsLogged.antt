@@ -9,8 +9,8 @@ use Rattle.log_records.specs.declared.record.Record.TheVariants as log
 use Rattle.gfs_types.specs.Paths.{Path}
 use Rattle.relaxed_file.specs.Names.{Node, Dir, File, copied_entries}
 use Rattle.protocol.specs.Sending.{file_id, handle_of}
-use Rattle.chunk_table.specs.ChunkTable.{ChunkRow, ChunkTable, new_row, row_shared, changed_by, handles_of, row_granted}
-use Rattle.protocol.specs.Logged.{Logged, KeptCall, first_logged, after_record, after_records, swapped_in, owned_row, with_owned, checkpoint_of, name_item, node_item, chunk_item, client_item}
+use Rattle.chunk_table.specs.ChunkTable.{ChunkRow, ChunkTable, new_row, row_shared, changed_by, handles_of, row_granted, owned_row, with_owned}
+use Rattle.protocol.specs.Logged.{Logged, KeptCall, first_logged, after_record, after_records, swapped_in, checkpoint_of, name_item, node_item, chunk_item, client_item}
 use Rattle.protocol_laws.proofs.Steps.{none_some, same_some, put_split}
 use Rattle.protocol_laws.proofs.Entries.{AllOf, all_filtered, all_found, IsFound}
 use Rattle.protocol_laws.proofs.MasterMoves.{IsDue}
