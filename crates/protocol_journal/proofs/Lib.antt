@@ -1,0 +1,4 @@
+pub mod Nodes
+pub mod Views
+pub mod Entries
+pub mod Journals
