@@ -59,7 +59,7 @@ same_mutation (Pad a) (Pad b) = a == b
 same_mutation m other = false
 
 abbrev pub same_entry : Entry → Entry → Bool
-same_entry a b = same_call a.call b.call && (a.round == b.round) && same_mutation a.mutation b.mutation
+same_entry a b = same_call a.call b.call && (a.round == b.round) && same_mutation a.mutation b.mutation && (if a.settled then b.settled else not b.settled)
 
 -- some entries of an order in their places, none of a later round, and no settled one up to it left out
 abbrev pub is_chosen : ℕ → List Entry → List Entry → Bool
@@ -114,7 +114,7 @@ abbrev pub after_round : Option ℕ → List ℕ → List ℕ
 after_round None rounds = rounds
 after_round (Some round) rounds = drop 1 rounds
 
--- Bytes and rounds of a read from a chunk on: one piece for each part, up to the first that is shorter than its part. The first number bounds the parts.
+-- Bytes and rounds of a read from a chunk on: one piece for each part, up to the first that is shorter than its part. There are fewer parts than the first number.
 abbrev pub is_read_as : ℕ → ℕ → ℕ → ℕ → List Piece → ℕ → List ℕ → List ℕ → Bool
 is_read_as zero size offset count found index bytes rounds = false
 is_read_as (suc fuel) size offset count found index bytes rounds =
@@ -133,7 +133,7 @@ IsAnswer m client current (call.Write fd offset bytes) answer.Done =
 IsAnswer m client current (call.Append fd bytes) (answer.At x) = IsSomeAnd current.asked.file (λ file. (x / m.config.chunk < chunk_count m file)
     × HasOne m client (record { client = client; number = current.number }) file (x / m.config.chunk) (is_append_at (x % m.config.chunk)))
 IsAnswer m client current (call.Read fd offset count) (answer.Bytes bytes rounds) =
-    IsFalse (is_range_too_long offset count) × IsSome current.asked.file × IsTrue (is_read_as 64 m.config.chunk offset count current.pieces (offset / m.config.chunk) bytes rounds)
+    IsFalse (is_range_too_long offset count) × IsSome current.asked.file × IsTrue (is_read_as (suc (suc ((offset + count) / m.config.chunk))) m.config.chunk offset count current.pieces (offset / m.config.chunk) bytes rounds)
 IsAnswer m client current (call.Length fd) (answer.Length n) = Contains current.lengths n
 IsAnswer m client current other reply = Contains current.outcomes (Replies reply)
 

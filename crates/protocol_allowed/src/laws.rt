@@ -1,0 +1,8 @@
+//! Laws that tie the computed form of what the relaxed-file machine allows to its relation.
+
+ghost use Rattle.protocol_allowed.specs.Laws.{WhatIsComputedIsAllowed};
+
+/// Each action that the computed form allows is one that the machine allows.
+pub fn what_is_computed_is_allowed()
+    ensures { WhatIsComputedIsAllowed }
+{}
