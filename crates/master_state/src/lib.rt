@@ -9,4 +9,5 @@ pub mod kept;
 pub mod looks;
 pub mod names;
 pub mod refusals;
+pub mod room;
 pub mod state;
