@@ -76,7 +76,7 @@ pub record Acts (start : LogDisk) (Q : Core → Attempts → Type 0) : Type 0 wh
   pub ends : (c : Core) (attempts : Attempts) (handle : ℕ) → Q c attempts → Q (core_ended c handle 0) attempts
   pub extends : (c : Core) (attempts : Attempts) (handle until : ℕ) (row : ChunkRow) → chunk_of c.logged.table handle ≡ Some row → Q c attempts → Q (core_extended c handle row.granted until row.primary) attempts
 
-both_false : (a b : Bool) → a && not b ≡ true → b ≡ false
+pub both_false : (a b : Bool) → a && not b ≡ true → b ≡ false
 both_false true true h = absurd (let both : false ≡ true = h in cc)
 both_false true false h = refl
 both_false false b h = absurd (let both : false ≡ true = h in cc)

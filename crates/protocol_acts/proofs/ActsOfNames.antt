@@ -29,7 +29,7 @@ use Rattle.protocol_laws.proofs.LeasesEnded.{fewer_ready, less_ready}
 use Rattle.protocol_laws.proofs.Namespace.{IsNamespace, IsNamed, IsAmong, AreAllApart, without_snapshot, filtered_namespace, all_among, all_still_among, mkdir_named, rmdir_named, create_named, delete_named, rename_named, waits_named, taken_named}
 use Rattle.protocol_laws.proofs.CopiesUnderWay.{AreCopied, listed_copied}
 use Rattle.protocol_laws.proofs.MasterMoves.{Core, core_of, Nothing, IsDue, IsNoGrantRecord, logs_snapshots}
-use Rattle.protocol_versions.proofs.MasterActs.{rowing_keeps, Attempts, Acts, Here, tells_here, less_here, logs_all}
+use Rattle.protocol_acts.proofs.MasterActs.{rowing_keeps, Attempts, Acts, Here, tells_here, less_here, logs_all}
 use Rattle.protocol.specs.Master.{VersionAttempt}
 
 settled_snapshots : (d : MasterDoing) (client number : ℕ) (r : Record) (o : Option Refusal) (ss : List PendingSnapshot) → d.master.snapshots ≡ ss → (settles_name d client number r o).master.snapshots ≡ ss

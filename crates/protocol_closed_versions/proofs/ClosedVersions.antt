@@ -1,12 +1,11 @@
 -- A version that is closed is granted no more: the next number of its chunk is above it, and so is what is attempted.
-use Rattle.std.proofs.Common.{◌≡◌, ◌⊎◌, ℕ, suc, ◌+◌, ◌≤◌, ◌<◌, Bool, true, false, List, [], ◌∷◌, ◌++◌, take, drop, Option, Some, None, refl, sym, ap, subst, ◌∙◌, inl, inr, arith}
+use Rattle.std.proofs.Common.{◌≡◌, ℕ, suc, ◌+◌, ◌≤◌, ◌<◌, Bool, true, false, List, [], ◌∷◌, ◌++◌, take, drop, Option, Some, None, refl, sym, ap, subst, ◌∙◌, inl, inr, arith}
 use Rattle.std.specs.Prelude.{◌==◌, ◌&&◌, nat_le, nat_lt, IsTrue}
 use Rattle.std.specs.Ordering.{nat_cmp}
 use Rattle.std.specs.FinMap as table
 use Rattle.std.proofs.lemmas.Bool.{eqb-true, and_parts}
 use Rattle.std.proofs.Math.Nat.{le-max_left}
 use Rattle.gfs_types.specs.declared.config.Config.{Config}
-use Rattle.gfs_types.specs.declared.ids.OrderNo.{OrderNo}
 use Rattle.messages.specs.declared.event.Event.{Event}
 use Rattle.messages.specs.declared.event.Input.{Input}
 use Rattle.messages.specs.declared.message.Body.{Body}
@@ -16,29 +15,29 @@ use Rattle.log_records.specs.declared.record.Record.{Record}
 use Rattle.log_records.specs.declared.record.Record.TheVariants as log
 use Rattle.relaxed_file.specs.Names.{copied_entries}
 use Rattle.relaxed_file.proofs.NamesTree.{Tree}
-use Rattle.protocol.specs.Choice.{Choice, Ending, Goes, Lost, Stops, in_order, decided_changes}
+use Rattle.protocol.specs.Choice.{Choice, Ending, Goes, Lost, Stops, in_order}
 use Rattle.protocol.specs.Seen.{Taken, no_step}
 use Rattle.protocol.specs.Sending.{order_number}
 use Rattle.protocol.specs.Tables.{removed_all}
 use Rattle.chunk_table.specs.ChunkTable.{ChunkRow, new_row, row_granted, set_end}
-use Rattle.protocol.specs.Logged.{Logged, Copy, LogDisk, LogChange, AppendRecord, WriteCheckpoint, first_logged, log_changed, log_changed_by_all, after_record, after_records, checkpoint_of, copies_given_up, all_copies_given_up, swapped_in, replayed}
+use Rattle.protocol.specs.Logged.{Logged, Copy, LogDisk, LogChange, AppendRecord, WriteCheckpoint, first_logged, log_changed, log_changed_by_all, after_record, after_records, checkpoint_of, copies_given_up, all_copies_given_up, replayed}
 use Rattle.protocol.specs.Master.{MasterState, MasterDoing, VersionAttempt, stopped_master, master_begins, writes_checkpoint}
-use Rattle.protocol.specs.MasterStep.{master_at, master_goes, master_ends, master_bounded, master_step, master_restart, is_within_limits, may_end, found_log, lease_after_restart, started_master, opening, has_opened, opens_as}
+use Rattle.protocol.specs.MasterStep.{master_goes, master_ends, master_bounded, master_step, is_within_limits, may_end, found_log, lease_after_restart, started_master, opening, has_opened, opens_as}
 use Rattle.protocol.specs.ServerStep.{server_step, server_restart}
-use Rattle.protocol.specs.World.{WorldState, stamped, after_events, IsReached}
+use Rattle.protocol.specs.World.{WorldState, stamped, after_events}
 use Rattle.protocol_laws.specs.Laws.{is_grant, grants_of}
 use Rattle.protocol_laws.proofs.Steps.{on_cond, none_some, same_some, tally, put_cases, gone_split, removed_cases, count-cons, count-append}
 use Rattle.protocol_laws.proofs.Entries.{AllOf, mapped_cases}
-use Rattle.protocol_laws.proofs.Words.{is_of_lease, no_order}
+use Rattle.protocol_laws.proofs.Words.{no_order}
 use Rattle.protocol_laws.proofs.ChunkRows.{Rows, rows_of, OwnedFrom, removed_owned, all_copied_owned, swapped_owned, expired_owned}
 use Rattle.protocol_laws.proofs.VersionsAhead.{changed_cases}
-use Rattle.protocol_laws.proofs.MasterMoves.{Core, core_of, core_changed, core_appended, core_ended, core_granted, grant_record, IsDue, IsNoGrantRecord, IsPlainOrder, NoneEnded, Keeps, logs_alone}
+use Rattle.protocol_laws.proofs.MasterMoves.{Core, core_of, core_changed, core_appended, core_ended, core_granted, grant_record, IsDue, IsNoGrantRecord, IsPlainOrder, logs_alone}
 use Rattle.protocol_laws.proofs.ClientMoves.{HasNoOrder, quiet_orders}
 use Rattle.protocol_laws.proofs.SentReached.{without_order, count-sent, server_quiet, server_restarts_quiet}
 use Rattle.protocol_laws.proofs.OrderNumbers.{state_of, state-appended, AllStops, stops_push, AllFound, found_same, found_stopped}
 use Rattle.protocol_laws.proofs.LoggedParts.{Parts, parts_of, checkpoint_parts}
 use Rattle.protocol_laws.proofs.GrantedIssued.{IsIssued}
-use Rattle.protocol_laws.proofs.NamesReached.{without_end, IsGood, IsUpToLog, IsLogged, opening_first, opening_naming}
+use Rattle.protocol_laws.proofs.NamesReached.{IsGood, IsUpToLog, IsLogged, opening_first, opening_naming}
 use Rattle.protocol_laws.proofs.CountsLogged.{next_grows}
 use Rattle.protocol_laws.proofs.CountsKept.{counts_kept}
 use Rattle.protocol_laws.proofs.RowsFit.{granted_logged, same_row}
@@ -49,12 +48,13 @@ use Rattle.protocol_laws.proofs.GrantsOnce.{row_below}
 use Rattle.protocol_laws.proofs.RevokesNumbered.{IsOfRevokes, revokes_kept}
 use Rattle.protocol_laws.proofs.LeasesTimely.{IsOfTimes, times_kept}
 use Rattle.protocol_laws.proofs.ScenesReached.{Scene, scene_of, IsKeptByScenes, lifted, scene_reached}
-use Rattle.protocol_versions.specs.Laws.{IsLeaseOver, IsClosed, ClosedVersionsStayClosed}
-use Rattle.protocol_versions.proofs.ScenesGoOn.{IsKeptOn, goes_on, kept_on}
+use Rattle.protocol_versions.specs.Laws.{IsLeaseOver}
+use Rattle.protocol_closed_versions.specs.Laws.{ClosedVersionsStayClosed}
+use Rattle.protocol_versions.proofs.ScenesGoOn.{IsKeptOn, goes_on}
 use Rattle.protocol_versions.proofs.EndedLeases.{over_by_row}
 use Rattle.protocol_versions.proofs.LeasesStayOver.{over_later}
-use Rattle.protocol_versions.proofs.MasterActs.{IsRowing, rowing_keeps, Attempts, Acts}
-use Rattle.protocol_versions.proofs.ActsOfSteps.{goes_acts}
+use Rattle.protocol_acts.proofs.MasterActs.{IsRowing, rowing_keeps, Attempts, Acts}
+use Rattle.protocol_acts.proofs.ActsOfSteps.{goes_acts}
 
 module _ (handle version : ℕ) where
   -- the chunk's handle was used, and its row says that the version was issued

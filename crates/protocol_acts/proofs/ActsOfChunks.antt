@@ -18,7 +18,8 @@ use Rattle.protocol.specs.Tables.{Table, removed_all, element_at, rising, has_nu
 use Rattle.protocol.specs.Sending.{the_server, file_id, handle_of, version_of, moment_of, order_number}
 use Rattle.protocol.specs.Logged.{Logged, LogDisk, checkpoint_of, after_record, swapped_in}
 use Rattle.chunk_table.specs.ChunkTable.{ChunkRow, new_row, changed_by, chunk_of, file_of, handles_of, grant}
-use Rattle.protocol.specs.Master.{MasterDoing, VersionAttempt, HeldAt, tells, orders, ends_at, with_attempt, gives_up_copy, appends, writes_checkpoint, fits, is_of_copy, logs_after_checkpoint, holders_where, current_holders, has_ended}
+use Rattle.protocol.specs.Master.{MasterDoing, VersionAttempt, HeldAt, tells, orders, ends_at, with_attempt, gives_up_copy, appends, writes_checkpoint, fits, is_of_copy, logs_after_checkpoint, holders_where, current_holders}
+use Rattle.leases.specs.LeaseEnds.{has_ended}
 use Rattle.protocol.specs.MasterSnapshots.{revokes, waits_for}
 use Rattle.protocol.specs.MasterVersions.{Asker, VersionTarget, target_servers, holder_line, group_of, tells_location, tells_holders, tells_none, tells_to_wait, version_order, sends_versions, new_attempt, sends_issued, issues_to, targets_by, recorded_holders, issues_own, is_attempted, copy_order, sends_copies, copy_targets, sends_copy_started, copies_to, begins_copy, copy_for, is_copied, wants_own, wants_own_of, issues_copy, wants_copy, wants_by, wants_primary, holder_target, sends_grant, grants_to, is_complete, with_recorded, learns_attempt, learns}
 use Rattle.protocol.specs.MasterAsks.{looks_at_row, looks_at, mutates_row, mutates_at, adds_chunk, with_index, asks_to_write, asks_to_append, asks_for_last, asks_for, asks_of, takes_ask}
@@ -32,8 +33,8 @@ use Rattle.protocol_laws.proofs.LeasesEnded.{HasEnded, ended_issued, ended_remov
 use Rattle.protocol_laws.proofs.Namespace.{IsNamed}
 use Rattle.protocol_laws.proofs.VersionAttempts.{IsTold, fewer_told, one_told, both_of, AreTargets, holder_targets, holders_servers, targets_servers, copy_servers}
 use Rattle.protocol_laws.proofs.MasterMoves.{Core, core_of, grant_record, Nothing, NoneEnded, IsDue, due_later, removed_other, IsPlainOrder, Keeps, IsAfter, record_names, names_later}
-use Rattle.protocol_versions.proofs.MasterActs.{IsRowing, rowing_keeps, Attempts, Acts, both_false, Base, Here, IsFrom, tells_here, orders_here, less_here, ends_here, extends_here, checkpoint_here, logs_here}
-use Rattle.protocol_versions.proofs.ActsOfNames.{revokes_acts}
+use Rattle.protocol_acts.proofs.MasterActs.{IsRowing, rowing_keeps, Attempts, Acts, both_false, Base, Here, IsFrom, tells_here, orders_here, less_here, ends_here, extends_here, checkpoint_here, logs_here}
+use Rattle.protocol_acts.proofs.ActsOfNames.{revokes_acts}
 use Rattle.gfs_types.specs.declared.ids.FileId.{FileId}
 use Rattle.gfs_types.specs.declared.ids.Handle.{Handle}
 use Rattle.protocol.specs.LogSizes.{checkpoint_fits}
@@ -293,7 +294,7 @@ module _ (start : LogDisk) (Q : Core → Attempts → Type 0) (acts : Acts start
   adds_acts d a lost there last h =
       let handle : ℕ = d.master.logged.next_handle in
       logs_here start Q acts d (log.AddChunk (file_id a.file) (handle_of handle)) (λ e. mutates_at e a lost (Some handle)) (refl, there) tt (λ asks. record { due = tt; after = h.0.2 asks })
-      (λ e after. mutates_at_acts e a lost (Some handle) (λ other same. subst (λ (n : ℕ). IsPlaced e a n) (same_some handle other same) (added_placed d a handle e last after))) h
+      (λ e after from. mutates_at_acts e a lost (Some handle) (λ other same. subst (λ (n : ℕ). IsPlaced e a n) (same_some handle other same) (added_placed d a handle e last after))) h
 
   looks_row_acts : (d : MasterDoing) (a : Asker) (handle : ℕ) (o : Option ChunkRow) → Here start Q acts d → Here start Q acts (looks_at_row d a handle o)
   looks_row_acts d a handle None h = h

@@ -26,9 +26,9 @@ use Rattle.protocol_laws.proofs.MasterMoves.{Core, core_of, Nothing}
 use Rattle.protocol_laws.proofs.NamesReached.{IsUpToLog, IsLogged}
 use Rattle.protocol_laws.proofs.RowsLogged.{IsFoundRows, IsRowedLog}
 use Rattle.protocol_laws.proofs.RowsKept.{rows_kept}
-use Rattle.protocol_versions.proofs.MasterActs.{IsRowing, Attempts, Acts, Here, orders_here, less_here, logs_all}
-use Rattle.protocol_versions.proofs.ActsOfNames.{name_acts, look_acts, ready_acts}
-use Rattle.protocol_versions.proofs.ActsOfChunks.{ask_acts, takes_recorded_acts, takes_revoked_acts, report_acts}
+use Rattle.protocol_acts.proofs.MasterActs.{IsRowing, Attempts, Acts, Here, orders_here, less_here, logs_all}
+use Rattle.protocol_acts.proofs.ActsOfNames.{name_acts, look_acts, ready_acts}
+use Rattle.protocol_acts.proofs.ActsOfChunks.{ask_acts, takes_recorded_acts, takes_revoked_acts, report_acts}
 
 module _ (start : LogDisk) (Q : Core → Attempts → Type 0) (acts : Acts start Q) where
   expires_acts : (d : MasterDoing) (files : List ℕ) → Here start Q acts d → Here start Q acts (expires_all d files)
