@@ -6,3 +6,10 @@ pub mod Successes
 pub mod Pieces
 pub mod Returns
 pub mod Whole
+pub mod Begins
+pub mod Chosen
+pub mod StepsBack
+pub mod SuccessesBack
+pub mod ReadsBack
+pub mod ReturnsBack
+pub mod WholeBack

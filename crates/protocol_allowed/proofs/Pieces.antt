@@ -28,15 +28,15 @@ rounds_are None rounds rest h same = same
 rounds_are (Some round) [] rest h same = absurd (let both : false ≡ true = h in cc)
 rounds_are (Some round) (first ∷ more) rest h same = let one : round ≡ first = eqb-true round first h in let less : more ≡ rest = same in cc
 
-module _ (size offset count : ℕ) (found : List Piece) where
-  -- the test of one piece, from what is asked of the rest
-  abbrev is_first : ℕ → List ℕ → List ℕ → Bool → Piece → Bool
-  is_first index bytes rounds more piece =
-      (piece.index == index) && bytes_eq (take (length piece.bytes) bytes) piece.bytes && has_first_round piece.round rounds
-      && (if nat_lt (length piece.bytes) (part_length size offset count index)
-      then (length bytes == length piece.bytes) && (length (after_round piece.round rounds) == 0)
-      else more)
+-- the test of one piece, from what is asked of the rest
+abbrev pub is_first : ℕ → ℕ → ℕ → ℕ → List ℕ → List ℕ → Bool → Piece → Bool
+is_first size offset count index bytes rounds more piece =
+    (piece.index == index) && bytes_eq (take (length piece.bytes) bytes) piece.bytes && has_first_round piece.round rounds
+    && (if nat_lt (length piece.bytes) (part_length size offset count index)
+    then (length bytes == length piece.bytes) && (length (after_round piece.round rounds) == 0)
+    else more)
 
+module _ (size offset count : ℕ) (found : List Piece) where
   module _ (index : ℕ) (bytes rounds : List ℕ) (part : IsTrue (has_part size offset count index)) (piece : Piece) (there : Contains found piece)
       (place : piece.index ≡ index) (same : take (length piece.bytes) bytes ≡ piece.bytes) (first : IsTrue (has_first_round piece.round rounds)) where
     short : nat_lt (length piece.bytes) (part_length size offset count index) ≡ true → IsTrue ((length bytes == length piece.bytes) && (length (after_round piece.round rounds) == 0))
@@ -67,7 +67,7 @@ module _ (size offset count : ℕ) (found : List Piece) where
 
   by_piece : (index : ℕ) (bytes rounds : List ℕ) → IsTrue (has_part size offset count index) → (piece : Piece) → Contains found piece
       → (more : Bool) → (IsTrue more → AreRead size offset count found (suc index) (drop (length piece.bytes) bytes) (after_round piece.round rounds))
-      → IsTrue (is_first index bytes rounds more piece) → AreRead size offset count found index bytes rounds
+      → IsTrue (is_first size offset count index bytes rounds more piece) → AreRead size offset count found index bytes rounds
   by_piece index bytes rounds part piece there more later h =
       let parts : ((piece.index == index) ≡ true) × (bytes_eq (take (length piece.bytes) bytes) piece.bytes ≡ true) × (has_first_round piece.round rounds ≡ true) × _ =
       all_four (piece.index == index) (bytes_eq (take (length piece.bytes) bytes) piece.bytes) (has_first_round piece.round rounds) _ h in
@@ -77,10 +77,10 @@ module _ (size offset count : ℕ) (found : List Piece) where
   by_part : (index : ℕ) (bytes rounds : List ℕ) (more : Piece → Bool)
       → ((piece : Piece) → IsTrue (more piece) → AreRead size offset count found (suc index) (drop (length piece.bytes) bytes) (after_round piece.round rounds))
       → (b : Bool) → has_part size offset count index ≡ b
-      → IsTrue (cond b (list_any (λ piece. is_first index bytes rounds (more piece) piece) found) ((length bytes == 0) && (length rounds == 0)))
+      → IsTrue (cond b (list_any (λ piece. is_first size offset count index bytes rounds (more piece) piece) found) ((length bytes == 0) && (length rounds == 0)))
       → AreRead size offset count found index bytes rounds
   by_part index bytes rounds more later true part g =
-      let at : (piece : Piece) × Contains found piece × IsTrue (is_first index bytes rounds (more piece) piece) = found_in (λ piece. is_first index bytes rounds (more piece) piece) found g in
+      let at : (piece : Piece) × Contains found piece × IsTrue (is_first size offset count index bytes rounds (more piece) piece) = found_in (λ piece. is_first size offset count index bytes rounds (more piece) piece) found g in
       by_piece index bytes rounds part at.0 at.1 (more at.0) (later at.0) at.2
   by_part index bytes rounds more later false part g =
       let both : ((length bytes == 0) ≡ true) × ((length rounds == 0) ≡ true) = and_parts _ _ g in
