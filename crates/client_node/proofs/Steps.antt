@@ -19,7 +19,7 @@ choice_of ending refused = record { ending = ending; order = []; refused = refus
 abbrev pub out_of : Effects → StepOut
 out_of e = record { sent = option_to_list e.sent; answer = e.answer; down = false }
 
-gave : (s : ClientState) (d : ClientDoing) (e : Effects) (new : ClientState) → d ≡ doing new e → Gives (client_ends s d Goes) (out_of e) new
+pub gave : (s : ClientState) (d : ClientDoing) (e : Effects) (new : ClientState) → d ≡ doing new e → Gives (client_ends s d Goes) (out_of e) new
 gave s d e new h = record {
   out_is = ap (λ (x : ClientDoing). (client_ends s x Goes).out) h;
   state_is = ap (λ (x : ClientDoing). (client_ends s x Goes).state) h;

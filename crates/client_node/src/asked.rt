@@ -5,7 +5,7 @@ ghost use Rattle.relaxed_file.specs.Parts.{is_range_too_long};
 ghost use Rattle.relaxed_file.specs.NameStep.{is_look, is_name_call};
 ghost use Rattle.protocol.specs.Sending.{server_id};
 ghost use Rattle.protocol.specs.PushBuffer.{next_hop, hops_after};
-ghost use Rattle.protocol.specs.ClientAttempts.{is_mutation, is_length, bytes_to_send, read_start, read_count, wanted_by, chunk_to_find};
+ghost use Rattle.protocol.specs.ClientAttempts.{is_mutation, is_length, bytes_to_send, target_of, read_start, read_count, wanted_by, chunk_to_find};
 ghost use Rattle.protocol.specs.ClientStep.{fd_of};
 
 use crate::sums::sum;
@@ -17,7 +17,7 @@ use gfs_types::call::Call;
 use gfs_types::ids::ServerId;
 use gfs_types::lists::ServerList;
 use gfs_types::no_memory::NoMemory;
-use messages::message::Wanted;
+use messages::message::{Target, Wanted};
 use std::alloc::Global;
 
 const LONGEST_RANGE: u64 = 67_108_864;
@@ -87,6 +87,16 @@ pub fn wanted_by(index: u64, call: &Call) -> Wanted
         Call::Write(_, _, _) => Wanted::Write(index),
         Call::Append(_, _) => Wanted::Append(index),
         _ => Wanted::Last,
+    }
+}
+
+/// Where in its chunk a mutation's part goes: a record where the primary says.
+pub fn target_of(chunk: u64, index: u64, call: &Call) -> Target
+    ensures { result ≡ target_of chunk index call.now }
+{
+    match call {
+        Call::Write(_, offset, _) => Target::Write(part_start(chunk, *offset, index)),
+        _ => Target::Append,
     }
 }
 

@@ -1,10 +1,10 @@
 //! The client: its state, its calls and its steps.
 
-ghost use Rattle.std.specs.Prelude.{◌≡◌, ◌<◌, IfOk};
+ghost use Rattle.std.specs.Prelude.{◌≡◌, ◌<◌, false, IfOk};
 ghost use Rattle.std.specs.Option.{option_copied};
 ghost use Rattle.protocol.specs.Client.{ClientState, new_client};
 ghost use Rattle.protocol.specs.ClientCache.{cached, is_fresh, cache_after_look};
-ghost use Rattle.protocol.specs.ClientStep.{may_call, has_room_to_count, client_at};
+ghost use Rattle.protocol.specs.ClientStep.{may_call, may_step, has_room_to_count, client_at};
 ghost use Rattle.protocol.specs.Conforms.{ClientCalls};
 
 use client_cache::locations::Locations;
@@ -98,10 +98,36 @@ impl Client {
         self.call_count < MAX_COUNTER && self.number < MAX_COUNTER && self.fd_count < MAX_COUNTER
     }
 
-    fn move_clock(&mut self, now: Moment)
+    /// Whether a message or a tick is taken.
+    pub fn may_step(&self) -> bool
+        ensures { result ≡ may_step self.now }
+    {
+        self.up && self.has_room_to_count()
+    }
+
+    /// Its clock is the greatest moment that it was given.
+    pub fn move_clock(&mut self, now: Moment)
         ensures { self.new ≡ client_at self.old now.0 }
     {
         self.clock = self.clock.max(now.0);
+    }
+
+    /// It goes down, and keeps nothing but these settings and this number. Takes no memory.
+    pub fn stops(&mut self, config: Config, id: u64)
+        requires { 0 < config.chunk }
+        ensures { self.new ≡ record (new_client config id) { up = false } }
+    {
+        self.config = config;
+        self.id = id;
+        self.up = false;
+        self.clock = 0;
+        self.call_count = 0;
+        self.number = 0;
+        self.fd_count = 0;
+        self.descriptors = NumberMap::new(self.alloc);
+        self.files = OpenFiles::new(self.alloc);
+        self.cache.reset(config.cache_entries);
+        self.current = None;
     }
 
     /// A call. For want of memory it may be refused before its first message; nothing else has changed then.

@@ -2,7 +2,7 @@
 
 ghost use Rattle.std.specs.Prelude.{◌≡◌, IfOk, OnErr};
 ghost use Rattle.protocol.specs.Client.{client_begins, with_current, answers, committed};
-ghost use Rattle.protocol.specs.ClientAttempts.{completes, last_refusal, gives_up, ended, ends_refused, attempts};
+ghost use Rattle.protocol.specs.ClientAttempts.{completes, last_refusal, gives_up, ended, ends_refused, asks, reads_next, goes_on_at, attempts, attempts_names};
 ghost use Rattle.client_node.specs.Doing.{doing};
 ghost use Rattle.client_node.specs.Attempts.{follows, begun};
 
@@ -12,15 +12,18 @@ use crate::client::Client;
 use crate::effects::Effects;
 use crate::plan::Plan;
 use crate::sent::Sent;
+use crate::sums::sum;
 use client_cache::live::is_any_live;
-use client_state::call::{CurrentCall, Stage};
+use client_state::call::{CurrentCall, Stage, ToldChunk};
 use gfs_types::answer::Answer;
+use gfs_types::ids::Moment;
 use gfs_types::no_memory::NoMemory;
 use gfs_types::refusal::Refusal;
+use messages::message::{Holder, Location};
 
 impl Client {
     /// The call goes on, with nothing sent.
-    pub(crate) fn waits(&mut self, current: CurrentCall) -> Effects
+    pub fn waits(&mut self, current: CurrentCall) -> Effects
         ensures { with_current (client_begins self.old) current ≡ doing self.new result }
     {
         self.current = Some(current);
@@ -31,7 +34,7 @@ impl Client {
     }
 
     /// The call is answered, and over.
-    pub(crate) fn answers(&mut self, answer: Answer) -> Effects
+    pub fn answers(&mut self, answer: Answer) -> Effects
         ensures { answers (client_begins self.old) answer ≡ doing self.new result }
     {
         self.current = None;
@@ -42,7 +45,7 @@ impl Client {
     }
 
     /// The attempt goes on as it was planned.
-    pub(crate) fn commits(&mut self, mut current: CurrentCall, plan: Plan) -> Effects
+    pub fn commits(&mut self, mut current: CurrentCall, plan: Plan) -> Effects
         ensures { committed (client_begins self.old) current plan ≡ doing self.new result }
     {
         let Plan {
@@ -57,7 +60,7 @@ impl Client {
     }
 
     /// What completed the call is its answer, once none of a mutation's attempts is live.
-    pub(crate) fn completes(&mut self, mut current: CurrentCall, answer: Answer) -> Effects
+    pub fn completes(&mut self, mut current: CurrentCall, answer: Answer) -> Effects
         ensures { completes (client_begins self.old) current answer ≡ doing self.new result }
     {
         if is_mutation(&current.asked) && is_any_live(current.live.as_slice(), self.clock) {
@@ -68,7 +71,7 @@ impl Client {
     }
 
     /// The call is refused after its last attempt.
-    pub(crate) fn gives_up(&mut self, current: CurrentCall) -> Effects
+    pub fn gives_up(&mut self, current: CurrentCall) -> Effects
         ensures { gives_up (client_begins self.old) current ≡ doing self.new result }
     {
         let refusal = last_refusal(&current);
@@ -76,7 +79,7 @@ impl Client {
     }
 
     /// The attempt ended by a refusal: the next one begins at the next tick, if there is one.
-    pub(crate) fn ends_refused(&mut self, current: CurrentCall) -> Effects
+    pub fn ends_refused(&mut self, current: CurrentCall) -> Effects
         ensures { ends_refused (client_begins self.old) current ≡ doing self.new result }
     {
         if current.left <= 1 {
@@ -85,8 +88,17 @@ impl Client {
         self.waits(ended(current))
     }
 
+    /// The master is asked.
+    pub fn asks(&mut self, mut current: CurrentCall) -> Result<Effects, NoMemory>
+        ensures { IfOk result (λ e. asks (client_begins self.old) current ≡ doing self.new e) }
+    {
+        let plan = self.ask_planned(&current)?;
+        current.lost_lease = false;
+        Ok(self.commits(current, plan))
+    }
+
     /// The attempt goes on as it was planned; a read that nobody is left to serve ends.
-    pub(crate) fn follows(&mut self, mut current: CurrentCall, plan: Option<Plan>) -> Effects
+    pub fn follows(&mut self, mut current: CurrentCall, plan: Option<Plan>) -> Effects
         ensures { follows (client_begins self.old) current plan ≡ doing self.new result }
     {
         match plan {
@@ -98,8 +110,34 @@ impl Client {
         }
     }
 
+    /// The told servers are asked in turn, until one answers.
+    #[tactic(auto, using(crate::proofs::Attempts::next_reads))]
+    pub fn reads_next(
+        &mut self,
+        current: CurrentCall,
+        chunk: ToldChunk,
+        holders: &[Holder],
+    ) -> Result<Effects, NoMemory>
+        ensures { IfOk result (λ e. reads_next (client_begins self.old) current chunk holders.now ≡ doing self.new e) }
+    {
+        let plan = self.next_read(&current, chunk, holders)?;
+        Ok(self.follows(current, plan))
+    }
+
+    /// A location is there.
+    pub fn goes_on_at(
+        &mut self,
+        current: CurrentCall,
+        location: &Location,
+    ) -> Result<Effects, NoMemory>
+        ensures { IfOk result (λ e. goes_on_at (client_begins self.old) current location.now ≡ doing self.new e) }
+    {
+        let plan = self.planned_at(&current, location)?;
+        Ok(self.follows(current, plan))
+    }
+
     /// An attempt begins as it was planned. Takes no memory.
-    pub(crate) fn begins(&mut self, attempt: Attempt) -> Effects
+    pub fn begins(&mut self, attempt: Attempt) -> Effects
         ensures { begun (client_begins self.old) attempt ≡ doing self.new result }
     {
         let Attempt {
@@ -117,12 +155,21 @@ impl Client {
     }
 
     /// An attempt of a call on a file begins. At an error nothing has changed.
-    pub(crate) fn attempts(&mut self, current: CurrentCall) -> Result<Effects, NoMemory>
+    pub fn attempts(&mut self, current: CurrentCall) -> Result<Effects, NoMemory>
         ensures ok { IfOk result (λ e. attempts (client_begins self.old) current ≡ doing self.new e) }
         ensures err { OnErr result (self.new ≡ self.old) }
     {
         let attempt = self.planned_attempt(current)?;
         Ok(self.begins(attempt))
+    }
+
+    /// An attempt of a name call: the same request again, under the same number.
+    pub fn attempts_names(&mut self, mut current: CurrentCall) -> Result<Effects, NoMemory>
+        ensures { IfOk result (λ e. attempts_names (client_begins self.old) current ≡ doing self.new e) }
+    {
+        current.deadline = Moment(sum(self.clock, self.config.attempt_ms)?);
+        let plan = self.name_planned(&current)?;
+        Ok(self.commits(current, plan))
     }
 }
 
@@ -144,7 +191,7 @@ fn last_refusal(current: &CurrentCall) -> Refusal
 }
 
 /// The attempt is over, and counted.
-pub(crate) fn ended(mut current: CurrentCall) -> CurrentCall
+pub fn ended(mut current: CurrentCall) -> CurrentCall
     ensures { result ≡ ended current }
 {
     current.stage = Stage::IsOver;

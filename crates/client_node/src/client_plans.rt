@@ -3,12 +3,12 @@
 ghost use Rattle.std.specs.Prelude.{◌≡◌, suc, IfOk, None};
 ghost use Rattle.std.specs.Option.{option_copied};
 ghost use Rattle.protocol.specs.Client.{from_client};
-ghost use Rattle.protocol.specs.ClientAttempts.{ask_planned, read_body, read_planned, again_planned, push_planned, push_planned_to, name_planned, chunk_of, will_do};
+ghost use Rattle.protocol.specs.ClientAttempts.{ask_planned, read_body, read_planned, again_planned, push_planned, push_planned_to, mutate_planned, name_planned, chunk_of, will_do};
 ghost use Rattle.client_node.specs.Attempts.{next_read, planned_at, asking, with_kept, attempt_at, before_attempt, planned_attempt};
 
 use crate::asked::{
     bytes_to_send, chunk_to_find, first_hop, hops_after, is_length, is_look, is_mutation,
-    read_count, read_start, wanted_by,
+    read_count, read_start, target_of, wanted_by,
 };
 use crate::attempt::Attempt;
 use crate::client::Client;
@@ -43,14 +43,14 @@ impl Client {
         )
     }
 
-    fn chunk_size(&self) -> u64
+    pub fn chunk_size(&self) -> u64
         ensures { result ≡ self.now.config.chunk }
     {
         u64::from(self.config.chunk)
     }
 
     /// The master is asked for a chunk.
-    pub(crate) fn ask_planned(&self, current: &CurrentCall) -> Result<Plan, NoMemory>
+    pub fn ask_planned(&self, current: &CurrentCall) -> Result<Plan, NoMemory>
         ensures { IfOk result (λ plan. plan ≡ ask_planned self.now current.now) }
     {
         let number = self.next_number()?;
@@ -119,7 +119,7 @@ impl Client {
     }
 
     /// The first of these servers is asked. None: there is none.
-    pub(crate) fn next_read(
+    pub fn next_read(
         &self,
         current: &CurrentCall,
         chunk: ToldChunk,
@@ -200,8 +200,32 @@ impl Client {
         self.push_planned_to(current, chunk, group, first)
     }
 
+    /// The primary is asked to place the data of that number.
+    pub fn mutate_planned(
+        &self,
+        current: &CurrentCall,
+        chunk: ToldChunk,
+        primary: ServerId,
+        number: u64,
+    ) -> Result<Plan, NoMemory>
+        ensures { IfOk result (λ plan. plan ≡ mutate_planned self.now current.now chunk primary number) }
+    {
+        let body = Body::Mutate {
+            data: self.data_id(number),
+            handle: chunk.handle,
+            version: chunk.round,
+            target: target_of(self.chunk_size(), current.index, &current.asked),
+            deadline: current.deadline,
+        };
+        Ok(Plan {
+            stage: Stage::SentMutate { chunk, number },
+            sent: self.message_to(Node::Server(primary), body)?,
+            number: self.number,
+        })
+    }
+
     /// A name call's request: Open and List only look.
-    pub(crate) fn name_planned(&self, current: &CurrentCall) -> Result<Plan, NoMemory>
+    pub fn name_planned(&self, current: &CurrentCall) -> Result<Plan, NoMemory>
         ensures { IfOk result (λ plan. plan ≡ name_planned self.now current.now) }
     {
         let call = current.asked.copy(self.alloc)?;
@@ -225,7 +249,7 @@ impl Client {
     }
 
     /// What an attempt goes on with at a location. None: nobody is left to serve a read.
-    pub(crate) fn planned_at(
+    pub fn planned_at(
         &self,
         current: &CurrentCall,
         location: &Location,
@@ -290,7 +314,7 @@ impl Client {
     }
 
     /// An attempt of a call on a file.
-    pub(crate) fn planned_attempt(&self, mut current: CurrentCall) -> Result<Attempt, NoMemory>
+    pub fn planned_attempt(&self, mut current: CurrentCall) -> Result<Attempt, NoMemory>
         ensures { IfOk result (λ attempt. attempt ≡ planned_attempt self.now current) }
     {
         let index = chunk_to_find(&current);

@@ -1,13 +1,14 @@
-//! A client of the cell: its state and its calls, up to the first message of a call's first attempt (sections 2.4, 2.7.1, 3.1 and 3.3).
+//! A client of the cell: its state, its calls up to the first message of a call's first attempt, and how a call goes on (sections 2.4, 2.7.1, 3.1 and 3.3).
 #![tactic(auto)]
 
-mod asked;
-mod attempt;
+pub mod asked;
+pub mod attempt;
 pub mod client;
-mod client_attempts;
+pub mod client_attempts;
 mod client_calls;
+mod client_keeps;
 mod client_plans;
-mod effects;
-mod plan;
-mod sent;
-mod sums;
+pub mod effects;
+pub mod plan;
+pub mod sent;
+pub mod sums;
