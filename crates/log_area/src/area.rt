@@ -1,13 +1,15 @@
 //! An area, read from its bytes.
 
-ghost use Rattle.std.specs.Prelude.{◌≡◌, ◌+◌, ℕ, List, length, IfOk, IsErr, Some};
+ghost use Rattle.std.specs.Prelude.{◌≡◌, ◌+◌, ℕ, List, length, IfOk, IsErrOf, Some};
 ghost use Rattle.log_area.specs.Areas.{area_bytes, AreaSays, AreaState, end_of};
 ghost use Rattle.log_area.specs.Entries.{entries, open_entries};
 ghost use Rattle.log_codec.specs.Fields.{IsIndex, IsNumber};
+ghost use Rattle.log_codec.specs.declared.fault.DecodeFault.TheVariants.{Damaged};
 ghost use Rattle.log_codec.specs.Reading.{Gives};
 
 use crate::checkpoint::{read_items, read_records};
 use crate::fields::{u32_at, u64_at};
+use crate::gate::{behind_gate, is_open};
 use log_codec::DecodeFault;
 use log_records::record::Record;
 use std::alloc::Global;
@@ -72,12 +74,12 @@ impl Area {
 // The number, the checkpoint and what follows it.
 fn parts_of(bytes: &[u8]) -> Result<(u64, &[u8], &[u8]), DecodeFault>
     ensures found { IfOk result (λ x. IsNumber x.0 × IsIndex (length x.1.now) × (bytes.now ≡ area_bytes x.0 x.1.now x.2.now)) }
-    ensures undamaged { (n : ℕ) (checkpoint rest : List ℕ) → IsNumber n → IsIndex (length checkpoint) → bytes.now ≡ area_bytes n checkpoint rest → IsErr result → ⊥ }
+    ensures undamaged { (n : ℕ) (checkpoint rest : List ℕ) → IsNumber n → IsIndex (length checkpoint) → bytes.now ≡ area_bytes n checkpoint rest → IsErrOf result Damaged → ⊥ }
 {
-    let [1, rest @ ..] = bytes else {
+    if !is_open(bytes) {
         return Err(DecodeFault::Damaged);
-    };
-    let (number, rest) = u64_at(rest)?;
+    }
+    let (number, rest) = u64_at(behind_gate(bytes))?;
     let (size, rest) = u32_at(rest)?;
     let size = size as usize;
     if rest.len() < size {

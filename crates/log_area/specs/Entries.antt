@@ -1,5 +1,5 @@
--- Records and items as they lie in an area (section 2.6.3).
-use Rattle.std.specs.Prelude.{◌≡◌, ◌≢◌, ℕ, List, [], ◌∷◌, ◌++◌, length, false}
+-- Records and items as they lie in an area.
+use Rattle.std.specs.Prelude.{◌≡◌, ◌≢◌, ℕ, List, [], ◌∷◌, ◌++◌, length, Bool, false, ◌==◌}
 use Rattle.std.specs.List.{AllByRecursion}
 use Rattle.log_records.specs.declared.record.Record.{Record}
 use Rattle.log_codec.specs.Fields.{index, IsIndex}
@@ -34,3 +34,8 @@ pub record HoldsRecords (records : List Record) (bytes : List ℕ) : Type 0 wher
   pub parts : bytes ≡ open_entries records ++ gate ∷ rest
   pub closed : gate ≢ 1
   pub each : AllByRecursion IsLogged records
+
+-- whether an open gate comes first
+abbrev pub is_open : List ℕ → Bool
+is_open [] = false
+is_open (gate ∷ rest) = gate == 1

@@ -89,7 +89,12 @@ fn an_area_outside_the_grammar_is_damaged(rt: HostRuntime) -> Result<(), Fail> {
 #[test]
 fn a_checkpoint_has_its_order(rt: HostRuntime) -> Result<(), Fail> {
     let alloc = rt.alloc();
-    let items = [counters(), dir(alloc, "/")?, dir(alloc, "/.gone")?, file(alloc, "/a")?];
+    let items = [
+        counters(),
+        dir(alloc, "/")?,
+        dir(alloc, "/.gone")?,
+        file(alloc, "/a")?,
+    ];
     let Ok(area) = read_area(alloc, &with_items(alloc, 2, &items)?) else {
         return Err(Fail);
     };
@@ -97,10 +102,25 @@ fn a_checkpoint_has_its_order(rt: HostRuntime) -> Result<(), Fail> {
     assert!(rt; area.items() == items.as_slice());
     assert_eq!(rt; area.records().len(), 0);
     let late = [dir(alloc, "/")?];
-    assert!(rt; matches!(read_area(alloc, &with_items(alloc, 2, &late)?), Err(DecodeFault::Damaged)));
+    assert!(rt;
+        matches!(
+            read_area(alloc, &with_items(alloc, 2, &late)?),
+            Err(DecodeFault::Damaged)
+        )
+    );
     let twice = [counters(), dir(alloc, "/a")?, file(alloc, "/a")?];
-    assert!(rt; matches!(read_area(alloc, &with_items(alloc, 2, &twice)?), Err(DecodeFault::Damaged)));
+    assert!(rt;
+        matches!(
+            read_area(alloc, &with_items(alloc, 2, &twice)?),
+            Err(DecodeFault::Damaged)
+        )
+    );
     let record = [counters(), create(alloc)?];
-    assert!(rt; matches!(read_area(alloc, &with_items(alloc, 2, &record)?), Err(DecodeFault::Damaged)));
+    assert!(rt;
+        matches!(
+            read_area(alloc, &with_items(alloc, 2, &record)?),
+            Err(DecodeFault::Damaged)
+        )
+    );
     Ok(())
 }

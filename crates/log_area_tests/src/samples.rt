@@ -53,11 +53,7 @@ pub(crate) fn put(out: &mut Vec<u8>, record: &Record) -> Result<bool, NoMemory> 
 }
 
 /// An open area of this number with these items, and no record.
-pub(crate) fn with_items(
-    alloc: Global,
-    number: u8,
-    items: &[Record],
-) -> Result<Vec<u8>, NoMemory> {
+pub(crate) fn with_items(alloc: Global, number: u8, items: &[Record]) -> Result<Vec<u8>, NoMemory> {
     let mut entries = Vec::new(alloc);
     for item in items {
         put(&mut entries, item)?;

@@ -8,6 +8,7 @@ ghost use Rattle.log_area.specs.Entries.{entries, open_entries, IsEntry, HoldsRe
 ghost use Rattle.log_area.specs.Order.{is_checkpoint};
 
 use crate::entries::entry_at;
+use crate::gate::{behind_gate, is_open};
 use crate::order::is_checkpoint;
 use log_codec::{DecodeFault, is_item};
 use log_records::record::Record;
@@ -47,8 +48,8 @@ pub fn read_records(bytes: &[u8], alloc: Global) -> Result<(Vec<Record>, usize),
 {
     let mut records = Vec::new(alloc);
     let mut rest = bytes;
-    while let [1, open @ ..] = rest {
-        let (record, after) = entry_at(open, alloc)?;
+    while is_open(rest) {
+        let (record, after) = entry_at(behind_gate(rest), alloc)?;
         if is_item(&record) {
             return Err(DecodeFault::Damaged);
         }

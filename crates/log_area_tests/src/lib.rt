@@ -1,4 +1,4 @@
-//! Tests of the operation log.
+//! Tests of the operation log's areas.
 #![tactic(auto)]
 
 #[cfg(test)]

@@ -5,6 +5,7 @@ mod area;
 mod checkpoint;
 mod entries;
 mod fields;
+mod gate;
 mod layout;
 mod order;
 mod writing;
