@@ -2,7 +2,7 @@
 use Rattle.std.specs.Prelude.{◌⊎◌, ℕ, List, [], ◌∷◌, ◌++◌}
 use Rattle.log_records.specs.declared.record.Record.{Record}
 use Rattle.log_area.specs.Areas.{AreaState}
-use Rattle.oplog.specs.Disks.{HasLog}
+use Rattle.log_disk.specs.Disks.{HasLog}
 
 -- one record more
 abbrev pub appended : AreaState → Record → AreaState

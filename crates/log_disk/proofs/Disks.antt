@@ -6,21 +6,24 @@ use Rattle.log_records.specs.declared.record.Record.{Record}
 use Rattle.log_area.specs.Entries.{entry, IsLogged}
 use Rattle.log_area.specs.Areas.{AreaState, AreaSays, end_of}
 use Rattle.log_area.specs.Layout.{area_at, area_size}
-use Rattle.oplog.specs.Disks.{area_of, other, head, DiskSays, HasLog, IsOlder}
-use Rattle.oplog.specs.Changes.{appended, IsBeforeOrAfter}
+use Rattle.log_disk.specs.Disks.{area_of, front_of, other, head, DiskSays, HasLog, IsOlder}
+use Rattle.log_disk.specs.Changes.{appended, IsBeforeOrAfter}
 use Rattle.gated_disk.proofs.Ranges.{range_outside, range_inside, range_put, range_range, put_changes}
-use Rattle.oplog.proofs.Areas.{Staged, torn_behind, staged, torn_gate, opened_gate}
+use Rattle.log_disk.proofs.Areas.{Staged, torn_behind, staged, torn_gate, opened_gate}
 
 -- both areas lie on the disk, and apart
-pub areas_fit : (size : ℕ) → 16 ≤ size → 16 + area_size size + area_size size ≤ size
-areas_fit size le = omega arith
+pub areas_fit : (size : ℕ) → 4096 ≤ size → 16 + area_size size + area_size size ≤ size
+areas_fit size le = omega (arith, le)
 
-area_lies : (size which : ℕ) → 16 ≤ size → which < 2 → area_at size which + area_size size ≤ size
+pub area_long : (size : ℕ) → 4096 ≤ size → 14 ≤ area_size size
+area_long size le = omega (arith, le)
+
+pub area_lies : (size which : ℕ) → 4096 ≤ size → which < 2 → area_at size which + area_size size ≤ size
 area_lies size zero le lt = omega (arith, areas_fit size le)
 area_lies size (suc zero) le lt = omega (arith, areas_fit size le)
 area_lies size (suc (suc n)) le lt = absurd (omega (arith, lt))
 
-Apart : ℕ → ℕ → ℕ → Type 0
+abbrev Apart : ℕ → ℕ → ℕ → Type 0
 Apart a m b = (b + m ≤ a) ⊎ (a + m ≤ b)
 
 areas_apart : (size which : ℕ) → which < 2 → Apart (area_at size which) (area_size size) (area_at size (other which))
@@ -31,12 +34,12 @@ areas_apart size (suc (suc n)) lt = absurd (omega (arith, lt))
 other_lt : (which : ℕ) → other which < 2
 other_lt which = omega arith
 
-side : (a m b at n : ℕ) → Apart a m b → a ≤ at → at + n ≤ a + m → (b + m ≤ at) ⊎ (at + n ≤ b)
-side a m b at n (inl le) from to = inl (omega (arith, le, from))
-side a m b at n (inr le) from to = inr (omega (arith, le, to))
+side : (a m b at n k : ℕ) → k ≤ m → Apart a m b → a ≤ at → at + n ≤ a + m → (b + k ≤ at) ⊎ (at + n ≤ b)
+side a m b at n k short (inl le) from to = inl (omega (arith, le, from, short))
+side a m b at n k short (inr le) from to = inr (omega (arith, le, to))
 
 -- a change within the current area
-module _ (size which : ℕ) (area : AreaState) (d : List ℕ) (large : 16 ≤ size) where
+module _ (size which : ℕ) (area : AreaState) (d : List ℕ) (large : 4096 ≤ size) where
   pub inside : (says : DiskSays size which area d) (at n : ℕ) (c : List ℕ) → ChangesOnly at n d c → area_at size which ≤ at → at + n ≤ area_at size which + area_size size
       → ChangesOnly (at - area_at size which) n (area_of size which d) (area_of size which c)
   inside says at n c is from to = range_inside (area_at size which) (area_size size) at n d c is (omega (arith, area_lies size which large says.one_of_two, says.sized)) from to
@@ -49,8 +52,9 @@ module _ (size which : ℕ) (area : AreaState) (d : List ℕ) (large : 16 ≤ si
     formatted = range_outside 0 16 at n d c is (omega (arith, says.sized, large)) (inl (omega (arith, from))) ∙ says.formatted;
     says = says_new;
     older =
-        let same : area_of size (other which) c ≡ area_of size (other which) d = range_outside (area_at size (other which)) (area_size size) at n d c is (omega (arith, area_lies size (other which) large (other_lt which), says.sized)) (side (area_at size which) (area_size size) (area_at size (other which)) at n (areas_apart size which says.one_of_two) from to) in
-        subst (λ (b : List ℕ). IsOlder new.number b) (sym same) (subst (λ (k : ℕ). IsOlder k (area_of size (other which) d)) (sym number) says.older);
+        let same : front_of size (other which) c ≡ front_of size (other which) d = range_outside (area_at size (other which)) 9 at n d c is (omega (arith, area_lies size (other which) large (other_lt which), area_long size large, says.sized))
+        (side (area_at size which) (area_size size) (area_at size (other which)) at n 9 (omega (arith, area_long size large)) (areas_apart size which says.one_of_two) from to) in
+        subst (λ (b : List ℕ). IsOlder new.number b) (sym same) (subst (λ (k : ℕ). IsOlder k (front_of size (other which) d)) (sym number) says.older);
   }
 
 pub has_log : (size which : ℕ) (area : AreaState) (d : List ℕ) → DiskSays size which area d → HasLog area.items area.records d
@@ -58,7 +62,7 @@ has_log size which area d says = record { which = which; number = area.number; s
 
 -- ---- one record more
 
-module _ (size which : ℕ) (area : AreaState) (r : Record) (d : List ℕ) (large : 16 ≤ size) (says : DiskSays size which area d) (logged : IsLogged r)
+module _ (size which : ℕ) (area : AreaState) (r : Record) (d : List ℕ) (large : 4096 ≤ size) (says : DiskSays size which area d) (logged : IsLogged r)
     (fits : end_of area + 1 + length (entry r ++ 0 ∷ []) ≤ area_size size) where
   abbrev bytes : List ℕ
   bytes = entry r ++ 0 ∷ []
@@ -128,7 +132,7 @@ module _ (size which : ℕ) (area : AreaState) (r : Record) (d : List ℕ) (larg
       let is = put_changes written (1 ∷ []) place fit in
       let lies : area_at size which + area_size size ≤ length c = omega (arith, area_lies size which large says.one_of_two, says_written.sized, is.size) in
       let opened : range_at (area_of size which c) (end_of area) 1 ≡ 1 ∷ [] =
-          ap (λ (k : ℕ). range_at (area_of size which c) k 1) (sym at_gate) ∙ range_range c (area_at size which) (area_size size) place 1 lies gate_from gate_to ∙ range_put written (1 ∷ []) place fit in
+      ap (λ (k : ℕ). range_at (area_of size which c) k 1) (sym at_gate) ∙ range_range c (area_at size which) (area_size size) place 1 lies gate_from gate_to ∙ range_put written (1 ∷ []) place fit in
       kept size which area written large says_written place 1 c is gate_from gate_to (appended area r) refl
       (opened_gate area r (area_of size which d) (area_of size which written) (area_of size which c) says.says logged is_staged (gate_within c is) opened)
 

@@ -10,7 +10,7 @@ use Rattle.log_codec.specs.Fields.{number, index}
 use Rattle.log_area.specs.Entries.{entry, entries, open_entries, IsEntry, IsLogged, HoldsRecords}
 use Rattle.log_area.specs.Areas.{AreaState, AreaSays, area_bytes, end_of}
 use Rattle.log_area.proofs.Parsing.{all_push, records_push, number_len, index_len, opened_more}
-use Rattle.oplog.specs.Changes.{appended}
+use Rattle.log_disk.specs.Changes.{appended}
 use Rattle.gated_disk.proofs.Ranges.{three_parts}
 
 -- an open area up to the gate after its last record
@@ -74,7 +74,7 @@ torn_behind area b c n says is =
     let b_is : b ≡ front ++ says.records.rest = parts_of area b says ∙ sym (append_assoc (front_of area) (gate ∷ []) says.records.rest) in
     let kept : take (end_of area + 1) c ≡ front = is.before ∙ ap (λ (l : List ℕ). take (end_of area + 1) l) b_is ∙ take_at front says.records.rest (end_of area + 1) size in
     let c_is : c ≡ front_of area ++ gate ∷ drop (end_of area + 1) c =
-        sym (take-append-drop (end_of area + 1) c) ∙ ap (λ (l : List ℕ). l ++ drop (end_of area + 1) c) kept ∙ append_assoc (front_of area) (gate ∷ []) (drop (end_of area + 1) c) in
+    sym (take-append-drop (end_of area + 1) c) ∙ ap (λ (l : List ℕ). l ++ drop (end_of area + 1) c) kept ∙ append_assoc (front_of area) (gate ∷ []) (drop (end_of area + 1) c) in
     says_again area b c gate (drop (end_of area + 1) c) says c_is says.records.closed
 
 -- the bytes of a record behind the gate, and a closed gate after them
@@ -110,8 +110,8 @@ at_gate area r b c is_staged is =
     let size = front_len area in
     let front : take e c ≡ front_of area = is.before ∙ ap (λ (l : List ℕ). take e l) is_staged.parts ∙ take_at (front_of area) (is_staged.gate ∷ behind) e size in
     let after : drop (e + 1) c ≡ behind =
-        is.after ∙ ap (λ (l : List ℕ). drop (e + 1) l) (is_staged.parts ∙ sym (append_assoc (front_of area) (is_staged.gate ∷ []) behind))
-        ∙ drop_at (front_of area ++ is_staged.gate ∷ []) behind (e + 1) (length-append (front_of area) (is_staged.gate ∷ []) ∙ ap (λ (k : ℕ). k + 1) size) in
+    is.after ∙ ap (λ (l : List ℕ). drop (e + 1) l) (is_staged.parts ∙ sym (append_assoc (front_of area) (is_staged.gate ∷ []) behind))
+    ∙ drop_at (front_of area ++ is_staged.gate ∷ []) behind (e + 1) (length-append (front_of area) (is_staged.gate ∷ []) ∙ ap (λ (k : ℕ). k + 1) size) in
     let long : e < length c = omega (arith, is.size, ap length is_staged.parts, length-append (front_of area) (is_staged.gate ∷ behind), size) in
     sym (take-append-drop e c) ∙ ap (λ (l : List ℕ). l ++ drop e c) front ∙ ap (λ (l : List ℕ). front_of area ++ l) (drop_more c e 0 long ∙ ap (λ (l : List ℕ). get_or c e 0 ∷ l) after)
 

@@ -1,17 +1,12 @@
 //! The log's areas, read from the disk.
 
-ghost use Rattle.std.specs.Prelude.{◌≡◌, ◌≤◌, ◌<◌, ◌+◌, ℕ, length, Some, IfOk, IsErrOf};
+ghost use Rattle.std.specs.Prelude.{◌≡◌, ◌≤◌, ◌<◌, ◌+◌, length, IfOk};
 ghost use Rattle.disk.specs.Bytes.{range_at};
 ghost use Rattle.disk.specs.Device.{HasCause};
 ghost use Rattle.gated_disk.specs.Moments.{OnlyReads};
-ghost use Rattle.log_area.specs.Areas.{AreaState};
-ghost use Rattle.oplog.specs.Disks.{newest, open_number, DiskSays};
-ghost use Rattle.oplog.specs.Opening.{MayFailToOpen};
-ghost use Rattle.oplog.specs.declared.fault.OpenFault.TheVariants.{Damaged};
+ghost use Rattle.log_disk.specs.Disks.{newest, open_number};
 
-use crate::fault::OpenFault;
 use disk::{Disk, DiskFault};
-use log_area::{Area, area_at, area_size, read_area};
 use std::alloc::Global;
 
 /// So many bytes of the disk.
@@ -31,20 +26,21 @@ pub fn read_range<D: Disk>(
     Ok(bytes)
 }
 
-/// The number of an area whose first 9 bytes these are, where its gate is open.
-pub fn open_number(bytes: &[u8]) -> Option<u64>
-    requires { length bytes.now ≡ 9 }
-    ensures { result ≡ open_number bytes.now }
+/// The number of an area with these first 9 bytes, where its gate is open.
+pub fn open_number(front: &[u8]) -> Option<u64>
+    requires { length front.now ≡ 9 }
+    ensures { result ≡ open_number front.now }
 {
-    if bytes[0] != 1 {
+    let (gate, number) = front.split_at(1);
+    if gate[0] != 1 {
         return None;
     }
     Some(u64::from_le_bytes([
-        bytes[1], bytes[2], bytes[3], bytes[4], bytes[5], bytes[6], bytes[7], bytes[8],
+        number[0], number[1], number[2], number[3], number[4], number[5], number[6], number[7],
     ]))
 }
 
-/// The open area with the greater number.
+/// The open area with the greater number: the first (0) or the second one (1). None where no area is open, or two have one number.
 pub fn newest(first: Option<u64>, second: Option<u64>) -> Option<usize>
     ensures { result ≡ newest first second }
 {

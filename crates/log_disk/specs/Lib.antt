@@ -1,4 +1,2 @@
-pub mod Faults
 pub mod Disks
 pub mod Changes
-pub mod Logs

@@ -1,4 +1,4 @@
--- What the bytes of the master's disk say (section 2.6.3): a head, and two areas of which one is current.
+-- What the bytes of the master's disk say: a head, and two areas of which one is current.
 use Rattle.std.specs.Prelude.{◌≡◌, ℕ, ◌-◌, ◌<◌, Bool, true, ◌==◌, nat_lt, if◌then◌else◌, List, [], ◌∷◌, ◌++◌, length, take, drop, replicate, slice_index_or as get_or, Option, Some, None}
 use Rattle.std.specs.Int.{w64, from_le_bytes}
 use Rattle.disk.specs.Bytes.{range_at}
@@ -21,9 +21,13 @@ area_of size which disk = range_at disk (area_at size which) (area_size size)
 abbrev pub other : ℕ → ℕ
 other which = 1 - which
 
--- the number of an area whose gate is open
+-- an area's gate and number
+abbrev pub front_of : ℕ → ℕ → List ℕ → List ℕ
+front_of size which disk = range_at disk (area_at size which) 9
+
+-- the number of an area with these first bytes, where its gate is open
 abbrev pub open_number : List ℕ → Option ℕ
-open_number bytes = if get_or bytes 0 0 == 1 then Some (from_le_bytes w64 (take 8 (drop 1 bytes))) else None
+open_number front = if get_or front 0 0 == 1 then Some (from_le_bytes w64 (drop 1 front)) else None
 
 abbrev pub is_below : Option ℕ → ℕ → Bool
 is_below None number = true
@@ -31,7 +35,7 @@ is_below (Some n) number = nat_lt n number
 
 -- an area that is closed, or has a lower number
 abbrev pub IsOlder : ℕ → List ℕ → Type 0
-IsOlder number bytes = is_below (open_number bytes) number ≡ true
+IsOlder number front = is_below (open_number front) number ≡ true
 
 -- the open area with the greater number, where there is one: the first (0) or the second one (1)
 abbrev pub later_if_below : Option ℕ → ℕ → Option ℕ
@@ -55,7 +59,7 @@ pub record DiskSays (size which : ℕ) (area : AreaState) (disk : List ℕ) : Ty
   pub one_of_two : which < 2
   pub formatted : take 16 disk ≡ head ++ 1 ∷ []
   pub says : AreaSays area (area_of size which disk)
-  pub older : IsOlder area.number (area_of size (other which) disk)
+  pub older : IsOlder area.number (front_of size (other which) disk)
 
 -- The disk has these items and records.
 pub record HasLog (items records : List Record) (disk : List ℕ) : Type 0 where
