@@ -1,0 +1,5 @@
+pub mod Gates
+pub mod Parsing
+pub mod Areas
+pub mod Refusing
+pub mod Fronts
