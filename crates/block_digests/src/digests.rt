@@ -1,0 +1,42 @@
+//! A digest for each block.
+
+ghost use Rattle.std.specs.Prelude.{◌≡◌, ◌≤◌, ◌*◌, ◌↔◌, length, IfOk, IsTrue};
+ghost use Rattle.block_digests.specs.Digests.{digests_of};
+
+use sha2::{Digest, Sha256};
+use std::alloc::{AllocError, Global};
+
+/// The digests of so many blocks, one after another.
+pub fn digests_of_blocks(
+    alloc: Global,
+    block: usize,
+    count: usize,
+    bytes: &[u8],
+) -> Result<Vec<u8>, AllocError>
+    requires { count * block ≤ length bytes.now }
+    ensures { IfOk result (λ v. v.items ≡ digests_of block count bytes.now) }
+{
+    let mut digests = Vec::new(alloc);
+    let mut rest = bytes;
+    for _ in 0..count {
+        let (first, after) = rest.split_at(block);
+        digests.extend_from_slice(&Sha256::digest(first))?;
+        rest = after;
+    }
+    Ok(digests)
+}
+
+/// Whether so many blocks have just these digests.
+pub fn blocks_match(
+    alloc: Global,
+    block: usize,
+    count: usize,
+    bytes: &[u8],
+    digests: &[u8],
+) -> Result<bool, AllocError>
+    requires { count * block ≤ length bytes.now }
+    ensures { IfOk result (λ b. IsTrue b ↔ digests_of block count bytes.now ≡ digests.now) }
+{
+    let found = digests_of_blocks(alloc, block, count, bytes)?;
+    Ok(found.as_slice() == digests)
+}
