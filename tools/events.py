@@ -14,6 +14,10 @@ LONG = [b'/d/' + bytes([113 + i]) * 250 for i in range(3)]
 FIRST_CALLS = [
     ('mkdir', b'/d'), ('create', b'/d/f'), ('open', b'/d/f'), ('append', 1, b'z' * 13), ('snapshot', b'/d', b'/e'),
     ('append', 1, b'y' * 13), ('open', b'/e/f')]
+# and of two chunks, of which one is copied while the other has a lease
+FIRST_OF_TWO_CHUNKS = [
+    ('mkdir', b'/d'), ('create', b'/d/f'), ('open', b'/d/f'), ('write', 1, 0, b'z' * 100), ('snapshot', b'/d', b'/e'),
+    ('write', 1, 70, b'y' * 20), ('write', 1, 0, b'x' * 20)]
 LONG_CALLS = [('create', LONG[0]), ('rename', LONG[0], LONG[1]), ('rename', LONG[1], LONG[2]), ('rename', LONG[2], LONG[0])]
 NAME_CALLS = ['create', 'create', 'mkdir', 'open', 'open', 'open', 'delete', 'rename', 'snapshot', 'snapshot', 'snapshot', 'list', 'rmdir']
 FILE_CALLS = ['append', 'append', 'append', 'append', 'write', 'write', 'read', 'read', 'length']
@@ -21,6 +25,8 @@ FILE_CALLS = ['append', 'append', 'append', 'append', 'write', 'write', 'read', 
 REPEATED = [
     ('Acked',), ('Acked',), ('Forward', 'Push'), ('Mutate', 'Push'), ('Grant', 'Extend'), ('SetVersion', 'Recorded'), ('Revoke', 'Revoked'),
     ('CopyAsk', 'Image', 'Cloned'), ('Report', 'Drop'), ('Done', 'Refused', 'Told'), ()]
+# orders that often come much later
+DELAYED = ['SetVersion', 'SetVersion', 'Create', 'Grant', 'Revoke', 'CopyLocal', 'Told', 'Refused', None, None, None, None]
 LOST = ['Forward', 'Forward', 'Acked', 'Done', 'Mutate', 'Recorded', 'Grant', 'Revoked', None, None, None]
 
 
@@ -49,8 +55,11 @@ class Explorer:
         self.repeating = rnd.choice([.03, .06, .12])
         self.repeated_kinds = rnd.choice(REPEATED)
         self.lost_kind = rnd.choice(LOST)
+        self.delayed_kind = rnd.choice(DELAYED)
         self.haste = rnd.choice([.2, .4])
         self.naming = rnd.choice([.04, .15, .3])
+        # how often there is a snapshot while a chunk is copied, if at all
+        self.snapping = rnd.choice([0, 0, .5])
         self.paths = rnd.choice([PATHS, [b'/d/f', b'/e/f'], [b'/d/f']])
         # how often a server is put down or restarted, and a byte rots
         self.restarting = rnd.choice([0, .001, .004])
@@ -60,7 +69,7 @@ class Explorer:
         self.idling = rnd.choice([0, .003, .008])
         self.nodes_that_stop = [node for node in self.cell.nodes() if node[0] != 'c']
         self.clock = 0
-        self.first_calls = FIRST_CALLS + (LONG_CALLS if rnd.random() < .6 else [])
+        self.first_calls = rnd.choice([FIRST_CALLS, FIRST_OF_TWO_CHUNKS]) + (LONG_CALLS if rnd.random() < .6 else [])
         self.copies = 0
         self.letter = 0
         self.pending = []
@@ -101,6 +110,17 @@ class Explorer:
             name, first = ('create', first) if name != 'open' or not live else (name, rnd.choice(live + files))
         return (name, first, *((rnd.choice(PATHS),) if name in ('rename', 'snapshot') else ()))
 
+    def snapshot_of_a_copied_file(self):
+        """A snapshot of a file for which a chunk is being copied, or of its directory; or None."""
+        logged = state.logged(state.master(self.cell.world))
+        files = {copy['file'] for copy in state.copies(logged).values()}
+        paths = sorted(bytes(path) for path, node in state.names(logged).items() if node[0] == 'File' and node[1] in files)
+        if not paths or self.rnd.random() >= self.snapping:
+            return None
+        self.copies += 1
+        path = self.rnd.choice(paths)
+        return ('snapshot', self.rnd.choice([path, path.rpartition(b'/')[0] or path]), b'/s%d' % self.copies)
+
     def file_call(self, descriptors):
         rnd = self.rnd
         fd = rnd.choice(descriptors[-4:])
@@ -110,14 +130,15 @@ class Explorer:
         if name == 'append':
             return (name, fd, byte * rnd.choice([5, 13, 16, 16]))
         if name == 'write':
-            return (name, fd, rnd.choice([0, 0, rnd.randrange(0, 140)]), byte * rnd.randrange(1, 60))
+            # now and then past all chunks
+            return (name, fd, rnd.choice([0, 0, rnd.randrange(0, 140)]) if rnd.random() < .9 else 400, byte * rnd.randrange(1, 60))
         return (name, fd, rnd.choice([0, rnd.randrange(0, 100)]), rnd.randrange(1, 150)) if name == 'read' else (name, fd)
 
-    def call_event(self, client, now):
-        world = self.cell.world
+    def call_event(self, client, now, snapshot=None):
+        rnd, world = self.rnd, self.cell.world
         descriptors = state.descriptors(state.client(world, client))
-        call = self.name_call() if not descriptors or self.rnd.random() < self.naming else self.file_call(sorted(descriptors))
-        if self.first_calls and (self.first_calls[0][0] != 'append' or 1 in descriptors):
+        call = snapshot or self.name_call() if snapshot or not descriptors or rnd.random() < self.naming else self.file_call(sorted(descriptors))
+        if not snapshot and self.first_calls and (self.first_calls[0][0] not in ('append', 'write') or 1 in descriptors):
             call, self.first_calls = self.first_calls[0], self.first_calls[1:]
         file = descriptors.get(call[1]) if call[0] in ('append', 'write', 'read', 'length', 'close') else None
         self.answer_facts.called(client, call, state.calls_made(world, client) + 1, file)
@@ -155,6 +176,12 @@ class Explorer:
             event = self.rot_event()
             return event and (event, 's1')
         free = [count for count in (1, 2) if state.is_up(state.client(cell.world, count)) and not cell.is_open(f'c{count}')]
+        snapshot = self.snapshot_of_a_copied_file() if free else None
+        if snapshot:
+            client = rnd.choice(free)
+            return self.call_event(client, now, snapshot), f'c{client}'
+        # the second client is kept for these snapshots
+        free = [client for client in free if client == 1 or not self.snapping]
         if chance < .15 and free:
             client = rnd.choice(free)
             return self.call_event(client, now), f'c{client}'
@@ -172,7 +199,7 @@ class Explorer:
             kind = rnd.choice(kinds if kinds and rnd.random() < .7 else sorted(self.by_kind))
             return rnd.choice(self.by_kind[kind][-40:])
         number = self.pending.pop(rnd.randrange(len(self.pending)) if rnd.random() < self.disorder else 0)
-        if rnd.random() < self.delaying:
+        if rnd.random() < (.3 if self.cell.messages[number].kind == self.delayed_kind else self.delaying):
             self.aside.append((self.counts['events'] + rnd.randrange(20, 400), number))
             return None
         is_lost = rnd.random() < (.4 if self.cell.messages[number].kind == self.lost_kind else self.loss)

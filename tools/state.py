@@ -109,6 +109,11 @@ def logged(node):
     return node['logged']
 
 
+def copies(of):
+    """The copies of shared chunks that are under way, by handle."""
+    return of['copies'].items
+
+
 def names(state):
     return state['names'].items
 

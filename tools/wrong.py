@@ -42,9 +42,15 @@ def edits_of(path):
                 old = text
             elif word == 'new':
                 found.append((target, old, text))
-            elif word:
-                raise StaleEdit(f'{path}: a line begins with none of file, old and new: {line}')
+            elif word and word != 'seed':
+                raise StaleEdit(f'{path}: a line begins with none of file, old, new and seed: {line}')
     return found
+
+
+def seed_of(path):
+    """Where exploring begins, of a wrong definition that few lists lead to."""
+    with open(path, encoding='utf8') as edits:
+        return next((int(line[6:]) for line in edits if line.startswith('seed: ')), 0)
 
 
 def edited_copy(path, folder):

@@ -5,7 +5,7 @@ use Rattle.gfs_types.specs.Paths.{is_path}
 use Rattle.log_records.specs.declared.record.Record.{Record}
 use Rattle.log_records.specs.declared.record.Record.TheVariants as log
 use Rattle.chunk_table.specs.ChunkTable.{ChunkRow, TableState, chunk_of, handles_of, grant, counter_limit}
-use Rattle.chunk_table.specs.Refusals.{add_chunk_refusal, start_copy_refusal, put_row_refusal_of, swap_refusal, version_after}
+use Rattle.chunk_table.specs.Refusals.{add_chunk_refusal, start_copy_refusal, counters_refusal, put_file_refusal, put_row_refusal_of, swap_refusal, version_after}
 use Rattle.protocol.specs.Logged.{Logged, Copy}
 
 -- the chunk table with its counters
@@ -49,6 +49,8 @@ follows l (log.Grant handle version primary members) =
     && swap_follows (record (table_of l) { table = grant l.table handle.0 version.0 primary.0 members }) handle.0 (table.get l.copies handle.0)
 follows l (log.CopyStart file index handle copy copy_version) =
     (copy.0 == l.next_handle) && is_none (start_copy_refusal (table_of l) handle.0) && (copy_version.0 == version_after (chunk_of l.table handle.0))
+follows l (log.Counters next_file next_handle epoch) = is_none (counters_refusal (table_of l) next_file.0 next_handle.0)
 follows l (log.DirItem path) = is_path path
+follows l (log.FileItem path file handles) = is_path path && is_none (put_file_refusal (table_of l) file.0 handles)
 follows l (log.ChunkItem handle granted issued primary members) = item_follows granted.0 issued.0 (chunk_of l.table handle.0)
 follows l other = true

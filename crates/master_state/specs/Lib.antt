@@ -1,5 +1,4 @@
 pub mod Faults
-pub mod NodeKinds
 pub mod Coding
 pub mod Follows
 pub mod Refusals

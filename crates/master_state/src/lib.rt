@@ -4,9 +4,10 @@
 pub mod chunks;
 pub mod fault;
 mod hidden;
+pub mod items;
 pub mod kept;
 pub mod looks;
 pub mod names;
-pub mod nodes;
 pub mod refusals;
+pub mod room;
 pub mod state;

@@ -8,7 +8,6 @@ ghost use Rattle.relaxed_file.specs.NameStep.{outcome_by};
 ghost use Rattle.protocol.specs.MasterNames.{reply_by};
 ghost use Rattle.master_state.specs.Refusals.{refusal_by};
 
-use crate::nodes::NodeKind;
 use crate::refusals::parsed;
 use crate::state::State;
 use gfs_types::answer::Answer;
@@ -16,6 +15,7 @@ use gfs_types::lists::Text;
 use gfs_types::no_memory::NoMemory;
 use gfs_types::refusal::Refusal;
 use messages::message::NameReply;
+use namespace::name_kind::NameKind;
 use std::alloc::Allocator;
 
 impl<A: Allocator + Clone> State<A> {
@@ -33,8 +33,8 @@ impl<A: Allocator + Clone> State<A> {
         Ok(match self.names.get(&path) {
             None => refused(Refusal::NotFound),
             Some(node) => match node.kind() {
-                NodeKind::Dir => refused(Refusal::NotFile),
-                NodeKind::File(id) => NameReply::Opened(id),
+                NameKind::Dir => refused(Refusal::NotFile),
+                NameKind::File(id) => NameReply::Opened(id),
             },
         })
     }

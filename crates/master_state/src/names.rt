@@ -7,18 +7,19 @@ ghost use Rattle.log_records.specs.declared.record.Record.TheVariants as log;
 ghost use Rattle.relaxed_file.specs.Names.{Dir, File, node_at};
 ghost use Rattle.relaxed_file.specs.NameStep.{with_node, hidden};
 ghost use Rattle.protocol.specs.Logged.{after_record};
-ghost use Rattle.master_state.specs.NodeKinds.{node_of};
+ghost use Rattle.namespace.specs.NameKinds.{node_of};
 ghost use Rattle.master_state.specs.Follows.{follows};
 ghost use Rattle.master_state.specs.declared.fault.ReplayFault.TheVariants.{Damaged};
 
 use crate::fault::ReplayFault;
 use crate::hidden::hidden_name;
-use crate::nodes::{NameNode, NodeKind};
 use crate::state::State;
 use gfs_types::ids::{ClientId, Moment};
 use gfs_types::lists::Text;
 use gfs_types::no_memory::NoMemory;
 use gfs_types::path::{Path, PathFault};
+use namespace::name_kind::NameKind;
+use namespace::node::NameNode;
 use std::alloc::{Allocator, Global};
 
 impl<A: Allocator + Clone> State<A> {
@@ -122,7 +123,7 @@ impl<A: Allocator + Clone> State<A> {
         let Some(node) = self.names.get(path) else {
             return Ok(());
         };
-        let NodeKind::File(id) = node.kind() else {
+        let NameKind::File(id) = node.kind() else {
             return Ok(());
         };
         let text = hidden_name(self.alloc, moment, id)?;

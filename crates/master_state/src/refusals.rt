@@ -1,9 +1,9 @@
 //! Why a name call is refused: the first cause in order (section 4.1).
 
-ghost use Rattle.std.specs.Prelude.{◌≡◌, IfOk, IfSome, is_some};
+ghost use Rattle.std.specs.Prelude.{◌≡◌, Some, IfOk, IfSome, is_some};
 ghost use Rattle.gfs_types.specs.Paths.{is_path, parent};
 ghost use Rattle.gfs_types.specs.declared.call.Call.TheVariants as call;
-ghost use Rattle.relaxed_file.specs.Names.{is_dir, is_taken};
+ghost use Rattle.relaxed_file.specs.Names.{is_dir, is_dir_node, is_taken};
 ghost use Rattle.relaxed_file.specs.NameStep.{is_in_trash};
 ghost use Rattle.master_state.specs.Refusals.{refusal_by};
 
@@ -12,6 +12,8 @@ use gfs_types::lists::Text;
 use gfs_types::no_memory::NoMemory;
 use gfs_types::path::{Path, PathFault};
 use gfs_types::refusal::Refusal;
+use namespace::name_kind::NameKind;
+use namespace::node::NameNode;
 use path_trie::parts;
 use std::alloc::{Allocator, Global};
 
@@ -157,7 +159,7 @@ impl<A: Allocator + Clone> State<A> {
         ensures { result ≡ is_dir self.now.names path.now }
     {
         match self.names.get(path) {
-            Some(node) => node.is_dir(),
+            Some(node) => is_directory(node),
             None => false,
         }
     }
@@ -169,6 +171,15 @@ impl<A: Allocator + Clone> State<A> {
             return Err(NoMemory);
         };
         Ok(self.is_dir(&parent))
+    }
+}
+
+fn is_directory(node: &NameNode) -> bool
+    ensures { result ≡ is_dir_node (Some node.now) }
+{
+    match node.kind() {
+        NameKind::Dir => true,
+        NameKind::File(_) => false,
     }
 }
 

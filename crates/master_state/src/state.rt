@@ -9,12 +9,12 @@ ghost use Rattle.relaxed_file.specs.Names.{Dir, node_at};
 ghost use Rattle.master_state.specs.Follows.{table_of};
 
 use crate::kept::{CopyRow, KeptCall};
-use crate::nodes::NameNode;
 use chunk_table::table::Table;
 use gfs_types::ids::{ClientId, Handle};
 use gfs_types::no_memory::NoMemory;
 use gfs_types::path::Path;
 use gfs_types::refusal::Refusal;
+use namespace::node::{NameNode, Namespace};
 use number_map::NumberMap;
 use path_trie::trie::Trie;
 use std::alloc::{Allocator, Global};
@@ -25,7 +25,7 @@ use std::marker::Model;
 #[derive(Drop)]
 pub struct State<A: Allocator> {
     pub(crate) alloc: Global,
-    pub(crate) names: Trie<NameNode, A>,
+    pub(crate) names: Namespace<A>,
     pub(crate) table: Table,
     pub(crate) epoch: u64,
     pub(crate) kept: NumberMap<KeptCall>,
@@ -143,7 +143,7 @@ impl<A: Allocator + Clone> State<A> {
 }
 
 fn put_directory<A: Allocator + Clone>(
-    names: &mut Trie<NameNode, A>,
+    names: &mut Namespace<A>,
     path: &Path,
 ) -> Result<(), NoMemory>
     ensures { OnOk result (names.new ≡ map.insert names.old path.now Dir) }

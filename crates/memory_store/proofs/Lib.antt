@@ -1,3 +1,2 @@
 pub mod Lent
-pub mod Sorted
 pub mod Writing

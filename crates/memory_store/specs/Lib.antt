@@ -1,3 +1,2 @@
-pub mod Lending
 pub mod Becoming
 pub mod Growing

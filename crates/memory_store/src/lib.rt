@@ -1,7 +1,6 @@
 //! A store of replicas in memory. It stands behind the trait of every store, and forgets nothing but what a stop of its host forgets.
 #![tactic(auto)]
 
-mod ordered;
 mod replica;
 mod rotten;
 mod store;

@@ -6,15 +6,19 @@ ghost use Rattle.replica_store.specs.Replicas.{with_others, bytes_on_disk, block
 ghost use Rattle.sha2.specs.Sha256.{sha256};
 ghost use Rattle.memory_store.specs.Growing.{grown};
 
-use crate::ordered::OrderedMap;
-use crate::rotten::{has_changed, kept_outside, put_others};
+use crate::rotten::{has_changed, kept_outside, listed, put_others};
 use bytes::Bytes;
 use gfs_types::ids::{Serial, Version};
 use gfs_types::no_memory::NoMemory;
+use ordered_map::OrderedMap;
 use replica_store::row::Row;
+use server_store::fault::StoreFault;
 use sha2::{Digest, Sha256};
 use std::alloc::Global;
 use std::marker::Model;
+
+// The last place that a byte of a replica can have.
+const LAST_PLACE: u64 = 4_294_967_295;
 
 /// The bytes that were stored, and the places whose byte is another one since.
 #[derive(Drop)]
@@ -90,7 +94,7 @@ impl MemoryReplica {
     fn bytes_on_disk(&self, alloc: Global) -> Result<Vec<u8>, NoMemory>
         ensures { IfOk result (λ v. v.items ≡ bytes_on_disk self.now) }
     {
-        let others = self.changed.entries(alloc)?;
+        let others = listed(alloc, &self.changed)?;
         let mut bytes = Vec::from_slice(alloc, self.bytes.as_slice())?;
         put_others(&mut bytes, others.as_slice());
         Ok(bytes)
@@ -99,7 +103,7 @@ impl MemoryReplica {
     pub(crate) fn read(&self, alloc: Global, offset: u64, count: u64) -> Result<Bytes, NoMemory>
         ensures { IfOk result (λ b. b ≡ read_bytes self.now offset count) }
     {
-        let others = self.changed.entries(alloc)?;
+        let others = listed(alloc, &self.changed)?;
         if others.as_slice().is_empty() {
             return part_of(alloc, self.bytes.as_slice(), offset, count);
         }
@@ -114,7 +118,7 @@ impl MemoryReplica {
         block: u64,
         offset: u64,
         count: u64,
-    ) -> Result<bool, NoMemory>
+    ) -> Result<bool, StoreFault>
         requires { 1 ≤ block }
         ensures { IfOk result (λ b. b ≡ is_readable block self.now offset count) }
     {
@@ -137,12 +141,12 @@ impl MemoryReplica {
         block: u64,
         first: u64,
         end: u64,
-    ) -> Result<bool, NoMemory>
+    ) -> Result<bool, StoreFault>
         requires size { 1 ≤ block }
         requires some { 1 ≤ end }
         ensures { IfOk result (λ b. b ≡ blocks_match block self.now first end) }
     {
-        let others = self.changed.entries(alloc)?;
+        let others = listed(alloc, &self.changed)?;
         let mut matches = true;
         for (place, _) in others.as_slice() {
             let number = *place / block;
@@ -161,7 +165,7 @@ impl MemoryReplica {
         block: u64,
         offset: u64,
         end: u64,
-    ) -> Result<bool, NoMemory>
+    ) -> Result<bool, StoreFault>
         requires { 1 ≤ block }
         ensures { IfOk result (λ b. b ≡ is_writable block self.now offset end) }
     {
@@ -174,15 +178,15 @@ impl MemoryReplica {
         )
     }
 
-    fn block_matches(&self, alloc: Global, block: u64, number: u64) -> Result<bool, NoMemory>
+    fn block_matches(&self, alloc: Global, block: u64, number: u64) -> Result<bool, StoreFault>
         requires { 1 ≤ block }
         ensures { IfOk result (λ b. b ≡ block_matches block self.now number) }
     {
-        let others = self.changed.entries(alloc)?;
+        let others = listed(alloc, &self.changed)?;
         if !has_changed(others.as_slice(), block, number) {
             return Ok(true);
         }
-        let start = number.checked_mul(block).ok_or(NoMemory)?;
+        let start = number.checked_mul(block).ok_or(StoreFault::NoRoom)?;
         let matches = digests_match(
             alloc,
             self.bytes.as_slice(),
@@ -201,7 +205,7 @@ impl MemoryReplica {
         number: u64,
         first: u64,
         last: u64,
-    ) -> Result<bool, NoMemory>
+    ) -> Result<bool, StoreFault>
         requires { 1 ≤ block }
         ensures { IfOk result (λ b. b ≡ (nat_le first number && nat_le number last && not (block_matches block self.now number))) }
     {
@@ -212,11 +216,14 @@ impl MemoryReplica {
         Ok(!matches)
     }
 
-    /// A byte becomes another, past its digest. At an error nothing changed.
-    pub(crate) fn rot(&mut self, place: u64, byte: u8) -> Result<(), NoMemory>
+    /// A byte becomes another, past its digest. NoRoom: the place is past each that a replica in memory can have. At an error nothing changed.
+    pub(crate) fn rot(&mut self, place: u64, byte: u8) -> Result<(), StoreFault>
         ensures ok { OnOk result (self.new ≡ rotten_replica self.old place byte) }
         ensures err { OnErr result (self.new ≡ self.old) }
     {
+        if place > LAST_PLACE {
+            return Err(StoreFault::NoRoom);
+        }
         if self.stored_byte(place) == byte {
             self.changed.remove(place);
             return Ok(());
@@ -242,12 +249,14 @@ impl MemoryReplica {
         serial: Serial,
         offset: u64,
         content: &[u8],
-    ) -> Result<(), NoMemory>
+    ) -> Result<(), StoreFault>
         ensures ok { OnOk result (self.new ≡ written_replica self.old serial.0 offset content.now) }
         ensures err { OnErr result (self.new ≡ self.old) }
     {
-        let end = offset.checked_add(content.len() as u64).ok_or(NoMemory)?;
-        let others = self.changed.entries(alloc)?;
+        let end = offset
+            .checked_add(content.len() as u64)
+            .ok_or(StoreFault::NoRoom)?;
+        let others = listed(alloc, &self.changed)?;
         let changed = kept_outside(alloc, others.as_slice(), offset, end)?;
         write_over(&mut self.bytes, offset, content)?;
         self.changed = changed;
@@ -262,12 +271,12 @@ impl MemoryReplica {
         serial: Serial,
         offset: u64,
         count: u64,
-    ) -> Result<(), NoMemory>
+    ) -> Result<(), StoreFault>
         ensures ok { OnOk result (self.new ≡ written_replica self.old serial.0 offset (replicate count 0)) }
         ensures err { OnErr result (self.new ≡ self.old) }
     {
-        let end = offset.checked_add(count).ok_or(NoMemory)?;
-        let others = self.changed.entries(alloc)?;
+        let end = offset.checked_add(count).ok_or(StoreFault::NoRoom)?;
+        let others = listed(alloc, &self.changed)?;
         let changed = kept_outside(alloc, others.as_slice(), offset, end)?;
         zero_over(&mut self.bytes, offset, end)?;
         self.changed = changed;
@@ -291,10 +300,10 @@ fn digests_match(
     others: &[(u64, u8)],
     start: u64,
     count: u64,
-) -> Result<bool, NoMemory>
+) -> Result<bool, StoreFault>
     ensures { IfOk result (λ b. b ≡ bytes_eq (sha256 (take count (drop start (with_others others.now (grown stored.now (start + count)))))) (sha256 (take count (drop start (grown stored.now (start + count)))))) }
 {
-    let end = start.checked_add(count).ok_or(NoMemory)?;
+    let end = start.checked_add(count).ok_or(StoreFault::NoRoom)?;
     let mut bytes = Vec::from_slice(alloc, stored)?;
     grow(&mut bytes, end)?;
     let stored = Sha256::digest(block_of(bytes.as_slice(), start, count));

@@ -6,9 +6,20 @@ ghost use Rattle.std.specs.FinMap as map;
 ghost use Rattle.replica_store.specs.Replicas.{with_others};
 ghost use Rattle.memory_store.specs.Growing.{is_outside};
 
-use crate::ordered::OrderedMap;
 use gfs_types::no_memory::NoMemory;
+use ordered_map::OrderedMap;
 use std::alloc::Global;
+
+// The entries in order.
+pub(crate) fn listed(alloc: Global, changed: &OrderedMap<u8>) -> Result<Vec<(u64, u8)>, NoMemory>
+    ensures { IfOk result (λ v. v.items ≡ map.entries changed.now) }
+{
+    let mut entries = Vec::new(alloc);
+    for (place, byte) in changed.iter() {
+        entries.push((*place, *byte))?;
+    }
+    Ok(entries)
+}
 
 pub(crate) fn put_others(bytes: &mut Vec<u8>, others: &[(u64, u8)])
     ensures bytes { bytes.new.items ≡ with_others others.now bytes.old.items }

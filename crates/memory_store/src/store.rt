@@ -2,12 +2,10 @@
 
 ghost use Rattle.std.specs.Prelude.{◌≡◌, ◌≤◌, [], map, IfOk, OnOk, OnErr};
 ghost use Rattle.std.specs.Option.{option_copied};
-ghost use Rattle.std.specs.BTreeMap.{IsOrdered};
-ghost use Rattle.std.specs.Ordering.{nat_cmp};
+ghost use Rattle.std.specs.FinMap.{entries};
 ghost use Rattle.replica_store.specs.Replicas.{new_server_disk, disk_changed, replica_of};
 ghost use Rattle.server_store.specs.Stores.{line_of};
 
-use crate::ordered::OrderedMap;
 use crate::replica::MemoryReplica;
 use crate::table::{ReplicaTable, copy, raise, rot, write, zero};
 use bytes::Bytes;
@@ -15,12 +13,12 @@ use gfs_types::ids::{Handle, OrderNo};
 use gfs_types::no_memory::NoMemory;
 use messages::message::ReplicaLine;
 use messages::message_lists::ReplicaList;
+use ordered_map::OrderedMap;
 use replica_store::change::StoreChange;
 use replica_store::row::Row;
 use server_store::fault::StoreFault;
 use server_store::store::ReplicaStore;
 use std::alloc::Global;
-use std::collections::BTreeMap;
 use std::marker::Model;
 
 /// A server's replicas in memory. Each call takes O(log n) of the replicas and what the bytes that it touches take; a replica of which bytes
@@ -81,7 +79,7 @@ impl MemoryStore {
     }
 
     // At an error nothing changed.
-    fn make(&mut self, change: &StoreChange) -> Result<(), NoMemory>
+    fn make(&mut self, change: &StoreChange) -> Result<(), StoreFault>
         ensures ok { OnOk result (self.new.0 ≡ disk_changed self.old.0 change.now) }
         ensures err { OnErr result (self.new.0 ≡ self.old.0) }
         ensures under_way { self.new.1 ≡ self.old.1 }
@@ -136,7 +134,7 @@ impl MemoryStore {
                 handle,
                 copy: other,
                 version,
-            } => copy(&mut self.replicas, alloc, handle.0, other.0, *version),
+            } => Ok(copy(&mut self.replicas, alloc, handle.0, other.0, *version)?),
             StoreChange::Remove(handle) => {
                 self.replicas.remove(handle.0);
                 Ok(())
@@ -167,8 +165,7 @@ impl ReplicaStore for MemoryStore {
     }
 
     fn list(&self, alloc: Global) -> Result<ReplicaList, NoMemory> {
-        let lines = lines_of(alloc, self.replicas.kept())?;
-        Ok(lines)
+        lines_of(alloc, &self.replicas)
     }
 
     fn is_writable(&mut self, handle: Handle, offset: u64, end: u64) -> Result<bool, StoreFault> {
@@ -205,9 +202,9 @@ impl ReplicaStore for MemoryStore {
     }
 
     fn commit(&mut self, change: StoreChange) -> Result<(), StoreFault> {
-        if self.make(&change).is_err() {
+        if let Err(fault) = self.make(&change) {
             self.under_way = Some(change);
-            return Err(StoreFault::NoMemory);
+            return Err(fault);
         }
         Ok(())
     }
@@ -218,21 +215,25 @@ impl ReplicaStore for MemoryStore {
     }
 
     fn rot(&mut self, handle: Handle, place: u64, byte: u8) -> Result<(), StoreFault> {
-        rot(&mut self.replicas, handle.0, place, byte)?;
-        Ok(())
+        rot(&mut self.replicas, handle.0, place, byte)
     }
 }
 
-fn lines_of(alloc: Global, kept: &BTreeMap<u64, MemoryReplica>) -> Result<ReplicaList, NoMemory>
-    ensures all { IfOk result (λ l. l ≡ map line_of kept.now.entries) }
-    ensures ordered { IfOk result (λ _. IsOrdered nat_cmp kept.now) }
+fn lines_of(alloc: Global, replicas: &ReplicaTable) -> Result<ReplicaList, NoMemory>
+    ensures { IfOk result (λ l. l ≡ map line_of (entries replicas.now)) }
 {
     let mut lines = Vec::new(alloc);
-    for (handle, replica) in kept {
-        lines.push(ReplicaLine {
-            handle: Handle(*handle),
-            version: replica.version(),
-        })?;
+    for (handle, replica) in replicas.iter() {
+        lines.push(line_of(*handle, replica))?;
     }
     Ok(ReplicaList::new(lines))
+}
+
+fn line_of(handle: u64, replica: &MemoryReplica) -> ReplicaLine
+    ensures { result ≡ line_of (handle, replica.now) }
+{
+    ReplicaLine {
+        handle: Handle(handle),
+        version: replica.version(),
+    }
 }

@@ -5,10 +5,11 @@ ghost use Rattle.std.specs.FinMap as map;
 ghost use Rattle.replica_store.specs.Replicas.{written_replica, raised_replica, rotten_replica, bytes_on_disk, stored_replica};
 ghost use Rattle.memory_store.specs.Becoming.{becomes, copied};
 
-use crate::ordered::OrderedMap;
 use crate::replica::MemoryReplica;
 use gfs_types::ids::{Serial, Version};
 use gfs_types::no_memory::NoMemory;
+use ordered_map::OrderedMap;
+use server_store::fault::StoreFault;
 use std::alloc::Global;
 
 pub(crate) type ReplicaTable = OrderedMap<MemoryReplica>;
@@ -21,7 +22,7 @@ pub(crate) fn write(
     serial: Serial,
     offset: u64,
     content: &[u8],
-) -> Result<(), NoMemory>
+) -> Result<(), StoreFault>
     ensures ok { OnOk result (replicas.new ≡ becomes (λ r. written_replica r serial.0 offset content.now) replicas.old handle (map.get replicas.old handle)) }
     ensures err { OnErr result (replicas.new ≡ replicas.old) }
 {
@@ -39,7 +40,7 @@ pub(crate) fn zero(
     serial: Serial,
     offset: u64,
     count: u64,
-) -> Result<(), NoMemory>
+) -> Result<(), StoreFault>
     ensures ok { OnOk result (replicas.new ≡ becomes (λ r. written_replica r serial.0 offset (replicate count 0)) replicas.old handle (map.get replicas.old handle)) }
     ensures err { OnErr result (replicas.new ≡ replicas.old) }
 {
@@ -55,7 +56,7 @@ pub(crate) fn rot(
     handle: u64,
     place: u64,
     byte: u8,
-) -> Result<(), NoMemory>
+) -> Result<(), StoreFault>
     ensures ok { OnOk result (replicas.new ≡ becomes (λ r. rotten_replica r place byte) replicas.old handle (map.get replicas.old handle)) }
     ensures err { OnErr result (replicas.new ≡ replicas.old) }
 {

@@ -3,4 +3,3 @@ pub mod ClientWalk
 pub mod ClientNumbers
 pub mod Senders
 pub mod RequestsOnce
-pub mod NumbersRise

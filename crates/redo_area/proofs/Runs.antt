@@ -1,37 +1,10 @@
 -- How a run of a disk's calls goes on.
-use Rattle.std.proofs.Common.{◌≡◌, ◌⊎◌, inl, inr, ⊎_elim, ℕ, ◌+◌, ◌≤◌, Bool, true, List, length, arith, subst}
-use Rattle.disk.specs.Device.{ChangesOnly, Elapses, Follows, NoMore, Only}
-use Rattle.redo_area.specs.Moments.{ChangesBut, KeepsAt, LeavesOnly, Misses, is_outside}
+use Rattle.std.proofs.Common.{◌≡◌, ◌⊎◌, inl, inr, ⊎_elim, ℕ, ◌+◌, ◌≤◌, Bool, true, List, arith, subst, sym}
+use Rattle.disk.specs.Device.{ChangesOnly, Elapses, Follows, Forgets, NoMore, Only}
+use Rattle.gated_disk.specs.Moments.{LeavesOnly, OnlyReads}
+use Rattle.gated_disk.proofs.Moments.{goes_on, started, weaker}
+use Rattle.redo_area.specs.Moments.{ChangesBut, KeepsAt, Misses, is_outside}
 use Rattle.redo_area.proofs.Places.{changes_keep, keeps_all, keeps_fewer, keeps_then}
-
-module _ {D : Type 0} (moment : D → ℕ) (left_since : D → ℕ → List ℕ → Type 0) where
-  -- before the first call
-  pub started : (old : D) (P : List ℕ → Type 0) → ((c : List ℕ) → left_since old (moment old) c → P c) → LeavesOnly moment left_since old old P
-  started old P here = record { later = omega arith; each = here; before = λ t c le left. inl left }
-
-  -- one call more, after which a stop leaves what has P
-  pub elapsed : (old mid new : D) (P may_leave : List ℕ → Type 0) → LeavesOnly moment left_since old mid P → Elapses (moment mid) (moment new) (left_since mid) (left_since new) may_leave
-      → ((c : List ℕ) → may_leave c → P c) → LeavesOnly moment left_since old new P
-  elapsed old mid new P may_leave so_far time here = record {
-    later = omega (arith, so_far.later, time.later);
-    each = λ c left. ⊎_elim (so_far.each c) (here c) (time.nothing_else (moment old) c so_far.later left);
-    before = λ t c le left. ⊎_elim (so_far.before t c le) (λ now. inr (here c now)) (time.nothing_else t c (omega (arith, le, so_far.later)) left);
-  }
-
-  -- one run after another
-  pub joined : (old mid new : D) (P : List ℕ → Type 0) → LeavesOnly moment left_since old mid P → LeavesOnly moment left_since mid new P → LeavesOnly moment left_since old new P
-  joined old mid new P first second = record {
-    later = omega (arith, first.later, second.later);
-    each = λ c left. ⊎_elim (first.each c) (λ p. p) (second.before (moment old) c first.later left);
-    before = λ t c le left. ⊎_elim (first.before t c le) (λ p. inr p) (second.before t c (omega (arith, le, first.later)) left);
-  }
-
-  pub weaker : (old new : D) (P Q : List ℕ → Type 0) → ((c : List ℕ) → P c → Q c) → LeavesOnly moment left_since old new P → LeavesOnly moment left_since old new Q
-  weaker old new P Q so run = record {
-    later = run.later;
-    each = λ c left. so c (run.each c left);
-    before = λ t c le left. ⊎_elim (λ l. inl l) (λ p. inr (so c p)) (run.before t c le left);
-  }
 
 module _ {D : Type 0} (seen : D → List ℕ) (may_leave : D → List ℕ → Type 0) (moment : D → ℕ) (left_since : D → ℕ → List ℕ → Type 0) where
   -- before the first call
@@ -55,11 +28,38 @@ module _ {D : Type 0} (seen : D → List ℕ) (may_leave : D → List ℕ → Ty
       record {
         read = keeps_then kept (seen start) (seen old) (seen new) so_far.read (keeps_fewer kept (is_outside at n) (seen old) (seen new) misses (changes_keep at n (seen old) (seen new) changes));
         stop = left;
-        moments = elapsed moment left_since start old new _ (may_leave new) so_far.moments time left;
+        moments = goes_on moment left_since start old new _ (may_leave new) so_far.moments time left;
       }
+
+  -- what was before is told no more: nothing else happens
+  pub reads_forgotten : (old new : D) → ((c : List ℕ) → left_since old (moment old) c → may_leave old c) → seen new ≡ seen old → NoMore (may_leave old) (may_leave new)
+      → Forgets (moment old) (moment new) (left_since old) (left_since new) (may_leave new) → OnlyReads seen may_leave moment left_since old new
+  reads_forgotten old new only_now same crash time = record {
+    seen_same = same;
+    crash = crash;
+    any_moment = record {
+      later = time.later;
+      each = λ c left. ⊎_elim (only_now c) (crash c) (time.nothing_else (moment old) c (omega arith) left);
+      before = λ t c le left. ⊎_elim (λ was. inl was) (λ now. inr (crash c now)) (time.nothing_else t c le left);
+    };
+  }
+
+  -- and a run goes on
+  pub forgot_on : (kept : ℕ → Bool) (start old new : D) → seen new ≡ seen old → NoMore (may_leave old) (may_leave new)
+      → Forgets (moment old) (moment new) (left_since old) (left_since new) (may_leave new)
+      → ChangesBut seen may_leave moment left_since kept start old → ChangesBut seen may_leave moment left_since kept start new
+  forgot_on kept start old new same crash time so_far = record {
+    read = subst (λ (l : List ℕ). KeepsAt kept (seen start) l) (sym same) so_far.read;
+    stop = λ c now. so_far.stop c (crash c now);
+    moments = record {
+      later = omega (arith, so_far.moments.later, time.later);
+      each = λ c left. ⊎_elim (so_far.moments.each c) (λ now. so_far.stop c (crash c now)) (time.nothing_else (moment start) c so_far.moments.later left);
+      before = λ t c le left. ⊎_elim (so_far.moments.before t c le) (λ now. inr (so_far.stop c (crash c now))) (time.nothing_else t c (omega (arith, le, so_far.moments.later)) left);
+    };
+  }
 
   -- What a stop leaves during a run that began durable.
   pub held : (kept : ℕ → Bool) (P : List ℕ → Type 0) (old new : D) → Only (seen old) (may_leave old) → ((c : List ℕ) → KeepsAt kept (seen old) c → P c) → ChangesBut seen may_leave moment left_since kept old new
       → LeavesOnly moment left_since old new P
   held kept P old new only so run =
-      weaker moment left_since old new _ P (λ c left. so c (subst (λ (l : List ℕ). KeepsAt kept l c) (only left.0 left.1) left.2)) run.moments
+      weaker moment left_since old new _ P run.moments (λ c left. so c (subst (λ (l : List ℕ). KeepsAt kept l c) (only left.0 left.1) left.2))

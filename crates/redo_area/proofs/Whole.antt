@@ -4,7 +4,8 @@ use Rattle.disk.specs.Device.{Only}
 use Rattle.redo_area.specs.Moments.{ChangesBut, KeepsAt}
 use Rattle.redo_area.specs.Redo.{StandsOnly, stands_for}
 use Rattle.redo_area.specs.declared.range.RedoArea.{RedoArea}
-use Rattle.redo_area.proofs.Runs.{held, joined, weaker}
+use Rattle.gated_disk.proofs.Moments.{joined, weaker}
+use Rattle.redo_area.proofs.Runs.{held}
 
 module _ {D : Type 0} (seen : D → List ℕ) (may_leave : D → List ℕ → Type 0) (moment : D → ℕ) (left_since : D → ℕ → List ℕ → Type 0) (area : RedoArea) where
   pub stands_after : (kept : ℕ → Bool) (P : List ℕ → Type 0) (old new : D) → Only (seen old) (may_leave old) → ((c : List ℕ) → KeepsAt kept (seen old) c → P (stands_for area c)) → ChangesBut seen may_leave moment left_since kept old new
@@ -17,11 +18,11 @@ module _ {D : Type 0} (seen : D → List ℕ) (may_leave : D → List ℕ → Ty
   pub stands_then : (P : List ℕ → Type 0) (old mid new : D) → StandsOnly seen moment left_since area old mid P → StandsOnly seen moment left_since area mid new P → StandsOnly seen moment left_since area old new P
   stands_then P old mid new first second = record {
     read = second.read;
-    stop = joined moment left_since old mid new (λ c. P (stands_for area c)) first.stop second.stop;
+    stop = joined moment left_since old mid new (λ c. P (stands_for area c)) (λ c. P (stands_for area c)) (λ c. P (stands_for area c)) first.stop second.stop (λ c p. p) (λ c p. p);
   }
 
   pub stands_as : (P Q : List ℕ → Type 0) (old new : D) → ((bytes : List ℕ) → P bytes → Q bytes) → StandsOnly seen moment left_since area old new P → StandsOnly seen moment left_since area old new Q
   stands_as P Q old new so run = record {
     read = so (stands_for area (seen new)) run.read;
-    stop = weaker moment left_since old new (λ c. P (stands_for area c)) (λ c. Q (stands_for area c)) (λ c p. so (stands_for area c) p) run.stop;
+    stop = weaker moment left_since old new (λ c. P (stands_for area c)) (λ c. Q (stands_for area c)) run.stop (λ c p. so (stands_for area c) p);
   }

@@ -1,13 +1,7 @@
 -- What a run of calls of a disk does to what a read gives, and to what a stop at each of its moments leaves.
-use Rattle.std.specs.Prelude.{◌≡◌, ◌⊎◌, ℕ, ◌+◌, ◌≤◌, Bool, true, ◌||◌, nat_lt, nat_le, List, length, slice_index}
+use Rattle.std.specs.Prelude.{◌≡◌, ℕ, ◌+◌, Bool, true, ◌||◌, nat_lt, nat_le, List, length, slice_index}
 use Rattle.disk.specs.Device.{Follows}
-
--- A stop at any moment since old leaves bytes that have P.
-pub record LeavesOnly {D : Type 0} (moment : D → ℕ) (left_since : D → ℕ → List ℕ → Type 0) (old new : D) (P : List ℕ → Type 0) : Type 0 where
-  pub later : moment old ≤ moment new
-  pub each : (c : List ℕ) → left_since new (moment old) c → P c
-  -- for a run that began earlier
-  pub before : (t : ℕ) (c : List ℕ) → t ≤ moment old → left_since new t c → left_since old t c ⊎ P c
+use Rattle.gated_disk.specs.Moments.{LeavesOnly}
 
 -- Each place that is kept has the byte that it had, and the size stays.
 pub record KeepsAt (kept : ℕ → Bool) (old new : List ℕ) : Type 0 where

@@ -6,7 +6,7 @@ use Rattle.std.specs.Int.{w16, w32, w64, from_le_bytes, to_le_bytes}
 use Rattle.disk.specs.Bytes.{put_at, range_at}
 use Rattle.disk.specs.Device.{Only}
 use Rattle.redo_area.specs.Changes.{all_outside, applied}
-use Rattle.redo_area.specs.Moments.{LeavesOnly}
+use Rattle.gated_disk.specs.Moments.{LeavesOnly}
 use Rattle.redo_area.specs.declared.range.RedoRange.{RedoRange}
 use Rattle.redo_area.specs.declared.range.RedoArea.{RedoArea}
 

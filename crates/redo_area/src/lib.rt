@@ -4,7 +4,7 @@
 mod making;
 mod range;
 mod staging;
-mod step;
+pub mod step;
 
-pub use making::commit;
+pub use making::{commit, finish};
 pub use range::{RedoArea, RedoRange};

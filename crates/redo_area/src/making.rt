@@ -28,7 +28,7 @@ fn open_gate<D: Disk>(disk: &mut D, area: RedoArea, ranges: &[RedoRange]) -> Res
     sync(disk)
 }
 
-// Puts the ranges in place, and closes the gate. The disk stands for what it stood for.
+/// Puts the ranges in place, and closes the gate. The disk stands for what it stood for.
 pub fn finish<D: Disk>(disk: &mut D, area: RedoArea, ranges: &[RedoRange]) -> Result<(), DiskFault>
     requires area { IsAreaOf area (length (D.seen disk.old)) }
     requires redo { redo_in area (D.seen disk.old) ≡ Some ranges.now }

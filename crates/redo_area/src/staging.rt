@@ -7,7 +7,7 @@ ghost use Rattle.redo_area.specs.Moments.{ChangesBut, Misses};
 ghost use Rattle.redo_area.specs.Redo.{FitsArea, IsAreaOf, IsAtRest, StandsOnly, is_open, range_bytes, redo_bytes, redo_in, stands_for};
 
 use crate::range::{RedoArea, RedoRange};
-use crate::step::{sync, write};
+use crate::step::{begin, sync, write};
 use disk::{Disk, DiskFault};
 
 // Writes one range with its place and its length.
@@ -60,6 +60,7 @@ pub fn stage<D: Disk>(disk: &mut D, area: RedoArea, ranges: &[RedoRange]) -> Res
     ensures cause { HasCause (D.failed disk.old) (D.failed disk.new) result }
 {
     let _size = disk.size();
+    begin(disk);
     write_ranges(disk, area.place + 1, ranges)?;
     sync(disk)
 }

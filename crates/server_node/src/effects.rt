@@ -30,21 +30,21 @@ impl Effects {
         }
     }
 
-    pub(crate) fn send(&mut self, message: Message) -> Result<(), StoreFault>
+    pub fn send(&mut self, message: Message) -> Result<(), StoreFault>
         ensures { OnOk result (self.new ≡ record self.old { sent = self.old.sent ++ message ∷ [] }) }
     {
         self.sent.push(message)?;
         Ok(())
     }
 
-    pub(crate) fn change(&mut self, change: StoreChange) -> Result<(), StoreFault>
+    pub fn change(&mut self, change: StoreChange) -> Result<(), StoreFault>
         ensures { OnOk result (self.new ≡ record self.old { changes = self.old.changes ++ change ∷ [] }) }
     {
         self.changes.push(change)?;
         Ok(())
     }
 
-    pub(crate) fn show(&mut self, seen: Seen) -> Result<(), StoreFault>
+    pub fn show(&mut self, seen: Seen) -> Result<(), StoreFault>
         ensures { OnOk result (self.new ≡ record self.old { seen = self.old.seen ++ seen ∷ [] }) }
     {
         self.seen.push(seen)?;

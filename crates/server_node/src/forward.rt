@@ -27,8 +27,8 @@ pub struct Asked {
 }
 
 impl<S: ReplicaStore> Server<S> {
-    // A Forward.
-    pub(crate) fn takes_forward(
+    /// A Forward.
+    pub fn takes_forward(
         &mut self,
         effects: &mut Effects,
         asked: Asked,
@@ -172,8 +172,8 @@ impl<S: ReplicaStore> Server<S> {
         self.says(effects, primary, body)
     }
 
-    // Whether so many bytes lie within the chunk.
-    pub(crate) fn is_within(&self, offset: u64, count: u64) -> bool
+    /// Whether so many bytes lie within the chunk.
+    pub fn is_within(&self, offset: u64, count: u64) -> bool
         ensures { result ≡ nat_le (offset + count) self.now.config.chunk }
     {
         let chunk = u64::from(self.config.chunk);

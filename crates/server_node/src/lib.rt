@@ -3,11 +3,13 @@
 #![tactic(auto)]
 
 pub mod effects;
-mod forward;
-mod held;
-mod mutate;
-mod mutations;
+pub mod forward;
+mod lifetime;
+pub mod mutate;
+pub mod mutations;
 mod orders;
 mod push;
-mod reads;
+mod pushed;
+pub mod reads;
 pub mod server;
+mod ticks;

@@ -8,13 +8,13 @@ ghost use Rattle.protocol.specs.ServerWrites.{denies, forwards, acknowledges, ta
 ghost use Rattle.server_node.specs.Doing.{doing, OnHeld, held_at, numbers};
 
 use crate::effects::Effects;
-use crate::held::{acknowledge, deny, number, refuse};
 use crate::mutations::place_of;
 use crate::server::Server;
 use gfs_types::ids::{DataId, Handle, Node, Serial, ServerId, Version};
 use gfs_types::lists::ServerList;
 use gfs_types::mutation::Mutation;
 use gfs_types::refusal::Refusal;
+use held_leases::{acknowledge, deny, number, refuse};
 use messages::message::{Body, Change};
 use primary_order::answer::Settled;
 use protocol::seen::Seen;
@@ -32,8 +32,8 @@ pub struct Forwarded {
 }
 
 impl<S: ReplicaStore> Server<S> {
-    // A new attempt is refused, which is kept; its data are used up.
-    pub(crate) fn denies(
+    /// A new attempt is refused, which is kept; its data are used up.
+    pub fn denies(
         &mut self,
         effects: &mut Effects,
         id: DataId,
@@ -48,8 +48,8 @@ impl<S: ReplicaStore> Server<S> {
         self.refuses_attempt(effects, id, refusal)
     }
 
-    // The primary gives a mutation its serial, and its data are used up.
-    pub(crate) fn numbers(
+    /// The primary gives a mutation its serial, and its data are used up.
+    pub fn numbers(
         &mut self,
         effects: &mut Effects,
         id: DataId,
@@ -82,7 +82,8 @@ impl<S: ReplicaStore> Server<S> {
         })
     }
 
-    pub(crate) fn forwards(
+    /// A mutation goes to each of these.
+    pub fn forwards(
         &self,
         effects: &mut Effects,
         members: &ServerList,
@@ -110,8 +111,8 @@ impl<S: ReplicaStore> Server<S> {
         Ok(())
     }
 
-    // A member acknowledged: where it was the last one, the mutation is settled and its client is answered.
-    fn acknowledges(
+    /// A member acknowledged: where it was the last one, the mutation is settled and its client is answered.
+    pub fn acknowledges(
         &mut self,
         effects: &mut Effects,
         handle: Handle,
@@ -137,8 +138,8 @@ impl<S: ReplicaStore> Server<S> {
         self.answers_settled(effects, DataId { client, seq }, place)
     }
 
-    // An Acked; it counts only while the lease does.
-    pub(crate) fn takes_acked(
+    /// An Acked; it counts only while the lease does.
+    pub fn takes_acked(
         &mut self,
         effects: &mut Effects,
         server: ServerId,
@@ -155,8 +156,8 @@ impl<S: ReplicaStore> Server<S> {
         self.acknowledges(effects, handle, server, serial)
     }
 
-    // A Nacked: the member's refusal is handed to the client.
-    pub(crate) fn takes_nacked(
+    /// A Nacked: the member's refusal is handed to the client.
+    pub fn takes_nacked(
         &mut self,
         effects: &mut Effects,
         handle: Handle,

@@ -9,11 +9,11 @@ ghost use Rattle.protocol.specs.ServerOrders.{on_order, records, can_take, takes
 ghost use Rattle.server_node.specs.Doing.{doing, is_held_at};
 
 use crate::effects::Effects;
-use crate::held::extend;
 use crate::server::Server;
 use bytes::Bytes;
 use gfs_types::ids::{Handle, Moment, Node, OrderNo, Serial, ServerId, Version};
 use gfs_types::lists::ServerList;
+use held_leases::extend;
 use leases::lease::Lease;
 use messages::message::Body;
 use primary_order::order::SerialOrder;
@@ -22,12 +22,8 @@ use server_store::fault::StoreFault;
 use server_store::store::ReplicaStore;
 
 impl<S: ReplicaStore> Server<S> {
-    // Whether an order is taken: only where its number is greater than the last one's; that number is on the disk first.
-    pub(crate) fn begins_order(
-        &self,
-        effects: &mut Effects,
-        order: OrderNo,
-    ) -> Result<bool, StoreFault>
+    /// Whether an order is taken: only where its number is greater than the last one's; that number is on the disk first.
+    pub fn begins_order(&self, effects: &mut Effects, order: OrderNo) -> Result<bool, StoreFault>
         ensures new { IfOk result (λ b. b ≡ is_new_order self.now.disk order.epoch order.count) }
         ensures goes { IfOk result (λ b. doing self.now effects.new ≡ (if b then stores (doing self.now effects.old) (SetOrder order) else doing self.now effects.old)) }
     {
@@ -58,8 +54,8 @@ impl<S: ReplicaStore> Server<S> {
         self.store.row(handle).is_none() && !self.store.is_full(self.config.slots)
     }
 
-    // Create: an empty replica.
-    pub(crate) fn takes_create(
+    /// Create: an empty replica.
+    pub fn takes_create(
         &self,
         effects: &mut Effects,
         handle: Handle,
@@ -79,8 +75,8 @@ impl<S: ReplicaStore> Server<S> {
         self.records(effects, handle, version)
     }
 
-    // SetVersion: a replica of exactly the base gets the version; a lease that it had under the base is over.
-    pub(crate) fn takes_set_version(
+    /// SetVersion: a replica of exactly the base gets the version; a lease that it had under the base is over.
+    pub fn takes_set_version(
         &mut self,
         effects: &mut Effects,
         handle: Handle,
@@ -101,8 +97,8 @@ impl<S: ReplicaStore> Server<S> {
         self.records(effects, handle, version)
     }
 
-    // Grant: the lease begins, with serials from 1.
-    pub(crate) fn takes_grant(
+    /// Grant: the lease begins, with serials from 1.
+    pub fn takes_grant(
         &mut self,
         effects: &mut Effects,
         handle: Handle,
@@ -125,14 +121,8 @@ impl<S: ReplicaStore> Server<S> {
         Ok(())
     }
 
-    // Extend, which has no number.
-    pub(crate) fn takes_extend(
-        &mut self,
-        effects: &Effects,
-        handle: Handle,
-        version: Version,
-        end: Moment,
-    )
+    /// Extend, which has no number.
+    pub fn takes_extend(&mut self, effects: &Effects, handle: Handle, version: Version, end: Moment)
         ensures goes { takes_extend (doing self.old effects.now) handle.0 version.0 end.0 ≡ doing self.new effects.now }
         ensures frame { frame self.new ≡ frame self.old }
     {
@@ -150,8 +140,8 @@ impl<S: ReplicaStore> Server<S> {
         }
     }
 
-    // Revoke: a server without that lease answers the same.
-    pub(crate) fn takes_revoke(
+    /// Revoke: a server without that lease answers the same.
+    pub fn takes_revoke(
         &mut self,
         effects: &mut Effects,
         handle: Handle,
@@ -175,8 +165,8 @@ impl<S: ReplicaStore> Server<S> {
         }
     }
 
-    // Drop: nothing newer than the version goes.
-    pub(crate) fn takes_drop(
+    /// Drop: nothing newer than the version goes.
+    pub fn takes_drop(
         &mut self,
         effects: &mut Effects,
         handle: Handle,
@@ -195,8 +185,8 @@ impl<S: ReplicaStore> Server<S> {
         effects.change(StoreChange::Remove(handle))
     }
 
-    // Clone: the source is asked for its bytes.
-    pub(crate) fn takes_clone(
+    /// Clone: the source is asked for its bytes.
+    pub fn takes_clone(
         &mut self,
         effects: &mut Effects,
         handle: Handle,
@@ -214,8 +204,8 @@ impl<S: ReplicaStore> Server<S> {
         )
     }
 
-    // Image: it is installed only while its Clone order is the pending one, and at that exact version.
-    pub(crate) fn takes_image(
+    /// Image: it is installed only while its Clone order is the pending one, and at that exact version.
+    pub fn takes_image(
         &mut self,
         effects: &mut Effects,
         handle: Handle,
@@ -244,8 +234,8 @@ impl<S: ReplicaStore> Server<S> {
         self.says(effects, Node::Master, Body::Cloned { handle, version })
     }
 
-    // CopyLocal: a replica of a shared chunk is copied on the same disk, under a new handle.
-    pub(crate) fn takes_copy_local(
+    /// CopyLocal: a replica of a shared chunk is copied on the same disk, under a new handle.
+    pub fn takes_copy_local(
         &mut self,
         effects: &mut Effects,
         handle: Handle,

@@ -20,8 +20,8 @@ use server_store::store::ReplicaStore;
 use std::alloc::Global;
 
 impl<S: ReplicaStore> Server<S> {
-    // A Push: the data are kept and go to the next server; the last one answers.
-    pub(crate) fn takes_push(
+    /// A Push: the data are kept and go to the next server; the last one answers.
+    pub fn takes_push(
         &mut self,
         effects: &mut Effects,
         id: DataId,
@@ -32,9 +32,7 @@ impl<S: ReplicaStore> Server<S> {
         ensures frame { frame self.new ≡ frame self.old }
     {
         let kept = bytes.clone()?;
-        if self.pushed.put(id, kept).is_err() {
-            return Err(StoreFault::NoMemory);
-        }
+        self.pushed.put(self.alloc, id, kept)?;
         self.passes_on(effects, id, bytes, rest)
     }
 

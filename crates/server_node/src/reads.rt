@@ -23,8 +23,8 @@ pub struct Asking {
 }
 
 impl<S: ReplicaStore> Server<S> {
-    // A Read.
-    pub(crate) fn takes_read(
+    /// A Read.
+    pub fn takes_read(
         &mut self,
         effects: &mut Effects,
         asking: Asking,
@@ -54,8 +54,8 @@ impl<S: ReplicaStore> Server<S> {
         self.says(effects, client, Body::Bytes { number, bytes })
     }
 
-    // A Len.
-    pub(crate) fn takes_len(&self, effects: &mut Effects, asking: Asking) -> Result<(), StoreFault>
+    /// A Len.
+    pub fn takes_len(&self, effects: &mut Effects, asking: Asking) -> Result<(), StoreFault>
         ensures { OnOk result (takes_len (doing self.now effects.old) asking.client asking.number asking.handle.0 asking.version.0 ≡ doing self.now effects.new) }
     {
         let Asking {
@@ -74,8 +74,8 @@ impl<S: ReplicaStore> Server<S> {
         self.says(effects, client, Body::LenIs { number, count })
     }
 
-    // A CopyAsk: another server is to have a replica (section 4.3).
-    pub(crate) fn takes_copy_ask(
+    /// A CopyAsk: another server is to have a replica (section 4.3).
+    pub fn takes_copy_ask(
         &mut self,
         effects: &mut Effects,
         target: Node,

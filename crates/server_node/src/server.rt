@@ -1,21 +1,28 @@
 //! The chunkserver, and what all handlers share.
 
-ghost use Rattle.std.specs.Prelude.{◌≡◌, ◌≤◌, [], OnOk};
+ghost use Rattle.std.specs.Prelude.{◌≡◌, ◌≤◌, [], OnOk, IfOk};
 ghost use Rattle.std.specs.Option.{option_copied};
+ghost use Rattle.std.specs.FinMap as map;
+ghost use Rattle.data_push.specs.Buffers.{data_of};
+ghost use Rattle.replica_store.specs.Replicas.{row_at, is_writable_at};
+ghost use Rattle.protocol.specs.Tables.{moment_limit};
 ghost use Rattle.protocol.specs.Server.{says, refuses, drops_corrupt, primary_of, frame};
 ghost use Rattle.protocol.specs.ServerStep.{server_at};
 ghost use Rattle.protocol.specs.ServerWrites.{refuses_attempt, answers_settled};
 ghost use Rattle.server_node.specs.Doing.{doing};
 
 use crate::effects::Effects;
-use data_push::Buffer;
+use crate::pushed::Pushed;
+use bytes::Bytes;
 use gfs_types::config::Config;
 use gfs_types::ids::{DataId, Handle, Moment, Node, ServerId, Version};
 use gfs_types::refusal::Refusal;
+use held_leases::LeaseTable;
 use messages::message::{Body, Message};
 use number_map::NumberMap;
 use primary_order::order::SerialOrder;
 use replica_store::change::StoreChange;
+use replica_store::row::Row;
 use server_store::fault::StoreFault;
 use server_store::store::ReplicaStore;
 use std::alloc::Global;
@@ -29,8 +36,8 @@ pub struct Server<S: ReplicaStore> {
     pub(crate) up: bool,
     pub(crate) clock: u64,
     pub(crate) store: S,
-    pub(crate) leases: NumberMap<SerialOrder>,
-    pub(crate) pushed: Buffer,
+    pub(crate) leases: LeaseTable,
+    pub(crate) pushed: Pushed,
     pub(crate) clones: NumberMap<u64>,
     pub(crate) alloc: Global,
 }
@@ -40,6 +47,7 @@ impl<S: ReplicaStore> Model for Server<S> {
     ghost use Rattle.std.specs.FinMap as map;
     ghost use Rattle.std.specs.Coded.{codes, coded_ℕ};
     ghost use Rattle.protocol.specs.Server.{ServerState};
+    ghost use Rattle.protocol.specs.Tables.{moment_limit};
 
     ghost Value = { ServerState };
 
@@ -57,23 +65,83 @@ impl<S: ReplicaStore> Model for Server<S> {
       clones = s.clones;
     } };
 
-    ghost invariant = { λ s. (64 ≤ s.config.chunk) × (s.config.chunk ≤ 67108864) × (s.config.skew_ms ≤ 60000) × (s.clock ≤ 4000000000000000) × (s.pushed.limit ≡ max 1 s.config.push_entries) };
+    ghost invariant = { λ s. (64 ≤ s.config.chunk) × (s.config.chunk ≤ 67108864) × (s.config.skew_ms ≤ 60000) × (s.clock ≤ moment_limit) × (s.pushed.limit ≡ max 1 s.config.push_entries) };
 }
 
 impl<S: ReplicaStore> Server<S> {
-    pub(crate) fn move_clock(&mut self, now: Moment)
-        requires { now.0 ≤ 4000000000000000 }
+    /// Whether it is up.
+    pub fn is_up(&self) -> bool
+        ensures { result ≡ self.now.up }
+    {
+        self.up
+    }
+
+    /// Its number.
+    pub fn id(&self) -> ServerId
+        ensures { result.0 ≡ self.now.id }
+    {
+        self.id
+    }
+
+    /// The bytes of a chunk.
+    pub fn chunk(&self) -> u64
+        ensures size { result ≡ self.now.config.chunk }
+        ensures bound { result ≤ 67108864 }
+    {
+        u64::from(self.config.chunk)
+    }
+
+    /// The greatest moment that it was given.
+    pub fn clock(&self) -> Moment
+        ensures { result.0 ≡ self.now.now }
+    {
+        Moment(self.clock)
+    }
+
+    pub fn alloc(&self) -> Global {
+        self.alloc
+    }
+
+    /// What it knows of a replica.
+    pub fn row(&self, handle: Handle) -> Option<Row>
+        ensures { result ≡ row_at self.now.disk handle.0 }
+    {
+        self.store.row(handle)
+    }
+
+    /// The data that were pushed under an id.
+    pub fn data(&self, id: DataId) -> Option<&Bytes>
+        ensures { option_copied result ≡ data_of self.now.pushed id }
+    {
+        self.pushed.get(id)
+    }
+
+    /// The lease of a chunk.
+    pub fn lease(&self, handle: Handle) -> Option<&SerialOrder>
+        ensures { option_copied result ≡ map.get self.now.leases handle.0 }
+    {
+        self.leases.get(handle.0)
+    }
+
+    /// Whether a range of a replica can be written over.
+    pub fn is_writable(&mut self, handle: Handle, offset: u64, end: u64) -> Result<bool, StoreFault>
+        requires { self.old.under_way ≡ [] }
+        ensures value { IfOk result (λ b. b ≡ is_writable_at self.old.disk handle.0 offset end) }
+        ensures same { self.new ≡ self.old }
+    {
+        self.store.is_writable(handle, offset, end)
+    }
+
+    /// Goes on to a moment.
+    pub fn move_clock(&mut self, now: Moment)
+        requires { now.0 ≤ moment_limit }
         ensures { self.new ≡ server_at self.old now.0 }
     {
         self.clock = self.clock.max(now.0);
     }
 
-    pub(crate) fn says(
-        &self,
-        effects: &mut Effects,
-        receiver: Node,
-        body: Body,
-    ) -> Result<(), StoreFault>
+    /// A message is sent.
+    pub fn says(&self, effects: &mut Effects, receiver: Node, body: Body) -> Result<(), StoreFault>
         ensures { OnOk result (says (doing self.now effects.old) receiver body ≡ doing self.now effects.new) }
     {
         effects.send(Message {
@@ -84,7 +152,8 @@ impl<S: ReplicaStore> Server<S> {
         })
     }
 
-    pub(crate) fn refuses(
+    /// A refusal is sent.
+    pub fn refuses(
         &self,
         effects: &mut Effects,
         receiver: Node,
@@ -96,8 +165,8 @@ impl<S: ReplicaStore> Server<S> {
         self.says(effects, receiver, Body::Refused { number, refusal })
     }
 
-    // The client of an attempt is refused.
-    pub(crate) fn refuses_attempt(
+    /// The client of an attempt is refused.
+    pub fn refuses_attempt(
         &self,
         effects: &mut Effects,
         id: DataId,
@@ -108,8 +177,8 @@ impl<S: ReplicaStore> Server<S> {
         self.refuses(effects, Node::Client(id.client), id.seq, refusal)
     }
 
-    // The client of a settled attempt is answered: its place, or that the chunk is full now.
-    pub(crate) fn answers_settled(
+    /// The client of a settled attempt is answered: its place, or that the chunk is full now.
+    pub fn answers_settled(
         &self,
         effects: &mut Effects,
         id: DataId,
@@ -126,12 +195,8 @@ impl<S: ReplicaStore> Server<S> {
         }
     }
 
-    // A replica that doesn't match its checksums is dropped, and with it the lease.
-    pub(crate) fn drops_corrupt(
-        &mut self,
-        effects: &mut Effects,
-        handle: Handle,
-    ) -> Result<(), StoreFault>
+    /// A replica that doesn't match its checksums is dropped, and with it the lease.
+    pub fn drops_corrupt(&mut self, effects: &mut Effects, handle: Handle) -> Result<(), StoreFault>
         ensures goes { OnOk result (drops_corrupt (doing self.old effects.old) handle.0 ≡ doing self.new effects.new) }
         ensures frame { frame self.new ≡ frame self.old }
     {
@@ -139,8 +204,8 @@ impl<S: ReplicaStore> Server<S> {
         effects.change(StoreChange::Remove(handle))
     }
 
-    // The lease of a chunk, where it is of that version and counts now.
-    pub(crate) fn primary_of(&self, handle: Handle, version: Version) -> Option<&SerialOrder>
+    /// The lease of a chunk, where it is of that version and counts now.
+    pub fn primary_of(&self, handle: Handle, version: Version) -> Option<&SerialOrder>
         ensures { option_copied result ≡ primary_of self.now handle.0 version.0 }
     {
         let primary = self.leases.get(handle.0)?;

@@ -1,0 +1,4 @@
+pub mod MasterActs
+pub mod ActsOfNames
+pub mod ActsOfChunks
+pub mod ActsOfSteps

@@ -1,0 +1,142 @@
+//! A change of a disk, stopped at each call of the disk.
+
+ghost use Rattle.std.specs.Prelude.{◌≡◌, [], ◌∷◌, IfOk};
+
+use bytes::Bytes;
+use disk::{Disk, DiskFault, FuseDisk, MemDisk};
+use gfs_types::torn::Torn;
+use redo_area::{RedoArea, RedoRange, commit};
+use redo_opening::open;
+use std::alloc::{AllocError, Global};
+use std::test::Fail;
+
+const WAYS: [Torn; 5] = [
+    Torn::Old,
+    Torn::New,
+    Torn::Byte(0),
+    Torn::Byte(1),
+    Torn::Byte(7),
+];
+
+const AREA: RedoArea = RedoArea { place: 4, size: 64 };
+
+// The change takes 17 calls of the disk, and an opening 9 at most.
+const CALLS: u64 = 18;
+
+const OPENING_CALLS: u64 = 10;
+
+// What a run came to: whether the last call succeeded, and the first four bytes.
+#[derive(Clone, Copy, Debug, PartialEq, Eq)]
+struct Found {
+    done: bool,
+    bytes: [u8; 4],
+}
+
+fn two_ranges(alloc: Global) -> Result<Vec<RedoRange>, AllocError>
+    ensures { IfOk result (λ v. v.items ≡ record { place = 0; bytes = 5 ∷ [] } ∷ record { place = 2; bytes = 6 ∷ 7 ∷ [] } ∷ []) }
+{
+    let mut ranges = Vec::new(alloc);
+    ranges.push(RedoRange {
+        place: 0,
+        bytes: Bytes::copy_from_slice(alloc, &[5])?,
+    })?;
+    ranges.push(RedoRange {
+        place: 2,
+        bytes: Bytes::copy_from_slice(alloc, &[6, 7])?,
+    })?;
+    Ok(ranges)
+}
+
+// Opens the area, and makes the change.
+fn change<D: Disk>(alloc: Global, disk: &mut D) -> Result<(), DiskFault> {
+    let ranges = two_ranges(alloc)?;
+    if disk.size() != 68 {
+        return Err(DiskFault::Device);
+    }
+    open(alloc, disk, AREA)?;
+    commit(disk, AREA, &ranges)
+}
+
+// Opens the area, and reads the first four bytes.
+fn reopened<D: Disk>(alloc: Global, disk: &mut D) -> Result<[u8; 4], DiskFault> {
+    let mut out = [0; 4];
+    if disk.size() != 68 {
+        return Err(DiskFault::Device);
+    }
+    open(alloc, disk, AREA)?;
+    disk.read(0, &mut out)?;
+    Ok(out)
+}
+
+// The change with `calls` calls of the disk, a stop, an opening with `more` calls, a stop, and an opening.
+fn stopped_twice(
+    alloc: Global,
+    calls: u64,
+    torn: Torn,
+    more: u64,
+    torn_again: Torn,
+) -> Result<Found, Fail> {
+    let mut first = FuseDisk::new(MemDisk::new(alloc, 68)?);
+    first.arm(calls);
+    let done = change(alloc, &mut first).is_ok();
+    let mut second = FuseDisk::new(first.stop(torn));
+    second.arm(more);
+    let _stopped = reopened(alloc, &mut second);
+    let mut third = second.stop(torn_again);
+    let bytes = reopened(alloc, &mut third)?;
+    Ok(Found { done, bytes })
+}
+
+// What every way to stop comes to.
+#[derive(Clone, Copy, Debug, PartialEq, Eq)]
+struct Outcomes {
+    whole: bool,
+    done: bool,
+}
+
+fn all_ways(alloc: Global, calls: u64, more: u64) -> Result<Outcomes, Fail> {
+    let mut all = Outcomes {
+        whole: true,
+        done: true,
+    };
+    for torn in WAYS {
+        for torn_again in WAYS {
+            let found = stopped_twice(alloc, calls, torn, more, torn_again)?;
+            let made = found.bytes == [5, 0, 6, 7];
+            all.whole = all.whole && (made || (!found.done && found.bytes == [0, 0, 0, 0]));
+            all.done = all.done && found.done;
+        }
+    }
+    Ok(all)
+}
+
+#[test]
+fn a_change_is_whole_or_not_made(rt: HostRuntime) -> Result<(), Fail> {
+    let alloc = rt.alloc();
+    let mut done = false;
+    for calls in 0..CALLS {
+        for more in 0..OPENING_CALLS {
+            let all = all_ways(alloc, calls, more)?;
+            assert!(rt; all.whole);
+            done = all.done;
+        }
+    }
+    assert!(rt; done);
+    Ok(())
+}
+
+// The gate is open and what stands behind it is no change: the opening closes it.
+#[test]
+fn no_change_behind_an_open_gate(rt: HostRuntime) -> Result<(), Fail> {
+    let alloc = rt.alloc();
+    let mut disk = MemDisk::new(alloc, 68)?;
+    let mut gate = [9; 1];
+    if disk.size() == 68 {
+        assert!(rt; disk.write_at(4, &[1, 9, 9]).is_ok());
+        assert!(rt; disk.sync().is_ok());
+        assert!(rt; open(alloc, &mut disk, AREA).is_ok());
+        assert!(rt; disk.read(4, &mut gate).is_ok());
+    }
+    assert_eq!(rt; gate, [0]);
+    Ok(())
+}
