@@ -1,7 +1,7 @@
 -- What an ask of a client and a word of a server lead to at the master keeps what each act keeps.
 use Rattle.std.proofs.Common.{◌≡◌, ℕ, zero, suc, ◌+◌, ◌-◌, ◌≤◌, ◌<◌, arith, Bool, true, false, cond, List, [], ◌∷◌, ◌++◌, length, map, Option, Some, None, refl, sym, subst, inl, inr, ap, is_some, ◌∙◌}
 use Rattle.std.specs.Prelude.{nat_le, nat_lt, ◌==◌, ◌&&◌, not, unwrap_or}
-use Rattle.std.proofs.lemmas.Bool.{eqb-true, leb-true, leb-false, ltb-true}
+use Rattle.std.proofs.lemmas.Bool.{eqb-true, leb-true, leb-false, ltb-true, or_left, or_right}
 use Rattle.std.specs.FinMap as table
 use Rattle.gfs_types.specs.declared.ids.Node.{Node}
 use Rattle.gfs_types.specs.declared.ids.OrderNo.{OrderNo}
@@ -14,7 +14,7 @@ use Rattle.messages.specs.declared.message.ReplicaLine.{ReplicaLine}
 use Rattle.messages.specs.declared.message.LeaseLine.{LeaseLine}
 use Rattle.log_records.specs.declared.record.Record.{Record}
 use Rattle.log_records.specs.declared.record.Record.TheVariants as log
-use Rattle.protocol.specs.Tables.{Table, removed_all, element_at, rising, has_number, with_number, same_numbers}
+use Rattle.protocol.specs.Tables.{Table, removed_all, element_at, rising, has_number, with_number}
 use Rattle.protocol.specs.Sending.{the_server, file_id, handle_of, version_of, moment_of, order_number}
 use Rattle.protocol.specs.Logged.{Logged, LogDisk, checkpoint_of, after_record, swapped_in}
 use Rattle.chunk_table.specs.ChunkTable.{ChunkRow, new_row, changed_by, chunk_of, file_of, handles_of, grant}
@@ -33,7 +33,9 @@ use Rattle.protocol_laws.proofs.LeasesEnded.{HasEnded, ended_issued, ended_remov
 use Rattle.protocol_laws.proofs.Namespace.{IsNamed}
 use Rattle.protocol_laws.proofs.VersionAttempts.{IsTold, fewer_told, one_told, both_of, AreTargets, holder_targets, holders_servers, targets_servers, copy_servers}
 use Rattle.protocol_laws.proofs.MasterMoves.{Core, core_of, grant_record, Nothing, NoneEnded, IsDue, due_later, removed_other, IsPlainOrder, Keeps, IsAfter, record_names, names_later}
-use Rattle.protocol_acts.proofs.MasterActs.{IsRowing, rowing_keeps, Attempts, Acts, both_false, Base, Here, IsFrom, tells_here, orders_here, less_here, ends_here, extends_here, checkpoint_here, logs_here}
+use Rattle.protocol_laws.proofs.Entries.{AllOf, same_number}
+use Rattle.protocol_acts.specs.Given.{version_given}
+use Rattle.protocol_acts.proofs.MasterActs.{IsRowing, rowing_keeps, Attempts, Acts, both_false, Base, Here, IsFrom, tells_here, orders_here, gives_here, less_here, ends_here, extends_here, checkpoint_here, logs_here}
 use Rattle.protocol_acts.proofs.ActsOfNames.{revokes_acts}
 use Rattle.gfs_types.specs.declared.ids.FileId.{FileId}
 use Rattle.gfs_types.specs.declared.ids.Handle.{Handle}
@@ -54,6 +56,28 @@ plain_version handle version (Some base) o = tt
 plain_copy : (handle copy version : ℕ) (base : Option ℕ) (o : OrderNo) → IsPlainOrder (copy_order handle copy version base o)
 plain_copy handle copy version None o = tt
 plain_copy handle copy version (Some base) o = tt
+
+given_version : (handle version : ℕ) (base : Option ℕ) (o : OrderNo) → version_given (version_order handle version base o) ≡ Some (handle, version)
+given_version handle version None o = refl
+given_version handle version (Some base) o = refl
+
+given_copy : (handle copy version : ℕ) (base : Option ℕ) (o : OrderNo) → version_given (copy_order handle copy version base o) ≡ Some (copy, version)
+given_copy handle copy version None o = refl
+given_copy handle copy version (Some base) o = refl
+
+-- these are servers of the attempt
+abbrev AreServersOf : VersionAttempt → List VersionTarget → Type 0
+AreServersOf a targets = AllOf (λ t. has_number a.servers t.server ≡ true) targets
+
+targets_in : (ns : List ℕ) (targets : List VersionTarget) → ((n : ℕ) → has_number (target_servers targets) n ≡ true → has_number ns n ≡ true) → AllOf (λ t. has_number ns t.server ≡ true) targets
+targets_in ns [] f = tt
+targets_in ns (t ∷ rest) f = (
+  f t.server (or_left (t.server == t.server) (has_number (target_servers rest) t.server) (same_number t.server)),
+  targets_in ns rest (λ n h. f n (or_right (t.server == n) (has_number (target_servers rest) n) h)),
+)
+
+servers_in : (targets : List VersionTarget) → AllOf (λ t. has_number (target_servers targets) t.server ≡ true) targets
+servers_in targets = targets_in (target_servers targets) targets (λ n h. h)
 
 -- the file that is asked for is there
 abbrev pub IsThere : MasterDoing → Asker → Type 0
@@ -119,11 +143,13 @@ module _ (start : LogDisk) (Q : Core → Attempts → Type 0) (acts : Acts start
   wait_acts : (d : MasterDoing) (a : Asker) → Here start Q acts d → Here start Q acts (tells_to_wait d a)
   wait_acts d a h = tells_here start Q acts d a.client (body.Wait a.number) refl h
 
-  versions_acts : (d : MasterDoing) (handle version : ℕ) (targets : List VersionTarget) → Here start Q acts d → Here start Q acts (sends_versions d handle version targets)
-  versions_acts d handle version [] h = h
-  versions_acts d handle version (t ∷ rest) h =
-      versions_acts (orders d t.server (version_order handle version t.base)) handle version rest
-      (orders_here start Q acts d t.server (version_order handle version t.base) (numbered_version handle version t.base) (plain_version handle version t.base) h)
+  versions_acts : (d : MasterDoing) (handle version : ℕ) (a : VersionAttempt) (targets : List VersionTarget) → table.get d.master.attempts handle ≡ Some a → a.version ≡ version → AreServersOf a targets → Here start Q acts d
+      → Here start Q acts (sends_versions d handle version targets)
+  versions_acts d handle version a [] at same in_it h = h
+  versions_acts d handle version a (t ∷ rest) at same in_it h =
+      versions_acts (orders d t.server (version_order handle version t.base)) handle version a rest at same in_it.1
+      (gives_here start Q acts d t.server handle a (version_order handle version t.base) at in_it.0 (numbered_version handle version t.base) (plain_version handle version t.base)
+      (λ o. given_version handle version t.base o ∙ ap (λ (v : ℕ). Some (handle, v)) (sym same)) h)
 
   -- a new attempt, which nobody recorded yet
   attempt_base : (d : MasterDoing) (handle : ℕ) (a : VersionAttempt) → IsAbove d handle a.version → Base start Q acts d → Base start Q acts (with_attempt d handle a)
@@ -145,7 +171,7 @@ module _ (start : LogDisk) (Q : Core → Attempts → Type 0) (acts : Acts start
       let tried : MasterDoing → Attempts = λ e. table.insert e.master.attempts handle (new_attempt e.master version targets) in (
         attempt_base d handle (new_attempt d.master version targets) above h.0,
         subst (λ (e : MasterDoing). Q (core_of e) e.master.attempts → Q (core_of e) (tried e)) (sym from.is)
-            (acts.issues (core_of b) b.master.attempts handle from.due.0 (new_attempt (appends b (issue_record handle version)).master version targets) from.due.1 from.due.2 from.here.1) h.1,
+            (acts.issues (core_of b) b.master.attempts handle from.due.0 (new_attempt (appends b (issue_record handle version)).master version targets) from.due.1 from.due.2 from.here.0.0 from.here.1) h.1,
       )
 
   copy_acts : (d : MasterDoing) (file : FileId) (index : ℕ) (source : Handle) (copy version : ℕ) (targets : List VersionTarget) → IsFrom start Q acts (log.CopyStart file index source (handle_of copy) (version_of version)) d
@@ -155,14 +181,14 @@ module _ (start : LogDisk) (Q : Core → Attempts → Type 0) (acts : Acts start
       let tried : MasterDoing → Attempts = λ e. table.insert e.master.attempts copy (new_attempt e.master version targets) in (
         attempt_base d copy (new_attempt d.master version targets) above h.0,
         subst (λ (e : MasterDoing). Q (core_of e) e.master.attempts → Q (core_of e) (tried e)) (sym from.is)
-            (acts.copies (core_of b) b.master.attempts file index source copy (new_attempt (appends b (log.CopyStart file index source (handle_of copy) (version_of version))).master version targets) from.due.0 from.here.1) h.1,
+            (acts.copies (core_of b) b.master.attempts file index source copy (new_attempt (appends b (log.CopyStart file index source (handle_of copy) (version_of version))).master version targets) from.due.0 from.here.0.0 from.here.1) h.1,
       )
 
   issued_acts : (a : Asker) (handle version : ℕ) (targets : List VersionTarget) (d : MasterDoing) → IsFrom start Q acts (issue_record handle version) d → IsAbove d handle version → Here start Q acts d
       → Here start Q acts (sends_issued d a handle version targets)
   issued_acts a handle version targets d from above h =
       let tried : MasterDoing = with_attempt d handle (new_attempt d.master version targets) in
-      wait_acts (sends_versions tried handle version targets) a (versions_acts tried handle version targets (attempt_acts d handle version targets from above h))
+      wait_acts (sends_versions tried handle version targets) a (versions_acts tried handle version (new_attempt d.master version targets) targets (put_there d.master.attempts handle (new_attempt d.master version targets) handle refl) refl (servers_in targets) (attempt_acts d handle version targets from above h))
 
   -- the next number is above what was granted, once it is logged
   next_above : (d : MasterDoing) (handle : ℕ) (row : ChunkRow) → chunk_of d.master.logged.table handle ≡ Some row → IsIdle d handle → Here start Q acts d → (e : MasterDoing)
@@ -194,18 +220,20 @@ module _ (start : LogDisk) (Q : Core → Attempts → Type 0) (acts : Acts start
   own_acts d a handle row true is idle h = wait_acts d a h
   own_acts d a handle row false is idle h = issues_acts d a handle row handle row (targets_by d.master handle row (recorded_holders d.master handle row)) is idle (targets_servers d.master handle row) h
 
-  sends_copies_acts : (d : MasterDoing) (handle copy version : ℕ) (targets : List VersionTarget) → Here start Q acts d → Here start Q acts (sends_copies d handle copy version targets)
-  sends_copies_acts d handle copy version [] h = h
-  sends_copies_acts d handle copy version (t ∷ rest) h =
-      sends_copies_acts (orders d t.server (copy_order handle copy version t.base)) handle copy version rest
-      (orders_here start Q acts d t.server (copy_order handle copy version t.base) (numbered_copy handle copy version t.base) (plain_copy handle copy version t.base) h)
+  sends_copies_acts : (d : MasterDoing) (handle copy version : ℕ) (a : VersionAttempt) (targets : List VersionTarget) → table.get d.master.attempts copy ≡ Some a → a.version ≡ version → AreServersOf a targets → Here start Q acts d
+      → Here start Q acts (sends_copies d handle copy version targets)
+  sends_copies_acts d handle copy version a [] at same in_it h = h
+  sends_copies_acts d handle copy version a (t ∷ rest) at same in_it h =
+      sends_copies_acts (orders d t.server (copy_order handle copy version t.base)) handle copy version a rest at same in_it.1
+      (gives_here start Q acts d t.server copy a (copy_order handle copy version t.base) at in_it.0 (numbered_copy handle copy version t.base) (plain_copy handle copy version t.base)
+      (λ o. given_copy handle copy version t.base o ∙ ap (λ (v : ℕ). Some (copy, v)) (sym same)) h)
 
   started_acts : (a : Asker) (file : FileId) (index handle copy version : ℕ) (targets : List VersionTarget) (d : MasterDoing) → IsFrom start Q acts (log.CopyStart file index (handle_of handle) (handle_of copy) (version_of version)) d
       → IsAbove d copy version → Here start Q acts d → Here start Q acts (sends_copy_started d a handle copy version targets)
   started_acts a file index handle copy version targets d from above h =
       let seen : MasterDoing = record d { seen = d.seen ++ CopyStarted (handle_of handle) (handle_of copy) ∷ [] } in
       let tried : MasterDoing = with_attempt seen copy (new_attempt d.master version targets) in
-      wait_acts (sends_copies tried handle copy version targets) a (sends_copies_acts tried handle copy version targets (copy_acts d file index (handle_of handle) copy version targets from above h))
+      wait_acts (sends_copies tried handle copy version targets) a (sends_copies_acts tried handle copy version (new_attempt d.master version targets) targets (put_there d.master.attempts copy (new_attempt d.master version targets) copy refl) refl (servers_in targets) (copy_acts d file index (handle_of handle) copy version targets from above h))
 
   -- of a copy that is begun nothing was granted
   copy_above : (d : MasterDoing) (r : Record) (copy version : ℕ) (new : ChunkRow) → new.granted ≡ 0 → new.lease_end ≡ 0 → ((l : Logged) → rows_of (after_record l r) ≡ table.insert (rows_of l) copy new) → 1 ≤ version → (e : MasterDoing)
@@ -341,9 +369,9 @@ module _ (start : LogDisk) (Q : Core → Attempts → Type 0) (acts : Acts start
 
   -- grants
 
-  grant_acts : (d : MasterDoing) (handle : ℕ) (a : VersionAttempt) (primary : ℕ) (members : List ℕ) → table.get d.master.attempts handle ≡ Some a → IsDue (Unit {0}) d.master.logged (grant_record handle a.version primary members)
+  grant_acts : (d : MasterDoing) (handle : ℕ) (a : VersionAttempt) (primary : ℕ) (members : List ℕ) → table.get d.master.attempts handle ≡ Some a → rising a.servers ≡ members → IsDue (Unit {0}) d.master.logged (grant_record handle a.version primary members)
       → IsIdle d handle → Here start Q acts d → Here start Q acts (sends_grant (appends d (grant_record handle a.version primary members)) handle a.version primary members)
-  grant_acts d handle a primary members at due idle h =
+  grant_acts d handle a primary members at all_of due idle h =
       let version : ℕ = a.version in
       let until : ℕ = d.master.now + d.master.config.lease_ms in
       let r : Record = grant_record handle version primary members in
@@ -361,12 +389,12 @@ module _ (start : LogDisk) (Q : Core → Attempts → Type 0) (acts : Acts start
             (changed_from (rows_of two) handle (λ row. record row { lease_end = until }) (table.get (rows_of two) handle) refl (λ row. (refl, refl, refl)))
             (ahead_from left (rows_of one) (rows_of two) (swapped_from one handle (table.get l.copies handle)) (grant_ahead d.master.attempts (rows_of l) handle version primary members (h.0.3 asks).ahead))) (h.0.3 asks),
       ) in
-      (base, acts.grants (core_of d) d.master.attempts handle a until primary members at due h.0.0 base.0 h.1)
+      (base, acts.grants (core_of d) d.master.attempts handle a until primary members at all_of due h.0.0 base.0 h.1)
 
-  grants_to_acts : (d : MasterDoing) (handle : ℕ) (row : ChunkRow) (a : VersionAttempt) (servers : List ℕ) → chunk_of d.master.logged.table handle ≡ Some row → table.get d.master.attempts handle ≡ Some a
+  grants_to_acts : (d : MasterDoing) (handle : ℕ) (row : ChunkRow) (a : VersionAttempt) (servers : List ℕ) → chunk_of d.master.logged.table handle ≡ Some row → table.get d.master.attempts handle ≡ Some a → rising a.servers ≡ servers
       → IsAbove d handle a.version → Here start Q acts d → Here start Q acts (grants_to d handle a servers)
-  grants_to_acts d handle row a [] is at above h = h
-  grants_to_acts d handle row a (primary ∷ rest) is at above h =
+  grants_to_acts d handle row a [] is at all_of above h = h
+  grants_to_acts d handle row a (primary ∷ rest) is at all_of above h =
       let members : List ℕ = primary ∷ rest in
       let r : Record = grant_record handle a.version primary members in
       let due : IsDue (Unit {0}) d.master.logged r = (row, is, λ asks. ((above asks).0).1 row is) in
@@ -374,21 +402,21 @@ module _ (start : LogDisk) (Q : Core → Attempts → Type 0) (acts : Acts start
       let was : Bool = is_of_copy d.master.logged r in
       let handles : List ℕ = table.keys d.master.logged.copies in
       let b : MasterDoing = writes_checkpoint d in
-      on_cond (Here start Q acts) (fits d r) (then_ (appends d r)) _ (λ _. grant_acts d handle a primary members at due (λ asks. (above asks).1) h)
+      on_cond (Here start Q acts) (fits d r) (then_ (appends d r)) _ (λ _. grant_acts d handle a primary members at all_of due (λ asks. (above asks).1) h)
       (λ _. on_cond (Here start Q acts) (checkpoint_fits d.master.config.log_bytes (checkpoint_of d.master.logged)) (logs_after_checkpoint b r was then_) d
       (λ _. on_cond (Here start Q acts) (fits b r && not was) (then_ (appends b r)) b
       (λ t. let free : was ≡ false = both_false (fits b r) was t in
-      grant_acts b handle a primary members (removed_other d.master.attempts handles handle (sym (table.contains_key-keys d.master.logged.copies handle) ∙ free) ∙ at) (due_later (Unit {0}) d.master.logged r free due)
+      grant_acts b handle a primary members (removed_other d.master.attempts handles handle (sym (table.contains_key-keys d.master.logged.copies handle) ∙ free) ∙ at) all_of (due_later (Unit {0}) d.master.logged r free due)
       (λ asks. ended_removed d.master.now (rows_of d.master.logged) handles handle (above asks).1) (checkpoint_here start Q acts d h))
       (λ _. checkpoint_here start Q acts d h))
       (λ _. h))
 
-  recorded_acts : (d : MasterDoing) (handle : ℕ) (row : ChunkRow) (old a : VersionAttempt) → chunk_of d.master.logged.table handle ≡ Some row → table.get d.master.attempts handle ≡ Some old → a.version ≡ old.version
+  recorded_acts : (d : MasterDoing) (handle : ℕ) (row : ChunkRow) (old a : VersionAttempt) → chunk_of d.master.logged.table handle ≡ Some row → table.get d.master.attempts handle ≡ Some old → a.version ≡ old.version → a.servers ≡ old.servers
       → IsAbove d handle a.version → Here start Q acts d → Here start Q acts (with_recorded d handle a)
-  recorded_acts d handle row old a is at same above h =
-      let now : Here start Q acts (with_attempt d handle a) = (attempt_base d handle a above h.0, acts.records (core_of d) d.master.attempts handle old a at same h.1) in
+  recorded_acts d handle row old a is at same servers above h =
+      let now : Here start Q acts (with_attempt d handle a) = (attempt_base d handle a above h.0, acts.records (core_of d) d.master.attempts handle old a at same servers h.1) in
       on_cond (Here start Q acts) (is_complete d.master a) (grants_to (with_attempt d handle a) handle a (rising a.servers)) (with_attempt d handle a)
-      (λ all. grants_to_acts (with_attempt d handle a) handle row a (rising a.servers) is (put_there d.master.attempts handle a handle refl) above now)
+      (λ all. grants_to_acts (with_attempt d handle a) handle row a (rising a.servers) is (put_there d.master.attempts handle a handle refl) refl above now)
       (λ _. now)
 
   learns_attempt_acts : (d : MasterDoing) (server handle version : ℕ) (o : Option ChunkRow) (p : Option VersionAttempt) → chunk_of d.master.logged.table handle ≡ o
@@ -398,7 +426,7 @@ module _ (start : LogDisk) (Q : Core → Attempts → Type 0) (acts : Acts start
   learns_attempt_acts d server handle version (Some row) (Some a) row_is is h =
       let more : VersionAttempt = record a { recorded = with_number a.recorded server } in
       on_cond (Here start Q acts) ((a.version == version) && has_number a.servers server) (with_recorded d handle more) d
-      (λ fits. recorded_acts d handle row a more row_is is refl (λ asks. (((h.0.3 asks).ahead).ahead handle a is, (h.0.3 asks).attempted handle a is)) h) (λ _. h)
+      (λ fits. recorded_acts d handle row a more row_is is refl refl (λ asks. (((h.0.3 asks).ahead).ahead handle a is, (h.0.3 asks).attempted handle a is)) h) (λ _. h)
 
   learns_acts : (d : MasterDoing) (server handle version : ℕ) → Here start Q acts d → Here start Q acts (learns d server handle version)
   learns_acts d server handle version h = learns_attempt_acts d server handle version (chunk_of d.master.logged.table handle) (table.get d.master.attempts handle) refl refl h
@@ -419,7 +447,7 @@ module _ (start : LogDisk) (Q : Core → Attempts → Type 0) (acts : Acts start
   drops_acts d server (line ∷ rest) h =
       let dropped : MasterDoing = orders d server (λ order. body.Drop order line.handle line.version) in
       on_cond (λ (e : MasterDoing). Here start Q acts (drops_useless e server rest)) (is_useless line.version.0 (chunk_of d.master.logged.table line.handle.0)) dropped d
-      (λ _. drops_acts dropped server rest (orders_here start Q acts d server (λ order. body.Drop order line.handle line.version) (λ o. refl) (λ o. tt) h))
+      (λ _. drops_acts dropped server rest (orders_here start Q acts d server (λ order. body.Drop order line.handle line.version) (λ o. refl) (λ o. tt) (λ o. refl) h))
       (λ _. drops_acts d server rest h)
 
   learns_all_acts : (d : MasterDoing) (server : ℕ) (lines : List ReplicaLine) → Here start Q acts d → Here start Q acts (learns_all d server lines)

@@ -3,34 +3,30 @@ use Rattle.std.proofs.Common.{◌≡◌, ℕ, List, [], ◌∷◌, Option, Some,
 use Rattle.std.specs.Prelude.{nat_le, nat_lt, ◌==◌, not}
 use Rattle.std.specs.FinMap as table
 use Rattle.gfs_types.specs.declared.ids.Node.{Node}
-use Rattle.gfs_types.specs.declared.ids.OrderNo.{OrderNo}
 use Rattle.gfs_types.specs.declared.call.Call.{Call}
 use Rattle.gfs_types.specs.declared.call.Call.TheVariants as call
 use Rattle.gfs_types.specs.declared.refusal.Refusal.{Refusal}
 use Rattle.gfs_types.specs.declared.refusal.Refusal.TheVariants.{NamesFull}
 use Rattle.messages.specs.declared.message.NameReply.TheVariants.{Answered}
-use Rattle.messages.specs.declared.message.Body.{Body}
 use Rattle.messages.specs.declared.message.Body.TheVariants as body
 use Rattle.log_records.specs.declared.record.Record.{Record}
 use Rattle.log_records.specs.declared.record.Record.TheVariants as log
 use Rattle.relaxed_file.specs.NameStep.{needs_room, outcome_by}
 use Rattle.protocol.specs.Tables.{counter_limit, has_number, removed_all}
-use Rattle.protocol.specs.Sending.{the_client, client_id, file_id, handle_of, version_of, moment_of, order_number}
+use Rattle.protocol.specs.Sending.{the_client, client_id, file_id, handle_of, version_of, moment_of}
 use Rattle.chunk_table.specs.ChunkTable.{ChunkRow, chunk_of}
 use Rattle.protocol.specs.Logged.{KeptCall, LogDisk}
-use Rattle.protocol.specs.Master.{MasterDoing, PendingSnapshot, tells, orders, has_lease, gives_up_copies, without_attempts}
+use Rattle.protocol.specs.Master.{MasterDoing, PendingSnapshot, orders, has_lease, gives_up_copies, without_attempts}
 use Rattle.protocol.specs.MasterSnapshots.{revokes_row, revokes, revokes_all, takes_locks, begins_snapshot, snapshot_handles, snapshot_files, copies_for_files, reply_of, answers_name, settles_name, refuses_name, changes_names, first_is_true, all_but_first, lets_go, is_same_snapshot, takes_snapshot, takes_ready, is_ready}
 use Rattle.protocol.specs.MasterNames.{master_refusal, reply_by, takes_look, performs, names_by, is_waiting_call, names_anew, names_kept, takes_name}
 use Rattle.protocol_laws.proofs.Steps.{on_cond, removed_cases}
 use Rattle.protocol_laws.proofs.Entries.{AllOf}
-use Rattle.protocol_laws.proofs.Words.{is_of_lease}
 use Rattle.protocol_laws.proofs.VersionAttempts.{fewer_told}
-use Rattle.protocol_laws.proofs.LeasesEnded.{fewer_ready, less_ready}
+use Rattle.protocol_laws.proofs.LeasesEnded.{fewer_ready}
 use Rattle.protocol_laws.proofs.Namespace.{IsNamespace, IsNamed, IsAmong, AreAllApart, without_snapshot, filtered_namespace, all_among, all_still_among, mkdir_named, rmdir_named, create_named, delete_named, rename_named, waits_named, taken_named}
-use Rattle.protocol_laws.proofs.CopiesUnderWay.{AreCopied, listed_copied}
+use Rattle.protocol_laws.proofs.CopiesUnderWay.{listed_copied}
 use Rattle.protocol_laws.proofs.MasterMoves.{Core, core_of, Nothing, IsDue, IsNoGrantRecord, logs_snapshots}
 use Rattle.protocol_acts.proofs.MasterActs.{rowing_keeps, Attempts, Acts, Here, tells_here, less_here, logs_all}
-use Rattle.protocol.specs.Master.{VersionAttempt}
 
 settled_snapshots : (d : MasterDoing) (client number : ℕ) (r : Record) (o : Option Refusal) (ss : List PendingSnapshot) → d.master.snapshots ≡ ss → (settles_name d client number r o).master.snapshots ≡ ss
 settled_snapshots d client number r o ss h = logs_snapshots d r (λ e. answers_name e client number o) ss (λ e is. is) h

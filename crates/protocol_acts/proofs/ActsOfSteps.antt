@@ -8,12 +8,11 @@ use Rattle.messages.specs.declared.event.Input.TheVariants as input
 use Rattle.messages.specs.declared.message.Message.{Message}
 use Rattle.messages.specs.declared.message.Body.{Body}
 use Rattle.messages.specs.declared.message.Body.TheVariants as body
-use Rattle.messages.specs.declared.message.ReplicaLine.{ReplicaLine}
 use Rattle.log_records.specs.declared.record.Record.TheVariants as log
 use Rattle.protocol.specs.Sending.{client_number, server_number, server_id, file_id, handle_of, version_of}
-use Rattle.protocol.specs.Tables.{Table, counter_limit}
+use Rattle.protocol.specs.Tables.{counter_limit}
 use Rattle.protocol.specs.MasterSnapshots.{live_snapshots}
-use Rattle.protocol.specs.Master.{MasterState, MasterDoing, VersionAttempt, master_begins, logs}
+use Rattle.protocol.specs.Master.{MasterState, MasterDoing, master_begins, logs}
 use Rattle.protocol.specs.MasterClones.{CloneOrder, orders_clone, best_clone}
 use Rattle.protocol.specs.MasterStep.{master_ticks, is_in_time, gives_up_attempts, gives_up_lost_copies, is_lost_copy, lost_copies, expires_all, expires_old, expired_files, master_takes, master_does, master_at, master_goes}
 use Rattle.protocol.specs.Logged.{LogDisk}
@@ -38,7 +37,7 @@ module _ (start : LogDisk) (Q : Core → Attempts → Type 0) (acts : Acts start
 
   clone_acts : (d : MasterDoing) (o : Option CloneOrder) → Here start Q acts d → Here start Q acts (orders_clone d o)
   clone_acts d None h = h
-  clone_acts d (Some c) h = orders_here start Q acts d c.target (λ order. body.Clone order (handle_of c.handle) (version_of c.version) (server_id c.source)) (λ o. refl) (λ o. tt) h
+  clone_acts d (Some c) h = orders_here start Q acts d c.target (λ order. body.Clone order (handle_of c.handle) (version_of c.version) (server_id c.source)) (λ o. refl) (λ o. tt) (λ o. refl) h
 
   tick_acts : (d : MasterDoing) → Here start Q acts d → Here start Q acts (master_ticks d)
   tick_acts d h =

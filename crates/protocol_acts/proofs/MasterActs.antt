@@ -1,5 +1,5 @@
 -- What a step of the master does, with its version attempts. Whatever each of these acts keeps is kept by every step.
-use Rattle.std.proofs.Common.{◌≡◌, ℕ, suc, ◌+◌, ◌≤◌, ◌<◌, Bool, true, false, cond, List, [], ◌∷◌, ◌++◌, Some, refl, sym, ap, subst, ◌∙◌, ◌⊎◌, inl, inr, arith}
+use Rattle.std.proofs.Common.{◌≡◌, ℕ, suc, ◌+◌, ◌<◌, Bool, true, false, cond, List, [], ◌∷◌, ◌++◌, Some, None, refl, subst, inl, inr}
 use Rattle.std.specs.Prelude.{◌&&◌, not}
 use Rattle.std.specs.FinMap as table
 use Rattle.gfs_types.specs.declared.ids.Node.{Node}
@@ -12,20 +12,21 @@ use Rattle.messages.specs.declared.message.Body.TheVariants as body
 use Rattle.log_records.specs.declared.record.Record.{Record}
 use Rattle.log_records.specs.declared.record.Record.TheVariants as log
 use Rattle.relaxed_file.proofs.NamesTree.{Tree}
-use Rattle.protocol.specs.Tables.{Table, removed_all}
+use Rattle.protocol.specs.Tables.{Table, removed_all, has_number, rising}
 use Rattle.protocol.specs.Sending.{message, the_server, handle_of, version_of, moment_of, order_number}
 use Rattle.chunk_table.specs.ChunkTable.{ChunkRow, chunk_of}
 use Rattle.protocol.specs.LogSizes.{checkpoint_fits}
 use Rattle.protocol.specs.Logged.{LogDisk, WriteCheckpoint, checkpoint_of, copies_given_up, all_copies_given_up}
 use Rattle.protocol.specs.Master.{MasterDoing, VersionAttempt, tells, orders, ends_at, fits, appends, writes_checkpoint, gives_up_copies, logs, logs_after_checkpoint, is_of_copy}
 use Rattle.protocol_laws.proofs.Steps.{on_cond}
+use Rattle.protocol_acts.specs.Given.{version_given}
 use Rattle.protocol_laws.proofs.Words.{is_of_lease}
 use Rattle.protocol_laws.proofs.CopiesUnderWay.{AreCopied}
 use Rattle.protocol_laws.proofs.LeasesEnded.{less_ready}
 use Rattle.protocol_laws.proofs.VersionAttempts.{fewer_told}
 use Rattle.protocol_laws.proofs.Namespace.{IsNamed}
-use Rattle.protocol_laws.proofs.MasterMoves.{Core, core_of, core_changed, core_appended, core_ended, core_ordered, core_granted, core_extended, core_revoked, grant_record, IsDue, IsNoGrantRecord, IsPlainOrder, IsLeft, IsLeaseFrom, Nothing, NoneEnded, Keeps, At, IsAfter, due_later, logs_keeps, ends_keeps, extends_keeps}
-use Rattle.protocol_laws.proofs.MasterNamesMoves.{tells_keeps, orders_keeps, copies_keeps, revokes_keeps}
+use Rattle.protocol_laws.proofs.MasterMoves.{Core, core_of, core_changed, core_appended, core_ended, core_ordered, core_granted, core_extended, core_revoked, grant_record, IsDue, IsNoGrantRecord, IsPlainOrder, IsLeft, Nothing, NoneEnded, Keeps, At, IsAfter, due_later, logs_keeps, ends_keeps, extends_keeps}
+use Rattle.protocol_laws.proofs.MasterNamesMoves.{tells_keeps, orders_keeps, copies_keeps}
 use Rattle.protocol_laws.proofs.NamesReached.{IsNaming, naming_keeps}
 use Rattle.protocol_laws.proofs.RowsLogged.{IsFoundRows, IsRowedLog}
 use Rattle.protocol_laws.proofs.RowsKept.{rows_kept}
@@ -51,8 +52,12 @@ core_checkpointed c = record (core_changed c (WriteCheckpoint (checkpoint_of c.l
 pub record Acts (start : LogDisk) (Q : Core → Attempts → Type 0) : Type 0 where
   -- a message that doesn't speak of leases
   pub tells : (c : Core) (attempts : Attempts) (receiver : Node) (b : Body) → is_of_lease b ≡ false → Q c attempts → Q (record c { sent = c.sent ++ message node.Master receiver b ∷ [] }) attempts
-  -- an order that begins and ends no lease
-  pub orders : (c : Core) (attempts : Attempts) (server : ℕ) (b : OrderNo → Body) → ((o : OrderNo) → order_number (b o) ≡ Some o) → ((o : OrderNo) → IsPlainOrder (b o)) → Q c attempts → Q (core_ordered c server b) attempts
+  -- an order that begins and ends no lease, and gives no version
+  pub orders : (c : Core) (attempts : Attempts) (server : ℕ) (b : OrderNo → Body) → ((o : OrderNo) → order_number (b o) ≡ Some o) → ((o : OrderNo) → IsPlainOrder (b o)) → ((o : OrderNo) → version_given (b o) ≡ None) → Q c attempts
+      → Q (core_ordered c server b) attempts
+  -- an order that gives a server of an attempt its version
+  pub gives : (c : Core) (attempts : Attempts) (server handle : ℕ) (a : VersionAttempt) (b : OrderNo → Body) → table.get attempts handle ≡ Some a → has_number a.servers server ≡ true
+      → ((o : OrderNo) → IsPlainOrder (b o)) → ((o : OrderNo) → version_given (b o) ≡ Some (handle, a.version)) → Q c attempts → Q (core_ordered c server b) attempts
   pub revokes : (c : Core) (attempts : Attempts) (handle : ℕ) (row : ChunkRow) → chunk_of c.logged.table handle ≡ Some row → Q c attempts → Q (core_revoked c handle row) attempts
   -- a record that grants nothing
   pub appends : (c : Core) (attempts : Attempts) (r : Record) → IsDue (Unit {0}) c.logged r → IsNoGrantRecord r → IsRowing start c → IsRowing start (core_appended c r) → Q c attempts → Q (core_appended c r) attempts
@@ -63,14 +68,14 @@ pub record Acts (start : LogDisk) (Q : Core → Attempts → Type 0) : Type 0 wh
   -- attempts that are given up
   pub fewer : (c : Core) (attempts left : Attempts) → AreAttemptedFrom attempts left → Q c attempts → Q c left
   -- an attempt begins, of the number that was just logged: the next one of a chunk, or the first one of a copy under the next handle
-  pub issues : (c : Core) (attempts : Attempts) (handle : ℕ) (row : ChunkRow) (a : VersionAttempt) → chunk_of c.logged.table handle ≡ Some row → a.version ≡ suc row.issued → Q c attempts
+  pub issues : (c : Core) (attempts : Attempts) (handle : ℕ) (row : ChunkRow) (a : VersionAttempt) → chunk_of c.logged.table handle ≡ Some row → a.version ≡ suc row.issued → IsRowing start c → Q c attempts
       → Q (core_appended c (log.Issue (handle_of handle) (version_of a.version))) attempts → Q (core_appended c (log.Issue (handle_of handle) (version_of a.version))) (table.insert attempts handle a)
-  pub copies : (c : Core) (attempts : Attempts) (file : FileId) (index : ℕ) (source : Handle) (copy : ℕ) (a : VersionAttempt) → copy ≡ c.logged.next_handle → Q c attempts
+  pub copies : (c : Core) (attempts : Attempts) (file : FileId) (index : ℕ) (source : Handle) (copy : ℕ) (a : VersionAttempt) → copy ≡ c.logged.next_handle → IsRowing start c → Q c attempts
       → Q (core_appended c (log.CopyStart file index source (handle_of copy) (version_of a.version))) attempts → Q (core_appended c (log.CopyStart file index source (handle_of copy) (version_of a.version))) (table.insert attempts copy a)
   -- one more server recorded it
-  pub records : (c : Core) (attempts : Attempts) (handle : ℕ) (a b : VersionAttempt) → table.get attempts handle ≡ Some a → b.version ≡ a.version → Q c attempts → Q c (table.insert attempts handle b)
-  -- an attempt is granted
-  pub grants : (c : Core) (attempts : Attempts) (handle : ℕ) (a : VersionAttempt) (until primary : ℕ) (members : List ℕ) → table.get attempts handle ≡ Some a → IsDue (Unit {0}) c.logged (grant_record handle a.version primary members)
+  pub records : (c : Core) (attempts : Attempts) (handle : ℕ) (a b : VersionAttempt) → table.get attempts handle ≡ Some a → b.version ≡ a.version → b.servers ≡ a.servers → Q c attempts → Q c (table.insert attempts handle b)
+  -- an attempt is granted, with its servers as members
+  pub grants : (c : Core) (attempts : Attempts) (handle : ℕ) (a : VersionAttempt) (until primary : ℕ) (members : List ℕ) → table.get attempts handle ≡ Some a → rising a.servers ≡ members → IsDue (Unit {0}) c.logged (grant_record handle a.version primary members)
       → IsRowing start c → IsRowing start (core_granted c handle a.version until primary members) → Q c attempts → Q (core_granted c handle a.version until primary members) (table.remove attempts handle)
   -- the end of a lease that its primary doesn't have, and a later end
   pub ends : (c : Core) (attempts : Attempts) (handle : ℕ) → Q c attempts → Q (core_ended c handle 0) attempts
@@ -99,8 +104,13 @@ module _ (start : LogDisk) (Q : Core → Attempts → Type 0) (acts : Acts start
   pub tells_here : (d : MasterDoing) (receiver : Node) (b : Body) → is_of_lease b ≡ false → Here d → Here (tells d receiver b)
   tells_here d receiver b e h = (tells_keeps (Unit {0}) Nothing NoneEnded (IsRowing start) (rowing_keeps start) d receiver b e h.0, acts.tells (core_of d) d.master.attempts receiver b e h.1)
 
-  pub orders_here : (d : MasterDoing) (server : ℕ) (b : OrderNo → Body) → ((o : OrderNo) → order_number (b o) ≡ Some o) → ((o : OrderNo) → IsPlainOrder (b o)) → Here d → Here (orders d server b)
-  orders_here d server b e plain h = (orders_keeps (Unit {0}) Nothing NoneEnded (IsRowing start) (rowing_keeps start) d server b e plain h.0, acts.orders (core_of d) d.master.attempts server b e plain h.1)
+  pub orders_here : (d : MasterDoing) (server : ℕ) (b : OrderNo → Body) → ((o : OrderNo) → order_number (b o) ≡ Some o) → ((o : OrderNo) → IsPlainOrder (b o)) → ((o : OrderNo) → version_given (b o) ≡ None) → Here d → Here (orders d server b)
+  orders_here d server b e plain none h = (orders_keeps (Unit {0}) Nothing NoneEnded (IsRowing start) (rowing_keeps start) d server b e plain h.0, acts.orders (core_of d) d.master.attempts server b e plain none h.1)
+
+  pub gives_here : (d : MasterDoing) (server handle : ℕ) (a : VersionAttempt) (b : OrderNo → Body) → table.get d.master.attempts handle ≡ Some a → has_number a.servers server ≡ true → ((o : OrderNo) → order_number (b o) ≡ Some o)
+      → ((o : OrderNo) → IsPlainOrder (b o)) → ((o : OrderNo) → version_given (b o) ≡ Some (handle, a.version)) → Here d → Here (orders d server b)
+  gives_here d server handle a b at has e plain given h =
+      (orders_keeps (Unit {0}) Nothing NoneEnded (IsRowing start) (rowing_keeps start) d server b e plain h.0, acts.gives (core_of d) d.master.attempts server handle a b at has plain given h.1)
 
   pub less_here : (d : MasterDoing) (handles : List ℕ) → AreCopied d.master.logged handles → Here d → Here (gives_up_copies d handles)
   less_here d handles copied h = (copies_keeps (Unit {0}) Nothing NoneEnded (IsRowing start) (rowing_keeps start) d handles copied h.0, acts.less (core_of d) d.master.attempts handles h.1)

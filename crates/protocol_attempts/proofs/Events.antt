@@ -51,7 +51,8 @@ pub record HoldsAfter (w : WorldState) (Q : Event → Happened → Type 0) : Typ
       → Q e (after_client w index moment (client_step s moment i choice))
   pub calls : (e : Event) (index moment : ℕ) (s : ClientState) (c : Call) (choice : Choice) → element_at w.clients index ≡ Some s → IsTrue (may_call s)
       → Q e (after_client (with_call w index moment c) index moment (client_call s moment c choice))
-  pub rots : (e : Event) (index handle : ℕ) (s : ServerState) (r : Replica) (is_kept : Bool) → element_at w.servers index ≡ Some s → IsTrue s.up → Q e (with_rot w index handle s r is_kept)
+  pub rots : (e : Event) (index handle : ℕ) (s : ServerState) (r : Replica) (place byte : ℕ) (is_kept : Bool) → element_at w.servers index ≡ Some s → replica_of s.disk handle ≡ Some r → IsTrue s.up
+      → Q e (with_rot w index handle s (rotten_replica r place byte) is_kept)
 
 module _ (w : WorldState) (Q : Event → Happened → Type 0) (k : HoldsAfter w Q) where
   after_master_moves : (e : Event) (moment : ℕ) (i : Input) (choice : Choice) → IsGiven w e node.Master moment i → Q e (master_moves w moment i choice)
@@ -96,17 +97,16 @@ module _ (w : WorldState) (Q : Event → Happened → Type 0) (k : HoldsAfter w 
       on_cond (Q e) (may_call s) (after_client (with_call w (n - 1) moment c) (n - 1) moment (client_call s moment c choice)) (nothing_happens w)
       (λ may. k.calls e (n - 1) moment s c choice (element_numbered w.clients n s at) may) (λ _. k.nothing e)
 
-  after_rots_replica : (e : Event) (index : ℕ) (s : ServerState) (handle place byte : ℕ) (o : Option Replica) → element_at w.servers index ≡ Some s → IsTrue s.up → Q e (rots_replica w index s handle place byte o)
-  after_rots_replica e index s handle place byte None at up = k.nothing e
-  after_rots_replica e index s handle place byte (Some r) at up =
-      let rotten : Replica = rotten_replica r place byte in
-      k.rots e index handle s rotten (w.observer.are_disks_kept && not (hides_change s.disk.block rotten place)) at up
+  after_rots_replica : (e : Event) (index : ℕ) (s : ServerState) (handle place byte : ℕ) (o : Option Replica) → element_at w.servers index ≡ Some s → replica_of s.disk handle ≡ o → IsTrue s.up → Q e (rots_replica w index s handle place byte o)
+  after_rots_replica e index s handle place byte None at there up = k.nothing e
+  after_rots_replica e index s handle place byte (Some r) at there up =
+      k.rots e index handle s r place byte (w.observer.are_disks_kept && not (hides_change s.disk.block (rotten_replica r place byte) place)) at there up
 
   after_rots : (e : Event) (n handle place byte : ℕ) (o : Option ServerState) → numbered_from_1 w.servers n ≡ o → Q e (rots_on w (n - 1) handle place byte o)
   after_rots e n handle place byte None at = k.nothing e
   after_rots e n handle place byte (Some s) at =
       on_cond (Q e) (s.up && nat_lt place w.config.chunk) (rots_replica w (n - 1) s handle place byte (replica_of s.disk handle)) (nothing_happens w)
-      (λ both. after_rots_replica e (n - 1) s handle place byte (replica_of s.disk handle) (element_numbered w.servers n s at) (and_parts s.up (nat_lt place w.config.chunk) both).0) (λ _. k.nothing e)
+      (λ both. after_rots_replica e (n - 1) s handle place byte (replica_of s.disk handle) (element_numbered w.servers n s at) refl (and_parts s.up (nat_lt place w.config.chunk) both).0) (λ _. k.nothing e)
 
   after_at_moment : (e : Event) (moment : ℕ) (x : Happened) → Q e x → Q e (at_moment w moment x)
   after_at_moment e moment x h = on_cond (Q e) (nat_le moment moment_limit) x (nothing_happens w) (λ _. h) (λ _. k.nothing e)

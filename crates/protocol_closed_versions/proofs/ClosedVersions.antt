@@ -1,10 +1,9 @@
 -- A version that is closed is granted no more: the next number of its chunk is above it, and so is what is attempted.
 use Rattle.std.proofs.Common.{◌≡◌, ℕ, suc, ◌+◌, ◌≤◌, ◌<◌, Bool, true, false, List, [], ◌∷◌, ◌++◌, take, drop, Option, Some, None, refl, sym, ap, subst, ◌∙◌, inl, inr, arith}
-use Rattle.std.specs.Prelude.{◌==◌, ◌&&◌, nat_le, nat_lt, IsTrue}
+use Rattle.std.specs.Prelude.{◌==◌, ◌&&◌, nat_le, IsTrue}
 use Rattle.std.specs.Ordering.{nat_cmp}
 use Rattle.std.specs.FinMap as table
 use Rattle.std.proofs.lemmas.Bool.{eqb-true, and_parts}
-use Rattle.std.proofs.Math.Nat.{le-max_left}
 use Rattle.gfs_types.specs.declared.config.Config.{Config}
 use Rattle.messages.specs.declared.event.Event.{Event}
 use Rattle.messages.specs.declared.event.Input.{Input}
@@ -13,37 +12,31 @@ use Rattle.messages.specs.declared.message.Body.TheVariants as body
 use Rattle.messages.specs.declared.message.Message.{Message}
 use Rattle.log_records.specs.declared.record.Record.{Record}
 use Rattle.log_records.specs.declared.record.Record.TheVariants as log
-use Rattle.relaxed_file.specs.Names.{copied_entries}
 use Rattle.relaxed_file.proofs.NamesTree.{Tree}
 use Rattle.protocol.specs.Choice.{Choice, Ending, Goes, Lost, Stops, in_order}
 use Rattle.protocol.specs.Seen.{Taken, no_step}
 use Rattle.protocol.specs.Sending.{order_number}
 use Rattle.protocol.specs.Tables.{removed_all}
-use Rattle.chunk_table.specs.ChunkTable.{ChunkRow, new_row, row_granted, set_end}
-use Rattle.protocol.specs.Logged.{Logged, Copy, LogDisk, LogChange, AppendRecord, WriteCheckpoint, first_logged, log_changed, log_changed_by_all, after_record, after_records, checkpoint_of, copies_given_up, all_copies_given_up, replayed}
+use Rattle.chunk_table.specs.ChunkTable.{ChunkRow}
+use Rattle.protocol.specs.Logged.{Logged, Copy, LogDisk, LogChange, AppendRecord, WriteCheckpoint, log_changed, log_changed_by_all, after_record, checkpoint_of, all_copies_given_up}
 use Rattle.protocol.specs.Master.{MasterState, MasterDoing, VersionAttempt, stopped_master, master_begins, writes_checkpoint}
-use Rattle.protocol.specs.MasterStep.{master_goes, master_ends, master_bounded, master_step, is_within_limits, may_end, found_log, lease_after_restart, started_master, opening, has_opened, opens_as}
+use Rattle.protocol.specs.MasterStep.{master_goes, master_ends, master_bounded, master_step, is_within_limits, may_end, found_log, started_master, opening, has_opened, opens_as}
 use Rattle.protocol.specs.ServerStep.{server_step, server_restart}
 use Rattle.protocol.specs.World.{WorldState, stamped, after_events}
 use Rattle.protocol_laws.specs.Laws.{is_grant, grants_of}
 use Rattle.protocol_laws.proofs.Steps.{on_cond, none_some, same_some, tally, put_cases, gone_split, removed_cases, count-cons, count-append}
-use Rattle.protocol_laws.proofs.Entries.{AllOf, mapped_cases}
+use Rattle.protocol_laws.proofs.Entries.{AllOf}
 use Rattle.protocol_laws.proofs.Words.{no_order}
-use Rattle.protocol_laws.proofs.ChunkRows.{Rows, rows_of, OwnedFrom, removed_owned, all_copied_owned, swapped_owned, expired_owned}
-use Rattle.protocol_laws.proofs.VersionsAhead.{changed_cases}
+use Rattle.protocol_laws.proofs.ChunkRows.{rows_of}
 use Rattle.protocol_laws.proofs.MasterMoves.{Core, core_of, core_changed, core_appended, core_ended, core_granted, grant_record, IsDue, IsNoGrantRecord, IsPlainOrder, logs_alone}
 use Rattle.protocol_laws.proofs.ClientMoves.{HasNoOrder, quiet_orders}
 use Rattle.protocol_laws.proofs.SentReached.{without_order, count-sent, server_quiet, server_restarts_quiet}
 use Rattle.protocol_laws.proofs.OrderNumbers.{state_of, state-appended, AllStops, stops_push, AllFound, found_same, found_stopped}
-use Rattle.protocol_laws.proofs.LoggedParts.{Parts, parts_of, checkpoint_parts}
+use Rattle.protocol_laws.proofs.LoggedParts.{Parts, parts_of}
 use Rattle.protocol_laws.proofs.GrantedIssued.{IsIssued}
 use Rattle.protocol_laws.proofs.NamesReached.{IsGood, IsUpToLog, IsLogged, opening_first, opening_naming}
-use Rattle.protocol_laws.proofs.CountsLogged.{next_grows}
-use Rattle.protocol_laws.proofs.CountsKept.{counts_kept}
-use Rattle.protocol_laws.proofs.RowsFit.{granted_logged, same_row}
-use Rattle.protocol_laws.proofs.RowsSame.{AreSameAt}
 use Rattle.protocol_laws.proofs.RowsLogged.{IsFoundRows, IsRowedLog}
-use Rattle.protocol_laws.proofs.RowsKept.{rows_kept, checkpoint_same}
+use Rattle.protocol_laws.proofs.RowsKept.{rows_kept}
 use Rattle.protocol_laws.proofs.GrantsOnce.{row_below}
 use Rattle.protocol_laws.proofs.RevokesNumbered.{IsOfRevokes, revokes_kept}
 use Rattle.protocol_laws.proofs.LeasesTimely.{IsOfTimes, times_kept}
@@ -55,107 +48,16 @@ use Rattle.protocol_versions.proofs.EndedLeases.{over_by_row}
 use Rattle.protocol_versions.proofs.LeasesStayOver.{over_later}
 use Rattle.protocol_acts.proofs.MasterActs.{IsRowing, rowing_keeps, Attempts, Acts}
 use Rattle.protocol_acts.proofs.ActsOfSteps.{goes_acts}
+use Rattle.protocol_acts.proofs.IssuedNumbers.{IsPassed, IsLogPassed, passed_after, passed_grant, passed_ended, passed_same, passed_less, passed_checkpoint, started_passed}
 
 module _ (handle version : ℕ) where
-  -- the chunk's handle was used, and its row says that the version was issued
-  abbrev IsPassed : Logged → Type 0
-  IsPassed l = (handle < l.next_handle) × ((row : ChunkRow) → table.get (rows_of l) handle ≡ Some row → version ≤ row.issued)
-
-  abbrev IsLogPassed : LogDisk → Type 0
-  IsLogPassed d = IsPassed (state_of d)
-
-  -- after a record
-
-  owned_passed : (l k : Logged) → OwnedFrom (rows_of l) (rows_of k) → l.next_handle ≤ k.next_handle → IsPassed l → IsPassed k
-  owned_passed l k f more h =
-      let low = h.0 in (
-        omega (arith, low, more),
-        λ row is. let was = f handle row is in let bound = h.1 was.0 was.1 in let issued : (was.0).issued ≡ row.issued = ap (λ (r : ChunkRow). r.issued) was.2 in omega (arith, bound, issued),
-      )
-
-  put_passed : (l k n : Logged) (at : ℕ) (new : ChunkRow) → rows_of n ≡ table.insert (rows_of k) at new → at ≡ l.next_handle → k.next_handle ≤ n.next_handle → IsPassed l → IsPassed k → IsPassed n
-  put_passed l k n at new put next more g h =
-      let used = g.0 in
-      let low = h.0 in (
-        omega (arith, low, more),
-        λ row is. elim (put_cases (rows_of k) at new handle row (sym (ap (λ (rows : Rows). table.get rows handle) put) ∙ is)) [
-          | inl same ↦ absurd (let there = same.0 in omega (arith, used, there, next))
-          | inr before ↦ h.1 row before
-        ],
-      )
-
-  passed_after : (l k : Logged) (r : Record) → IsDue (Unit {0}) l r → IsNoGrantRecord r → IsPassed l → IsPassed k → IsPassed (after_record k r)
-  passed_after l k (log.AddChunk file chunk) due plain g h =
-      put_passed l k (after_record k (log.AddChunk file chunk)) chunk.0 (record new_row { references = 1 }) refl due.0 (next_grows l k (log.AddChunk file chunk) due) g h
-  passed_after l k (log.CopyStart file index source copy copy_version) due plain g h =
-      let r : Record = log.CopyStart file index source copy copy_version in
-      put_passed l k (after_record k r) copy.0 (record new_row { issued = copy_version.0 }) refl due.0 (next_grows l k r due) g h
-  passed_after l k (log.Issue chunk number) due plain g h = (
-    h.0,
-    λ row is. elim (changed_cases (rows_of k) chunk.0 (λ r. record r { issued = number.0 }) (table.get (rows_of k) chunk.0) handle row refl is) [
-      | inl now ↦
-          let low = g.1 due.0 (ap (λ (n : ℕ). table.get (rows_of l) n) now.1 ∙ due.1) in
-          let next = due.2 in
-          let issued = ap (λ (r : ChunkRow). r.issued) now.3 in
-          omega (arith, low, next, issued)
-      | inr before ↦ h.1 row before.1
-    ],
-  )
-  passed_after l k (log.Snapshot client n from to) due plain g h =
-      owned_passed k (after_record k (log.Snapshot client n from to)) (all_copied_owned k.table k.next_file (copied_entries k.names from to)) (omega arith) h
-  passed_after l k (log.Expired file) due plain g h = owned_passed k (after_record k (log.Expired file)) (expired_owned k file) (omega arith) h
-  passed_after l k (log.Grant chunk number primary members) due plain g h = absurd plain
-  passed_after l k (log.Counters next_file next_handle epoch) due plain g h = absurd due
-  passed_after l k (log.FileItem path file handles) due plain g h = absurd due
-  passed_after l k (log.ChunkItem chunk granted issued primary members) due plain g h = absurd due
-  passed_after l k other due plain g h = h
-
-  passed_grant : (l k : Logged) (chunk number primary : ℕ) (members : List ℕ) → IsDue (Unit {0}) l (grant_record chunk number primary members) → IsPassed k → IsPassed (after_record k (grant_record chunk number primary members))
-  passed_grant l k chunk number primary members due h =
-      let one : Logged = granted_logged k chunk number primary members in
-      let low = h.0 in
-      let grown = next_grows l k (grant_record chunk number primary members) due in (
-        omega (arith, low, grown),
-        λ row is.
-            let was = swapped_owned one chunk (table.get k.copies chunk) handle row is in
-            let kept : (was.0).issued ≡ row.issued = ap (λ (r : ChunkRow). r.issued) was.2 in
-            elim (changed_cases (rows_of k) chunk (row_granted number primary members) (table.get (rows_of k) chunk) handle was.0 refl was.1) [
-              | inl now ↦
-                  let bound = h.1 now.0 (ap (λ (n : ℕ). table.get (rows_of k) n) now.1 ∙ now.2) in
-                  let issued = ap (λ (r : ChunkRow). r.issued) now.3 in
-                  let high = le-max_left (now.0).issued number in
-                  omega (arith, bound, issued, high, kept)
-              | inr before ↦ let bound = h.1 was.0 before.1 in omega (arith, bound, kept)
-            ],
-      )
-
-  passed_ended : (l : Logged) (chunk moment : ℕ) → IsPassed l → IsPassed (record l { table = set_end l.table chunk moment })
-  passed_ended l chunk moment h = (
-    h.0,
-    λ row is. elim (changed_cases (rows_of l) chunk (λ r. record r { lease_end = moment }) (table.get (rows_of l) chunk) handle row refl is) [
-      | inl now ↦ let bound = h.1 now.0 (ap (λ (n : ℕ). table.get (rows_of l) n) now.1 ∙ now.2) in let issued = ap (λ (r : ChunkRow). r.issued) now.3 in omega (arith, bound, issued)
-      | inr before ↦ h.1 row before.1
-    ],
-  )
-
-  passed_same : (l k : Logged) → AreSameAt (rows_of l) (rows_of k) handle → l.next_handle ≡ k.next_handle → IsPassed l → IsPassed k
-  passed_same l k same next h =
-      let low = h.0 in (
-        omega (arith, low, next),
-        λ row is.
-            let was = same_row (table.get (rows_of l) handle) (table.get (rows_of k) handle) row same is in
-            let bound = h.1 was.0 was.1 in
-            let issued : (was.0).issued ≡ row.issued = ap (λ (r : ChunkRow). r.issued) was.2 in
-            omega (arith, bound, issued),
-      )
-
   -- a step so far: what is attempted is above the version, and none of its messages grants it
   record IsShut (start : LogDisk) (c : Core) (attempts : Attempts) : Type 0 where
-    state : IsPassed c.logged
+    state : IsPassed handle version c.logged
     above : (a : VersionAttempt) → table.get attempts handle ≡ Some a → version < a.version
     none : grants_of handle version c.sent ≡ 0
-    disk : IsLogPassed c.disk
-    stops : AllStops IsLogPassed start c.changes
+    disk : IsLogPassed handle version c.disk
+    stops : AllStops (IsLogPassed handle version) start c.changes
 
   -- messages
 
@@ -179,7 +81,7 @@ module _ (handle version : ℕ) where
   sends start c attempts m count plain h = record { state = h.state; above = h.above; none = one_more c.sent m plain h.none; disk = h.disk; stops = h.stops }
 
   -- the disk and the state change together
-  changed : (start : LogDisk) (c : Core) (attempts left : Attempts) (x : LogChange) (l : Logged) → log_changed_by_all start c.changes ≡ c.disk → IsPassed l → IsLogPassed (log_changed c.disk x)
+  changed : (start : LogDisk) (c : Core) (attempts left : Attempts) (x : LogChange) (l : Logged) → log_changed_by_all start c.changes ≡ c.disk → IsPassed handle version l → IsLogPassed handle version (log_changed c.disk x)
       → ((a : VersionAttempt) → table.get left handle ≡ Some a → version < a.version) → IsShut start c attempts → IsShut start (record (core_changed c x) { logged = l }) left
   changed start c attempts left x l disk state written above h =
       record {
@@ -187,27 +89,23 @@ module _ (handle version : ℕ) where
         above = above;
         none = h.none;
         disk = written;
-        stops = stops_push IsLogPassed start c.changes x h.stops (subst (λ (d : LogDisk). IsLogPassed (log_changed d x)) (sym disk) written);
+        stops = stops_push (IsLogPassed handle version) start c.changes x h.stops (subst (λ (d : LogDisk). IsLogPassed handle version (log_changed d x)) (sym disk) written);
       }
 
   appended : (start : LogDisk) (c : Core) (attempts : Attempts) (r : Record) → IsDue (Unit {0}) c.logged r → IsNoGrantRecord r → IsRowing start c → IsShut start c attempts → IsShut start (core_appended c r) attempts
   appended start c attempts r due plain n h =
-      changed start c attempts attempts (AppendRecord r) (after_record c.logged r) n.disk (passed_after c.logged c.logged r due plain h.state h.state)
-      (subst (λ (k : Logged). IsPassed k) (sym (state-appended c.disk r)) (passed_after c.logged (state_of c.disk) r due plain h.state h.disk)) h.above h
+      changed start c attempts attempts (AppendRecord r) (after_record c.logged r) n.disk (passed_after handle version c.logged c.logged r due plain h.state h.state)
+      (subst (λ (k : Logged). IsPassed handle version k) (sym (state-appended c.disk r)) (passed_after handle version c.logged (state_of c.disk) r due plain h.state h.disk)) h.above h
 
   checkpointed : (start : LogDisk) (c : Core) (attempts : Attempts) → Tree c.logged.names → IsRowing start c → IsShut start c attempts
       → IsShut start (record (core_changed c (WriteCheckpoint (checkpoint_of c.logged))) { logged = all_copies_given_up c.logged }) (removed_all attempts (table.keys c.logged.copies))
   checkpointed start c attempts tree n h =
-      let l : Logged = c.logged in
-      let less : IsPassed (all_copies_given_up l) = owned_passed l (all_copies_given_up l) (removed_owned (rows_of l) (table.keys l.copies)) (omega arith) h.state in
-      let read : Logged = after_records first_logged (checkpoint_of l) in
-      changed start c attempts (removed_all attempts (table.keys l.copies)) (WriteCheckpoint (checkpoint_of l)) (all_copies_given_up l) n.disk less
-      (passed_same (all_copies_given_up l) read (checkpoint_same l (state_of c.disk) handle n.tied (counts_kept.checkpoint l (state_of c.disk) n.same tree n.tied.base))
-      (ap (λ (p : Parts). p.next_handle) (sym (checkpoint_parts l tree))) less)
-      (λ a is. h.above a (removed_cases attempts (table.keys l.copies) handle a is)) h
+      let both = passed_checkpoint handle version c.logged c.disk n.same tree n.tied h.state in
+      changed start c attempts (removed_all attempts (table.keys c.logged.copies)) (WriteCheckpoint (checkpoint_of c.logged)) (all_copies_given_up c.logged) n.disk both.0 both.1
+      (λ a is. h.above a (removed_cases attempts (table.keys c.logged.copies) handle a is)) h
 
   ended : (start : LogDisk) (c : Core) (attempts : Attempts) (chunk moment : ℕ) → IsShut start c attempts → IsShut start (core_ended c chunk moment) attempts
-  ended start c attempts chunk moment h = record { state = passed_ended c.logged chunk moment h.state; above = h.above; none = h.none; disk = h.disk; stops = h.stops }
+  ended start c attempts chunk moment h = record { state = passed_ended handle version c.logged chunk moment h.state; above = h.above; none = h.none; disk = h.disk; stops = h.stops }
 
   put_above : (attempts : Attempts) (chunk : ℕ) (a : VersionAttempt) → (chunk ≡ handle → version < a.version) → ((b : VersionAttempt) → table.get attempts handle ≡ Some b → version < b.version)
       → (b : VersionAttempt) → table.get (table.insert attempts chunk a) handle ≡ Some b → version < b.version
@@ -226,8 +124,8 @@ module _ (handle version : ℕ) where
   granted start c attempts chunk a until primary members at due n h =
       let r : Record = grant_record chunk a.version primary members in
       let one : IsShut start (core_appended c r) (table.remove attempts chunk) =
-      changed start c attempts (table.remove attempts chunk) (AppendRecord r) (after_record c.logged r) n.disk (passed_grant c.logged c.logged chunk a.version primary members due h.state)
-      (subst (λ (k : Logged). IsPassed k) (sym (state-appended c.disk r)) (passed_grant c.logged (state_of c.disk) chunk a.version primary members due h.disk))
+      changed start c attempts (table.remove attempts chunk) (AppendRecord r) (after_record c.logged r) n.disk (passed_grant handle version c.logged c.logged chunk a.version primary members due h.state)
+      (subst (λ (k : Logged). IsPassed handle version k) (sym (state-appended c.disk r)) (passed_grant handle version c.logged (state_of c.disk) chunk a.version primary members due h.disk))
       (λ b is. h.above b (gone_split attempts chunk handle b is).1) h in
       sends start (core_ended (core_appended c r) chunk until) (table.remove attempts chunk) _ _ (other ((chunk == handle) && (a.version == version)) refl) (ended start (core_appended c r) (table.remove attempts chunk) chunk until one)
     where
@@ -243,27 +141,28 @@ module _ (handle version : ℕ) where
   shut_acts start =
       record {
         tells = λ c attempts receiver b quiet h. sends start c attempts _ c.order_count (no_order_grants b (no_order b quiet)) h;
-        orders = λ c attempts server b is plain h. sends start c attempts _ (suc c.order_count) (plain_grants (b _) (plain _)) h;
+        orders = λ c attempts server b is plain none h. sends start c attempts _ (suc c.order_count) (plain_grants (b _) (plain _)) h;
+        gives = λ c attempts server chunk a b at has plain given h. sends start c attempts _ (suc c.order_count) (plain_grants (b _) (plain _)) h;
         revokes = λ c attempts chunk row is h. sends start c attempts _ (suc c.order_count) refl h;
         appends = λ c attempts r due plain n after h. appended start c attempts r due plain n h;
         checkpoint = λ c attempts tree n h. checkpointed start c attempts tree n h;
         less = λ c attempts handles h.
             record {
-              state = owned_passed c.logged (copies_given_up c.logged handles) (removed_owned (rows_of c.logged) handles) (omega arith) h.state;
+              state = passed_less handle version c.logged handles h.state;
               above = λ a is. h.above a (removed_cases attempts handles handle a is);
               none = h.none;
               disk = h.disk;
               stops = h.stops;
             };
         fewer = λ c attempts left from h. with_above start c attempts left (λ a is. h.above a (from handle a is)) h;
-        issues = λ c attempts chunk row a is next before h.
+        issues = λ c attempts chunk row a is next n before h.
             with_above start _ attempts (table.insert attempts chunk a)
             (put_above attempts chunk a (λ same. let low = before.state.1 row (ap (λ (n : ℕ). table.get (rows_of c.logged) n) (sym same) ∙ is) in omega (arith, low, next)) h.above) h;
-        copies = λ c attempts file index source copy a next before h.
+        copies = λ c attempts file index source copy a next n before h.
             with_above start _ attempts (table.insert attempts copy a) (put_above attempts copy a (λ same. let low = before.state.0 in absurd (omega (arith, low, same, next))) h.above) h;
-        records = λ c attempts chunk a b at same h.
+        records = λ c attempts chunk a b at same servers h.
             with_above start c attempts (table.insert attempts chunk b) (put_above attempts chunk b (λ key. let low = h.above a (ap (λ (n : ℕ). table.get attempts n) (sym key) ∙ at) in omega (arith, low, same)) h.above) h;
-        grants = λ c attempts chunk a until primary members at due n after h. granted start c attempts chunk a until primary members at due n h;
+        grants = λ c attempts chunk a until primary members at all due n after h. granted start c attempts chunk a until primary members at due n h;
         ends = λ c attempts chunk h. ended start c attempts chunk 0 h;
         extends = λ c attempts chunk until row is h. sends start (core_ended c chunk until) attempts _ c.order_count refl (ended start c attempts chunk until h);
       }
@@ -272,8 +171,8 @@ module _ (handle version : ℕ) where
 
   record AreShut (count : ℕ) (sent : List Message) (m : MasterState) : Type 0 where
     few : grants_of handle version sent ≤ count
-    found : AllFound IsLogPassed m.disk m.under_way
-    up : IsTrue m.up → IsPassed m.logged × ((a : VersionAttempt) → table.get m.attempts handle ≡ Some a → version < a.version)
+    found : AllFound (IsLogPassed handle version) m.disk m.under_way
+    up : IsTrue m.up → IsPassed handle version m.logged × ((a : VersionAttempt) → table.get m.attempts handle ≡ Some a → version < a.version)
 
   still : (sent : List Message) (k : ℕ) (order : List ℕ) (ms : List Message) → grants_of handle version ms ≡ 0 → grants_of handle version (sent ++ stamped k (in_order order ms)) ≡ grants_of handle version sent
   still sent k order ms none = let whole = count-sent (λ b. is_grant handle version b) k sent order ms in omega (arith, whole, none)
@@ -292,7 +191,7 @@ module _ (handle version : ℕ) where
       let low = h.few in
       record { few = omega (arith, same, low); found = h.found; up = h.up }
 
-  down_shut : (count : ℕ) (sent : List Message) (k : ℕ) (m : MasterState) (disk : LogDisk) (under_way : List LogChange) → AreShut count sent m → AllFound IsLogPassed disk under_way → AreShut count (sent ++ stamped k []) (stopped_master m disk under_way)
+  down_shut : (count : ℕ) (sent : List Message) (k : ℕ) (m : MasterState) (disk : LogDisk) (under_way : List LogChange) → AreShut count sent m → AllFound (IsLogPassed handle version) disk under_way → AreShut count (sent ++ stamped k []) (stopped_master m disk under_way)
   down_shut count sent k m disk under_way h found =
       let same = still sent k [] [] refl in
       let low = h.few in
@@ -304,16 +203,16 @@ module _ (handle version : ℕ) where
       let same = still sent k order d.sent g.none in
       record {
         few = omega (arith, same, few);
-        found = subst (λ (xs : List LogChange). AllFound IsLogPassed d.master.disk xs) (sym n.none) (found_same IsLogPassed d.master.disk g.disk);
+        found = subst (λ (xs : List LogChange). AllFound (IsLogPassed handle version) d.master.disk xs) (sym n.none) (found_same (IsLogPassed handle version) d.master.disk g.disk);
         up = λ _. (g.state, g.above);
       }
 
   ends_shut : (count : ℕ) (sent : List Message) (k : ℕ) (m : MasterState) (d : MasterDoing) (choice : Choice) (e : Ending) → AreShut count sent m → IsRowing m.disk (core_of d) → IsShut m.disk (core_of d) d.master.attempts
       → AreShut count (sent ++ stamped k (master_ends m d choice e).out.sent) (master_ends m d choice e).state
   ends_shut count sent k m d choice Goes h n g = running count sent k choice.order m.disk d h.few n g
-  ends_shut count sent k m d choice Lost h n g = down_shut count sent k m m.disk [] h (found_same IsLogPassed m.disk (h.found []))
+  ends_shut count sent k m d choice Lost h n g = down_shut count sent k m m.disk [] h (found_same (IsLogPassed handle version) m.disk (h.found []))
   ends_shut count sent k m d choice (Stops made) h n g =
-      down_shut count sent k m (log_changed_by_all m.disk (take made d.changes)) (take 1 (drop made d.changes)) h (found_stopped IsLogPassed m.disk d.changes made g.stops)
+      down_shut count sent k m (log_changed_by_all m.disk (take made d.changes)) (take 1 (drop made d.changes)) h (found_stopped (IsLogPassed handle version) m.disk d.changes made g.stops)
 
   step_shut : (count : ℕ) (sent : List Message) (k : ℕ) (m : MasterState) (moment : ℕ) (i : Input) (choice : Choice) → IsLogged IsFoundRows IsRowedLog rows_kept m → AreShut count sent m
       → AreShut count (sent ++ stamped k (master_step m moment i choice).out.sent) (master_step m moment i choice).state
@@ -333,26 +232,12 @@ module _ (handle version : ℕ) where
 
   -- a master that opens
 
-  started_passed : (config : Config) (count : ℕ) (found : LogDisk) (moment : ℕ) → IsLogPassed found → IsPassed (started_master config count found moment).logged
-  started_passed config count found moment h = (
-    h.0,
-    λ row at.
-        let all : Logged = state_of found in
-        let was = mapped_cases (lease_after_restart config moment) (rows_of (replayed found)) handle row at in
-        let bound = h.1 was.0 (removed_cases (rows_of all) (table.keys all.copies) handle was.0 was.1) in
-        let issued : (was.0).issued ≡ row.issued = same_issued was.0 ∙ ap (λ (r : ChunkRow). r.issued) was.2 in
-        omega (arith, bound, issued),
-  )
-    where
-      same_issued : (row : ChunkRow) → row.issued ≡ (lease_after_restart config moment row).issued
-      same_issued row = on_cond (λ (r : ChunkRow). row.issued ≡ r.issued) (nat_lt 0 row.granted) (record row { lease_end = moment + config.skew_ms + config.lease_ms }) row (λ _. refl) (λ _. refl)
-
   epoch_begun : (start : LogDisk) (c : Core) (attempts : Attempts) (epoch : ℕ) → log_changed_by_all start c.changes ≡ c.disk → IsShut start c attempts → IsShut start (core_appended c (log.Epoch epoch)) attempts
   epoch_begun start c attempts epoch disk h =
       changed start c attempts attempts (AppendRecord (log.Epoch epoch)) (after_record c.logged (log.Epoch epoch)) disk h.state
-      (subst (λ (k : Logged). IsPassed k) (sym (state-appended c.disk (log.Epoch epoch))) h.disk) h.above h
+      (subst (λ (k : Logged). IsPassed handle version k) (sym (state-appended c.disk (log.Epoch epoch))) h.disk) h.above h
 
-  opening_shut : (config : Config) (count : ℕ) (found : LogDisk) (moment : ℕ) → IsGood IsFoundRows IsRowedLog rows_kept found → IsLogPassed found
+  opening_shut : (config : Config) (count : ℕ) (found : LogDisk) (moment : ℕ) → IsGood IsFoundRows IsRowedLog rows_kept found → IsLogPassed handle version found
       → (let d : MasterDoing = opening (started_master config count found moment) in IsShut found (core_of d) d.master.attempts)
   opening_shut config count found moment good h =
       let started : MasterState = started_master config count found moment in
@@ -360,7 +245,7 @@ module _ (handle version : ℕ) where
       let epoch : ℕ = suc started.logged.epoch in
       let row : IsRowing found (core_of d) = opening_first IsFoundRows IsRowedLog rows_kept config count found moment good in
       let first : IsShut found (core_of d) d.master.attempts =
-      record { state = started_passed config count found moment h; above = λ a is. none_some a (sym (table.get-empty nat_cmp handle) ∙ is); none = refl; disk = h; stops = h } in
+      record { state = started_passed handle version config count found moment h; above = λ a is. none_some a (sym (table.get-empty nat_cmp handle) ∙ is); none = refl; disk = h; stops = h } in
       let less : IsShut found (core_of (writes_checkpoint d)) (writes_checkpoint d).master.attempts = checkpointed found (core_of d) d.master.attempts good.0 row first in
       logs_alone (λ e. IsShut found (core_of e) e.master.attempts) d (log.Epoch epoch) first (epoch_begun found (core_of d) d.master.attempts epoch refl first) less
       (epoch_begun found (core_of (writes_checkpoint d)) (writes_checkpoint d).master.attempts epoch ((rowing_keeps found).checkpoint (core_of d) (λ _. good.0) row).disk less)
@@ -373,7 +258,7 @@ module _ (handle version : ℕ) where
       let found : LogDisk = found_log old choice in
       let d : MasterDoing = opening (started_master old.config old.server_count found moment) in
       let g : IsShut found (core_of d) d.master.attempts = opening_shut old.config old.server_count found moment (logged.found choice.decided) (h.found choice.decided) in
-      down_shut count sent k old (log_changed_by_all found (take made d.changes)) (take 1 (drop made d.changes)) h (found_stopped IsLogPassed found d.changes made g.stops)
+      down_shut count sent k old (log_changed_by_all found (take made d.changes)) (take 1 (drop made d.changes)) h (found_stopped (IsLogPassed handle version) found d.changes made g.stops)
   opens_shut count sent k old moment choice Goes issued logged h =
       let found : LogDisk = found_log old choice in
       let started : MasterState = started_master old.config old.server_count found moment in
@@ -385,10 +270,10 @@ module _ (handle version : ℕ) where
       on_cond (λ (t : Taken MasterState). AreShut count (sent ++ stamped k t.out.sent) t.state) (has_opened started d && is_within_limits d.master) _ _
       (λ _. record {
         few = omega (arith, none, low);
-        found = subst (λ (xs : List LogChange). AllFound IsLogPassed d.master.disk xs) (sym n.none) (found_same IsLogPassed d.master.disk g.disk);
+        found = subst (λ (xs : List LogChange). AllFound (IsLogPassed handle version) d.master.disk xs) (sym n.none) (found_same (IsLogPassed handle version) d.master.disk g.disk);
         up = λ _. (g.state, g.above);
       })
-      (λ _. down_shut count sent k old d.master.disk [] h (found_same IsLogPassed d.master.disk g.disk))
+      (λ _. down_shut count sent k old d.master.disk [] h (found_same (IsLogPassed handle version) d.master.disk g.disk))
 
   -- worlds
 
@@ -412,10 +297,10 @@ module _ (handle version : ℕ) where
       }
 
   -- the log of a master that is up says the same of the chunk
-  log_passed : (l k : Logged) → parts_of l ≡ parts_of k → IsRowedLog l k → (row : ChunkRow) → table.get (rows_of l) handle ≡ Some row → version ≤ row.issued → IsPassed l × IsPassed k
+  log_passed : (l k : Logged) → parts_of l ≡ parts_of k → IsRowedLog l k → (row : ChunkRow) → table.get (rows_of l) handle ≡ Some row → version ≤ row.issued → IsPassed handle version l × IsPassed handle version k
   log_passed l k parts tied row there issued =
-      let state : IsPassed l = (row_below l k parts tied handle row there, λ other is. let same : other.issued ≡ row.issued = ap (λ (r : ChunkRow). r.issued) (same_some other row (sym is ∙ there)) in omega (arith, issued, same)) in
-      (state, passed_same l k (tied.same handle (by_copies (table.get l.copies handle) refl (table.get k.copies handle) refl)) (ap (λ (p : Parts). p.next_handle) parts) state)
+      let state : IsPassed handle version l = (row_below l k parts tied handle row there, λ other is. let same : other.issued ≡ row.issued = ap (λ (r : ChunkRow). r.issued) (same_some other row (sym is ∙ there)) in omega (arith, issued, same)) in
+      (state, passed_same handle version l k (tied.same handle (by_copies (table.get l.copies handle) refl (table.get k.copies handle) refl)) (ap (λ (p : Parts). p.next_handle) parts) state)
     where
       by_copies : (o : Option Copy) → table.get l.copies handle ≡ o → (p : Option Copy) → table.get k.copies handle ≡ p → table.get l.copies handle ≡ table.get k.copies handle
       by_copies (Some c) is p also = is ∙ sym (tied.base.base.among handle c is)
