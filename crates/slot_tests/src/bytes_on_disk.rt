@@ -1,0 +1,67 @@
+//! Bytes of a disk, by hand.
+
+use block_digests::{blocks_match, digests_of_blocks};
+use gfs_types::ids::{Handle, OrderNo, Serial, Version};
+use std::test::Fail;
+use store_header::{SlotHeader, read_header, read_order, write_head, write_header, write_order};
+
+// Of `abc`, from the standard, twice.
+const TWO_DIGESTS: [u8; 64] = [
+    0xba, 0x78, 0x16, 0xbf, 0x8f, 0x01, 0xcf, 0xea, 0x41, 0x41, 0x40, 0xde, 0x5d, 0xae, 0x22, 0x23,
+    0xb0, 0x03, 0x61, 0xa3, 0x96, 0x17, 0x7a, 0x9c, 0xb4, 0x10, 0xff, 0x61, 0xf2, 0x00, 0x15, 0xad,
+    0xba, 0x78, 0x16, 0xbf, 0x8f, 0x01, 0xcf, 0xea, 0x41, 0x41, 0x40, 0xde, 0x5d, 0xae, 0x22, 0x23,
+    0xb0, 0x03, 0x61, 0xa3, 0x96, 0x17, 0x7a, 0x9c, 0xb4, 0x10, 0xff, 0x61, 0xf2, 0x00, 0x15, 0xad,
+];
+
+#[test]
+fn a_digest_for_each_block(rt: HostRuntime) -> Result<(), Fail> {
+    let alloc = rt.alloc();
+    let digests = digests_of_blocks(alloc, 3, 2, b"abcabc")?;
+    assert!(rt; digests.as_slice() == TWO_DIGESTS.as_slice());
+    assert!(rt; blocks_match(alloc, 3, 2, b"abcabc", &digests)?);
+    assert!(rt; !blocks_match(alloc, 3, 2, b"abcabd", &digests)?);
+    Ok(())
+}
+
+#[test]
+fn the_head_of_two_slots(rt: HostRuntime) -> Result<(), Fail> {
+    let head = write_head(rt.alloc(), 64, 16, 2)?;
+    let bytes = [
+        0x47, 0x46, 0x53, 0x43, 1, 0, 0, 0, 64, 0, 0, 0, 16, 0, 0, 0, 2, 0, 0, 0, 0, 0, 0, 0, 0, 0,
+        0, 0, 0, 0, 0,
+    ];
+    assert!(rt; head.as_slice() == bytes.as_slice());
+    Ok(())
+}
+
+#[test]
+fn the_number_of_an_order(rt: HostRuntime) -> Result<(), Fail> {
+    let order = OrderNo {
+        epoch: 3,
+        count: 258,
+    };
+    let bytes = write_order(rt.alloc(), order)?;
+    let wanted = [3, 0, 0, 0, 0, 0, 0, 0, 2, 1, 0, 0, 0, 0, 0, 0];
+    assert!(rt; bytes.as_slice() == wanted.as_slice());
+    assert!(rt; bytes.len() == 16 && read_order(&bytes) == order);
+    Ok(())
+}
+
+#[test]
+fn the_header_of_a_slot(rt: HostRuntime) -> Result<(), Fail> {
+    let header = SlotHeader {
+        handle: Handle(5),
+        version: Version(2),
+        serial: Serial(9),
+        count: 64,
+    };
+    let bytes = write_header(rt.alloc(), header)?;
+    let wanted = [
+        1, 0, 0, 0, 0, 0, 0, 0, 5, 0, 0, 0, 0, 0, 0, 0, 2, 0, 0, 0, 0, 0, 0, 0, 9, 0, 0, 0, 0, 0,
+        0, 0, 64, 0, 0, 0, 0, 0, 0, 0,
+    ];
+    assert!(rt; bytes.as_slice() == wanted.as_slice());
+    assert!(rt; read_header(&wanted) == Some(header));
+    assert!(rt; read_header(&[0; 40]) == None);
+    Ok(())
+}
