@@ -1,5 +1,5 @@
 -- What a client's code speaks of while it takes a message.
-use Rattle.std.specs.Prelude.{ℕ, Bool, ◌==◌, if◌then◌else◌, List, ◌++◌, Option, Some}
+use Rattle.std.specs.Prelude.{ℕ, Bool, ◌==◌, if◌then◌else◌, List, ◌++◌, Option}
 use Rattle.std.specs.Option.{option_to_list}
 use Rattle.gfs_types.specs.declared.answer.Answer.TheVariants as answer
 use Rattle.client_state.specs.declared.call.CurrentCall.{CurrentCall}
