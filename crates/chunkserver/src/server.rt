@@ -87,11 +87,15 @@ impl<S: ReplicaStore> Chunkserver<S> {
         ensures { ServerRestarts self.old now.0 result self.new }
     {
         let alloc = self.server.alloc();
-        if self.server.reopen().is_err() {
-            self.server.stop();
-            return goes_down(alloc);
+        match self.server.reopen() {
+            Ok(()) => {
+                self.server.start(now);
+                gives_nothing(alloc)
+            }
+            Err(_) => {
+                self.server.stop();
+                goes_down(alloc)
+            }
         }
-        self.server.start(now);
-        gives_nothing(alloc)
     }
 }

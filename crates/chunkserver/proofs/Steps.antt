@@ -1,6 +1,6 @@
 -- What a server's code does is a step of the definitions.
-use Rattle.std.proofs.Common.{◌≡◌, ℕ, Bool, true, false, List, [], ◌∷◌, map, take, drop, refl, sym, ap, ◌∙◌, subst}
-use Rattle.std.specs.Prelude.{if◌then◌else◌, ◌⊎◌, inl, inr, filter, None}
+use Rattle.std.proofs.Common.{◌≡◌, ℕ, Bool, true, false, List, [], ◌∷◌, map, take, drop, refl, sym, ap, ◌∙◌, subst, inl, inr}
+use Rattle.std.specs.Prelude.{if◌then◌else◌, ◌⊎◌, filter, None}
 use Rattle.messages.specs.declared.event.Input.{Input}
 use Rattle.messages.specs.declared.event.StepOut.{StepOut}
 use Rattle.replica_store.specs.declared.change.StoreChange.{StoreChange}
@@ -86,5 +86,43 @@ restarts s moment found (inr h) =
       gives = record {
         out_is = refl;
         state_is = ap (λ changes. started_server s.config s.id (disk_changed_by_all s.disk changes) moment) (all_made s.under_way) ∙ ap (λ k. started_server s.config s.id k moment) (sym h);
+      };
+    }
+
+-- the same with what the code holds in hand
+
+pub as_given : {s new next : ServerState} {moment : ℕ} {i : Input} {out given : StepOut} {seen shown : List Seen} → ServerSteps s moment i out seen new
+    → given ≡ out → shown ≡ seen → next ≡ new → ServerSteps s moment i given shown next
+as_given e o se n =
+    record { choice = e.choice; gives = record { out_is = e.gives.out_is ∙ sym o; state_is = e.gives.state_is ∙ sym n }; seen_is = e.seen_is ∙ sym se }
+
+pub stopped_so : (s : ServerState) (d : ServerDoing) (after : ServerState) (out : StepOut) (seen : List Seen) (new : ServerState)
+    → out ≡ down_output → seen ≡ filter is_numbering d.seen → new ≡ stopped_server after after.disk after.under_way
+    → after.config ≡ s.config → after.id ≡ s.id → MadePart s.disk d.changes after.disk after.under_way → Ends s d out seen new
+stopped_so s d after out seen new o se n config id m =
+    let e = stopped s d after config id m in
+    record { choice = e.choice; gives = record { out_is = e.gives.out_is ∙ sym o; state_is = e.gives.state_is ∙ sym n }; seen_is = e.seen_is ∙ sym se }
+
+pub gave_up : (s t : ServerState) (moment : ℕ) (i : Input) → s.up ≡ true → frame t ≡ frame s → (s.up ≡ true → s.under_way ≡ [])
+    → ServerSteps s moment i down_output [] (stopped_server t t.disk t.under_way)
+gave_up s t moment i up same idle =
+    steps_from s t moment i (server_goes s moment i) down_output [] (stopped_server t t.disk t.under_way) up same refl
+    (lost s t (server_goes s moment i) (ap (λ (f : Frame). f.under_way) same ∙ idle up))
+
+pub stays_down_so : (s t : ServerState) (moment : ℕ) (out : StepOut) (new : ServerState) → out ≡ down_output → t ≡ s → new ≡ stopped_server t t.disk t.under_way
+    → ServerRestarts s moment out new
+stays_down_so s t moment out new o same n =
+    let e = stays_down s moment in
+    record { choice = e.choice; gives = record { out_is = e.gives.out_is ∙ sym o; state_is = e.gives.state_is ∙ sym (n ∙ ap (λ (x : ServerState). stopped_server x x.disk x.under_way) same) } }
+
+pub restarts_so : (s t : ServerState) (moment : ℕ) (out : StepOut) (new : ServerState) → out ≡ no_output → IsFound s.disk s.under_way t.disk → t.config ≡ s.config → t.id ≡ s.id
+    → new ≡ started_server t.config t.id t.disk moment → ServerRestarts s moment out new
+restarts_so s t moment out new o found config id n =
+    let e = restarts s moment t.disk found in
+    record {
+      choice = e.choice;
+      gives = record {
+        out_is = e.gives.out_is ∙ sym o;
+        state_is = e.gives.state_is ∙ sym (n ∙ (ap (λ c. started_server c t.id t.disk moment) config ∙ ap (λ k. started_server s.config k t.disk moment) id));
       };
     }
