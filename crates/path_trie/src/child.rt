@@ -1,11 +1,11 @@
-//! What stands right below a directory.
+//! A name with what stands there.
 
 ghost use Rattle.std.specs.Prelude.{◌≡◌};
 
 use gfs_types::lists::Text;
 use std::marker::Model;
 
-/// A name right below a directory: the last part of its path, and what stands there. Seen as that pair.
+/// A name and what stands there: of a directory's children the last part of the path, of all entries the whole path. Seen as that pair.
 #[derive(Drop)]
 pub struct Child<'a, V> {
     name: Text,
@@ -30,7 +30,7 @@ impl<'a, V> Child<'a, V> {
         Child { name, value }
     }
 
-    /// The last part of its path.
+    /// The last part of its path, or the whole path.
     pub fn name(&self) -> &str
         ensures { result.now ≡ self.now.0 }
     {
@@ -44,7 +44,7 @@ impl<'a, V> Child<'a, V> {
         self.value
     }
 
-    /// The last part of its path, to be kept.
+    /// The same, to be kept.
     pub fn into_name(self) -> Text
         ensures { result ≡ self.entry.0 }
     {

@@ -115,6 +115,13 @@ impl<V: Drop, A: Allocator + Clone> Trie<V, A> {
         children_of(alloc, &self.names, directory.as_str())
     }
 
+    /// Every name under its whole path, in the order of the paths' bytes. NoMemory: the list found no room in `alloc`.
+    pub fn entries(&self, alloc: Global) -> Result<Vec<Child<'_, V>>, NoMemory>
+        ensures { IfOk result (λ c. c.items ≡ map.entries self.now) }
+    {
+        entries_of(alloc, &self.names)
+    }
+
     /// Whether a name lies below the directory, at any depth. It needs no memory.
     pub fn has_below(&self, directory: &Path) -> bool
         ensures { result ≡ has_below self.now directory.now }
@@ -152,6 +159,21 @@ fn children_of<'a, V, A: Allocator>(
             let child = child_at(alloc, name.as_str(), value)?;
             found.push(child)?;
         }
+    }
+    Ok(found)
+}
+
+fn entries_of<V, A: Allocator>(
+    alloc: Global,
+    names: &BTreeMap<String<A>, V, A>,
+) -> Result<Vec<Child<'_, V>>, NoMemory>
+    ensures all { IfOk result (λ c. c.items ≡ by_bytes names.now.entries) }
+    ensures ordered { IsOk result → IsOrdered string_cmp names.now }
+{
+    let mut found = Vec::new(alloc);
+    for (name, value) in names {
+        let path = Text::from_str(name.as_str(), alloc)?;
+        found.push(Child::new(path, value))?;
     }
     Ok(found)
 }
