@@ -1,10 +1,10 @@
 //! What every log of the master promises.
 
-ghost use Rattle.std.specs.Prelude.{◌≡◌, ◌↔◌, ℕ, List, [], ◌∷◌, ◌++◌, true, false, length, slice_get, IfOk, OnOk, OnErr, IsErrOf};
+ghost use Rattle.std.specs.Prelude.{◌≡◌, ◌<◌, ◌^◌, ◌↔◌, ℕ, List, [], ◌∷◌, ◌++◌, true, false, length, slice_get, IfOk, OnOk, OnErr, IsErrOf};
 ghost use Rattle.log_records.specs.declared.record.Record.{Record};
 ghost use Rattle.log_codec.specs.Payloads.{IsWritable};
 ghost use Rattle.protocol.specs.Logged.{LogDisk, LogChange, AppendRecord, WriteCheckpoint, log_changed};
-ghost use Rattle.protocol.specs.LogSizes.{record_fits, checkpoint_fits};
+ghost use Rattle.protocol.specs.LogSizes.{used_size, record_fits, checkpoint_fits};
 ghost use Rattle.operation_log.specs.declared.fault.LogFault.TheVariants.{Full, Unwritable};
 ghost use Rattle.operation_log.specs.Logs.{MayBeUnderWay, IsDecided};
 
@@ -27,6 +27,11 @@ pub trait OperationLog {
 
     /// The bytes of the log's disk.
     ghost log_bytes: { Self → ℕ };
+
+    /// The bytes of an area that the log takes.
+    fn used(&self) -> u64
+        ensures size { result ≡ used_size (disk self.now).items (disk self.now).records }
+        ensures small { result < 2 ^ 63 };
 
     /// Whether there is room for a record.
     fn fits(&self, entry: &Record) -> bool

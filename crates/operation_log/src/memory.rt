@@ -91,6 +91,10 @@ impl OperationLog for MemoryLog {
 
     ghost log_bytes = { λ l. l.log_bytes };
 
+    fn used(&self) -> u64 {
+        self.used
+    }
+
     fn fits(&self, entry: &Record) -> bool {
         used_with(self.log_bytes, self.used, AROUND_RECORD, entry).is_some()
     }

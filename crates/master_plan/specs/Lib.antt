@@ -1,0 +1,6 @@
+pub mod Faults
+pub mod Coding
+pub mod Changes
+pub mod Plans
+pub mod Sizes
+pub mod Logging

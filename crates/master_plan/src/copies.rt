@@ -1,0 +1,40 @@
+//! Copies that are given up, and the ends of leases.
+
+ghost use Rattle.std.specs.Prelude.{◌≡◌, OnOk};
+ghost use Rattle.std.specs.FinMap as map;
+ghost use Rattle.protocol.specs.Tables.{removed_all};
+ghost use Rattle.protocol.specs.Logged.{copies_given_up};
+ghost use Rattle.chunk_table.specs.ChunkTable.{set_end};
+ghost use Rattle.master_plan.specs.Plans.{without_copies, without_attempts, with_end};
+
+use crate::fault::PlanFault;
+use crate::plan::Plan;
+use gfs_types::ids::{Handle, Moment};
+use std::alloc::Allocator;
+
+impl<A: Allocator + Clone> Plan<A> {
+    /// These copies are given up, with their version numbers that are under way.
+    pub fn give_up_copies(&mut self, handles: &[u64]) -> Result<(), PlanFault>
+        ensures { OnOk result (self.new ≡ without_copies self.old handles.now) }
+    {
+        self.state.give_up_copies(handles)?;
+        self.remove_attempts(handles);
+        Ok(())
+    }
+
+    /// The version numbers of these chunks that are under way are given up. Takes no memory.
+    pub fn remove_attempts(&mut self, handles: &[u64])
+        ensures { self.new ≡ without_attempts self.old handles.now }
+    {
+        for handle in handles {
+            self.attempts.remove(*handle);
+        }
+    }
+
+    /// The moment at which a chunk's lease ends; 0 ends it. Takes no memory.
+    pub fn end_lease_at(&mut self, handle: Handle, moment: Moment)
+        ensures { self.new ≡ with_end self.old handle.0 moment.0 }
+    {
+        self.state.set_lease_end(handle, moment);
+    }
+}

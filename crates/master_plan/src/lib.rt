@@ -1,0 +1,12 @@
+//! The master while it takes a step: what it knows, and what the step has come to so far (GFS paper, section 2.6).
+#![tactic(auto)]
+
+pub mod change;
+pub mod copies;
+pub mod fault;
+pub mod holders;
+pub mod logging;
+pub mod orders;
+pub mod plan;
+pub mod sizes;
+pub mod waiting;

@@ -1,0 +1,90 @@
+//! How a step logs a record.
+
+ghost use Rattle.std.specs.Prelude.{◌≡◌, [], ◌∷◌, ◌++◌, IfOk, OnOk};
+ghost use Rattle.protocol.specs.LogSizes.{record_fits};
+ghost use Rattle.protocol.specs.Logged.{after_record, AppendRecord, WriteCheckpoint};
+ghost use Rattle.protocol.specs.Master.{fits, is_of_copy};
+ghost use Rattle.master_plan.specs.Plans.{doing, appended, with_checkpoint};
+ghost use Rattle.master_plan.specs.Logging.{was_logged, tried};
+
+use crate::change::{Change, RecordList};
+use crate::fault::PlanFault;
+use crate::plan::Plan;
+use crate::sizes::{bytes_used, checkpoint_bytes};
+use log_records::record::Record;
+use master_log::replay::replay;
+use operation_log::log::OperationLog;
+use operation_log::sizes::used_with;
+use std::alloc::Allocator;
+
+/// Logs a record, after a checkpoint where there is no room for it, and the state follows. False: there is no room even so, or the
+/// checkpoint gave up the copy that the record is of.
+#[tactic(auto, using(crate::proofs::Logs::fits_first, crate::proofs::Logs::no_checkpoint, crate::proofs::Logs::fits_later, crate::proofs::Logs::fits_never))]
+pub fn logs<L: OperationLog, A: Allocator + Clone>(
+    log: &L,
+    plan: &mut Plan<A>,
+    entry: Record,
+) -> Result<bool, PlanFault>
+    ensures logged { IfOk result (λ b. b ≡ was_logged (doing (L.disk log.now) plan.old) entry) }
+    ensures goes { OnOk result (tried (doing (L.disk log.now) plan.old) entry ≡ doing (L.disk log.now) plan.new) }
+{
+    if has_room(log, plan, &entry)? {
+        plan.append(entry)?;
+        return Ok(true);
+    }
+    let items = RecordList::new(plan.state.checkpoint_items()?);
+    if checkpoint_bytes(plan.config.log_bytes, items.as_slice()).is_none() {
+        return Ok(false);
+    }
+    let was_of_copy = plan.is_of_copy(&entry);
+    plan.write_checkpoint(items)?;
+    if was_of_copy || !has_room(log, plan, &entry)? {
+        return Ok(false);
+    }
+    plan.append(entry)?;
+    Ok(true)
+}
+
+// Whether a record fits once the changes so far are made.
+fn has_room<L: OperationLog, A: Allocator + Clone>(
+    log: &L,
+    plan: &Plan<A>,
+    entry: &Record,
+) -> Result<bool, PlanFault>
+    ensures { IfOk result (λ b. b ≡ fits (doing (L.disk log.now) plan.now) entry.now) }
+{
+    let used = bytes_used(log, plan.config.log_bytes, &plan.changes)?;
+    Ok(used_with(plan.config.log_bytes, used, 5, entry).is_some())
+}
+
+impl<A: Allocator + Clone> Plan<A> {
+    // A record is to be added, and the state follows.
+    fn append(&mut self, entry: Record) -> Result<(), PlanFault>
+        ensures { OnOk result (self.new ≡ appended self.old entry) }
+    {
+        replay(&mut self.state, &entry)?;
+        self.changes.push(Change::Append(entry))?;
+        Ok(())
+    }
+
+    // A checkpoint is to be written, which gives up each copy under way.
+    fn write_checkpoint(&mut self, items: RecordList) -> Result<(), PlanFault>
+        ensures { OnOk result (self.new ≡ with_checkpoint self.old items) }
+    {
+        self.changes.push(Change::Checkpoint(items))?;
+        let handles = self.state.copied_handles()?;
+        self.give_up_copies(&handles)
+    }
+
+    // Whether a record is of a copy that is under way.
+    fn is_of_copy(&self, entry: &Record) -> bool
+        ensures { result ≡ is_of_copy self.now.logged entry.now }
+    {
+        match entry {
+            Record::Issue { handle, .. } | Record::Grant { handle, .. } => {
+                self.state.copy_under(*handle).is_some()
+            }
+            _ => false,
+        }
+    }
+}

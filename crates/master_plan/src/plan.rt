@@ -1,0 +1,164 @@
+//! What the master knows, and what its step has come to so far.
+
+ghost use Rattle.std.specs.Prelude.{◌≡◌, ◌≤◌, [], ◌∷◌, ◌++◌, OnOk, OnErr};
+ghost use Rattle.std.specs.Option.{option_copied};
+ghost use Rattle.std.specs.FinMap as map;
+ghost use Rattle.protocol.specs.Tables.{moment_limit};
+ghost use Rattle.protocol.specs.Master.{has_lease};
+ghost use Rattle.master_plan.specs.Plans.{known, told};
+
+use crate::change::Change;
+use crate::fault::PlanFault;
+use crate::waiting::{Attempt, Pending};
+use chunk_table::chunk::Chunk;
+use gfs_types::config::Config;
+use gfs_types::ids::{Handle, Moment, Node, Version};
+use leases::master::ended;
+use master_state::state::State;
+use messages::message::{Body, Message};
+use messages::message_lists::MessageList;
+use number_map::NumberMap;
+use ordered_map::OrderedMap;
+use protocol::seen::{Seen, SeenList};
+use std::alloc::{Allocator, Global};
+use std::marker::Model;
+
+/// The master while it takes a step: the changes that it makes of its log are put down here, and made as the step ends.
+#[derive(Drop)]
+pub struct Plan<A: Allocator> {
+    pub(crate) alloc: Global,
+    pub(crate) config: Config,
+    pub(crate) server_count: u16,
+    pub(crate) clock: u64,
+    pub(crate) state: State<A>,
+    pub(crate) order_count: u64,
+    pub(crate) attempts: OrderedMap<Attempt>,
+    pub(crate) snapshots: Vec<Pending>,
+    pub(crate) holders: NumberMap<OrderedMap<u64>>,
+    pub(crate) reported: NumberMap<u64>,
+    pub(crate) sent: MessageList,
+    pub(crate) changes: Vec<Change>,
+    pub(crate) seen: SeenList,
+}
+
+impl<A: Allocator> Model for Plan<A> {
+    ghost use Rattle.std.specs.Prelude.{◌≤◌};
+    ghost use Rattle.std.specs.Coded.{codes, coded_ℕ, coded_list};
+    ghost use Rattle.std.specs.FinMap as map;
+    ghost use Rattle.protocol.specs.Tables.{moment_limit};
+    ghost use Rattle.master_plan.specs.Changes.{changes_of};
+    ghost use Rattle.master_plan.specs.Plans.{PlanState};
+
+    ghost Value = { PlanState };
+
+    ghost coded = { Prim.hlevel (codes, map.code, coded_list, coded_ℕ) };
+
+    ghost view = { λ p. record {
+      config = p.config;
+      server_count = p.server_count;
+      now = p.clock;
+      logged = p.state;
+      order_count = p.order_count;
+      attempts = p.attempts;
+      snapshots = p.snapshots.items;
+      holders = p.holders;
+      reported = p.reported;
+      sent = p.sent;
+      changes = changes_of p.changes.items;
+      seen = p.seen;
+    } };
+
+    ghost invariant = { λ p. p.clock ≤ moment_limit };
+}
+
+impl<A: Allocator + Clone> Plan<A> {
+    pub fn alloc(&self) -> Global {
+        self.alloc
+    }
+
+    /// The settings.
+    pub fn config(&self) -> &Config
+        ensures { result.now ≡ self.now.config }
+    {
+        &self.config
+    }
+
+    /// How many servers the cell has. They count from 1.
+    pub fn server_count(&self) -> u16
+        ensures { result ≡ self.now.server_count }
+    {
+        self.server_count
+    }
+
+    /// The greatest moment that the master was given.
+    pub fn now(&self) -> Moment
+        ensures now { result.0 ≡ self.now.now }
+        ensures limit { result.0 ≤ moment_limit }
+    {
+        Moment(self.clock)
+    }
+
+    /// What the log keeps, as it will stand after this step.
+    pub fn state(&self) -> &State<A>
+        ensures { result.now ≡ self.now.logged }
+    {
+        &self.state
+    }
+
+    /// The version number of a chunk that is under way.
+    pub fn attempt(&self, handle: Handle) -> Option<&Attempt>
+        ensures { option_copied result ≡ map.get self.now.attempts handle.0 }
+    {
+        self.attempts.get(handle.0)
+    }
+
+    /// A version number of a chunk is under way from now on.
+    pub fn put_attempt(&mut self, handle: Handle, attempt: Attempt) -> Result<(), PlanFault>
+        ensures { OnOk result (self.new ≡ record self.old { attempts = map.insert self.old.attempts handle.0 attempt }) }
+    {
+        self.attempts.insert(handle.0, attempt)?;
+        Ok(())
+    }
+
+    /// None of a chunk is. Takes no memory.
+    pub fn remove_attempt(&mut self, handle: Handle)
+        ensures { self.new ≡ record self.old { attempts = map.remove self.old.attempts handle.0 } }
+    {
+        self.attempts.remove(handle.0);
+    }
+
+    /// The snapshots that wait, the oldest first.
+    pub fn snapshots(&self) -> &[Pending]
+        ensures { result.now ≡ self.now.snapshots }
+    {
+        self.snapshots.as_slice()
+    }
+
+    /// Whether the lease of a chunk that was granted has not ended.
+    pub fn has_lease(&self, chunk: &Chunk) -> bool
+        ensures { result ≡ has_lease (known self.now) chunk.now }
+    {
+        chunk.granted() > Version(0) && !ended(chunk, Moment(self.clock))
+    }
+
+    /// A message is sent.
+    pub fn tell(&mut self, receiver: Node, body: Body) -> Result<(), PlanFault>
+        ensures { OnOk result (self.new ≡ told self.old receiver body) }
+    {
+        self.sent.push(Message {
+            number: 0,
+            sender: Node::Master,
+            receiver,
+            body,
+        })?;
+        Ok(())
+    }
+
+    /// Something is seen of the step.
+    pub fn see(&mut self, seen: Seen) -> Result<(), PlanFault>
+        ensures { OnOk result (self.new ≡ record self.old { seen = self.old.seen ++ seen ∷ [] }) }
+    {
+        self.seen.push(seen)?;
+        Ok(())
+    }
+}
