@@ -1,0 +1,5 @@
+pub mod Faults
+pub mod Commits
+pub mod Standing
+pub mod Ends
+pub mod Opens
