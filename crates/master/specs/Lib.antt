@@ -3,3 +3,5 @@ pub mod Commits
 pub mod Standing
 pub mod Ends
 pub mod Opens
+pub mod Inputs
+pub mod Kinds
