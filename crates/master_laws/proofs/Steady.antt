@@ -13,7 +13,7 @@ use Rattle.messages.specs.declared.message.LeaseLine.{LeaseLine}
 use Rattle.log_records.specs.declared.record.Record.{Record}
 use Rattle.log_records.specs.declared.record.Record.TheVariants as log
 use Rattle.protocol.specs.declared.seen.Seen.TheVariants.{CopyStarted}
-use Rattle.protocol.specs.Sending.{server_id, file_id, handle_of, version_of}
+use Rattle.protocol.specs.Sending.{server_number, server_id, file_id, handle_of, version_of}
 use Rattle.chunk_table.specs.ChunkTable.{ChunkRow, chunk_of, file_of}
 use Rattle.protocol.specs.Tables.{rising, with_number, element_at}
 use Rattle.protocol.specs.LogSizes.{checkpoint_fits}
@@ -24,8 +24,9 @@ use Rattle.protocol.specs.MasterSnapshots.{waits_for, revokes, revokes_row}
 use Rattle.protocol.specs.MasterVersions.{Asker, VersionTarget, holder_target, tells_holders, tells_to_wait, sends_versions, version_order, new_attempt, sends_issued, issues_to, targets_by, recorded_holders, issues_own, is_attempted, copy_order, sends_copies, sends_copy_started, copy_targets, copies_to, begins_copy, copy_for, is_copied, wants_own, wants_own_of, issues_copy, wants_copy, wants_by, wants_primary, sends_grant, grants, grants_to, is_complete, with_recorded, learns_attempt, learns}
 use Rattle.protocol.specs.MasterAsks.{looks_at_row, looks_at, mutates_row, mutates_at, adds_chunk, with_index, asks_to_write, asks_to_append, asks_for_last, asks_for, asks_of, takes_ask}
 use Rattle.protocol.specs.MasterReports.{holds_now, takes_recorded, revoked_row, takes_revoked, drops_useless, learns_all, extends_row, extends_all, hears, takes_report}
+use Rattle.master_laws.specs.Kinds.{is_name}
 use Rattle.protocol.specs.MasterClones.{CloneOrder, best_clone, orders_clone, clones_next}
-use Rattle.protocol.specs.MasterStep.{gives_up_attempts, gives_up_lost_copies, expires_all, expired_files, expires_old, master_ticks}
+use Rattle.protocol.specs.MasterStep.{master_takes, gives_up_attempts, gives_up_lost_copies, expires_all, expired_files, expires_old, master_ticks}
 
 -- the settings, and the number of servers
 abbrev pub settings_of : MasterDoing → Config × ℕ
@@ -226,3 +227,13 @@ module _ (r : List Bool) where
   ticks_keep d =
       after clones_next (λ x. orders_clone_keep x (best_clone x.master (table.entries x.master.logged.table.chunks)))
       (expires_all_keep (gives_up_lost_copies (gives_up_attempts d)) (expired_files (gives_up_lost_copies (gives_up_attempts d)).master))
+
+  pub unnamed_keep : (d : MasterDoing) (m : Message) (b : Body) → is_name b ≡ false → Kept (settings_of d) (master_takes (with_ d) m b) (master_takes d m b)
+  unnamed_keep d m (body.Name number deadline c) h = absurd cc
+  unnamed_keep d m (body.Look number c) h = record { same = refl; settings = refl }
+  unnamed_keep d m (body.Ask number file w deadline lost) h = asks_keep d m.sender number file.0 w deadline.0 lost
+  unnamed_keep d m (body.Recorded handle version) h = recorded_keep d (server_number m.sender) handle.0 version.0
+  unnamed_keep d m (body.Revoked handle version) h = revoked_keep d (server_number m.sender) handle.0 version.0
+  unnamed_keep d m (body.Cloned handle version) h = record { same = refl; settings = refl }
+  unnamed_keep d m (body.Report replicas leases) h = report_keep d (server_number m.sender) replicas leases
+  unnamed_keep d m other h = record { same = refl; settings = refl }
