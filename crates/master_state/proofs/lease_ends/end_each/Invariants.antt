@@ -2,7 +2,7 @@ use Rattle.std.proofs.Common.{◌≡◌, ℕ}
 use Rattle.std.specs.FinMap.{get}
 use Rattle.master_state.specs.OldLeases.{ended_if_granted}
 use Rattle.master_state.proofs.Ends.{below_changed}
-use Rattle.master_state.proofs.leases.end_each.Given as goal
+use Rattle.master_state.proofs.lease_ends.end_each.Given as goal
 
 abbrev pub invariant-loop-number : goal.invariant-loop-number
 invariant-loop-number l =

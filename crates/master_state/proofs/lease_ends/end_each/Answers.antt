@@ -3,7 +3,7 @@ use Rattle.std.specs.FinMap.{get}
 use Rattle.chunk_table.specs.ChunkTable.{TableState, NumberTable, ChunkRow, with_row_changed}
 use Rattle.master_state.specs.OldLeases.{ended_if_granted}
 use Rattle.master_state.proofs.Ends.{below_changed, stepped, whole}
-use Rattle.master_state.proofs.leases.end_each.Goals as goal
+use Rattle.master_state.proofs.lease_ends.end_each.Goals as goal
 
 pub loop-number-preserved : goal.loop-number-preserved
 loop-number-preserved c =
