@@ -76,11 +76,11 @@ impl Attempt {
 /// A snapshot that waits, under its locks, for leases to end.
 #[derive(Drop)]
 pub struct Pending {
-    client: u64,
-    number: u64,
-    deadline: u64,
-    from: Path,
-    to: Path,
+    pub(crate) client: u64,
+    pub(crate) number: u64,
+    pub(crate) deadline: u64,
+    pub(crate) from: Path,
+    pub(crate) to: Path,
 }
 
 impl Model for Pending {
