@@ -1,2 +1,2 @@
 pub mod Logs
-pub mod Sizes
+pub mod LogBytes
