@@ -21,20 +21,31 @@ impl<A: Allocator + Clone> Plan<A> {
     pub fn remove_snapshot(&mut self, client: ClientId, number: u64)
         ensures { self.new ≡ record self.old { snapshots = filter (λ other. not ((client.0 == other.client) && (number == other.number))) self.old.snapshots } }
     {
-        self.snapshots
-            .retain(|other| !(client.0 == other.client && number == other.number));
+        remove_call(&mut self.snapshots, client, number);
     }
 
     /// A copy of the list of them.
     pub fn copied_snapshots(&self) -> Result<Vec<Pending>, NoMemory>
         ensures { IfOk result (λ v. v.items ≡ self.now.snapshots) }
     {
-        let mut copies = Vec::new(self.alloc);
-        for snapshot in &self.snapshots {
-            copies.push(snapshot.copy(self.alloc)?)?;
-        }
-        Ok(copies)
+        copies_of(self.alloc, &self.snapshots)
     }
+}
+
+fn remove_call(snapshots: &mut Vec<Pending>, client: ClientId, number: u64)
+    ensures { snapshots.new.items ≡ filter (λ other. not ((client.0 == other.client) && (number == other.number))) snapshots.old.items }
+{
+    snapshots.retain(|other| !(client.0 == other.client().0 && number == other.number()));
+}
+
+fn copies_of(alloc: Global, snapshots: &[Pending]) -> Result<Vec<Pending>, NoMemory>
+    ensures { IfOk result (λ v. v.items ≡ snapshots.now) }
+{
+    let mut copies = Vec::new(alloc);
+    for snapshot in snapshots {
+        copies.push(snapshot.copy(alloc)?)?;
+    }
+    Ok(copies)
 }
 
 impl Pending {

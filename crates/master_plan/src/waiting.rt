@@ -92,13 +92,7 @@ impl Model for Pending {
 }
 
 impl Pending {
-    pub fn new(
-        client: ClientId,
-        number: u64,
-        deadline: Moment,
-        from: Path,
-        to: Path,
-    ) -> Pending
+    pub fn new(client: ClientId, number: u64, deadline: Moment, from: Path, to: Path) -> Pending
         ensures { result ≡ record { client = client.0; number = number; deadline = deadline.0; from = from; to = to } }
     {
         Pending {
