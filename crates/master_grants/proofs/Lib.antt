@@ -1,1 +1,1 @@
-pub mod Granting
+pub mod Grants

@@ -16,6 +16,7 @@ use messages::message::Body;
 use operation_log::log::OperationLog;
 use std::alloc::Allocator;
 
+#[tactic(auto, using(crate::proofs::Grants::to_none, crate::proofs::Grants::to_first))]
 /// The number is granted to the first of these servers as the primary, with all of them as members; where there is none,
 /// to none.
 pub fn grants_to<L: OperationLog, A: Allocator + Clone>(
@@ -34,6 +35,7 @@ pub fn grants_to<L: OperationLog, A: Allocator + Clone>(
     grants(log, plan, handle, attempt, primary, members)
 }
 
+#[tactic(auto, using(crate::proofs::Grants::grants_by))]
 // At the grant the version, the primary and the members are logged, and one Grant is sent.
 fn grants<L: OperationLog, A: Allocator + Clone>(
     log: &L,

@@ -88,8 +88,6 @@ fn with_recorded<L: OperationLog, A: Allocator + Clone>(
 fn is_complete<A: Allocator + Clone>(plan: &Plan<A>, attempt: &Attempt) -> bool
     ensures { result ≡ is_complete (known plan.now) attempt.now }
 {
-    same_numbers(
-        attempt.servers().as_slice(),
-        attempt.recorded().as_slice(),
-    ) && plan.now().0.saturating_sub(attempt.begun().0) < plan.config().attempt_ms
+    same_numbers(attempt.servers().as_slice(), attempt.recorded().as_slice())
+        && plan.now().0.saturating_sub(attempt.begun().0) < plan.config().attempt_ms
 }

@@ -1,7 +1,6 @@
 -- A grant, by whether its record got in, and by its first server.
-use Rattle.std.proofs.Common.{◌≡◌, ℕ, cond, List, [], ◌∷◌, refl, Some, None, Option}
+use Rattle.std.proofs.Common.{◌≡◌, ℕ, cond, List, [], ◌∷◌, refl, ap, Some, None}
 use Rattle.std.specs.Prelude.{slice_get}
-use Rattle.log_records.specs.declared.record.Record.{Record}
 use Rattle.log_records.specs.declared.record.Record.TheVariants as log
 use Rattle.protocol.specs.Sending.{handle_of, version_of, server_id}
 use Rattle.protocol.specs.Master.{MasterDoing, VersionAttempt}
@@ -12,8 +11,8 @@ use Rattle.master_plan.proofs.Logs.{logs_by}
 pub grants_by : (d : MasterDoing) (handle : ℕ) (a : VersionAttempt) (primary : ℕ) (members : List ℕ)
     → grants d handle a primary members
     ≡ cond (was_logged d (log.Grant (handle_of handle) (version_of a.version) (server_id primary) members))
-        (sends_grant (tried d (log.Grant (handle_of handle) (version_of a.version) (server_id primary) members)) handle a.version primary members)
-        (tried d (log.Grant (handle_of handle) (version_of a.version) (server_id primary) members))
+    (sends_grant (tried d (log.Grant (handle_of handle) (version_of a.version) (server_id primary) members)) handle a.version primary members)
+    (tried d (log.Grant (handle_of handle) (version_of a.version) (server_id primary) members))
 grants_by d handle a primary members =
     logs_by d (log.Grant (handle_of handle) (version_of a.version) (server_id primary) members) (λ e. sends_grant e handle a.version primary members)
 
