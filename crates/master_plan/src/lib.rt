@@ -10,4 +10,5 @@ pub mod logging;
 pub mod orders;
 pub mod plan;
 pub mod sizes;
+pub mod snapshots;
 pub mod waiting;
