@@ -8,5 +8,6 @@ pub mod holders;
 pub mod logging;
 pub mod orders;
 pub mod plan;
+pub mod reports;
 pub mod sizes;
 pub mod waiting;
