@@ -1,3 +1,4 @@
 pub mod Logs
 pub mod Sizes
-pub mod Lines
+pub mod Reported
+pub mod Ordered

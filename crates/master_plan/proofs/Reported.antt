@@ -1,7 +1,7 @@
--- A table of reported replicas, made from the last line on.
-use Rattle.std.proofs.Common.{◌≡◌, ℕ, ◌+◌, ◌-◌, ◌<◌, List, length, get_or, drop, sym, ap, ◌∙◌, arith}
+-- What servers tell: a table of reported replicas, made from the last line on, and one version more in the table of all servers.
+use Rattle.std.proofs.Common.{◌≡◌, ℕ, ◌+◌, ◌-◌, ◌<◌, List, length, get_or, drop, Some, Option, OnSome, MutBor, unwrap_or, sym, ap, ◌∙◌, subst, arith}
 use Rattle.std.proofs.lemmas.List.{at_drop_more}
-use Rattle.std.specs.FinMap.{insert}
+use Rattle.std.specs.FinMap.{get, insert, empty}
 use Rattle.messages.specs.declared.message.ReplicaLine.{ReplicaLine}
 use Rattle.protocol.specs.Tables.{Table}
 use Rattle.master_plan.specs.Reports.{table_of_lines}
@@ -18,3 +18,10 @@ one_line_more lines back line held lt is so_far =
     ∙ ap (λ x. insert (table_of_lines (drop (length lines - 1 - back + 1) lines)) x.handle.0 x.version.0) (sym is)
     ∙ ap (λ k. insert (table_of_lines (drop k lines)) line.handle.0 line.version.0) next
     ∙ ap (λ t. insert t line.handle.0 line.version.0) (sym so_far))
+
+pub version_noted : (old : Table (Table ℕ)) (server handle version : ℕ) (r : Option (MutBor (Table ℕ))) (b : MutBor (Table ℕ)) (new : Table (Table ℕ)) (w : Table ℕ)
+    → r ≡ Some b → OnSome r (new ≡ insert old server w) → Some b.now ≡ get old server → w ≡ insert b.now handle version
+    → new ≡ insert old server (insert (unwrap_or (get old server) empty) handle version)
+version_noted old server handle version r b new w is holds value v =
+    subst (λ o. OnSome o (new ≡ insert old server w)) is holds
+    ∙ ap (insert old server) (v ∙ ap (λ t. insert t handle version) (ap (λ o. unwrap_or o empty) value))
