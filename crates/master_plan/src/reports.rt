@@ -69,10 +69,7 @@ fn note_version(
 }
 
 // The versions of reported replicas by handle. The first line of a handle counts.
-fn table_of_lines(
-    alloc: Global,
-    replicas: &[ReplicaLine],
-) -> Result<OrderedMap<u64>, AllocError>
+fn table_of_lines(alloc: Global, replicas: &[ReplicaLine]) -> Result<OrderedMap<u64>, AllocError>
     ensures { IfOk result (λ held. held ≡ table_of_lines replicas.now) }
 {
     let mut held = OrderedMap::new(alloc);
