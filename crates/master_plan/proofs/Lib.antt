@@ -1,4 +1,4 @@
 pub mod Logs
-pub mod Sizes
+pub mod LogBytes
 pub mod Reported
 pub mod Ordered
