@@ -11,4 +11,5 @@ pub mod orders;
 pub mod plan;
 pub mod reports;
 pub mod sizes;
+pub mod snapshots;
 pub mod waiting;
