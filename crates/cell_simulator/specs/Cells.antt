@@ -1,5 +1,5 @@
 -- What a simulator is told of a cell.
-use Rattle.std.specs.Prelude.{ℕ, Bool, ◌&&◌, nat_le, List, Option, option_map, option_and_then}
+use Rattle.std.specs.Prelude.{ℕ, Bool, List, Option}
 use Rattle.gfs_types.specs.declared.answer.Answer.{Answer}
 use Rattle.gfs_types.specs.declared.ids.ClientId.{ClientId}
 use Rattle.gfs_types.specs.declared.ids.FileId.{FileId}

@@ -1,3 +1,4 @@
 pub mod Cells
 pub mod Steps
 pub mod Shown
+pub mod Lines

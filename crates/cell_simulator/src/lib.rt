@@ -2,6 +2,7 @@
 #![tactic(auto)]
 
 pub mod cell;
+pub mod lines;
 pub mod looks;
 pub mod network;
 pub mod printing;

@@ -2,7 +2,7 @@
 
 ghost use Rattle.std.specs.Prelude.{◌≡◌, Some, IfErr, OnOk};
 ghost use Rattle.script.specs.ScriptFaults.{IsOfWrite};
-ghost use Rattle.cell_simulator.specs.Steps.{Goes, Just, Only, is_delivery, moment_of, node_of};
+ghost use Rattle.cell_simulator.specs.Steps.{First, Goes, Just, Only, is_delivery, moment_of, node_of};
 ghost use Rattle.cell_simulator.specs.Shown.{has_node, state_of};
 
 use crate::cell::SimulatedCell;
@@ -142,5 +142,29 @@ impl<C: SimulatedCell> Simulator<C> {
             }
         }
         Ok(())
+    }
+
+    /// Delivers what was put aside, the lowest number first, and then what that led to.
+    pub fn free<W: Write>(&mut self, alloc: Global, writer: &mut W) -> Result<(), ScriptFault>
+        ensures clock { self.new.clock ≡ self.old.clock }
+        ensures goes { OnOk result (Goes C.meaning (state_of self.old) (state_of self.new) (Only is_delivery) (W.contents writer.old) (W.contents writer.new)) }
+        ensures fault { IfErr result IsOfWrite }
+    {
+        let freed = self.network.free(alloc);
+        for number in &freed {
+            self.deliver_message(*number, writer)?;
+        }
+        self.deliver(writer)
+    }
+
+    /// A node starts anew.
+    pub fn restart<W: Write>(&mut self, node: Node, writer: &mut W) -> Result<(), ScriptFault>
+        ensures clock { self.new.clock ≡ self.old.clock }
+        ensures goes { OnOk result (Goes C.meaning (state_of self.old) (state_of self.new) (First (Event.Restart node self.old.clock) is_delivery) (W.contents writer.old) (W.contents writer.new)) }
+        ensures fault { IfErr result IsOfWrite }
+    {
+        let now = self.clock;
+        self.take(node, Event::Restart { node, now }, writer)?;
+        self.deliver(writer)
     }
 }

@@ -1,4 +1,4 @@
-use Rattle.std.proofs.Common.{◌≡◌, ◌≤◌, ℕ, false}
+use Rattle.std.proofs.Common.{◌≡◌, ◌≤◌, false}
 use Rattle.gfs_types.specs.declared.ids.ClientId.{ClientId}
 use Rattle.cell_simulator.proofs.simulator.Simulator.first_open.Given as goal
 
