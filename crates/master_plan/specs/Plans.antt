@@ -1,5 +1,5 @@
 -- The master while it takes a step, but for the log on its disk.
-use Rattle.std.specs.Prelude.{ℕ, suc, true, List, [], ◌∷◌, ◌++◌, Bool}
+use Rattle.std.specs.Prelude.{ℕ, suc, true, max, List, [], ◌∷◌, ◌++◌}
 use Rattle.std.specs.FinMap as table
 use Rattle.gfs_types.specs.declared.config.Config.{Config}
 use Rattle.gfs_types.specs.declared.ids.Node.{Node}
@@ -14,6 +14,8 @@ use Rattle.protocol.specs.Sending.{message}
 use Rattle.protocol.specs.Logged.{Logged, LogDisk, LogChange, AppendRecord, WriteCheckpoint, new_log, log_changed_by_all, after_record, copies_given_up}
 use Rattle.protocol.specs.declared.seen.Seen.{Seen}
 use Rattle.protocol.specs.Master.{MasterState, MasterDoing, VersionAttempt, PendingSnapshot}
+use Rattle.protocol.specs.MasterSnapshots.{live_snapshots}
+use Rattle.protocol.specs.MasterStep.{first_reports}
 
 pub record PlanState : Type 0 where
   pub config : Config
@@ -79,3 +81,29 @@ with_checkpoint p items = without_copies (record p { changes = p.changes ++ Writ
 
 abbrev pub with_end : PlanState → ℕ → ℕ → PlanState
 with_end p handle moment = record p { logged = record p.logged { table = set_end p.logged.table handle moment } }
+
+-- a step begins at a moment
+abbrev pub begun : PlanState → ℕ → PlanState
+begun p moment = record p { now = max p.now moment; snapshots = live_snapshots (max p.now moment) p.snapshots; sent = []; changes = []; seen = [] }
+
+-- no step is being taken
+abbrev pub resting : PlanState → PlanState
+resting p = record p { sent = []; changes = []; seen = [] }
+
+-- what a master knows that has read its log
+abbrev pub started : Config → ℕ → Logged → ℕ → PlanState
+started config server_count logged now =
+    record {
+      config = config;
+      server_count = server_count;
+      now = now;
+      logged = logged;
+      order_count = 0;
+      attempts = table.empty;
+      snapshots = [];
+      holders = table.empty;
+      reported = first_reports server_count now;
+      sent = [];
+      changes = [];
+      seen = [];
+    }

@@ -14,3 +14,6 @@ pub enum Change {
     /// A checkpoint of these items takes the place of the log's items and records.
     Checkpoint(RecordList),
 }
+
+/// Changes of the log, in the order in which they are made.
+pub type ChangeList = Sequence<Change>;

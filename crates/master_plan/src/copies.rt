@@ -9,7 +9,9 @@ ghost use Rattle.master_plan.specs.Plans.{without_copies, without_attempts, with
 
 use crate::fault::PlanFault;
 use crate::plan::Plan;
+use crate::waiting::Attempt;
 use gfs_types::ids::{Handle, Moment};
+use ordered_map::OrderedMap;
 use std::alloc::Allocator;
 
 impl<A: Allocator + Clone> Plan<A> {
@@ -26,9 +28,7 @@ impl<A: Allocator + Clone> Plan<A> {
     pub fn remove_attempts(&mut self, handles: &[u64])
         ensures { self.new ≡ without_attempts self.old handles.now }
     {
-        for handle in handles {
-            self.attempts.remove(*handle);
-        }
+        remove_all(&mut self.attempts, handles);
     }
 
     /// The moment at which a chunk's lease ends; 0 ends it. Takes no memory.
@@ -36,5 +36,13 @@ impl<A: Allocator + Clone> Plan<A> {
         ensures { self.new ≡ with_end self.old handle.0 moment.0 }
     {
         self.state.set_lease_end(handle, moment);
+    }
+}
+
+fn remove_all(attempts: &mut OrderedMap<Attempt>, handles: &[u64])
+    ensures { attempts.new ≡ removed_all attempts.old handles.now }
+{
+    for handle in handles {
+        attempts.remove(*handle);
     }
 }

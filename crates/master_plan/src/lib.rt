@@ -1,6 +1,7 @@
 //! The master while it takes a step: what it knows, and what the step has come to so far (GFS paper, section 2.6).
 #![tactic(auto)]
 
+pub mod begin;
 pub mod change;
 pub mod copies;
 pub mod fault;
@@ -8,5 +9,7 @@ pub mod holders;
 pub mod logging;
 pub mod orders;
 pub mod plan;
+pub mod reports;
 pub mod sizes;
+pub mod snapshots;
 pub mod waiting;

@@ -53,7 +53,7 @@ fn has_room<L: OperationLog, A: Allocator + Clone>(
 ) -> Result<bool, PlanFault>
     ensures { IfOk result (λ b. b ≡ fits (doing (L.disk log.now) plan.now) entry.now) }
 {
-    let used = bytes_used(log, plan.config.log_bytes, &plan.changes)?;
+    let used = bytes_used(log, plan.config.log_bytes, plan.changes.as_slice())?;
     Ok(used_with(plan.config.log_bytes, used, 5, entry).is_some())
 }
 

@@ -7,7 +7,7 @@ ghost use Rattle.protocol.specs.Tables.{moment_limit};
 ghost use Rattle.protocol.specs.Master.{has_lease};
 ghost use Rattle.master_plan.specs.Plans.{known, told};
 
-use crate::change::Change;
+use crate::change::ChangeList;
 use crate::fault::PlanFault;
 use crate::waiting::{Attempt, Pending};
 use chunk_table::chunk::Chunk;
@@ -37,7 +37,7 @@ pub struct Plan<A: Allocator> {
     pub(crate) holders: NumberMap<OrderedMap<u64>>,
     pub(crate) reported: NumberMap<u64>,
     pub(crate) sent: MessageList,
-    pub(crate) changes: Vec<Change>,
+    pub(crate) changes: ChangeList,
     pub(crate) seen: SeenList,
 }
 
@@ -64,11 +64,11 @@ impl<A: Allocator> Model for Plan<A> {
       holders = p.holders;
       reported = p.reported;
       sent = p.sent;
-      changes = changes_of p.changes.items;
+      changes = changes_of p.changes;
       seen = p.seen;
     } };
 
-    ghost invariant = { λ p. p.clock ≤ moment_limit };
+    ghost invariant = { λ p. (p.clock ≤ moment_limit) × (p.config.lease_ms ≤ 3600000) };
 }
 
 impl<A: Allocator + Clone> Plan<A> {
@@ -78,7 +78,8 @@ impl<A: Allocator + Clone> Plan<A> {
 
     /// The settings.
     pub fn config(&self) -> &Config
-        ensures { result.now ≡ self.now.config }
+        ensures config { result.now ≡ self.now.config }
+        ensures lease { result.now.lease_ms ≤ 3600000 }
     {
         &self.config
     }
@@ -103,6 +104,13 @@ impl<A: Allocator + Clone> Plan<A> {
         ensures { result.now ≡ self.now.logged }
     {
         &self.state
+    }
+
+    /// How many orders were sent in this epoch.
+    pub fn order_count(&self) -> u64
+        ensures { result ≡ self.now.order_count }
+    {
+        self.order_count
     }
 
     /// The version number of a chunk that is under way.

@@ -76,11 +76,11 @@ impl Attempt {
 /// A snapshot that waits, under its locks, for leases to end.
 #[derive(Drop)]
 pub struct Pending {
-    client: u64,
-    number: u64,
-    deadline: u64,
-    from: Path,
-    to: Path,
+    pub(crate) client: u64,
+    pub(crate) number: u64,
+    pub(crate) deadline: u64,
+    pub(crate) from: Path,
+    pub(crate) to: Path,
 }
 
 impl Model for Pending {
@@ -92,13 +92,7 @@ impl Model for Pending {
 }
 
 impl Pending {
-    pub fn new(
-        client: ClientId,
-        number: u64,
-        deadline: Moment,
-        from: Path,
-        to: Path,
-    ) -> Pending
+    pub fn new(client: ClientId, number: u64, deadline: Moment, from: Path, to: Path) -> Pending
         ensures { result ≡ record { client = client.0; number = number; deadline = deadline.0; from = from; to = to } }
     {
         Pending {

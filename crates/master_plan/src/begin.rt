@@ -1,0 +1,108 @@
+//! The beginning of the master, and of each of its steps.
+
+ghost use Rattle.std.specs.Prelude.{◌≡◌, ◌≤◌, [], nat_lt, filter, OnOk, IfOk};
+ghost use Rattle.std.specs.FinMap as map;
+ghost use Rattle.protocol.specs.Tables.{moment_limit, first_numbers};
+ghost use Rattle.protocol.specs.MasterStep.{first_reports};
+ghost use Rattle.protocol.specs.MasterSnapshots.{live_snapshots};
+ghost use Rattle.master_plan.specs.Changes.{changes_of};
+ghost use Rattle.master_plan.specs.Plans.{begun, started};
+
+use crate::change::ChangeList;
+use crate::fault::PlanFault;
+use crate::plan::Plan;
+use crate::waiting::Pending;
+use gfs_types::config::Config;
+use gfs_types::ids::Moment;
+use gfs_types::lists::Sequence;
+use gfs_types::no_memory::NoMemory;
+use master_state::state::State;
+use messages::message_lists::MessageList;
+use number_map::NumberMap;
+use ordered_map::OrderedMap;
+use protocol::seen::SeenList;
+use std::alloc::{Allocator, Global};
+use std::mem;
+
+impl<A: Allocator + Clone> Plan<A> {
+    /// What a master knows that has read its log: of the servers nothing but that each is taken to have reported now.
+    pub fn new(
+        alloc: Global,
+        config: Config,
+        server_count: u16,
+        state: State<A>,
+        now: Moment,
+    ) -> Result<Self, PlanFault>
+        requires moment { now.0 ≤ moment_limit }
+        requires lease { config.lease_ms ≤ 3600000 }
+        ensures { IfOk result (λ p. p ≡ started config server_count state now.0) }
+    {
+        Ok(Plan {
+            alloc,
+            config,
+            server_count,
+            clock: now.0,
+            state,
+            order_count: 0,
+            attempts: OrderedMap::new(alloc),
+            snapshots: Vec::new(alloc),
+            holders: NumberMap::new(alloc),
+            reported: first_reports(alloc, server_count, now)?,
+            sent: Sequence::empty(alloc),
+            changes: Sequence::empty(alloc),
+            seen: Sequence::empty(alloc),
+        })
+    }
+
+    /// A step begins at this moment: snapshots whose deadline has come are given up. Takes no memory.
+    pub fn begin(&mut self, now: Moment)
+        requires { now.0 ≤ moment_limit }
+        ensures { self.new ≡ begun self.old now.0 }
+    {
+        self.clock = self.clock.max(now.0);
+        keep_live(&mut self.snapshots, self.clock);
+        self.sent = Sequence::empty(self.alloc);
+        self.changes = Sequence::empty(self.alloc);
+        self.seen = Sequence::empty(self.alloc);
+    }
+
+    /// Takes out the messages of the step.
+    pub fn take_sent(&mut self) -> MessageList
+        ensures sent { result ≡ self.old.sent }
+        ensures rest { self.new ≡ record self.old { sent = [] } }
+    {
+        mem::replace(&mut self.sent, Sequence::empty(self.alloc))
+    }
+
+    /// Takes out the changes of the log that the step makes.
+    pub fn take_changes(&mut self) -> ChangeList
+        ensures changes { changes_of result ≡ self.old.changes }
+        ensures rest { self.new ≡ record self.old { changes = [] } }
+    {
+        mem::replace(&mut self.changes, Sequence::empty(self.alloc))
+    }
+
+    /// Takes out what is seen of the step.
+    pub fn take_seen(&mut self) -> SeenList
+        ensures seen { result ≡ self.old.seen }
+        ensures rest { self.new ≡ record self.old { seen = [] } }
+    {
+        mem::replace(&mut self.seen, Sequence::empty(self.alloc))
+    }
+}
+
+fn keep_live(snapshots: &mut Vec<Pending>, now: u64)
+    ensures { snapshots.new.items ≡ live_snapshots now snapshots.old.items }
+{
+    snapshots.retain(|snapshot| now < snapshot.deadline().0);
+}
+
+fn first_reports(alloc: Global, server_count: u16, now: Moment) -> Result<NumberMap<u64>, NoMemory>
+    ensures { IfOk result (λ t. t ≡ first_reports server_count now.0) }
+{
+    let mut reported = NumberMap::new(alloc);
+    for index in 0..server_count {
+        reported.insert(u64::from(index) + 1, now.0)?;
+    }
+    Ok(reported)
+}

@@ -1,0 +1,64 @@
+//! The snapshots that wait, as they come and go (section 3.4).
+
+ghost use Rattle.std.specs.Prelude.{◌≡◌, ◌==◌, ◌&&◌, ◌++◌, ◌∷◌, [], not, filter, IfOk, OnOk};
+
+use crate::plan::Plan;
+use crate::waiting::Pending;
+use gfs_types::ids::ClientId;
+use gfs_types::no_memory::NoMemory;
+use std::alloc::{Allocator, Global};
+
+impl<A: Allocator + Clone> Plan<A> {
+    /// A snapshot waits from now on, behind the others.
+    pub fn put_snapshot(&mut self, snapshot: Pending) -> Result<(), NoMemory>
+        ensures { OnOk result (self.new ≡ record self.old { snapshots = self.old.snapshots ++ snapshot ∷ [] }) }
+    {
+        self.snapshots.push(snapshot)?;
+        Ok(())
+    }
+
+    /// The snapshot of a client's call of this number waits no more. Takes no memory.
+    pub fn remove_snapshot(&mut self, client: ClientId, number: u64)
+        ensures { self.new ≡ record self.old { snapshots = filter (λ other. not ((client.0 == other.client) && (number == other.number))) self.old.snapshots } }
+    {
+        remove_call(&mut self.snapshots, client, number);
+    }
+
+    /// A copy of the list of them.
+    pub fn copied_snapshots(&self) -> Result<Vec<Pending>, NoMemory>
+        ensures { IfOk result (λ v. v.items ≡ self.now.snapshots) }
+    {
+        copies_of(self.alloc, &self.snapshots)
+    }
+}
+
+fn remove_call(snapshots: &mut Vec<Pending>, client: ClientId, number: u64)
+    ensures { snapshots.new.items ≡ filter (λ other. not ((client.0 == other.client) && (number == other.number))) snapshots.old.items }
+{
+    snapshots.retain(|other| !(client.0 == other.client().0 && number == other.number()));
+}
+
+fn copies_of(alloc: Global, snapshots: &[Pending]) -> Result<Vec<Pending>, NoMemory>
+    ensures { IfOk result (λ v. v.items ≡ snapshots.now) }
+{
+    let mut copies = Vec::new(alloc);
+    for snapshot in snapshots {
+        copies.push(snapshot.copy(alloc)?)?;
+    }
+    Ok(copies)
+}
+
+impl Pending {
+    /// An equal one.
+    pub fn copy(&self, alloc: Global) -> Result<Pending, NoMemory>
+        ensures { IfOk result (λ s. s ≡ self.now) }
+    {
+        Ok(Pending {
+            client: self.client,
+            number: self.number,
+            deadline: self.deadline,
+            from: self.from.copy(alloc)?,
+            to: self.to.copy(alloc)?,
+        })
+    }
+}
