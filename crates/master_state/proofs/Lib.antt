@@ -1,1 +1,3 @@
 pub mod Trials
+pub mod Removed
+pub mod Ends

@@ -1,12 +1,14 @@
 -- Whether a record follows a state: the master writes it there. Each record of a lawful log follows what is before it.
-use Rattle.std.specs.Prelude.{ℕ, ◌+◌, Bool, true, ◌==◌, ◌&&◌, nat_lt, List, length, slice_index, Option, Some, None, is_none}
+use Rattle.std.specs.Prelude.{ℕ, ◌+◌, Bool, true, ◌==◌, ◌&&◌, nat_lt, List, [], ◌∷◌, length, slice_index, find, Option, Some, None, is_none}
+use Rattle.std.specs.List.{list_all}
 use Rattle.std.specs.FinMap as table
-use Rattle.gfs_types.specs.Paths.{is_path}
+use Rattle.gfs_types.specs.Paths.{Path, is_path}
+use Rattle.relaxed_file.specs.Names.{Node, Dir, File, copied_entries}
 use Rattle.log_records.specs.declared.record.Record.{Record}
 use Rattle.log_records.specs.declared.record.Record.TheVariants as log
-use Rattle.chunk_table.specs.ChunkTable.{ChunkRow, TableState, chunk_of, handles_of, grant, counter_limit}
-use Rattle.chunk_table.specs.Refusals.{add_chunk_refusal, start_copy_refusal, counters_refusal, put_file_refusal, put_row_refusal_of, swap_refusal, version_after}
-use Rattle.protocol.specs.Logged.{Logged, Copy}
+use Rattle.chunk_table.specs.ChunkTable.{ChunkRow, ChunkTable, TableState, chunk_of, handles_of, grant, counter_limit}
+use Rattle.chunk_table.specs.Refusals.{add_chunk_refusal, start_copy_refusal, share_refusal, counters_refusal, put_file_refusal, put_row_refusal_of, swap_refusal, version_after}
+use Rattle.protocol.specs.Logged.{Logged, Copy, is_this_file, copies_for_file, snapshot_logged}
 
 -- the chunk table with its counters
 abbrev pub table_of : Logged → TableState
@@ -36,12 +38,41 @@ abbrev pub item_follows : ℕ → ℕ → Option ChunkRow → Bool
 item_follows granted issued None = true
 item_follows granted issued (Some row) = is_none (put_row_refusal_of granted issued (Some row))
 
+-- no file owns it; a chunk that is gone has no owner
+abbrev pub is_unowned : Option ChunkRow → Bool
+is_unowned None = true
+is_unowned (Some row) = row.references == 0
+
+-- No file owns one of these chunks.
+abbrev pub are_unowned : ChunkTable → List ℕ → Bool
+are_unowned t handles = list_all (λ handle. is_unowned (chunk_of t handle)) handles
+
+-- The name that goes, where there is one, is a path.
+abbrev pub is_name_path : Option (Path × Node) → Bool
+is_name_path None = true
+is_name_path (Some e) = is_path e.0
+
+-- the first name of this file, in the order of the paths
+abbrev pub name_of_file : Logged → ℕ → Option (Path × Node)
+name_of_file l file = find (λ e. is_this_file file e.1) (table.entries l.names)
+
+abbrev pub node_follows : TableState → Node → Bool
+node_follows s Dir = true
+node_follows s (File id) = is_none (share_refusal s id)
+
+-- A snapshot's copies: each has a path, and its file can be shared after those before it.
+abbrev pub copies_follow : Logged → List (Path × Node) → Bool
+copies_follow l [] = true
+copies_follow l (e ∷ rest) = is_path e.0 && node_follows (table_of l) e.1 && copies_follow (snapshot_logged l (e ∷ [])) rest
+
 abbrev pub follows : Logged → Record → Bool
 follows l (log.Mkdir client call path) = is_path path
 follows l (log.Rmdir client call path) = is_path path
 follows l (log.Create client call file path) = is_path path && (file.0 == l.next_file) && nat_lt l.next_file counter_limit
 follows l (log.Delete client call moment path) = is_path path
 follows l (log.Rename client call from to) = is_path from && is_path to
+follows l (log.Snapshot client call from to) = is_path from && is_path to && copies_follow l (copied_entries l.names from to)
+follows l (log.Expired file) = are_unowned l.table (copies_for_file l file.0) && is_name_path (name_of_file l file.0)
 follows l (log.AddChunk file handle) = (handle.0 == l.next_handle) && is_none (add_chunk_refusal (table_of l) file.0)
 follows l (log.Issue handle version) = issue_follows version.0 (chunk_of l.table handle.0)
 follows l (log.Grant handle version primary members) =

@@ -2,3 +2,4 @@ pub mod Faults
 pub mod Coding
 pub mod Follows
 pub mod Refusals
+pub mod OldLeases

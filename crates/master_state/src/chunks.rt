@@ -75,7 +75,7 @@ impl<A: Allocator + Clone> State<A> {
             Err(TableFault::NoMemory) => return Err(ReplayFault::NoMemory),
             Err(_) => return Err(ReplayFault::Damaged),
         }
-        self.put(&path, NameNode::file(file))?;
+        self.put_name(&path, NameNode::file(file))?;
         self.keep(client, call, None)?;
         Ok(())
     }

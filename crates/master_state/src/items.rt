@@ -54,7 +54,7 @@ impl<A: Allocator + Clone> State<A> {
         let path = path_of(self.alloc, path)?;
         let handles = handles.copy(self.alloc)?;
         self.put_file(file, handles)?;
-        self.put(&path, NameNode::file(file))?;
+        self.put_name(&path, NameNode::file(file))?;
         Ok(())
     }
 

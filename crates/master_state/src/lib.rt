@@ -2,10 +2,13 @@
 #![tactic(auto)]
 
 pub mod chunks;
+pub mod copies;
 pub mod fault;
+pub mod files;
 mod hidden;
 pub mod items;
 pub mod kept;
+pub mod lease_ends;
 pub mod looks;
 pub mod names;
 pub mod refusals;

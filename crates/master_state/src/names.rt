@@ -30,7 +30,7 @@ impl<A: Allocator + Clone> State<A> {
         ensures damaged { IsErrOf result Damaged → IsFalse (follows self.old (log.Mkdir client call path.now)) }
     {
         let path = path_of(self.alloc, path)?;
-        self.put(&path, NameNode::dir())?;
+        self.put_name(&path, NameNode::dir())?;
         self.keep(client, call, None)?;
         Ok(())
     }
@@ -91,12 +91,12 @@ impl<A: Allocator + Clone> State<A> {
         ensures damaged { IsErrOf result Damaged → IsFalse (follows self.old (log.DirItem path.now)) }
     {
         let path = path_of(self.alloc, path)?;
-        self.put(&path, NameNode::dir())?;
+        self.put_name(&path, NameNode::dir())?;
         Ok(())
     }
 
-    // A name, in place of what stands there.
-    pub(crate) fn put(&mut self, path: &Path, node: NameNode) -> Result<(), NoMemory>
+    /// A name, in place of what stands there.
+    pub fn put_name(&mut self, path: &Path, node: NameNode) -> Result<(), NoMemory>
         ensures ok { OnOk result (self.new ≡ record self.old { names = map.insert self.old.names path.now node }) }
         ensures err { OnErr result (self.new ≡ self.old) }
     {
@@ -106,12 +106,19 @@ impl<A: Allocator + Clone> State<A> {
         }
     }
 
+    /// A name goes. Takes no memory.
+    pub fn remove_name(&mut self, path: &Path)
+        ensures { self.new ≡ record self.old { names = map.remove self.old.names path.now } }
+    {
+        self.names.remove(path);
+    }
+
     // What stands at a path stands at another one then.
     fn move_name(&mut self, from: &Path, to: &Path) -> Result<(), NoMemory>
         ensures { OnOk result (self.new ≡ record self.old { names = with_node (map.remove self.old.names from.now) to.now (node_at self.old.names from.now) }) }
     {
         match self.names.remove(from) {
-            Some(node) => self.put(to, node),
+            Some(node) => self.put_name(to, node),
             None => Ok(()),
         }
     }
@@ -131,12 +138,12 @@ impl<A: Allocator + Clone> State<A> {
             return Err(NoMemory);
         };
         self.names.remove(path);
-        self.put(&hidden, NameNode::file(id))
+        self.put_name(&hidden, NameNode::file(id))
     }
 }
 
-// The path that a record names.
-pub(crate) fn path_of(alloc: Global, text: &Text) -> Result<Path, ReplayFault>
+/// The path that a record names.
+pub fn path_of(alloc: Global, text: &Text) -> Result<Path, ReplayFault>
     ensures path { IfOk result (λ p. p ≡ text.now) }
     ensures grammar { IfOk result (λ _. IsTrue (is_path text.now)) }
     ensures damaged { IsErrOf result Damaged → IsFalse (is_path text.now) }

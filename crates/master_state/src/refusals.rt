@@ -149,13 +149,15 @@ impl<A: Allocator + Clone> State<A> {
         Ok(None)
     }
 
-    fn is_taken(&self, path: &Path) -> bool
+    /// Whether something stands at a path.
+    pub fn is_taken(&self, path: &Path) -> bool
         ensures { result ≡ is_taken self.now.names path.now }
     {
         self.names.get(path).is_some()
     }
 
-    fn is_dir(&self, path: &Path) -> bool
+    /// Whether a directory stands at a path.
+    pub fn is_dir(&self, path: &Path) -> bool
         ensures { result ≡ is_dir self.now.names path.now }
     {
         match self.names.get(path) {
@@ -164,7 +166,8 @@ impl<A: Allocator + Clone> State<A> {
         }
     }
 
-    fn has_parent(&self, path: &Path) -> Result<bool, NoMemory>
+    /// Whether the parent of a path is a directory.
+    pub fn has_parent(&self, path: &Path) -> Result<bool, NoMemory>
         ensures { IfOk result (λ is_there. is_there ≡ is_dir self.now.names (parent path.now)) }
     {
         let Ok(parent) = Path::parse(parts::parent(path.as_str()), self.alloc) else {
@@ -174,7 +177,8 @@ impl<A: Allocator + Clone> State<A> {
     }
 }
 
-fn is_directory(node: &NameNode) -> bool
+/// Whether it is a directory.
+pub fn is_directory(node: &NameNode) -> bool
     ensures { result ≡ is_dir_node (Some node.now) }
 {
     match node.kind() {
@@ -183,8 +187,8 @@ fn is_directory(node: &NameNode) -> bool
     }
 }
 
-// The path that a text is; None where it is none.
-pub(crate) fn parsed(alloc: Global, text: &Text) -> Result<Option<Path>, NoMemory>
+/// The path that a text is; None where it is none.
+pub fn parsed(alloc: Global, text: &Text) -> Result<Option<Path>, NoMemory>
     ensures path { IfOk result (λ p. IfSome p (λ x. x ≡ text.now)) }
     ensures grammar { IfOk result (λ p. is_some p ≡ is_path text.now) }
 {
@@ -195,8 +199,8 @@ pub(crate) fn parsed(alloc: Global, text: &Text) -> Result<Option<Path>, NoMemor
     }
 }
 
-// Whether a path is that of the directory of deleted files, or below it.
-fn is_in_trash(path: &str) -> bool
+/// Whether a path is that of the directory of deleted files, or below it.
+pub fn is_in_trash(path: &str) -> bool
     ensures { result ≡ is_in_trash path.now }
 {
     match path.strip_prefix("/.gone") {

@@ -15,7 +15,7 @@ use gfs_types::no_memory::NoMemory;
 use gfs_types::path::Path;
 use gfs_types::refusal::Refusal;
 use namespace::node::{NameNode, Namespace};
-use number_map::NumberMap;
+use ordered_map::OrderedMap;
 use path_trie::trie::Trie;
 use std::alloc::{Allocator, Global};
 use std::marker::Model;
@@ -28,8 +28,8 @@ pub struct State<A: Allocator> {
     pub(crate) names: Namespace<A>,
     pub(crate) table: Table,
     pub(crate) epoch: u64,
-    pub(crate) kept: NumberMap<KeptCall>,
-    pub(crate) copies: NumberMap<CopyRow>,
+    pub(crate) kept: OrderedMap<KeptCall>,
+    pub(crate) copies: OrderedMap<CopyRow>,
 }
 
 impl<A: Allocator> Model for State<A> {
@@ -67,8 +67,8 @@ impl<A: Allocator + Clone> State<A> {
             names,
             table: Table::new(global),
             epoch: 0,
-            kept: NumberMap::new(global),
-            copies: NumberMap::new(global),
+            kept: OrderedMap::new(global),
+            copies: OrderedMap::new(global),
         })
     }
 
@@ -86,11 +86,30 @@ impl<A: Allocator + Clone> State<A> {
         self.kept.get(client.0)
     }
 
+    /// Each client's last changing name call.
+    pub fn kept_calls(&self) -> &OrderedMap<KeptCall>
+        ensures { result.now ≡ self.now.kept }
+    {
+        &self.kept
+    }
+
     /// The copy that is under way under a handle.
     pub fn copy_under(&self, handle: Handle) -> Option<&CopyRow>
         ensures { option_copied result ≡ map.get self.now.copies handle.0 }
     {
         self.copies.get(handle.0)
+    }
+
+    /// The names, and what stands at each.
+    pub fn names(&self) -> &Namespace<A>
+        ensures { result.now ≡ self.now.names }
+    {
+        &self.names
+    }
+
+    /// The allocator of what isn't a name.
+    pub fn alloc(&self) -> Global {
+        self.alloc
     }
 
     /// The files and chunks, with the counters of both.

@@ -1,0 +1,3 @@
+pub mod Listed
+pub mod Sets
+pub mod Handles

@@ -1,0 +1,11 @@
+use Rattle.std.proofs.Common.{◌≡◌, ◌++◌, ◌==◌, ◌&&◌, is_some}
+use Rattle.std.specs.Prelude.{map, filter}
+use Rattle.std.specs.FinMap.{keys}
+use Rattle.protocol.specs.Tables.{has_number, first_of_list}
+use Rattle.protocol.specs.Logged.{copies_for_file}
+use Rattle.protocol.specs.MasterSnapshots.{copies_for_files}
+use Rattle.protocol.specs.MasterVersions.{copy_for, is_copied}
+use Rattle.master_state.proofs.state.State.copied_handles.Given as goal
+
+abbrev pub invariant-loop-handle : goal.invariant-loop-handle
+invariant-loop-handle g l = l.found.items ++ map (λ e. e.0) l.handle-iterator ≡ keys l.fn.self.copies
