@@ -42,8 +42,8 @@ def edits_of(path):
                 old = text
             elif word == 'new':
                 found.append((target, old, text))
-            elif word and word != 'seed':
-                raise StaleEdit(f'{path}: a line begins with none of file, old, new and seed: {line}')
+            elif word and word not in ('seed', 'row'):
+                raise StaleEdit(f'{path}: a line begins with none of file, old, new, seed and row: {line}')
     return found
 
 
@@ -51,6 +51,12 @@ def seed_of(path):
     """Where exploring begins, of a wrong definition that few lists lead to."""
     with open(path, encoding='utf8') as edits:
         return next((int(line[6:]) for line in edits if line.startswith('seed: ')), 0)
+
+
+def row_of(path):
+    """The worked row that finds a wrong definition to which no list of the explorer leads, or None."""
+    with open(path, encoding='utf8') as edits:
+        return next((line[5:].strip() for line in edits if line.startswith('row: ')), None)
 
 
 def edited_copy(path, folder):

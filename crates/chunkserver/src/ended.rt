@@ -4,11 +4,12 @@ ghost use Rattle.std.specs.Prelude.{◌≡◌, []};
 ghost use Rattle.chunkserver.specs.Ends.{Ends};
 ghost use Rattle.server_node.specs.Doing.{doing};
 
-use crate::outcome::{Outcome, numberings};
+use crate::numberings::numberings;
 use messages::event::StepOut;
 use server_node::effects::Effects;
 use server_node::server::Server;
 use server_store::store::ReplicaStore;
+use step_outcome::Outcome;
 
 // The changes of the disk are made, and then the messages are sent. Where a change fails, the server stops.
 pub(crate) fn ends<S: ReplicaStore>(server: &mut Server<S>, effects: Effects) -> Outcome

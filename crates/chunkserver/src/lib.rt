@@ -3,9 +3,9 @@
 
 mod clients;
 mod ended;
+mod numberings;
 mod ordered;
 mod orders;
-pub mod outcome;
 mod planned;
 pub mod server;
 mod servers;

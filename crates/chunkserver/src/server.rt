@@ -1,24 +1,28 @@
 //! The chunkserver.
 
-ghost use Rattle.std.specs.Prelude.{◌≡◌, ◌≤◌, [], OnOk, OnErr};
+ghost use Rattle.std.specs.Prelude.{◌≡◌, ◌≤◌, [], true, OnOk, OnErr};
 ghost use Rattle.std.specs.Option.{option_copied};
 ghost use Rattle.protocol.specs.Conforms.{ServerSteps, ServerRestarts};
-ghost use Rattle.protocol.specs.Server.{started_server};
+ghost use Rattle.protocol.specs.Server.{started_server, stopped_server};
 ghost use Rattle.protocol.specs.Tables.{moment_limit};
+ghost use Rattle.replica_store.specs.Replicas.{row_at};
+ghost use Rattle.server_store.specs.Stores.{disk_rotten};
 ghost use Rattle.chunkserver.specs.Inputs.{input_of};
 
 use crate::ended::ends;
-use crate::outcome::{Outcome, gives_nothing, goes_down};
 use crate::planned::plans;
 use gfs_types::config::Config;
-use gfs_types::ids::{Moment, ServerId};
+use gfs_types::ids::{Handle, Moment, ServerId};
 use gfs_types::lists::Sequence;
 use messages::event::StepOut;
 use messages::message::Message;
+use replica_store::row::Row;
 use server_node::server::Server;
+use server_store::fault::StoreFault;
 use server_store::store::ReplicaStore;
 use std::alloc::Global;
 use std::marker::Model;
+use step_outcome::{Outcome, gives_nothing, goes_down};
 
 /// A chunkserver over a store of its replicas. While it is up, nothing is under way on its disk.
 #[derive(Drop)]
@@ -61,6 +65,38 @@ impl<S: ReplicaStore> Chunkserver<S> {
         ensures { result ≡ self.now.up }
     {
         self.server.is_up()
+    }
+
+    /// Its number.
+    pub fn id(&self) -> ServerId
+        ensures { result.0 ≡ self.now.id }
+    {
+        self.server.id()
+    }
+
+    /// What it knows of a replica.
+    pub fn row(&self, handle: Handle) -> Option<Row>
+        ensures { result ≡ row_at self.now.disk handle.0 }
+    {
+        self.server.row(handle)
+    }
+
+    /// It is put down in a step, before it changed anything. Takes no memory.
+    pub fn stop(&mut self)
+        requires { self.old.up ≡ true }
+        ensures { self.new ≡ stopped_server self.old self.old.disk [] }
+    {
+        self.server.stop();
+    }
+
+    /// A byte of a replica becomes another on the disk, past its digest; nothing happens where there is no such replica. At an error
+    /// nothing has changed.
+    pub fn rot(&mut self, handle: Handle, place: u64, byte: u8) -> Result<(), StoreFault>
+        requires { self.old.up ≡ true }
+        ensures ok { OnOk result (self.new ≡ record self.old { disk = disk_rotten self.old.disk handle.0 place byte }) }
+        ensures err { OnErr result (self.new ≡ self.old) }
+    {
+        self.server.rot(handle, place, byte)
     }
 
     /// A step on a message, or on a tick.

@@ -25,6 +25,7 @@ impl<A: Allocator + Clone> Plan<A> {
         self.clock.saturating_sub(last) < self.config.lease_ms
     }
 
+    #[tactic(auto, using(crate::proofs::Empty::none_held))]
     /// The version of a server's replica, as far as it told.
     pub fn version_held(&self, handle: Handle, server: ServerId) -> Option<Version>
         ensures { option_map (λ v. v.0) result ≡ version_held (known self.now) handle.0 server.0 }
@@ -35,6 +36,7 @@ impl<A: Allocator + Clone> Plan<A> {
         }
     }
 
+    #[tactic(auto, using(crate::proofs::Empty::no_chunks))]
     /// How many chunks a server holds.
     pub fn chunks_held(&self, server: ServerId) -> u64
         ensures { result ≡ chunks_held (known self.now) server.0 }

@@ -91,11 +91,11 @@ impl<S: ReplicaStore> Server<S> {
     }
 
     /// A byte of a replica becomes another on the disk, past its digest; nothing happens where there is no such replica. NoRoom: no
-    /// replica of this store can have a byte at that place.
+    /// replica of this store can have a byte at that place. At an error nothing has changed.
     pub fn rot(&mut self, handle: Handle, place: u64, byte: u8) -> Result<(), StoreFault>
         requires { self.old.under_way ≡ [] }
         ensures ok { OnOk result (self.new ≡ record self.old { disk = disk_rotten self.old.disk handle.0 place byte }) }
-        ensures err { OnErr result (self.new.disk ≡ self.old.disk) }
+        ensures err { OnErr result (self.new ≡ self.old) }
     {
         self.store.rot(handle, place, byte)
     }

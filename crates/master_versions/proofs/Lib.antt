@@ -1,0 +1,3 @@
+pub mod Servers
+pub mod Ranks
+pub mod Issues

@@ -1,0 +1,63 @@
+//! What a step of a node gives, and what is seen of it.
+#![tactic(auto)]
+
+ghost use Rattle.std.specs.Prelude.{◌≡◌, [], None, false};
+ghost use Rattle.protocol.specs.Seen.{no_output, down_output};
+
+use gfs_types::lists::Sequence;
+use messages::event::StepOut;
+use protocol::seen::SeenList;
+use std::alloc::Global;
+
+/// What a step gives, and what an observer sees of it.
+#[derive(Drop)]
+pub struct Outcome {
+    pub out: StepOut,
+    pub seen: SeenList,
+}
+
+impl Outcome {
+    /// A step that gives nothing. Takes no memory.
+    pub fn nothing(alloc: Global) -> Outcome
+        ensures out { result.out ≡ no_output }
+        ensures seen { result.seen ≡ [] }
+    {
+        Outcome {
+            out: gives_nothing(alloc),
+            seen: Sequence::empty(alloc),
+        }
+    }
+
+    /// A step that puts the node down, of which this was seen. Takes no memory.
+    pub fn down(alloc: Global, seen: SeenList) -> Outcome
+        ensures out { result.out ≡ down_output }
+        ensures seen { result.seen ≡ seen }
+    {
+        Outcome {
+            out: goes_down(alloc),
+            seen,
+        }
+    }
+}
+
+/// Nothing is given. Takes no memory.
+pub fn gives_nothing(alloc: Global) -> StepOut
+    ensures { result ≡ no_output }
+{
+    StepOut {
+        sent: Sequence::empty(alloc),
+        answer: None,
+        down: false,
+    }
+}
+
+/// The node goes down. Takes no memory.
+pub fn goes_down(alloc: Global) -> StepOut
+    ensures { result ≡ down_output }
+{
+    StepOut {
+        sent: Sequence::empty(alloc),
+        answer: None,
+        down: true,
+    }
+}
