@@ -2,6 +2,7 @@
 
 ghost use Rattle.std.specs.Prelude.{◌≡◌};
 
+use crate::fault::PlanFault;
 use crate::plan::Plan;
 use gfs_types::ids::Moment;
 use gfs_types::lists::Text;
@@ -26,9 +27,10 @@ impl<A: Allocator + Clone> Plan<A> {
     }
 
     /// Whether all names of a copy find room. Changes nothing.
-    pub fn has_room_to_copy(&mut self, from: &Path, to: &Path) -> Result<bool, NoMemory>
+    pub fn has_room_to_copy(&mut self, from: &Path, to: &Path) -> Result<bool, PlanFault>
         ensures { self.new ≡ self.old }
     {
-        has_room_to_copy(&mut self.state, from, to)
+        let found = has_room_to_copy(&mut self.state, from, to)?;
+        Ok(found)
     }
 }
