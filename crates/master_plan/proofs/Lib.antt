@@ -2,4 +2,3 @@ pub mod Logs
 pub mod LogBytes
 pub mod Empty
 pub mod Reported
-pub mod Ordered
