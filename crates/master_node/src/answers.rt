@@ -2,7 +2,6 @@
 
 ghost use Rattle.std.specs.Prelude.{◌≡◌, [], ◌∷◌, ◌++◌, true, OnOk, IsTrue};
 ghost use Rattle.master_state.specs.Follows.{follows};
-ghost use Rattle.master_log.specs.Replayed.{is_replayed};
 ghost use Rattle.protocol.specs.MasterSnapshots.{reply_of};
 ghost use Rattle.protocol.specs.MasterSnapshots.{refuses_name};
 ghost use Rattle.master_node.specs.Doing.{Does};
@@ -60,7 +59,6 @@ impl<L: OperationLog, A: Allocator + Clone> Master<L, A> {
         refusal: Option<Refusal>,
     ) -> Result<(), MasterFault>
         requires decided { self.old.under_way ≡ [] }
-        requires replayed { is_replayed entry.now ≡ true }
         requires follows { IsTrue (follows self.old.logged entry.now) }
         ensures { OnOk result (Settles self.old sent.old client.0 number entry.now refusal self.new sent.new) }
     {
@@ -96,7 +94,6 @@ impl<L: OperationLog, A: Allocator + Clone> Master<L, A> {
         entry: &Record,
     ) -> Result<(), MasterFault>
         requires decided { self.old.under_way ≡ [] }
-        requires replayed { is_replayed entry.now ≡ true }
         requires follows { IsTrue (follows self.old.logged entry.now) }
         ensures { OnOk result (Settles self.old sent.old client.0 number (entry_by has_room client.0 number entry.now) (refusal_by_room has_room) self.new sent.new) }
     {

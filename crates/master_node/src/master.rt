@@ -2,7 +2,6 @@
 
 ghost use Rattle.std.specs.Prelude.{◌≡◌, [], true, OnOk, IsTrue};
 ghost use Rattle.master_state.specs.Follows.{follows};
-ghost use Rattle.master_log.specs.Replayed.{is_replayed};
 ghost use Rattle.master_node.specs.Doing.{logged_by, has_room_for};
 
 use crate::fault::MasterFault;
@@ -65,7 +64,6 @@ impl<L: OperationLog, A: Allocator + Clone> Master<L, A> {
     /// A change is logged, and then made.
     pub(crate) fn logs(&mut self, entry: &Record) -> Result<(), MasterFault>
         requires decided { self.old.under_way ≡ [] }
-        requires replayed { is_replayed entry.now ≡ true }
         requires follows { IsTrue (follows self.old.logged entry.now) }
         ensures fits { OnOk result (has_room_for self.old entry.now ≡ true) }
         ensures ok { OnOk result (self.new ≡ logged_by self.old entry.now) }

@@ -1,13 +1,7 @@
--- Which records are replayed so far.
+-- Which records are items.
 use Rattle.std.specs.Prelude.{Bool, true, false}
 use Rattle.log_records.specs.declared.record.Record.{Record}
 use Rattle.log_records.specs.declared.record.Record.TheVariants as log
-
--- All but a Snapshot and an Expired, whose replay walks over names in order.
-abbrev pub is_replayed : Record → Bool
-is_replayed (log.Snapshot client n from to) = false
-is_replayed (log.Expired file) = false
-is_replayed other = true
 
 -- the items of a checkpoint
 abbrev pub is_item : Record → Bool
