@@ -58,7 +58,7 @@ module _ (config : Config) (count : ℕ) (disk : LogDisk) (under_way : List LogC
       }
 
   module _ (p : PlanState) (is : opening (started_master config count disk moment) ≡ doing disk p) (new_disk : LogDisk) (new_under_way : List LogChange) where
-    after : Bool → ℕ → MasterDoing → Taken MasterState
+    abbrev after : Bool → ℕ → MasterDoing → Taken MasterState
     after went made d = opens_as (started_master config count disk moment) (started_master config count disk moment) d (record { ending = ending_of went made; order = []; refused = []; decided = [] }) (ending_of went made)
 
     -- a change failed, or a counter was at its limit

@@ -8,12 +8,12 @@ ghost use Rattle.protocol.specs.MasterStep.{master_takes, master_does};
 ghost use Rattle.master_plan.specs.Plans.{doing};
 ghost use Rattle.master.specs.Inputs.{input_of};
 ghost use Rattle.master_laws.specs.Kinds.{is_name, is_of_client};
-ghost use Rattle.master.specs.Kinds.{Comes};
+ghost use Rattle.master_names.specs.Doing.{Does};
 ghost use Rattle.master.specs.Ends.{Goes};
 
 use gfs_types::ids::{ClientId, Moment, Node, ServerId};
-use master_asks::ask::takes_ask;
-use master_names::look::takes_look;
+use master_asks::asking::takes_ask;
+use master_names::looks::takes_look;
 use master_names::names::takes_name;
 use master_names::ready::takes_ready;
 use master_plan::fault::PlanFault;
@@ -47,7 +47,7 @@ fn does<L: OperationLog, A: Allocator + Clone>(
     plan: &mut Plan<A>,
     message: Option<&Message>,
 ) -> Result<(), PlanFault>
-    ensures { OnOk result (Comes (λ d. master_does d (input_of (option_copied message.entry))) (L.disk log.now) plan.old plan.new) }
+    ensures { OnOk result (Does (λ d. master_does d (input_of (option_copied message.entry))) (L.disk log.now) plan.old plan.new) }
 {
     match message {
         None => master_ticks(log, plan),
@@ -55,13 +55,13 @@ fn does<L: OperationLog, A: Allocator + Clone>(
     }
 }
 
-#[tactic(auto, using(crate::proofs::Parts::named, crate::proofs::Parts::unnamed))]
+#[tactic(auto, using(crate::proofs::Parts::unnamed))]
 fn takes<L: OperationLog, A: Allocator + Clone>(
     log: &L,
     plan: &mut Plan<A>,
     message: &Message,
 ) -> Result<(), PlanFault>
-    ensures { OnOk result (Comes (λ d. master_takes d message.now message.now.body) (L.disk log.now) plan.old plan.new) }
+    ensures { OnOk result (Does (λ d. master_takes d message.now message.now.body) (L.disk log.now) plan.old plan.new) }
 {
     match &message.body {
         Body::Name {
@@ -122,7 +122,10 @@ fn takes_of_servers<L: OperationLog, A: Allocator + Clone>(
         Body::Recorded { handle, version } => {
             takes_recorded(log, plan, server, *handle, *version)
         }
-        Body::Revoked { handle, version } => takes_revoked(plan, server, *handle, *version),
+        Body::Revoked { handle, version } => {
+            takes_revoked(plan, server, *handle, *version);
+            Ok(())
+        }
         Body::Cloned { handle, version } => takes_cloned(plan, server, *handle, *version),
         Body::Report { replicas, leases } => takes_report(log, plan, server, replicas, leases),
         _ => Ok(()),
