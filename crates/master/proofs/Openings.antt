@@ -1,5 +1,5 @@
 -- An opening, from what was planned.
-use Rattle.std.proofs.Common.{◌≡◌, ◌==◌, ℕ, suc, ◌+◌, Bool, List, refl, sym, ap, ◌∙◌, add-one}
+use Rattle.std.proofs.Common.{◌≡◌, ◌==◌, ℕ, suc, ◌+◌, sym, ap, ◌∙◌, add-one}
 use Rattle.gfs_types.specs.declared.config.Config.{Config}
 use Rattle.log_records.specs.declared.record.Record.TheVariants as log
 use Rattle.protocol.specs.Logged.{Logged, LogDisk, replayed}

@@ -1,22 +1,20 @@
 -- A step, from its parts.
-use Rattle.std.proofs.Common.{◌≡◌, ℕ, Bool, true, false, List, [], ◌∷◌, ◌++◌, refl, sym, ap, ◌∙◌}
+use Rattle.std.proofs.Common.{◌≡◌, ℕ, Bool, false, List, [], ◌∷◌, ◌++◌, refl, sym, ap, ◌∙◌}
 use Rattle.messages.specs.declared.message.Body.{Body}
 use Rattle.messages.specs.declared.message.Message.{Message}
 use Rattle.messages.specs.declared.event.Input.{Input}
 use Rattle.protocol.specs.Logged.{LogDisk}
 use Rattle.protocol.specs.Master.{MasterDoing}
-use Rattle.protocol.specs.MasterSnapshots.{takes_ready}
-use Rattle.protocol.specs.MasterStep.{master_takes, master_ticks, master_does, master_goes, finishes}
+use Rattle.protocol.specs.MasterStep.{master_takes, master_ticks, master_does, finishes}
 use Rattle.master_laws.specs.Kinds.{is_name}
 use Rattle.master_laws.proofs.Steady.{with_refused, unnamed_keep, ticks_keep}
-use Rattle.master_plan.specs.Plans.{PlanState, doing, begun, resting, master_of}
+use Rattle.master_plan.specs.Plans.{PlanState, doing, begun}
 use Rattle.master_names.specs.Doing.{Does}
 use Rattle.master.specs.Ends.{Goes}
 
 append_nil : {X : Type 0} (xs : List X) → xs ++ [] ≡ xs
 append_nil [] = refl
 append_nil (x ∷ xs) = ap (λ l. x ∷ l) (append_nil xs)
-
 
 module _ (disk : LogDisk) (old new : PlanState) where
   -- a part that uses up none

@@ -142,9 +142,9 @@ impl<L: OperationLog, A: Allocator + Clone> Master<L, A> {
     {
         let alloc = self.plan.alloc();
         self.up = false;
-        if self.log.reopen().is_err() {
+        let Ok(()) = self.log.reopen() else {
             return goes_down(alloc);
-        }
+        };
         self.opens(alloc, now)
     }
 
@@ -156,10 +156,18 @@ impl<L: OperationLog, A: Allocator + Clone> Master<L, A> {
         requires decided { self.old.under_way ≡ [] }
         ensures { Opens self.old now.0 result self.new }
     {
+        self.up = false;
         let Ok(names) = self.names.clone() else {
             return goes_down(alloc);
         };
-        let opened = opens(&mut self.log, alloc, self.config, self.server_count, names, now);
+        let opened = opens(
+            &mut self.log,
+            alloc,
+            self.config,
+            self.server_count,
+            names,
+            now,
+        );
         let Ok(opening) = opened else {
             return goes_down(alloc);
         };

@@ -4,7 +4,7 @@ ghost use Rattle.std.specs.Prelude.{◌≡◌, ◌≤◌, false, OnOk};
 ghost use Rattle.std.specs.Option.{option_copied};
 ghost use Rattle.protocol.specs.Tables.{moment_limit};
 ghost use Rattle.protocol.specs.Sending.{client_number, server_number};
-ghost use Rattle.protocol.specs.MasterStep.{master_takes, master_does};
+ghost use Rattle.protocol.specs.MasterStep.{master_takes, master_ticks, master_does};
 ghost use Rattle.master_plan.specs.Plans.{doing};
 ghost use Rattle.master.specs.Inputs.{input_of};
 ghost use Rattle.master_laws.specs.Kinds.{is_name, is_of_client};
@@ -26,7 +26,6 @@ use operation_log::log::OperationLog;
 use std::alloc::Allocator;
 
 // A step on a message, or on a tick.
-#[tactic(auto, using(crate::proofs::Parts::goes))]
 pub(crate) fn plans<L: OperationLog, A: Allocator + Clone>(
     log: &L,
     plan: &mut Plan<A>,
@@ -38,10 +37,10 @@ pub(crate) fn plans<L: OperationLog, A: Allocator + Clone>(
 {
     plan.begin(now);
     does(log, plan, message)?;
-    takes_ready(log, plan)
+    takes_ready(log, plan)?;
+    Ok(())
 }
 
-#[tactic(auto, using(crate::proofs::Parts::ticks))]
 fn does<L: OperationLog, A: Allocator + Clone>(
     log: &L,
     plan: &mut Plan<A>,
@@ -50,12 +49,21 @@ fn does<L: OperationLog, A: Allocator + Clone>(
     ensures { OnOk result (Does (λ d. master_does d (input_of (option_copied message.entry))) (L.disk log.now) plan.old plan.new) }
 {
     match message {
-        None => master_ticks(log, plan),
+        None => ticks(log, plan),
         Some(message) => takes(log, plan, message),
     }
 }
 
-#[tactic(auto, using(crate::proofs::Parts::unnamed))]
+fn ticks<L: OperationLog, A: Allocator + Clone>(
+    log: &L,
+    plan: &mut Plan<A>,
+) -> Result<(), PlanFault>
+    ensures { OnOk result (Does master_ticks (L.disk log.now) plan.old plan.new) }
+{
+    master_ticks(log, plan)?;
+    Ok(())
+}
+
 fn takes<L: OperationLog, A: Allocator + Clone>(
     log: &L,
     plan: &mut Plan<A>,
@@ -72,7 +80,10 @@ fn takes<L: OperationLog, A: Allocator + Clone>(
             let client = client_of(message.sender);
             takes_name(log, plan, client, *call_number, *deadline, call)
         }
-        _ => takes_unnamed(log, plan, message),
+        _ => {
+            takes_unnamed(log, plan, message)?;
+            Ok(())
+        }
     }
 }
 

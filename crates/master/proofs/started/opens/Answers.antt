@@ -1,4 +1,4 @@
-use Rattle.std.proofs.Common.{◌≡◌, sym, ap, ◌∙◌, rules}
+use Rattle.std.proofs.Common.{◌≡◌, ap, ◌∙◌, rules}
 use Rattle.protocol.specs.Logged.{Logged, replayed}
 use Rattle.protocol.specs.MasterStep.{with_old_leases}
 use Rattle.master.proofs.Openings.{opened_as, logged_as}
