@@ -1,3 +1,6 @@
 pub mod Steps
 pub mod Restarts
 pub mod Parts
+pub mod Limits
+pub mod Openings
+pub mod Committing

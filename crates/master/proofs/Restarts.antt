@@ -1,9 +1,9 @@
 -- What the master's code does at a restart is a restart of the definitions.
-use Rattle.std.proofs.Common.{◌≡◌, ℕ, Bool, true, false, List, [], ◌∷◌, refl, sym, ap, ◌∙◌, subst, inl, inr}
-use Rattle.std.specs.Prelude.{if◌then◌else◌, ◌⊎◌, ◌&&◌}
+use Rattle.std.proofs.Common.{◌≡◌, ℕ, Bool, true, false, List, [], refl, sym, ap, ◌∙◌, subst, inl, inr}
+use Rattle.std.specs.Prelude.{if◌then◌else◌, ◌&&◌}
 use Rattle.gfs_types.specs.declared.config.Config.{Config}
 use Rattle.messages.specs.declared.event.StepOut.{StepOut}
-use Rattle.protocol.specs.Choice.{Choice, Ending, Lost, decided_changes, made_changes, change_under_way}
+use Rattle.protocol.specs.Choice.{Choice, Lost, decided_changes, made_changes, change_under_way}
 use Rattle.protocol.specs.Seen.{Taken, no_output, down_output}
 use Rattle.protocol.specs.Logged.{LogDisk, LogChange, log_changed_by_all}
 use Rattle.protocol.specs.Master.{MasterState, MasterDoing, stopped_master}
@@ -12,11 +12,10 @@ use Rattle.protocol.specs.Conforms.{GivesMaster, IsLeftAs, MasterRestarts}
 use Rattle.operation_log.specs.Logs.{IsDecided}
 use Rattle.master_plan.specs.Plans.{PlanState, master_of, doing}
 use Rattle.master.specs.Commits.{IsStopped}
-use Rattle.master.specs.Standing.{standing}
+use Rattle.master.specs.Standing.{standing, IsResting}
 use Rattle.master.specs.Ends.{AllMade}
 use Rattle.master.proofs.Steps.{gives, left_down}
 use Rattle.master.specs.Opens.{Opens, ending_of, opened}
-
 
 same_opening : (m : MasterState) (disk : LogDisk) (moment : ℕ) (choice : Choice) (went : Bool) (made : ℕ)
     → (let started : MasterState = started_master m.config m.server_count disk moment in opens_as m started (opening started) choice (ending_of went made)) ≡ opened m.config m.server_count disk moment went made
@@ -58,7 +57,7 @@ module _ (config : Config) (count : ℕ) (disk : LogDisk) (under_way : List LogC
       }
 
   module _ (p : PlanState) (is : opening (started_master config count disk moment) ≡ doing disk p) (new_disk : LogDisk) (new_under_way : List LogChange) where
-    after : Bool → ℕ → MasterDoing → Taken MasterState
+    abbrev after : Bool → ℕ → MasterDoing → Taken MasterState
     after went made d = opens_as (started_master config count disk moment) (started_master config count disk moment) d (record { ending = ending_of went made; order = []; refused = []; decided = [] }) (ending_of went made)
 
     -- a change failed, or a counter was at its limit
@@ -84,7 +83,7 @@ module _ (config : Config) (count : ℕ) (disk : LogDisk) (under_way : List LogC
               (standing false new_disk new_under_way config count q)
               (ap (after true 0) is
               ∙ ap (λ (b : Bool). if b && is_within_limits (master_of disk p) then record { state = master_of disk p; out = no_output; seen = [] }
-                else record { state = stopped_master (started_master config count disk moment) (log_changed_by_all disk p.changes) []; out = down_output; seen = [] }) full)
+              else record { state = stopped_master (started_master config count disk moment) (log_changed_by_all disk p.changes) []; out = down_output; seen = [] }) full)
               refl refl
               (left_down config config count count p q (log_changed_by_all disk p.changes) new_disk [] new_under_way refl refl made.disk_is (inl made.none));
         }
@@ -100,9 +99,44 @@ module _ (config : Config) (count : ℕ) (disk : LogDisk) (under_way : List LogC
               (standing true new_disk new_under_way config count (record p { changes = [] }))
               (ap (after true 0) is
               ∙ ap (λ (b : Bool). if b && is_within_limits (master_of disk p) then record { state = master_of disk p; out = no_output; seen = [] }
-                else record { state = stopped_master (started_master config count disk moment) (log_changed_by_all disk p.changes) []; out = down_output; seen = [] }) room
+              else record { state = stopped_master (started_master config count disk moment) (log_changed_by_all disk p.changes) []; out = down_output; seen = [] }) room
               ∙ ap (λ (b : Bool). if b then record { state = master_of disk p; out = no_output; seen = [] }
-                else record { state = stopped_master (started_master config count disk moment) (log_changed_by_all disk p.changes) []; out = down_output; seen = [] }) made.within)
+              else record { state = stopped_master (started_master config count disk moment) (log_changed_by_all disk p.changes) []; out = down_output; seen = [] }) made.within)
               refl refl
               (record { but_under_way = ap (λ (x : LogDisk). record (master_of disk p) { disk = x }) made.disk_is; under_way = inl made.none });
         }
+
+-- from the parts that a master is made of
+pub as_made : (m old : MasterState) (out out2 : StepOut) (moment : ℕ) (new : MasterState) → old ≡ m → out ≡ out2 → Opens old moment out2 new → Opens m moment out new
+as_made m old out out2 moment new same o h =
+    subst (λ (x : MasterState). Opens x moment out new) same (subst (λ (x : StepOut). Opens old moment x new) (sym o) h)
+
+-- what a master shows of its parts
+pub record Shows (disk : LogDisk) (under_way : List LogChange) (config : Config) (count : ℕ) (m : MasterState) : Type 0 where
+  pub config_is : config ≡ m.config
+  pub count_is : count ≡ m.server_count
+  pub disk_is : disk ≡ m.disk
+  pub under_way_is : under_way ≡ m.under_way
+
+pub shows : (up : Bool) (disk : LogDisk) (under_way : List LogChange) (config : Config) (count : ℕ) (p : PlanState) (m : MasterState) → standing up disk under_way config count p ≡ m
+    → (up ≡ true → IsResting under_way config count p) → Shows disk under_way config count m
+shows true disk under_way config count p m view rest =
+    record {
+      config_is = sym (rest refl).config_is ∙ ap (λ (x : MasterState). x.config) view;
+      count_is = sym (rest refl).count_is ∙ ap (λ (x : MasterState). x.server_count) view;
+      disk_is = ap (λ (x : MasterState). x.disk) view;
+      under_way_is = ap (λ (x : MasterState). x.under_way) view;
+    }
+shows false disk under_way config count p m view rest =
+    record {
+      config_is = ap (λ (x : MasterState). x.config) view;
+      count_is = ap (λ (x : MasterState). x.server_count) view;
+      disk_is = ap (λ (x : MasterState). x.disk) view;
+      under_way_is = ap (λ (x : MasterState). x.under_way) view;
+    }
+
+pub restarts_as : (m : MasterState) (disk new_disk : LogDisk) (under_way new_under_way : List LogChange) (config : Config) (count : ℕ) (q : PlanState) (moment : ℕ) (out : StepOut) (new : MasterState)
+    → Shows disk under_way config count m → IsDecided disk under_way new_disk → Opens (standing false new_disk new_under_way config count q) moment out new → MasterRestarts m moment out new
+restarts_as m disk new_disk under_way new_under_way config count q moment out new s decided o =
+    restarts m (standing false new_disk new_under_way config count q) moment out new s.config_is s.count_is
+    (subst (λ (d : LogDisk). IsDecided d m.under_way new_disk) s.disk_is (subst (λ (u : List LogChange). IsDecided disk u new_disk) s.under_way_is decided)) o

@@ -1,15 +1,16 @@
 -- What the master's code does is a step of the definitions.
-use Rattle.std.proofs.Common.{◌≡◌, ℕ, Bool, true, false, List, [], ◌∷◌, refl, sym, ap, ◌∙◌, subst, inl, inr}
+use Rattle.std.proofs.Common.{◌≡◌, ℕ, Bool, true, false, List, [], refl, sym, ap, ◌∙◌, subst, inl, inr}
 use Rattle.std.specs.Prelude.{if◌then◌else◌, ◌⊎◌, None}
 use Rattle.gfs_types.specs.declared.config.Config.{Config}
 use Rattle.messages.specs.declared.event.Input.{Input}
 use Rattle.messages.specs.declared.event.StepOut.{StepOut}
+use Rattle.messages.specs.declared.message.Message.{Message}
 use Rattle.protocol.specs.Choice.{Choice, Ending, Goes as Ends, Lost, Stops, made_changes, change_under_way}
 use Rattle.protocol.specs.declared.seen.Seen.{Seen}
 use Rattle.protocol.specs.Seen.{Taken, no_output, down_output, no_step}
 use Rattle.protocol.specs.Logged.{LogDisk, LogChange, log_changed_by_all}
 use Rattle.protocol.specs.Master.{MasterState, MasterDoing, stopped_master}
-use Rattle.protocol.specs.MasterStep.{is_within_limits, master_goes, master_ends, master_bounded, master_step}
+use Rattle.protocol.specs.MasterStep.{master_goes, master_ends, master_bounded, master_step}
 use Rattle.protocol.specs.Conforms.{GivesMaster, IsLeftAs, MasterSteps}
 use Rattle.master_laws.proofs.Steady.{settings_of}
 use Rattle.master_laws.proofs.Settings.{settings_stay}
@@ -90,7 +91,7 @@ module _ (disk : LogDisk) (under_way : List LogChange) (config : Config) (count 
           gives = gives (master_step m moment i choice) (master_bounded m (doing disk p1) choice) down_output [] (standing false new_disk new_under_way config count q)
               (ap (λ (d : MasterDoing). master_bounded m d choice) goes.leads) refl refl
               (left_down config p0.config count p0.server_count p0 q (log_changed_by_all disk (made_changes stop.made p1.changes)) new_disk (change_under_way stop.made p1.changes) new_under_way
-                  rest.config_is rest.count_is stop.disk_is stop.begun);
+              rest.config_is rest.count_is stop.disk_is stop.begun);
         })
 
     -- all went through
@@ -119,3 +120,41 @@ module _ (disk : LogDisk) (under_way : List LogChange) (config : Config) (count 
           config_is = ap (λ (s : Config × ℕ). s.0) same ∙ rest.config_is;
           count_is = ap (λ (s : Config × ℕ). s.1) same ∙ rest.count_is;
         }
+
+    -- the same, from what the code hands back
+    pub went_as : (q r s : PlanState) (sent : List Message) (seen : List Seen) → q ≡ record p1 { sent = [] } → r ≡ record q { seen = [] } → s ≡ record r { changes = [] }
+        → sent ≡ p1.sent → seen ≡ q.seen → AllMade disk r new_disk new_under_way
+        → MasterSteps (standing true disk under_way config count p0) moment i (record { sent = sent; answer = None; down = false }) seen (standing true new_disk new_under_way config count s)
+    went_as q r s sent seen q_is r_is s_is sent_is seen_is made =
+        let r_at : r ≡ record p1 { sent = []; seen = [] } = r_is ∙ ap (λ (x : PlanState). record x { seen = [] }) q_is in
+        let s_at : s ≡ resting p1 = s_is ∙ ap (λ (x : PlanState). record x { changes = [] }) r_at in
+        let m : AllMade disk (record p1 { sent = []; seen = [] }) new_disk new_under_way = subst (λ (x : PlanState). AllMade disk x new_disk new_under_way) r_at made in
+        let seen_at : seen ≡ p1.seen = seen_is ∙ ap (λ (x : PlanState). x.seen) q_is in
+        let all : AllMade disk p1 new_disk new_under_way = record { within = m.within; disk_is = m.disk_is; none = m.none } in
+        subst (λ (x : PlanState). MasterSteps (standing true disk under_way config count p0) moment i (record { sent = sent; answer = None; down = false }) seen (standing true new_disk new_under_way config count x)) (sym s_at)
+        (subst (λ (x : List Seen). MasterSteps (standing true disk under_way config count p0) moment i (record { sent = sent; answer = None; down = false }) x (standing true new_disk new_under_way config count (resting p1))) (sym seen_at)
+        (subst (λ (x : List Message). MasterSteps (standing true disk under_way config count p0) moment i (record { sent = x; answer = None; down = false }) p1.seen (standing true new_disk new_under_way config count (resting p1))) (sym sent_is)
+        (went all)))
+
+-- a master that is down, as it was made, takes no step
+pub stays_down : (m : MasterState) (moment : ℕ) (i : Input) (out : StepOut) (seen : List Seen) → m.up ≡ false → out ≡ no_output → seen ≡ [] → MasterSteps m moment i out seen m
+stays_down m moment i out seen down o s =
+    let same : master_step m moment i (with_ending Ends []) ≡ no_step m = ap (λ b. if b then master_bounded m (master_goes m moment i []) (with_ending Ends []) else no_step m) down in
+    record {
+      choice = with_ending Ends [];
+      gives = gives (master_step m moment i (with_ending Ends [])) (no_step m) out seen m same (sym o) (sym s) (record { but_under_way = refl; under_way = inl refl });
+    }
+
+-- from the parts that a master is made of
+pub is_up_as : (up : Bool) (disk : LogDisk) (under_way : List LogChange) (config : Config) (count : ℕ) (p : PlanState) (m : MasterState) → up ≡ true → standing up disk under_way config count p ≡ m
+    → standing true disk under_way config count p ≡ m
+is_up_as up disk under_way config count p m is view = ap (λ b. standing b disk under_way config count p) (sym is) ∙ view
+
+pub is_down_as : (up : Bool) (disk : LogDisk) (under_way : List LogChange) (config : Config) (count : ℕ) (p : PlanState) (m : MasterState) → m.up ≡ false → standing up disk under_way config count p ≡ m
+    → standing false disk under_way config count p ≡ m
+is_down_as false disk under_way config count p m down view = view
+is_down_as true disk under_way config count p m down view = let bad : true ≡ false = ap (λ (x : MasterState). x.up) view ∙ down in absurd cc
+
+pub up_is : (up : Bool) (disk : LogDisk) (under_way : List LogChange) (config : Config) (count : ℕ) (p : PlanState) (m : MasterState) → up ≡ false → standing up disk under_way config count p ≡ m → m.up ≡ false
+up_is false disk under_way config count p m is view = ap (λ (x : MasterState). x.up) (sym view)
+up_is true disk under_way config count p m is view = absurd cc

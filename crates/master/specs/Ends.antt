@@ -1,5 +1,5 @@
 -- How a step ends, from what was planned.
-use Rattle.std.specs.Prelude.{◌≡◌, ◌⊎◌, ℕ, Bool, true, false, List, []}
+use Rattle.std.specs.Prelude.{◌≡◌, ℕ, Bool, true, false, List, []}
 use Rattle.messages.specs.declared.event.Input.{Input}
 use Rattle.protocol.specs.Logged.{LogDisk, LogChange, log_changed_by_all}
 use Rattle.protocol.specs.MasterStep.{master_goes, is_within_limits}

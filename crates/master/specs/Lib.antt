@@ -4,4 +4,3 @@ pub mod Standing
 pub mod Ends
 pub mod Opens
 pub mod Inputs
-pub mod Kinds

@@ -1,8 +1,8 @@
 -- How a master begins again, once it is decided what of its log was made.
-use Rattle.std.specs.Prelude.{ℕ, Bool, true, false, List, []}
+use Rattle.std.specs.Prelude.{ℕ, Bool, true, false, []}
 use Rattle.gfs_types.specs.declared.config.Config.{Config}
 use Rattle.messages.specs.declared.event.StepOut.{StepOut}
-use Rattle.protocol.specs.Choice.{Choice, Ending, Goes, Stops}
+use Rattle.protocol.specs.Choice.{Ending, Goes, Stops}
 use Rattle.protocol.specs.Seen.{Taken}
 use Rattle.protocol.specs.Logged.{LogDisk}
 use Rattle.protocol.specs.Master.{MasterState}

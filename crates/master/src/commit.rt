@@ -20,7 +20,9 @@ pub fn commit<L: OperationLog>(log: &mut L, changes: &[Change]) -> Result<(), Lo
     ensures err { OnErr result (IsStopped (L.disk log.old) (changes_of changes.now) (L.disk log.new) (L.under_way log.new)) }
 {
     for change in changes {
-        make(log, change)?;
+        if let Err(fault) = make(log, change) {
+            return Err(fault);
+        }
     }
     Ok(())
 }

@@ -1,6 +1,7 @@
 //! How a step ends: what was planned is made.
 
-ghost use Rattle.std.specs.Prelude.{◌≡◌, []};
+ghost use Rattle.std.specs.Prelude.{◌≡◌, ◌&&◌, nat_le, []};
+ghost use Rattle.protocol.specs.Tables.{counter_limit};
 ghost use Rattle.protocol.specs.MasterStep.{is_within_limits};
 ghost use Rattle.master_plan.specs.Plans.{known};
 ghost use Rattle.master.specs.Ends.{AreMade};
@@ -24,13 +25,18 @@ pub(crate) fn makes<L: OperationLog, A: Allocator + Clone>(log: &mut L, plan: &m
 }
 
 // Whether no counter is past its limit.
+#[tactic(auto, using(crate::proofs::Limits::limits_are))]
 fn is_within_limits<A: Allocator + Clone>(plan: &Plan<A>) -> bool
     ensures { result ≡ is_within_limits (known plan.now) }
 {
-    let table = plan.state().table();
-    table.is_sound();
-    table.next_file().0 <= MAX_COUNTER
-        && table.next_handle().0 <= MAX_COUNTER
-        && plan.state().epoch() <= MAX_COUNTER
-        && plan.order_count() <= MAX_COUNTER
+    let state = plan.state();
+    state.table().is_sound();
+    are_within(state.epoch(), plan.order_count())
+}
+
+// The other counters are the table's, which keeps them within their limits.
+fn are_within(epoch: u64, order_count: u64) -> bool
+    ensures { result ≡ (nat_le epoch counter_limit && nat_le order_count counter_limit) }
+{
+    epoch <= MAX_COUNTER && order_count <= MAX_COUNTER
 }

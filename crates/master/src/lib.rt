@@ -2,8 +2,8 @@
 #![tactic(auto)]
 
 pub mod commit;
+mod ended;
 pub mod fault;
 pub mod master;
-mod ended;
 mod planned;
 mod started;

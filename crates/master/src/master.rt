@@ -1,12 +1,13 @@
 //! The master.
 
-ghost use Rattle.std.specs.Prelude.{◌≡◌, ◌≤◌, [], IfOk, if◌then◌else◌, Some, None};
+ghost use Rattle.std.specs.Prelude.{◌≡◌, ◌≤◌, [], false, IfOk, if◌then◌else◌, Some, None};
 ghost use Rattle.std.specs.Option.{option_copied};
 ghost use Rattle.protocol.specs.Tables.{moment_limit};
 ghost use Rattle.protocol.specs.Logged.{new_log};
 ghost use Rattle.protocol.specs.MasterStep.{new_master};
 ghost use Rattle.protocol.specs.Conforms.{MasterSteps, MasterRestarts};
-ghost use Rattle.step_outcome.specs.Inputs.{input_of};
+ghost use Rattle.master.specs.Inputs.{input_of};
+ghost use Rattle.master.specs.Opens.{Opens};
 
 use crate::ended::makes;
 use crate::fault::MasterFault;
@@ -52,7 +53,7 @@ impl<L: OperationLog, A: Allocator> Model for Master<L, A> {
     ghost invariant = { λ m. (m.config.lease_ms ≤ 3600000) × (m.config.skew_ms ≤ 60000) × (m.up ≡ true → IsResting (L.under_way m.log) m.config m.server_count m.plan) };
 }
 
-impl<L: OperationLog, A: Allocator + Clone> Master<L, A> {
+impl<L: OperationLog + Drop, A: Allocator + Clone> Master<L, A> {
     /// The master of a new cell, whose log is new: the first epoch is logged. The settings are within their ranges.
     pub fn new(
         alloc: Global,
@@ -84,7 +85,9 @@ impl<L: OperationLog, A: Allocator + Clone> Master<L, A> {
             plan,
         })
     }
+}
 
+impl<L: OperationLog, A: Allocator + Clone> Master<L, A> {
     /// Whether it is up. One that is down takes no step.
     pub fn is_up(&self) -> bool
         ensures { result ≡ self.now.up }
@@ -104,7 +107,7 @@ impl<L: OperationLog, A: Allocator + Clone> Master<L, A> {
     }
 
     /// A step on a message, or on a tick.
-    #[tactic(auto, using(crate::proofs::Steps::stays, crate::proofs::Steps::lost, crate::proofs::Steps::ended))]
+    #[tactic(auto, using(crate::proofs::Steps::stays, crate::proofs::Steps::lost, crate::proofs::Steps::cut_off, crate::proofs::Steps::went, crate::proofs::Steps::rests))]
     pub fn step(&mut self, now: Moment, message: Option<&Message>) -> Outcome
         requires { now.0 ≤ moment_limit }
         ensures { MasterSteps self.old now.0 (input_of (option_copied message.entry)) result.out result.seen self.new }
@@ -132,35 +135,47 @@ impl<L: OperationLog, A: Allocator + Clone> Master<L, A> {
     }
 
     /// It begins again, whether it was up or down: it reads its log, and logs a new epoch.
-    #[tactic(auto, using(crate::proofs::Restarts::not_begun, crate::proofs::Restarts::given_up, crate::proofs::Restarts::cut_off, crate::proofs::Restarts::went))]
+    #[tactic(auto, using(crate::proofs::Restarts::not_begun, crate::proofs::Restarts::restarts))]
     pub fn restart(&mut self, now: Moment) -> StepOut
         requires { now.0 ≤ moment_limit }
         ensures { MasterRestarts self.old now.0 result self.new }
     {
         let alloc = self.plan.alloc();
         self.up = false;
-        if self.log.reopen().is_err() {
+        let Ok(()) = self.log.reopen() else {
             return goes_down(alloc);
-        }
+        };
         self.opens(alloc, now)
     }
 
     // It reads its log, and logs a new epoch. Nothing is under way.
+    #[tactic(auto, using(crate::proofs::Restarts::given_up, crate::proofs::Restarts::cut_off, crate::proofs::Restarts::no_room, crate::proofs::Restarts::is_up))]
     fn opens(&mut self, alloc: Global, now: Moment) -> StepOut
         requires moment { now.0 ≤ moment_limit }
         requires down { self.old.up ≡ false }
         requires decided { self.old.under_way ≡ [] }
         ensures { Opens self.old now.0 result self.new }
     {
+        self.up = false;
         let Ok(names) = self.names.clone() else {
             return goes_down(alloc);
         };
-        let opened = opens(&mut self.log, alloc, self.config, self.server_count, names, now);
+        let opened = opens(
+            &mut self.log,
+            alloc,
+            self.config,
+            self.server_count,
+            names,
+            now,
+        );
         let Ok(opening) = opened else {
             return goes_down(alloc);
         };
         self.plan = opening.plan;
-        if !makes(&mut self.log, &mut self.plan) || !opening.is_logged {
+        if !makes(&mut self.log, &mut self.plan) {
+            return goes_down(alloc);
+        }
+        if !opening.is_logged {
             return goes_down(alloc);
         }
         self.up = true;

@@ -4,16 +4,16 @@ ghost use Rattle.std.specs.Prelude.{◌≡◌, ◌≤◌, false, OnOk};
 ghost use Rattle.std.specs.Option.{option_copied};
 ghost use Rattle.protocol.specs.Tables.{moment_limit};
 ghost use Rattle.protocol.specs.Sending.{client_number, server_number};
-ghost use Rattle.protocol.specs.MasterStep.{master_takes, master_does};
+ghost use Rattle.protocol.specs.MasterStep.{master_takes, master_ticks, master_does};
 ghost use Rattle.master_plan.specs.Plans.{doing};
 ghost use Rattle.master.specs.Inputs.{input_of};
 ghost use Rattle.master_laws.specs.Kinds.{is_name, is_of_client};
-ghost use Rattle.master.specs.Kinds.{Comes};
+ghost use Rattle.master_names.specs.Doing.{Does};
 ghost use Rattle.master.specs.Ends.{Goes};
 
 use gfs_types::ids::{ClientId, Moment, Node, ServerId};
-use master_asks::ask::takes_ask;
-use master_names::look::takes_look;
+use master_asks::asking::takes_ask;
+use master_names::looks::takes_look;
 use master_names::names::takes_name;
 use master_names::ready::takes_ready;
 use master_plan::fault::PlanFault;
@@ -26,7 +26,6 @@ use operation_log::log::OperationLog;
 use std::alloc::Allocator;
 
 // A step on a message, or on a tick.
-#[tactic(auto, using(crate::proofs::Parts::goes))]
 pub(crate) fn plans<L: OperationLog, A: Allocator + Clone>(
     log: &L,
     plan: &mut Plan<A>,
@@ -38,30 +37,39 @@ pub(crate) fn plans<L: OperationLog, A: Allocator + Clone>(
 {
     plan.begin(now);
     does(log, plan, message)?;
-    takes_ready(log, plan)
+    takes_ready(log, plan)?;
+    Ok(())
 }
 
-#[tactic(auto, using(crate::proofs::Parts::ticks))]
 fn does<L: OperationLog, A: Allocator + Clone>(
     log: &L,
     plan: &mut Plan<A>,
     message: Option<&Message>,
 ) -> Result<(), PlanFault>
-    ensures { OnOk result (Comes (λ d. master_does d (input_of (option_copied message.entry))) (L.disk log.now) plan.old plan.new) }
+    ensures { OnOk result (Does (λ d. master_does d (input_of (option_copied message.entry))) (L.disk log.now) plan.old plan.new) }
 {
     match message {
-        None => master_ticks(log, plan),
+        None => ticks(log, plan),
         Some(message) => takes(log, plan, message),
     }
 }
 
-#[tactic(auto, using(crate::proofs::Parts::named, crate::proofs::Parts::unnamed))]
+fn ticks<L: OperationLog, A: Allocator + Clone>(
+    log: &L,
+    plan: &mut Plan<A>,
+) -> Result<(), PlanFault>
+    ensures { OnOk result (Does master_ticks (L.disk log.now) plan.old plan.new) }
+{
+    master_ticks(log, plan)?;
+    Ok(())
+}
+
 fn takes<L: OperationLog, A: Allocator + Clone>(
     log: &L,
     plan: &mut Plan<A>,
     message: &Message,
 ) -> Result<(), PlanFault>
-    ensures { OnOk result (Comes (λ d. master_takes d message.now message.now.body) (L.disk log.now) plan.old plan.new) }
+    ensures { OnOk result (Does (λ d. master_takes d message.now message.now.body) (L.disk log.now) plan.old plan.new) }
 {
     match &message.body {
         Body::Name {
@@ -72,7 +80,10 @@ fn takes<L: OperationLog, A: Allocator + Clone>(
             let client = client_of(message.sender);
             takes_name(log, plan, client, *call_number, *deadline, call)
         }
-        _ => takes_unnamed(log, plan, message),
+        _ => {
+            takes_unnamed(log, plan, message)?;
+            Ok(())
+        }
     }
 }
 
@@ -122,7 +133,10 @@ fn takes_of_servers<L: OperationLog, A: Allocator + Clone>(
         Body::Recorded { handle, version } => {
             takes_recorded(log, plan, server, *handle, *version)
         }
-        Body::Revoked { handle, version } => takes_revoked(plan, server, *handle, *version),
+        Body::Revoked { handle, version } => {
+            takes_revoked(plan, server, *handle, *version);
+            Ok(())
+        }
         Body::Cloned { handle, version } => takes_cloned(plan, server, *handle, *version),
         Body::Report { replicas, leases } => takes_report(log, plan, server, replicas, leases),
         _ => Ok(()),

@@ -58,7 +58,9 @@ pub(crate) fn opens<L: OperationLog, A: Allocator + Clone>(
     ensures disk { L.disk log.new ≡ L.disk log.old }
     ensures under_way { L.under_way log.new ≡ [] }
 {
-    let mut state = replayed(log, alloc, names)?;
+    let Ok(mut state) = replayed(log, alloc, names) else {
+        return Err(PlanFault::Damaged);
+    };
     state.set_old_leases(Moment(now.0 + config.skew_ms + config.lease_ms));
     let epoch = state.epoch();
     if epoch >= MAX_COUNTER {

@@ -1,0 +1,58 @@
+use Rattle.std.proofs.Common.{true, false, sym, ◌∙◌, subst}
+use Rattle.protocol.specs.Logged.{LogDisk}
+use Rattle.protocol.specs.Seen.{no_output, down_output}
+use Rattle.master_plan.specs.Plans.{PlanState}
+use Rattle.master.specs.Commits.{IsStopped}
+use Rattle.master.specs.Ends.{AllMade}
+use Rattle.master.specs.Opens.{Opens}
+use Rattle.master.specs.Standing.{standing}
+use Rattle.master.proofs.Steps.{is_down_as}
+use Rattle.master.proofs.Restarts.{as_made, cut_off, no_room, is_up}
+use Rattle.master.proofs.master.Master.opens.Goals as goal
+
+pub returns-then-not-makes : goal.returns-then-not-makes
+returns-then-not-makes g c =
+    let disk = g.L.OperationLog.disk c.self.inside.log in
+    let under_way = g.L.OperationLog.under_way c.self.inside.log in
+    let config = c.self.inside.config in
+    let count = c.self.inside.server_count in
+    let q0 = c.self.inside.plan in
+    let old = is_down_as c.self.inside.up disk under_way config count q0 c.args.self.now c.requires.down c.self.view_is in
+    let p = c.in-Ok-opened.opening.plan in
+    let new_disk = g.L.OperationLog.disk c.makes.new.log in
+    let new_under_way = g.L.OperationLog.under_way c.makes.new.log in
+    let stop : IsStopped disk p.changes new_disk new_under_way = subst (λ (x : LogDisk). IsStopped x p.changes new_disk new_under_way) c.in-Ok-opened.ensures.disk c.if-not-makes.ensures.made in
+    as_made c.args.self.now (standing false disk under_way config count q0) c.goes_down-then-not-makes.result down_output c.args.now.0 (standing false new_disk new_under_way config count c.makes.new.plan) old
+    c.goes_down-then-not-makes.ensures (cut_off config count disk under_way q0 c.args.now.0 p c.in-Ok-opened.ensures.plan new_disk new_under_way c.makes.new.plan stop)
+
+pub returns-then-not-opening : goal.returns-then-not-opening
+returns-then-not-opening g c =
+    let disk = g.L.OperationLog.disk c.self.inside.log in
+    let under_way = g.L.OperationLog.under_way c.self.inside.log in
+    let config = c.self.inside.config in
+    let count = c.self.inside.server_count in
+    let q0 = c.self.inside.plan in
+    let old = is_down_as c.self.inside.up disk under_way config count q0 c.args.self.now c.requires.down c.self.view_is in
+    let p = c.in-Ok-opened.opening.plan in
+    let new_disk = g.L.OperationLog.disk c.makes.new.log in
+    let new_under_way = g.L.OperationLog.under_way c.makes.new.log in
+    let made : AllMade disk p new_disk new_under_way = subst (λ (x : LogDisk). AllMade x p new_disk new_under_way) c.in-Ok-opened.ensures.disk c.if-not-makes.ensures.made in
+    as_made c.args.self.now (standing false disk under_way config count q0) c.goes_down-then-not-opening.result down_output c.args.now.0 (standing false new_disk new_under_way config count c.makes.new.plan) old
+    c.goes_down-then-not-opening.ensures
+    (no_room config count disk under_way q0 c.args.now.0 p c.in-Ok-opened.ensures.plan new_disk new_under_way c.makes.new.plan (sym c.in-Ok-opened.ensures.logged ∙ c.if-not-opening.true) made)
+
+pub returns : goal.returns
+returns g c =
+    let disk = g.L.OperationLog.disk c.self.inside.log in
+    let under_way = g.L.OperationLog.under_way c.self.inside.log in
+    let config = c.self.inside.config in
+    let count = c.self.inside.server_count in
+    let q0 = c.self.inside.plan in
+    let old = is_down_as c.self.inside.up disk under_way config count q0 c.args.self.now c.requires.down c.self.view_is in
+    let p = c.in-Ok-opened.opening.plan in
+    let new_disk = g.L.OperationLog.disk c.makes.new.log in
+    let new_under_way = g.L.OperationLog.under_way c.makes.new.log in
+    let made : AllMade disk p new_disk new_under_way = subst (λ (x : LogDisk). AllMade x p new_disk new_under_way) c.in-Ok-opened.ensures.disk c.if-not-makes.ensures.made in
+    as_made c.args.self.now (standing false disk under_way config count q0) c.gives_nothing.result no_output c.args.now.0 (standing true new_disk new_under_way config count c.makes.new.plan) old c.gives_nothing.ensures
+    (subst (λ (x : PlanState). Opens (standing false disk under_way config count q0) c.args.now.0 no_output (standing true new_disk new_under_way config count x)) (sym c.if-not-makes.ensures.rest)
+    (is_up config count disk under_way q0 c.args.now.0 p c.in-Ok-opened.ensures.plan new_disk new_under_way (sym c.in-Ok-opened.ensures.logged ∙ c.if-not-opening.false) made))

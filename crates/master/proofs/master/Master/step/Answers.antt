@@ -1,0 +1,29 @@
+use Rattle.std.proofs.Common.{◌≡◌, true, false, None, subst, rules}
+use Rattle.std.specs.Option.{option_copied}
+use Rattle.messages.specs.declared.event.StepOut.{StepOut}
+use Rattle.protocol.specs.Master.{MasterState}
+use Rattle.protocol.specs.Conforms.{MasterSteps}
+use Rattle.master.specs.Inputs.{input_of}
+use Rattle.master.specs.Standing.{standing}
+use Rattle.master.proofs.Steps.{stays_down, went_as, is_up_as, up_is}
+use Rattle.master.proofs.master.Master.step.Goals as goal
+
+pub returns-then-not-self : goal.returns-then-not-self
+returns-then-not-self g c =
+    let down : c.args.self.now.up ≡ false =
+    up_is c.self.inside.up (g.L.OperationLog.disk c.self.inside.log) (g.L.OperationLog.under_way c.self.inside.log) c.self.inside.config c.self.inside.server_count c.self.inside.plan c.args.self.now (search rules) c.self.view_is in
+    stays_down c.args.self.now c.args.now.0 (input_of (option_copied c.args.message)) c.nothing.result.out c.nothing.result.seen down c.nothing.ensures.out c.nothing.ensures.seen
+
+pub returns : goal.returns
+returns g c =
+    let disk = g.L.OperationLog.disk c.self.inside.log in
+    let under_way = g.L.OperationLog.under_way c.self.inside.log in
+    let i = input_of (option_copied c.args.message) in
+    let up : c.self.inside.up ≡ true = search rules in
+    let old = is_up_as c.self.inside.up disk under_way c.self.inside.config c.self.inside.server_count c.self.inside.plan c.args.self.now up c.self.view_is in
+    let out : StepOut = record { sent = c.take_sent-sent.result; answer = None; down = false } in
+    let new_disk = g.L.OperationLog.disk c.makes.new.log in
+    let new_under_way = g.L.OperationLog.under_way c.makes.new.log in
+    subst (λ (m : MasterState). MasterSteps m c.args.now.0 i out c.take_seen-seen.result (standing true new_disk new_under_way c.self.inside.config c.self.inside.server_count c.makes.new.plan)) old
+    (went_as disk under_way c.self.inside.config c.self.inside.server_count c.self.inside.plan c.args.now.0 i (search rules) c.plans.new.plan (search rules) new_disk new_under_way c.take_sent-sent.new.self c.take_seen-seen.new.self c.makes.new.plan
+    c.take_sent-sent.result c.take_seen-seen.result c.take_sent-sent.ensures.rest c.take_seen-seen.ensures.rest c.if-not-makes.ensures.rest c.take_sent-sent.ensures.sent c.take_seen-seen.ensures.seen c.if-not-makes.ensures.made)
