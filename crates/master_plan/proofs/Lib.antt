@@ -2,4 +2,4 @@ pub mod Logs
 pub mod LogBytes
 pub mod Empty
 pub mod Reported
-pub mod Ordered
+pub mod FirstReports
