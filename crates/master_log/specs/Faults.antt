@@ -1,5 +1,5 @@
 -- The texts of a change's faults.
-use Rattle.std.specs.Prelude.{ℕ, List, codes}
+use Rattle.std.specs.Prelude.{ℕ, List}
 use Rattle.master_log.specs.declared.fault.ChangeFault.{ChangeFault}
 use Rattle.master_log.specs.declared.fault.ChangeFault.TheVariants.{Log, Replay}
 use Rattle.operation_log.specs.Faults.{fault_text as log_text}

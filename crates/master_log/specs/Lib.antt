@@ -1,3 +1,4 @@
 pub mod Faults
-pub mod Replayed
+pub mod Items
 pub mod Changes
+pub mod Restarts

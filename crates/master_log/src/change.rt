@@ -5,7 +5,6 @@ ghost use Rattle.protocol.specs.Logged.{AppendRecord, after_record, log_changed}
 ghost use Rattle.protocol.specs.LogSizes.{record_fits};
 ghost use Rattle.operation_log.specs.declared.fault.LogFault.TheVariants.{Full};
 ghost use Rattle.master_state.specs.Follows.{follows};
-ghost use Rattle.master_log.specs.Replayed.{is_replayed};
 ghost use Rattle.master_log.specs.Changes.{LeavesLog, LeavesState};
 ghost use Rattle.master_log.specs.declared.fault.ChangeFault.TheVariants.{Log};
 
@@ -23,7 +22,6 @@ pub fn change<L: OperationLog, A: Allocator + Clone>(
     entry: &Record,
 ) -> Result<(), ChangeFault>
     requires decided { L.under_way log.old ≡ [] }
-    requires replayed { is_replayed entry.now ≡ true }
     requires follows { IsTrue (follows state.old entry.now) }
     ensures state { OnOk result (state.new ≡ after_record state.old entry.now) }
     ensures disk { OnOk result (L.disk log.new ≡ log_changed (L.disk log.old) (AppendRecord entry.now)) }

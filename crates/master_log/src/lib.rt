@@ -4,3 +4,4 @@
 pub mod change;
 pub mod fault;
 pub mod replay;
+pub mod restart;

@@ -4,16 +4,17 @@ ghost use Rattle.std.specs.Prelude.{◌≡◌, true, OnOk, IsErrOf, IsTrue, IsFa
 ghost use Rattle.protocol.specs.Logged.{after_record};
 ghost use Rattle.master_state.specs.Follows.{follows};
 ghost use Rattle.master_state.specs.declared.fault.ReplayFault.TheVariants.{Damaged};
-ghost use Rattle.master_log.specs.Replayed.{is_replayed, is_item};
+ghost use Rattle.master_log.specs.Items.{is_item};
 
 use log_records::record::Record;
+use master_replay::expired::expire;
+use master_replay::snapshots::take_snapshot;
 use master_state::fault::ReplayFault;
 use master_state::state::State;
 use std::alloc::Allocator;
 
 /// The state after a record or an item. Damaged: no master writes it here.
 pub fn replay<A: Allocator + Clone>(state: &mut State<A>, entry: &Record) -> Result<(), ReplayFault>
-    requires { is_replayed entry.now ≡ true }
     ensures ok { OnOk result (state.new ≡ after_record state.old entry.now) }
     ensures follows { OnOk result (IsTrue (follows state.old entry.now)) }
     ensures damaged { IsErrOf result Damaged → IsFalse (follows state.old entry.now) }
@@ -43,6 +44,13 @@ pub fn replay<A: Allocator + Clone>(state: &mut State<A>, entry: &Record) -> Res
             from,
             to,
         } => state.rename(*client, *call, from, to),
+        Record::Snapshot {
+            client,
+            call,
+            from,
+            to,
+        } => take_snapshot(state, *client, *call, from, to),
+        Record::Expired { file } => expire(state, *file),
         Record::Refused {
             client,
             call,

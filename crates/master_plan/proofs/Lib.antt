@@ -1,3 +1,5 @@
 pub mod Logs
 pub mod LogBytes
 pub mod Empty
+pub mod Reported
+pub mod FirstReports

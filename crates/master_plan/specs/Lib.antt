@@ -4,3 +4,4 @@ pub mod Changes
 pub mod Plans
 pub mod Sizes
 pub mod Logging
+pub mod Reports

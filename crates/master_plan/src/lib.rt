@@ -9,6 +9,8 @@ pub mod holders;
 pub mod logging;
 pub mod orders;
 pub mod plan;
+pub mod reports;
+pub mod room;
 pub mod sizes;
 pub mod snapshots;
 pub mod waiting;

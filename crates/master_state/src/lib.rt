@@ -8,7 +8,7 @@ pub mod files;
 mod hidden;
 pub mod items;
 pub mod kept;
-pub mod leases;
+pub mod lease_ends;
 pub mod looks;
 pub mod names;
 pub mod refusals;

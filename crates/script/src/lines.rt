@@ -55,7 +55,7 @@ fn name_call(alloc: Global, name: &[u8], word: &[u8]) -> Result<Call, LineFault>
 }
 
 /// A call with one word: on an open file, or on a name.
-fn short_call(alloc: Global, name: &[u8], word: &[u8]) -> Result<Call, LineFault>
+pub fn short_call(alloc: Global, name: &[u8], word: &[u8]) -> Result<Call, LineFault>
     ensures { Reads result (short_call_of name.now word.now) }
 {
     if name == b"length".as_slice() {
@@ -88,7 +88,7 @@ fn append_call(fd: Fd, data: Data) -> Call
 }
 
 /// A call that appends to an open file.
-fn append(alloc: Global, name: &[u8], fd: &[u8], last: &[u8]) -> Result<Call, LineFault>
+pub fn append(alloc: Global, name: &[u8], fd: &[u8], last: &[u8]) -> Result<Call, LineFault>
     ensures { Reads result (append_call_of name.now fd.now last.now) }
 {
     if name != b"append".as_slice() {
@@ -99,7 +99,7 @@ fn append(alloc: Global, name: &[u8], fd: &[u8], last: &[u8]) -> Result<Call, Li
 }
 
 /// A call on a range of an open file.
-fn range_call(
+pub fn range_call(
     alloc: Global,
     name: &[u8],
     fd: &[u8],
@@ -140,7 +140,7 @@ fn client_line(alloc: Global, name: &[u8], words: &[&[u8]]) -> Result<Line, Line
 }
 
 /// A path and an index.
-fn file_chunk(alloc: Global, words: &[&[u8]]) -> Result<FileChunk, LineFault>
+pub fn file_chunk(alloc: Global, words: &[&[u8]]) -> Result<FileChunk, LineFault>
     ensures { Reads result (chunk_of (map (λ w. w.now) words.now)) }
 {
     match words {
@@ -169,7 +169,7 @@ fn line_for(alloc: Global, words: &[&[u8]]) -> Result<Line, LineFault>
 }
 
 /// The words of a line, which one space separates.
-fn split_words(alloc: Global, line: &[u8]) -> Result<Vec<&[u8]>, AllocError>
+pub fn split_words(alloc: Global, line: &[u8]) -> Result<Vec<&[u8]>, AllocError>
     ensures { IfOk result (λ v. map (λ w. w.now) v.items ≡ words_of line.now) }
 {
     line.split(|byte| *byte == b' ').collect(alloc)

@@ -1,0 +1,5 @@
+mod StepLemmas
+mod EndLemmas
+mod Bytes
+mod LineLemmas
+mod StopLemmas

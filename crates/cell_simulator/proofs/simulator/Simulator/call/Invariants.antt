@@ -1,0 +1,11 @@
+use Rattle.std.proofs.Common.{◌≡◌}
+use Rattle.cell_simulator.specs.Steps.{Goes, First, after_rounds, is_of_round}
+use Rattle.cell_simulator.specs.Shown.{call_event, state_of}
+use Rattle.cell_simulator.proofs.simulator.Simulator.call.Given as goal
+
+-- the rounds so far, and what was printed of them
+abbrev pub invariant-loop : goal.invariant-loop
+invariant-loop g l = record {
+  rounds : l.self.clock.0 ≡ after_rounds l.fn.self.clock.0 l.counter;
+  goes : Goes g.C.SimulatedCell.meaning (state_of l.fn.self) (state_of l.self) (First (call_event l.fn.asked l.fn.self.clock) is_of_round) (g.W.Write.contents l.fn.writer) (g.W.Write.contents l.writer);
+}

@@ -1,0 +1,19 @@
+-- What a snapshot copies.
+use Rattle.std.specs.Prelude.{ℕ, List, ◌++◌, map, filter, flat_map, length, drop}
+use Rattle.gfs_types.specs.Paths.{Path, is_at_or_below}
+use Rattle.relaxed_file.specs.Names.{Node, copied_entries}
+use Rattle.protocol.specs.Logged.{Logged}
+use Rattle.protocol.specs.MasterSnapshots.{node_handles, node_files}
+use Rattle.protocol.specs.Tables.{rising}
+
+-- those of these entries that lie at `from` or below it, moved to `to`
+abbrev pub moved : Path → Path → List (Path × Node) → List (Path × Node)
+moved from to es = map (λ e. (to ++ drop (length from) e.0, e.1)) (filter (λ e. is_at_or_below from e.0) es)
+
+-- the handles of all files at `from` or below it, in rising number
+abbrev pub handles_copied : Logged → Path → Path → List ℕ
+handles_copied l from to = rising (flat_map (λ e. node_handles l.table e.1) (copied_entries l.names from to))
+
+-- the files at `from` or below it
+abbrev pub files_copied : Logged → Path → Path → List ℕ
+files_copied l from to = flat_map (λ e. node_files e.1) (copied_entries l.names from to)

@@ -1,0 +1,82 @@
+//! How the master puts down what servers tell it (sections 2.6.2 and 4.5).
+
+ghost use Rattle.std.specs.Prelude.{◌≡◌, unwrap_or, OnOk, IfOk};
+ghost use Rattle.std.specs.FinMap as map;
+ghost use Rattle.master_plan.specs.Reports.{with_holder, with_report, table_of_lines};
+
+use crate::fault::PlanFault;
+use crate::plan::Plan;
+use crate::waiting::Attempt;
+use gfs_types::ids::{Handle, ServerId, Version};
+use messages::message::ReplicaLine;
+use number_map::NumberMap;
+use ordered_map::OrderedMap;
+use std::alloc::{AllocError, Allocator, Global};
+
+impl<A: Allocator + Clone> Plan<A> {
+    /// A server holds this version of a chunk.
+    pub fn note_holder(
+        &mut self,
+        server: ServerId,
+        handle: Handle,
+        version: Version,
+    ) -> Result<(), PlanFault>
+        ensures { OnOk result (self.new ≡ with_holder self.old server.0 handle.0 version.0) }
+    {
+        let server = u64::from(server.0);
+        note_version(self.alloc, &mut self.holders, server, handle.0, version.0)?;
+        Ok(())
+    }
+
+    /// A server reported these replicas: it is present, and holds them and nothing else.
+    pub fn note_report(
+        &mut self,
+        server: ServerId,
+        replicas: &[ReplicaLine],
+    ) -> Result<(), PlanFault>
+        ensures { OnOk result (self.new ≡ with_report self.old server.0 replicas.now) }
+    {
+        let held = table_of_lines(self.alloc, replicas)?;
+        self.holders.insert(u64::from(server.0), held)?;
+        self.reported.insert(u64::from(server.0), self.clock)?;
+        Ok(())
+    }
+
+    /// The version numbers that are under way, by the handles of their chunks.
+    pub fn attempts(&self) -> &OrderedMap<Attempt>
+        ensures { result.now ≡ self.now.attempts }
+    {
+        &self.attempts
+    }
+}
+
+// A server's version of a chunk, in the table of all servers.
+fn note_version(
+    alloc: Global,
+    holders: &mut NumberMap<OrderedMap<u64>>,
+    server: u64,
+    handle: u64,
+    version: u64,
+) -> Result<(), AllocError>
+    ensures { OnOk result (holders.new ≡ map.insert holders.old server (map.insert (unwrap_or (map.get holders.old server) map.empty) handle version)) }
+{
+    if let Some(held) = holders.get_mut(server) {
+        return held.insert(handle, version);
+    }
+    let mut held = OrderedMap::new(alloc);
+    held.insert(handle, version)?;
+    holders.insert(server, held)
+}
+
+// The versions of reported replicas by handle. The first line of a handle counts.
+fn table_of_lines(alloc: Global, replicas: &[ReplicaLine]) -> Result<OrderedMap<u64>, AllocError>
+    ensures { IfOk result (λ held. held ≡ table_of_lines replicas.now) }
+{
+    let mut held = OrderedMap::new(alloc);
+    let count = replicas.len();
+    for back in 0..count {
+        let line = replicas[count - 1 - back];
+        held.insert(line.handle.0, line.version.0)?;
+    }
+    Ok(held)
+}

@@ -1,0 +1,82 @@
+//! The next clone (section 4.3).
+
+ghost use Rattle.std.specs.Prelude.{◌≡◌, option_map, OnOk};
+ghost use Rattle.std.specs.FinMap as finite;
+ghost use Rattle.protocol.specs.Logged.{LogDisk};
+ghost use Rattle.protocol.specs.MasterClones.{best_clone, orders_clone, clones_next};
+ghost use Rattle.master_plan.specs.Plans.{doing, known};
+
+use gfs_types::ids::{Handle, Node, ServerId, Version};
+use master_plan::fault::PlanFault;
+use master_plan::plan::Plan;
+use messages::message::Body;
+use rereplicate::clone_order::CloneOrder;
+use rereplicate::holders::Holders;
+use rereplicate::next::next;
+use std::alloc::Allocator;
+
+/// One clone is ordered, if any.
+pub fn clones_next<A: Allocator + Clone>(plan: &mut Plan<A>) -> Result<(), PlanFault>
+    ensures { OnOk result ((disk : LogDisk) → clones_next (doing disk plan.old) ≡ doing disk plan.new) }
+{
+    let clone = next_clone(plan);
+    orders_clone(plan, clone)
+}
+
+fn next_clone<A: Allocator + Clone>(plan: &Plan<A>) -> Option<CloneOrder>
+    ensures { result ≡ best_clone (known plan.now) (finite.entries plan.now.logged.table.chunks) }
+{
+    let known = Known { plan };
+    next(plan.state().table(), &known, plan.config().goal, plan.now())
+}
+
+fn orders_clone<A: Allocator + Clone>(
+    plan: &mut Plan<A>,
+    clone: Option<CloneOrder>,
+) -> Result<(), PlanFault>
+    ensures { OnOk result ((disk : LogDisk) → orders_clone (doing disk plan.old) clone ≡ doing disk plan.new) }
+{
+    let Some(clone) = clone else {
+        return Ok(());
+    };
+    let order = plan.next_order()?;
+    plan.tell(
+        Node::Server(clone.target()),
+        Body::Clone {
+            order,
+            handle: clone.handle(),
+            version: clone.version(),
+            source: clone.source(),
+        },
+    )
+}
+
+// What the choice of a clone asks of the master.
+#[derive(Drop)]
+struct Known<'a, A: Allocator> {
+    plan: &'a Plan<A>,
+}
+
+impl<'a, A: Allocator + Clone> Holders for Known<'a, A> {
+    ghost state = { λ k. known k.plan.now };
+
+    fn server_count(&self) -> u16 {
+        self.plan.server_count()
+    }
+
+    fn is_present(&self, server: ServerId) -> bool {
+        self.plan.is_present(server)
+    }
+
+    fn version(&self, handle: Handle, server: ServerId) -> Option<Version> {
+        self.plan.version_held(handle, server)
+    }
+
+    fn chunks(&self, server: ServerId) -> u64 {
+        self.plan.chunks_held(server)
+    }
+
+    fn is_under_way(&self, handle: Handle, version: Version) -> bool {
+        self.plan.is_under_way(handle, version)
+    }
+}
