@@ -2,3 +2,4 @@ pub mod Logs
 pub mod LogBytes
 pub mod Empty
 pub mod Reported
+pub mod FirstReports

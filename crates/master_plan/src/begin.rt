@@ -97,6 +97,7 @@ fn keep_live(snapshots: &mut Vec<Pending>, now: u64)
     snapshots.retain(|snapshot| now < snapshot.deadline().0);
 }
 
+#[tactic(auto, using(crate::proofs::FirstReports::one_more))]
 fn first_reports(alloc: Global, server_count: u16, now: Moment) -> Result<NumberMap<u64>, NoMemory>
     ensures { IfOk result (λ t. t ≡ first_reports server_count now.0) }
 {

@@ -1,6 +1,6 @@
 //! How a step logs a record.
 
-ghost use Rattle.std.specs.Prelude.{◌≡◌, [], ◌∷◌, ◌++◌, IfOk, OnOk};
+ghost use Rattle.std.specs.Prelude.{◌≡◌, ◌&&◌, not, IfOk, OnOk};
 ghost use Rattle.protocol.specs.LogSizes.{record_fits};
 ghost use Rattle.protocol.specs.Logged.{after_record, AppendRecord, WriteCheckpoint};
 ghost use Rattle.protocol.specs.Master.{fits, is_of_copy};
@@ -13,13 +13,13 @@ use crate::plan::Plan;
 use crate::sizes::{bytes_used, checkpoint_bytes};
 use log_records::record::Record;
 use master_log::replay::replay;
+use master_looks::checkpoint::checkpoint_items;
 use operation_log::log::OperationLog;
 use operation_log::sizes::used_with;
 use std::alloc::Allocator;
 
 /// Logs a record, after a checkpoint where there is no room for it, and the state follows. False: there is no room even so, or the
 /// checkpoint gave up the copy that the record is of.
-#[tactic(auto, using(crate::proofs::Logs::fits_first, crate::proofs::Logs::no_checkpoint, crate::proofs::Logs::fits_later, crate::proofs::Logs::fits_never))]
 pub fn logs<L: OperationLog, A: Allocator + Clone>(
     log: &L,
     plan: &mut Plan<A>,
@@ -32,17 +32,24 @@ pub fn logs<L: OperationLog, A: Allocator + Clone>(
         plan.append(entry)?;
         return Ok(true);
     }
-    let items = RecordList::new(plan.state.checkpoint_items()?);
+    let items = RecordList::new(checkpoint_items(&plan.state)?);
     if checkpoint_bytes(plan.config.log_bytes, items.as_slice()).is_none() {
         return Ok(false);
     }
     let was_of_copy = plan.is_of_copy(&entry);
     plan.write_checkpoint(items)?;
-    if was_of_copy || !has_room(log, plan, &entry)? {
+    let has_room = has_room(log, plan, &entry)?;
+    if !stands(has_room, was_of_copy) {
         return Ok(false);
     }
     plan.append(entry)?;
     Ok(true)
+}
+
+fn stands(has_room: bool, was_of_copy: bool) -> bool
+    ensures { result ≡ (has_room && not was_of_copy) }
+{
+    has_room && !was_of_copy
 }
 
 // Whether a record fits once the changes so far are made.

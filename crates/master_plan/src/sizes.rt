@@ -1,6 +1,6 @@
 //! Whether a record or a checkpoint fits into the log's disk.
 
-ghost use Rattle.std.specs.Prelude.{◌≡◌, ◌<◌, ◌^◌, is_some, IfOk, IfSome};
+ghost use Rattle.std.specs.Prelude.{◌≡◌, ◌<◌, ◌^◌, [], is_some, IfOk, IfSome};
 ghost use Rattle.protocol.specs.LogSizes.{used_size, checkpoint_size, record_fits, checkpoint_fits};
 ghost use Rattle.protocol.specs.Logged.{log_changed_by_all};
 ghost use Rattle.master_plan.specs.Changes.{changes_of, change_of};
@@ -21,6 +21,7 @@ const AROUND_RECORD: u64 = 5;
 // A length before an item.
 const AROUND_ITEM: u64 = 4;
 
+#[tactic(auto, using(crate::proofs::LogBytes::item_more, crate::proofs::LogBytes::too_many))]
 /// The bytes of an area that a checkpoint of these items takes; None where it doesn't fit.
 pub fn checkpoint_bytes(log_bytes: u64, items: &[Record]) -> Option<u64>
     ensures room { is_some result ≡ checkpoint_fits log_bytes items.now }
@@ -50,6 +51,7 @@ fn bytes_after(log_bytes: u64, used: u64, change: &Change) -> Option<u64>
     }
 }
 
+#[tactic(auto, using(crate::proofs::LogBytes::used_more))]
 /// The bytes of an area that the log takes once these changes are made. Damaged: they don't fit, which no step comes to.
 pub fn bytes_used<L: OperationLog>(
     log: &L,

@@ -1,0 +1,17 @@
+-- The master between two steps.
+use Rattle.std.specs.Prelude.{◌≡◌, ℕ, Bool, true, false, List, []}
+use Rattle.gfs_types.specs.declared.config.Config.{Config}
+use Rattle.protocol.specs.Logged.{LogDisk, LogChange}
+use Rattle.protocol.specs.Master.{MasterState, stopped_master}
+use Rattle.master_plan.specs.Plans.{PlanState, master_of, known, resting}
+
+-- up, with what it knows, or down, with its settings and its disk alone
+abbrev pub standing : Bool → LogDisk → List LogChange → Config → ℕ → PlanState → MasterState
+standing true disk under_way config server_count p = record (master_of disk (resting p)) { under_way = under_way }
+standing false disk under_way config server_count p = stopped_master (record (known p) { config = config; server_count = server_count }) disk under_way
+
+-- a master that is up has nothing under way, and the settings that it was made with
+pub record IsResting (under_way : List LogChange) (config : Config) (server_count : ℕ) (p : PlanState) : Type 0 where
+  pub none : under_way ≡ []
+  pub config_is : p.config ≡ config
+  pub count_is : p.server_count ≡ server_count

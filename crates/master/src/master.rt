@@ -1,0 +1,169 @@
+//! The master.
+
+ghost use Rattle.std.specs.Prelude.{◌≡◌, ◌≤◌, [], IfOk, if◌then◌else◌, Some, None};
+ghost use Rattle.std.specs.Option.{option_copied};
+ghost use Rattle.protocol.specs.Tables.{moment_limit};
+ghost use Rattle.protocol.specs.Logged.{new_log};
+ghost use Rattle.protocol.specs.MasterStep.{new_master};
+ghost use Rattle.protocol.specs.Conforms.{MasterSteps, MasterRestarts};
+ghost use Rattle.step_outcome.specs.Inputs.{input_of};
+
+use crate::ended::makes;
+use crate::fault::MasterFault;
+use crate::planned::plans;
+use crate::started::{first_plan, opens};
+use gfs_types::config::Config;
+use gfs_types::ids::Moment;
+use gfs_types::lists::Sequence;
+use log_records::record::Record;
+use master_plan::plan::Plan;
+use master_state::state::State;
+use messages::event::StepOut;
+use messages::message::Message;
+use operation_log::log::OperationLog;
+use std::alloc::{Allocator, Global};
+use std::marker::Model;
+use step_outcome::{Outcome, gives_nothing, goes_down};
+
+/// The master over a log. While it is up, nothing is under way on the log's disk. Its names lie in `A`.
+#[derive(Drop)]
+pub struct Master<L: OperationLog, A: Allocator> {
+    config: Config,
+    server_count: u16,
+    log: L,
+    names: A,
+    up: bool,
+    plan: Plan<A>,
+}
+
+impl<L: OperationLog, A: Allocator> Model for Master<L, A> {
+    ghost use Rattle.std.specs.Prelude.{◌≡◌, ◌≤◌, true, []};
+    ghost use Rattle.std.specs.Coded.{codes, coded_ℕ, coded_list};
+    ghost use Rattle.std.specs.FinMap as map;
+    ghost use Rattle.protocol.specs.Master.{MasterState};
+    ghost use Rattle.master.specs.Standing.{standing, IsResting};
+
+    ghost Value = { MasterState };
+
+    ghost coded = { Prim.hlevel (codes, map.code, coded_list, coded_ℕ) };
+
+    ghost view = { λ m. standing m.up (L.disk m.log) (L.under_way m.log) m.config m.server_count m.plan };
+
+    ghost invariant = { λ m. (m.config.lease_ms ≤ 3600000) × (m.config.skew_ms ≤ 60000) × (m.up ≡ true → IsResting (L.under_way m.log) m.config m.server_count m.plan) };
+}
+
+impl<L: OperationLog, A: Allocator + Clone> Master<L, A> {
+    /// The master of a new cell, whose log is new: the first epoch is logged. The settings are within their ranges.
+    pub fn new(
+        alloc: Global,
+        config: Config,
+        server_count: u16,
+        log: L,
+        names: A,
+    ) -> Result<Self, MasterFault>
+        requires lease { config.lease_ms ≤ 3600000 }
+        requires skew { config.skew_ms ≤ 60000 }
+        requires new { L.disk log ≡ new_log }
+        requires decided { L.under_way log ≡ [] }
+        ensures { IfOk result (λ m. m ≡ new_master config server_count) }
+    {
+        let kept = names.clone()?;
+        let Ok(plan) = first_plan(alloc, config, server_count, names) else {
+            return Err(MasterFault::NoMemory);
+        };
+        let mut log = log;
+        if let Err(fault) = log.append(&Record::Epoch { epoch: 1 }) {
+            return Err(MasterFault::Log(fault));
+        }
+        Ok(Master {
+            config,
+            server_count,
+            log,
+            names: kept,
+            up: true,
+            plan,
+        })
+    }
+
+    /// Whether it is up. One that is down takes no step.
+    pub fn is_up(&self) -> bool
+        ensures { result ≡ self.now.up }
+    {
+        self.up
+    }
+
+    /// What the log keeps, while it is up.
+    pub fn state(&self) -> Option<&State<A>>
+        ensures { option_copied result ≡ (if self.now.up then Some self.now.logged else None) }
+    {
+        if self.up {
+            Some(self.plan.state())
+        } else {
+            None
+        }
+    }
+
+    /// A step on a message, or on a tick.
+    #[tactic(auto, using(crate::proofs::Steps::stays, crate::proofs::Steps::lost, crate::proofs::Steps::ended))]
+    pub fn step(&mut self, now: Moment, message: Option<&Message>) -> Outcome
+        requires { now.0 ≤ moment_limit }
+        ensures { MasterSteps self.old now.0 (input_of (option_copied message.entry)) result.out result.seen self.new }
+    {
+        let alloc = self.plan.alloc();
+        if !self.up {
+            return Outcome::nothing(alloc);
+        }
+        self.up = false;
+        if plans(&self.log, &mut self.plan, now, message).is_err() {
+            return Outcome::down(alloc, Sequence::empty(alloc));
+        }
+        let sent = self.plan.take_sent();
+        let seen = self.plan.take_seen();
+        if !makes(&mut self.log, &mut self.plan) {
+            return Outcome::down(alloc, Sequence::empty(alloc));
+        }
+        self.up = true;
+        let out = StepOut {
+            sent,
+            answer: None,
+            down: false,
+        };
+        Outcome { out, seen }
+    }
+
+    /// It begins again, whether it was up or down: it reads its log, and logs a new epoch.
+    #[tactic(auto, using(crate::proofs::Restarts::not_begun, crate::proofs::Restarts::given_up, crate::proofs::Restarts::cut_off, crate::proofs::Restarts::went))]
+    pub fn restart(&mut self, now: Moment) -> StepOut
+        requires { now.0 ≤ moment_limit }
+        ensures { MasterRestarts self.old now.0 result self.new }
+    {
+        let alloc = self.plan.alloc();
+        self.up = false;
+        if self.log.reopen().is_err() {
+            return goes_down(alloc);
+        }
+        self.opens(alloc, now)
+    }
+
+    // It reads its log, and logs a new epoch. Nothing is under way.
+    fn opens(&mut self, alloc: Global, now: Moment) -> StepOut
+        requires moment { now.0 ≤ moment_limit }
+        requires down { self.old.up ≡ false }
+        requires decided { self.old.under_way ≡ [] }
+        ensures { Opens self.old now.0 result self.new }
+    {
+        let Ok(names) = self.names.clone() else {
+            return goes_down(alloc);
+        };
+        let opened = opens(&mut self.log, alloc, self.config, self.server_count, names, now);
+        let Ok(opening) = opened else {
+            return goes_down(alloc);
+        };
+        self.plan = opening.plan;
+        if !makes(&mut self.log, &mut self.plan) || !opening.is_logged {
+            return goes_down(alloc);
+        }
+        self.up = true;
+        gives_nothing(alloc)
+    }
+}
