@@ -13,7 +13,7 @@ returns g c =
     let disk : LogDisk = g.L.OperationLog.disk c.args.log.now in
     let m : MasterState = master_of disk c.args.plan.now in
     let names = c.names-names.ensures ∙ ap (λ l. l.names) c.state.ensures in
-    let files = c.in_ok-files.ensures m (sym names) (sym c.now.ensures.now) (sym (ap (λ f. f.keep_ms) c.config.ensures)) in
+    let files = c.in_ok-files.ensures m (sym names) (sym c.now.ensures.now) (sym (ap (λ f. f.keep_ms) c.config.ensures.config)) in
     let found : map (λ (file : FileId). file.0) c.deref.result.now ≡ expired_files m =
     ap (map (λ (file : FileId). file.0)) (c.deref.ensures.value ∙ files) ∙ numbers_of (expired_files m) in
     on_ok_weaker c.expires_all.result (λ e. ap (expires_all (doing disk c.args.plan.now)) (sym found) ∙ e) c.expires_all.ensures
