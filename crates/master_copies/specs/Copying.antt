@@ -1,5 +1,5 @@
 -- A server that makes a new replica.
-use Rattle.std.specs.Prelude.{ℕ, Option, None}
+use Rattle.std.specs.Prelude.{ℕ, None}
 use Rattle.protocol.specs.MasterVersions.{VersionTarget}
 
 abbrev pub new_target : ℕ → VersionTarget

@@ -1,3 +1,4 @@
 pub mod Listed
 pub mod Sets
 pub mod Handles
+pub mod Trial

@@ -1,3 +1,4 @@
 pub mod Copied
 pub mod Listing
 pub mod Checkpoints
+pub mod Room

@@ -6,4 +6,5 @@ pub mod copied;
 pub mod lists;
 pub mod refusals;
 mod rising;
+pub mod room;
 pub mod snapshots;

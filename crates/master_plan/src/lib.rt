@@ -10,6 +10,7 @@ pub mod logging;
 pub mod orders;
 pub mod plan;
 pub mod reports;
+pub mod room;
 pub mod sizes;
 pub mod snapshots;
 pub mod waiting;

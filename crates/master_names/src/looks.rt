@@ -1,0 +1,51 @@
+//! Calls that read the names alone.
+
+ghost use Rattle.std.specs.Prelude.{◌≡◌, IfOk, OnOk};
+ghost use Rattle.relaxed_file.specs.NameStep.{outcome_by};
+ghost use Rattle.protocol.specs.Logged.{LogDisk};
+ghost use Rattle.protocol.specs.MasterNames.{reply_by, master_refusal, takes_look};
+ghost use Rattle.master_plan.specs.Plans.{doing, known};
+
+use crate::answers::answer_of;
+use crate::locks::is_busy;
+use crate::refusals::master_refusal;
+use gfs_types::call::Call;
+use gfs_types::ids::Node;
+use gfs_types::no_memory::NoMemory;
+use master_looks::lists::list;
+use master_plan::fault::PlanFault;
+use master_plan::plan::Plan;
+use messages::message::{Body, NameReply};
+use std::alloc::Allocator;
+
+/// A Look, which reads the names alone.
+pub fn takes_look<A: Allocator + Clone>(
+    plan: &mut Plan<A>,
+    client: Node,
+    number: u64,
+    call: &Call,
+) -> Result<(), PlanFault>
+    ensures { OnOk result ((disk : LogDisk) → takes_look (doing disk plan.old) client number call.now ≡ doing disk plan.new) }
+{
+    let reply = reply_to(plan, call)?;
+    plan.tell(
+        client,
+        Body::Named {
+            call_number: number,
+            reply,
+        },
+    )
+}
+
+fn reply_to<A: Allocator + Clone>(plan: &Plan<A>, call: &Call) -> Result<NameReply, NoMemory>
+    ensures { IfOk result (λ r. r ≡ reply_by (outcome_by plan.now.logged.names call.now (master_refusal (known plan.now) call.now))) }
+{
+    match call {
+        Call::Open(path) => plan.state().open(path, is_busy(plan, call)),
+        Call::List(path) => list(plan.state(), path, is_busy(plan, call)),
+        _ => {
+            let refusal = master_refusal(plan, call)?;
+            Ok(NameReply::Answered(answer_of(refusal)))
+        }
+    }
+}

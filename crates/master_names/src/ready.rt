@@ -1,0 +1,76 @@
+//! Snapshots that have waited enough.
+
+ghost use Rattle.std.specs.Prelude.{◌≡◌, if◌then◌else◌, OnOk};
+ghost use Rattle.protocol.specs.MasterSnapshots.{is_ready, takes_snapshot, takes_ready};
+ghost use Rattle.master_names.specs.Doing.{Does};
+
+use crate::answers::changes_names;
+use log_records::record::Record;
+use master_plan::fault::PlanFault;
+use master_plan::plan::Plan;
+use master_plan::waiting::Pending;
+use master_snapshots::begins::lets_go;
+use master_snapshots::ready::is_ready;
+use operation_log::log::OperationLog;
+use std::alloc::Allocator;
+
+/// Each snapshot that is ready is taken, the oldest first.
+pub fn takes_ready<L: OperationLog, A: Allocator + Clone>(
+    log: &L,
+    plan: &mut Plan<A>,
+) -> Result<(), PlanFault>
+    ensures { OnOk result (Does (λ d. takes_ready d d.master.snapshots) (L.disk log.now) plan.old plan.new) }
+{
+    let snapshots = plan.copied_snapshots()?;
+    takes_those_ready(log, plan, &snapshots)
+}
+
+fn takes_those_ready<L: OperationLog, A: Allocator + Clone>(
+    log: &L,
+    plan: &mut Plan<A>,
+    snapshots: &[Pending],
+) -> Result<(), PlanFault>
+    ensures { OnOk result (Does (λ d. takes_ready d snapshots.now) (L.disk log.now) plan.old plan.new) }
+{
+    for snapshot in snapshots {
+        takes_if_ready(log, plan, snapshot)?;
+    }
+    Ok(())
+}
+
+#[tactic(auto, using(crate::proofs::Snapshots::takes_it, crate::proofs::Snapshots::leaves_it))]
+fn takes_if_ready<L: OperationLog, A: Allocator + Clone>(
+    log: &L,
+    plan: &mut Plan<A>,
+    snapshot: &Pending,
+) -> Result<(), PlanFault>
+    ensures { OnOk result (Does (λ d. if is_ready d.master snapshot.now then takes_snapshot d snapshot.now else d) (L.disk log.now) plan.old plan.new) }
+{
+    if !is_ready(plan, snapshot)? {
+        return Ok(());
+    }
+    takes_snapshot(log, plan, snapshot)
+}
+
+// The locks go back, and the snapshot is logged and answered, or refused for want of room.
+fn takes_snapshot<L: OperationLog, A: Allocator + Clone>(
+    log: &L,
+    plan: &mut Plan<A>,
+    snapshot: &Pending,
+) -> Result<(), PlanFault>
+    ensures { OnOk result (Does (λ d. takes_snapshot d snapshot.now) (L.disk log.now) plan.old plan.new) }
+{
+    let from = snapshot.from().to_text(plan.alloc())?;
+    let to = snapshot.to().to_text(plan.alloc())?;
+    lets_go(plan, snapshot);
+    let has_room = plan.has_room_to_copy(snapshot.from(), snapshot.to())?;
+    let client = snapshot.client();
+    let call = snapshot.number();
+    let entry = Record::Snapshot {
+        client,
+        call,
+        from,
+        to,
+    };
+    changes_names(log, plan, client, call, has_room, entry)
+}

@@ -1,4 +1,0 @@
-pub mod Faults
-pub mod Coding
-pub mod Doing
-pub mod Names
