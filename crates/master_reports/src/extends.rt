@@ -30,7 +30,7 @@ fn may_extend<A: Allocator + Clone>(
     Ok(!waits_for(plan, line.handle)?)
 }
 
-// A lease gets a later end, where its primary asks for it and may have it. Limit: the end can't be written.
+// A lease gets a later end, where its primary asks for it and may have it.
 fn extends_row<A: Allocator + Clone>(
     plan: &mut Plan<A>,
     server: ServerId,
@@ -41,9 +41,7 @@ fn extends_row<A: Allocator + Clone>(
     let Some(chunk) = plan.state().table().chunk(line.handle) else {
         return Ok(());
     };
-    let Some(until) = plan.now().0.checked_add(plan.config().lease_ms) else {
-        return Err(PlanFault::Limit);
-    };
+    let until = plan.now().0 + plan.config().lease_ms;
     if may_extend(plan, server, line, chunk)? && chunk.lease_end().0 < until {
         plan.end_lease_at(line.handle, Moment(until));
         plan.tell(

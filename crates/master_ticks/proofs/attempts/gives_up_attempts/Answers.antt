@@ -1,4 +1,4 @@
-use Rattle.std.proofs.Common.{◌≡◌, ◌∙◌, sym, ap}
+use Rattle.std.proofs.Common.{◌∙◌, sym, ap}
 use Rattle.protocol.specs.Tables.{removed_all}
 use Rattle.protocol.specs.MasterStep.{is_in_time}
 use Rattle.master_plan.specs.Plans.{doing, known}

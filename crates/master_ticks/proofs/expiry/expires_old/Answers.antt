@@ -1,4 +1,4 @@
-use Rattle.std.proofs.Common.{◌≡◌, ℕ, List, map, sym, ap, ◌∙◌}
+use Rattle.std.proofs.Common.{◌≡◌, map, sym, ap, ◌∙◌}
 use Rattle.std.proofs.lemmas.Result.{on_ok_weaker}
 use Rattle.gfs_types.specs.declared.ids.FileId.{FileId}
 use Rattle.protocol.specs.Logged.{LogDisk}
