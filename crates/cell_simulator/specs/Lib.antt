@@ -4,3 +4,4 @@ pub mod Shown
 pub mod Lines
 pub mod Reading
 pub mod Scripts
+pub mod Network
