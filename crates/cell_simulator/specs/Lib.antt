@@ -5,3 +5,4 @@ pub mod Lines
 pub mod Reading
 pub mod Scripts
 pub mod Network
+pub mod Answered
