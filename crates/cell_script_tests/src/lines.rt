@@ -103,16 +103,14 @@ fn write_disk_line(text: &mut Vec<u8>, line: &Line) -> io::Result<()> {
     }
 }
 
-/// The plainest line that asks for what this one asks for, or its fault.
-fn read(alloc: Global, line: &[u8]) -> io::Result<Result<Vec<u8>, LineFault>> {
+/// The plainest line that asks for what this one asks for, or its fault as it is printed.
+fn read(alloc: Global, line: &[u8]) -> io::Result<Vec<u8>> {
+    let mut text = Vec::new(alloc);
     match parse(alloc, line) {
-        Ok(line) => {
-            let mut text = Vec::new(alloc);
-            write_line(&mut text, &line)?;
-            Ok(Ok(text))
-        }
-        Err(fault) => Ok(Err(fault)),
+        Ok(line) => write_line(&mut text, &line)?,
+        Err(fault) => write!(text, "{fault}")?,
     }
+    Ok(text)
 }
 
 #[test]
@@ -156,11 +154,7 @@ fn plain_lines(rt: HostRuntime) -> Result<(), Fail> {
     ];
     for line in lines {
         let text = read(rt.alloc(), line.as_bytes())?;
-        assert_eq!(rt;
-            text.as_ref().map(|t| t.as_slice()),
-            Ok(line.as_bytes()),
-            "{line}"
-        );
+        assert_eq!(rt; text.as_slice(), line.as_bytes(), "{line}");
     }
     Ok(())
 }
@@ -178,11 +172,7 @@ fn other_spellings(rt: HostRuntime) -> Result<(), Fail> {
     ];
     for (line, plain) in rows {
         let text = read(rt.alloc(), line.as_bytes())?;
-        assert_eq!(rt;
-            text.as_ref().map(|t| t.as_slice()),
-            Ok(plain.as_bytes()),
-            "{line}"
-        );
+        assert_eq!(rt; text.as_slice(), plain.as_bytes(), "{line}");
     }
     Ok(())
 }
@@ -196,11 +186,7 @@ fn kinds(rt: HostRuntime) -> Result<(), Fail> {
     for name in names.split(' ') {
         let line = format!(in alloc; "hold {name} s1")?;
         let text = read(alloc, line.as_bytes())?;
-        assert_eq!(rt;
-            text.as_ref().map(|t| t.as_slice()),
-            Ok(line.as_bytes()),
-            "{line}"
-        );
+        assert_eq!(rt; text.as_slice(), line.as_bytes(), "{line}");
         count = count.saturating_add(1);
     }
     assert_eq!(rt; count, 32);
@@ -265,7 +251,7 @@ fn hostile_lines(rt: HostRuntime) -> Result<(), Fail> {
     ];
     for line in lines {
         let text = read(rt.alloc(), line.as_bytes())?;
-        assert_eq!(rt; text.err(), Some(LineFault::Bad), "{line}");
+        assert_eq!(rt; text.as_slice(), b"bad line".as_slice(), "{line}");
     }
     Ok(())
 }

@@ -1,3 +1,4 @@
+pub mod Answers
 mod StepLemmas
 mod EndLemmas
 mod Bytes

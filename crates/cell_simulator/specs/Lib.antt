@@ -4,3 +4,5 @@ pub mod Shown
 pub mod Lines
 pub mod Reading
 pub mod Scripts
+pub mod Network
+pub mod Answered
