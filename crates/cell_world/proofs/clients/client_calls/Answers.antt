@@ -1,0 +1,23 @@
+use Rattle.std.proofs.Common.{List, [], Option, refl, sym, subst, ap, ◌∙◌}
+use Rattle.protocol.specs.Seen.{down_output}
+use Rattle.protocol.specs.Client.{ClientState}
+use Rattle.protocol.specs.Conforms.{ClientCalls}
+use Rattle.cell_world.proofs.Lost.{at, unrecorded, recorded_so, call_lost}
+use Rattle.cell_world.proofs.clients.client_calls.Goals as goal
+
+pub returns-then-is_err : goal.returns-then-is_err
+returns-then-is_err c =
+    let s : ClientState = c.index_mut.result.now in
+    record {
+      old = s;
+      new = c.stop.new.client;
+      out = down_output;
+      seen = [];
+      is_there = at c.args.clients.now.items c.args.place s c.requires.place c.index_mut.ensures.value;
+      steps = record { calls = subst (λ (t : ClientState). ClientCalls s c.args.now.0 c.args.call down_output t) (sym c.stop.ensures) (call_lost s _ _); unseen = refl };
+      nodes_are = refl;
+      recorded = unrecorded _ _ down_output refl refl c.reserve.ensures.sent c.reserve.ensures.seen;
+    }
+
+pub returns : goal.returns
+returns c = ?
