@@ -1,5 +1,5 @@
 -- Events by what they come to.
-use Rattle.std.proofs.Common.{◌≡◌, ◌<◌, ◌≤◌, ℕ, zero, suc, ◌-◌, Bool, true, false, List, ◌∷◌, [], length, Option, Some, None, refl, sym, subst, ap, ◌∙◌, arith, inl, inr, set, cond}
+use Rattle.std.proofs.Common.{◌≡◌, ◌<◌, ◌≤◌, ℕ, zero, suc, ◌-◌, Bool, true, false, List, ◌∷◌, [], length, Option, Some, None, refl, sym, subst, ap, ◌∙◌, arith, inl, inr}
 use Rattle.std.specs.Prelude.{◌⊎◌, ◌&&◌, if◌then◌else◌, nat_le, nat_lt}
 use Rattle.std.proofs.lemmas.Bool.Decides.{nat_tests}
 use Rattle.gfs_types.specs.declared.answer.Answer.{Answer}
@@ -8,14 +8,13 @@ use Rattle.gfs_types.specs.declared.ids.ClientId.{ClientId}
 use Rattle.gfs_types.specs.declared.ids.Handle.{Handle}
 use Rattle.gfs_types.specs.declared.ids.Moment.{Moment}
 use Rattle.gfs_types.specs.declared.ids.Node.{Node}
-use Rattle.gfs_types.specs.declared.ids.Node.TheVariants as node
 use Rattle.gfs_types.specs.declared.ids.ServerId.{ServerId}
 use Rattle.messages.specs.declared.event.Event.{Event}
 use Rattle.messages.specs.declared.event.Event.TheVariants as event
 use Rattle.messages.specs.declared.event.Input.TheVariants as input
 use Rattle.messages.specs.declared.message.Message.{Message}
 use Rattle.gfs_types.specs.declared.torn.Torn.{Torn}
-use Rattle.replica_store.specs.Replicas.{Replica, ServerDisk, replica_of, replica_becomes, with_replica, rotten_replica}
+use Rattle.replica_store.specs.Replicas.{Replica, replica_of, replica_becomes, with_replica, rotten_replica}
 use Rattle.chunkserver.specs.Inputs.{input_of}
 use Rattle.protocol.specs.Tables.{element_at, with_at, moment_limit}
 use Rattle.protocol.specs.Choice.{Choice}
@@ -146,10 +145,12 @@ server_rotted h id index handle place byte servers e up within k w g =
     let same : rots_at id handle place byte w no_choice ≡ rots_replica w index k.old handle.0 place byte o =
     ap (rots_on w (id.0 - 1) handle.0 place byte) found
     ∙ (ap (λ (b : Bool). if b then rots_replica w (id.0 - 1) k.old handle.0 place byte o else nothing_happens w) (tests k.old.up place w.config.chunk (up k.old k.is_there) chunk)
-    ∙ ap (λ (n : ℕ). rots_replica w n k.old handle.0 place byte o) (place_is id.0 index e)) in
-    (no_choice, ap (λ (x : Happened). x.out.answer) same ∙ unanswered w index k.old handle.0 place byte o,
-    subst (λ (x : Happened). IsHeldAs x.world (record h { servers = servers })) (sym same)
-    (subst (λ (ss : List ServerState). IsHeldAs (rots_replica w index k.old handle.0 place byte o).world (record h { servers = ss })) (sym k.servers_are) (rotted_in w h index k.old handle.0 place byte g k.is_there o)))
+    ∙ ap (λ (n : ℕ). rots_replica w n k.old handle.0 place byte o) (place_is id.0 index e)) in (
+      no_choice,
+      ap (λ (x : Happened). x.out.answer) same ∙ unanswered w index k.old handle.0 place byte o,
+      subst (λ (x : Happened). IsHeldAs x.world (record h { servers = servers })) (sym same)
+          (subst (λ (ss : List ServerState). IsHeldAs (rots_replica w index k.old handle.0 place byte o).world (record h { servers = ss })) (sym k.servers_are) (rotted_in w h index k.old handle.0 place byte g k.is_there o)),
+    )
 
 -- an event by what it is
 

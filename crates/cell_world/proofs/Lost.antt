@@ -1,5 +1,5 @@
 -- Steps that were lost before they changed anything.
-use Rattle.std.proofs.Common.{◌≡◌, ◌<◌, ℕ, zero, suc, Bool, true, false, List, [], ◌∷◌, ◌++◌, length, get_or, Option, Some, None, refl, sym, subst, ap, ◌∙◌, arith}
+use Rattle.std.proofs.Common.{◌≡◌, ◌<◌, ℕ, zero, suc, Bool, true, false, List, [], ◌∷◌, ◌++◌, length, get_or, Some, None, refl, sym, subst, ap, ◌∙◌, arith}
 use Rattle.std.specs.Prelude.{if◌then◌else◌}
 use Rattle.std.proofs.lemmas.List.{append-nil}
 use Rattle.gfs_types.specs.declared.call.Call.{Call}
@@ -14,11 +14,11 @@ use Rattle.protocol.specs.Master.{MasterState, stopped_master}
 use Rattle.protocol.specs.MasterStep.{master_step, master_bounded, master_goes}
 use Rattle.protocol.specs.Choice.{Lost}
 use Rattle.protocol.specs.Client.{ClientState, stopped_client}
-use Rattle.protocol.specs.ClientStep.{may_step, client_step, client_call, client_ends, client_goes}
+use Rattle.protocol.specs.ClientStep.{may_step, client_step, client_ends, client_goes}
 use Rattle.protocol.specs.World.{stamped}
 use Rattle.protocol.specs.Conforms.{IsLeftAs, ServerSteps, ClientSteps, ClientCalls}
 use Rattle.cell_record.specs.declared.record.CellRecord.{CellRecord}
-use Rattle.cell_world.specs.Steps.{IsRecorded, MasterStepsSo, ClientStepsSo, ClientCallsSo}
+use Rattle.cell_world.specs.Steps.{IsRecorded, MasterStepsSo}
 use Rattle.cell_world.proofs.Acts.{lost_choice}
 use Rattle.cell_world.proofs.Left.{same_left}
 

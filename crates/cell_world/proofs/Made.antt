@@ -1,5 +1,5 @@
 -- Nodes of a new cell, one more at a time.
-use Rattle.std.proofs.Common.{◌≡◌, ℕ, suc, ◌+◌, List, [], ◌∷◌, ◌++◌, map, refl, sym, subst, ap, ◌∙◌, arith}
+use Rattle.std.proofs.Common.{◌≡◌, ℕ, suc, ◌+◌, List, [], ◌∷◌, ◌++◌, map, sym, subst, ap, ◌∙◌, arith}
 use Rattle.std.specs.Prelude.{unwrap_or}
 use Rattle.std.specs.Ordering.{nat_cmp}
 use Rattle.std.specs.FinMap as table
@@ -24,6 +24,7 @@ one_more f n xs after is more =
   where
     next⁻ : (n : ℕ) → n + 1 ≡ suc n
     next⁻ n = omega arith
+
     back : {Y : Type 0} (f : ℕ → Y) (n : ℕ) → map f (first_numbers n) ++ f (suc n) ∷ [] ≡ map f (first_numbers (suc n))
     back f n = sym (map-append f (first_numbers n) (suc n ∷ []))
 

@@ -1,5 +1,5 @@
 -- Steps of nodes, as a cell holds them.
-use Rattle.std.proofs.Common.{◌≡◌, ◌<◌, ℕ, suc, ◌-◌, Bool, true, false, cond, List, [], ◌∷◌, ◌++◌, length, Option, Some, None, refl, sym, subst, ap, ◌∙◌, inl, inr}
+use Rattle.std.proofs.Common.{◌≡◌, ◌<◌, ℕ, suc, ◌-◌, Bool, true, false, List, [], ◌++◌, length, Option, Some, None, refl, sym, subst, ap, ◌∙◌}
 use Rattle.std.specs.Prelude.{◌⊎◌, ◌&&◌, if◌then◌else◌}
 use Rattle.std.proofs.lemmas.List.{append-nil}
 use Rattle.gfs_types.specs.declared.answer.Answer.{Answer}
@@ -16,14 +16,14 @@ use Rattle.protocol.specs.Choice.{Choice, Ending, Goes, Lost, Stops}
 use Rattle.protocol.specs.declared.seen.Seen.{Seen}
 use Rattle.protocol.specs.Seen.{Taken, no_output, down_output}
 use Rattle.protocol.specs.Server.{ServerState}
-use Rattle.protocol.specs.ServerStep.{server_step, server_restart, server_restarts, server_ends}
+use Rattle.protocol.specs.ServerStep.{server_step, server_restart, server_restarts}
 use Rattle.protocol.specs.Master.{MasterState, MasterDoing, stopped_master}
 use Rattle.protocol.specs.MasterStep.{master_step, master_restart, opens_as, has_opened, is_within_limits, opening, started_master, found_log}
 use Rattle.protocol.specs.Client.{ClientState}
 use Rattle.protocol.specs.ClientStep.{may_call, client_call, client_step}
 use Rattle.protocol.specs.Observer.{observed_call, observed_moment}
-use Rattle.protocol.specs.World.{WorldState, Happened, nothing_happens, stamped, files_seen, after_master, after_server, after_client, numbered_from_1, master_moves, server_moves, client_moves, moves, restarts, server_restarts_at, call_moves}
-use Rattle.protocol.specs.Conforms.{IsLeftAs, MasterSteps, MasterRestarts, ServerSteps, ServerRestarts, ClientSteps, ClientCalls}
+use Rattle.protocol.specs.World.{WorldState, Happened, nothing_happens, files_seen, after_master, after_server, after_client, numbered_from_1, server_moves, client_moves, moves, restarts, server_restarts_at, call_moves}
+use Rattle.protocol.specs.Conforms.{MasterRestarts, ServerSteps}
 use Rattle.cell_record.specs.declared.record.CellRecord.{CellRecord}
 use Rattle.cell_world.specs.Held.{HeldCell, IsHeldAs, Does}
 use Rattle.cell_world.specs.Steps.{IsRecorded, StepsAt, IsUpAt, RestartsAt, MasterStepsSo, ClientStepsSo, ClientCallsSo}

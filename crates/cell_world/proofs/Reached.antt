@@ -4,7 +4,6 @@ use Rattle.std.specs.Prelude.{IfOk, IfErr, OnErr}
 use Rattle.gfs_types.specs.declared.config.Config.{Config}
 use Rattle.gfs_types.specs.declared.answer.Answer.{Answer}
 use Rattle.messages.specs.declared.event.Event.{Event}
-use Rattle.protocol.specs.Choice.{Choice}
 use Rattle.protocol.specs.World.{WorldState, happens, after_events, new_world}
 use Rattle.cell_world.specs.Held.{HeldCell, IsHeldAs, Does}
 use Rattle.cell_world.specs.Runs.{Runs, RanUntil}

@@ -1,13 +1,12 @@
 -- Regions don't tell whose call a mutation is of.
-use Rattle.std.proofs.Common.{◌≡◌, ℕ, zero, suc, Bool, true, false, cond, List, [], ◌∷◌, map, Option, Some, None, refl, sym, ap, ◌∙◌}
+use Rattle.std.proofs.Common.{◌≡◌, ℕ, zero, suc, Bool, true, false, List, [], ◌∷◌, map, Option, Some, None, refl, sym, ap, ◌∙◌}
 use Rattle.std.specs.Prelude.{not, if◌then◌else◌, option_map, option_and_then, unwrap_or}
 use Rattle.std.specs.FinMap as table
 use Rattle.gfs_types.specs.Mutations.{covers}
 use Rattle.gfs_types.specs.Image.{newer, image_length}
 use Rattle.gfs_types.specs.declared.ids.Handle.{Handle}
-use Rattle.gfs_types.specs.declared.mutation.Mutation.{Mutation}
 use Rattle.gfs_types.specs.declared.config.Config.{Config}
-use Rattle.relaxed_file.specs.Order.{Entry, mutations_of, last_cover, is_undetermined, order_length}
+use Rattle.relaxed_file.specs.Order.{Entry, mutations_of, last_cover, order_length}
 use Rattle.relaxed_file.specs.Regions.{is_determined, joined_before, regions_from, regions_of}
 use Rattle.relaxed_file.specs.declared.region.Region.{Region}
 use Rattle.protocol.specs.Tables.{Table, element_at}

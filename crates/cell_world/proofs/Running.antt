@@ -1,13 +1,13 @@
 -- Runs are put together from the front, an event at a time.
-use Rattle.std.proofs.Common.{◌≡◌, ℕ, zero, suc, List, [], ◌∷◌, ◌++◌, map, take, drop, length, ◌+◌, Option, Some, None, refl, sym, subst, ap, ◌∙◌, append_assoc, arith}
+use Rattle.std.proofs.Common.{◌≡◌, ℕ, zero, suc, List, [], ◌∷◌, ◌++◌, take, drop, length, ◌+◌, Option, refl, sym, subst, ap, ◌∙◌, append_assoc, arith}
 use Rattle.std.specs.Option.{option_to_list}
 use Rattle.std.proofs.lemmas.List.{append-nil, map-append}
 use Rattle.gfs_types.specs.declared.answer.Answer.{Answer}
 use Rattle.messages.specs.declared.event.Event.{Event}
 use Rattle.protocol.specs.Choice.{Choice}
 use Rattle.protocol.specs.World.{WorldState, happens, after_events}
-use Rattle.protocol.specs.Conforms.{WorldRuns, answers_of}
-use Rattle.cell_world.specs.Held.{HeldCell, IsHeldAs, Does}
+use Rattle.protocol.specs.Conforms.{answers_of}
+use Rattle.cell_world.specs.Held.{HeldCell, Does}
 use Rattle.cell_world.specs.Runs.{Runs}
 
 pub after_more : (w : WorldState) (steps more : List (Event × Choice)) → after_events w (steps ++ more) ≡ after_events (after_events w steps) more
@@ -30,17 +30,18 @@ runs_more old middle new events answers event answer r d w g =
     let so = r w g in
     let run = so.1 in
     let k = d so.0 so.2 in
-    let last : List (Event × Choice) = (event, k.0) ∷ [] in
-    ((happens so.0 event k.0).world,
-    record {
-      steps = run.steps ++ last;
-      events_are = map-append (λ (s : Event × Choice). s.0) run.steps last ∙ ap (λ es. es ++ event ∷ []) run.events_are;
-      answers_are = answers_more w run.steps last
-          ∙ (ap (λ xs. xs ++ answers_of (after_events w run.steps) last) run.answers_are
-          ∙ ap (λ xs. answers ++ xs) (ap (λ (v : WorldState). option_to_list (happens v event k.0).out.answer ++ []) run.leads ∙ (append-nil (option_to_list (happens so.0 event k.0).out.answer) ∙ ap option_to_list k.1)));
-      leads = after_more w run.steps last ∙ ap (λ (v : WorldState). (happens v event k.0).world) run.leads;
-    },
-    k.2)
+    let last : List (Event × Choice) = (event, k.0) ∷ [] in (
+      (happens so.0 event k.0).world,
+      record {
+        steps = run.steps ++ last;
+        events_are = map-append (λ (s : Event × Choice). s.0) run.steps last ∙ ap (λ es. es ++ event ∷ []) run.events_are;
+        answers_are = answers_more w run.steps last
+            ∙ (ap (λ xs. xs ++ answers_of (after_events w run.steps) last) run.answers_are
+            ∙ ap (λ xs. answers ++ xs) (ap (λ (v : WorldState). option_to_list (happens v event k.0).out.answer ++ []) run.leads ∙ (append-nil (option_to_list (happens so.0 event k.0).out.answer) ∙ ap option_to_list k.1)));
+        leads = after_more w run.steps last ∙ ap (λ (v : WorldState). (happens v event k.0).world) run.leads;
+      },
+      k.2,
+    )
 
 -- the next event of a list
 pub next_taken : (events rest : List Event) (n : ℕ) (event : Event) → event ∷ rest ≡ drop n events → (take (suc n) events ≡ take n events ++ event ∷ []) × (rest ≡ drop (suc n) events)

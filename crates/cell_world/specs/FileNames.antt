@@ -1,5 +1,5 @@
 -- What is shown of a cell beside answers.
-use Rattle.std.specs.Prelude.{◌≡◌, ℕ, if◌then◌else◌, Option, Some, None, option_and_then}
+use Rattle.std.specs.Prelude.{ℕ, if◌then◌else◌, Option, None, option_and_then}
 use Rattle.gfs_types.specs.Paths.{Path}
 use Rattle.relaxed_file.specs.Names.{node_at}
 use Rattle.protocol.specs.Lookups.{file_of_node}

@@ -25,9 +25,6 @@ use messages::event::Event;
 use server_store::store::ReplicaStore;
 use std::marker::Model;
 
-
-
-
 /// A cell of one master, and of servers and clients by their numbers, from 1.
 #[derive(Drop)]
 pub struct Cell<M: CellMaster, S: ReplicaStore> {
@@ -204,13 +201,7 @@ impl<M: CellMaster, S: ReplicaStore> Cell<M, S> {
     }
 
     /// A byte rots. An error: the server's store found no memory for it.
-    fn rots(
-        &mut self,
-        id: ServerId,
-        handle: Handle,
-        place: u64,
-        byte: u8,
-    ) -> Result<(), NoMemory>
+    fn rots(&mut self, id: ServerId, handle: Handle, place: u64, byte: u8) -> Result<(), NoMemory>
         ensures ok { OnOk result (Does self.old (λ w choice. rots_on w (id.0 - 1) handle.0 place byte (numbered_from_1 w.servers id.0)) None self.new) }
         ensures err { OnErr result (self.new ≡ self.old) }
     {

@@ -59,7 +59,10 @@ impl<M: CellMaster, S: ReplicaStore> Cell<M, S> {
         let Some(handle) = self.master.handle_at(file, index) else {
             return Ok(None);
         };
-        Ok(Some((handle, stored_on_all(alloc, self.servers.as_slice(), handle)?)))
+        Ok(Some((
+            handle,
+            stored_on_all(alloc, self.servers.as_slice(), handle)?,
+        )))
     }
 
     /// How many messages were sent so far, which is the last one's number.

@@ -1,4 +1,4 @@
-use Rattle.std.proofs.Common.{◌≡◌, List, [], ◌∷◌, ◌++◌, length, take, drop, sym, subst, ap, ◌∙◌, arith}
+use Rattle.std.proofs.Common.{◌≡◌, List, [], ◌∷◌, ◌++◌, length, take, sym, subst, ap, ◌∙◌, arith}
 use Rattle.gfs_types.specs.declared.answer.Answer.{Answer}
 use Rattle.messages.specs.declared.event.Event.{Event}
 use Rattle.cell_world.specs.Held.{HeldCell}
@@ -36,3 +36,9 @@ returns-clause-ok g c =
     let empty = none_first c.loop-event.left.items c.pop_front.new.self.items c.in_default.ensures.items c.in_default.ensures.rest in
     subst (λ (xs : List Answer). Runs c.args.self.now c.args.events.now xs c.loop-event.self) (sym c.into_vec.ensures)
     (subst (λ (es : List Event). Runs c.args.self.now es c.loop-event.answers.items c.loop-event.self) (all_taken c.args.events.now c.loop-event.done (sym empty ∙ c.loop-event.invariant.rest)) c.loop-event.invariant.runs)
+
+pub returns-in_default-step-clause-err : goal.returns-in_default-step-clause-err
+returns-in_default-step-clause-err g c = (
+  c.loop-event.answers.items,
+  subst (λ (s : HeldCell). Runs c.args.self.now (take c.loop-event.done c.args.events.now) c.loop-event.answers.items s) (sym c.in_default-step.ensures.err) c.loop-event.invariant.runs,
+)
