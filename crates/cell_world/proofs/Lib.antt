@@ -1,0 +1,11 @@
+pub mod Orders
+pub mod Left
+pub mod After
+pub mod Acts
+pub mod Lost
+pub mod Made
+pub mod Moved
+pub mod Happened
+pub mod Regions
+pub mod Running
+pub mod Reached

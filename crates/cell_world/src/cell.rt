@@ -1,0 +1,220 @@
+//! The nodes, the messages between them, and what an observer sees.
+
+ghost use Rattle.std.specs.Prelude.{◌≡◌, ◌≤◌, ◌-◌, None, IfOk, OnOk, OnErr};
+ghost use Rattle.gfs_types.specs.declared.ids.Node.TheVariants as node;
+ghost use Rattle.chunkserver.specs.Inputs.{input_of};
+ghost use Rattle.cell_record.specs.Batches.{message_named};
+ghost use Rattle.protocol.specs.Tables.{moment_limit};
+ghost use Rattle.protocol.specs.World.{call_moves, delivered, happens, moves, numbered_from_1, restarts, rots_on};
+ghost use Rattle.cell_world.specs.Held.{Does};
+ghost use Rattle.cell_world.specs.Events.{MayBeRefused};
+
+use crate::clients::{client_calls, client_may_call, client_place, client_steps, is_client_up};
+use crate::master::CellMaster;
+use crate::masters::master_steps;
+use crate::servers::{is_server_up, server_place, server_restarts, server_rots, server_steps};
+use cell_record::record::CellRecord;
+use chunkserver::server::Chunkserver;
+use client_node::client::Client;
+use gfs_types::answer::Answer;
+use gfs_types::call::Call;
+use gfs_types::config::Config;
+use gfs_types::ids::{ClientId, Handle, MAX_MOMENT, Moment, Node, ServerId};
+use gfs_types::no_memory::NoMemory;
+use messages::event::Event;
+use server_store::store::ReplicaStore;
+use std::marker::Model;
+
+/// A cell of one master, and of servers and clients by their numbers, from 1.
+#[derive(Drop)]
+pub struct Cell<M: CellMaster, S: ReplicaStore> {
+    pub(crate) config: Config,
+    pub(crate) master: M,
+    pub(crate) servers: Vec<Chunkserver<S>>,
+    pub(crate) clients: Vec<Client>,
+    pub(crate) record: CellRecord,
+}
+
+impl<M: CellMaster, S: ReplicaStore> Model for Cell<M, S> {
+    ghost use Rattle.std.specs.Coded.{codes, coded_ℕ, coded_list};
+    ghost use Rattle.std.specs.FinMap as map;
+    ghost use Rattle.lru.specs.LruCache.{lru_cache_code};
+    ghost use Rattle.cell_world.specs.Held.{HeldCell};
+
+    ghost Value = { HeldCell };
+
+    ghost coded = { Prim.hlevel (codes, map.code, lru_cache_code, coded_list, coded_ℕ) };
+
+    ghost view = { λ c. record {
+      config = c.config;
+      master = M.state c.master;
+      files = M.files c.master;
+      servers = c.servers.items;
+      clients = c.clients.items;
+      sent = c.record.network.messages;
+      seen = c.record.sights.seen;
+    } };
+}
+
+impl<M: CellMaster, S: ReplicaStore> Cell<M, S> {
+    /// One event. One that names no such node, message, replica, place or moment, or a node that is down, changes nothing. An
+    /// error: the store of a server found no memory for a byte that rots, and nothing has changed.
+    pub fn step(&mut self, event: Event) -> Result<Option<Answer>, NoMemory>
+        ensures ok { IfOk result (λ answer. Does self.old (λ w choice. happens w event choice) answer self.new) }
+        ensures err { OnErr result (self.new ≡ self.old) }
+        ensures refused { OnErr result (MayBeRefused event) }
+    {
+        match event {
+            Event::Call { client, call, now } => {
+                if now.0 > MAX_MOMENT {
+                    return Ok(None);
+                }
+                Ok(self.takes_call(client, call, now))
+            }
+            Event::Deliver { number, now } => {
+                if now.0 > MAX_MOMENT {
+                    return Ok(None);
+                }
+                Ok(self.delivers(number, now))
+            }
+            Event::Tick { node, now } => {
+                if now.0 > MAX_MOMENT {
+                    return Ok(None);
+                }
+                Ok(self.moves(node, None, now))
+            }
+            Event::Restart { node, now } => {
+                if now.0 > MAX_MOMENT {
+                    return Ok(None);
+                }
+                Ok(self.restarts(node, now))
+            }
+            Event::Rot {
+                server,
+                handle,
+                place,
+                byte,
+            } => {
+                self.rots(server, handle, place, byte)?;
+                Ok(None)
+            }
+            Event::Fuse { .. } => Ok(None),
+        }
+    }
+
+    fn takes_call(&mut self, client: ClientId, call: Call, now: Moment) -> Option<Answer>
+        requires { now.0 ≤ moment_limit }
+        ensures { Does self.old (λ w choice. call_moves w (client.0 - 1) now.0 call choice (numbered_from_1 w.clients client.0)) result self.new }
+    {
+        let Some(place) = client_place(&self.clients, client) else {
+            return None;
+        };
+        if !client_may_call(&self.clients, place) {
+            return None;
+        }
+        client_calls(&mut self.clients, place, &mut self.record, call, now)
+    }
+
+    fn delivers(&mut self, number: u64, now: Moment) -> Option<Answer>
+        requires { now.0 ≤ moment_limit }
+        ensures { Does self.old (λ w choice. delivered w now.0 choice (numbered_from_1 w.sent number)) result self.new }
+    {
+        let Some(message) = self.record.network.get(number) else {
+            return None;
+        };
+        let receiver = message.receiver;
+        self.moves(receiver, Some(number), now)
+    }
+
+    /// A node takes a step on the message of a number, or on a tick.
+    fn moves(&mut self, node: Node, given: Option<u64>, now: Moment) -> Option<Answer>
+        requires { now.0 ≤ moment_limit }
+        ensures { Does self.old (λ w choice. moves w node now.0 (input_of (message_named self.old.sent given)) choice) result self.new }
+    {
+        match node {
+            Node::Master => self.master_moves(given, now),
+            Node::Server(id) => self.server_moves(id, given, now),
+            Node::Client(id) => self.client_moves(id, given, now),
+        }
+    }
+
+    fn master_moves(&mut self, given: Option<u64>, now: Moment) -> Option<Answer>
+        requires { now.0 ≤ moment_limit }
+        ensures { Does self.old (λ w choice. moves w node.Master now.0 (input_of (message_named self.old.sent given)) choice) result self.new }
+    {
+        if !self.master.is_up() {
+            return None;
+        }
+        master_steps(&mut self.master, &mut self.record, given, now)
+    }
+
+    fn server_moves(&mut self, id: ServerId, given: Option<u64>, now: Moment) -> Option<Answer>
+        requires { now.0 ≤ moment_limit }
+        ensures { Does self.old (λ w choice. moves w (node.Server id) now.0 (input_of (message_named self.old.sent given)) choice) result self.new }
+    {
+        let Some(place) = server_place(&self.servers, id) else {
+            return None;
+        };
+        if !is_server_up(&self.servers, place) {
+            return None;
+        }
+        server_steps(&mut self.servers, place, &mut self.record, given, now)
+    }
+
+    fn client_moves(&mut self, id: ClientId, given: Option<u64>, now: Moment) -> Option<Answer>
+        requires { now.0 ≤ moment_limit }
+        ensures { Does self.old (λ w choice. moves w (node.Client id) now.0 (input_of (message_named self.old.sent given)) choice) result self.new }
+    {
+        let Some(place) = client_place(&self.clients, id) else {
+            return None;
+        };
+        if !is_client_up(&self.clients, place) {
+            return None;
+        }
+        client_steps(&mut self.clients, place, &mut self.record, given, now)
+    }
+
+    /// A node begins again, whether it was up or down.
+    fn restarts(&mut self, node: Node, now: Moment) -> Option<Answer>
+        requires { now.0 ≤ moment_limit }
+        ensures { Does self.old (λ w choice. restarts w node now.0 choice) result self.new }
+    {
+        match node {
+            Node::Master => {
+                let _ = self.master.restart(now);
+                None
+            }
+            Node::Server(id) => self.server_restarts(id, now),
+            Node::Client(_) => None,
+        }
+    }
+
+    fn server_restarts(&mut self, id: ServerId, now: Moment) -> Option<Answer>
+        requires { now.0 ≤ moment_limit }
+        ensures { Does self.old (λ w choice. restarts w (node.Server id) now.0 choice) result self.new }
+    {
+        let Some(place) = server_place(&self.servers, id) else {
+            return None;
+        };
+        let _ = server_restarts(&mut self.servers, place, now);
+        None
+    }
+
+    /// A byte rots. An error: the server's store found no memory for it.
+    fn rots(&mut self, id: ServerId, handle: Handle, place: u64, byte: u8) -> Result<(), NoMemory>
+        ensures ok { OnOk result (Does self.old (λ w choice. rots_on w (id.0 - 1) handle.0 place byte (numbered_from_1 w.servers id.0)) None self.new) }
+        ensures err { OnErr result (self.new ≡ self.old) }
+    {
+        let Some(index) = server_place(&self.servers, id) else {
+            return Ok(());
+        };
+        if place >= u64::from(self.config.chunk) {
+            return Ok(());
+        }
+        if !is_server_up(&self.servers, index) {
+            return Ok(());
+        }
+        server_rots(&mut self.servers, index, handle, place, byte)?;
+        Ok(())
+    }
+}

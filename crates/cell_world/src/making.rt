@@ -1,0 +1,84 @@
+//! New cells over stores in memory.
+
+ghost use Rattle.std.specs.Prelude.{◌≡◌, ◌≤◌, ◌<◌, [], map, IfOk};
+ghost use Rattle.std.specs.FinMap as table;
+ghost use Rattle.protocol.specs.Client.{new_client};
+ghost use Rattle.protocol.specs.MasterStep.{new_master};
+ghost use Rattle.protocol.specs.Server.{started_server};
+ghost use Rattle.protocol.specs.Tables.{first_numbers};
+ghost use Rattle.protocol.specs.World.{new_world};
+ghost use Rattle.replica_store.specs.Replicas.{new_server_disk};
+ghost use Rattle.cell_world.specs.Held.{IsHeldAs};
+
+use crate::cell::Cell;
+use crate::master::CellMaster;
+use cell_record::record::CellRecord;
+use chunkserver::server::Chunkserver;
+use client_node::client::Client;
+use gfs_types::config::Config;
+use gfs_types::ids::{ClientId, Moment, ServerId};
+use gfs_types::no_memory::NoMemory;
+use memory_store::MemoryStore;
+use std::alloc::Global;
+
+impl<M: CellMaster + Drop> Cell<M, MemoryStore> {
+    /// A new cell of a new master, with new servers and clients. The settings are within their ranges.
+    pub fn new(
+        alloc: Global,
+        config: Config,
+        master: M,
+        servers: u16,
+        clients: u64,
+    ) -> Result<Cell<M, MemoryStore>, NoMemory>
+        requires block { 1 ≤ config.block }
+        requires least { 64 ≤ config.chunk }
+        requires most { config.chunk ≤ 67108864 }
+        requires skew { config.skew_ms ≤ 60000 }
+        requires master { M.state master ≡ new_master config servers }
+        requires files { M.files master ≡ table.empty }
+        ensures { IfOk result (λ cell. IsHeldAs (new_world config servers clients) cell) }
+    {
+        let servers = new_servers(alloc, config, servers)?;
+        let clients = new_clients(alloc, config, clients)?;
+        Ok(Cell {
+            config,
+            master,
+            servers,
+            clients,
+            record: CellRecord::new(alloc),
+        })
+    }
+}
+
+#[tactic(auto, using(crate::proofs::Made::one_more))]
+fn new_servers(
+    alloc: Global,
+    config: Config,
+    count: u16,
+) -> Result<Vec<Chunkserver<MemoryStore>>, NoMemory>
+    requires block { 1 ≤ config.block }
+    requires least { 64 ≤ config.chunk }
+    requires most { config.chunk ≤ 67108864 }
+    requires skew { config.skew_ms ≤ 60000 }
+    ensures { IfOk result (λ all. all.items ≡ map (λ s. started_server config s (new_server_disk config.block) 0) (first_numbers count)) }
+{
+    let mut all = Vec::new(alloc);
+    for before in 0..count {
+        let store = MemoryStore::new(alloc, config.block);
+        let id = ServerId(before + 1);
+        all.push(Chunkserver::new(alloc, config, id, store, Moment(0)))?;
+    }
+    Ok(all)
+}
+
+#[tactic(auto, using(crate::proofs::Made::one_more))]
+fn new_clients(alloc: Global, config: Config, count: u64) -> Result<Vec<Client>, NoMemory>
+    requires { 0 < config.chunk }
+    ensures { IfOk result (λ all. all.items ≡ map (new_client config) (first_numbers count)) }
+{
+    let mut all = Vec::new(alloc);
+    for before in 0..count {
+        all.push(Client::new(alloc, config, ClientId(before + 1))?)?;
+    }
+    Ok(all)
+}

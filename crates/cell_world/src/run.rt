@@ -1,0 +1,45 @@
+//! Lists of events.
+
+ghost use Rattle.std.specs.Prelude.{◌≡◌, IfOk, IfErr};
+ghost use Rattle.cell_world.specs.Runs.{Runs, RanUntil};
+
+use crate::answers::Answers;
+use crate::cell::Cell;
+use crate::fault::RunFault;
+use crate::master::CellMaster;
+use gfs_types::answer::Answer;
+use gfs_types::no_memory::NoMemory;
+use messages::event::Event;
+use server_store::store::ReplicaStore;
+use std::alloc::Global;
+use std::collections::VecDeque;
+
+impl<M: CellMaster, S: ReplicaStore> Cell<M, S> {
+    /// The events in order, and their answers.
+    pub fn run(&mut self, alloc: Global, events: &[Event]) -> Result<Vec<Answer>, RunFault>
+        ensures ok { IfOk result (λ answers. Runs self.old events.now answers.items self.new) }
+        ensures err { IfErr result (λ fault. RanUntil self.old events.now fault self.new) }
+    {
+        let mut left = copies(alloc, events)?;
+        let mut answers = Answers::with_room(alloc, left.len())?;
+        let mut done = 0;
+        while let Some(event) = left.pop_front() {
+            let Ok(answer) = self.step(event) else {
+                return Err(RunFault::Rot(done));
+            };
+            answers.add(answer);
+            done += 1;
+        }
+        Ok(answers.into_vec())
+    }
+}
+
+fn copies(alloc: Global, events: &[Event]) -> Result<VecDeque<Event>, NoMemory>
+    ensures { IfOk result (λ left. left.items ≡ events.now) }
+{
+    let mut left = VecDeque::new(alloc);
+    for event in events {
+        left.push_back(event.clone()?)?;
+    }
+    Ok(left)
+}

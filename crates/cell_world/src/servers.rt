@@ -1,0 +1,91 @@
+//! Steps of the chunkservers.
+
+ghost use Rattle.std.specs.Prelude.{◌≡◌, ◌⊎◌, ◌≤◌, ◌<◌, suc, MatchOption, true, length, OnOk, OnErr};
+ghost use Rattle.std.specs.Option.{option_copied};
+ghost use Rattle.chunkserver.specs.Inputs.{input_of};
+ghost use Rattle.protocol.specs.Conforms.{ServerSteps};
+ghost use Rattle.protocol.specs.Tables.{moment_limit, element_at};
+ghost use Rattle.cell_record.specs.Batches.{message_named};
+ghost use Rattle.cell_world.specs.Steps.{StepsAt, RestartsAt, RotsAt, IsUpAt};
+
+use crate::numbered::place_of;
+use cell_record::record::CellRecord;
+use chunkserver::server::Chunkserver;
+use gfs_types::answer::Answer;
+use gfs_types::ids::{Handle, Moment, ServerId};
+use gfs_types::no_memory::NoMemory;
+use messages::event::StepOut;
+use server_store::store::ReplicaStore;
+use step_outcome::Outcome;
+
+/// The place of a server's number.
+pub(crate) fn server_place<S: ReplicaStore>(
+    servers: &Vec<Chunkserver<S>>,
+    id: ServerId,
+) -> Option<usize>
+    ensures { MatchOption result ((id.0 ≡ 0) ⊎ (length servers.now.items < id.0)) (λ place. (id.0 ≡ suc place) × (place < length servers.now.items)) }
+{
+    place_of(u64::from(id.0), servers.as_slice().len())
+}
+
+pub(crate) fn is_server_up<S: ReplicaStore>(servers: &Vec<Chunkserver<S>>, place: usize) -> bool
+    requires { place < length servers.now.items }
+    ensures { IsUpAt (λ s. s.up) servers.now.items place result }
+{
+    servers[place].is_up()
+}
+
+/// The chunkserver at a place takes a step on the message of a number, or on a tick. For want of memory it goes down.
+pub(crate) fn server_steps<S: ReplicaStore>(
+    servers: &mut Vec<Chunkserver<S>>,
+    place: usize,
+    kept: &mut CellRecord,
+    given: Option<u64>,
+    now: Moment,
+) -> Option<Answer>
+    requires moment { now.0 ≤ moment_limit }
+    requires place { place < length servers.old.items }
+    requires up { IsUpAt (λ s. s.up) servers.old.items place true }
+    ensures { StepsAt (λ s out seen t. ServerSteps s now.0 (input_of (message_named kept.old.network.messages given)) out seen t) servers.old.items place kept.old result servers.new.items kept.new }
+{
+    if kept.reserve().is_err() {
+        servers[place].stop();
+        return None;
+    }
+    let Outcome { out, seen } = servers[place].step(now, kept.network.named(given));
+    let StepOut { sent, answer, .. } = out;
+    kept.takes(sent, seen);
+    answer
+}
+
+/// The chunkserver at a place begins again.
+pub(crate) fn server_restarts<S: ReplicaStore>(
+    servers: &mut Vec<Chunkserver<S>>,
+    place: usize,
+    now: Moment,
+) -> StepOut
+    requires moment { now.0 ≤ moment_limit }
+    requires place { place < length servers.old.items }
+    ensures { RestartsAt servers.old.items place now.0 result servers.new.items }
+{
+    servers[place].restart(now)
+}
+
+/// A byte of a replica of the chunkserver at a place rots. At an error nothing has changed.
+pub(crate) fn server_rots<S: ReplicaStore>(
+    servers: &mut Vec<Chunkserver<S>>,
+    index: usize,
+    handle: Handle,
+    place: u64,
+    byte: u8,
+) -> Result<(), NoMemory>
+    requires index { index < length servers.old.items }
+    requires up { IsUpAt (λ s. s.up) servers.old.items index true }
+    ensures ok { OnOk result (RotsAt servers.old.items index handle.0 place byte servers.new.items) }
+    ensures err { OnErr result (servers.new.items ≡ servers.old.items) }
+{
+    match servers[index].rot(handle, place, byte) {
+        Ok(()) => Ok(()),
+        Err(_) => Err(NoMemory),
+    }
+}

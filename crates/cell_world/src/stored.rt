@@ -1,0 +1,11 @@
+//! A replica as its server stores it.
+
+use gfs_types::ids::{ServerId, Version};
+
+/// A replica as its server stores it: its version, and its length in bytes.
+#[derive(Clone, Copy, Debug)]
+pub struct StoredReplica {
+    pub server: ServerId,
+    pub version: Version,
+    pub length: u64,
+}

@@ -1,0 +1,140 @@
+//! A cell that a list of events led to.
+
+ghost use Rattle.std.specs.Prelude.{◌≡◌, ◌≤◌, length, map, option_map, IfOk, IfErr, OnErr};
+ghost use Rattle.std.specs.Option.{option_copied};
+ghost use Rattle.std.specs.FinMap as table;
+ghost use Rattle.protocol.specs.Lookups.{file_named, regions_at, replicas_at};
+ghost use Rattle.protocol.specs.MasterStep.{new_master};
+ghost use Rattle.protocol.specs.Sending.{file_id};
+ghost use Rattle.protocol.specs.World.{WorldState, happens, new_world, numbered_from_1};
+ghost use Rattle.cell_world.specs.AsStored.{as_stored};
+ghost use Rattle.cell_world.specs.Events.{MayBeRefused};
+ghost use Rattle.cell_world.specs.Held.{Does, IsHeldAs};
+ghost use Rattle.cell_world.specs.Runs.{Runs, RanUntil};
+
+use crate::cell::Cell;
+use crate::fault::RunFault;
+use crate::master::CellMaster;
+use crate::stored::StoredReplica;
+use gfs_types::answer::Answer;
+use gfs_types::config::Config;
+use gfs_types::ids::{FileId, Handle};
+use gfs_types::no_memory::NoMemory;
+use gfs_types::path::Path;
+use memory_store::MemoryStore;
+use messages::event::Event;
+use messages::message::Message;
+use relaxed_file::region::Region;
+use server_store::store::ReplicaStore;
+use std::alloc::Global;
+use std::marker::Model;
+
+/// One master, and chunkservers and clients by their numbers, from 1, with each message that was ever sent. Each is what a list of events
+/// led to from a new cell.
+#[derive(Drop)]
+pub struct World<M: CellMaster, S: ReplicaStore> {
+    cell: Cell<M, S>,
+}
+
+impl<M: CellMaster, S: ReplicaStore> Model for World<M, S> {
+    ghost use Rattle.std.specs.Coded.{codes, coded_ℕ, coded_list};
+    ghost use Rattle.std.specs.FinMap as map;
+    ghost use Rattle.lru.specs.LruCache.{lru_cache_code};
+    ghost use Rattle.cell_world.specs.Held.{HeldCell};
+    ghost use Rattle.cell_world.specs.Standing.{Stands};
+
+    ghost Value = { HeldCell };
+
+    ghost coded = { Prim.hlevel (codes, map.code, lru_cache_code, coded_list, coded_ℕ) };
+
+    ghost view = { λ w. w.cell };
+
+    ghost invariant = { λ w. Stands w.cell };
+}
+
+impl<M: CellMaster + Drop> World<M, MemoryStore> {
+    /// A new cell of a new master, with new servers and clients over stores in memory. The settings are within their ranges.
+    pub fn new(
+        alloc: Global,
+        config: Config,
+        master: M,
+        servers: u16,
+        clients: u64,
+    ) -> Result<World<M, MemoryStore>, NoMemory>
+        requires block { 1 ≤ config.block }
+        requires least { 64 ≤ config.chunk }
+        requires most { config.chunk ≤ 67108864 }
+        requires skew { config.skew_ms ≤ 60000 }
+        requires master { M.state master ≡ new_master config servers }
+        requires files { M.files master ≡ table.empty }
+        ensures { IfOk result (λ world. IsHeldAs (new_world config servers clients) world) }
+    {
+        let cell = Cell::new(alloc, config, master, servers, clients)?;
+        Ok(World { cell })
+    }
+}
+
+impl<M: CellMaster, S: ReplicaStore> World<M, S> {
+    /// One event, and what it answers. One that names no such node, message, replica, place or moment, or a node that is down, changes
+    /// nothing. An error: the store of a server found no memory for a byte that rots, and nothing has changed.
+    pub fn step(&mut self, event: Event) -> Result<Option<Answer>, NoMemory>
+        ensures ok { IfOk result (λ answer. Does self.old (λ w choice. happens w event choice) answer self.new) }
+        ensures err { OnErr result (self.new ≡ self.old) }
+        ensures refused { OnErr result (MayBeRefused event) }
+    {
+        self.cell.step(event)
+    }
+
+    /// The events in order, and their answers.
+    pub fn run(&mut self, alloc: Global, events: &[Event]) -> Result<Vec<Answer>, RunFault>
+        ensures ok { IfOk result (λ answers. Runs self.old events.now answers.items self.new) }
+        ensures err { IfErr result (λ fault. RanUntil self.old events.now fault self.new) }
+    {
+        self.cell.run(alloc, events)
+    }
+
+    /// The file that a path names; none where it names no file, and while the master is down.
+    pub fn file(&self, path: &Path) -> Option<FileId>
+        ensures { (w : WorldState) → IsHeldAs w self.now → result ≡ option_map file_id (file_named w path.now) }
+    {
+        self.cell.file(path)
+    }
+
+    /// The regions of a file's chunk of this index, from 0.
+    pub fn regions(
+        &self,
+        alloc: Global,
+        file: FileId,
+        index: u64,
+    ) -> Result<Option<Vec<Region>>, NoMemory>
+        ensures { IfOk result (λ found. (w : WorldState) → IsHeldAs w self.now → option_map (λ v. v.items) found ≡ regions_at w file.0 index) }
+    {
+        self.cell.regions(alloc, file, index)
+    }
+
+    /// The handle of a file's chunk of this index, from 0, and each replica that is stored on a server that is up, by rising server.
+    pub fn replicas(
+        &self,
+        alloc: Global,
+        file: FileId,
+        index: u64,
+    ) -> Result<Option<(Handle, Vec<StoredReplica>)>, NoMemory>
+        ensures { IfOk result (λ found. (w : WorldState) → IsHeldAs w self.now → option_map (λ c. (c.0.0, map as_stored c.1.items)) found ≡ replicas_at w file.0 index) }
+    {
+        self.cell.replicas(alloc, file, index)
+    }
+
+    /// How many messages were sent so far, which is the last one's number.
+    pub fn message_count(&self) -> u64
+        ensures { result ≡ length self.now.sent }
+    {
+        self.cell.message_count()
+    }
+
+    /// The message of a number, from 1.
+    pub fn message(&self, number: u64) -> Option<&Message>
+        ensures { option_copied result ≡ numbered_from_1 self.now.sent number }
+    {
+        self.cell.message(number)
+    }
+}
