@@ -1,15 +1,16 @@
-"""The worked rows of tools/worked: a script with what it has to print."""
+"""The worked rows of crates/worked_scripts/data: a script with what it has to print."""
 import difflib
 import os
 
 from cell import GOES
 from script import run_script
 
-HERE = os.path.dirname(os.path.abspath(__file__))
+ROOT = os.path.dirname(os.path.dirname(os.path.abspath(__file__)))
+WORKED = os.path.join(ROOT, 'crates', 'worked_scripts', 'data')
 
 
 def row_named(name):
-    return os.path.join(HERE, 'worked', name + '.row')
+    return os.path.join(WORKED, name + '.row')
 
 
 def read_row(path):

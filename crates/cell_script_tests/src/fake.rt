@@ -10,9 +10,9 @@ ghost use Rattle.std.specs.Prelude.{⊤, ◌==◌, ◌-◌, nat_lt, if◌then◌
 ghost use Rattle.std.specs.List.{list_any};
 ghost use Rattle.relaxed_file.specs.declared.region.Region.{Region as RegionShown};
 
-use cell_protocol::shown::StoredReplica;
 use cell_script::kinds::Kind;
 use cell_simulator::cell::SimulatedCell;
+use chunk_lines::stored::StoredReplica;
 use gfs_types::answer::Answer;
 use gfs_types::call::Call;
 use gfs_types::ids::{ClientId, FileId, Handle, Moment, Node, OrderNo, ServerId, Version};

@@ -4,7 +4,7 @@ ghost use Rattle.std.specs.Prelude.{◌≡◌, IfOk, option_map};
 ghost use Rattle.std.specs.Option.{option_copied};
 ghost use Rattle.cell_simulator.specs.Cells.{Meaning};
 
-use cell_protocol::shown::StoredReplica;
+use chunk_lines::stored::StoredReplica;
 use gfs_types::answer::Answer;
 use gfs_types::ids::{ClientId, FileId, Handle};
 use gfs_types::no_memory::NoMemory;

@@ -9,3 +9,4 @@ pub mod Happened
 pub mod Regions
 pub mod Running
 pub mod Reached
+pub mod Looked

@@ -65,7 +65,7 @@ regions_seen w h handle g =
     ∙ (regions_alike h.config.chunk (order_of w.observer handle)
     ∙ ap (λ (c : Config). regions_of c.chunk (entries_in (order_of w.observer handle))) (sym g.config))
 
-handle_there : (o : Option ℕ) (found : Option Handle) → found ≡ option_map handle_of o → o ≡ option_map (λ h. h.0) found
+pub handle_there : (o : Option ℕ) (found : Option Handle) → found ≡ option_map handle_of o → o ≡ option_map (λ h. h.0) found
 handle_there None found e = rw e refl
 handle_there (Some n) found e = rw e refl
 

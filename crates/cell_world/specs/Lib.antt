@@ -5,3 +5,4 @@ pub mod FileNames
 pub mod Standing
 pub mod Steps
 pub mod AsStored
+pub mod Looks

@@ -4,6 +4,7 @@
 mod answers;
 pub mod cell;
 mod clients;
+mod counts;
 pub mod fault;
 mod making;
 pub mod master;
@@ -12,5 +13,4 @@ mod numbered;
 mod run;
 mod servers;
 mod shown;
-pub mod stored;
 pub mod world;

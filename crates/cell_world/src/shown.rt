@@ -8,10 +8,11 @@ ghost use Rattle.protocol.specs.Sending.{file_id, handle_of};
 ghost use Rattle.protocol.specs.World.{WorldState, numbered_from_1};
 ghost use Rattle.cell_world.specs.Held.{IsHeldAs};
 ghost use Rattle.cell_world.specs.AsStored.{as_stored};
+ghost use Rattle.cell_world.specs.Looks.{file_held, regions_held, replicas_held};
 
 use crate::cell::Cell;
 use crate::master::CellMaster;
-use crate::stored::StoredReplica;
+use chunk_lines::stored::StoredReplica;
 use chunkserver::server::Chunkserver;
 use gfs_types::ids::{FileId, Handle};
 use gfs_types::no_memory::NoMemory;
@@ -24,7 +25,8 @@ use std::alloc::Global;
 impl<M: CellMaster, S: ReplicaStore> Cell<M, S> {
     /// The file that a path names; none where it names no file, and while the master is down.
     pub fn file(&self, path: &Path) -> Option<FileId>
-        ensures { (w : WorldState) → IsHeldAs w self.now → result ≡ option_map file_id (file_named w path.now) }
+        ensures held { result ≡ file_held self.now path.now }
+        ensures world { (w : WorldState) → IsHeldAs w self.now → result ≡ option_map file_id (file_named w path.now) }
     {
         self.master.file(path)
     }
@@ -37,7 +39,8 @@ impl<M: CellMaster, S: ReplicaStore> Cell<M, S> {
         file: FileId,
         index: u64,
     ) -> Result<Option<Vec<Region>>, NoMemory>
-        ensures { IfOk result (λ found. (w : WorldState) → IsHeldAs w self.now → option_map (λ v. v.items) found ≡ regions_at w file.0 index) }
+        ensures held { IfOk result (λ found. option_map (λ v. v.items) found ≡ regions_held self.now file.0 index) }
+        ensures world { IfOk result (λ found. (w : WorldState) → IsHeldAs w self.now → option_map (λ v. v.items) found ≡ regions_at w file.0 index) }
     {
         let Some(handle) = self.master.handle_at(file, index) else {
             return Ok(None);
@@ -54,7 +57,8 @@ impl<M: CellMaster, S: ReplicaStore> Cell<M, S> {
         file: FileId,
         index: u64,
     ) -> Result<Option<(Handle, Vec<StoredReplica>)>, NoMemory>
-        ensures { IfOk result (λ found. (w : WorldState) → IsHeldAs w self.now → option_map (λ c. (c.0.0, map as_stored c.1.items)) found ≡ replicas_at w file.0 index) }
+        ensures held { IfOk result (λ found. option_map (λ c. (c.0.0, map as_stored c.1.items)) found ≡ replicas_held self.now file.0 index) }
+        ensures world { IfOk result (λ found. (w : WorldState) → IsHeldAs w self.now → option_map (λ c. (c.0.0, map as_stored c.1.items)) found ≡ replicas_at w file.0 index) }
     {
         let Some(handle) = self.master.handle_at(file, index) else {
             return Ok(None);

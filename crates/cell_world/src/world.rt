@@ -10,15 +10,16 @@ ghost use Rattle.protocol.specs.World.{WorldState, happens, new_world, numbered_
 ghost use Rattle.cell_world.specs.AsStored.{as_stored};
 ghost use Rattle.cell_world.specs.Events.{MayBeRefused};
 ghost use Rattle.cell_world.specs.Held.{Does, IsHeldAs};
+ghost use Rattle.cell_world.specs.Looks.{file_held, has_open_call, regions_held, replicas_held, server_count};
 ghost use Rattle.cell_world.specs.Runs.{Runs, RanUntil};
 
 use crate::cell::Cell;
 use crate::fault::RunFault;
 use crate::master::CellMaster;
-use crate::stored::StoredReplica;
+use chunk_lines::stored::StoredReplica;
 use gfs_types::answer::Answer;
 use gfs_types::config::Config;
-use gfs_types::ids::{FileId, Handle};
+use gfs_types::ids::{ClientId, FileId, Handle};
 use gfs_types::no_memory::NoMemory;
 use gfs_types::path::Path;
 use memory_store::MemoryStore;
@@ -95,7 +96,8 @@ impl<M: CellMaster, S: ReplicaStore> World<M, S> {
 
     /// The file that a path names; none where it names no file, and while the master is down.
     pub fn file(&self, path: &Path) -> Option<FileId>
-        ensures { (w : WorldState) → IsHeldAs w self.now → result ≡ option_map file_id (file_named w path.now) }
+        ensures held { result ≡ file_held self.now path.now }
+        ensures world { (w : WorldState) → IsHeldAs w self.now → result ≡ option_map file_id (file_named w path.now) }
     {
         self.cell.file(path)
     }
@@ -107,7 +109,8 @@ impl<M: CellMaster, S: ReplicaStore> World<M, S> {
         file: FileId,
         index: u64,
     ) -> Result<Option<Vec<Region>>, NoMemory>
-        ensures { IfOk result (λ found. (w : WorldState) → IsHeldAs w self.now → option_map (λ v. v.items) found ≡ regions_at w file.0 index) }
+        ensures held { IfOk result (λ found. option_map (λ v. v.items) found ≡ regions_held self.now file.0 index) }
+        ensures world { IfOk result (λ found. (w : WorldState) → IsHeldAs w self.now → option_map (λ v. v.items) found ≡ regions_at w file.0 index) }
     {
         self.cell.regions(alloc, file, index)
     }
@@ -119,7 +122,8 @@ impl<M: CellMaster, S: ReplicaStore> World<M, S> {
         file: FileId,
         index: u64,
     ) -> Result<Option<(Handle, Vec<StoredReplica>)>, NoMemory>
-        ensures { IfOk result (λ found. (w : WorldState) → IsHeldAs w self.now → option_map (λ c. (c.0.0, map as_stored c.1.items)) found ≡ replicas_at w file.0 index) }
+        ensures held { IfOk result (λ found. option_map (λ c. (c.0.0, map as_stored c.1.items)) found ≡ replicas_held self.now file.0 index) }
+        ensures world { IfOk result (λ found. (w : WorldState) → IsHeldAs w self.now → option_map (λ c. (c.0.0, map as_stored c.1.items)) found ≡ replicas_at w file.0 index) }
     {
         self.cell.replicas(alloc, file, index)
     }
@@ -136,5 +140,27 @@ impl<M: CellMaster, S: ReplicaStore> World<M, S> {
         ensures { option_copied result ≡ numbered_from_1 self.now.sent number }
     {
         self.cell.message(number)
+    }
+
+    /// How many servers there are. They are numbered up to 65,535.
+    pub fn server_count(&self) -> u16
+        ensures { result ≡ server_count self.now }
+    {
+        self.cell.server_count()
+    }
+
+    /// How many clients there are.
+    pub fn client_count(&self) -> u64
+        ensures { result ≡ length self.now.clients }
+    {
+        self.cell.client_count()
+    }
+
+    /// Whether a client's call waits for its answer. False: no call of it is open, it takes no step any more, or there is no such
+    /// client.
+    pub fn has_open_call(&self, client: ClientId) -> bool
+        ensures { result ≡ has_open_call self.now client.0 }
+    {
+        self.cell.has_open_call(client)
     }
 }

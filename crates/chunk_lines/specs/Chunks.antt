@@ -4,7 +4,7 @@ use Rattle.std.specs.List.{flat_map}
 use Rattle.std.specs.Fmt.{decimal}
 use Rattle.gfs_types.specs.declared.ids.Handle.{Handle}
 use Rattle.relaxed_file.specs.declared.region.Region.{Region}
-use Rattle.cell_protocol.specs.declared.shown.StoredReplica.{StoredReplica}
+use Rattle.chunk_lines.specs.declared.stored.StoredReplica.{StoredReplica}
 
 abbrev pub kind_of : Bool → List ℕ
 kind_of determined = if determined then codes "determined" else codes "undetermined"

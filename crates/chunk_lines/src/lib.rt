@@ -4,7 +4,9 @@
 ghost use Rattle.std.specs.Prelude.{◌≡◌, Some};
 ghost use Rattle.chunk_lines.specs.Chunks.{kind_of, region_text, regions_line, replica_text, replicas_line};
 
-use cell_protocol::shown::StoredReplica;
+pub mod stored;
+
+use crate::stored::StoredReplica;
 use gfs_types::ids::Handle;
 use relaxed_file::region::Region;
 use std::fmt;

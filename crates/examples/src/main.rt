@@ -19,21 +19,45 @@ fn show(rt: &HostRuntime, file: &str, options: &Options) -> Result<()> {
 }
 
 fn main(rt: HostRuntime) -> Result<()> {
-    let one_server = Options {
-        servers: 1,
-        ..Options::default()
-    };
+    let plain = Options::default();
     let small_chunks = Options {
         config: Config {
             chunk: 64,
             block: 64,
-            ..one_server.config
+            ..plain.config
         },
-        ..one_server
+        ..plain
     };
-    show(&rt, "first.gfs", &one_server)?;
-    show(&rt, "names.gfs", &one_server)?;
-    show(&rt, "holes.gfs", &small_chunks)?;
-    show(&rt, "lengths.gfs", &small_chunks)?;
-    show(&rt, "records.gfs", &small_chunks)
+    let two_clients = Options {
+        clients: 2,
+        ..small_chunks
+    };
+    let short_leases = Options {
+        config: Config {
+            lease_ms: 10_000,
+            ..two_clients.config
+        },
+        ..two_clients
+    };
+    let examples = [
+        ("append_race.gfs", two_clients),
+        ("cut_primary.gfs", short_leases),
+        ("first.gfs", plain),
+        ("holes.gfs", small_chunks),
+        ("lengths.gfs", small_chunks),
+        ("lost_forward.gfs", small_chunks),
+        ("names.gfs", plain),
+        ("pad.gfs", two_clients),
+        ("records.gfs", small_chunks),
+        ("rotten_block.gfs", small_chunks),
+        ("server_back.gfs", small_chunks),
+        ("snapshot.gfs", two_clients),
+        ("stale_reader.gfs", short_leases),
+        ("stopped_master.gfs", plain),
+        ("undelete.gfs", plain),
+    ];
+    for (file, options) in examples {
+        show(&rt, file, &options)?;
+    }
+    Ok(())
 }

@@ -4,3 +4,4 @@ pub mod Parts
 pub mod Limits
 pub mod Openings
 pub mod Committing
+pub mod Files

@@ -1,11 +1,13 @@
 //! The master.
 
-ghost use Rattle.std.specs.Prelude.{◌≡◌, ◌≤◌, [], false, IfOk, if◌then◌else◌, Some, None};
+ghost use Rattle.std.specs.Prelude.{◌≡◌, ◌≤◌, [], true, false, IfOk, if◌then◌else◌, Some, None};
 ghost use Rattle.std.specs.Option.{option_copied};
 ghost use Rattle.protocol.specs.Tables.{moment_limit};
 ghost use Rattle.protocol.specs.Logged.{new_log};
 ghost use Rattle.protocol.specs.MasterStep.{new_master};
 ghost use Rattle.protocol.specs.Conforms.{MasterSteps, MasterRestarts};
+ghost use Rattle.protocol.specs.Master.{stopped_master};
+ghost use Rattle.protocol.specs.World.{files_seen};
 ghost use Rattle.master.specs.Inputs.{input_of};
 ghost use Rattle.master.specs.Opens.{Opens};
 
@@ -22,6 +24,7 @@ use master_state::state::State;
 use messages::event::StepOut;
 use messages::message::Message;
 use operation_log::log::OperationLog;
+use shown_files::{ShownFiles, shown_of};
 use std::alloc::{Allocator, Global};
 use std::marker::Model;
 use step_outcome::{Outcome, gives_nothing, goes_down};
@@ -106,11 +109,27 @@ impl<L: OperationLog, A: Allocator + Clone> Master<L, A> {
         }
     }
 
-    /// A step on a message, or on a tick.
+    /// It is put down in a step, before it changed anything. Takes no memory.
+    #[tactic(auto, using(crate::proofs::Files::stopped))]
+    pub fn stop(&mut self)
+        requires { self.old.up ≡ true }
+        ensures { self.new ≡ stopped_master self.old self.old.disk [] }
+    {
+        self.up = false;
+    }
+
+    /// A step on a message, or on a tick. Where the master is up after it, the chunks of its files are put into `shown`, which
+    /// else stays.
     #[tactic(auto, using(crate::proofs::Steps::stays, crate::proofs::Steps::lost, crate::proofs::Steps::cut_off, crate::proofs::Steps::went, crate::proofs::Steps::rests))]
-    pub fn step(&mut self, now: Moment, message: Option<&Message>) -> Outcome
+    pub fn step(
+        &mut self,
+        now: Moment,
+        message: Option<&Message>,
+        shown: &mut ShownFiles,
+    ) -> Outcome
         requires { now.0 ≤ moment_limit }
-        ensures { MasterSteps self.old now.0 (input_of (option_copied message.entry)) result.out result.seen self.new }
+        ensures steps { MasterSteps self.old now.0 (input_of (option_copied message.entry)) result.out result.seen self.new }
+        ensures files { shown.new ≡ files_seen self.new shown.old }
     {
         let alloc = self.plan.alloc();
         if !self.up {
@@ -120,12 +139,16 @@ impl<L: OperationLog, A: Allocator + Clone> Master<L, A> {
         if plans(&self.log, &mut self.plan, now, message).is_err() {
             return Outcome::down(alloc, Sequence::empty(alloc));
         }
+        let Ok(files) = shown_of(alloc, self.plan.state().table()) else {
+            return Outcome::down(alloc, Sequence::empty(alloc));
+        };
         let sent = self.plan.take_sent();
         let seen = self.plan.take_seen();
         if !makes(&mut self.log, &mut self.plan) {
             return Outcome::down(alloc, Sequence::empty(alloc));
         }
         self.up = true;
+        *shown = files;
         let out = StepOut {
             sent,
             answer: None,
@@ -134,27 +157,30 @@ impl<L: OperationLog, A: Allocator + Clone> Master<L, A> {
         Outcome { out, seen }
     }
 
-    /// It begins again, whether it was up or down: it reads its log, and logs a new epoch.
+    /// It begins again, whether it was up or down: it reads its log, and logs a new epoch. Where the master is up after it, the
+    /// chunks of its files are put into `shown`, which else stays.
     #[tactic(auto, using(crate::proofs::Restarts::not_begun, crate::proofs::Restarts::restarts))]
-    pub fn restart(&mut self, now: Moment) -> StepOut
+    pub fn restart(&mut self, now: Moment, shown: &mut ShownFiles) -> StepOut
         requires { now.0 ≤ moment_limit }
-        ensures { MasterRestarts self.old now.0 result self.new }
+        ensures steps { MasterRestarts self.old now.0 result self.new }
+        ensures files { shown.new ≡ files_seen self.new shown.old }
     {
         let alloc = self.plan.alloc();
         self.up = false;
         let Ok(()) = self.log.reopen() else {
             return goes_down(alloc);
         };
-        self.opens(alloc, now)
+        self.opens(alloc, now, shown)
     }
 
     // It reads its log, and logs a new epoch. Nothing is under way.
     #[tactic(auto, using(crate::proofs::Restarts::given_up, crate::proofs::Restarts::cut_off, crate::proofs::Restarts::no_room, crate::proofs::Restarts::is_up))]
-    fn opens(&mut self, alloc: Global, now: Moment) -> StepOut
+    fn opens(&mut self, alloc: Global, now: Moment, shown: &mut ShownFiles) -> StepOut
         requires moment { now.0 ≤ moment_limit }
         requires down { self.old.up ≡ false }
         requires decided { self.old.under_way ≡ [] }
-        ensures { Opens self.old now.0 result self.new }
+        ensures opens { Opens self.old now.0 result self.new }
+        ensures files { shown.new ≡ files_seen self.new shown.old }
     {
         self.up = false;
         let Ok(names) = self.names.clone() else {
@@ -172,6 +198,9 @@ impl<L: OperationLog, A: Allocator + Clone> Master<L, A> {
             return goes_down(alloc);
         };
         self.plan = opening.plan;
+        let Ok(files) = shown_of(alloc, self.plan.state().table()) else {
+            return goes_down(alloc);
+        };
         if !makes(&mut self.log, &mut self.plan) {
             return goes_down(alloc);
         }
@@ -179,6 +208,7 @@ impl<L: OperationLog, A: Allocator + Clone> Master<L, A> {
             return goes_down(alloc);
         }
         self.up = true;
+        *shown = files;
         gives_nothing(alloc)
     }
 }

@@ -1,5 +1,5 @@
 -- A step of the master leaves its settings and the number of servers as they were.
-use Rattle.std.proofs.Common.{◌≡◌, ℕ, Bool, true, false, cond, List, [], ◌∷◌, ◌++◌, Option, Some, None, refl, ap, ◌∙◌}
+use Rattle.std.proofs.Common.{◌≡◌, ℕ, Bool, true, false, cond, List, [], ◌∷◌, Option, Some, None, refl, ◌∙◌}
 use Rattle.gfs_types.specs.declared.config.Config.{Config}
 use Rattle.gfs_types.specs.declared.call.Call.{Call}
 use Rattle.gfs_types.specs.declared.call.Call.TheVariants as call
@@ -18,11 +18,11 @@ use Rattle.std.specs.FinMap as table
 use Rattle.chunk_table.specs.ChunkTable.{ChunkRow, chunk_of}
 use Rattle.protocol.specs.Sending.{client_number, server_number, client_id, file_id, moment_of}
 use Rattle.protocol.specs.LogSizes.{checkpoint_fits}
-use Rattle.protocol.specs.Logged.{KeptCall, checkpoint_of, copies_that}
-use Rattle.protocol.specs.Master.{MasterState, MasterDoing, PendingSnapshot, master_begins, appends, fits, is_of_copy, writes_checkpoint, logs, without_attempts, gives_up_copies, has_lease}
-use Rattle.protocol.specs.MasterSnapshots.{answers_name, revokes_row, revokes, revokes_all, takes_locks, snapshot_handles, snapshot_files, copies_for_files, begins_snapshot, settles_name, refuses_name, first_is_true, all_but_first, changes_names, is_ready, lets_go, takes_snapshot, takes_ready}
-use Rattle.protocol.specs.MasterNames.{master_refusal, performs, names_by, is_waiting_call, names_anew, names_kept, takes_name}
-use Rattle.protocol.specs.MasterStep.{master_takes, master_does, master_at, finishes, master_goes}
+use Rattle.protocol.specs.Logged.{KeptCall, checkpoint_of}
+use Rattle.protocol.specs.Master.{MasterState, MasterDoing, PendingSnapshot, master_begins, appends, fits, writes_checkpoint, logs, without_attempts, gives_up_copies, has_lease}
+use Rattle.protocol.specs.MasterSnapshots.{answers_name, revokes_row, revokes, revokes_all, takes_locks, snapshot_handles, snapshot_files, copies_for_files, begins_snapshot, settles_name, first_is_true, all_but_first, changes_names, is_ready, lets_go, takes_snapshot, takes_ready}
+use Rattle.protocol.specs.MasterNames.{master_refusal, performs, names_by, is_waiting_call, names_anew, names_kept}
+use Rattle.protocol.specs.MasterStep.{master_takes, master_does, master_at, master_goes}
 use Rattle.master_laws.proofs.Steady.{settings_of, asks_keep, recorded_keep, revoked_keep, report_keep, ticks_keep}
 
 -- a part of a step leaves the settings as they were

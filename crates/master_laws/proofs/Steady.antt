@@ -19,14 +19,14 @@ use Rattle.protocol.specs.Tables.{rising, with_number, element_at}
 use Rattle.protocol.specs.LogSizes.{checkpoint_fits}
 use Rattle.protocol.specs.Logged.{checkpoint_of}
 use Rattle.leases.specs.LeaseEnds.{has_ended}
-use Rattle.protocol.specs.Master.{MasterDoing, VersionAttempt, HeldAt, appends, fits, is_of_copy, writes_checkpoint, logs, holders_where, with_attempt, gives_up_copy, orders}
-use Rattle.protocol.specs.MasterSnapshots.{waits_for, revokes, revokes_row}
-use Rattle.protocol.specs.MasterVersions.{Asker, VersionTarget, holder_target, tells_holders, tells_to_wait, sends_versions, version_order, new_attempt, sends_issued, issues_to, targets_by, recorded_holders, issues_own, is_attempted, copy_order, sends_copies, sends_copy_started, copy_targets, copies_to, begins_copy, copy_for, is_copied, wants_own, wants_own_of, issues_copy, wants_copy, wants_by, wants_primary, sends_grant, grants, grants_to, is_complete, with_recorded, learns_attempt, learns}
+use Rattle.protocol.specs.Master.{MasterDoing, VersionAttempt, HeldAt, appends, fits, writes_checkpoint, logs, holders_where, with_attempt, gives_up_copy, orders}
+use Rattle.protocol.specs.MasterSnapshots.{revokes_row}
+use Rattle.protocol.specs.MasterVersions.{Asker, VersionTarget, holder_target, tells_holders, tells_to_wait, sends_versions, version_order, new_attempt, sends_issued, issues_to, targets_by, recorded_holders, issues_own, is_attempted, copy_order, sends_copies, sends_copy_started, copy_targets, copies_to, copy_for, wants_own, wants_own_of, issues_copy, wants_copy, wants_by, wants_primary, sends_grant, grants_to, learns_attempt, learns}
 use Rattle.protocol.specs.MasterAsks.{looks_at_row, looks_at, mutates_row, mutates_at, adds_chunk, with_index, asks_to_write, asks_to_append, asks_for_last, asks_for, asks_of, takes_ask}
 use Rattle.protocol.specs.MasterReports.{holds_now, takes_recorded, revoked_row, takes_revoked, drops_useless, learns_all, extends_row, extends_all, hears, takes_report}
 use Rattle.master_laws.specs.Kinds.{is_name}
 use Rattle.protocol.specs.MasterClones.{CloneOrder, best_clone, orders_clone, clones_next}
-use Rattle.protocol.specs.MasterStep.{master_takes, gives_up_attempts, gives_up_lost_copies, expires_all, expired_files, expires_old, master_ticks}
+use Rattle.protocol.specs.MasterStep.{master_takes, gives_up_attempts, gives_up_lost_copies, expires_all, expired_files, master_ticks}
 
 -- the settings, and the number of servers
 abbrev pub settings_of : MasterDoing → Config × ℕ

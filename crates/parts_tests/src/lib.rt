@@ -5,7 +5,3 @@
 mod buffers;
 #[cfg(test)]
 mod disks;
-#[cfg(test)]
-mod plain_buffer;
-#[cfg(test)]
-mod random_buffer;

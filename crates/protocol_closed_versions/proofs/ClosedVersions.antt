@@ -1,4 +1,4 @@
--- A version that is closed is granted no more: the next number of its chunk is above it, and so is what is attempted.
+-- A version that is closed is granted no more: the next number of its chunk is above it, and it is not attempted.
 use Rattle.std.proofs.Common.{◌≡◌, ℕ, suc, ◌+◌, ◌≤◌, ◌<◌, Bool, true, false, List, [], ◌∷◌, ◌++◌, take, drop, Option, Some, None, refl, sym, ap, subst, ◌∙◌, inl, inr, arith}
 use Rattle.std.specs.Prelude.{◌==◌, ◌&&◌, nat_le, IsTrue}
 use Rattle.std.specs.Ordering.{nat_cmp}
@@ -51,10 +51,10 @@ use Rattle.protocol_acts.proofs.ActsOfSteps.{goes_acts}
 use Rattle.protocol_acts.proofs.IssuedNumbers.{IsPassed, IsLogPassed, passed_after, passed_grant, passed_ended, passed_same, passed_less, passed_checkpoint, started_passed}
 
 module _ (handle version : ℕ) where
-  -- a step so far: what is attempted is above the version, and none of its messages grants it
+  -- a step so far: the version is not attempted, and none of its messages grants it
   record IsShut (start : LogDisk) (c : Core) (attempts : Attempts) : Type 0 where
     state : IsPassed handle version c.logged
-    above : (a : VersionAttempt) → table.get attempts handle ≡ Some a → version < a.version
+    above : (a : VersionAttempt) → table.get attempts handle ≡ Some a → a.version ≡ version → ⊥
     none : grants_of handle version c.sent ≡ 0
     disk : IsLogPassed handle version c.disk
     stops : AllStops (IsLogPassed handle version) start c.changes
@@ -82,7 +82,7 @@ module _ (handle version : ℕ) where
 
   -- the disk and the state change together
   changed : (start : LogDisk) (c : Core) (attempts left : Attempts) (x : LogChange) (l : Logged) → log_changed_by_all start c.changes ≡ c.disk → IsPassed handle version l → IsLogPassed handle version (log_changed c.disk x)
-      → ((a : VersionAttempt) → table.get left handle ≡ Some a → version < a.version) → IsShut start c attempts → IsShut start (record (core_changed c x) { logged = l }) left
+      → ((a : VersionAttempt) → table.get left handle ≡ Some a → a.version ≡ version → ⊥) → IsShut start c attempts → IsShut start (record (core_changed c x) { logged = l }) left
   changed start c attempts left x l disk state written above h =
       record {
         state = state;
@@ -107,15 +107,15 @@ module _ (handle version : ℕ) where
   ended : (start : LogDisk) (c : Core) (attempts : Attempts) (chunk moment : ℕ) → IsShut start c attempts → IsShut start (core_ended c chunk moment) attempts
   ended start c attempts chunk moment h = record { state = passed_ended handle version c.logged chunk moment h.state; above = h.above; none = h.none; disk = h.disk; stops = h.stops }
 
-  put_above : (attempts : Attempts) (chunk : ℕ) (a : VersionAttempt) → (chunk ≡ handle → version < a.version) → ((b : VersionAttempt) → table.get attempts handle ≡ Some b → version < b.version)
-      → (b : VersionAttempt) → table.get (table.insert attempts chunk a) handle ≡ Some b → version < b.version
-  put_above attempts chunk a new h b is =
+  put_above : (attempts : Attempts) (chunk : ℕ) (a : VersionAttempt) → (chunk ≡ handle → a.version ≡ version → ⊥) → ((b : VersionAttempt) → table.get attempts handle ≡ Some b → b.version ≡ version → ⊥)
+      → (b : VersionAttempt) → table.get (table.insert attempts chunk a) handle ≡ Some b → b.version ≡ version → ⊥
+  put_above attempts chunk a new h b is number =
       elim (put_cases attempts chunk a handle b is) [
-        | inl same ↦ let low = new (sym same.0) in let number : a.version ≡ b.version = ap (λ (x : VersionAttempt). x.version) same.1 in omega (arith, low, number)
-        | inr before ↦ h b before
+        | inl same ↦ new (sym same.0) (ap (λ (x : VersionAttempt). x.version) same.1 ∙ number)
+        | inr before ↦ h b before number
       ]
 
-  with_above : (start : LogDisk) (c : Core) (attempts left : Attempts) → ((b : VersionAttempt) → table.get left handle ≡ Some b → version < b.version) → IsShut start c attempts → IsShut start c left
+  with_above : (start : LogDisk) (c : Core) (attempts left : Attempts) → ((b : VersionAttempt) → table.get left handle ≡ Some b → b.version ≡ version → ⊥) → IsShut start c attempts → IsShut start c left
   with_above start c attempts left above h = record { state = h.state; above = above; none = h.none; disk = h.disk; stops = h.stops }
 
   -- a grant is of an attempt, so of no such version
@@ -133,9 +133,7 @@ module _ (handle version : ℕ) where
       other false e = refl
       other true e =
           let parts = and_parts (chunk == handle) (a.version == version) e in
-          let less = h.above a (ap (λ (k : ℕ). table.get attempts k) (sym (eqb-true chunk handle parts.0)) ∙ at) in
-          let same = eqb-true a.version version parts.1 in
-          absurd (omega (arith, less, same))
+          absurd (h.above a (ap (λ (k : ℕ). table.get attempts k) (sym (eqb-true chunk handle parts.0)) ∙ at) (eqb-true a.version version parts.1))
 
   shut_acts : (start : LogDisk) → Acts start (IsShut start)
   shut_acts start =
@@ -157,11 +155,11 @@ module _ (handle version : ℕ) where
         fewer = λ c attempts left from h. with_above start c attempts left (λ a is. h.above a (from handle a is)) h;
         issues = λ c attempts chunk row a is next n before h.
             with_above start _ attempts (table.insert attempts chunk a)
-            (put_above attempts chunk a (λ same. let low = before.state.1 row (ap (λ (n : ℕ). table.get (rows_of c.logged) n) (sym same) ∙ is) in omega (arith, low, next)) h.above) h;
+            (put_above attempts chunk a (λ same number. let low = before.state.1 row (ap (λ (n : ℕ). table.get (rows_of c.logged) n) (sym same) ∙ is) in omega (arith, low, next, number)) h.above) h;
         copies = λ c attempts file index source copy a next n before h.
-            with_above start _ attempts (table.insert attempts copy a) (put_above attempts copy a (λ same. let low = before.state.0 in absurd (omega (arith, low, same, next))) h.above) h;
+            with_above start _ attempts (table.insert attempts copy a) (put_above attempts copy a (λ same number. let low = before.state.0 in omega (arith, low, same, next)) h.above) h;
         records = λ c attempts chunk a b at same servers h.
-            with_above start c attempts (table.insert attempts chunk b) (put_above attempts chunk b (λ key. let low = h.above a (ap (λ (n : ℕ). table.get attempts n) (sym key) ∙ at) in omega (arith, low, same)) h.above) h;
+            with_above start c attempts (table.insert attempts chunk b) (put_above attempts chunk b (λ key number. h.above a (ap (λ (n : ℕ). table.get attempts n) (sym key) ∙ at) (sym same ∙ number)) h.above) h;
         grants = λ c attempts chunk a until primary members at all due n after h. granted start c attempts chunk a until primary members at due n h;
         ends = λ c attempts chunk h. ended start c attempts chunk 0 h;
         extends = λ c attempts chunk until row is h. sends start (core_ended c chunk until) attempts _ c.order_count refl (ended start c attempts chunk until h);
@@ -169,10 +167,10 @@ module _ (handle version : ℕ) where
 
   -- between steps
 
-  record AreShut (count : ℕ) (sent : List Message) (m : MasterState) : Type 0 where
-    few : grants_of handle version sent ≤ count
-    found : AllFound (IsLogPassed handle version) m.disk m.under_way
-    up : IsTrue m.up → IsPassed handle version m.logged × ((a : VersionAttempt) → table.get m.attempts handle ≡ Some a → version < a.version)
+  pub record AreShut (count : ℕ) (sent : List Message) (m : MasterState) : Type 0 where
+    pub few : grants_of handle version sent ≤ count
+    pub found : AllFound (IsLogPassed handle version) m.disk m.under_way
+    pub up : IsTrue m.up → IsPassed handle version m.logged × ((a : VersionAttempt) → table.get m.attempts handle ≡ Some a → a.version ≡ version → ⊥)
 
   still : (sent : List Message) (k : ℕ) (order : List ℕ) (ms : List Message) → grants_of handle version ms ≡ 0 → grants_of handle version (sent ++ stamped k (in_order order ms)) ≡ grants_of handle version sent
   still sent k order ms none = let whole = count-sent (λ b. is_grant handle version b) k sent order ms in omega (arith, whole, none)
@@ -277,11 +275,11 @@ module _ (handle version : ℕ) where
 
   -- worlds
 
-  record StaysShut (count : ℕ) (x : Scene) : Type 0 where
-    base : IsOfRevokes x.sent x.master
-    shut : AreShut count x.sent x.master
+  pub record StaysShut (count : ℕ) (x : Scene) : Type 0 where
+    pub base : IsOfRevokes x.sent x.master
+    pub shut : AreShut count x.sent x.master
 
-  stays_shut : (count : ℕ) → IsKeptOn (StaysShut count)
+  pub stays_shut : (count : ℕ) → IsKeptOn (StaysShut count)
   stays_shut count =
       let base : IsKeptByScenes (λ x. IsOfRevokes x.sent x.master) = lifted IsOfRevokes revokes_kept in
       record {
@@ -308,7 +306,7 @@ module _ (handle version : ℕ) where
       by_copies None is (Some c) also = none_some row (sym (tied.base.base.alone handle c also is) ∙ there)
 
 -- clocks that are kept were kept before
-clocks_before : (w : WorldState) (steps : List (Event × Choice)) → IsTrue (after_events w steps).observer.are_clocks_kept → IsTrue w.observer.are_clocks_kept
+pub clocks_before : (w : WorldState) (steps : List (Event × Choice)) → IsTrue (after_events w steps).observer.are_clocks_kept → IsTrue w.observer.are_clocks_kept
 clocks_before w steps clocks = goes_on (λ x. IsTrue x.are_clocks_kept → IsTrue w.observer.are_clocks_kept)
     (record {
       passes = λ x moment h both. h (and_parts x.are_clocks_kept (nat_le x.greatest (moment + x.config.skew_ms)) both).0;

@@ -80,24 +80,24 @@ rising_number (x ∷ ns) n h = by_first (λ g. rising_number ns n g) (x == n) re
 
 module _ (handle version : ℕ) where
   -- an order that gives the version
-  abbrev IsGiven : Body → Type 0
+  abbrev pub IsGiven : Body → Type 0
   IsGiven b = version_given b ≡ Some (handle, version)
 
   -- a Grant of the version
-  abbrev IsGrant : List ℕ → Body → Type 0
+  abbrev pub IsGrant : List ℕ → Body → Type 0
   IsGrant members b = (order : OrderNo) × (end_moment : Moment) × (b ≡ body.Grant order (handle_of handle) (version_of version) end_moment members)
 
-  abbrev IsWord : Body → Type 0
+  abbrev pub IsWord : Body → Type 0
   IsWord b = IsGiven b ⊎ ((members : List ℕ) × IsGrant members b)
 
   -- each order that gives the version went to one of these servers
-  abbrev AreGivenTo : List ℕ → List Message → Type 0
+  abbrev pub AreGivenTo : List ℕ → List Message → Type 0
   AreGivenTo servers ms = (m : Message) → IsSent ms m → IsGiven m.body → IsToOneOf servers m
 
-  abbrev AreUngranted : List Message → Type 0
+  abbrev pub AreUngranted : List Message → Type 0
   AreUngranted ms = (m : Message) → IsSent ms m → (members : List ℕ) → IsGrant members m.body → ⊥
 
-  abbrev AreGrantedTo : List Message → Type 0
+  abbrev pub AreGrantedTo : List Message → Type 0
   AreGrantedTo ms = (m : Message) → IsSent ms m → (members : List ℕ) → IsGrant members m.body → AreGivenTo members ms
 
   -- each word of some messages is among others
@@ -476,11 +476,11 @@ module _ (handle version : ℕ) where
 
   -- between steps
 
-  record AreGiving (sent : List Message) (m : MasterState) : Type 0 where
-    words : (x : Message) → IsSent sent x → IsWord x.body → AllFound (IsLogPassed handle version) m.disk m.under_way × (IsTrue m.up → IsPassed handle version m.logged)
-    tried : IsTrue m.up → (a : VersionAttempt) → table.get m.attempts handle ≡ Some a → a.version ≡ version
+  pub record AreGiving (sent : List Message) (m : MasterState) : Type 0 where
+    pub words : (x : Message) → IsSent sent x → IsWord x.body → AllFound (IsLogPassed handle version) m.disk m.under_way × (IsTrue m.up → IsPassed handle version m.logged)
+    pub tried : IsTrue m.up → (a : VersionAttempt) → table.get m.attempts handle ≡ Some a → a.version ≡ version
         → IsPassed handle version m.logged × AllFound (IsLogPassed handle version) m.disk m.under_way × AreGivenTo a.servers sent × AreUngranted sent
-    granted : AreGrantedTo sent
+    pub granted : AreGrantedTo sent
 
   among_giving : (less ms : List Message) (m : MasterState) → AreAmong less ms → AreGiving ms m → AreGiving less m
   among_giving less ms m among h =
@@ -621,7 +621,7 @@ module _ (handle version : ℕ) where
         restarts = λ sent k m moment choice h. record { base = revokes_kept.restarts sent k m moment choice h.base; giving = opens_giving sent k m moment choice choice.ending h.base.issued h.base.logged h.giving };
       }
 
-  given_reached : (config : Config) (servers clients : ℕ) (w : WorldState) → IsReached config servers clients w → AreGiving w.sent w.master
+  pub given_reached : (config : Config) (servers clients : ℕ) (w : WorldState) → IsReached config servers clients w → AreGiving w.sent w.master
   given_reached config servers clients w r = (sent_reached IsGivingWorld giving_kept config servers clients w r).giving
 
 pub members_alone_are_given_a_version : MembersAloneAreGivenAVersion

@@ -52,7 +52,7 @@ use Rattle.protocol.specs.ServerReads.{answers_bytes, reads_from, measures, send
 use Rattle.protocol.specs.ServerWrites.{passes_on, answers_settled, forwards, settles, acknowledges, change_of, stored_as, primary_applies, places, appends_as, mutates_with, mutates_new, mutates_as, mutates_under, member_stores, member_applies, applies_data, applies_change, forwarded_to, acked_under, refuses_waiting, nacked_under}
 use Rattle.protocol.specs.ServerOrders.{on_order, records, can_take, takes_create, raises, takes_set_version, holds_version, takes_grant, extends_held, ends_held, takes_revoke, drops_old, takes_drop, is_pending_clone, takes_clone, takes_image, copies_locally, takes_copy_local}
 use Rattle.protocol.specs.ServerStep.{server_ticks, server_takes, server_does, server_at, server_goes, server_ends, server_step, server_restarts, server_restart}
-use Rattle.protocol.specs.World.{WorldState, new_world}
+use Rattle.protocol.specs.World.{WorldState, new_world, IsReached}
 use Rattle.protocol_laws.proofs.Steps.{on_cond, none_some, put_cases, gone_split}
 use Rattle.protocol_laws.proofs.Entries.{AllOf, all_joined}
 use Rattle.protocol_laws.proofs.MembersRecorded.{kept_place}
@@ -83,11 +83,11 @@ all_decided P (false ∷ rest) (x ∷ xs) all = all_decided P rest xs all.1
 
 module _ (sent : List Message) (server : ℕ) where
   -- an order to this server said so
-  abbrev IsOrdered : ℕ → ℕ → Type 0
+  abbrev pub IsOrdered : ℕ → ℕ → Type 0
   IsOrdered handle version = WasGiven sent server handle version ⊎ WasCloned sent server handle version
 
   -- a change gives a replica no version but an ordered one
-  abbrev IsSound : StoreChange → Type 0
+  abbrev pub IsSound : StoreChange → Type 0
   IsSound (SetOrder order) = Unit {0}
   IsSound (Put handle version serial bytes) = IsOrdered handle.0 version.0
   IsSound (Write handle serial offset bytes) = Unit {0}
@@ -96,10 +96,10 @@ module _ (sent : List Message) (server : ℕ) where
   IsSound (Copy handle copy version) = IsOrdered copy.0 version.0
   IsSound (Remove handle) = Unit {0}
 
-  abbrev AreOrdered : ServerDisk → Type 0
+  abbrev pub AreOrdered : ServerDisk → Type 0
   AreOrdered d = (handle : ℕ) (r : Replica) → replica_of d handle ≡ Some r → IsOrdered handle r.version
 
-  abbrev AreCloned : Table ℕ → Type 0
+  abbrev pub AreCloned : Table ℕ → Type 0
   AreCloned clones = (handle version : ℕ) → table.get clones handle ≡ Some version → WasCloned sent server handle version
 
   put_ordered : (d : ServerDisk) (at : ℕ) (new : Replica) → IsOrdered at new.version → AreOrdered d → AreOrdered (with_replica d at new)
@@ -127,10 +127,10 @@ module _ (sent : List Message) (server : ℕ) where
   all_ordered d (x ∷ xs) sound h = all_ordered (disk_changed d x) xs sound.1 (changed_ordered d x sound.0 h)
 
   -- a server, between its steps
-  record IsFaithful (s : ServerState) : Type 0 where
-    disk : AreOrdered s.disk
-    clones : AreCloned s.clones
-    under_way : AllOf IsSound s.under_way
+  pub record IsFaithful (s : ServerState) : Type 0 where
+    pub disk : AreOrdered s.disk
+    pub clones : AreCloned s.clones
+    pub under_way : AllOf IsSound s.under_way
 
   -- a step so far
   record Holds (d : ServerDoing) : Type 0 where
@@ -394,7 +394,7 @@ module _ (sent : List Message) (server : ℕ) where
   takes_holds d m other place at to is h = h
 
   -- what is delivered to the server was sent to it
-  abbrev IsSentHere : Input → Type 0
+  abbrev pub IsSentHere : Input → Type 0
   IsSentHere (input.Deliver m) = (place : ℕ) × (element_at sent place ≡ Some m) × (m.receiver ≡ the_server server)
   IsSentHere input.Tick = Unit {0}
 
@@ -452,7 +452,7 @@ true_more sent ms server s h =
 
 -- worlds
 
-abbrev AreTrue : List Message → List ServerState → Type 0
+abbrev pub AreTrue : List Message → List ServerState → Type 0
 AreTrue sent servers = (index : ℕ) (s : ServerState) → element_at servers index ≡ Some s → IsFaithful sent (suc index) s
 
 all_true_more : (sent ms : List Message) (servers : List ServerState) → AreTrue sent servers → AreTrue (sent ++ ms) servers
@@ -465,7 +465,7 @@ one_true sent servers index t new h other u is =
       | inr there ↦ h other u there
     ]
 
-given_here : (w : WorldState) (e : Event) (index moment : ℕ) (i : Input) → IsGiven w e (the_server (suc index)) moment i → IsSentHere w.sent (suc index) i
+pub given_here : (w : WorldState) (e : Event) (index moment : ℕ) (i : Input) → IsGiven w e (the_server (suc index)) moment i → IsSentHere w.sent (suc index) i
 given_here w (event.Deliver number now) index moment (input.Deliver m) is = (number - 1, element_numbered w.sent number m is.0, is.1)
 given_here w (event.Tick to now) index moment input.Tick is = tt
 given_here w (event.Deliver number now) index moment input.Tick is = tt
@@ -500,9 +500,11 @@ new_true config servers clients index s at =
     subst (λ (t : ServerState). IsFaithful [] (suc index) t) (sym (numbered_from (λ n. started_server config n (new_server_disk config.block) 0) servers index s at))
     (record { disk = λ handle r is. none_some r (sym (table.get-empty nat_cmp handle) ∙ is); clones = no_clones [] (suc index); under_way = tt })
 
+pub servers_are_true : (config : Config) (servers clients : ℕ) (w : WorldState) → IsReached config servers clients w → AreTrue w.sent w.servers
+servers_are_true config servers clients w r = world_reached (λ v. AreTrue v.sent v.servers) each_event new_true config servers clients w r
+
 pub replicas_were_ordered : ReplicasWereOrdered
-replicas_were_ordered config servers clients w r index s at handle replica there =
-    (world_reached (λ v. AreTrue v.sent v.servers) each_event new_true config servers clients w r index s at).disk handle replica there
+replicas_were_ordered config servers clients w r index s at handle replica there = (servers_are_true config servers clients w r index s at).disk handle replica there
 
 number_of_same : (members : List ℕ) (n m : ℕ) → the_server (suc n) ≡ the_server m → IsTrue (has_number members m) → IsTrue (has_number members (suc n))
 number_of_same members n m same has = subst (λ (k : ℕ). has_number members k ≡ true) (sym (ap number_in same)) has

@@ -1,6 +1,6 @@
 //! A chunk as the list of its mutations.
 
-use file_model::small::are_small;
+use crate::small::are_small;
 use gfs_types::mutation::Mutation;
 use gfs_types::no_memory::NoMemory;
 use plain_programs::image::{image, length};

@@ -1,6 +1,6 @@
 //! How much came to pass in the scripts of a test.
 
-use file_model::small::count;
+use crate::small::count;
 use gfs_types::answer::Answer;
 use gfs_types::refusal::Refusal;
 

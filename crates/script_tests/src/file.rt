@@ -8,6 +8,9 @@ use record_append::place;
 use record_append::placing::Placing;
 use std::alloc::Global;
 
+/// The chunks that a record may be tried in: the last record's, the last one, and a new one.
+const MOST_TRIES: u64 = 3;
+
 /// The chunks of a file.
 #[derive(Drop)]
 pub struct PlainFile {
@@ -15,6 +18,10 @@ pub struct PlainFile {
     /// The bytes that a chunk may hold.
     size: u64,
     chunks: Vec<PlainChunk>,
+    /// The chunk of the last record. The next one is tried there first, where the client knows that chunk's place.
+    appended: Option<u64>,
+    /// The chunks whose places the client was told since it last opened the file.
+    told: Vec<u64>,
 }
 
 impl PlainFile {
@@ -23,6 +30,34 @@ impl PlainFile {
             alloc,
             size,
             chunks: Vec::new(alloc),
+            appended: None,
+            told: Vec::new(alloc),
+        }
+    }
+
+    /// The client opens it, and forgets the places of its chunks.
+    pub fn open(&mut self) {
+        self.told.clear();
+    }
+
+    /// The client is told the place of a chunk.
+    pub fn tell(&mut self, index: u64) -> Result<(), NoMemory> {
+        Ok(self.told.push(index)?)
+    }
+
+    /// The client is told the place of the last chunk, if there is one.
+    pub fn tell_last(&mut self) -> Result<(), NoMemory> {
+        if self.chunks.is_empty() {
+            return Ok(());
+        }
+        self.tell(self.last_index())
+    }
+
+    /// Where a record is tried first.
+    fn first_try(&self) -> u64 {
+        match self.appended {
+            Some(index) if self.told.contains(&index) => index,
+            _ => self.last_index(),
         }
     }
 
@@ -62,41 +97,44 @@ impl PlainFile {
             return Ok(false);
         };
         chunk.push(Mutation::Write(start, bytes.clone()?))?;
+        self.tell(index)?;
         Ok(true)
+    }
+
+    fn last_index(&self) -> u64 {
+        self.count().saturating_sub(1)
     }
 
     /// The offset of a new record, or none where it is too long.
     pub fn append(&mut self, record: &Bytes) -> Result<Option<u64>, NoMemory> {
-        let Some(length) = self.last_length() else {
+        let length = record.len() as u64;
+        if matches!(place(0, length, self.size), Placing::TooLong) {
             return Ok(None);
-        };
-        match place(length, record.len() as u64, self.size) {
-            Placing::TooLong => return Ok(None),
-            Placing::At(start) => {
-                if self.chunks.is_empty() {
-                    self.add_chunk()?;
-                }
-                return Ok(Some(self.put_record(start, record)?));
+        }
+        let mut index = self.first_try();
+        for _ in 0..MOST_TRIES {
+            if index >= self.count() {
+                self.add_chunk()?;
             }
-            Placing::Pad(start) => self.put(Mutation::Pad(start))?,
-            Placing::Full => {}
+            let Some(chunk) = self.chunks.get_mut(index as usize) else {
+                break;
+            };
+            let Some(end) = chunk.length() else {
+                break;
+            };
+            match place(end, length, self.size) {
+                Placing::At(start) => {
+                    chunk.push(Mutation::Append(start, record.clone()?))?;
+                    self.appended = Some(index);
+                    self.tell(index)?;
+                    return Ok(Some(index.saturating_mul(self.size).saturating_add(start)));
+                }
+                Placing::Pad(start) => chunk.push(Mutation::Pad(start))?,
+                Placing::Full | Placing::TooLong => {}
+            }
+            index = index.saturating_add(1).max(self.last_index());
         }
-        self.add_chunk()?;
-        Ok(Some(self.put_record(0, record)?))
-    }
-
-    /// The last chunk changes.
-    fn put(&mut self, mutation: Mutation) -> Result<(), NoMemory> {
-        match self.chunks.last_mut() {
-            None => Ok(()),
-            Some(chunk) => chunk.push(mutation),
-        }
-    }
-
-    /// A record is put into the last chunk, and its offset in the file comes back.
-    fn put_record(&mut self, start: u64, record: &Bytes) -> Result<u64, NoMemory> {
-        self.put(Mutation::Append(start, record.clone()?))?;
-        Ok(self.last_start().saturating_add(start))
+        Ok(None)
     }
 
     /// The bytes of a chunk, or none where there is no such chunk.

@@ -14,4 +14,6 @@ mod model;
 #[cfg(test)]
 mod random;
 #[cfg(test)]
+mod small;
+#[cfg(test)]
 mod source;

@@ -13,6 +13,9 @@ pub fn write_call(text: &mut Vec<u8>, call: &Call) -> io::Result<()> {
         Call::Create(path) => writeln!(text, "c1 create {path}"),
         Call::Open(path) => writeln!(text, "c1 open {path}"),
         Call::List(path) => writeln!(text, "c1 list {path}"),
+        Call::Rmdir(path) => writeln!(text, "c1 rmdir {path}"),
+        Call::Rename(path, to) => writeln!(text, "c1 rename {path} {to}"),
+        Call::Close(fd) => writeln!(text, "c1 close {}", fd.0),
         Call::Length(fd) => writeln!(text, "c1 length {}", fd.0),
         Call::Read(fd, offset, count) => writeln!(text, "c1 read {} {offset} {count}", fd.0),
         Call::Append(fd, record) => {
@@ -75,12 +78,18 @@ fn write_bytes(text: &mut Vec<u8>, bytes: &[u8]) -> io::Result<()> {
     Ok(())
 }
 
-/// No chunk was looked at, or one.
+/// The rounds of the chunks that were looked at.
 fn write_rounds(text: &mut Vec<u8>, rounds: &[u64]) -> io::Result<()> {
-    match rounds.first() {
-        None => writeln!(text, " rounds -"),
-        Some(round) => writeln!(text, " rounds {round}"),
+    write!(text, " rounds ")?;
+    let mut comma = "";
+    for round in rounds {
+        write!(text, "{comma}{round}")?;
+        comma = ",";
     }
+    if rounds.is_empty() {
+        write!(text, "-")?;
+    }
+    writeln!(text)
 }
 
 /// The number and the name of a refusal that a script of these tests may meet.
@@ -92,7 +101,9 @@ fn cause(refusal: Refusal) -> &'static str {
         Refusal::NotFound => "4 NotFound",
         Refusal::NotFile => "5 NotFile",
         Refusal::NotDir => "6 NotDir",
+        Refusal::NotEmpty => "7 NotEmpty",
         Refusal::Reserved => "8 Reserved",
+        Refusal::Inside => "9 Inside",
         Refusal::TooLong => "11 TooLong",
         Refusal::BadFd => "12 BadFd",
         _ => "none",

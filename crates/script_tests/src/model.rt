@@ -1,8 +1,8 @@
 //! A plain model of the cell for one client whose calls come one after another, so that each answer is determined.
 
 use crate::file::PlainFile;
+use crate::small::slice_of;
 use bytes::Bytes;
-use file_model::small::slice_of;
 use gfs_types::answer::Answer;
 use gfs_types::call::Call;
 use gfs_types::ids::{Fd, FileId};
@@ -19,6 +19,9 @@ const LONGEST_RANGE: u64 = 67_108_864;
 /// The end that a range may have.
 const LAST_PLACE: u64 = 9_007_199_254_740_992;
 
+/// More parts than a range of these tests has.
+const MOST_PARTS: u64 = 100;
+
 /// The names, the files, and the client's descriptors.
 #[derive(Drop)]
 pub struct PlainCell {
@@ -28,8 +31,8 @@ pub struct PlainCell {
     names: NameTable,
     /// The files that were opened, with their ids.
     files: Vec<(FileId, PlainFile)>,
-    /// The files of the descriptors from 1, by their places in `files`.
-    opened: Vec<usize>,
+    /// The files of the descriptors from 1, by their places in `files`; none where one was closed.
+    opened: Vec<Option<usize>>,
 }
 
 impl PlainCell {
@@ -43,7 +46,7 @@ impl PlainCell {
         })
     }
 
-    /// How many descriptors are open.
+    /// How many descriptors were opened.
     pub fn descriptor_count(&self) -> u64 {
         self.opened.len() as u64
     }
@@ -54,7 +57,8 @@ impl PlainCell {
             Call::Write(fd, offset, bytes) => self.write(*fd, *offset, bytes),
             Call::Append(fd, record) => self.append(*fd, record),
             Call::Read(fd, offset, count) => self.read(*fd, *offset, *count),
-            Call::Length(fd) => Ok(self.length(*fd)),
+            Call::Length(fd) => self.length(*fd),
+            Call::Close(fd) => Ok(self.close(*fd)),
             _ => match self.names.name_step(call, 0)? {
                 NameOutcome::Replies(answer) => Ok(answer),
                 NameOutcome::Opens(file) => self.open(file),
@@ -72,19 +76,27 @@ impl PlainCell {
                 self.files.len() - 1
             }
         };
-        self.opened.push(place)?;
+        if let Some(known) = self.files.get_mut(place) {
+            known.1.open();
+        }
+        self.opened.push(Some(place))?;
         Ok(Answer::Fd(Fd(self.descriptor_count())))
     }
 
     /// The place in `files` of a descriptor's file.
     fn place_of(&self, fd: Fd) -> Option<usize> {
         let before = fd.0.checked_sub(1)?;
-        self.opened.get(before as usize).copied()
+        self.opened.get(before as usize).copied().flatten()
     }
 
-    fn file(&self, fd: Fd) -> Option<&PlainFile> {
-        let known = self.files.get(self.place_of(fd)?)?;
-        Some(&known.1)
+    fn close(&mut self, fd: Fd) -> Answer {
+        if self.place_of(fd).is_none() {
+            return Answer::Refused(Refusal::BadFd);
+        }
+        if let Some(place) = self.opened.get_mut(fd.0.saturating_sub(1) as usize) {
+            *place = None;
+        }
+        Answer::Done
     }
 
     fn file_mut(&mut self, fd: Fd) -> Option<&mut PlainFile> {
@@ -99,28 +111,36 @@ impl PlainCell {
         (index, offset.checked_rem(self.size).unwrap_or(0))
     }
 
-    /// Whether a range is too long, ends too far behind, or leaves its chunk.
-    fn is_too_long(&self, offset: u64, count: u64) -> bool {
-        let (_, start) = self.split(offset);
-        count > LONGEST_RANGE
-            || offset.saturating_add(count) > LAST_PLACE
-            || start.saturating_add(count) > self.size
+    /// Whether a range is too long, or ends too far behind.
+    fn is_too_long(offset: u64, count: u64) -> bool {
+        count > LONGEST_RANGE || offset.saturating_add(count) > LAST_PLACE
     }
 
+    /// A write in parts, chunk by chunk.
     fn write(&mut self, fd: Fd, offset: u64, bytes: &Bytes) -> Result<Answer, NoMemory> {
-        let is_too_long = self.is_too_long(offset, bytes.len() as u64);
-        let (index, start) = self.split(offset);
+        let alloc = self.alloc;
+        let size = self.size;
+        let (first, mut start) = self.split(offset);
         let Some(file) = self.file_mut(fd) else {
             return Ok(Answer::Refused(Refusal::BadFd));
         };
-        if is_too_long {
+        let mut rest = bytes.as_slice();
+        if Self::is_too_long(offset, rest.len() as u64) {
             return Ok(Answer::Refused(Refusal::TooLong));
         }
-        if bytes.is_empty() || file.write(index, start, bytes)? {
-            Ok(Answer::Done)
-        } else {
-            Ok(Answer::Refused(Refusal::TooLong))
+        for index in first..first.saturating_add(MOST_PARTS) {
+            if rest.is_empty() {
+                break;
+            }
+            let room = size.saturating_sub(start) as usize;
+            let (part, behind) = rest.split_at(room.min(rest.len()));
+            if !file.write(index, start, &Bytes::copy_from_slice(alloc, part)?)? {
+                return Ok(Answer::Refused(Refusal::TooLong));
+            }
+            rest = behind;
+            start = 0;
         }
+        Ok(Answer::Done)
     }
 
     fn append(&mut self, fd: Fd, record: &Bytes) -> Result<Answer, NoMemory> {
@@ -133,33 +153,51 @@ impl PlainCell {
         })
     }
 
-    fn length(&self, fd: Fd) -> Answer {
-        match self.file(fd) {
-            None => Answer::Refused(Refusal::BadFd),
-            Some(file) => match file.length() {
-                None => Answer::Refused(Refusal::Unknown),
-                Some(length) => Answer::Length(length),
-            },
-        }
-    }
-
-    fn read(&self, fd: Fd, offset: u64, count: u64) -> Result<Answer, NoMemory> {
-        let Some(file) = self.file(fd) else {
+    fn length(&mut self, fd: Fd) -> Result<Answer, NoMemory> {
+        let Some(file) = self.file_mut(fd) else {
             return Ok(Answer::Refused(Refusal::BadFd));
         };
-        if self.is_too_long(offset, count) {
+        file.tell_last()?;
+        Ok(match file.length() {
+            None => Answer::Refused(Refusal::Unknown),
+            Some(length) => Answer::Length(length),
+        })
+    }
+
+    /// A read, chunk by chunk, up to the first that has fewer bytes.
+    fn read(&mut self, fd: Fd, offset: u64, count: u64) -> Result<Answer, NoMemory> {
+        let (alloc, size) = (self.alloc, self.size);
+        let (first, mut start) = self.split(offset);
+        let Some(file) = self.file_mut(fd) else {
+            return Ok(Answer::Refused(Refusal::BadFd));
+        };
+        if Self::is_too_long(offset, count) {
             return Ok(Answer::Refused(Refusal::TooLong));
         }
-        let (index, start) = self.split(offset);
-        let mut rounds = RoundList::empty(self.alloc);
-        let held = if count == 0 { None } else { file.bytes(index)? };
-        let Some(held) = held else {
-            let bytes = Bytes::new();
-            return Ok(Answer::Bytes { bytes, rounds });
-        };
-        let part = slice_of(held.as_slice(), start as usize, count as usize);
-        let bytes = Bytes::copy_from_slice(self.alloc, part)?;
-        rounds.push(1)?;
+        let mut left = count;
+        let mut read = Vec::new(alloc);
+        let mut rounds = RoundList::empty(alloc);
+        for index in first..first.saturating_add(MOST_PARTS) {
+            let wanted = size.saturating_sub(start).min(left);
+            let held = if wanted == 0 {
+                None
+            } else {
+                file.bytes(index)?
+            };
+            let Some(held) = held else {
+                break;
+            };
+            file.tell(index)?;
+            let part = slice_of(held.as_slice(), start as usize, wanted as usize);
+            read.extend_from_slice(part)?;
+            rounds.push(1)?;
+            left = left.saturating_sub(wanted);
+            if (part.len() as u64) < wanted {
+                break;
+            }
+            start = 0;
+        }
+        let bytes = Bytes::copy_from_slice(alloc, read.as_slice())?;
         Ok(Answer::Bytes { bytes, rounds })
     }
 }

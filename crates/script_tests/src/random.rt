@@ -29,10 +29,10 @@ struct Disagreement {
     printed: String,
 }
 
-/// A cell of one chunkserver.
+/// A cell of three chunkservers.
 fn options(size: u64) -> Options {
     Options {
-        servers: 1,
+        servers: 3,
         clients: 1,
         config: Config {
             chunk: u32::try_from(size).unwrap_or(0),

@@ -81,10 +81,15 @@ impl CallSource {
             ODD_PATHS.choose(&mut self.numbers).unwrap()
         };
         let path = Text::from_str(path, self.alloc)?;
-        Ok(match self.numbers.random_range(0..10) {
-            0..2 => Call::Mkdir(path),
-            2..5 => Call::Create(path),
-            5..8 => Call::Open(path),
+        Ok(match self.numbers.random_range(0..14) {
+            0..3 => Call::Mkdir(path),
+            3..6 => Call::Create(path),
+            6..9 => Call::Open(path),
+            9 => Call::Rmdir(path),
+            10..12 => {
+                let to = PATHS.choose(&mut self.numbers).unwrap();
+                Call::Rename(path, Text::from_str(to, self.alloc)?)
+            }
             _ => {
                 let directory = DIRECTORIES.choose(&mut self.numbers).unwrap();
                 Call::List(Text::from_str(directory, self.alloc)?)
@@ -98,6 +103,9 @@ impl CallSource {
         } else {
             Fd(self.numbers.random_range(0..descriptors.saturating_add(3)))
         };
+        if self.numbers.random_ratio(1, 30) {
+            return Ok(Call::Close(fd));
+        }
         Ok(match self.numbers.random_range(0..10) {
             0..4 => Call::Append(fd, self.record()?),
             4..6 => Call::Write(fd, self.offset(), self.bytes()?),

@@ -1,5 +1,2 @@
-pub mod Printing
-pub mod Idle
-pub mod Bytes
-pub mod Lines
-pub mod Stops
+pub mod Settings
+pub mod Running

@@ -1,6 +1,2 @@
-pub mod Chunks
-pub mod Faults
-pub mod Printing
-pub mod Reading
+pub mod Cells
 pub mod Scripts
-pub mod Stopped

@@ -1,6 +1,5 @@
-//! Runs scripts on a simulated cell.
+//! Runs scripts on a simulated cell of many servers.
 #![tactic(auto)]
 
-mod reading;
+pub mod making;
 pub mod run;
-pub mod simulator;

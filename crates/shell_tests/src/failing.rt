@@ -160,7 +160,8 @@ fn each_line_is_flushed(rt: HostRuntime) {
     };
     let result = run_script(alloc, &small_cell(), &mut reader, &mut writer);
     assert_eq!(rt; result, Ok(()));
-    let printed = b"c1 done\nc1 fd 1\nc1 at 0\nregions 0-2 determined\nreplicas 1 s1 v1 2\n";
+    let printed =
+        b"c1 done\nc1 fd 1\nc1 at 0\nregions 0-2 determined\nreplicas 1 s1 v1 2, s2 v1 2, s3 v1 2\n";
     assert_eq!(rt; writer.seen.as_slice(), printed.as_slice());
     assert_eq!(rt; writer.late, 0);
     assert_eq!(rt; writer.flushed, printed.len());

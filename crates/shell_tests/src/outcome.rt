@@ -6,11 +6,11 @@ use script::script_fault::ScriptFault;
 use shell::run::run_script;
 use std::alloc::Global;
 
-/// One chunkserver, and chunks of 64 bytes in blocks of 16.
+/// Three chunkservers and two clients, and chunks of 64 bytes in blocks of 16.
 pub(crate) fn small_cell() -> Options {
     Options {
-        servers: 1,
-        clients: 1,
+        servers: 3,
+        clients: 2,
         config: Config {
             chunk: 64,
             block: 16,
@@ -19,7 +19,7 @@ pub(crate) fn small_cell() -> Options {
     }
 }
 
-/// What a script prints on a small cell, and its fault.
+/// What a script prints on a cell, and its fault.
 pub(crate) fn outcome(
     alloc: Global,
     options: &Options,

@@ -8,16 +8,6 @@ mod fixtures;
 #[cfg(test)]
 mod order;
 #[cfg(test)]
-mod plain_order;
-#[cfg(test)]
-mod plain_table;
-#[cfg(test)]
-mod random_order;
-#[cfg(test)]
-mod random_table;
-#[cfg(test)]
-mod refused;
-#[cfg(test)]
 mod serial_order;
 #[cfg(test)]
 mod table;

@@ -7,11 +7,27 @@ use Rattle.master.specs.Ends.{AllMade}
 use Rattle.master.specs.Opens.{Opens}
 use Rattle.master.specs.Standing.{standing}
 use Rattle.master.proofs.Steps.{is_down_as}
-use Rattle.master.proofs.Restarts.{as_made, cut_off, no_room, is_up}
+use Rattle.master.proofs.Restarts.{as_made, given_up, cut_off, no_room, is_up}
 use Rattle.master.proofs.master.Master.opens.Goals as goal
 
-pub returns-then-not-makes : goal.returns-then-not-makes
-returns-then-not-makes g c =
+pub returns-in_default-shown_of-clause-opens : goal.returns-in_default-shown_of-clause-opens
+returns-in_default-shown_of-clause-opens g c =
+    let disk = g.L.OperationLog.disk c.self.inside.log in
+    let under_way = g.L.OperationLog.under_way c.self.inside.log in
+    let config = c.self.inside.config in
+    let count = c.self.inside.server_count in
+    let q0 = c.self.inside.plan in
+    let old = is_down_as c.self.inside.up disk under_way config count q0 c.args.self.now c.requires.down c.self.view_is in
+    let p = c.in-Ok-opened.opening.plan in
+    let new_disk = g.L.OperationLog.disk c.opens-opened.new.log in
+    let new_under_way = g.L.OperationLog.under_way c.opens-opened.new.log in
+    as_made c.args.self.now (standing false disk under_way config count q0) c.goes_down-in_default-shown_of.result down_output c.args.now.0 (standing false new_disk new_under_way config count p) old
+    c.goes_down-in_default-shown_of.ensures
+    (subst (λ (x : LogDisk). Opens (standing false disk under_way config count q0) c.args.now.0 down_output (standing false x new_under_way config count p)) (sym c.in-Ok-opened.ensures.disk)
+    (given_up config count disk under_way q0 c.args.now.0 p new_under_way c.in-Ok-opened.ensures.under_way))
+
+pub returns-then-not-makes-clause-opens : goal.returns-then-not-makes-clause-opens
+returns-then-not-makes-clause-opens g c =
     let disk = g.L.OperationLog.disk c.self.inside.log in
     let under_way = g.L.OperationLog.under_way c.self.inside.log in
     let config = c.self.inside.config in
@@ -25,8 +41,8 @@ returns-then-not-makes g c =
     as_made c.args.self.now (standing false disk under_way config count q0) c.goes_down-then-not-makes.result down_output c.args.now.0 (standing false new_disk new_under_way config count c.makes.new.plan) old
     c.goes_down-then-not-makes.ensures (cut_off config count disk under_way q0 c.args.now.0 p c.in-Ok-opened.ensures.plan new_disk new_under_way c.makes.new.plan stop)
 
-pub returns-then-not-opening : goal.returns-then-not-opening
-returns-then-not-opening g c =
+pub returns-then-not-opening-clause-opens : goal.returns-then-not-opening-clause-opens
+returns-then-not-opening-clause-opens g c =
     let disk = g.L.OperationLog.disk c.self.inside.log in
     let under_way = g.L.OperationLog.under_way c.self.inside.log in
     let config = c.self.inside.config in
@@ -41,8 +57,8 @@ returns-then-not-opening g c =
     c.goes_down-then-not-opening.ensures
     (no_room config count disk under_way q0 c.args.now.0 p c.in-Ok-opened.ensures.plan new_disk new_under_way c.makes.new.plan (sym c.in-Ok-opened.ensures.logged ∙ c.if-not-opening.true) made)
 
-pub returns : goal.returns
-returns g c =
+pub returns-clause-opens : goal.returns-clause-opens
+returns-clause-opens g c =
     let disk = g.L.OperationLog.disk c.self.inside.log in
     let under_way = g.L.OperationLog.under_way c.self.inside.log in
     let config = c.self.inside.config in

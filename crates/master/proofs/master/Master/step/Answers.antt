@@ -6,16 +6,29 @@ use Rattle.protocol.specs.Conforms.{MasterSteps}
 use Rattle.master.specs.Inputs.{input_of}
 use Rattle.master.specs.Standing.{standing}
 use Rattle.master.proofs.Steps.{stays_down, went_as, is_up_as, up_is}
+use Rattle.master.proofs.Files.{shown_down, step_shows}
 use Rattle.master.proofs.master.Master.step.Goals as goal
 
-pub returns-then-not-self : goal.returns-then-not-self
-returns-then-not-self g c =
+pub returns-then-not-self-clause-steps : goal.returns-then-not-self-clause-steps
+returns-then-not-self-clause-steps g c =
     let down : c.args.self.now.up ≡ false =
     up_is c.self.inside.up (g.L.OperationLog.disk c.self.inside.log) (g.L.OperationLog.under_way c.self.inside.log) c.self.inside.config c.self.inside.server_count c.self.inside.plan c.args.self.now (search rules) c.self.view_is in
     stays_down c.args.self.now c.args.now.0 (input_of (option_copied c.args.message)) c.nothing.result.out c.nothing.result.seen down c.nothing.ensures.out c.nothing.ensures.seen
 
-pub returns : goal.returns
-returns g c =
+pub returns-then-not-self-clause-files : goal.returns-then-not-self-clause-files
+returns-then-not-self-clause-files g c =
+    let down : c.args.self.now.up ≡ false =
+    up_is c.self.inside.up (g.L.OperationLog.disk c.self.inside.log) (g.L.OperationLog.under_way c.self.inside.log) c.self.inside.config c.self.inside.server_count c.self.inside.plan c.args.self.now (search rules) c.self.view_is in
+    shown_down c.args.self.now c.args.shown.now down
+
+pub returns-clause-files : goal.returns-clause-files
+returns-clause-files g c =
+    step_shows (g.L.OperationLog.disk c.makes.new.log) (g.L.OperationLog.under_way c.makes.new.log) c.self.inside.config c.self.inside.server_count
+    c.plans.new.plan c.take_sent-sent.new.self c.take_seen-seen.new.self c.makes.new.plan c.in-Ok.files c.args.shown.now
+    c.take_sent-sent.ensures.rest c.take_seen-seen.ensures.rest c.if-not-makes.ensures.rest (search rules)
+
+pub returns-clause-steps : goal.returns-clause-steps
+returns-clause-steps g c =
     let disk = g.L.OperationLog.disk c.self.inside.log in
     let under_way = g.L.OperationLog.under_way c.self.inside.log in
     let i = input_of (option_copied c.args.message) in

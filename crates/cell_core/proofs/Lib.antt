@@ -1,5 +1,0 @@
-pub mod Fitting
-pub mod Placed
-pub mod Moved
-pub mod Stepped
-pub mod Running

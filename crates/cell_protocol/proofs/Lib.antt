@@ -1,4 +1,0 @@
-pub mod Reached
-pub mod Exits
-pub mod Goes
-pub mod Within

@@ -1,4 +1,0 @@
-pub mod Known
-pub mod Says
-pub mod Simulates
-pub mod Headline

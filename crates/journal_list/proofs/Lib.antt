@@ -1,0 +1,4 @@
+pub mod Begins
+pub mod Cells
+pub mod Turning
+pub mod Moving

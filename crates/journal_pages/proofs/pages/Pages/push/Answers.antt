@@ -1,0 +1,30 @@
+use Rattle.std.proofs.Common.{◌≡◌, ◌+◌, ◌-◌, ◌++◌, ◌∷◌, [], length, List, sym, subst, ap, ◌∙◌, arith}
+use Rattle.std.proofs.lemmas.List.{length-append}
+use Rattle.journal_pages.specs.declared.row.Row.{Row}
+use Rattle.journal_pages.specs.Identity.{filled}
+use Rattle.journal_pages.specs.Rows.{entries_in, sent_in, AreCounted}
+use Rattle.journal_pages.proofs.Rows.{entries_push, sent_push, counted_push}
+use Rattle.journal_pages.proofs.pages.Pages.push.Goals as goal
+
+pub invariant_of-self : goal.invariant_of-self
+invariant_of-self c =
+    let i = c.self.invariant in
+    let rows = c.self.inside.rows.items in
+    let row : Row = record { entry = c.args.entry; before = c.self.inside.count } in
+    let now = c.add.ensures.0 in
+    let more = c.len.ensures ∙ ap (λ o. length o.sent) c.out.ensures in
+    let longer = ap length now ∙ length-append rows (row ∷ []) in
+    let sent = ap (λ rs. length (sent_in rs)) now ∙ (ap length (sent_push rows row) ∙ length-append (sent_in rows) row.entry.out.sent) in (
+      ap (λ l. l.name) c.push.ensures ∙ i.0,
+      ap (λ l. l.items) c.push.ensures ∙ (ap (λ es. es ++ c.args.entry ∷ []) i.1 ∙ sym (ap entries_in now ∙ entries_push rows row)),
+      omega (arith, i.2, more, sent),
+      subst (AreCounted 0) (sym now) (counted_push 0 rows row i.3 (i.2 ∙ omega arith)),
+      omega (arith, i.4, longer, c.add.ensures.1),
+      omega (arith, i.5, longer, c.len.type_inv),
+    )
+
+pub returns : goal.returns
+returns c =
+    let rows = c.self.inside.rows.items in
+    let row : Row = record { entry = c.args.entry; before = c.self.inside.count } in
+    rw (← c.self.view_is) (ap (λ es. filled c.self.inside.cell es (c.self.inside.reserved - 1)) (ap entries_in c.add.ensures.0 ∙ entries_push rows row))

@@ -1,0 +1,32 @@
+-- Which cell a journal is of.
+use Rattle.std.specs.Prelude.{ℕ, List}
+use Rattle.logbook.specs.Pages.{Book}
+use Rattle.gfs_types.specs.declared.config.Config.{Config}
+use Rattle.protocol_journal.specs.Journal.{Entry}
+
+-- the name of the journal's list, the settings, and how many servers and clients there may be
+pub record Identity : Type 0 where
+  pub name : Book
+  pub config : Config
+  pub servers : ℕ
+  pub clients : ℕ
+
+abbrev pub identity : Book → Config → ℕ → ℕ → Identity
+identity name config servers clients = record { name = name; config = config; servers = servers; clients = clients }
+
+-- a journal: of which cell, its entries, and for how many more there is room
+pub record Filled : Type 0 where
+  pub cell : Identity
+  pub entries : List Entry
+  pub reserved : ℕ
+
+abbrev pub filled : Identity → List Entry → ℕ → Filled
+filled cell entries reserved = record { cell = cell; entries = entries; reserved = reserved }
+
+-- a journal to which nothing is added any more
+pub record Closed : Type 0 where
+  pub cell : Identity
+  pub entries : List Entry
+
+abbrev pub closed : Identity → List Entry → Closed
+closed cell entries = record { cell = cell; entries = entries }

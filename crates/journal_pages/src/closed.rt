@@ -1,0 +1,70 @@
+//! The journal of a cell that was closed.
+
+ghost use Rattle.std.specs.Prelude.{◌≡◌, length, slice_get};
+ghost use Rattle.std.specs.Option.{option_copied};
+ghost use mathlib.Core.List.{IsPrefix};
+ghost use Rattle.journal_list.specs.Log.{listed};
+
+use crate::entry::Entry;
+use crate::identity::CellIdentity;
+use crate::reading::entry_at;
+use crate::row::Row;
+use journal_list::{Beginning, WholeList};
+use std::marker::Model;
+
+/// All entries of a cell that was closed.
+#[derive(Drop)]
+pub struct ClosedPages {
+    pub(crate) cell: CellIdentity,
+    pub(crate) rows: Vec<Row>,
+    pub(crate) whole: WholeList<Entry>,
+}
+
+impl Model for ClosedPages {
+    ghost use Rattle.std.specs.Prelude.{◌≡◌};
+    ghost use Rattle.journal_pages.specs.Identity.{Closed, closed};
+    ghost use Rattle.journal_pages.specs.Rows.{entries_in};
+
+    ghost Value = { Closed };
+
+    ghost view = { λ p. closed p.cell (entries_in p.rows.items) };
+
+    ghost invariant = { λ p. (p.whole.name ≡ p.cell.name) × (p.whole.items ≡ entries_in p.rows.items) };
+}
+
+impl ClosedPages {
+    /// The cell of this journal.
+    pub fn cell(&self) -> CellIdentity
+        ensures { result ≡ self.now.cell }
+    {
+        self.cell.again()
+    }
+
+    /// How many entries there are.
+    pub fn len(&self) -> usize
+        ensures { result ≡ length self.now.entries }
+    {
+        self.rows.len()
+    }
+
+    /// The entry at this place.
+    pub fn event(&self, place: usize) -> Option<&Entry>
+        ensures { option_copied result ≡ slice_get self.now.entries place }
+    {
+        entry_at(&self.rows, place)
+    }
+
+    fn whole(&self) -> &WholeList<Entry>
+        ensures { result.now ≡ listed self.now.cell.name self.now.entries }
+    {
+        &self.whole
+    }
+}
+
+/// Each beginning of a journal begins the closed journal.
+pub fn agree(beginning: &Beginning<Entry>, journal: &ClosedPages)
+    requires { beginning.now.name ≡ journal.now.cell.name }
+    ensures { IsPrefix beginning.now.items journal.now.entries }
+{
+    journal_list::agree(beginning, journal.whole());
+}

@@ -1,0 +1,38 @@
+-- What is shown of the files, and a master that is put down.
+use Rattle.std.proofs.Common.{◌≡◌, ℕ, Bool, true, false, cond, List, [], refl, sym, ap, ◌∙◌}
+use Rattle.gfs_types.specs.declared.config.Config.{Config}
+use Rattle.protocol.specs.Tables.{Table}
+use Rattle.protocol.specs.Logged.{Logged, LogDisk, LogChange}
+use Rattle.protocol.specs.Master.{MasterState, stopped_master}
+use Rattle.protocol.specs.World.{files_seen}
+use Rattle.master_plan.specs.Plans.{PlanState}
+use Rattle.master.specs.Standing.{standing, IsResting}
+
+-- put down before anything changed
+stopped_up : (disk : LogDisk) (under_way : List LogChange) (config : Config) (count : ℕ) (p : PlanState) → IsResting under_way config count p
+    → standing false disk under_way config count p ≡ (let m : MasterState = standing true disk under_way config count p in stopped_master m m.disk [])
+stopped_up disk under_way config count p rest =
+    ap (λ (x : Config). standing false disk under_way x count p) (sym rest.config_is)
+    ∙ ap (λ (x : ℕ). standing false disk under_way p.config x p) (sym rest.count_is)
+    ∙ ap (λ (x : List LogChange). standing false disk x p.config p.server_count p) rest.none
+
+pub stopped : (up : Bool) (disk : LogDisk) (under_way : List LogChange) (config : Config) (count : ℕ) (p : PlanState) (m : MasterState) → m.up ≡ true
+    → standing up disk under_way config count p ≡ m → (up ≡ true → IsResting under_way config count p) → standing false disk under_way config count p ≡ stopped_master m m.disk []
+stopped true disk under_way config count p m is view rest = stopped_up disk under_way config count p (rest refl) ∙ ap (λ (x : MasterState). stopped_master x x.disk []) view
+stopped false disk under_way config count p m is view rest = let bad : false ≡ true = ap (λ (x : MasterState). x.up) view ∙ is in absurd cc
+
+-- up, and the copy that was made before the changes
+pub shown_up : (disk : LogDisk) (under_way : List LogChange) (config : Config) (count : ℕ) (p : PlanState) (logged : Logged) (files before : Table (List ℕ)) → logged ≡ p.logged → files ≡ logged.table.files
+    → files ≡ files_seen (standing true disk under_way config count p) before
+shown_up disk under_way config count p logged files before same is = is ∙ ap (λ (l : Logged). l.table.files) same
+
+-- the same, from what the code hands back
+pub step_shows : (disk : LogDisk) (under_way : List LogChange) (config : Config) (count : ℕ) (p q r s : PlanState) (files before : Table (List ℕ)) → q ≡ record p { sent = [] } → r ≡ record q { seen = [] }
+    → s ≡ record r { changes = [] } → files ≡ p.logged.table.files → files ≡ files_seen (standing true disk under_way config count s) before
+step_shows disk under_way config count p q r s files before q_is r_is s_is is =
+    let logged : s.logged ≡ p.logged = ap (λ (x : PlanState). x.logged) s_is ∙ ap (λ (x : PlanState). x.logged) r_is ∙ ap (λ (x : PlanState). x.logged) q_is in
+    shown_up disk under_way config count s p.logged files before (sym logged) is
+
+-- down: the files stay
+pub shown_down : (m : MasterState) (files : Table (List ℕ)) → m.up ≡ false → files ≡ files_seen m files
+shown_down m files down = sym (ap (λ (b : Bool). cond b m.logged.table.files files) down)

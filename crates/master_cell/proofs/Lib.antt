@@ -1,4 +1,0 @@
-pub mod Listing
-pub mod Naming
-pub mod Stepping
-pub mod Within

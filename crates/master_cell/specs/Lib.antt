@@ -1,2 +1,0 @@
-pub mod NameKinds
-pub mod Making

@@ -1,0 +1,4 @@
+//! Runs of the machine by what is done to names alone.
+#![tactic(auto)]
+
+pub mod laws;

@@ -1,0 +1,4 @@
+pub mod Changes
+pub mod Entries
+pub mod Whole
+pub mod Current

@@ -1,0 +1,3 @@
+pub mod ApartPaths
+pub mod Awaited
+pub mod AwaitedRecords

@@ -1,0 +1,3 @@
+pub mod ChunkRecords
+pub mod ChunkWalk
+pub mod Beside

@@ -1,0 +1,4 @@
+//! The master's steps on chunks change no names.
+#![tactic(auto)]
+
+pub mod laws;

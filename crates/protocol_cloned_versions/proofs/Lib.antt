@@ -1,0 +1,2 @@
+pub mod CloneOrders
+pub mod ClonedVersions

@@ -1,0 +1,4 @@
+pub mod Moves
+pub mod Requests
+pub mod NameWalk
+pub mod Beside

@@ -1,0 +1,4 @@
+pub mod OpenCalls
+pub mod FilesThere
+pub mod NameSteps
+pub mod LocksAndFiles

@@ -1,0 +1,4 @@
+pub mod Caches
+pub mod ClientReads
+pub mod Known
+pub mod ReadAnswers

@@ -1,0 +1,4 @@
+pub mod SnapshotActs
+pub mod ActsOfNames
+pub mod ActsOfChunks
+pub mod ActsOfSteps

@@ -1,0 +1,3 @@
+pub mod Waiting
+pub mod Chunks
+pub mod Walk

@@ -1,0 +1,4 @@
+pub mod Histories
+pub mod ServerTalks
+pub mod MasterTalks
+pub mod Locations

@@ -1,0 +1,8 @@
+use Rattle.shell.proofs.Settings.{bounds_ok}
+use Rattle.shell.proofs.making.are_fitting.Goals as goal
+
+pub returns-clause-lease : goal.returns-clause-lease
+returns-clause-lease c = λ t. (bounds_ok c.args.config.now c.check.result c.is_ok.result c.check.ensures c.is_ok.ensures.value t).lease
+
+pub returns-clause-skew : goal.returns-clause-skew
+returns-clause-skew c = λ t. (bounds_ok c.args.config.now c.check.result c.is_ok.result c.check.ensures c.is_ok.ensures.value t).skew

@@ -1,0 +1,84 @@
+//! New cells.
+
+ghost use Rattle.std.specs.Prelude.{◌≡◌, ◌≤◌, Err, IfOk, IfErr, IsTrue, IsFalse, is_none};
+ghost use Rattle.std.specs.FinMap as table;
+ghost use Rattle.gfs_types.specs.Settings.{first_out_of_range};
+ghost use Rattle.protocol.specs.MasterStep.{new_master};
+ghost use Rattle.shell.specs.Cells.{IsNew, IsOfStart, are_in_range, is_count};
+
+use cell_master::SeatedMaster;
+use cell_world::master::CellMaster;
+use cell_world::world::World;
+use gfs_types::config::Config;
+use master::fault::MasterFault;
+use memory_store::MemoryStore;
+use operation_log::memory::MemoryLog;
+use script::options::Options;
+use script::script_fault::ScriptFault;
+use simulated_world::world::SimulatedWorld;
+use std::alloc::Global;
+
+/// A master over a log in memory.
+pub type ScriptMaster = SeatedMaster<MemoryLog, Global>;
+
+/// A cell over a log and stores in memory.
+pub type ScriptCell = SimulatedWorld<ScriptMaster, MemoryStore>;
+
+/// The servers that a cell may have, and the clients.
+pub const MAX_NODES: u64 = 64;
+
+/// Whether a cell may have so many servers, or clients.
+fn is_count(count: u64) -> bool
+    ensures { result ≡ is_count count }
+{
+    (1..=MAX_NODES).contains(&count)
+}
+
+/// Whether the settings are in their ranges, and so in the bounds that nodes ask for.
+fn are_fitting(config: &Config) -> bool
+    ensures range { result ≡ is_none (first_out_of_range config.now) }
+    ensures lease { IsTrue result → config.now.lease_ms ≤ 3600000 }
+    ensures skew { IsTrue result → config.now.skew_ms ≤ 60000 }
+    ensures block { IsTrue result → 1 ≤ config.now.block }
+    ensures least { IsTrue result → 64 ≤ config.now.chunk }
+    ensures most { IsTrue result → config.now.chunk ≤ 67108864 }
+{
+    config.check().is_ok()
+}
+
+fn new_master(alloc: Global, config: Config, servers: u16) -> Result<ScriptMaster, ScriptFault>
+    requires lease { config.lease_ms ≤ 3600000 }
+    requires skew { config.skew_ms ≤ 60000 }
+    ensures state { IfOk result (λ m. ⟦<SeatedMaster<MemoryLog, Global> as CellMaster>⟧.state m ≡ new_master config servers) }
+    ensures files { IfOk result (λ m. ⟦<SeatedMaster<MemoryLog, Global> as CellMaster>⟧.files m ≡ table.empty) }
+    ensures fault { IfErr result IsOfStart }
+{
+    let log = MemoryLog::new(alloc, config.log_bytes);
+    match SeatedMaster::new(alloc, config, servers, log, alloc) {
+        Ok(master) => Ok(master),
+        Err(MasterFault::NoMemory) => Err(ScriptFault::NoMemory),
+        Err(MasterFault::Log(_)) => Err(ScriptFault::Start),
+    }
+}
+
+/// A new cell.
+///
+/// - `Start`: a setting or a count is out of its range, or the log didn't take the master's first epoch.
+/// - `NoMemory`: memory was refused.
+pub fn new_cell(alloc: Global, options: &Options) -> Result<ScriptCell, ScriptFault>
+    ensures new { IfOk result (λ cell. IsNew options.now cell.world) }
+    ensures fault { IfErr result IsOfStart }
+    ensures range { IsFalse (are_in_range options.now) → result ≡ Err ScriptFault.Start }
+{
+    let config = options.config;
+    let clients = options.clients;
+    let Ok(servers) = u16::try_from(options.servers) else {
+        return Err(ScriptFault::Start);
+    };
+    if !are_fitting(&config) || !is_count(servers.into()) || !is_count(clients) {
+        return Err(ScriptFault::Start);
+    }
+    let master = new_master(alloc, config, servers)?;
+    let world = World::new(alloc, config, master, servers, clients)?;
+    Ok(SimulatedWorld { world })
+}

@@ -1,0 +1,2 @@
+pub mod PathsApart
+pub mod Unrefused

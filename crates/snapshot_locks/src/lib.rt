@@ -1,0 +1,4 @@
+//! What passes the locks of a snapshot that waits leaves it unrefused.
+#![tactic(auto)]
+
+pub mod laws;

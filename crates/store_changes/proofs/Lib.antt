@@ -1,0 +1,4 @@
+pub mod Areas
+pub mod Made
+pub mod Slots
+pub mod Puts

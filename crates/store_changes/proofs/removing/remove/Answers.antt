@@ -1,0 +1,61 @@
+use Rattle.std.proofs.Common.{◌≡◌, ◌<◌, ◌≤◌, ℕ, List, [], ◌∷◌, length, sym, ap, ◌∙◌, subst, arith, Some}
+use Rattle.std.proofs.lemmas.Result.{on_ok_weaker}
+use Rattle.redo_area.specs.Redo.{FitsArea}
+use Rattle.redo_area.specs.declared.range.RedoRange.{RedoRange}
+use Rattle.replica_store.specs.declared.change.StoreChange.TheVariants.{Remove}
+use Rattle.slot_index.specs.Index.{IndexState, index_without}
+use Rattle.store_changes.specs.Areas.{area_of}
+use Rattle.store_changes.specs.Changing.{IsChanged}
+use Rattle.store_changes.proofs.Made.{change_made, nothing_made, says_so}
+use Rattle.store_changes.proofs.Slots.{removed, slot_range_fits, slot_there}
+use Rattle.store_layout.specs.Places.{slot_place, slot_size}
+use Rattle.store_changes.proofs.removing.remove.Goals as goal
+
+pub remove_ranges-requires : goal.remove_ranges-requires
+remove_ranges-requires g c =
+    let layout = c.args.layout in
+    slot_there layout.chunk layout.block layout.slots c.args.index.now (g.D.Disk.seen c.args.disk.now) c.requires.size c.requires.rest.closed c.args.handle.0 c.args.found c.requires.found c.requires.stored.0 c.requires.stored.1
+
+pub returns-in_err-ranges-clause-any_moment : goal.returns-in_err-ranges-clause-any_moment
+returns-in_err-ranges-clause-any_moment g c =
+    let disk = g.D.Disk in
+    let layout = c.args.layout in
+    nothing_made disk.seen disk.may_leave disk.moment disk.left_since layout.chunk layout.block layout.slots c.args.index.now (Remove c.args.handle) c.args.disk.now c.requires.rest.durable (g.met.D.Disk.only_now c.args.disk.now)
+
+pub returns-in_err-remove-clause-any_moment : goal.returns-in_err-remove-clause-any_moment
+returns-in_err-remove-clause-any_moment g c =
+    let disk = g.D.Disk in
+    let layout = c.args.layout in
+    nothing_made disk.seen disk.may_leave disk.moment disk.left_since layout.chunk layout.block layout.slots c.args.index.now (Remove c.args.handle) c.args.disk.now c.requires.rest.durable (g.met.D.Disk.only_now c.args.disk.now)
+
+pub change-requires-clause-fits : goal.change-requires-clause-fits
+change-requires-clause-fits g c =
+    let layout = c.args.layout in
+    let old = g.D.Disk.seen c.args.disk.now in
+    let is = c.deref.ensures.value ∙ c.in_ok-ranges.ensures in
+    let lt = slot_there layout.chunk layout.block layout.slots c.args.index.now old c.requires.size c.requires.rest.closed c.args.handle.0 c.args.found c.requires.found c.requires.stored.0 c.requires.stored.1 in
+    subst (λ (rs : List RedoRange). FitsArea (area_of layout.chunk layout.block) (length old) rs) (sym is)
+    (slot_range_fits layout.chunk layout.block layout.slots c.args.index.now old c.requires.size c.args.found.slot (0 ∷ []) lt (omega arith))
+
+pub returns-clause-made : goal.returns-clause-made
+returns-clause-made g c =
+    let disk = g.D.Disk in
+    let layout = c.args.layout in
+    let index = c.args.index.now in
+    let old = disk.seen c.args.disk.now in
+    let is = c.deref.ensures.value ∙ c.in_ok-ranges.ensures in
+    on_ok_weaker c.change.result
+    (λ made. subst (λ (i : IndexState). IsChanged layout.chunk layout.block layout.slots index old i (disk.seen c.change.new.disk) (Remove c.args.handle)) (sym (c.in_ok-remove.ensures.ok ∙ ap (λ o. index_without index c.args.handle.0 o) c.requires.found))
+    (says_so disk.seen disk.may_leave disk.moment disk.left_since layout.chunk layout.block layout.slots index (Remove c.args.handle) c.args.disk.now c.change.new.disk c.deref.result.now (index_without index c.args.handle.0 (Some c.args.found))
+    (removed layout.chunk layout.block layout.slots index old c.requires.size c.requires.rest.closed c.args.handle.0 c.args.found c.requires.found c.deref.result.now is) made))
+    c.change.ensures.made
+
+pub returns-clause-any_moment : goal.returns-clause-any_moment
+returns-clause-any_moment g c =
+    let disk = g.D.Disk in
+    let layout = c.args.layout in
+    let index = c.args.index.now in
+    let old = disk.seen c.args.disk.now in
+    let is = c.deref.ensures.value ∙ c.in_ok-ranges.ensures in
+    change_made disk.seen disk.may_leave disk.moment disk.left_since layout.chunk layout.block layout.slots index (Remove c.args.handle) c.args.disk.now c.change.new.disk c.deref.result.now (index_without index c.args.handle.0 (Some c.args.found))
+    (removed layout.chunk layout.block layout.slots index old c.requires.size c.requires.rest.closed c.args.handle.0 c.args.found c.requires.found c.deref.result.now is) c.change.ensures.any_moment

@@ -1,0 +1,14 @@
+//! Changes of a chunkserver's disk, each made as a whole or not at all.
+#![tactic(auto)]
+
+mod making;
+mod orders;
+mod putting;
+mod raising;
+mod removing;
+
+pub use making::{change, one_range};
+pub use orders::set_order;
+pub use putting::put_in_slot;
+pub use raising::raise;
+pub use removing::remove;

@@ -1,0 +1,10 @@
+pub mod Lookups
+pub mod Free
+pub mod Slots
+pub mod Replicas
+pub mod Changing
+pub mod Headers
+pub mod Puts
+pub mod Stores
+pub mod Keeping
+pub mod Blank

@@ -1,0 +1,68 @@
+//! Runs the worked scripts, and tells of each whether it prints what it has to.
+#![tactic(auto)]
+
+mod row;
+
+use crate::row::outcome;
+use anyhow::{Context, Result};
+use std::fs;
+
+/// The scripts that hinder no node by other means than lines.
+const ROWS: [&str; 48] = [
+    "bad_line.row",
+    "bad_paths.row",
+    "cache_kept_at_open.row",
+    "calls_of_one_client.row",
+    "clone.row",
+    "clone_of_attempt.row",
+    "clone_serial_zero.row",
+    "crowded_buffer.row",
+    "data_words.row",
+    "directories.row",
+    "drop_newer.row",
+    "empty_file.row",
+    "expires_at_once.row",
+    "first_append.row",
+    "forgotten_snapshot.row",
+    "full_chunk.row",
+    "held_twice.row",
+    "hidden_file.row",
+    "late_ask.row",
+    "late_forward.row",
+    "late_snapshot.row",
+    "lengths.row",
+    "long_paths.row",
+    "long_record.row",
+    "missing_member.row",
+    "no_replica.row",
+    "one_attempt.row",
+    "one_server_writes.row",
+    "pad.row",
+    "pad_forwarded.row",
+    "records_of_a_quarter.row",
+    "repeated_forward.row",
+    "repeated_mutate.row",
+    "restarted_master.row",
+    "restarted_member.row",
+    "restarted_primary.row",
+    "retried_append.row",
+    "rotten_block.row",
+    "second_round.row",
+    "shown_chunks.row",
+    "snapshot.row",
+    "snapshot_ids.row",
+    "stale_acked.row",
+    "stale_replica.row",
+    "two_cuts.row",
+    "unknown.row",
+    "unordered_image.row",
+    "write_over_chunks.row",
+];
+
+fn main(rt: HostRuntime) -> Result<()> {
+    for name in ROWS {
+        let text = fs::read_to_string(&rt, name).context(format_args!("reading {name}"))?;
+        println!(rt; "{name}: {}", outcome(rt.alloc(), text.as_str())?)?;
+    }
+    Ok(())
+}
