@@ -5,7 +5,7 @@ use Rattle.gfs_types.specs.declared.answer.Answer.{Answer}
 use Rattle.protocol.specs.Tables.{element_at}
 use Rattle.protocol.specs.Choice.{Choice, Goes, Lost}
 use Rattle.protocol.specs.World.{WorldState, Happened, nothing_happens, numbered_from_1}
-use Rattle.cell_world.specs.Held.{HeldCell, IsHeldAs, Does}
+use Rattle.cell_world.specs.Held.{HeldCell, IsHeldAs, HasEffect}
 use Rattle.cell_record.proofs.Numbers.{none_past}
 
 -- where nothing is done the choice is any
@@ -16,12 +16,12 @@ abbrev pub lost_choice : Choice
 lost_choice = record { ending = Lost; order = []; refused = []; decided = [] }
 
 pub does_as : (old new : HeldCell) (act other : WorldState → Choice → Happened) (answer : Option Answer)
-    → ((w : WorldState) → IsHeldAs w old → (choice : Choice) → other w choice ≡ act w choice) → Does old act answer new → Does old other answer new
+    → ((w : WorldState) → IsHeldAs w old → (choice : Choice) → other w choice ≡ act w choice) → HasEffect old act answer new → HasEffect old other answer new
 does_as old new act other answer same d w g =
     let x = d w g in
     (x.0, ap (λ (h : Happened). h.out.answer) (same w g x.0) ∙ x.1, subst (λ (h : Happened). IsHeldAs h.world new) (sym (same w g x.0)) x.2)
 
-pub does_nothing : (h : HeldCell) (act : WorldState → Choice → Happened) → ((w : WorldState) → IsHeldAs w h → (choice : Choice) → act w choice ≡ nothing_happens w) → Does h act None h
+pub does_nothing : (h : HeldCell) (act : WorldState → Choice → Happened) → ((w : WorldState) → IsHeldAs w h → (choice : Choice) → act w choice ≡ nothing_happens w) → HasEffect h act None h
 does_nothing h act same = does_as h h (λ w choice. nothing_happens w) act None same (λ w g. (no_choice, refl, g))
 
 pub missing : {X : Type 0} (xs : List X) (n : ℕ) → (n ≡ 0) ⊎ (length xs < n) → numbered_from_1 xs n ≡ None

@@ -21,7 +21,7 @@ use Rattle.protocol.specs.Choice.{Choice}
 use Rattle.protocol.specs.Server.{ServerState}
 use Rattle.protocol.specs.World.{WorldState, Happened, nothing_happens, at_moment, happens, call_moves, delivered, moves, restarts, rots_on, rots_replica, numbered_from_1}
 use Rattle.cell_record.specs.Batches.{message_named}
-use Rattle.cell_world.specs.Held.{HeldCell, IsHeldAs, Does}
+use Rattle.cell_world.specs.Held.{HeldCell, IsHeldAs, HasEffect}
 use Rattle.cell_world.specs.Steps.{IsUpAt, RotsAt}
 use Rattle.cell_world.proofs.Acts.{does_as, does_nothing, no_choice, missing, at_place, place_is, there}
 
@@ -37,50 +37,50 @@ too_late w moment h is = ap (λ (b : Bool). if b then h else nothing_happens w) 
     late : (n : ℕ) → moment_limit < n → nat_le n moment_limit ≡ false
     late n is' = grind (arith, nat_tests)
 
-pub late_call : (h : HeldCell) (client : ClientId) (c : Call) (now : Moment) → moment_limit < now.0 → Does h (λ w choice. happens w (event.Call client c now) choice) None h
+pub late_call : (h : HeldCell) (client : ClientId) (c : Call) (now : Moment) → moment_limit < now.0 → HasEffect h (λ w choice. happens w (event.Call client c now) choice) None h
 late_call h client c now late = (does_nothing h (λ w choice. happens w (event.Call client c now) choice) (λ w g choice. too_late w now.0 _ late))
 
-pub late_message : (h : HeldCell) (number : ℕ) (now : Moment) → moment_limit < now.0 → Does h (λ w choice. happens w (event.Deliver number now) choice) None h
+pub late_message : (h : HeldCell) (number : ℕ) (now : Moment) → moment_limit < now.0 → HasEffect h (λ w choice. happens w (event.Deliver number now) choice) None h
 late_message h number now late = (does_nothing h (λ w choice. happens w (event.Deliver number now) choice) (λ w g choice. too_late w now.0 _ late))
 
-pub late_tick : (h : HeldCell) (n : Node) (now : Moment) → moment_limit < now.0 → Does h (λ w choice. happens w (event.Tick n now) choice) None h
+pub late_tick : (h : HeldCell) (n : Node) (now : Moment) → moment_limit < now.0 → HasEffect h (λ w choice. happens w (event.Tick n now) choice) None h
 late_tick h n now late = (does_nothing h (λ w choice. happens w (event.Tick n now) choice) (λ w g choice. too_late w now.0 _ late))
 
-pub late_restart : (h : HeldCell) (n : Node) (now : Moment) → moment_limit < now.0 → Does h (λ w choice. happens w (event.Restart n now) choice) None h
+pub late_restart : (h : HeldCell) (n : Node) (now : Moment) → moment_limit < now.0 → HasEffect h (λ w choice. happens w (event.Restart n now) choice) None h
 late_restart h n now late = (does_nothing h (λ w choice. happens w (event.Restart n now) choice) (λ w g choice. too_late w now.0 _ late))
 
-pub fused : (h : HeldCell) (n : Node) (count : ℕ) (torn : Torn) → Does h (λ w choice. happens w (event.Fuse n count torn) choice) None h
+pub fused : (h : HeldCell) (n : Node) (count : ℕ) (torn : Torn) → HasEffect h (λ w choice. happens w (event.Fuse n count torn) choice) None h
 fused h n count torn = (does_nothing h (λ w choice. happens w (event.Fuse n count torn) choice) (λ w g choice. refl))
 
 pub called : (h new : HeldCell) (client : ClientId) (c : Call) (now : Moment) (answer : Option Answer) → now.0 ≤ moment_limit
-    → Does h (λ w choice. call_moves w (client.0 - 1) now.0 c choice (numbered_from_1 w.clients client.0)) answer new → Does h (λ w choice. happens w (event.Call client c now) choice) answer new
+    → HasEffect h (λ w choice. call_moves w (client.0 - 1) now.0 c choice (numbered_from_1 w.clients client.0)) answer new → HasEffect h (λ w choice. happens w (event.Call client c now) choice) answer new
 called h new client c now answer early d =
     (does_as h new (λ w choice. call_moves w (client.0 - 1) now.0 c choice (numbered_from_1 w.clients client.0)) (λ w choice. happens w (event.Call client c now) choice) answer (λ w g choice. in_time w now.0 _ early) d)
 
 pub brought : (h new : HeldCell) (number : ℕ) (now : Moment) (answer : Option Answer) → now.0 ≤ moment_limit
-    → Does h (λ w choice. delivered w now.0 choice (numbered_from_1 w.sent number)) answer new → Does h (λ w choice. happens w (event.Deliver number now) choice) answer new
+    → HasEffect h (λ w choice. delivered w now.0 choice (numbered_from_1 w.sent number)) answer new → HasEffect h (λ w choice. happens w (event.Deliver number now) choice) answer new
 brought h new number now answer early d =
     (does_as h new (λ w choice. delivered w now.0 choice (numbered_from_1 w.sent number)) (λ w choice. happens w (event.Deliver number now) choice) answer (λ w g choice. in_time w now.0 _ early) d)
 
 pub ticked : (h new : HeldCell) (n : Node) (now : Moment) (answer : Option Answer) → now.0 ≤ moment_limit
-    → Does h (λ w choice. moves w n now.0 input.Tick choice) answer new → Does h (λ w choice. happens w (event.Tick n now) choice) answer new
+    → HasEffect h (λ w choice. moves w n now.0 input.Tick choice) answer new → HasEffect h (λ w choice. happens w (event.Tick n now) choice) answer new
 ticked h new n now answer early d =
     (does_as h new (λ w choice. moves w n now.0 input.Tick choice) (λ w choice. happens w (event.Tick n now) choice) answer (λ w g choice. in_time w now.0 _ early) d)
 
 pub restarted : (h new : HeldCell) (n : Node) (now : Moment) (answer : Option Answer) → now.0 ≤ moment_limit
-    → Does h (λ w choice. restarts w n now.0 choice) answer new → Does h (λ w choice. happens w (event.Restart n now) choice) answer new
+    → HasEffect h (λ w choice. restarts w n now.0 choice) answer new → HasEffect h (λ w choice. happens w (event.Restart n now) choice) answer new
 restarted h new n now answer early d =
     (does_as h new (λ w choice. restarts w n now.0 choice) (λ w choice. happens w (event.Restart n now) choice) answer (λ w g choice. in_time w now.0 _ early) d)
 
 -- a message
 
-pub no_message : (h : HeldCell) (number moment : ℕ) → numbered_from_1 h.sent number ≡ None → Does h (λ w choice. delivered w moment choice (numbered_from_1 w.sent number)) None h
+pub no_message : (h : HeldCell) (number moment : ℕ) → numbered_from_1 h.sent number ≡ None → HasEffect h (λ w choice. delivered w moment choice (numbered_from_1 w.sent number)) None h
 no_message h number moment none = does_nothing h (λ w choice. delivered w moment choice (numbered_from_1 w.sent number)) (λ w g choice.
     ap (delivered w moment choice) (ap (λ ms. numbered_from_1 ms number) g.sent ∙ none))
 
 pub message_came : (h new : HeldCell) (number moment : ℕ) (m : Message) (answer : Option Answer) → numbered_from_1 h.sent number ≡ Some m
-    → Does h (λ w choice. moves w m.receiver moment (input_of (message_named h.sent (Some number))) choice) answer new
-    → Does h (λ w choice. delivered w moment choice (numbered_from_1 w.sent number)) answer new
+    → HasEffect h (λ w choice. moves w m.receiver moment (input_of (message_named h.sent (Some number))) choice) answer new
+    → HasEffect h (λ w choice. delivered w moment choice (numbered_from_1 w.sent number)) answer new
 message_came h new number moment m answer is d =
     does_as h new (λ w choice. moves w m.receiver moment (input_of (message_named h.sent (Some number))) choice) (λ w choice. delivered w moment choice (numbered_from_1 w.sent number)) answer
     (λ w g choice. ap (delivered w moment choice) (ap (λ ms. numbered_from_1 ms number) g.sent ∙ is)
@@ -91,7 +91,7 @@ message_came h new number moment m answer is d =
 abbrev rots_at : ServerId → Handle → ℕ → ℕ → WorldState → Choice → Happened
 rots_at id handle place byte w choice = rots_on w (id.0 - 1) handle.0 place byte (numbered_from_1 w.servers id.0)
 
-pub no_server_rots : (h : HeldCell) (id : ServerId) (handle : Handle) (place byte : ℕ) → (id.0 ≡ 0) ⊎ (length h.servers < id.0) → Does h (rots_at id handle place byte) None h
+pub no_server_rots : (h : HeldCell) (id : ServerId) (handle : Handle) (place byte : ℕ) → (id.0 ≡ 0) ⊎ (length h.servers < id.0) → HasEffect h (rots_at id handle place byte) None h
 no_server_rots h id handle place byte m = does_nothing h (rots_at id handle place byte) (λ w g choice.
     ap (rots_on w (id.0 - 1) handle.0 place byte) (ap (λ ss. numbered_from_1 ss id.0) g.servers ∙ missing h.servers id.0 m))
 
@@ -102,7 +102,7 @@ down_or_past false place chunk (inr h) = refl
 
 -- a server that is down, or a place past the chunk's end
 pub nothing_rots : (h : HeldCell) (id : ServerId) (index : ℕ) (handle : Handle) (place byte : ℕ) → id.0 ≡ suc index → index < length h.servers
-    → IsUpAt (λ (s : ServerState). s.up) h.servers index false ⊎ (h.config.chunk ≤ place) → Does h (rots_at id handle place byte) None h
+    → IsUpAt (λ (s : ServerState). s.up) h.servers index false ⊎ (h.config.chunk ≤ place) → HasEffect h (rots_at id handle place byte) None h
 nothing_rots h id index handle place byte e within why =
     let s = there h.servers index within in
     does_nothing h (rots_at id handle place byte) (λ w g choice.
@@ -137,7 +137,7 @@ unanswered w index s handle place byte None = refl
 unanswered w index s handle place byte (Some r) = refl
 
 pub server_rotted : (h : HeldCell) (id : ServerId) (index : ℕ) (handle : Handle) (place byte : ℕ) (servers : List ServerState) → id.0 ≡ suc index → IsUpAt (λ (s : ServerState). s.up) h.servers index true
-    → place < h.config.chunk → RotsAt h.servers index handle.0 place byte servers → Does h (rots_at id handle place byte) None (record h { servers = servers })
+    → place < h.config.chunk → RotsAt h.servers index handle.0 place byte servers → HasEffect h (rots_at id handle place byte) None (record h { servers = servers })
 server_rotted h id index handle place byte servers e up within k w g =
     let o = replica_of k.old.disk handle.0 in
     let found : numbered_from_1 w.servers id.0 ≡ Some k.old = ap (λ ss. numbered_from_1 ss id.0) g.servers ∙ (at_place h.servers id.0 index e ∙ k.is_there) in
@@ -154,8 +154,8 @@ server_rotted h id index handle place byte servers e up within k w g =
 
 -- an event by what it is
 
-pub event_at : (h new : HeldCell) (e other : Event) (answer : Option Answer) → e ≡ other → Does h (λ w choice. happens w other choice) answer new → Does h (λ w choice. happens w e choice) answer new
-event_at h new e other answer same d = subst (λ (x : Event). Does h (λ w choice. happens w x choice) answer new) (sym same) d
+pub event_at : (h new : HeldCell) (e other : Event) (answer : Option Answer) → e ≡ other → HasEffect h (λ w choice. happens w other choice) answer new → HasEffect h (λ w choice. happens w e choice) answer new
+event_at h new e other answer same d = subst (λ (x : Event). HasEffect h (λ w choice. happens w x choice) answer new) (sym same) d
 
-pub fuses : (h : HeldCell) (e : Event) → ((n : Node) × (count : ℕ) × (torn : Torn) × (e ≡ event.Fuse n count torn)) → Does h (λ w choice. happens w e choice) None h
+pub fuses : (h : HeldCell) (e : Event) → ((n : Node) × (count : ℕ) × (torn : Torn) × (e ≡ event.Fuse n count torn)) → HasEffect h (λ w choice. happens w e choice) None h
 fuses h e k = event_at h h e (event.Fuse k.0 k.1 k.2) None k.3 (fused h k.0 k.1 k.2)

@@ -25,7 +25,7 @@ use Rattle.protocol.specs.Observer.{observed_call, observed_moment}
 use Rattle.protocol.specs.World.{WorldState, Happened, nothing_happens, files_seen, after_master, after_server, after_client, numbered_from_1, server_moves, client_moves, moves, restarts, server_restarts_at, call_moves}
 use Rattle.protocol.specs.Conforms.{MasterRestarts, ServerSteps}
 use Rattle.cell_record.specs.declared.record.CellRecord.{CellRecord}
-use Rattle.cell_world.specs.Held.{HeldCell, IsHeldAs, Does}
+use Rattle.cell_world.specs.Held.{HeldCell, IsHeldAs, HasEffect}
 use Rattle.cell_world.specs.Steps.{IsRecorded, StepsAt, IsUpAt, RestartsAt, MasterStepsSo, ClientStepsSo, ClientCallsSo}
 use Rattle.cell_world.proofs.Left.{same_up, left_on, restarts_of_what_is_left}
 use Rattle.cell_world.proofs.After.{sent_after, held_after_master, held_after_server, held_after_client, held_called}
@@ -59,13 +59,13 @@ recorded w h before after out given shown seen answer held out_is seen_is r =
 
 -- the master
 
-pub master_down : (h : HeldCell) (moment : ℕ) (i : Input) → h.master.up ≡ false → Does h (λ w choice. moves w node.Master moment i choice) None h
+pub master_down : (h : HeldCell) (moment : ℕ) (i : Input) → h.master.up ≡ false → HasEffect h (λ w choice. moves w node.Master moment i choice) None h
 master_down h moment i down = does_nothing h (λ w choice. moves w node.Master moment i choice) (λ w g choice.
     ap (λ (b : Bool). if b then after_master w moment (master_step w.master moment i choice) else nothing_happens w) (sym (ap (λ (m : MasterState). m.up) g.master.but_under_way) ∙ down))
 
 pub master_did : (h : HeldCell) (moment : ℕ) (i : Input) (before after : CellRecord) (answer : Option Answer) (m : MasterState) (files : Table (List ℕ))
     → h.master.up ≡ true → MasterStepsSo h.master moment i before answer m after → files ≡ files_seen m h.files → before.network.messages ≡ h.sent → before.sights.seen ≡ h.seen
-    → Does h (λ w choice. moves w node.Master moment i choice) answer (record h { master = m; files = files; sent = after.network.messages; seen = after.sights.seen })
+    → HasEffect h (λ w choice. moves w node.Master moment i choice) answer (record h { master = m; files = files; sent = after.network.messages; seen = after.sights.seen })
 master_did h moment i before after answer m files up k files_are sent_is seen_is w g =
     let choice = k.steps.choice in
     let t : Taken MasterState = master_step h.master moment i choice in
@@ -105,7 +105,7 @@ silent w h sent seen none unseen held =
     held
 
 pub master_restarted : (h : HeldCell) (moment : ℕ) (out : StepOut) (m : MasterState) (files : Table (List ℕ)) → MasterRestarts h.master moment out m → files ≡ files_seen m h.files
-    → Does h (λ w choice. restarts w node.Master moment choice) None (record h { master = m; files = files })
+    → HasEffect h (λ w choice. restarts w node.Master moment choice) None (record h { master = m; files = files })
 master_restarted h moment out m files k files_are w g =
     let left = restarts_of_what_is_left w.master h.master g.master moment k.choice in
     let choice = left.0 in
@@ -119,7 +119,7 @@ master_restarted h moment out m files k files_are w g =
 
 -- a server
 
-pub no_server : (h : HeldCell) (id : ServerId) (moment : ℕ) (i : Input) → (id.0 ≡ 0) ⊎ (length h.servers < id.0) → Does h (λ w choice. moves w (node.Server id) moment i choice) None h
+pub no_server : (h : HeldCell) (id : ServerId) (moment : ℕ) (i : Input) → (id.0 ≡ 0) ⊎ (length h.servers < id.0) → HasEffect h (λ w choice. moves w (node.Server id) moment i choice) None h
 no_server h id moment i m = does_nothing h (λ w choice. moves w (node.Server id) moment i choice) (λ w g choice.
     ap (server_moves w (id.0 - 1) moment i choice) (ap (λ ss. numbered_from_1 ss id.0) g.servers ∙ missing h.servers id.0 m))
 
@@ -128,7 +128,7 @@ found_server : (w : WorldState) (h : HeldCell) (n place : ℕ) (s : ServerState)
 found_server w h n place s g e is = ap (λ ss. numbered_from_1 ss n) g.servers ∙ (at_place h.servers n place e ∙ is)
 
 pub server_down : (h : HeldCell) (id : ServerId) (place moment : ℕ) (i : Input) → id.0 ≡ suc place → place < length h.servers → IsUpAt (λ (s : ServerState). s.up) h.servers place false
-    → Does h (λ w choice. moves w (node.Server id) moment i choice) None h
+    → HasEffect h (λ w choice. moves w (node.Server id) moment i choice) None h
 server_down h id place moment i e within down =
     let s = there h.servers place within in
     does_nothing h (λ w choice. moves w (node.Server id) moment i choice) (λ w g choice.
@@ -138,7 +138,7 @@ server_down h id place moment i e within down =
 pub server_did : (h : HeldCell) (id : ServerId) (place moment : ℕ) (i : Input) (before after : CellRecord) (answer : Option Answer) (servers : List ServerState)
     → id.0 ≡ suc place → IsUpAt (λ (s : ServerState). s.up) h.servers place true
     → StepsAt (λ s out seen t. ServerSteps s moment i out seen t) h.servers place before answer servers after → before.network.messages ≡ h.sent → before.sights.seen ≡ h.seen
-    → Does h (λ w choice. moves w (node.Server id) moment i choice) answer (record h { servers = servers; sent = after.network.messages; seen = after.sights.seen })
+    → HasEffect h (λ w choice. moves w (node.Server id) moment i choice) answer (record h { servers = servers; sent = after.network.messages; seen = after.sights.seen })
 server_did h id place moment i before after answer servers e up k sent_is seen_is w g =
     let choice = k.steps.choice in
     let t : Taken ServerState = server_step k.old moment i choice in
@@ -162,12 +162,12 @@ restarts_silently s moment choice Goes = (refl, refl, refl)
 restarts_silently s moment choice Lost = (refl, refl, refl)
 restarts_silently s moment choice (Stops made) = (refl, refl, refl)
 
-pub no_server_restarts : (h : HeldCell) (id : ServerId) (moment : ℕ) → (id.0 ≡ 0) ⊎ (length h.servers < id.0) → Does h (λ w choice. restarts w (node.Server id) moment choice) None h
+pub no_server_restarts : (h : HeldCell) (id : ServerId) (moment : ℕ) → (id.0 ≡ 0) ⊎ (length h.servers < id.0) → HasEffect h (λ w choice. restarts w (node.Server id) moment choice) None h
 no_server_restarts h id moment m = does_nothing h (λ w choice. restarts w (node.Server id) moment choice) (λ w g choice.
     ap (server_restarts_at w (id.0 - 1) moment choice) (ap (λ ss. numbered_from_1 ss id.0) g.servers ∙ missing h.servers id.0 m))
 
 pub server_restarted : (h : HeldCell) (id : ServerId) (place moment : ℕ) (out : StepOut) (servers : List ServerState) → id.0 ≡ suc place → RestartsAt h.servers place moment out servers
-    → Does h (λ w choice. restarts w (node.Server id) moment choice) None (record h { servers = servers })
+    → HasEffect h (λ w choice. restarts w (node.Server id) moment choice) None (record h { servers = servers })
 server_restarted h id place moment out servers e k w g =
     let choice = k.restarts.choice in
     let t : Taken ServerState = server_restart k.old moment choice in
@@ -182,7 +182,7 @@ server_restarted h id place moment out servers e k w g =
 
 -- a client
 
-pub no_client : (h : HeldCell) (id : ClientId) (moment : ℕ) (i : Input) → (id.0 ≡ 0) ⊎ (length h.clients < id.0) → Does h (λ w choice. moves w (node.Client id) moment i choice) None h
+pub no_client : (h : HeldCell) (id : ClientId) (moment : ℕ) (i : Input) → (id.0 ≡ 0) ⊎ (length h.clients < id.0) → HasEffect h (λ w choice. moves w (node.Client id) moment i choice) None h
 no_client h id moment i m = does_nothing h (λ w choice. moves w (node.Client id) moment i choice) (λ w g choice.
     ap (client_moves w (id.0 - 1) moment i choice) (ap (λ cs. numbered_from_1 cs id.0) g.clients ∙ missing h.clients id.0 m))
 
@@ -190,7 +190,7 @@ found_client : (w : WorldState) (h : HeldCell) (n place : ℕ) (s : ClientState)
 found_client w h n place s g e is = ap (λ cs. numbered_from_1 cs n) g.clients ∙ (at_place h.clients n place e ∙ is)
 
 pub client_down : (h : HeldCell) (id : ClientId) (place moment : ℕ) (i : Input) → id.0 ≡ suc place → place < length h.clients → IsUpAt (λ (s : ClientState). s.up) h.clients place false
-    → Does h (λ w choice. moves w (node.Client id) moment i choice) None h
+    → HasEffect h (λ w choice. moves w (node.Client id) moment i choice) None h
 client_down h id place moment i e within down =
     let s = there h.clients place within in
     does_nothing h (λ w choice. moves w (node.Client id) moment i choice) (λ w g choice.
@@ -214,7 +214,7 @@ client_held w u h place moment t before after out seen answer new clients g out_
 pub client_did : (h : HeldCell) (id : ClientId) (place moment : ℕ) (i : Input) (before after : CellRecord) (answer : Option Answer) (clients : List ClientState)
     → id.0 ≡ suc place → IsUpAt (λ (s : ClientState). s.up) h.clients place true
     → StepsAt (λ s out seen t. ClientStepsSo s moment i out seen t) h.clients place before answer clients after → before.network.messages ≡ h.sent → before.sights.seen ≡ h.seen
-    → Does h (λ w choice. moves w (node.Client id) moment i choice) answer (record h { clients = clients; sent = after.network.messages; seen = after.sights.seen })
+    → HasEffect h (λ w choice. moves w (node.Client id) moment i choice) answer (record h { clients = clients; sent = after.network.messages; seen = after.sights.seen })
 client_did h id place moment i before after answer clients e up k sent_is seen_is w g =
     let choice = k.steps.steps.choice in
     let t : Taken ClientState = client_step k.old moment i choice in
@@ -229,7 +229,7 @@ client_did h id place moment i before after answer clients e up k sent_is seen_i
 -- a call
 
 pub no_caller : (h : HeldCell) (id : ClientId) (moment : ℕ) (c : Call) → (id.0 ≡ 0) ⊎ (length h.clients < id.0)
-    → Does h (λ w choice. call_moves w (id.0 - 1) moment c choice (numbered_from_1 w.clients id.0)) None h
+    → HasEffect h (λ w choice. call_moves w (id.0 - 1) moment c choice (numbered_from_1 w.clients id.0)) None h
 no_caller h id moment c m = does_nothing h (λ w choice. call_moves w (id.0 - 1) moment c choice (numbered_from_1 w.clients id.0)) (λ w g choice.
     ap (call_moves w (id.0 - 1) moment c choice) (ap (λ cs. numbered_from_1 cs id.0) g.clients ∙ missing h.clients id.0 m))
 
@@ -237,7 +237,7 @@ abbrev seen_call : WorldState → ℕ → ℕ → Call → WorldState
 seen_call w moment client c = record w { observer = observed_call (observed_moment w.config.skew_ms w.observer moment) client c }
 
 pub call_barred : (h : HeldCell) (id : ClientId) (place moment : ℕ) (c : Call) → id.0 ≡ suc place → place < length h.clients → IsUpAt may_call h.clients place false
-    → Does h (λ w choice. call_moves w (id.0 - 1) moment c choice (numbered_from_1 w.clients id.0)) None h
+    → HasEffect h (λ w choice. call_moves w (id.0 - 1) moment c choice (numbered_from_1 w.clients id.0)) None h
 call_barred h id place moment c e within barred =
     let s = there h.clients place within in
     does_nothing h (λ w choice. call_moves w (id.0 - 1) moment c choice (numbered_from_1 w.clients id.0)) (λ w g choice.
@@ -247,7 +247,7 @@ call_barred h id place moment c e within barred =
 pub call_did : (h : HeldCell) (id : ClientId) (place moment : ℕ) (c : Call) (before after : CellRecord) (answer : Option Answer) (clients : List ClientState)
     → id.0 ≡ suc place → IsUpAt may_call h.clients place true
     → StepsAt (λ s out seen t. ClientCallsSo s moment c out seen t) h.clients place before answer clients after → before.network.messages ≡ h.sent → before.sights.seen ≡ h.seen
-    → Does h (λ w choice. call_moves w (id.0 - 1) moment c choice (numbered_from_1 w.clients id.0)) answer (record h { clients = clients; sent = after.network.messages; seen = after.sights.seen })
+    → HasEffect h (λ w choice. call_moves w (id.0 - 1) moment c choice (numbered_from_1 w.clients id.0)) answer (record h { clients = clients; sent = after.network.messages; seen = after.sights.seen })
 call_did h id place moment c before after answer clients e may k sent_is seen_is w g =
     let choice = k.steps.calls.choice in
     let t : Taken ClientState = client_call k.old moment c choice in
@@ -262,14 +262,14 @@ call_did h id place moment c before after answer clients e may k sent_is seen_is
 
 -- a node by what it is
 
-pub moves_at : (h new : HeldCell) (n other : Node) (moment : ℕ) (i : Input) (answer : Option Answer) → n ≡ other → Does h (λ w choice. moves w other moment i choice) answer new
-    → Does h (λ w choice. moves w n moment i choice) answer new
-moves_at h new n other moment i answer same d = subst (λ (x : Node). Does h (λ w choice. moves w x moment i choice) answer new) (sym same) d
+pub moves_at : (h new : HeldCell) (n other : Node) (moment : ℕ) (i : Input) (answer : Option Answer) → n ≡ other → HasEffect h (λ w choice. moves w other moment i choice) answer new
+    → HasEffect h (λ w choice. moves w n moment i choice) answer new
+moves_at h new n other moment i answer same d = subst (λ (x : Node). HasEffect h (λ w choice. moves w x moment i choice) answer new) (sym same) d
 
-pub restarts_at : (h new : HeldCell) (n other : Node) (moment : ℕ) (answer : Option Answer) → n ≡ other → Does h (λ w choice. restarts w other moment choice) answer new
-    → Does h (λ w choice. restarts w n moment choice) answer new
-restarts_at h new n other moment answer same d = subst (λ (x : Node). Does h (λ w choice. restarts w x moment choice) answer new) (sym same) d
+pub restarts_at : (h new : HeldCell) (n other : Node) (moment : ℕ) (answer : Option Answer) → n ≡ other → HasEffect h (λ w choice. restarts w other moment choice) answer new
+    → HasEffect h (λ w choice. restarts w n moment choice) answer new
+restarts_at h new n other moment answer same d = subst (λ (x : Node). HasEffect h (λ w choice. restarts w x moment choice) answer new) (sym same) d
 
-pub client_restarts : (h : HeldCell) (n : Node) (id : ClientId) (moment : ℕ) → n ≡ node.Client id → Does h (λ w choice. restarts w n moment choice) None h
+pub client_restarts : (h : HeldCell) (n : Node) (id : ClientId) (moment : ℕ) → n ≡ node.Client id → HasEffect h (λ w choice. restarts w n moment choice) None h
 client_restarts h n id moment same =
     restarts_at h h n (node.Client id) moment None same (does_nothing h (λ w choice. restarts w (node.Client id) moment choice) (λ w g choice. refl))

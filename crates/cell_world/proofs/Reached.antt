@@ -5,7 +5,7 @@ use Rattle.gfs_types.specs.declared.config.Config.{Config}
 use Rattle.gfs_types.specs.declared.answer.Answer.{Answer}
 use Rattle.messages.specs.declared.event.Event.{Event}
 use Rattle.protocol.specs.World.{WorldState, happens, after_events, new_world}
-use Rattle.cell_world.specs.Held.{HeldCell, IsHeldAs, Does}
+use Rattle.cell_world.specs.Held.{HeldCell, IsHeldAs, HasEffect}
 use Rattle.cell_world.specs.Runs.{Runs, RanUntil}
 use Rattle.cell_world.specs.declared.fault.RunFault.{RunFault}
 use Rattle.cell_world.specs.declared.fault.RunFault.TheVariants.{NoMemory, Rot}
@@ -30,14 +30,14 @@ stands_run old new events answers s r =
       held = k.2;
     }
 
-pub stands_step : (old new : HeldCell) (event : Event) (answer : Option Answer) → Stands old → Does old (λ w choice. happens w event choice) answer new → Stands new
+pub stands_step : (old new : HeldCell) (event : Event) (answer : Option Answer) → Stands old → HasEffect old (λ w choice. happens w event choice) answer new → Stands new
 stands_step old new event answer s d = stands_run old new (event ∷ []) _ s (runs_more old old new [] [] event answer (runs_none old) d)
 
 pub stands_until : (old new : HeldCell) (events : List Event) (fault : RunFault) → Stands old → RanUntil old events fault new → Stands new
 stands_until old new events NoMemory s same = subst Stands (sym same) s
 stands_until old new events (Rot done) s k = stands_run old new _ k.0 s k.1
 
-pub stands_stepped : {E : Type 0} (old new : HeldCell) (event : Event) (r : Result (Option Answer) E) → Stands old → IfOk r (λ answer. Does old (λ w choice. happens w event choice) answer new) → OnErr r (new ≡ old) → Stands new
+pub stands_stepped : {E : Type 0} (old new : HeldCell) (event : Event) (r : Result (Option Answer) E) → Stands old → IfOk r (λ answer. HasEffect old (λ w choice. happens w event choice) answer new) → OnErr r (new ≡ old) → Stands new
 stands_stepped old new event (Ok answer) s ok err = stands_step old new event answer s ok
 stands_stepped old new event (Err e) s ok err = subst Stands (sym err) s
 

@@ -7,7 +7,7 @@ use Rattle.messages.specs.declared.event.Event.{Event}
 use Rattle.protocol.specs.Choice.{Choice}
 use Rattle.protocol.specs.World.{WorldState, happens, after_events}
 use Rattle.protocol.specs.Conforms.{answers_of}
-use Rattle.cell_world.specs.Held.{HeldCell, Does}
+use Rattle.cell_world.specs.Held.{HeldCell, HasEffect}
 use Rattle.cell_world.specs.Runs.{Runs}
 
 pub after_more : (w : WorldState) (steps more : List (Event × Choice)) → after_events w (steps ++ more) ≡ after_events (after_events w steps) more
@@ -25,7 +25,7 @@ pub runs_none : (h : HeldCell) → Runs h [] [] h
 runs_none h w g = (w, record { steps = []; events_are = refl; answers_are = refl; leads = refl }, g)
 
 pub runs_more : (old middle new : HeldCell) (events : List Event) (answers : List Answer) (event : Event) (answer : Option Answer) → Runs old events answers middle
-    → Does middle (λ w choice. happens w event choice) answer new → Runs old (events ++ event ∷ []) (answers ++ option_to_list answer) new
+    → HasEffect middle (λ w choice. happens w event choice) answer new → Runs old (events ++ event ∷ []) (answers ++ option_to_list answer) new
 runs_more old middle new events answers event answer r d w g =
     let so = r w g in
     let run = so.1 in

@@ -43,5 +43,5 @@ pub record IsHeldAs (w : WorldState) (h : HeldCell) : Type 0 where
   pub orders : AreHeldAs w.observer.orders (orders_seen h.seen)
 
 -- What an act comes to in each world that a cell stands for, for some choice: this answer, and a world that the new cell stands for.
-abbrev pub Does : HeldCell → (WorldState → Choice → Happened) → Option Answer → HeldCell → Type 0
-Does old act answer new = (w : WorldState) → IsHeldAs w old → (choice : Choice) × ((act w choice).out.answer ≡ answer) × IsHeldAs (act w choice).world new
+abbrev pub HasEffect : HeldCell → (WorldState → Choice → Happened) → Option Answer → HeldCell → Type 0
+HasEffect old act answer new = (w : WorldState) → IsHeldAs w old → (choice : Choice) × ((act w choice).out.answer ≡ answer) × IsHeldAs (act w choice).world new

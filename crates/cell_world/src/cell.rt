@@ -6,7 +6,7 @@ ghost use Rattle.chunkserver.specs.Inputs.{input_of};
 ghost use Rattle.cell_record.specs.Batches.{message_named};
 ghost use Rattle.protocol.specs.Tables.{moment_limit};
 ghost use Rattle.protocol.specs.World.{call_moves, delivered, happens, moves, numbered_from_1, restarts, rots_on};
-ghost use Rattle.cell_world.specs.Held.{Does};
+ghost use Rattle.cell_world.specs.Held.{HasEffect};
 ghost use Rattle.cell_world.specs.Events.{MayBeRefused};
 
 use crate::clients::{client_calls, client_may_call, client_place, client_steps, is_client_up};
@@ -60,7 +60,7 @@ impl<M: CellMaster, S: ReplicaStore> Cell<M, S> {
     /// One event. One that names no such node, message, replica, place or moment, or a node that is down, changes nothing. An
     /// error: the store of a server found no memory for a byte that rots, and nothing has changed.
     pub fn step(&mut self, event: Event) -> Result<Option<Answer>, NoMemory>
-        ensures ok { IfOk result (λ answer. Does self.old (λ w choice. happens w event choice) answer self.new) }
+        ensures ok { IfOk result (λ answer. HasEffect self.old (λ w choice. happens w event choice) answer self.new) }
         ensures err { OnErr result (self.new ≡ self.old) }
         ensures refused { OnErr result (MayBeRefused event) }
     {
@@ -104,7 +104,7 @@ impl<M: CellMaster, S: ReplicaStore> Cell<M, S> {
 
     fn takes_call(&mut self, client: ClientId, call: Call, now: Moment) -> Option<Answer>
         requires { now.0 ≤ moment_limit }
-        ensures { Does self.old (λ w choice. call_moves w (client.0 - 1) now.0 call choice (numbered_from_1 w.clients client.0)) result self.new }
+        ensures { HasEffect self.old (λ w choice. call_moves w (client.0 - 1) now.0 call choice (numbered_from_1 w.clients client.0)) result self.new }
     {
         let Some(place) = client_place(&self.clients, client) else {
             return None;
@@ -117,7 +117,7 @@ impl<M: CellMaster, S: ReplicaStore> Cell<M, S> {
 
     fn delivers(&mut self, number: u64, now: Moment) -> Option<Answer>
         requires { now.0 ≤ moment_limit }
-        ensures { Does self.old (λ w choice. delivered w now.0 choice (numbered_from_1 w.sent number)) result self.new }
+        ensures { HasEffect self.old (λ w choice. delivered w now.0 choice (numbered_from_1 w.sent number)) result self.new }
     {
         let Some(message) = self.record.network.get(number) else {
             return None;
@@ -129,7 +129,7 @@ impl<M: CellMaster, S: ReplicaStore> Cell<M, S> {
     /// A node takes a step on the message of a number, or on a tick.
     fn moves(&mut self, node: Node, given: Option<u64>, now: Moment) -> Option<Answer>
         requires { now.0 ≤ moment_limit }
-        ensures { Does self.old (λ w choice. moves w node now.0 (input_of (message_named self.old.sent given)) choice) result self.new }
+        ensures { HasEffect self.old (λ w choice. moves w node now.0 (input_of (message_named self.old.sent given)) choice) result self.new }
     {
         match node {
             Node::Master => self.master_moves(given, now),
@@ -140,7 +140,7 @@ impl<M: CellMaster, S: ReplicaStore> Cell<M, S> {
 
     fn master_moves(&mut self, given: Option<u64>, now: Moment) -> Option<Answer>
         requires { now.0 ≤ moment_limit }
-        ensures { Does self.old (λ w choice. moves w node.Master now.0 (input_of (message_named self.old.sent given)) choice) result self.new }
+        ensures { HasEffect self.old (λ w choice. moves w node.Master now.0 (input_of (message_named self.old.sent given)) choice) result self.new }
     {
         if !self.master.is_up() {
             return None;
@@ -150,7 +150,7 @@ impl<M: CellMaster, S: ReplicaStore> Cell<M, S> {
 
     fn server_moves(&mut self, id: ServerId, given: Option<u64>, now: Moment) -> Option<Answer>
         requires { now.0 ≤ moment_limit }
-        ensures { Does self.old (λ w choice. moves w (node.Server id) now.0 (input_of (message_named self.old.sent given)) choice) result self.new }
+        ensures { HasEffect self.old (λ w choice. moves w (node.Server id) now.0 (input_of (message_named self.old.sent given)) choice) result self.new }
     {
         let Some(place) = server_place(&self.servers, id) else {
             return None;
@@ -163,7 +163,7 @@ impl<M: CellMaster, S: ReplicaStore> Cell<M, S> {
 
     fn client_moves(&mut self, id: ClientId, given: Option<u64>, now: Moment) -> Option<Answer>
         requires { now.0 ≤ moment_limit }
-        ensures { Does self.old (λ w choice. moves w (node.Client id) now.0 (input_of (message_named self.old.sent given)) choice) result self.new }
+        ensures { HasEffect self.old (λ w choice. moves w (node.Client id) now.0 (input_of (message_named self.old.sent given)) choice) result self.new }
     {
         let Some(place) = client_place(&self.clients, id) else {
             return None;
@@ -177,7 +177,7 @@ impl<M: CellMaster, S: ReplicaStore> Cell<M, S> {
     /// A node begins again, whether it was up or down.
     fn restarts(&mut self, node: Node, now: Moment) -> Option<Answer>
         requires { now.0 ≤ moment_limit }
-        ensures { Does self.old (λ w choice. restarts w node now.0 choice) result self.new }
+        ensures { HasEffect self.old (λ w choice. restarts w node now.0 choice) result self.new }
     {
         match node {
             Node::Master => {
@@ -191,7 +191,7 @@ impl<M: CellMaster, S: ReplicaStore> Cell<M, S> {
 
     fn server_restarts(&mut self, id: ServerId, now: Moment) -> Option<Answer>
         requires { now.0 ≤ moment_limit }
-        ensures { Does self.old (λ w choice. restarts w (node.Server id) now.0 choice) result self.new }
+        ensures { HasEffect self.old (λ w choice. restarts w (node.Server id) now.0 choice) result self.new }
     {
         let Some(place) = server_place(&self.servers, id) else {
             return None;
@@ -202,7 +202,7 @@ impl<M: CellMaster, S: ReplicaStore> Cell<M, S> {
 
     /// A byte rots. An error: the server's store found no memory for it.
     fn rots(&mut self, id: ServerId, handle: Handle, place: u64, byte: u8) -> Result<(), NoMemory>
-        ensures ok { OnOk result (Does self.old (λ w choice. rots_on w (id.0 - 1) handle.0 place byte (numbered_from_1 w.servers id.0)) None self.new) }
+        ensures ok { OnOk result (HasEffect self.old (λ w choice. rots_on w (id.0 - 1) handle.0 place byte (numbered_from_1 w.servers id.0)) None self.new) }
         ensures err { OnErr result (self.new ≡ self.old) }
     {
         let Some(index) = server_place(&self.servers, id) else {

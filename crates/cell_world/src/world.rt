@@ -9,7 +9,7 @@ ghost use Rattle.protocol.specs.Sending.{file_id};
 ghost use Rattle.protocol.specs.World.{WorldState, happens, new_world, numbered_from_1};
 ghost use Rattle.cell_world.specs.AsStored.{as_stored};
 ghost use Rattle.cell_world.specs.Events.{MayBeRefused};
-ghost use Rattle.cell_world.specs.Held.{Does, IsHeldAs};
+ghost use Rattle.cell_world.specs.Held.{HasEffect, IsHeldAs};
 ghost use Rattle.cell_world.specs.Looks.{file_held, has_open_call, regions_held, replicas_held, server_count};
 ghost use Rattle.cell_world.specs.Runs.{Runs, RanUntil};
 
@@ -79,7 +79,7 @@ impl<M: CellMaster, S: ReplicaStore> World<M, S> {
     /// One event, and what it answers. One that names no such node, message, replica, place or moment, or a node that is down, changes
     /// nothing. An error: the store of a server found no memory for a byte that rots, and nothing has changed.
     pub fn step(&mut self, event: Event) -> Result<Option<Answer>, NoMemory>
-        ensures ok { IfOk result (λ answer. Does self.old (λ w choice. happens w event choice) answer self.new) }
+        ensures ok { IfOk result (λ answer. HasEffect self.old (λ w choice. happens w event choice) answer self.new) }
         ensures err { OnErr result (self.new ≡ self.old) }
         ensures refused { OnErr result (MayBeRefused event) }
     {

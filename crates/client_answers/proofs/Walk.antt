@@ -103,15 +103,15 @@ gets_one d c found round h =
     (λ _. completes_one d got (answer.Bytes got.bytes got.rounds) h) (λ _. next_one d got h)
 
 told_none_one : (d : ClientDoing) (c : CurrentCall) (asked : Call) → Unanswered d → One d → One (told_none d c asked)
-told_none_one d c (call.Read fd offset count) h p = gets_one d (record c { is_nobody_told = false }) [] None h
+told_none_one d c (call.Read fd offset count) h p = gets_one d (record c { saw_no_holder = false }) [] None h
 told_none_one d c (call.Length fd) h p = completes_one d c (answer.Length 0) h
 told_none_one d c other h p = p
 
 told_location_one : (d : ClientDoing) (c : CurrentCall) (l : Location) → Unanswered d → One (told_location d c l)
 told_location_one d c l h =
     let there : ClientDoing = record d { client = record d.client { cache = with_location d.client c.file.0 l } } in
-    let heard : CurrentCall = record c { is_nobody_told = false; is_nobody_serving = false } in
-    on_cond One (is_empty_list l.holders) (with_current d (record c { stage = MustAskAgain; is_nobody_told = true; is_nobody_serving = true })) (goes_on_at there heard l)
+    let heard : CurrentCall = record c { saw_no_holder = false; is_nobody_serving = false } in
+    on_cond One (is_empty_list l.holders) (with_current d (record c { stage = MustAskAgain; saw_no_holder = true; is_nobody_serving = true })) (goes_on_at there heard l)
     (λ _. stays d h) (λ _. goes_on_one there heard l h)
 
 told_one : (d : ClientDoing) (c : CurrentCall) (o : Option Location) → Unanswered d → One d → One (told d c o)
@@ -132,7 +132,7 @@ takes_named_one d c other number r p = p
 
 takes_wait_one : (d : ClientDoing) (c : CurrentCall) (st : Stage) (number : ℕ) → Unanswered d → One d → One (takes_wait d c st number)
 takes_wait_one d c (AskedWhere asked) number h p =
-    on_cond One (asked == number) (with_current d (record c { stage = MustAskAgain; is_nobody_told = false; is_nobody_serving = false })) d (λ _. stays d h) (λ _. p)
+    on_cond One (asked == number) (with_current d (record c { stage = MustAskAgain; saw_no_holder = false; is_nobody_serving = false })) d (λ _. stays d h) (λ _. p)
 takes_wait_one d c other number h p = p
 
 takes_pushed_one : (d : ClientDoing) (c : CurrentCall) (st : Stage) (id : DataId) → Unanswered d → One d → One (takes_pushed d c st id)

@@ -178,7 +178,7 @@ fn last_refusal(current: &CurrentCall) -> Refusal
     ensures { result ≡ last_refusal current.now }
 {
     if is_mutation(&current.asked) {
-        if current.is_nobody_told {
+        if current.saw_no_holder {
             Refusal::NoReplica
         } else {
             Refusal::Failed

@@ -46,7 +46,7 @@ impl Client {
             deadline: Moment(0),
             stage: Stage::IsOver,
             lost_lease: false,
-            is_nobody_told: false,
+            saw_no_holder: false,
             is_nobody_serving: false,
             live: Sequence::empty(self.alloc),
             bytes: Gathered::new(self.alloc),

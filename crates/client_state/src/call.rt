@@ -77,7 +77,7 @@ pub struct CurrentCall {
     /// Whether the primary answered the attempt before that it has no lease or no replica.
     pub lost_lease: bool,
     /// Whether the master's last answer named no holder.
-    pub is_nobody_told: bool,
+    pub saw_no_holder: bool,
     /// Whether the attempt found no server that answers a read.
     pub is_nobody_serving: bool,
     pub live: Sequence<LiveAttempt>,

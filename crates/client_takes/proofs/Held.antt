@@ -65,9 +65,9 @@ pub located_held : (s : ClientState) (k c : CurrentCall) (l : Location) → told
 located_held s k c l =
     ap
     (λ (next : ClientDoing).
-    if is_empty_list l.holders then with_current (client_begins s) (record c { stage = MustAskAgain; is_nobody_told = true; is_nobody_serving = true })
+    if is_empty_list l.holders then with_current (client_begins s) (record c { stage = MustAskAgain; saw_no_holder = true; is_nobody_serving = true })
     else next)
-    (goes_on_held (record s { cache = with_location s c.file.0 l }) k (record c { is_nobody_told = false; is_nobody_serving = false }) l)
+    (goes_on_held (record s { cache = with_location s c.file.0 l }) k (record c { saw_no_holder = false; is_nobody_serving = false }) l)
 
 kept_held : (s : ClientState) (k c : CurrentCall) (kept : Option Cached) → begins_with (holding s k) c kept ≡ begins_with (client_begins s) c kept
 kept_held s k c None = refl

@@ -14,7 +14,7 @@ holding s c = with_current (client_begins s) c
 
 -- the call asks again at a tick
 abbrev pub waits_to_ask : ClientDoing → CurrentCall → Bool → ClientDoing
-waits_to_ask d c is_nobody_there = with_current d (record c { stage = MustAskAgain; is_nobody_told = is_nobody_there; is_nobody_serving = is_nobody_there })
+waits_to_ask d c is_nobody_there = with_current d (record c { stage = MustAskAgain; saw_no_holder = is_nobody_there; is_nobody_serving = is_nobody_there })
 
 -- a server's refusal
 abbrev pub server_refuses : ClientDoing → CurrentCall → Stage → ℕ → ClientDoing

@@ -21,7 +21,7 @@ fn waits_to_ask(client: &mut Client, mut current: CurrentCall, is_nobody_there: 
     ensures { waits_to_ask (client_begins client.old) current is_nobody_there ≡ doing client.new result }
 {
     current.stage = Stage::MustAskAgain;
-    current.is_nobody_told = is_nobody_there;
+    current.saw_no_holder = is_nobody_there;
     current.is_nobody_serving = is_nobody_there;
     client.waits(current)
 }
@@ -80,9 +80,9 @@ fn told(
 /// A read finds no chunk.
 #[tactic(auto, using(crate::proofs::Held::gets_held))]
 fn reads_nothing(client: &mut Client, mut current: CurrentCall) -> Result<Effects, NoMemory>
-    ensures { IfOk result (λ e. gets (holding client.old current) (record current { is_nobody_told = false }) [] None ≡ doing client.new e) }
+    ensures { IfOk result (λ e. gets (holding client.old current) (record current { saw_no_holder = false }) [] None ≡ doing client.new e) }
 {
-    current.is_nobody_told = false;
+    current.saw_no_holder = false;
     let found = Bytes::new();
     gets(client, current, &found, None)
 }
@@ -110,7 +110,7 @@ fn told_location(
         return Ok(waits_to_ask(client, current, true));
     }
     client.keeps(current.file, location)?;
-    current.is_nobody_told = false;
+    current.saw_no_holder = false;
     current.is_nobody_serving = false;
     client.goes_on_at(current, location)
 }

@@ -143,7 +143,7 @@ fn line_of(handle: u64, primary: &SerialOrder) -> LeaseLine
     LeaseLine {
         handle: Handle(handle),
         version: primary.held().version(),
-        wants_more: primary.wants_more(),
+        was_used_since_report: primary.was_used_since_report(),
     }
 }
 

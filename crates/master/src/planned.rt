@@ -8,7 +8,7 @@ ghost use Rattle.protocol.specs.MasterStep.{master_takes, master_ticks, master_d
 ghost use Rattle.master_plan.specs.Plans.{doing};
 ghost use Rattle.master.specs.Inputs.{input_of};
 ghost use Rattle.master_laws.specs.Kinds.{is_name, is_of_client};
-ghost use Rattle.master_names.specs.Doing.{Does};
+ghost use Rattle.master_names.specs.Doing.{IsPlanned};
 ghost use Rattle.master.specs.Ends.{Goes};
 
 use gfs_types::ids::{ClientId, Moment, Node, ServerId};
@@ -46,7 +46,7 @@ fn does<L: OperationLog, A: Allocator + Clone>(
     plan: &mut Plan<A>,
     message: Option<&Message>,
 ) -> Result<(), PlanFault>
-    ensures { OnOk result (Does (λ d. master_does d (input_of (option_copied message.entry))) (L.disk log.now) plan.old plan.new) }
+    ensures { OnOk result (IsPlanned (λ d. master_does d (input_of (option_copied message.entry))) (L.disk log.now) plan.old plan.new) }
 {
     match message {
         None => ticks(log, plan),
@@ -58,7 +58,7 @@ fn ticks<L: OperationLog, A: Allocator + Clone>(
     log: &L,
     plan: &mut Plan<A>,
 ) -> Result<(), PlanFault>
-    ensures { OnOk result (Does master_ticks (L.disk log.now) plan.old plan.new) }
+    ensures { OnOk result (IsPlanned master_ticks (L.disk log.now) plan.old plan.new) }
 {
     master_ticks(log, plan)?;
     Ok(())
@@ -69,7 +69,7 @@ fn takes<L: OperationLog, A: Allocator + Clone>(
     plan: &mut Plan<A>,
     message: &Message,
 ) -> Result<(), PlanFault>
-    ensures { OnOk result (Does (λ d. master_takes d message.now message.now.body) (L.disk log.now) plan.old plan.new) }
+    ensures { OnOk result (IsPlanned (λ d. master_takes d message.now message.now.body) (L.disk log.now) plan.old plan.new) }
 {
     match &message.body {
         Body::Name {

@@ -13,20 +13,20 @@ use Rattle.protocol.specs.MasterSnapshots.{settles_name, refuses_name, changes_n
 use Rattle.master_plan.specs.Plans.{PlanState, doing, master_of}
 use Rattle.master_plan.specs.Logging.{was_logged, tried}
 use Rattle.master_plan.proofs.Logs.{logs_by}
-use Rattle.master_names.specs.Doing.{answered, Does, named, Changes}
+use Rattle.master_names.specs.Doing.{answered, IsPlanned, named, Changes}
 
 -- a part that uses no answers
 pub uses_none : (f : MasterDoing → MasterDoing) (disk : LogDisk) (old new : PlanState)
-    → ((rest : List Bool) → f (answered disk old rest) ≡ answered disk new rest) → Does f disk old new
+    → ((rest : List Bool) → f (answered disk old rest) ≡ answered disk new rest) → IsPlanned f disk old new
 uses_none f disk old new leads = record { used = []; leads = leads }
 
 -- a part that comes to another one, which goes on from another plan
 pub goes_on : (f g : MasterDoing → MasterDoing) (disk : LogDisk) (old mid new : PlanState)
-    → ((answers : List Bool) → f (answered disk old answers) ≡ g (answered disk mid answers)) → Does g disk mid new → Does f disk old new
+    → ((answers : List Bool) → f (answered disk old answers) ≡ g (answered disk mid answers)) → IsPlanned g disk mid new → IsPlanned f disk old new
 goes_on f g disk old mid new same does = record { used = does.used; leads = λ rest. same (does.used ++ rest) ∙ does.leads rest }
 
 -- two parts, one after the other
-pub then_does : (f g : MasterDoing → MasterDoing) (disk : LogDisk) (old mid new : PlanState) → Does f disk old mid → Does g disk mid new → Does (λ d. g (f d)) disk old new
+pub then_does : (f g : MasterDoing → MasterDoing) (disk : LogDisk) (old mid new : PlanState) → IsPlanned f disk old mid → IsPlanned g disk mid new → IsPlanned (λ d. g (f d)) disk old new
 then_does f g disk old mid new first second = record {
   used = first.used ++ second.used;
   leads = λ rest.
@@ -94,10 +94,10 @@ module _ (disk : LogDisk) (client number : ℕ) (entry : Record) (old new : Plan
 -- the same from the plan that the room was tried at, with the record that was made
 pub changes_with : (disk : LogDisk) (client number : ℕ) (c : Call) (tried_at old new : PlanState) (made entry : Record)
     → tried_at ≡ old → made ≡ entry → IsTrue (needs_room c) → Changes disk client number made tried_at new
-    → Does (λ d. changes_names d client number c entry) disk old new
+    → IsPlanned (λ d. changes_names d client number c entry) disk old new
 changes_with disk client number c tried_at old new made entry same is roomy does =
-    subst (λ (x : PlanState). Does (λ d. changes_names d client number c entry) disk x new) same
-    (subst (λ (x : Record). Does (λ d. changes_names d client number c x) disk tried_at new) is (does c roomy))
+    subst (λ (x : PlanState). IsPlanned (λ d. changes_names d client number c entry) disk x new) same
+    (subst (λ (x : Record). IsPlanned (λ d. changes_names d client number c x) disk tried_at new) is (does c roomy))
 
 -- a record's settling, with the record that was made
 pub settles_with : (disk : LogDisk) (client number : ℕ) (refusal : Option Refusal) (old new : PlanState) (made entry : Record) → made ≡ entry
@@ -108,5 +108,5 @@ settles_with disk client number refusal old new made entry is goes rest =
 
 -- a part that looks at the master as it begins
 pub from_start : (f : MasterState → MasterDoing → MasterDoing) (disk : LogDisk) (old new : PlanState)
-    → Does (f (master_of disk old)) disk old new → Does (λ d. f d.master d) disk old new
+    → IsPlanned (f (master_of disk old)) disk old new → IsPlanned (λ d. f d.master d) disk old new
 from_start f disk old new does = record { used = does.used; leads = does.leads }

@@ -15,7 +15,7 @@ use Rattle.protocol.specs.Master.{MasterDoing, PendingSnapshot, has_lease, order
 use Rattle.protocol.specs.MasterSnapshots.{takes_locks, snapshot_handles, snapshot_files, copies_for_files, changes_names, revokes_row, revokes_all, begins_snapshot, lets_go, is_ready, takes_snapshot, takes_ready}
 use Rattle.protocol.specs.MasterNames.{performs}
 use Rattle.master_plan.specs.Plans.{PlanState, doing, known}
-use Rattle.master_names.specs.Doing.{answered, Does, Changes}
+use Rattle.master_names.specs.Doing.{answered, IsPlanned, Changes}
 use Rattle.master_names.proofs.Parts.{uses_none, goes_on, then_does, changes_with}
 
 by_lease : (d : MasterDoing) (rest : List Bool) (server : ℕ) (b : OrderNo → Body) (lease : Bool)
@@ -42,14 +42,14 @@ given_up d s = gives_up_copies (without_attempts (takes_locks d s) (snapshot_han
 
 module _ (disk : LogDisk) (old new : PlanState) (s : PendingSnapshot) where
   -- a snapshot begins
-  pub begins : ((every : LogDisk) → begins_snapshot (doing every old) s ≡ doing every new) → Does (λ d. begins_snapshot d s) disk old new
+  pub begins : ((every : LogDisk) → begins_snapshot (doing every old) s ≡ doing every new) → IsPlanned (λ d. begins_snapshot d s) disk old new
   begins goes = uses_none (λ d. begins_snapshot d s) disk old new (λ rest.
       revokes_all_answered (given_up (doing disk old) s) rest (snapshot_handles (known old) s) ∙ ap (λ (d : MasterDoing). record d { refused = rest }) (goes disk))
 
   -- it is taken once its locks are back, and its names were tried
   pub takes : (mid tried_at : PlanState) (client number : ℕ) (made : Record)
       → ((every : LogDisk) → lets_go (doing every old) s ≡ doing every mid) → tried_at ≡ mid → client ≡ s.client → number ≡ s.number
-      → made ≡ log.Snapshot (client_id s.client) s.number s.from s.to → Changes disk client number made tried_at new → Does (λ d. takes_snapshot d s) disk old new
+      → made ≡ log.Snapshot (client_id s.client) s.number s.from s.to → Changes disk client number made tried_at new → IsPlanned (λ d. takes_snapshot d s) disk old new
   takes mid tried_at client number made goes same client_is number_is is does =
       let entry : Record = log.Snapshot (client_id s.client) s.number s.from s.to in
       let f : MasterDoing → MasterDoing = λ d. changes_names d s.client s.number (call.Snapshot s.from s.to) entry in
@@ -59,30 +59,30 @@ module _ (disk : LogDisk) (old new : PlanState) (s : PendingSnapshot) where
       (changes_with disk s.client s.number (call.Snapshot s.from s.to) tried_at mid new made entry same is refl at_number)
 
   -- it is taken where it is ready
-  pub takes_it : is_ready (known old) s ≡ true → Does (λ d. takes_snapshot d s) disk old new → Does (λ d. cond (is_ready d.master s) (takes_snapshot d s) d) disk old new
+  pub takes_it : is_ready (known old) s ≡ true → IsPlanned (λ d. takes_snapshot d s) disk old new → IsPlanned (λ d. cond (is_ready d.master s) (takes_snapshot d s) d) disk old new
   takes_it ready does = goes_on _ (λ d. takes_snapshot d s) disk old old new
       (λ answers. ap (λ b. cond b (takes_snapshot (answered disk old answers) s) (answered disk old answers)) ready) does
 
-  pub leaves_it : is_ready (known old) s ≡ false → new ≡ old → Does (λ d. cond (is_ready d.master s) (takes_snapshot d s) d) disk old new
+  pub leaves_it : is_ready (known old) s ≡ false → new ≡ old → IsPlanned (λ d. cond (is_ready d.master s) (takes_snapshot d s) d) disk old new
   leaves_it waits is = uses_none _ disk old new (λ rest.
       ap (λ b. cond b (takes_snapshot (answered disk old rest) s) (answered disk old rest)) waits ∙ ap (λ (p : PlanState). answered disk p rest) (sym is))
 
   -- a Snapshot that meets no refusal
   pub performs_snapshot : (c : Call) (from to : Path) → c ≡ call.Snapshot from to → s.from ≡ from → s.to ≡ to
-      → ((every : LogDisk) → begins_snapshot (doing every old) s ≡ doing every new) → Does (λ d. performs d s.client s.number s.deadline c) disk old new
+      → ((every : LogDisk) → begins_snapshot (doing every old) s ≡ doing every new) → IsPlanned (λ d. performs d s.client s.number s.deadline c) disk old new
   performs_snapshot c from to is from_is to_is goes =
       let pending : PendingSnapshot = record s { from = from; to = to } in
       let same : s ≡ pending = ap (λ (p : Path). record s { from = p }) from_is ∙ ap (λ (p : Path). record s { from = from; to = p }) to_is in
-      subst (λ (x : Call). Does (λ d. performs d s.client s.number s.deadline x) disk old new) (sym is)
+      subst (λ (x : Call). IsPlanned (λ d. performs d s.client s.number s.deadline x) disk old new) (sym is)
       (goes_on _ (λ d. begins_snapshot d s) disk old old new (λ answers. ap (λ (x : PendingSnapshot). begins_snapshot (answered disk old answers) x) (sym same)) (begins goes))
 
 -- one more is looked at
 pub one_more : (disk : LogDisk) (old mid new : PlanState) (s : PendingSnapshot) (all left : List PendingSnapshot) → all ≡ s ∷ left
-    → Does (λ d. cond (is_ready d.master s) (takes_snapshot d s) d) disk old mid → Does (λ d. takes_ready d left) disk mid new → Does (λ d. takes_ready d all) disk old new
+    → IsPlanned (λ d. cond (is_ready d.master s) (takes_snapshot d s) d) disk old mid → IsPlanned (λ d. takes_ready d left) disk mid new → IsPlanned (λ d. takes_ready d all) disk old new
 one_more disk old mid new s all left is first rest =
-    subst (λ (l : List PendingSnapshot). Does (λ d. takes_ready d l) disk old new) (sym is)
+    subst (λ (l : List PendingSnapshot). IsPlanned (λ d. takes_ready d l) disk old new) (sym is)
     (then_does (λ d. cond (is_ready d.master s) (takes_snapshot d s) d) (λ d. takes_ready d left) disk old mid new first rest)
 
 -- none is left
-pub none_left : (disk : LogDisk) (p : PlanState) (all : List PendingSnapshot) → all ≡ [] → Does (λ d. takes_ready d all) disk p p
+pub none_left : (disk : LogDisk) (p : PlanState) (all : List PendingSnapshot) → all ≡ [] → IsPlanned (λ d. takes_ready d all) disk p p
 none_left disk p all is = uses_none (λ d. takes_ready d all) disk p p (λ rest. ap (λ (l : List PendingSnapshot). takes_ready (answered disk p rest) l) is)

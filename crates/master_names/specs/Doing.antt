@@ -17,7 +17,7 @@ abbrev pub answered : LogDisk → PlanState → List Bool → MasterDoing
 answered disk p answers = record (doing disk p) { refused = answers }
 
 -- A part of a step leads from one plan to another, for some answers, beside those that the rest of the step uses.
-pub record Does (f : MasterDoing → MasterDoing) (disk : LogDisk) (old new : PlanState) : Type 0 where
+pub record IsPlanned (f : MasterDoing → MasterDoing) (disk : LogDisk) (old new : PlanState) : Type 0 where
   pub used : List Bool
   pub leads : (rest : List Bool) → f (answered disk old (used ++ rest)) ≡ answered disk new rest
 
@@ -27,4 +27,4 @@ named p client number refusal = told p (the_client client) (body.Named number (A
 
 -- a call that needs room for names is logged, or that there is none
 abbrev pub Changes : LogDisk → ℕ → ℕ → Record → PlanState → PlanState → Type 0
-Changes disk client number entry old new = (c : Call) → IsTrue (needs_room c) → Does (λ d. changes_names d client number c entry) disk old new
+Changes disk client number entry old new = (c : Call) → IsTrue (needs_room c) → IsPlanned (λ d. changes_names d client number c entry) disk old new

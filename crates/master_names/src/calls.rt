@@ -7,7 +7,7 @@ ghost use Rattle.protocol.specs.Logged.{LogDisk};
 ghost use Rattle.protocol.specs.Sending.{client_id, file_id, moment_of};
 ghost use Rattle.protocol.specs.MasterSnapshots.{settles_name, changes_names, begins_snapshot};
 ghost use Rattle.master_plan.specs.Plans.{doing};
-ghost use Rattle.master_names.specs.Doing.{answered, Does};
+ghost use Rattle.master_names.specs.Doing.{answered, IsPlanned};
 
 use crate::answers::{changes_names, settles_name};
 use gfs_types::ids::{ClientId, MAX_COUNTER, Moment};
@@ -28,7 +28,7 @@ pub(crate) fn makes_directory<L: OperationLog, A: Allocator + Clone>(
     number: u64,
     path: &Text,
 ) -> Result<(), PlanFault>
-    ensures { OnOk result (Does (λ d. changes_names d client.0 number (call.Mkdir path.now) (entries.Mkdir (client_id client.0) number path.now)) (L.disk log.now) plan.old plan.new) }
+    ensures { OnOk result (IsPlanned (λ d. changes_names d client.0 number (call.Mkdir path.now) (entries.Mkdir (client_id client.0) number path.now)) (L.disk log.now) plan.old plan.new) }
 {
     let has_room = plan.has_room(path)?;
     let entry = Record::Mkdir {
@@ -64,7 +64,7 @@ pub(crate) fn creates<L: OperationLog, A: Allocator + Clone>(
     number: u64,
     path: &Text,
 ) -> Result<(), PlanFault>
-    ensures { OnOk result (Does (λ d. changes_names d client.0 number (call.Create path.now) (entries.Create (client_id client.0) number (file_id d.master.logged.next_file) path.now)) (L.disk log.now) plan.old plan.new) }
+    ensures { OnOk result (IsPlanned (λ d. changes_names d client.0 number (call.Create path.now) (entries.Create (client_id client.0) number (file_id d.master.logged.next_file) path.now)) (L.disk log.now) plan.old plan.new) }
 {
     let file = plan.state().table().next_file();
     if file.0 >= MAX_COUNTER {
@@ -87,7 +87,7 @@ pub(crate) fn deletes<L: OperationLog, A: Allocator + Clone>(
     number: u64,
     path: &Text,
 ) -> Result<(), PlanFault>
-    ensures { OnOk result (Does (λ d. changes_names d client.0 number (call.Delete path.now) (entries.Delete (client_id client.0) number (moment_of d.master.now) path.now)) (L.disk log.now) plan.old plan.new) }
+    ensures { OnOk result (IsPlanned (λ d. changes_names d client.0 number (call.Delete path.now) (entries.Delete (client_id client.0) number (moment_of d.master.now) path.now)) (L.disk log.now) plan.old plan.new) }
 {
     let moment = plan.now();
     let has_room = plan.has_room_to_hide(path, moment)?;
@@ -108,7 +108,7 @@ pub(crate) fn renames<L: OperationLog, A: Allocator + Clone>(
     from: &Text,
     to: &Text,
 ) -> Result<(), PlanFault>
-    ensures { OnOk result (Does (λ d. changes_names d client.0 number (call.Rename from.now to.now) (entries.Rename (client_id client.0) number from.now to.now)) (L.disk log.now) plan.old plan.new) }
+    ensures { OnOk result (IsPlanned (λ d. changes_names d client.0 number (call.Rename from.now to.now) (entries.Rename (client_id client.0) number from.now to.now)) (L.disk log.now) plan.old plan.new) }
 {
     let has_room = plan.has_room(to)?;
     let entry = Record::Rename {

@@ -2,7 +2,7 @@
 
 ghost use Rattle.std.specs.Prelude.{◌≡◌, OnOk};
 ghost use Rattle.protocol.specs.MasterNames.{performs, names_by, names_anew, takes_name};
-ghost use Rattle.master_names.specs.Doing.{Does};
+ghost use Rattle.master_names.specs.Doing.{IsPlanned};
 
 use crate::answers::{answers_name, refuses_name};
 use crate::calls::{creates, deletes, makes_directory, removes_directory, renames, waits};
@@ -26,7 +26,7 @@ pub fn takes_name<L: OperationLog, A: Allocator + Clone>(
     deadline: Moment,
     call: &Call,
 ) -> Result<(), PlanFault>
-    ensures { OnOk result (Does (λ d. takes_name d client.0 number deadline.0 call.now) (L.disk log.now) plan.old plan.new) }
+    ensures { OnOk result (IsPlanned (λ d. takes_name d client.0 number deadline.0 call.now) (L.disk log.now) plan.old plan.new) }
 {
     if let Some(kept) = plan.state().kept_call(client) {
         if kept.number() == number {
@@ -50,7 +50,7 @@ fn names_anew<L: OperationLog, A: Allocator + Clone>(
     deadline: Moment,
     call: &Call,
 ) -> Result<(), PlanFault>
-    ensures { OnOk result (Does (λ d. names_anew d client.0 number deadline.0 call.now) (L.disk log.now) plan.old plan.new) }
+    ensures { OnOk result (IsPlanned (λ d. names_anew d client.0 number deadline.0 call.now) (L.disk log.now) plan.old plan.new) }
 {
     if deadline.0 <= plan.now().0 || is_waiting(plan, client, number) {
         return Ok(());
@@ -71,7 +71,7 @@ fn performs<L: OperationLog, A: Allocator + Clone>(
     deadline: Moment,
     call: &Call,
 ) -> Result<(), PlanFault>
-    ensures { OnOk result (Does (λ d. performs d client.0 number deadline.0 call.now) (L.disk log.now) plan.old plan.new) }
+    ensures { OnOk result (IsPlanned (λ d. performs d client.0 number deadline.0 call.now) (L.disk log.now) plan.old plan.new) }
 {
     match call {
         Call::Mkdir(path) => makes_directory(log, plan, client, number, path),

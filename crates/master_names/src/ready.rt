@@ -2,7 +2,7 @@
 
 ghost use Rattle.std.specs.Prelude.{◌≡◌, if◌then◌else◌, OnOk};
 ghost use Rattle.protocol.specs.MasterSnapshots.{is_ready, takes_snapshot, takes_ready};
-ghost use Rattle.master_names.specs.Doing.{Does};
+ghost use Rattle.master_names.specs.Doing.{IsPlanned};
 
 use crate::answers::changes_names;
 use log_records::record::Record;
@@ -19,7 +19,7 @@ pub fn takes_ready<L: OperationLog, A: Allocator + Clone>(
     log: &L,
     plan: &mut Plan<A>,
 ) -> Result<(), PlanFault>
-    ensures { OnOk result (Does (λ d. takes_ready d d.master.snapshots) (L.disk log.now) plan.old plan.new) }
+    ensures { OnOk result (IsPlanned (λ d. takes_ready d d.master.snapshots) (L.disk log.now) plan.old plan.new) }
 {
     let snapshots = plan.copied_snapshots()?;
     takes_those_ready(log, plan, &snapshots)
@@ -30,7 +30,7 @@ fn takes_those_ready<L: OperationLog, A: Allocator + Clone>(
     plan: &mut Plan<A>,
     snapshots: &[Pending],
 ) -> Result<(), PlanFault>
-    ensures { OnOk result (Does (λ d. takes_ready d snapshots.now) (L.disk log.now) plan.old plan.new) }
+    ensures { OnOk result (IsPlanned (λ d. takes_ready d snapshots.now) (L.disk log.now) plan.old plan.new) }
 {
     for snapshot in snapshots {
         takes_if_ready(log, plan, snapshot)?;
@@ -44,7 +44,7 @@ fn takes_if_ready<L: OperationLog, A: Allocator + Clone>(
     plan: &mut Plan<A>,
     snapshot: &Pending,
 ) -> Result<(), PlanFault>
-    ensures { OnOk result (Does (λ d. if is_ready d.master snapshot.now then takes_snapshot d snapshot.now else d) (L.disk log.now) plan.old plan.new) }
+    ensures { OnOk result (IsPlanned (λ d. if is_ready d.master snapshot.now then takes_snapshot d snapshot.now else d) (L.disk log.now) plan.old plan.new) }
 {
     if !is_ready(plan, snapshot)? {
         return Ok(());
@@ -58,7 +58,7 @@ fn takes_snapshot<L: OperationLog, A: Allocator + Clone>(
     plan: &mut Plan<A>,
     snapshot: &Pending,
 ) -> Result<(), PlanFault>
-    ensures { OnOk result (Does (λ d. takes_snapshot d snapshot.now) (L.disk log.now) plan.old plan.new) }
+    ensures { OnOk result (IsPlanned (λ d. takes_snapshot d snapshot.now) (L.disk log.now) plan.old plan.new) }
 {
     let from = snapshot.from().to_text(plan.alloc())?;
     let to = snapshot.to().to_text(plan.alloc())?;

@@ -23,7 +23,9 @@ fn may_extend<A: Allocator + Clone>(
 ) -> Result<bool, PlanFault>
     ensures { IfOk result (λ b. b ≡ may_extend (known plan.now) server.0 line chunk.now) }
 {
-    let asks = line.wants_more && chunk.granted() == line.version && chunk.primary() == server;
+    let asks = line.was_used_since_report
+        && chunk.granted() == line.version
+        && chunk.primary() == server;
     if !asks || !plan.has_lease(chunk) {
         return Ok(false);
     }

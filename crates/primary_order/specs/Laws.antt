@@ -26,7 +26,7 @@ after_call p (Deny client seq r) = denied p client seq r
 after_call p (Acknowledge server serial now) = acknowledged (seen_at p now) server serial
 after_call p (Refuse serial r) = refused p serial r
 after_call p (ExtendLease until now) = extended p until now
-after_call p Report = record p { wants_more = false }
+after_call p Report = record p { was_used_since_report = false }
 after_call p EndLease = ended p
 
 abbrev pub after_calls : Primary → List OrderCall → Primary

@@ -25,7 +25,7 @@ abbrev pub counter_limit : ℕ
 counter_limit = 4_611_686_018_427_387_903
 
 abbrev pub new_primary : HeldState → Primary
-new_primary held = record { held = held; serial = 0; wants_more = false; kept = map.empty; waiting = map.empty }
+new_primary held = record { held = held; serial = 0; was_used_since_report = false; kept = map.empty; waiting = map.empty }
 
 -- the place that a success tells; a pad has none
 abbrev pub place_of : Mutation → Option ℕ
@@ -67,7 +67,7 @@ abbrev pub numbered : Primary → ClientId → ℕ → Option ℕ → Primary
 numbered p client seq place =
     record p {
       serial = p.serial + 1;
-      wants_more = true;
+      was_used_since_report = true;
       kept = map.insert p.kept client.0 (kept_as seq IsPending);
       waiting = map.insert p.waiting (p.serial + 1) (record { client = client; seq = seq; members = p.held.lease.members; place = place });
     }

@@ -15,7 +15,7 @@ use Rattle.primary_order.specs.declared.order.SerialOrder.{SerialOrder}
 use Rattle.primary_order.specs.PrimaryOrder.{kept_as, with_standing, waiting_by, settled_by, settled_kept, success_of}
 
 abbrev pub new_order : LeaseHeld → SerialOrder
-new_order held = record { held = held; serial = 0; wants_more = false; kept = map.empty; waiting = map.empty }
+new_order held = record { held = held; serial = 0; was_used_since_report = false; kept = map.empty; waiting = map.empty }
 
 -- an attempt's number against its client's last one: new, the same, or lower
 abbrev pub attempted_by : ℕ → Option Kept → Attempted
@@ -34,7 +34,7 @@ abbrev pub numbered : SerialOrder → ClientId → ℕ → Option ℕ → Serial
 numbered p client seq place =
     record p {
       serial = p.serial + 1;
-      wants_more = true;
+      was_used_since_report = true;
       kept = map.insert p.kept client.0 (kept_as seq IsPending);
       waiting = map.insert p.waiting (p.serial + 1) (record { client = client; seq = seq; members = p.held.members; place = place });
     }

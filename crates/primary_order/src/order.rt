@@ -22,7 +22,7 @@ use std::alloc::Global;
 pub struct SerialOrder {
     held: Lease,
     serial: u64,
-    wants_more: bool,
+    was_used_since_report: bool,
     kept: NumberMap<Kept>,
     waiting: NumberMap<Waiting>,
 }
@@ -35,7 +35,7 @@ impl SerialOrder {
         SerialOrder {
             held,
             serial: 0,
-            wants_more: false,
+            was_used_since_report: false,
             kept: NumberMap::new(alloc),
             waiting: NumberMap::new(alloc),
         }
@@ -56,10 +56,10 @@ impl SerialOrder {
     }
 
     /// Whether a mutation was numbered since the last report.
-    pub fn wants_more(&self) -> bool
-        ensures { result ≡ self.now.wants_more }
+    pub fn was_used_since_report(&self) -> bool
+        ensures { result ≡ self.now.was_used_since_report }
     {
-        self.wants_more
+        self.was_used_since_report
     }
 
     /// What an attempt's number is to its client's last one. Takes no memory.
@@ -117,7 +117,7 @@ impl SerialOrder {
             return Err(NoMemory);
         };
         self.serial = serial;
-        self.wants_more = true;
+        self.was_used_since_report = true;
         Ok(())
     }
 
@@ -160,8 +160,8 @@ impl SerialOrder {
 
     /// The lease was reported: it wants no more until it numbers another mutation. Takes no memory.
     pub fn reported(&mut self)
-        ensures { self.new ≡ record self.old { wants_more = false } }
+        ensures { self.new ≡ record self.old { was_used_since_report = false } }
     {
-        self.wants_more = false;
+        self.was_used_since_report = false;
     }
 }

@@ -24,7 +24,7 @@ use std::alloc::Global;
 pub struct Primary {
     held: Held,
     serial: u64,
-    wants_more: bool,
+    was_used_since_report: bool,
     kept: NumberMap<Kept>,
     waiting: NumberMap<Waiting>,
 }
@@ -37,7 +37,7 @@ impl Primary {
         Primary {
             held,
             serial: 0,
-            wants_more: false,
+            was_used_since_report: false,
             kept: NumberMap::new(alloc),
             waiting: NumberMap::new(alloc),
         }
@@ -58,10 +58,10 @@ impl Primary {
     }
 
     /// Whether a mutation was numbered since the last report.
-    pub fn wants_more(&self) -> bool
-        ensures { result ≡ self.now.wants_more }
+    pub fn was_used_since_report(&self) -> bool
+        ensures { result ≡ self.now.was_used_since_report }
     {
-        self.wants_more
+        self.was_used_since_report
     }
 
     /// What an attempt with this number is answered. None: the number is greater than the client's last one under this lease.
@@ -136,7 +136,7 @@ impl Primary {
             return Err(NoMemory);
         };
         self.serial = serial;
-        self.wants_more = true;
+        self.was_used_since_report = true;
         Ok(Accept::New(Serial(serial)))
     }
 
@@ -185,9 +185,9 @@ impl Primary {
 
     /// The lease was reported: it wants no more until it numbers another mutation. Takes no memory.
     pub fn reported(&mut self)
-        ensures { self.new ≡ record self.old { wants_more = false } }
+        ensures { self.new ≡ record self.old { was_used_since_report = false } }
     {
-        self.wants_more = false;
+        self.was_used_since_report = false;
     }
 
     /// Ends the lease: from now on it does not count. Takes no memory.

@@ -51,7 +51,7 @@ learns_all d server (line ∷ rest) = learns_all (learns d server line.handle.0 
 -- a primary asks for more of a lease that has not ended, of a chunk that no snapshot waits for
 abbrev pub may_extend : MasterState → ℕ → LeaseLine → ChunkRow → Bool
 may_extend m server line row =
-    line.wants_more && (row.granted == line.version.0) && (row.primary == server) && has_lease m row && not (waits_for m line.handle.0)
+    line.was_used_since_report && (row.granted == line.version.0) && (row.primary == server) && has_lease m row && not (waits_for m line.handle.0)
 
 -- It gets a later end.
 abbrev pub extends_row : MasterDoing → ℕ → LeaseLine → Option ChunkRow → MasterDoing

@@ -25,10 +25,10 @@ abbrev pub replica_line : ℕ × Replica → ReplicaLine
 replica_line e = record { handle = handle_of e.0; version = version_of e.1.version }
 
 abbrev pub lease_line : ℕ × SerialOrder → LeaseLine
-lease_line e = record { handle = handle_of e.0; version = version_of e.1.held.version; wants_more = e.1.wants_more }
+lease_line e = record { handle = handle_of e.0; version = version_of e.1.held.version; was_used_since_report = e.1.was_used_since_report }
 
 abbrev pub asks_no_more : SerialOrder → SerialOrder
-asks_no_more p = record p { wants_more = false }
+asks_no_more p = record p { was_used_since_report = false }
 
 -- the leases that count now
 abbrev pub counting_leases : ServerState → Table SerialOrder

@@ -476,7 +476,7 @@ module _ (start : LogDisk) (Q : Core → Attempts → Type 0) (acts : Acts start
       on_cond (Here start Q acts) (may_extend d.master server line row && nat_lt row.lease_end until)
       (tells (ends_at d line.handle.0 until) (the_server server) (body.Extend line.handle line.version (moment_of until))) d
       (λ may. let parts = both_of (may_extend d.master server line row) (nat_lt row.lease_end until) may in
-      let fits = may_extend_parts d.master.now row.granted line.version.0 row.primary server row.lease_end line.wants_more (not (waits_for d.master line.handle.0)) parts.0 in
+      let fits = may_extend_parts d.master.now row.granted line.version.0 row.primary server row.lease_end line.was_used_since_report (not (waits_for d.master line.handle.0)) parts.0 in
       extends_here start Q acts d line.handle.0 row line.version.0 server is fits.0 fits.1 (fits.2, fits.3) (ltb-true row.lease_end until parts.1) h)
       (λ _. h)
 

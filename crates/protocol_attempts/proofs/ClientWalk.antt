@@ -73,7 +73,7 @@ abbrev pub heard_at : ClientDoing → CurrentCall → Location → ClientDoing
 heard_at d c l = record d { client = record d.client { cache = with_location d.client c.file.0 l } }
 
 abbrev pub is_told_of : CurrentCall → CurrentCall
-is_told_of c = record c { is_nobody_told = false; is_nobody_serving = false }
+is_told_of c = record c { saw_no_holder = false; is_nobody_serving = false }
 
 -- the last append of a file is noted or forgotten
 abbrev pub noted : ClientDoing → ℕ → Option ℕ → ClientDoing
@@ -211,7 +211,7 @@ module _ (s : ClientState) (Came : Body → Type 0) (N H : ClientDoing → Curre
 
   told_none_kept : (d : ClientDoing) (c : CurrentCall) (asked : Call) → H d c → P d → P (told_none d c asked)
   told_none_kept d c (call.Read fd offset count) h p =
-      gets_kept d (record c { is_nobody_told = false }) [] None (k.changes d c (record c { is_nobody_told = false }) (refl, refl, refl, refl) h)
+      gets_kept d (record c { saw_no_holder = false }) [] None (k.changes d c (record c { saw_no_holder = false }) (refl, refl, refl, refl) h)
   told_none_kept d c (call.Length fd) h p = completes_kept d c (answer.Length 0) h
   told_none_kept d c other h p = p
 
@@ -223,7 +223,7 @@ module _ (s : ClientState) (Came : Body → Type 0) (N H : ClientDoing → Curre
 
   told_location_kept : (c : CurrentCall) (number : ℕ) (l : Location) → s.current ≡ Some c → c.stage ≡ AskedWhere number → Came (body.Told number (Some l)) → H d0 c → P (told_location d0 c l)
   told_location_kept c number l now at came h =
-      let nobody : CurrentCall = record c { stage = MustAskAgain; is_nobody_told = true; is_nobody_serving = true } in
+      let nobody : CurrentCall = record c { stage = MustAskAgain; saw_no_holder = true; is_nobody_serving = true } in
       let there = k.hears c number l now at came h in
       on_cond P (is_empty_list l.holders) (with_current d0 nobody) (goes_on_at (heard_at d0 c l) (is_told_of c) l)
       (λ _. k.waits d0 nobody tt (k.changes d0 c nobody (refl, refl, refl, refl) h)) (λ _. goes_on_kept (heard_at d0 c l) (is_told_of c) l there.1 there.0)
@@ -248,7 +248,7 @@ module _ (s : ClientState) (Came : Body → Type 0) (N H : ClientDoing → Curre
 
   takes_wait_kept : (c : CurrentCall) (st : Stage) (number : ℕ) → At c st → P d0 → P (takes_wait d0 c st number)
   takes_wait_kept c (AskedWhere asked) number h p =
-      let again : CurrentCall = record c { stage = MustAskAgain; is_nobody_told = false; is_nobody_serving = false } in
+      let again : CurrentCall = record c { stage = MustAskAgain; saw_no_holder = false; is_nobody_serving = false } in
       on_cond P (asked == number) (with_current d0 again) d0 (λ _. k.waits d0 again tt (k.changes d0 c again (refl, refl, refl, refl) h)) (λ _. p)
   takes_wait_kept c other number h p = p
 

@@ -165,14 +165,14 @@ gets_quiet d c found round h =
     (λ _. completes_quiet d got (answer.Bytes got.bytes got.rounds) h) (λ _. next_quiet d got h)
 
 told_none_quiet : (d : ClientDoing) (c : CurrentCall) (asked : Call) → Quiet d → Quiet (told_none d c asked)
-told_none_quiet d c (call.Read fd offset count) h = gets_quiet d (record c { is_nobody_told = false }) [] None h
+told_none_quiet d c (call.Read fd offset count) h = gets_quiet d (record c { saw_no_holder = false }) [] None h
 told_none_quiet d c (call.Length fd) h = completes_quiet d c (answer.Length 0) h
 told_none_quiet d c other h = h
 
 told_location_quiet : (d : ClientDoing) (c : CurrentCall) (l : Location) → Quiet d → Quiet (told_location d c l)
 told_location_quiet d c l h =
     let kept : ClientDoing = record d { client = record d.client { cache = with_location d.client c.file.0 l } } in
-    let there : CurrentCall = record c { is_nobody_told = false; is_nobody_serving = false } in
+    let there : CurrentCall = record c { saw_no_holder = false; is_nobody_serving = false } in
     on_cond Quiet (is_empty_list l.holders) _ (goes_on_at kept there l) (λ _. h) (λ _. goes_on_quiet kept there l h)
 
 told_quiet : (d : ClientDoing) (c : CurrentCall) (o : Option Location) → Quiet d → Quiet (told d c o)

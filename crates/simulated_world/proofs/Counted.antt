@@ -16,7 +16,7 @@ use Rattle.protocol.specs.World.{WorldState, happens, numbered_from_1}
 use Rattle.client_answers.specs.Answered.{CountsIfUp, is_answer_of, is_open, is_taken, is_up, node_of as node_in}
 use Rattle.client_answers.proofs.Events.{counted, no_answer, still}
 use Rattle.cell_record.specs.Seeing.{orders_seen}
-use Rattle.cell_world.specs.Held.{AreHeldAs, HeldCell, IsHeldAs, Does, uncounted}
+use Rattle.cell_world.specs.Held.{AreHeldAs, HeldCell, IsHeldAs, HasEffect, uncounted}
 use Rattle.cell_world.specs.Looks.{waits_at}
 use Rattle.cell_world.proofs.Orders.{after_all}
 use Rattle.cell_simulator.specs.Cells.{Meaning}
@@ -74,7 +74,7 @@ same_node cell_of c (event.Fuse n count torn) = refl
 abbrev Comes : HeldCell → Event → Node → Option Answer → ℕ → HeldCell → Type 0
 Comes old e n answer client new = CountsIfUp (numbered_from_1 old.clients client) (numbered_from_1 new.clients client) (is_answer_of client n answer) (is_taken old.clients client e)
 
-done : (old new : HeldCell) (e : Event) (n : Node) (answer : Option Answer) (client : ℕ) → node_in old.sent e ≡ Some n → Does old (λ w choice. happens w e choice) answer new → Comes old e n answer client new
+done : (old new : HeldCell) (e : Event) (n : Node) (answer : Option Answer) (client : ℕ) → node_in old.sent e ≡ Some n → HasEffect old (λ w choice. happens w e choice) answer new → Comes old e n answer client new
 done old new e n answer client is does =
     let k = does (a_world old) (held_there old) in
     let before : Option ClientState = numbered_from_1 old.clients client in

@@ -11,11 +11,11 @@ use Rattle.protocol.specs.Sending.{handle_of}
 use Rattle.protocol.specs.World.{happens}
 use Rattle.cell_world.specs.AsStored.{as_stored}
 use Rattle.cell_world.specs.Events.{MayBeRefused}
-use Rattle.cell_world.specs.Held.{HeldCell, Does}
+use Rattle.cell_world.specs.Held.{HeldCell, HasEffect}
 use Rattle.cell_world.specs.Looks.{replicas_held}
 use Rattle.simulated_world.specs.Worlds.{IsRefused, Steps, as_shown, replicas_shown}
 
-pub stepped : {E : Type 0} (old new : HeldCell) (event : Event) (r : Result (Option Answer) E) → IfOk r (λ answer. Does old (λ w choice. happens w event choice) answer new) → OnErr r (new ≡ old)
+pub stepped : {E : Type 0} (old new : HeldCell) (event : Event) (r : Result (Option Answer) E) → IfOk r (λ answer. HasEffect old (λ w choice. happens w event choice) answer new) → OnErr r (new ≡ old)
     → OnErr r (MayBeRefused event) → Steps old event (result_unwrap_or r None) new
 stepped old new event (Ok answer) ok same refused = inl ok
 stepped old new event (Err e) ok same refused = inr (record { may_be = refused; unanswered = refl; unchanged = same })

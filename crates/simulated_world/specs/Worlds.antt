@@ -8,7 +8,7 @@ use Rattle.protocol.specs.Lookups.{StoredAt}
 use Rattle.protocol.specs.Sending.{handle_of, server_id, version_of}
 use Rattle.protocol.specs.World.{happens, numbered_from_1}
 use Rattle.cell_world.specs.Events.{MayBeRefused}
-use Rattle.cell_world.specs.Held.{HeldCell, Does}
+use Rattle.cell_world.specs.Held.{HeldCell, HasEffect}
 use Rattle.cell_world.specs.Looks.{file_held, has_open_call, regions_held, replicas_held, server_count}
 use Rattle.cell_simulator.specs.Cells.{Meaning}
 
@@ -20,7 +20,7 @@ pub record IsRefused (old : HeldCell) (event : Event) (answer : Option Answer) (
 
 -- It comes to this in each world that the cell stands for, unless memory was refused.
 abbrev pub Steps : HeldCell → Event → Option Answer → HeldCell → Type 0
-Steps old event answer new = Does old (λ w choice. happens w event choice) answer new ⊎ IsRefused old event answer new
+Steps old event answer new = HasEffect old (λ w choice. happens w event choice) answer new ⊎ IsRefused old event answer new
 
 abbrev pub as_shown : StoredAt → StoredReplica
 as_shown r = record { server = server_id r.server; version = version_of r.version; length = r.count }

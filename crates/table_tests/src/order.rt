@@ -24,9 +24,9 @@ fn a_mutation_is_settled_by_the_last_member(rt: HostRuntime) -> Result<(), Fail>
         primary.accept(alloc, client, 1, &append, Moment(10)),
         Ok(Accept::New(Serial(1)))
     );
-    assert!(rt; primary.wants_more());
+    assert!(rt; primary.was_used_since_report());
     primary.reported();
-    assert!(rt; !primary.wants_more());
+    assert!(rt; !primary.was_used_since_report());
     assert_eq!(rt; primary.known(client, 1), Some(Accept::Pending));
     assert_eq!(rt;
         primary.accept(alloc, client, 1, &append, Moment(10)),

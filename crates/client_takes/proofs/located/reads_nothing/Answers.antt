@@ -9,6 +9,6 @@ use Rattle.client_takes.proofs.located.reads_nothing.Goals as goal
 pub returns : goal.returns
 returns c =
     let s : ClientState = c.args.client.now in
-    let told : CurrentCall = record c.args.current { is_nobody_told = false } in
+    let told : CurrentCall = record c.args.current { saw_no_holder = false } in
     subst (λ (d : ClientDoing). IfOk c.gets.result (λ e. d ≡ doing c.gets.new.client e))
     (ap (λ (xs : List ℕ). gets (client_begins s) told xs None) c.new-found.ensures ∙ sym (gets_held s c.args.current told [] None)) c.gets.ensures

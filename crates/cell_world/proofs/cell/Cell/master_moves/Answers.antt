@@ -3,7 +3,7 @@ use Rattle.gfs_types.specs.declared.ids.Node.TheVariants as node
 use Rattle.chunkserver.specs.Inputs.{input_of}
 use Rattle.protocol.specs.World.{moves}
 use Rattle.cell_record.specs.Batches.{message_named}
-use Rattle.cell_world.specs.Held.{HeldCell, Does}
+use Rattle.cell_world.specs.Held.{HeldCell, HasEffect}
 use Rattle.cell_world.proofs.Moved.{master_down, master_did}
 use Rattle.cell_world.proofs.cell.Cell.master_moves.Goals as goal
 
@@ -18,7 +18,7 @@ returns-then-not-is_up g c =
       sent = c.self.inside.record.network.messages;
       seen = c.self.inside.record.sights.seen;
     } in
-    subst (λ (s : HeldCell). Does s (λ w choice. moves w node.Master c.args.now.0 (input_of (message_named s.sent c.args.given)) choice) None s) c.self.view_is
+    subst (λ (s : HeldCell). HasEffect s (λ w choice. moves w node.Master c.args.now.0 (input_of (message_named s.sent c.args.given)) choice) None s) c.self.view_is
     (master_down h c.args.now.0 (input_of (message_named h.sent c.args.given)) (sym c.is_up.ensures ∙ c.if-not-is_up.true))
 
 pub returns : goal.returns
@@ -38,6 +38,6 @@ returns g c =
       sent = c.master_steps.new.kept.network.messages;
       seen = c.master_steps.new.kept.sights.seen;
     } in
-    subst (λ (s : HeldCell). Does s (λ w choice. moves w node.Master c.args.now.0 (input_of (message_named s.sent c.args.given)) choice) c.master_steps.result new) c.self.view_is
+    subst (λ (s : HeldCell). HasEffect s (λ w choice. moves w node.Master c.args.now.0 (input_of (message_named s.sent c.args.given)) choice) c.master_steps.result new) c.self.view_is
     (master_did h c.args.now.0 (input_of (message_named h.sent c.args.given)) c.self.inside.record c.master_steps.new.kept c.master_steps.result new.master new.files
     (sym c.is_up.ensures ∙ c.if-not-is_up.false) c.master_steps.ensures.steps c.master_steps.ensures.files refl refl)
