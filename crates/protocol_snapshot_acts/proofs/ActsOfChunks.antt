@@ -448,8 +448,7 @@ module _ (start : LogDisk) (Ended : ℕ → ℕ → Type 0) (P : Core → Type 0
         λ asks. grant_ready d.master.now d.master.attempts l handle version until primary members (ahead_from left (rows_of two) (changed_by (rows_of two) handle (λ row. record row { lease_end = until }) (table.get (rows_of two) handle))
             (changed_from (rows_of two) handle (λ row. record row { lease_end = until }) (table.get (rows_of two) handle) refl (λ row. (refl, refl, refl)))
             (ahead_from left (rows_of one) (rows_of two) (swapped_from one handle (table.get l.copies handle)) (grant_ahead d.master.attempts (rows_of l) handle version primary members (h.0.3 asks).ahead))) (h.0.3 asks),
-      ) in
-      (
+      ) in (
         base,
         waiting_granted l d.master.attempts d.master.snapshots d.master.now (h.0.2 tt) (has_one_name start Ended P keeps rowing Q acts d h.0) h.1 handle version primary members due,
         acts.grants (core_of d) d.master.attempts d.master.snapshots handle a until primary members at all_of due h.0.0 base.0 h.2,

@@ -139,8 +139,7 @@ module _ (start : LogDisk) (Ended : ℕ → ℕ → Type 0) (P : Core → Type 0
   snapshot_acts d s among ready h =
       changes_acts (lets_go d s) s.client s.number (call.Snapshot s.from s.to) (log.Snapshot (client_id s.client) s.number s.from s.to) tt tt
       (λ asks. taken_named d.master.logged.names d.master.snapshots (client_id s.client) s.number s d.master.logged.next_file (among asks) (h.0.2 asks))
-      (ready_beside d s (among tt) ready h)
-      (
+      (ready_beside d s (among tt) ready h) (
         (h.0.0, h.0.1, λ asks. filtered_namespace d.master.logged.names (λ t. not (is_same_snapshot s t)) d.master.snapshots (h.0.2 asks), h.0.3),
         waiting_filtered d.master.logged d.master.attempts d.master.snapshots (lets_go d s).master.snapshots (λ t left. among_filtered (λ u. not (is_same_snapshot s u)) d.master.snapshots t left) h.1,
         acts.waits (core_of d) d.master.attempts d.master.snapshots (lets_go d s).master.snapshots h.2,
