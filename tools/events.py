@@ -55,11 +55,14 @@ class Explorer:
         self.repeating = rnd.choice([.03, .06, .12])
         self.repeated_kinds = rnd.choice(REPEATED)
         self.lost_kind = rnd.choice(LOST)
-        self.delayed_kind = rnd.choice(DELAYED)
+        # in each fifth list acknowledgements often come after the lease's end
+        self.lapsing = seed % 5 == 4
+        delayed = rnd.choice(DELAYED)
+        self.delayed_kind = 'Acked' if self.lapsing else delayed
         self.haste = rnd.choice([.2, .4])
         self.naming = rnd.choice([.04, .15, .3])
-        # how often there is a snapshot while a chunk is copied, if at all
-        self.snapping = rnd.choice([0, 0, .5])
+        # how often there is a snapshot while a chunk is copied, if at all, or while an acknowledgement comes late
+        self.snapping = rnd.choice([0, 0, .5]) or (.3 if self.lapsing else 0)
         self.paths = rnd.choice([PATHS, [b'/d/f', b'/e/f'], [b'/d/f']])
         # how often a server is put down or restarted, and a byte rots
         self.restarting = rnd.choice([0, .001, .004])
@@ -110,10 +113,21 @@ class Explorer:
             name, first = ('create', first) if name != 'open' or not live else (name, rnd.choice(live + files))
         return (name, first, *((rnd.choice(PATHS),) if name in ('rename', 'snapshot') else ()))
 
-    def snapshot_of_a_copied_file(self):
-        """A snapshot of a file for which a chunk is being copied, or of its directory; or None."""
+    def late_handles(self):
+        """The chunks of which an acknowledgement comes late."""
+        late = [self.cell.messages[number] for _, number in self.aside] if self.lapsing else []
+        return {state.number(message.body[1]) for message in late if message.kind == 'Acked'}
+
+    def lapsed_files(self, logged):
+        """The files with a chunk of which an acknowledgement comes after the lease's end."""
+        rows = state.rows(logged)
+        lapsed = {handle for handle in self.late_handles() if handle in rows and rows[handle].lease_end <= self.clock}
+        return {file for file, handles in state.files(logged).items() if lapsed.intersection(state.numbers(handles))}
+
+    def snapshot_beside_another_step(self):
+        """A snapshot of a file for which a chunk is being copied, or an acknowledgement comes after the lease's end, or of its directory; or None."""
         logged = state.logged(state.master(self.cell.world))
-        files = {copy['file'] for copy in state.copies(logged).values()}
+        files = {copy['file'] for copy in state.copies(logged).values()} | self.lapsed_files(logged)
         paths = sorted(bytes(path) for path, node in state.names(logged).items() if node[0] == 'File' and node[1] in files)
         if not paths or self.rnd.random() >= self.snapping:
             return None
@@ -176,7 +190,7 @@ class Explorer:
             event = self.rot_event()
             return event and (event, 's1')
         free = [count for count in (1, 2) if state.is_up(state.client(cell.world, count)) and not cell.is_open(f'c{count}')]
-        snapshot = self.snapshot_of_a_copied_file() if free else None
+        snapshot = self.snapshot_beside_another_step() if free else None
         if snapshot:
             client = rnd.choice(free)
             return self.call_event(client, now, snapshot), f'c{client}'
@@ -217,7 +231,7 @@ class Explorer:
         self.clock += rnd.choice([2, 5, 20, 60]) if rnd.random() < self.haste / 2 else 0
         if not self.pending and rnd.random() < .15:
             self.clock += rnd.choice([30, 100])
-        if rnd.random() < self.idling:
+        if rnd.random() < (.1 if self.late_handles() else self.idling):
             self.clock += cell.settings['lease_ms'] + cell.settings['skew_ms']
         found = self.next_event(max(0, self.clock - rnd.randrange(cell.settings['skew_ms'] + 1)))
         if not found:
