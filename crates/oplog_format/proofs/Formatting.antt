@@ -1,6 +1,6 @@
 -- Formatting a disk.
 use Rattle.std.proofs.Common.{◌≡◌, ◌≢◌, ◌⊎◌, ℕ, ◌+◌, ◌-◌, ◌<◌, ◌≤◌, Bool, true, false, ◌==◌, List, [], ◌∷◌, ◌++◌, length, get_or, take, drop, refl, sym, ap, subst, ◌∙◌, append_assoc, take-append-drop, arith, inl, inr}
-use Rattle.std.proofs.lemmas.Bool.{cases_eq, ne_eqb}
+use Rattle.std.proofs.lemmas.Bool.{cases_eq, le-leb, ne_eqb}
 use Rattle.std.proofs.lemmas.List.{take_at, take_more}
 use Rattle.disk.specs.Bytes.{put_at, range_at}
 use Rattle.disk.specs.Device.{ChangesOnly, Elapses, Follows, NoMore, Only}
@@ -9,7 +9,9 @@ use Rattle.gated_disk.proofs.Moments.{goes_on, started}
 use Rattle.gated_disk.specs.Gates.{committed, IsCommitting}
 use Rattle.gated_disk.proofs.Ranges.{get_range, put_changes, range_outside, range_put, same_after, same_before, three_parts}
 use Rattle.log_area.specs.Areas.{AreaSays}
-use Rattle.log_area.specs.Layout.{area_at, area_size}
+use Rattle.log_area.specs.Entries.{entries}
+use Rattle.log_area.specs.Layout.{area_at, area_size, checkpoint_fits}
+use Rattle.log_codec.specs.Fields.{IsIndex}
 use Rattle.log_disk.specs.Disks.{area_of, front_of, head, is_formatted, DiskSays, IsOlder}
 use Rattle.log_disk.proofs.Disks.{area_long, areas_fit, has_log}
 use Rattle.oplog_areas.specs.Writing.{area_with, is_area_open}
@@ -148,3 +150,14 @@ module _ (d c : List ℕ) (large : 4096 ≤ length d) (is : ChangesOnly (area_at
 
   pub first_says : AreaSays (area_with 1 []) (area_of (length d) 0 c) → AreaSays (area_with 1 []) (area_of (length c) 0 c)
   first_says says = subst (λ (k : ℕ). AreaSays (area_with 1 []) (area_of k 0 c)) (sym is.size) says
+
+-- a checkpoint with no items
+no_entries : length (entries []) ≡ 0
+unfolding entries
+no_entries = refl
+
+pub empty_fits : (size : ℕ) → 4096 ≤ size → checkpoint_fits (area_size size) [] ≡ true
+empty_fits size large = le-leb (13 + length (entries []) + 1) (area_size size) (omega (arith, no_entries, area_long size large))
+
+pub empty_short : IsIndex (length (entries []))
+empty_short = subst IsIndex (sym no_entries) (omega arith)

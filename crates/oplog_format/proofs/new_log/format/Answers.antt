@@ -3,7 +3,7 @@ use Rattle.gated_disk.proofs.Moments.{joined, weaker}
 use Rattle.log_disk.specs.Disks.{is_formatted, DiskSays}
 use Rattle.oplog_areas.specs.Writing.{area_with, IsWriting}
 use Rattle.oplog_format.specs.NewLogs.{IsLogOf}
-use Rattle.oplog_format.proofs.Formatting.{first_says, new_log, second_still_closed, still_new_behind}
+use Rattle.oplog_format.proofs.Formatting.{empty_fits, empty_short, first_says, new_log, second_still_closed, still_new_behind}
 use Rattle.oplog_format.proofs.new_log.format.Goals as goal
 
 pub returns-in_err-close_areas-clause-any_moment : goal.returns-in_err-close_areas-clause-any_moment
@@ -35,6 +35,14 @@ returns-clause-any_moment g c =
     let two = joined g.D.Disk.moment g.D.Disk.left_since c.args.disk.now c.close_areas.new.disk c.write_area.new.disk (λ f. is_formatted f ≡ false) (IsWriting (length d) 0 (area_with 1 []) d) (IsLogOf [] []) c.close_areas.ensures.any_moment c.write_area.ensures.any_moment
     new_log (λ f stop. new_log f (still_new_behind d f large stop.elsewhere closed.new)) in
     joined g.D.Disk.moment g.D.Disk.left_since c.args.disk.now c.write_area.new.disk c.write_head.new.disk (IsLogOf [] []) (IsLogOf [] []) (IsLogOf [] []) two c.write_head.ensures.any_moment (λ f log. log) (λ f log. log)
+
+pub write_area-requires-clause-fits : goal.write_area-requires-clause-fits
+write_area-requires-clause-fits g c =
+    let d = g.D.Disk.seen c.close_areas.new.disk in
+    empty_fits (length d) (omega (arith, c.in_ok-close_areas.ensures.size, c.requires.large))
+
+pub write_area-requires-clause-short : goal.write_area-requires-clause-short
+write_area-requires-clause-short g c = empty_short
 
 pub write_head-requires-clause-new : goal.write_head-requires-clause-new
 write_head-requires-clause-new g c =
