@@ -73,7 +73,7 @@ chunk_used other = None
 abbrev pub BeganInTime : Config → ℕ → ℕ → Type 0
 BeganInTime config deadline clock = (deadline ≤ clock + config.attempt_ms) ⊎ (deadline < clock + config.attempt_ms + config.cache_ms)
 
--- The location by which an attempt goes was told to the client less than the cache's time before the attempt began, by the client's own clock, and the client has not opened the file since (section 2.4).
+-- The location by which an attempt goes was told to the client less than the cache's time before the attempt began, by the client's own clock, and the client has not opened the file since.
 abbrev pub LocationsAreNotUsedTooLong : Type 0
 LocationsAreNotUsedTooLong =
     (config : Config) (servers clients : ℕ) (steps : List (Event × Choice))

@@ -43,7 +43,7 @@ pub record IsInTime (s : ServerState) (moment skew : ℕ) (after : Observer) (m 
   pub early : (server_at s moment).now < deadline.0
   pub timely : IsTrue after.are_clocks_kept → after.greatest < deadline.0 + skew
 
--- A mutation is numbered only before the deadline of the Mutate that asks for it (sections 3.1 and 3.3).
+-- A mutation is numbered only before the deadline of the Mutate that asks for it.
 abbrev pub AttemptsArePlacedBeforeTheirDeadline : Type 0
 AttemptsArePlacedBeforeTheirDeadline =
     (config : Config) (servers clients : ℕ) (w : WorldState) → IsReached config servers clients w
@@ -62,7 +62,7 @@ pub record IsOver (w : WorldState) (skew : ℕ) (id : DataId) : Type 0 where
   pub body_is : asked.body ≡ body.Mutate id handle version aim deadline
   pub past : deadline.0 + skew ≤ w.observer.greatest
 
--- Where clocks are kept, nothing is numbered any more for an attempt that is over (sections 3.1 and 3.3).
+-- Where clocks are kept, nothing is numbered any more for an attempt that is over.
 abbrev pub OverAttemptsArePlacedNoMore : Type 0
 OverAttemptsArePlacedNoMore =
     (config : Config) (servers clients : ℕ) (w : WorldState) → IsReached config servers clients w → (id : DataId) → IsOver w config.skew_ms id

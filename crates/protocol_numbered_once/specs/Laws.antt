@@ -29,7 +29,7 @@ pub record Numbers (w : WorldState) (index moment : ℕ) (s : ServerState) (i : 
   pub placed : Mutation
   pub seen : element_at (server_step s moment i choice).seen place ≡ Some (Numbered handle version serial id placed)
 
--- After an event by which a server numbered a mutation, no step of a server numbers one of the same data under the same version of the chunk (sections 3.1 and 3.3).
+-- After an event by which a server numbered a mutation, no step of a server numbers one of the same data under the same version of the chunk.
 abbrev pub NumbersArePlacedOnce : Type 0
 NumbersArePlacedOnce =
     (config : Config) (servers clients : ℕ) (w : WorldState) → IsReached config servers clients w → (e : Event) (choice : Choice) (handle : Handle) (version : Version) (id : DataId)
