@@ -358,7 +358,7 @@ first_used config servers clients w r index moment s i choice handle version id 
     now = step_noted handle.0 version.0 id s moment i choice n.place (Numbered handle version n.serial id n.placed) n.seen (goes_noted handle.0 version.0 id s moment i law.0 version asked.aim asked.deadline p law.1 asked.body_is asked.lease_is asked.new)
 
 pub numbers_are_placed_once : NumbersArePlacedOnce
-numbers_are_placed_once config servers clients w r e choice handle version id index moment s i first step steps other later t j then_ again =
+numbers_are_placed_once config servers clients w r e choice handle version id index moment s i taken first step steps other later t j then_ again =
     let few = kept.2 in
     let less = new_later id.client.0 id.seq id.seq (table.get p.kept id.client.0) kept.0 kept.1 asked.new in
     omega (arith, few, less)
@@ -375,7 +375,7 @@ numbers_are_placed_once config servers clients w r e choice handle version id in
     used : IsUsedUp handle.0 version.0 id.client.0 id.seq v
     used =
         used_on config servers clients handle.0 version.0 id.client.0 id.seq u steps reached
-        (subst (λ (x : Happened). IsUsedUp handle.0 version.0 id.client.0 id.seq x.world) (sym step) (first_used config servers clients w r index moment s i choice handle version id first))
+        (subst (λ (x : Happened). IsUsedUp handle.0 version.0 id.client.0 id.seq x.world) (sym step) (first_used config servers clients w r index moment s i taken handle version id first))
 
     law : (m : Message) × (j ≡ input.Deliver m) × IsAskedFor (server_at t later) v.sent m handle version again.serial id again.placed
     law = numbered_mutations_were_asked_for config servers clients v (reached_later config servers clients u steps reached) other t again.is later j then_ again.came again.place handle version again.serial id again.placed again.seen

@@ -33,5 +33,5 @@ pub record Numbers (w : WorldState) (index moment : ℕ) (s : ServerState) (i : 
 abbrev pub NumbersArePlacedOnce : Type 0
 NumbersArePlacedOnce =
     (config : Config) (servers clients : ℕ) (w : WorldState) → IsReached config servers clients w → (e : Event) (choice : Choice) (handle : Handle) (version : Version) (id : DataId)
-    → (index moment : ℕ) (s : ServerState) (i : Input) → Numbers w index moment s i choice handle version id → happens w e choice ≡ after_server w index moment (server_step s moment i choice)
+    → (index moment : ℕ) (s : ServerState) (i : Input) (taken : Choice) → Numbers w index moment s i taken handle version id → happens w e choice ≡ after_server w index moment (server_step s moment i taken)
     → (steps : List (Event × Choice)) (other later : ℕ) (t : ServerState) (j : Input) (then_ : Choice) → Numbers (after_events (happens w e choice).world steps) other later t j then_ handle version id → ⊥
