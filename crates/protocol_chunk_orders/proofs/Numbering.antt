@@ -62,7 +62,7 @@ server_shown s moment i choice = said.1
         })
         (any_data s.pushed.entries)
 
-restarted_shown : (s : ServerState) (moment : ℕ) (choice : Choice) (e : Ending) → (server_restarts s moment choice e).seen ≡ []
+pub restarted_shown : (s : ServerState) (moment : ℕ) (choice : Choice) (e : Ending) → (server_restarts s moment choice e).seen ≡ []
 restarted_shown s moment choice Goes = refl
 restarted_shown s moment choice Lost = refl
 restarted_shown s moment choice (Stops made) = refl
@@ -167,10 +167,10 @@ each_placed w T h =
 abbrev Since : WorldState → List (Event × Choice) → (ℕ → Placed → Type 0) → ℕ → Placed → Type 0
 Since w steps T handle p = (from : ℕ) × (T from p ⊎ WasNumbered w steps from p) × IsSource (WasCopied w steps) from handle
 
-came_first : (P : WorldState → Happened → Type 0) (w : WorldState) (step : Event × Choice) (rest : List (Event × Choice)) → P w (happens w step.0 step.1) → CameAbout P w (step ∷ rest)
+pub came_first : (P : WorldState → Happened → Type 0) (w : WorldState) (step : Event × Choice) (rest : List (Event × Choice)) → P w (happens w step.0 step.1) → CameAbout P w (step ∷ rest)
 came_first P w step rest now = record { before = []; step = step; after = rest; steps_are = refl; now = now }
 
-came_later : (P : WorldState → Happened → Type 0) (w : WorldState) (step : Event × Choice) (rest : List (Event × Choice)) → CameAbout P (happens w step.0 step.1).world rest → CameAbout P w (step ∷ rest)
+pub came_later : (P : WorldState → Happened → Type 0) (w : WorldState) (step : Event × Choice) (rest : List (Event × Choice)) → CameAbout P (happens w step.0 step.1).world rest → CameAbout P w (step ∷ rest)
 came_later P w step rest h =
     record { before = step ∷ h.before; step = h.step; after = h.after; steps_are = ap (λ (xs : List (Event × Choice)). step ∷ xs) h.steps_are; now = h.now }
 

@@ -110,7 +110,7 @@ one_counted test (x ∷ ms) (suc place) m at is =
     let more = one_counted test ms place m at is in
     omega (arith, whole, more)
 
-same_counted : (test : Message → Bool) (ms : List Message) (place other : ℕ) (m n : Message) → count_by test ms ≤ 1 → element_at ms place ≡ Some m → element_at ms other ≡ Some n → test m ≡ true → test n ≡ true → m ≡ n
+pub same_counted : (test : Message → Bool) (ms : List Message) (place other : ℕ) (m n : Message) → count_by test ms ≤ 1 → element_at ms place ≡ Some m → element_at ms other ≡ Some n → test m ≡ true → test n ≡ true → m ≡ n
 same_counted test [] place other m n few at there is also = none_some m at
 same_counted test (x ∷ ms) zero zero m n few at there is also = same_some m n (sym at ∙ there)
 same_counted test (x ∷ ms) zero (suc other) m n few at there is also =
@@ -132,10 +132,10 @@ abbrev deadline_of : Body → ℕ
 deadline_of (body.Mutate id handle version aim deadline) = deadline.0
 deadline_of other = 0
 
-abbrev asks_for : DataId → Message → Bool
+abbrev pub asks_for : DataId → Message → Bool
 asks_for id m = is_from_client id.client.0 m.sender && is_mutate id.seq m.body
 
-asking : (id : DataId) (m : Message) (handle : Handle) (version : Version) (aim : Target) (deadline : Moment) → m.sender ≡ the_client id.client.0 → m.body ≡ body.Mutate id handle version aim deadline → asks_for id m ≡ true
+pub asking : (id : DataId) (m : Message) (handle : Handle) (version : Version) (aim : Target) (deadline : Moment) → m.sender ≡ the_client id.client.0 → m.body ≡ body.Mutate id handle version aim deadline → asks_for id m ≡ true
 asking id m handle version aim deadline sender is =
     and_from (is_from_client id.client.0 m.sender) (is_mutate id.seq m.body) (ap (λ (n : Node). is_from_client id.client.0 n) sender ∙ same_number id.client.0) (ap (λ (b : Body). is_mutate id.seq b) is ∙ same_number id.seq)
 
