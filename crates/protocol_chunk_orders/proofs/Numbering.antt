@@ -1,5 +1,5 @@
 -- In each world that is reached, each entry of a chunk's order was numbered in a step of the list.
-use Rattle.std.proofs.Common.{◌≡◌, ◌⊎◌, ℕ, suc, false, List, [], ◌∷◌, ◌++◌, Option, Some, refl, sym, ap, subst, ◌∙◌, inl, inr}
+use Rattle.std.proofs.Common.{◌≡◌, ◌⊎◌, ℕ, suc, false, List, [], ◌∷◌, Option, Some, refl, sym, ap, subst, ◌∙◌, inl, inr}
 use Rattle.std.specs.Prelude.{unwrap_or}
 use Rattle.std.specs.Ordering.{nat_cmp}
 use Rattle.std.specs.FinMap as table
@@ -21,7 +21,7 @@ use Rattle.protocol.specs.ServerStep.{server_at, server_step, server_restarts, s
 use Rattle.protocol.specs.MasterStep.{master_step, master_restart}
 use Rattle.protocol.specs.ClientStep.{client_step, client_call}
 use Rattle.replica_store.specs.Replicas.{rotten_replica}
-use Rattle.protocol.specs.World.{WorldState, Happened, new_world, nothing_happens, after_master, after_server, after_client, happens, after_events, IsReached}
+use Rattle.protocol.specs.World.{WorldState, Happened, new_world, nothing_happens, after_master, after_server, after_client, happens, after_events}
 use Rattle.protocol_laws.proofs.Entries.{AllOf}
 use Rattle.protocol_laws.proofs.MembersRecorded.{kept_place, all_at}
 use Rattle.protocol_attempts.proofs.Events.{with_call, with_rot, HoldsAfter, holds_after}
@@ -193,7 +193,7 @@ all_since w (step ∷ rest) T h =
     first from handle c = (c.0, linked_on (IsCopiedNow w x) (WasCopied w (step ∷ rest)) (λ a b now. came_first (λ v y. IsCopiedNow v y a b) w step rest now) from c.0 handle c.1)
 
     numbered : (from : ℕ) (p : Placed) → T from p ⊎ IsNumberedNow w x from p → T from p ⊎ WasNumbered w (step ∷ rest) from p
-    numbered from p o = elim (o) [ | inl before ↦ inl before | inr now ↦ inr (came_first (λ v y. IsNumberedNow v y from p) w step rest now) ]
+    numbered from p o = elim (o) [ inl before ↦ inl before | inr now ↦ inr (came_first (λ v y. IsNumberedNow v y from p) w step rest now) ]
 
     joined : (handle : ℕ) (p : Placed) → Since u rest (Next w x T) handle p → Since w (step ∷ rest) T handle p
     joined handle p since =

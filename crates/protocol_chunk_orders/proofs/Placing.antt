@@ -1,5 +1,5 @@
 -- What is kept of the entries of all chunks' orders by what a step shows.
-use Rattle.std.proofs.Common.{◌≡◌, ℕ, zero, suc, ◌+◌, Bool, List, [], ◌∷◌, ◌++◌, map, Option, Some, None, refl, sym, ap, subst, ◌∙◌, inl, inr, arith}
+use Rattle.std.proofs.Common.{◌≡◌, ℕ, zero, suc, ◌+◌, List, [], ◌∷◌, ◌++◌, map, Option, Some, None, refl, sym, subst, inl, inr, arith}
 use Rattle.std.specs.Prelude.{nat_lt, unwrap_or, true, count_by}
 use Rattle.std.specs.FinMap as table
 use Rattle.gfs_types.specs.declared.ids.DataId.{DataId}
@@ -13,7 +13,7 @@ use Rattle.protocol.specs.Tables.{Table, element_at}
 use Rattle.protocol.specs.declared.seen.Seen.{Seen}
 use Rattle.protocol.specs.declared.seen.Seen.TheVariants.{Numbered, BecameSettled, CopyStarted}
 use Rattle.protocol.specs.Observer.{Placed, Observer, observed_moment, observed_answer, is_call_of, calls_made, placed_in, is_placed_as, settled_as, new_entry, orders_after, orders_after_all}
-use Rattle.protocol_laws.proofs.Steps.{on_cond, none_some, same_or_not, put_there, put_other, count-append}
+use Rattle.protocol_laws.proofs.Steps.{on_cond, same_or_not, put_there, put_other, count-append}
 use Rattle.protocol_laws.proofs.Entries.{AllOf, all_joined}
 use Rattle.protocol_chunk_orders.specs.Laws.{unsettled, Linked, IsSource}
 
@@ -45,11 +45,10 @@ put_all T orders k ps h all handle =
 
 settled_holds : (T : ℕ → Placed → Type 0) (handle version serial : ℕ) (ps : List Placed) → AllOf (Holds T handle) ps → AllOf (Holds T handle) (map (settled_as version serial) ps)
 settled_holds T handle version serial [] h = tt
-settled_holds T handle version serial (p ∷ ps) h =
-    (
-      on_cond (Holds T handle) (is_placed_as version serial p) (record p { entry = record p.entry { settled = true } }) p (λ _. h.0) (λ _. h.0),
-      settled_holds T handle version serial ps h.1,
-    )
+settled_holds T handle version serial (p ∷ ps) h = (
+  on_cond (Holds T handle) (is_placed_as version serial p) (record p { entry = record p.entry { settled = true } }) p (λ _. h.0) (λ _. h.0),
+  settled_holds T handle version serial ps h.1,
+)
 
 -- what is seen, of which V, keeps T
 pub record Keeps (trace : List Visible) (V : Seen → Type 0) (T : ℕ → Placed → Type 0) : Type 0 where

@@ -1,16 +1,14 @@
 -- What is numbered was asked for in time, and of one Mutate alone.
-use Rattle.std.proofs.Common.{◌≡◌, ℕ, zero, suc, ◌+◌, ◌≤◌, ◌<◌, Bool, true, false, cond, List, [], ◌∷◌, ◌++◌, length, Option, Some, refl, sym, ap, subst, ◌∙◌, arith}
-use Rattle.std.specs.Prelude.{◌==◌, ◌&&◌, nat_le, max, filter, count_by, IsTrue}
+use Rattle.std.proofs.Common.{◌≡◌, ℕ, zero, suc, ◌+◌, ◌≤◌, Bool, true, false, cond, List, [], ◌∷◌, ◌++◌, Option, Some, refl, sym, ap, subst, ◌∙◌, arith}
+use Rattle.std.specs.Prelude.{◌&&◌, nat_le, max, filter, count_by}
 use Rattle.std.proofs.Math.Nat.{le-max_left, le-max_right, max-le}
 use Rattle.std.proofs.lemmas.Bool.{and_parts, and_from, leb-true, leb-false}
-use Rattle.gfs_types.specs.declared.config.Config.{Config}
 use Rattle.gfs_types.specs.declared.ids.Node.{Node}
 use Rattle.gfs_types.specs.declared.ids.DataId.{DataId}
 use Rattle.gfs_types.specs.declared.ids.Handle.{Handle}
 use Rattle.gfs_types.specs.declared.ids.Version.{Version}
 use Rattle.gfs_types.specs.declared.ids.Moment.{Moment}
 use Rattle.gfs_types.specs.declared.refusal.Refusal.TheVariants.{Late}
-use Rattle.messages.specs.declared.event.Event.{Event}
 use Rattle.messages.specs.declared.event.Input.{Input}
 use Rattle.messages.specs.declared.event.Input.TheVariants as input
 use Rattle.messages.specs.declared.message.Message.{Message}
@@ -28,7 +26,7 @@ use Rattle.protocol.specs.declared.seen.Seen.TheVariants.{Numbered}
 use Rattle.protocol.specs.Observer.{Observer, observed_moment}
 use Rattle.protocol.specs.Server.{ServerState, ServerDoing, server_begins, primary_of}
 use Rattle.protocol.specs.ServerWrites.{refuses_attempt, mutates_as, mutates_under}
-use Rattle.protocol.specs.ServerStep.{server_at, server_takes, server_does, server_goes, server_ends, server_step}
+use Rattle.protocol.specs.ServerStep.{server_at, server_takes, server_goes, server_ends, server_step}
 use Rattle.protocol.specs.World.{WorldState, new_world, after_events, IsReached}
 use Rattle.protocol_laws.proofs.Steps.{on_cond, none_some, same_some, tally, count-cons}
 use Rattle.protocol_laws.proofs.Entries.{same_number}
@@ -38,7 +36,7 @@ use Rattle.protocol_attempts.proofs.RequestsOnce.{requests_are_numbered_once}
 use Rattle.protocol_words.proofs.Histories.{steps_grown, after_both}
 use Rattle.protocol_entries.specs.Laws.{IsAskedFor}
 use Rattle.protocol_entries.proofs.Stemming.{numbered_mutations_were_asked_for}
-use Rattle.protocol_deadlines.specs.Laws.{Numbers, IsInTime, AttemptsArePlacedBeforeTheirDeadline, IsOver, OverAttemptsArePlacedNoMore}
+use Rattle.protocol_deadlines.specs.Laws.{IsInTime, AttemptsArePlacedBeforeTheirDeadline, OverAttemptsArePlacedNoMore}
 use Rattle.protocol_deadlines.proofs.Moments.{greatest_rises}
 
 -- a step whose handling shows nothing shows nothing

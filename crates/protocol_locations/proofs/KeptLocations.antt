@@ -26,16 +26,16 @@ use Rattle.client_state.specs.declared.call.Stage.{Stage}
 use Rattle.client_state.specs.declared.call.Stage.TheVariants.{AskedNames, AskedWhere, MustAskAgain, SentData, SentMutate, SentRead, IsOver, HasAnswer}
 use Rattle.protocol.specs.Tables.{Table}
 use Rattle.protocol.specs.Sending.{moment_of}
-use Rattle.protocol.specs.Client.{ClientState, ClientDoing, stopped_client, client_begins, committed, with_current, answers}
+use Rattle.protocol.specs.Client.{ClientState, ClientDoing, client_begins, committed, with_current, answers}
 use Rattle.protocol.specs.ClientCache.{is_same_place, last_opened, last_opened_of, is_fresh, fresh_one, cached}
 use Rattle.protocol.specs.ClientFiles.{opened_again}
-use Rattle.protocol.specs.ClientAttempts.{read_planned, again_planned, push_planned_to, mutate_planned, chunk_of, name_planned, asks, forgets}
+use Rattle.protocol.specs.ClientAttempts.{read_planned, again_planned, push_planned_to, mutate_planned, chunk_of, name_planned, asks}
 use Rattle.protocol.specs.ClientTakes.{opens}
 use Rattle.protocol.specs.ClientStep.{fd_of, client_does, calls, client_at}
 use Rattle.protocol_laws.proofs.Steps.{none_some, same_some, same_or_not, put_there, put_other}
 use Rattle.protocol_laws.proofs.Entries.{AllOf}
 use Rattle.protocol_laws.proofs.ServerMoves.{IsCameIn}
-use Rattle.protocol_attempts.proofs.ClientWalk.{IsIdle, IsSameAttempt, IsSameCall, HoldsAt, KeepsClient, KeepsCalls, step_kept, call_kept, closed, heard_at, is_told_of, looked, noted, place_at, attempt_end}
+use Rattle.protocol_attempts.proofs.ClientWalk.{IsIdle, HoldsAt, KeepsClient, KeepsCalls, step_kept, call_kept, closed, heard_at, is_told_of, noted, place_at, attempt_end}
 use Rattle.protocol_reads.proofs.Caches.{found, after_look, after_drop, after_put}
 use Rattle.protocol_locations.specs.Laws.{chunk_used, BeganInTime}
 use Rattle.protocol_locations.proofs.OpenFiles.{AreOpen, none_open, open_again, last_is, close_one, note_append, AreOpenSince, closed_since, noted_since, HasRow, noted_there}
@@ -287,11 +287,10 @@ module _ (T : ℕ → Location → ℕ → Type 0) (config : Config) (s : Client
 
   -- a location that is told now
   heard : (c : CurrentCall) (l : Location) → T c.file.0 l s.now → Filed (client_begins s) c → Filed (heard_at (client_begins s) c l) (is_told_of c) × Used (heard_at (client_begins s) c l) (is_told_of c) l
-  heard c l now h =
-      (
-        (((h.0).0, (h.0).1, (h.0).2, (h.0).3, after_put (IsKeptRight T s.files s.fd_count) s.cache (place_at c l.index) one (λ q same. right q (eqb-true c.file.0 q.file (and_parts (c.file.0 == q.file) (l.index == q.index) same).0)) (right (place_at c l.index) refl) (h.0).4), filed_same s c (is_told_of c) refl refl h.1),
-        (s.now, inl (let ends = (h.1).1 in let same = ap (λ (x : Config). x.attempt_ms) keeps.settings in omega (arith, ends, same)), now),
-      )
+  heard c l now h = (
+    (((h.0).0, (h.0).1, (h.0).2, (h.0).3, after_put (IsKeptRight T s.files s.fd_count) s.cache (place_at c l.index) one (λ q same. right q (eqb-true c.file.0 q.file (and_parts (c.file.0 == q.file) (l.index == q.index) same).0)) (right (place_at c l.index) refl) (h.0).4), filed_same s c (is_told_of c) refl refl h.1),
+    (s.now, inl (let ends = (h.1).1 in let same = ap (λ (x : Config). x.attempt_ms) keeps.settings in omega (arith, ends, same)), now),
+  )
     where
       one : Cached
       one = record { location = l; told = moment_of s.now; opened = record { 0 = last_opened s c.file.0 } }

@@ -1,6 +1,5 @@
 -- In each world that is reached, the location by which a client's attempt goes was told to it in time, and its file was not opened since.
-use Rattle.std.proofs.Common.{◌≡◌, ◌⊎◌, ℕ, zero, suc, ◌<◌, List, [], ◌∷◌, ◌++◌, map, Option, Some, refl, sym, ap, subst, ◌∙◌, inl, inr, arith}
-use Rattle.std.specs.Prelude.{IsTrue}
+use Rattle.std.proofs.Common.{◌≡◌, ◌⊎◌, ℕ, zero, suc, List, [], ◌∷◌, map, Some, refl, sym, ap, subst, ◌∙◌, inl, inr, arith}
 use Rattle.std.specs.FinMap as table
 use Rattle.gfs_types.specs.declared.config.Config.{Config}
 use Rattle.gfs_types.specs.declared.ids.Moment.{Moment}
@@ -16,7 +15,6 @@ use Rattle.messages.specs.declared.event.Event.TheVariants as event
 use Rattle.messages.specs.declared.event.Input.{Input}
 use Rattle.messages.specs.declared.event.Input.TheVariants as input
 use Rattle.client_state.specs.declared.call.CurrentCall.{CurrentCall}
-use Rattle.client_state.specs.declared.call.ToldChunk.{ToldChunk}
 use Rattle.client_state.specs.declared.call.Stage.TheVariants.{AskedWhere}
 use Rattle.protocol.specs.Tables.{element_at, with_at, first_numbers}
 use Rattle.protocol.specs.Sending.{the_client}
@@ -33,7 +31,7 @@ use Rattle.protocol_laws.proofs.RisingOrders.{set_cases}
 use Rattle.protocol_laws.proofs.ServerMoves.{IsCameIn}
 use Rattle.protocol_attempts.proofs.Events.{IsGiven, with_call, with_rot, HoldsAfter, holds_after}
 use Rattle.protocol_reads.proofs.ClientReads.{stepped, called}
-use Rattle.protocol_locations.specs.Laws.{OpensFile, OpensNever, IsToldNow, WasTold, chunk_used, LocationsAreNotUsedTooLong}
+use Rattle.protocol_locations.specs.Laws.{OpensFile, OpensNever, IsToldNow, WasTold, LocationsAreNotUsedTooLong}
 use Rattle.protocol_locations.proofs.KeptLocations.{IsUsed, Keeps, used_at, nothing_kept, keeps_on, keeps_later, keeps_opened, After, steps_here, calls_here, refused_here}
 
 -- what was told before and whose file is not opened now, or is told now
@@ -97,17 +95,20 @@ module _ (config : Config) (w : WorldState) (T : ℕ → ℕ → Location → �
         → (keeps : Keeps Either config (client_at s moment)) (d : ClientDoing) → After Either config (client_at s moment) Came told keeps d → Leaves d.client
     left moment Came told keeps d after u is =
         elim (after) [
-          | inl quiet ↦ keeps_on Either (Next w e u T index) config (λ file l clock o. elim (o) [ | inl before ↦ inl (before, opens_none w u index file s d.client at is quiet.1) | inr now ↦ inr now ]) d.client quiet.0
+          | inl quiet ↦ keeps_on Either (Next w e u T index) config (λ file l clock o. elim (o) [ inl before ↦ inl (before, opens_none w u index file s d.client at is quiet.1) | inr now ↦ inr now ]) d.client quiet.0
           | inr opened ↦ subst (λ (t : ClientState). Keeps (Next w e u T index) config t) (sym opened.1) (keeps_opened (T index) (Next w e u T index) config (client_at s moment) opened.0 (others opened.0 opened.1) (keeps_later (T index) config s moment (h index s at)))
         ]
       where
         others : (file : ℕ) → d.client ≡ (opens (client_begins (client_at s moment)) file).client → (other : ℕ) (l : Location) (clock : ℕ) → (other ≡ file → ⊥) → T index other l clock → Next w e u T index other l clock
         others file is_opened other l clock apart told =
-            inl (told, λ o.
-                let t : ClientState = (opens (client_begins (client_at s moment)) file).client in
-                let after : o.after ≡ t = same_some o.after t (sym o.is ∙ (is ∙ ap (λ (x : ClientState). Some x) is_opened)) in
-                let there : table.get t.descriptors t.fd_count ≡ Some other = subst (λ (x : ClientState). table.get x.descriptors x.fd_count ≡ Some other) after o.of_file in
-                apart (sym (same_some file other (sym (put_there s.descriptors (suc s.fd_count) file (suc s.fd_count) refl) ∙ there))))
+            inl (
+              told,
+              λ o.
+                  let t : ClientState = (opens (client_begins (client_at s moment)) file).client in
+                  let after : o.after ≡ t = same_some o.after t (sym o.is ∙ (is ∙ ap (λ (x : ClientState). Some x) is_opened)) in
+                  let there : table.get t.descriptors t.fd_count ≡ Some other = subst (λ (x : ClientState). table.get x.descriptors x.fd_count ≡ Some other) after o.of_file in
+                  apart (sym (same_some file other (sym (put_there s.descriptors (suc s.fd_count) file (suc s.fd_count) refl) ∙ there))),
+            )
 
     either_kept : (moment : ℕ) → Keeps Either config (client_at s moment)
     either_kept moment = keeps_on (T index) Either config (λ file l clock told. inl told) (client_at s moment) (keeps_later (T index) config s moment (h index s at))
@@ -213,4 +214,4 @@ locations_are_not_used_too_long config servers clients steps index s c chunk at 
     (one.0, one.1, one.2, one.3, told c.file.0 one.0 one.1 one.4)
   where
     told : (file : ℕ) (l : Location) (clock : ℕ) → Since (new_world config servers clients) steps (λ n. Nowhere) index file l clock → WasTold (new_world config servers clients) steps index file l clock
-    told file l clock x = elim (x) [ | inl none ↦ absurd (none.0) | inr was ↦ was ]
+    told file l clock x = elim (x) [ inl none ↦ absurd (none.0) | inr was ↦ was ]

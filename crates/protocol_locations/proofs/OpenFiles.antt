@@ -1,13 +1,13 @@
 -- The files that a client has open: each descriptor's file is there, with no more descriptors than it counts.
-use Rattle.std.proofs.Common.{◌≡◌, ◌⊎◌, ℕ, zero, suc, ◌-◌, ◌≤◌, Bool, true, false, List, [], ◌∷◌, length, Option, Some, None, refl, sym, ap, subst, ◌∙◌, inl, inr, arith}
-use Rattle.std.specs.Prelude.{◌==◌, ◌||◌, nat_le, not, cond, filter}
-use Rattle.std.proofs.lemmas.Bool.{eqb-true, eqb-false, leb-true, leb-false, true≢false}
+use Rattle.std.proofs.Common.{◌≡◌, ℕ, suc, ◌-◌, ◌≤◌, Bool, true, false, List, [], ◌∷◌, length, Option, Some, None, refl, sym, ap, subst, ◌∙◌, inl, inr, arith}
+use Rattle.std.specs.Prelude.{◌==◌, ◌||◌, nat_le, not, cond}
+use Rattle.std.proofs.lemmas.Bool.{eqb-true, leb-true, true≢false}
 use Rattle.std.specs.Ordering.{nat_cmp}
 use Rattle.std.specs.FinMap as table
 use Rattle.protocol.specs.Tables.{Table, has_number, without}
 use Rattle.client_state.specs.declared.kept.OpenFile.{OpenFile}
 use Rattle.protocol.specs.ClientFiles.{opened_again, files_after_open, with_one_closed, files_after_close, with_append_of, with_last_append}
-use Rattle.protocol_laws.proofs.Steps.{on_cond, none_some, same_some, put_split, put_cases, put_there, put_other, gone_split, gone_other, same_or_not}
+use Rattle.protocol_laws.proofs.Steps.{on_cond, none_some, put_split, put_cases, put_there, put_other, gone_split, gone_other, same_or_not}
 use Rattle.protocol_laws.proofs.Entries.{same_number}
 
 -- these are all descriptors of a file, and no more than it counts

@@ -1,8 +1,7 @@
 -- A client's number that a lease keeps, it keeps from then on, or a later one.
-use Rattle.std.proofs.Common.{◌≡◌, ◌⊎◌, ℕ, suc, ◌+◌, ◌-◌, ◌≤◌, ◌<◌, Bool, true, false, cond, List, [], ◌∷◌, length, Option, Some, None, refl, sym, ap, subst, ◌∙◌, inl, inr, arith}
+use Rattle.std.proofs.Common.{◌≡◌, ◌⊎◌, ℕ, ◌+◌, ◌-◌, ◌≤◌, ◌<◌, Bool, true, false, cond, List, length, Option, Some, None, refl, sym, ap, subst, ◌∙◌, inl, inr, arith}
 use Rattle.std.specs.Prelude.{nat_le, nat_lt, ◌==◌, ◌&&◌}
 use Rattle.std.specs.Option.{option_map}
-use Rattle.std.specs.Ordering.{nat_cmp}
 use Rattle.std.specs.FinMap as table
 use Rattle.std.proofs.lemmas.Bool.{eqb-true, eqb-false, ltb-false, and_parts, cases_lt}
 use Rattle.gfs_types.specs.declared.ids.Node.{Node}
@@ -33,7 +32,7 @@ use Rattle.data_push.specs.Buffers.{data_of, with_data}
 use Rattle.leases.specs.LeaseHeld.{LeaseHeld, counts_at, extended}
 use Rattle.replica_store.specs.declared.row.Row.{Row}
 use Rattle.replica_store.specs.declared.change.StoreChange.{StoreChange}
-use Rattle.replica_store.specs.declared.change.StoreChange.TheVariants.{SetOrder, Put, Write, Zero, Raise, Copy}
+use Rattle.replica_store.specs.declared.change.StoreChange.TheVariants.{SetOrder, Write, Zero}
 use Rattle.replica_store.specs.Replicas.{is_new_order, row_at, read_at, is_copyable_at, is_writable_at}
 use Rattle.primary_order.specs.declared.answer.Attempted.{Attempted}
 use Rattle.primary_order.specs.declared.answer.Attempted.TheVariants.{IsNew, IsRepeat, IsOld}
@@ -49,10 +48,10 @@ use Rattle.protocol.specs.Tables.{Table, counter_limit, without}
 use Rattle.protocol.specs.Sending.{handle_of, version_of, serial_of, server_number}
 use Rattle.protocol.specs.PushBuffer.{next_hop}
 use Rattle.protocol.specs.declared.seen.Seen.TheVariants.{Numbered}
-use Rattle.protocol.specs.Server.{ServerState, ServerDoing, server_begins, chunk_limit, refuses, stores, shows, with_primary, without_lease, takes_data, drops_corrupt, counting_primary, primary_of}
+use Rattle.protocol.specs.Server.{ServerState, ServerDoing, server_begins, chunk_limit, stores, shows, with_primary, takes_data, drops_corrupt, counting_primary, primary_of}
 use Rattle.protocol.specs.ServerReads.{answers_bytes, reads_from, measures, sends_image, copies_out}
-use Rattle.protocol.specs.ServerWrites.{passes_on, refuses_attempt, answers_settled, denies, forwards, settles, acknowledges, change_of, stored_as, primary_applies, places, appends_as, mutates_with, mutates_new, mutates_as, mutates_under, member_stores, member_applies, applies_data, applies_change, forwarded_to, acked_under, refuses_waiting, nacked_under, nacks}
-use Rattle.protocol.specs.ServerOrders.{on_order, records, can_take, takes_create, raises, takes_set_version, holds_version, takes_grant, extends_held, ends_held, takes_revoke, drops_old, takes_drop, takes_clone, takes_image, copies_locally, takes_copy_local}
+use Rattle.protocol.specs.ServerWrites.{passes_on, refuses_attempt, answers_settled, denies, forwards, settles, acknowledges, change_of, stored_as, primary_applies, places, appends_as, mutates_with, mutates_new, mutates_as, mutates_under, member_stores, member_applies, applies_data, applies_change, forwarded_to, acked_under, refuses_waiting, nacked_under}
+use Rattle.protocol.specs.ServerOrders.{on_order, can_take, takes_create, raises, takes_set_version, holds_version, takes_grant, extends_held, ends_held, takes_revoke, drops_old, takes_drop, takes_clone, takes_image, copies_locally, takes_copy_local}
 use Rattle.protocol.specs.ServerStep.{asks_no_more, counting_leases, server_ticks, server_takes, server_does}
 use Rattle.protocol_laws.proofs.Steps.{on_cond, none_some, same_some, put_cases, put_there, put_other, kept_cases, same_or_not}
 use Rattle.protocol_laws.proofs.Entries.{mapped_cases, kept_where_cases}
@@ -361,7 +360,7 @@ module _ (client seq : ℕ) where
     -- A server s that takes an input, which gives no lease of this version anew.
     module _ (s : ServerState) (i : Input)
         (none : (m : Message) (order : OrderNo) (q : Handle) (v : VersionId) (end_moment : Moment) (members : List ℕ) → i ≡ input.Deliver m → m.body ≡ body.Grant order q v end_moment members → is_new_order s.disk order.epoch order.count ≡ true
-            → q.0 ≡ handle → v.0 ≡ version → ⊥) where
+        → q.0 ≡ handle → v.0 ≡ version → ⊥) where
       ordered : (order : OrderNo) (f : ServerDoing → ServerDoing) → (is_new_order s.disk order.epoch order.count ≡ true → Fine (stores (server_begins s) (SetOrder order)) → Fine (f (stores (server_begins s) (SetOrder order)))) → Fine (server_begins s)
           → Fine (on_order (server_begins s) order f)
       ordered order f go h = on_cond Fine (is_new_order s.disk order.epoch order.count) (f (stores (server_begins s) (SetOrder order))) (server_begins s) (λ new. go new h) (λ _. h)

@@ -1,6 +1,6 @@
 -- After a number was placed under a version of a chunk, each lease of that version keeps it, and none is granted anew.
-use Rattle.std.proofs.Common.{◌≡◌, ◌⊎◌, ℕ, zero, suc, ◌+◌, ◌-◌, ◌≤◌, ◌<◌, Bool, true, false, cond, List, [], ◌∷◌, ◌++◌, length, Option, Some, None, refl, sym, ap, subst, ◌∙◌, inl, inr, arith}
-use Rattle.std.specs.Prelude.{nat_le, nat_lt, IsTrue}
+use Rattle.std.proofs.Common.{◌≡◌, ◌⊎◌, ℕ, zero, suc, ◌+◌, ◌-◌, true, List, [], ◌∷◌, ◌++◌, length, Option, Some, None, refl, sym, ap, subst, ◌∙◌, inl, inr, arith}
+use Rattle.std.specs.Prelude.{nat_le, nat_lt}
 use Rattle.std.specs.Ordering.{nat_cmp}
 use Rattle.std.specs.FinMap as table
 use Rattle.gfs_types.specs.declared.config.Config.{Config}
@@ -27,7 +27,7 @@ use Rattle.record_append.specs.declared.placing.Placing.TheVariants.{At, Pad, Fu
 use Rattle.record_append.specs.Placing.{placing}
 use Rattle.data_push.specs.Buffers.{data_of}
 use Rattle.replica_store.specs.declared.row.Row.{Row}
-use Rattle.replica_store.specs.Replicas.{is_new_order, row_at, is_writable_at, rotten_replica}
+use Rattle.replica_store.specs.Replicas.{is_new_order, row_at, is_writable_at}
 use Rattle.primary_order.specs.declared.answer.Attempted.{Attempted}
 use Rattle.primary_order.specs.declared.answer.Attempted.TheVariants.{IsNew}
 use Rattle.primary_order.specs.declared.kept.Standing.TheVariants.{IsPending}
@@ -42,13 +42,13 @@ use Rattle.protocol.specs.declared.seen.Seen.{Seen}
 use Rattle.protocol.specs.declared.seen.Seen.TheVariants.{Numbered}
 use Rattle.protocol.specs.Server.{ServerState, ServerDoing, server_begins, chunk_limit, stores, shows, with_primary, takes_data, drops_corrupt, primary_of}
 use Rattle.protocol.specs.ServerWrites.{refuses_attempt, forwards, change_of, stored_as, primary_applies, places, appends_as, mutates_with, mutates_new, mutates_as, mutates_under}
-use Rattle.protocol.specs.ServerStep.{server_at, server_takes, server_does, server_goes, server_ends, server_step, server_restarts, server_restart}
+use Rattle.protocol.specs.ServerStep.{server_at, server_takes, server_goes, server_ends, server_step, server_restarts, server_restart}
 use Rattle.protocol.specs.MasterStep.{master_step, master_restart}
 use Rattle.protocol.specs.ClientStep.{client_step, client_call}
 use Rattle.protocol.specs.World.{WorldState, Happened, stamped, after_server, happens, after_events, IsReached}
 use Rattle.protocol_laws.proofs.Steps.{on_cond, none_some, same_some, put_there, gone_there}
 use Rattle.protocol_laws.proofs.MembersRecorded.{kept_place}
-use Rattle.protocol_laws.proofs.RisingOrders.{Later, element_numbered, IsSound, step_goes_on, restarts_as}
+use Rattle.protocol_laws.proofs.RisingOrders.{Later, element_numbered, step_goes_on, restarts_as}
 use Rattle.protocol_laws.proofs.GrantsOnce.{versions_are_granted_once}
 use Rattle.protocol_laws.proofs.ScenesReached.{scene_reached}
 use Rattle.protocol_laws.proofs.LeasesTold.{IsStaleAt, stale_later, new_not_stale, IsToldLease, IsToldServer, AreTold, told_kept, same_grant, granting, server_numbers, versions_have_one_primary}

@@ -1,5 +1,5 @@
 -- In a step a server numbers one mutation at most, before all else that it shows.
-use Rattle.std.proofs.Common.{◌≡◌, ℕ, ◌+◌, Bool, true, false, List, [], ◌∷◌, ◌++◌, length, Option, Some, None, refl, sym, subst}
+use Rattle.std.proofs.Common.{◌≡◌, ℕ, ◌+◌, Bool, List, [], ◌∷◌, ◌++◌, length, Option, Some, None, refl, sym, subst}
 use Rattle.std.specs.Prelude.{nat_le, nat_lt, filter}
 use Rattle.gfs_types.specs.declared.ids.DataId.{DataId}
 use Rattle.gfs_types.specs.declared.refusal.Refusal.TheVariants.{Late, Corrupt}
@@ -31,7 +31,7 @@ use Rattle.protocol.specs.Sending.{handle_of, version_of, serial_of}
 use Rattle.protocol.specs.Choice.{Choice, Ending, Goes, Lost, Stops}
 use Rattle.protocol.specs.Seen.{is_numbering, Taken, no_step}
 use Rattle.protocol.specs.declared.seen.Seen.{Seen}
-use Rattle.protocol.specs.declared.seen.Seen.TheVariants.{Numbered, BecameSettled, CopyStarted}
+use Rattle.protocol.specs.declared.seen.Seen.TheVariants.{Numbered, BecameSettled}
 use Rattle.protocol.specs.Server.{ServerState, ServerDoing, server_begins, chunk_limit, stores, shows, with_primary, takes_data, drops_corrupt, primary_of}
 use Rattle.protocol.specs.ServerWrites.{refuses_attempt, answers_settled, forwards, settles, change_of, stored_as, primary_applies, places, appends_as, mutates_with, mutates_new, mutates_as, mutates_under}
 use Rattle.protocol.specs.ServerStep.{server_at, server_takes, server_goes, server_ends, server_step}

@@ -10,17 +10,17 @@ use Rattle.messages.specs.declared.event.Input.TheVariants as input
 use Rattle.messages.specs.declared.message.Message.{Message}
 use Rattle.messages.specs.declared.message.Body.{Body}
 use Rattle.messages.specs.declared.message.Body.TheVariants as body
-use Rattle.protocol.specs.Tables.{Table, element_at}
+use Rattle.protocol.specs.Tables.{element_at}
 use Rattle.protocol.specs.Sending.{data_id, the_client}
 use Rattle.protocol.specs.Choice.{Choice}
 use Rattle.protocol.specs.declared.seen.Seen.{Seen}
 use Rattle.protocol.specs.declared.seen.Seen.TheVariants.{Numbered, BecameSettled, CopyStarted}
 use Rattle.protocol.specs.Observer.{Placed, observed_moment, placed_in, new_entry, orders_after_all}
 use Rattle.protocol.specs.Server.{ServerState}
-use Rattle.protocol.specs.ServerStep.{server_at, server_step, server_restart}
-use Rattle.protocol.specs.MasterStep.{master_step, master_restart}
+use Rattle.protocol.specs.ServerStep.{server_at, server_step}
+use Rattle.protocol.specs.MasterStep.{master_step}
 use Rattle.protocol.specs.ClientStep.{client_step, client_call}
-use Rattle.protocol.specs.World.{WorldState, new_world, happens, after_events, IsReached}
+use Rattle.protocol.specs.World.{WorldState, new_world, happens, after_events}
 use Rattle.protocol_laws.proofs.Entries.{AllOf}
 use Rattle.protocol_laws.proofs.MembersRecorded.{kept_place, all_at}
 use Rattle.protocol_attempts.proofs.Events.{HoldsAfter, holds_after}
@@ -37,7 +37,7 @@ use Rattle.protocol_chunk_orders.specs.Laws.{IsNumberedNow, WasNumbered}
 use Rattle.protocol_chunk_orders.proofs.Placing.{all_placed, same_orders}
 use Rattle.protocol_chunk_orders.proofs.Numbering.{restarted_shown, entries_were_numbered}
 use Rattle.protocol_one_entry.specs.Laws.{NumbersHaveOneEntry}
-use Rattle.protocol_one_entry.proofs.OnceShown.{NumbersNone, NumbersOnce, step_once}
+use Rattle.protocol_one_entry.proofs.OnceShown.{NumbersNone, step_once}
 use Rattle.protocol_one_entry.proofs.UniqueOrders.{IsApart, AreUnique, none_unique, IsFresh, none_keep, once_keep, one_place}
 
 abbrev handle_in : Handle → Body → Handle
@@ -138,8 +138,8 @@ module _ (config : Config) (servers clients : ℕ) (steps : List (Event × Choic
   fresh index moment s i choice there came place (Numbered handle version serial id m) at =
       all_placed (λ p. IsApart p (new_entry (observed_moment Now.config.skew_ms Now.observer moment).trace version.0 serial.0 id m)) (placed_in Now.observer.orders handle.0)
       (λ n p here client seq.
-          let was = entries_were_numbered config servers clients steps handle.0 n p here in
-          never_again index moment s i choice handle version id (record { is = there; came = came; place = place; serial = serial; placed = m; seen = at }) was.0 p was.1 client seq)
+      let was = entries_were_numbered config servers clients steps handle.0 n p here in
+      never_again index moment s i choice handle version id (record { is = there; came = came; place = place; serial = serial; placed = m; seen = at }) was.0 p was.1 client seq)
   fresh index moment s i choice there came place (BecameSettled handle version serial) at = tt
   fresh index moment s i choice there came place (CopyStarted handle copy) at = tt
 

@@ -30,11 +30,10 @@ one_more new (p ∷ ps) all h = (one_more_from p new ps all.0 h.0, one_more new 
 
 settled_from : (version serial : ℕ) (p : Placed) (ps : List Placed) → AllOf (IsApart p) ps → AllOf (IsApart (settled_as version serial p)) (map (settled_as version serial) ps)
 settled_from version serial p [] h = tt
-settled_from version serial p (q ∷ ps) h =
-    (
-      on_cond (λ (x : Placed). IsApart x (settled_as version serial q)) (is_placed_as version serial p) (record p { entry = record p.entry { settled = true } }) p (λ _. other) (λ _. other),
-      settled_from version serial p ps h.1,
-    )
+settled_from version serial p (q ∷ ps) h = (
+  on_cond (λ (x : Placed). IsApart x (settled_as version serial q)) (is_placed_as version serial p) (record p { entry = record p.entry { settled = true } }) p (λ _. other) (λ _. other),
+  settled_from version serial p ps h.1,
+)
   where
     other : IsApart p (settled_as version serial q)
     other = on_cond (λ (x : Placed). IsApart p x) (is_placed_as version serial q) (record q { entry = record q.entry { settled = true } }) q (λ _. h.0) (λ _. h.0)

@@ -80,7 +80,7 @@ module _ (K : Seen → Type 0) where
   Fine d = AreRight (Since K d.seen) d.server.leases × AllOf (λ m. IsCaused (Since K d.seen) m.body) d.sent
 
   still : (seen : List Seen) (x y : Seen) → Since K seen y → Since K (seen ++ x ∷ []) y
-  still seen x y h = elim (h) [ | inl before ↦ inl before | inr now ↦ inr (now.0, kept_place seen (x ∷ []) now.0 y now.1) ]
+  still seen x y h = elim (h) [ inl before ↦ inl before | inr now ↦ inr (now.0, kept_place seen (x ∷ []) now.0 y now.1) ]
 
   latest : (seen : List Seen) (x : Seen) → Since K (seen ++ x ∷ []) x
   latest seen x = inr (last_place seen x)
@@ -170,10 +170,9 @@ module _ (K : Seen → Type 0) where
           let L : Seen → Type 0 = Since K (d.seen ++ BecameSettled (handle_of q) (version_of p.held.version) (serial_of serial) ∷ []) in
           let there : IsRight L q p = right_on (Since K d.seen) L (still d.seen (BecameSettled (handle_of q) (version_of p.held.version) (serial_of serial))) q p right in
           let shown = latest d.seen (BecameSettled (handle_of q) (version_of p.held.version) (serial_of serial)) in
-          answered (shows (with_primary d q (acknowledged p server serial)) (BecameSettled (handle_of q) (version_of p.held.version) (serial_of serial))) (attempt_of w) w.place (success_right L q p server serial w is shown there)
-          (
+          answered (shows (with_primary d q (acknowledged p server serial)) (BecameSettled (handle_of q) (version_of p.held.version) (serial_of serial))) (attempt_of w) w.place (success_right L q p server serial w is shown there) (
             put L d.server.leases q (acknowledged p server serial) (right_acknowledged L q p server serial (λ x settled. shown) there)
-            (all_right d.seen (BecameSettled (handle_of q) (version_of p.held.version) (serial_of serial)) d.server.leases h.0),
+                (all_right d.seen (BecameSettled (handle_of q) (version_of p.held.version) (serial_of serial)) d.server.leases h.0),
             all_caused d.seen (BecameSettled (handle_of q) (version_of p.held.version) (serial_of serial)) d.sent h.1,
           )
 
@@ -224,16 +223,16 @@ module _ (K : Seen → Type 0) where
   repeated n None place is = absurd (let both : IsNew ≡ IsRepeat (IsSettled place) = is in cc)
   repeated n (Some k) place is = by_test (k.seq == n) refl is
     where
-      by_test : (b : Bool) → (k.seq == n) ≡ b → cond b (IsRepeat k.standing) (cond (nat_lt n k.seq) IsOld IsNew) ≡ IsRepeat (IsSettled place) → (x : Kept) × (Some k ≡ Some x) × (x.seq ≡ n) × (x.standing ≡ IsSettled place)
-      by_test true same g = (k, refl, eqb-true k.seq n same, standing g)
-      by_test false other g = by_order (nat_lt n k.seq) g
-
       standing : IsRepeat k.standing ≡ IsRepeat (IsSettled place) → k.standing ≡ IsSettled place
       standing g = cc
 
       by_order : (b : Bool) → cond b IsOld IsNew ≡ IsRepeat (IsSettled place) → (x : Kept) × (Some k ≡ Some x) × (x.seq ≡ n) × (x.standing ≡ IsSettled place)
       by_order true g = absurd (let both : IsOld ≡ IsRepeat (IsSettled place) = g in cc)
       by_order false g = absurd (let both : IsNew ≡ IsRepeat (IsSettled place) = g in cc)
+
+      by_test : (b : Bool) → (k.seq == n) ≡ b → cond b (IsRepeat k.standing) (cond (nat_lt n k.seq) IsOld IsNew) ≡ IsRepeat (IsSettled place) → (x : Kept) × (Some k ≡ Some x) × (x.seq ≡ n) × (x.standing ≡ IsSettled place)
+      by_test true same g = (k, refl, eqb-true k.seq n same, standing g)
+      by_test false other g = by_order (nat_lt n k.seq) g
 
   as_fine : (d : ServerDoing) (q : ℕ) (p : SerialOrder) (id : DataId) (t : Target) (a : Attempted) → attempted p id.client id.seq ≡ a → IsRight (Since K d.seen) q p → Fine d → Fine (mutates_as d q p id t a)
   as_fine d q p id t IsOld is right h = attempt_refused d id OldRequest h

@@ -1,5 +1,5 @@
 -- What a lease's order says of its attempts was shown: each that waits was numbered, and each that is kept as settled became so. What an order becomes says no more than that.
-use Rattle.std.proofs.Common.{◌≡◌, ◌⊎◌, ℕ, zero, suc, ◌+◌, Bool, true, false, cond, List, [], ◌∷◌, ◌++◌, Option, Some, None, refl, sym, ap, subst, ◌∙◌, inl, inr}
+use Rattle.std.proofs.Common.{◌≡◌, ℕ, ◌+◌, Bool, true, false, cond, Option, Some, None, refl, sym, ap, subst, ◌∙◌, inl, inr}
 use Rattle.std.specs.Prelude.{◌==◌, ◌&&◌, nat_lt}
 use Rattle.std.specs.Ordering.{nat_cmp}
 use Rattle.std.specs.FinMap as table
@@ -18,12 +18,12 @@ use Rattle.primary_order.specs.declared.waiting.Waiting.{Waiting}
 use Rattle.primary_order.specs.declared.order.SerialOrder.{SerialOrder}
 use Rattle.primary_order.specs.PrimaryOrder.{place_of, kept_as, with_standing, stood_by, settled_by, settled_kept, waiting_by, is_last, less_member}
 use Rattle.primary_order.specs.SerialOrder.{new_order, denied, numbered, acknowledged, refused_by, attempt_of}
-use Rattle.protocol.specs.Tables.{Table, element_at}
+use Rattle.protocol.specs.Tables.{Table}
 use Rattle.protocol.specs.Sending.{handle_of, version_of, serial_of, data_id}
 use Rattle.protocol.specs.declared.seen.Seen.{Seen}
 use Rattle.protocol.specs.declared.seen.Seen.TheVariants.{Numbered, BecameSettled}
 use Rattle.protocol.specs.ServerStep.{asks_no_more}
-use Rattle.protocol_laws.proofs.Steps.{on_cond, none_some, same_some, put_cases, kept_cases}
+use Rattle.protocol_laws.proofs.Steps.{on_cond, none_some, put_cases, kept_cases}
 use Rattle.protocol_successes.specs.Laws.{IsNumberedAs, IsSettledAs}
 
 pub record IsRight (K : Seen → Type 0) (q : ℕ) (p : SerialOrder) : Type 0 where

@@ -1,17 +1,14 @@
 -- In each world that is reached, each success that was told is of a mutation that was placed there and became settled in steps of the list.
-use Rattle.std.proofs.Common.{◌≡◌, ◌⊎◌, ℕ, zero, suc, Bool, true, false, List, [], ◌∷◌, ◌++◌, length, map, Option, Some, None, refl, sym, ap, subst, ◌∙◌, inl, inr}
+use Rattle.std.proofs.Common.{◌≡◌, ◌⊎◌, ℕ, zero, suc, true, false, List, [], ◌∷◌, ◌++◌, length, map, Option, Some, None, refl, sym, subst, ◌∙◌, inl, inr}
 use Rattle.std.specs.Option.{option_to_list}
 use Rattle.std.specs.Ordering.{nat_cmp}
 use Rattle.std.specs.FinMap as table
 use Rattle.gfs_types.specs.declared.config.Config.{Config}
-use Rattle.gfs_types.specs.declared.ids.DataId.{DataId}
-use Rattle.gfs_types.specs.declared.ids.Node.TheVariants as node
 use Rattle.messages.specs.declared.event.Event.{Event}
 use Rattle.messages.specs.declared.event.Input.{Input}
 use Rattle.messages.specs.declared.message.Body.{Body}
 use Rattle.messages.specs.declared.message.Body.TheVariants as body
 use Rattle.messages.specs.declared.message.Message.{Message}
-use Rattle.primary_order.specs.declared.order.SerialOrder.{SerialOrder}
 use Rattle.protocol.specs.Tables.{element_at, with_at, first_numbers}
 use Rattle.protocol.specs.Choice.{Choice, Ending, Goes, Lost, Stops}
 use Rattle.protocol.specs.declared.seen.Seen.{Seen}
@@ -31,7 +28,7 @@ use Rattle.protocol_attempts.proofs.ClientNumbers.{IsSaid, IsStepOf, of_step, of
 use Rattle.protocol_attempts.proofs.RequestsOnce.{AreNumbered, each_event, numbered_reached, later_cases}
 use Rattle.protocol_words.proofs.MasterTalks.{is_masters, MasterTalks, master_said, restart_said}
 use Rattle.protocol_chunk_orders.proofs.Numbering.{came_first, came_later}
-use Rattle.protocol_successes.specs.Laws.{IsShownNow, WasShown, IsSettledAs, SuccessesWereSettled}
+use Rattle.protocol_successes.specs.Laws.{IsShownNow, WasShown, SuccessesWereSettled}
 use Rattle.protocol_successes.proofs.RightLeases.{IsCaused, right_on, caused_on, settled_on}
 use Rattle.protocol_successes.proofs.LeaseAnswers.{Since, AreRight, step_leaves, restart_right}
 
@@ -199,7 +196,7 @@ all_later w (step ∷ rest) K h =
     joined : (y : Seen) → Later u rest (Next w x K) y → Later w (step ∷ rest) K y
     joined y later =
         elim (later) [
-          | inl next ↦ elim (next) [ | inl before ↦ inl before | inr now ↦ inr (came_first (λ v z. IsShownNow v z y) w step rest now) ]
+          | inl next ↦ elim (next) [ inl before ↦ inl before | inr now ↦ inr (came_first (λ v z. IsShownNow v z y) w step rest now) ]
           | inr was ↦ inr (came_later (λ v z. IsShownNow v z y) w step rest was)
         ]
 
@@ -233,4 +230,4 @@ successes_were_settled config servers clients steps place m at id offset is =
     sound = all_later start steps Never (new_sound config servers clients)
 
     shown : (y : Seen) → Later start steps Never y → WasShown start steps y
-    shown y later = elim (later) [ | inl none ↦ absurd none | inr was ↦ was ]
+    shown y later = elim (later) [ inl none ↦ absurd none | inr was ↦ was ]
