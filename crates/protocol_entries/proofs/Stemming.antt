@@ -56,7 +56,7 @@ IsStemmed sent sender other = Unit {0}
 abbrev IsPair : List Message → DataId × List ℕ → Type 0
 IsPair sent x = IsPushed sent x.0 x.1
 
-pushed_later : (sent more : List Message) (id : DataId) (bytes : List ℕ) → IsPushed sent id bytes → IsPushed (sent ++ more) id bytes
+pub pushed_later : (sent more : List Message) (id : DataId) (bytes : List ℕ) → IsPushed sent id bytes → IsPushed (sent ++ more) id bytes
 pushed_later sent more id bytes h = record { push = h.push; rest = h.rest; sent_is = sent_before sent more h.push h.sent_is; sender_is = h.sender_is; body_is = h.body_is }
 
 stemmed_later : (sent more : List Message) (sender : Node) (b : Body) → IsStemmed sent sender b → IsStemmed (sent ++ more) sender b
@@ -207,7 +207,7 @@ abbrev message_in : Input → Option Message
 message_in (input.Deliver m) = Some m
 message_in input.Tick = None
 
-came_in : (w : WorldState) (e : Event) (server moment : ℕ) (i : Input) → IsGiven w e (the_server server) moment i → (m : Message) → i ≡ input.Deliver m → IsSent w.sent m
+pub came_in : (w : WorldState) (e : Event) (server moment : ℕ) (i : Input) → IsGiven w e (the_server server) moment i → (m : Message) → i ≡ input.Deliver m → IsSent w.sent m
 came_in w (event.Deliver number now) server moment (input.Deliver x) is m same = subst (λ (y : Message). IsSent w.sent y) (same_some x m (ap message_in same)) (number - 1, element_numbered w.sent number x is.0)
 came_in w (event.Call c asked now) server moment (input.Deliver x) is m same = absurd is
 came_in w (event.Tick to now) server moment (input.Deliver x) is m same = absurd is

@@ -1,4 +1,4 @@
--- What the master says in a step: answers and orders of its own, and locations, which name holders of the granted version or a later one.
+-- What the master says in a step: answers and orders of its own, and locations, which name holders of the granted version or a later one. It shows only copies that begin.
 use Rattle.std.proofs.Common.{◌≡◌, ℕ, zero, suc, ◌+◌, Bool, true, false, List, [], ◌∷◌, ◌++◌, length, map, Option, Some, None, refl}
 use Rattle.std.specs.Prelude.{◌==◌, ◌&&◌, nat_lt, nat_le, cond}
 use Rattle.std.specs.List.{filter_map, cons_option}
@@ -33,6 +33,7 @@ use Rattle.protocol.specs.LogSizes.{checkpoint_fits}
 use Rattle.protocol.specs.Sending.{message, client_id, file_id, server_id, handle_of, version_of, moment_of, the_server, the_client, client_number, server_number}
 use Rattle.protocol.specs.Choice.{Choice, Ending, Goes, Lost, Stops}
 use Rattle.protocol.specs.Seen.{Taken, no_step}
+use Rattle.protocol.specs.declared.seen.Seen.{Seen}
 use Rattle.protocol.specs.declared.seen.Seen.TheVariants.{CopyStarted}
 use Rattle.protocol.specs.Logged.{KeptCall, checkpoint_of}
 use Rattle.protocol.specs.Master.{MasterState, MasterDoing, PendingSnapshot, VersionAttempt, HeldAt, master_begins, tells, orders, logs, logs_after_checkpoint, appends, fits, writes_checkpoint, is_of_copy, ends_at, with_attempt, without_attempt, without_attempts, gives_up_copy, gives_up_copies, held_where, version_held, holders_where, current_holders, servers_of, has_lease}
@@ -83,17 +84,22 @@ current_ones m handle granted (s ∷ rest) = first (version_held m handle s) (cu
         on_cond (λ (o : Option HeldAt). HoldAtLeast granted (map holder_line (cons_option o others))) (nat_le granted version) (Some (record { server = s; version = version })) None
         (λ at_least. (leb-true granted version at_least, all)) (λ _. all)
 
+-- the copy of a shared chunk was begun
+abbrev pub IsCopying : Seen → Type 0
+IsCopying (CopyStarted handle copy) = Unit {0}
+IsCopying other = ⊥
+
 module _ (W : Message → Type 0) (k : MasterTalks W) where
   abbrev pub Fine : MasterDoing → Type 0
-  Fine d = AllOf W d.sent
+  Fine d = AllOf W d.sent × AllOf IsCopying d.seen
 
   said : (d : MasterDoing) (receiver : Node) (b : Body) → is_masters b ≡ true → Fine d → Fine (tells d receiver b)
-  said d receiver b is h = all_joined W d.sent (message node.Master receiver b ∷ []) h (k.plain receiver b is, tt)
+  said d receiver b is h = (all_joined W d.sent (message node.Master receiver b ∷ []) h.0 (k.plain receiver b is, tt), h.1)
 
   ordered : (d : MasterDoing) (server : ℕ) (b : OrderNo → Body) → ((o : OrderNo) → is_masters (b o) ≡ true) → Fine d → Fine (orders d server b)
   ordered d server b is h =
       let o : OrderNo = record { epoch = d.master.logged.epoch; count = suc d.master.order_count } in
-      all_joined W d.sent (message node.Master (the_server server) (b o) ∷ []) h (k.plain (the_server server) (b o) (is o), tt)
+      (all_joined W d.sent (message node.Master (the_server server) (b o) ∷ []) h.0 (k.plain (the_server server) (b o) (is o), tt), h.1)
 
   logged : (d : MasterDoing) (r : Record) (then_ : MasterDoing → MasterDoing) → ((e : MasterDoing) → Fine e → Fine (then_ e)) → Fine d → Fine (logs d r then_)
   logged d r then_ go h =
@@ -169,7 +175,7 @@ module _ (W : Message → Type 0) (k : MasterTalks W) where
   location_said : (d : MasterDoing) (a : Asker) (handle : ℕ) (row : ChunkRow) (holders : List Holder) → HoldAtLeast row.granted holders → Fine d → Fine (tells_location d a handle row holders)
   location_said d a handle row holders all h =
       let l : Location = record { index = a.index; handle = handle_of handle; round = version_of row.granted; holders = holders; group = group_of d.master row } in
-      all_joined W d.sent (message node.Master a.client (body.Told a.number (Some l)) ∷ []) h (k.locates a.client a.number l all, tt)
+      (all_joined W d.sent (message node.Master a.client (body.Told a.number (Some l)) ∷ []) h.0 (k.locates a.client a.number l all, tt), h.1)
 
   holders_said : (d : MasterDoing) (a : Asker) (handle : ℕ) (row : ChunkRow) → Fine d → Fine (tells_holders d a handle row)
   holders_said d a handle row h = location_said d a handle row (map holder_line (current_holders d.master handle row)) (current_ones d.master handle row.granted (servers_of d.master)) h
@@ -216,7 +222,8 @@ module _ (W : Message → Type 0) (k : MasterTalks W) where
   started_said a handle copy version targets d h =
       let seen : MasterDoing = record d { seen = d.seen ++ CopyStarted (handle_of handle) (handle_of copy) ∷ [] } in
       let held : MasterDoing = with_attempt seen copy (new_attempt d.master version targets) in
-      wait_said (sends_copies held handle copy version targets) a (copies_sent held handle copy version targets h)
+      wait_said (sends_copies held handle copy version targets) a
+      (copies_sent held handle copy version targets (h.0, all_joined IsCopying d.seen (CopyStarted (handle_of handle) (handle_of copy) ∷ []) h.1 (tt, tt)))
 
   copies_said : (d : MasterDoing) (a : Asker) (handle : ℕ) (row : ChunkRow) (targets : List VersionTarget) → Fine d → Fine (copies_to d a handle row targets)
   copies_said d a handle row [] h = location_said d a handle row [] tt h
@@ -427,18 +434,24 @@ module _ (W : Message → Type 0) (k : MasterTalks W) where
   goes_said : (m : MasterState) (moment : ℕ) (i : Input) (refusals : List Bool) → Fine (master_goes m moment i refusals)
   goes_said m moment i refusals =
       let d : MasterDoing = master_does (master_begins (master_at m moment) refusals) i in
-      ready d d.master.snapshots (does_said (master_begins (master_at m moment) refusals) i tt)
+      ready d d.master.snapshots (does_said (master_begins (master_at m moment) refusals) i (tt, tt))
 
-  ends_said : (m : MasterState) (d : MasterDoing) (choice : Choice) (e : Ending) → Fine d → AllOf W (master_ends m d choice e).out.sent
-  ends_said m d choice Goes h = all_in_order W choice.order d.sent h
-  ends_said m d choice Lost h = tt
-  ends_said m d choice (Stops made) h = tt
+  abbrev Ends : Taken MasterState → Type 0
+  Ends t = AllOf W t.out.sent × AllOf IsCopying t.seen
+
+  ends_said : (m : MasterState) (d : MasterDoing) (choice : Choice) (e : Ending) → Fine d → Ends (master_ends m d choice e)
+  ends_said m d choice Goes h = (all_in_order W choice.order d.sent h.0, h.1)
+  ends_said m d choice Lost h = (tt, tt)
+  ends_said m d choice (Stops made) h = (tt, tt)
+
+  both_said : (m : MasterState) (moment : ℕ) (i : Input) (choice : Choice) → Ends (master_step m moment i choice)
+  both_said m moment i choice =
+      let d : MasterDoing = master_goes m moment i choice.refused in
+      on_cond Ends m.up (master_bounded m d choice) (no_step m)
+      (λ _. on_cond Ends (may_end d choice.ending) (master_ends m d choice choice.ending) (no_step m) (λ _. ends_said m d choice choice.ending (goes_said m moment i choice.refused)) (λ _. (tt, tt))) (λ _. (tt, tt))
 
   pub master_said : (m : MasterState) (moment : ℕ) (i : Input) (choice : Choice) → AllOf W (master_step m moment i choice).out.sent
-  master_said m moment i choice =
-      let d : MasterDoing = master_goes m moment i choice.refused in
-      on_cond (λ (t : Taken MasterState). AllOf W t.out.sent) m.up (master_bounded m d choice) (no_step m)
-      (λ _. on_cond (λ (t : Taken MasterState). AllOf W t.out.sent) (may_end d choice.ending) (master_ends m d choice choice.ending) (no_step m) (λ _. ends_said m d choice choice.ending (goes_said m moment i choice.refused)) (λ _. tt)) (λ _. tt)
+  master_said m moment i choice = let both = both_said m moment i choice in both.0
 
   opens_said : (m started : MasterState) (d : MasterDoing) (choice : Choice) (e : Ending) → AllOf W (opens_as m started d choice e).out.sent
   opens_said m started d choice Goes = on_cond (λ (t : Taken MasterState). AllOf W t.out.sent) (has_opened started d && is_within_limits d.master) _ _ (λ _. tt) (λ _. tt)
@@ -449,3 +462,18 @@ module _ (W : Message → Type 0) (k : MasterTalks W) where
   restart_said m moment choice =
       let started : MasterState = started_master m.config m.server_count (found_log m choice) moment in
       opens_said m started (opening started) choice choice.ending
+
+-- what a step of the master shows
+pub master_shown : (m : MasterState) (moment : ℕ) (i : Input) (choice : Choice) → AllOf IsCopying (master_step m moment i choice).seen
+master_shown m moment i choice = let both = both_said (λ x. Unit {0}) (record { plain = λ receiver b is. tt; locates = λ receiver number l current. tt }) m moment i choice in both.1
+
+opens_shown : (m started : MasterState) (d : MasterDoing) (choice : Choice) (e : Ending) → (opens_as m started d choice e).seen ≡ []
+opens_shown m started d choice Goes = on_cond (λ (t : Taken MasterState). t.seen ≡ []) (has_opened started d && is_within_limits d.master) _ _ (λ _. refl) (λ _. refl)
+opens_shown m started d choice Lost = refl
+opens_shown m started d choice (Stops made) = refl
+
+-- a restart shows nothing
+pub restart_shown : (m : MasterState) (moment : ℕ) (choice : Choice) → (master_restart m moment choice).seen ≡ []
+restart_shown m moment choice =
+    let started : MasterState = started_master m.config m.server_count (found_log m choice) moment in
+    opens_shown m started (opening started) choice choice.ending

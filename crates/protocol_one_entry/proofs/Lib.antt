@@ -1,0 +1,3 @@
+pub mod OnceShown
+pub mod UniqueOrders
+pub mod OneEntry

@@ -1,0 +1,3 @@
+pub mod RightLeases
+pub mod LeaseAnswers
+pub mod Successes
