@@ -1,13 +1,15 @@
 -- Steps of the master beside the machine: what each move keeps is kept where records are logged, with the checkpoints that make room for them.
-use Rattle.std.proofs.Common.{◌≡◌, ⊎_elim, ℕ, Bool, true, false, cond, List, [], ◌∷◌, ◌++◌, None, refl, sym, subst}
+use Rattle.std.proofs.Common.{◌≡◌, ⊎_elim, ℕ, Bool, true, false, cond, List, [], ◌∷◌, ◌++◌, None, refl, sym, ap, subst, ◌∙◌}
 use Rattle.std.specs.Prelude.{◌&&◌, not, Contains}
+use Rattle.std.specs.List.{cons_option}
 use Rattle.messages.specs.declared.message.Body.{Body}
 use Rattle.messages.specs.declared.message.Body.TheVariants as body
 use Rattle.messages.specs.declared.message.Message.{Message}
 use Rattle.log_records.specs.declared.record.Record.{Record}
 use Rattle.relaxed_file.specs.Machine.{Machine, OpenCall, Outcome, IsOpen}
-use Rattle.relaxed_file.specs.Run.{Action, Allows, after, shown}
-use Rattle.relaxed_file.proofs.Moments.{Shows, nothing, unseen_first, join_shows}
+use Rattle.relaxed_file.specs.Run.{Action, Visible, Allows, after, shown, visible}
+use Rattle.name_runs.specs.Laws.{is_name_action}
+use Rattle.name_runs.proofs.Runs.{name_runs_go_on}
 use Rattle.protocol.specs.LogSizes.{checkpoint_fits}
 use Rattle.protocol.specs.Logged.{Logged, LogDisk, LogChange, AppendRecord, WriteCheckpoint, log_changed, after_record, checkpoint_of, copies_given_up, all_copies_given_up}
 use Rattle.protocol.specs.Master.{MasterDoing, PendingSnapshot, fits, appends, writes_checkpoint, logs, logs_after_checkpoint, is_of_copy}
@@ -23,19 +25,15 @@ on_cond P false x y f g = g
 -- runs that clients don't see
 
 pub stays : (m : Machine) → RunsTo m m
-stays m = ([], tt, refl, refl)
+stays m = (([], tt, refl, refl), refl)
 
-from_shows : (m n : Machine) → Shows m n [] → RunsTo m n
-from_shows m n s = (s.actions, s.lawful, s.seen, s.ends)
-
-to_shows : (m n : Machine) → RunsTo m n → Shows m n []
-to_shows m n r = record { actions = r.0; lawful = r.1; ends = r.3; seen = r.2 }
-
-pub one_action : (m : Machine) (action : Action) → Allows m action → shown action ≡ None → RunsTo m (after m action)
-one_action m action a is = from_shows m (after m action) (unseen_first m (after m action) action [] a is (nothing (after m action)))
+pub one_action : (m : Machine) (action : Action) → Allows m action → shown action ≡ None → is_name_action action ≡ true → RunsTo m (after m action)
+one_action m action a unseen of_names = ((action ∷ [], (a, tt), ap (λ (b : Bool). b && true) of_names, refl), ap (λ o. cons_option o []) unseen)
 
 pub join : (m k n : Machine) → RunsTo m k → RunsTo k n → RunsTo m n
-join m k n one two = from_shows m n (join_shows m k n [] [] (to_shows m k one) (to_shows k n two))
+join m k n one two =
+    let both = name_runs_go_on m k n one.0 two.0 in
+    (both.0, both.1 ∙ ap (λ (seen : List Visible). seen ++ visible (two.0).0) one.1 ∙ two.1)
 
 -- what is told stays told, where one client's call goes on
 pub told_stays : (m n : Machine) (requests : Requests) (client : ℕ) (current later : OpenCall) → GoesOn m n client current later → (x : Message) → IsTold m requests x → IsTold n requests x

@@ -51,7 +51,7 @@ lock_move l snapshots m requests s h new free =
     let later : OpenCall = record new.current { has_locks = true; has_begun = true } in
     let g : GoesOn m n s.client new.current later = step_goes_on m m s.client new.current (λ c. record c { has_locks = true }) refl new.waiting.is_open (λ o has. has) in
     record {
-      run = one_action m (Lock s.client) (locks_are_taken l snapshots m requests s h new free).0 refl;
+      run = one_action m (Lock s.client) (locks_are_taken l snapshots m requests s h new free).0 refl refl;
       alike = λ x a. (locks_are_taken x snapshots m requests s a new (as_free x snapshots a)).1;
       alone = λ x a. locks_go_back x (s ∷ []) n requests (λ _. false) (locks_are_taken x [] m requests s a none (as_free x [] a)).1;
       told = λ x t. told_stays m n requests s.client new.current later g x t;
@@ -69,7 +69,7 @@ look_runs s m requests client c current h is same look = elim (refusals_are_the_
       let at_names : outcome ≡ outcome_of m.names c = ap (λ (o : Option Refusal). outcome_by s.logged.names c o) equal ∙ ap (λ (n : Names). outcome_of n c) h.names in
       let effect = look_effect m c look 0 in
       let base : Machine = cond (is_refused outcome) m (performed m c 0) in
-      let run : RunsTo m (after m (Step client 0 outcome)) = one_action m (Step client 0 outcome) (current, is, may_step m 0 outcome current c same (look_is_name c look) (inl (ap is_look same ∙ look)) at_names (λ plain. effect.1)) refl in
+      let run : RunsTo m (after m (Step client 0 outcome)) = one_action m (Step client 0 outcome) (current, is, may_step m 0 outcome current c same (look_is_name c look) (inl (ap is_look same ∙ look)) at_names (λ plain. effect.1)) refl refl in
       let at : (after m (Step client 0 outcome)) ≡ with_outcome m client outcome =
       stepped_at (λ (n : Machine). n ≡ with_outcome m client outcome) m client 0 outcome current c is same (ap (λ (b : Machine). with_outcome b client outcome) (either (is_refused outcome) m (performed m c 0) effect.0)) in
       subst (λ (n : Machine). RunsTo m n) at run
@@ -77,7 +77,7 @@ look_runs s m requests client c current h is same look = elim (refusals_are_the_
       let others = none_of_call m requests client current s.snapshots is (λ t e. no_look c look t (sym same ∙ e)) h.locks in
       let found = find_holder m requests client c s.snapshots h.locks others busy.1 in
       let run : RunsTo m (after m (FindBusy client (found.0).client)) =
-      one_action m (FindBusy client (found.0).client) (busy_allowed m requests client c current found.0 is same (inl (ap is_look same ∙ look)) busy.2 found.1) refl in
+      one_action m (FindBusy client (found.0).client) (busy_allowed m requests client c current found.0 is same (inl (ap is_look same ∙ look)) busy.2 found.1) refl refl in
       subst (λ (o : Outcome). RunsTo m (with_outcome m client o)) (ap (λ (o : Option Refusal). outcome_by s.logged.names c o) (sym busy.0)) run
 ]
 

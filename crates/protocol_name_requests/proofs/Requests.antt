@@ -61,7 +61,7 @@ step_move : (m : Machine) (requests : Requests) (snapshots : List PendingSnapsho
 step_move m requests snapshots client number moment c r refusal new name is may same based l h =
     let outcome : Outcome = Replies (reply_of refusal) in
     let base : Machine = cond (is_refused outcome) m (performed m c moment) in
-    let run : RunsTo m (after m (Step client moment outcome)) = one_action m (Step client moment outcome) (new.current, new.waiting.is_open, may_step m moment outcome new.current c new.call_is name (inr new.untaken) is may) refl in
+    let run : RunsTo m (after m (Step client moment outcome)) = one_action m (Step client moment outcome) (new.current, new.waiting.is_open, may_step m moment outcome new.current c new.call_is name (inr new.untaken) is may) refl refl in
     let at : (after m (Step client moment outcome)) ≡ with_outcome base client outcome = stepped_at (λ (n : Machine). n ≡ with_outcome base client outcome) m client moment outcome new.current c new.waiting.is_open new.call_is refl in
     subst (λ (n : Machine). IsAnswered m n requests snapshots client r refusal) (sym at)
     (with_outcome_move m base requests snapshots client number c r refusal same (subst (λ (n : Machine). RunsTo m n) at run) new based l h)
@@ -103,7 +103,7 @@ refused_move s m requests client number c refusal h new is = elim (refusals_are_
       let others = none_of_client m requests client number s.snapshots new.waiting.number_is new.alone h.locks in
       let found = find_holder m requests client c s.snapshots h.locks others busy.1 in
       let run : RunsTo m (after m (FindBusy client (found.0).client)) =
-      one_action m (FindBusy client (found.0).client) (busy_allowed m requests client c new.current found.0 new.waiting.is_open new.call_is (inr new.untaken) busy.2 found.1) refl in (
+      one_action m (FindBusy client (found.0).client) (busy_allowed m requests client c new.current found.0 new.waiting.is_open new.call_is (inr new.untaken) busy.2 found.1) refl refl in (
         with_outcome m client (Replies (answer.Refused Busy)),
         subst (λ (q : Refusal). IsAnswered m (with_outcome m client (Replies (answer.Refused Busy))) requests s.snapshots client (log.Refused (client_id client) number q) (Some q)) same
             (with_outcome_move m m requests s.snapshots client number c (log.Refused (client_id client) number Busy) (Some Busy) refl run new (λ x ss a. refused_base x ss m requests client number Busy a) s.logged h),
@@ -125,5 +125,5 @@ full_move l snapshots m requests client number c h new room free =
         inr new.untaken,
         ap (λ (k : Call). refusal_of m.names k) new.call_is ∙ ap (λ (n : Names). refusal_of n c) (sym h.names) ∙ free,
       ),
-    ) refl in
+    ) refl refl in
     with_outcome_move m m requests snapshots client number c (log.Refused (client_id client) number NamesFull) (Some NamesFull) refl run new (λ x ss a. refused_base x ss m requests client number NamesFull a) l h

@@ -9,15 +9,16 @@ use Rattle.messages.specs.declared.message.Message.{Message}
 use Rattle.messages.specs.declared.message.NameReply.{NameReply}
 use Rattle.messages.specs.declared.message.NameReply.TheVariants.{Opened, Answered}
 use Rattle.relaxed_file.specs.Machine.{Machine, OpenCall, Outcome, Replies, Opens}
-use Rattle.relaxed_file.specs.Run.{Action, IsLawful, visible, after_all}
+use Rattle.relaxed_file.specs.Run.{visible}
+use Rattle.name_runs.specs.Laws.{LeadsByNames}
 use Rattle.protocol.specs.Sending.{client_number}
 use Rattle.protocol.specs.Logged.{KeptCall}
 use Rattle.protocol.specs.Master.{MasterDoing}
 use Rattle.protocol_name_steps.specs.Alike.{Requests, AreAlike, IsWaiting}
 
--- the machine comes from one state to the other, and clients see nothing
+-- the machine comes from one state to the other by what is done to names, and clients see nothing
 abbrev pub RunsTo : Machine → Machine → Type 0
-RunsTo m n = (actions : List Action) × IsLawful m actions × (visible actions ≡ []) × (after_all m actions ≡ n)
+RunsTo m n = (run : LeadsByNames m n) × (visible run.0 ≡ [])
 
 -- the outcome that a reply tells
 abbrev pub outcome_told : NameReply → Outcome

@@ -64,15 +64,15 @@ gone s (t ∷ rest) =
 
 -- old files at the machine
 
-abbrev IsOldAt : Machine → ℕ → Type 0
+abbrev pub IsOldAt : Machine → ℕ → Type 0
 IsOldAt m file = (moment : ℕ) × IsOnlyName m.names (hidden_name moment file) file × (is_there m file ≡ true) × (moment + m.config.keep_ms ≤ m.clock)
 
-abbrev AreOldAt : Machine → List ℕ → Type 0
+abbrev pub AreOldAt : Machine → List ℕ → Type 0
 AreOldAt m [] = Unit {0}
 AreOldAt m (file ∷ rest) = IsOldAt m file × IsFalse (has_number rest file) × AreOldAt m rest
 
 -- at names that both have
-old_here : (l : Logged) (snapshots : List PendingSnapshot) (m : Machine) (requests : Requests) (files : List ℕ) → AreAlike l snapshots m requests → AreOldFiles l m files → AreOldAt m files
+pub old_here : (l : Logged) (snapshots : List PendingSnapshot) (m : Machine) (requests : Requests) (files : List ℕ) → AreAlike l snapshots m requests → AreOldFiles l m files → AreOldAt m files
 old_here l snapshots m requests [] h all = tt
 old_here l snapshots m requests (file ∷ rest) h all =
     let one : IsOldFile l m file = all.0 in (
@@ -122,7 +122,7 @@ expire_move : (l : Logged) (m : Machine) (requests : Requests) (snapshots : List
 expire_move l m requests snapshots file old h =
     let n : Machine = after m (Expire file old.0) in
     record {
-      run = one_action m (Expire file old.0) ((old.1).0, old.3) refl;
+      run = one_action m (Expire file old.0) ((old.1).0, old.3) refl refl;
       alike = λ x a. collected x snapshots a;
       alone = λ x a. collected x [] a;
       told = λ x t. told_still m n requests (client_number x.receiver) x.body refl t;

@@ -177,7 +177,7 @@ renamed_stays names p q from to (Some v) plain free one two h =
     (plain_gone names p from to (apart_differ p from one.source) plain h)
 
 -- what another snapshot copies stands at or below its target
-copied_below : (names : Names) (p q x : Path) (v : Node) → (p ≡ root → ⊥) → (q ≡ root → ⊥) → HasAt (copied_entries names p q) x v → is_at_or_below q x ≡ true
+pub copied_below : (names : Names) (p q x : Path) (v : Node) → (p ≡ root → ⊥) → (q ≡ root → ⊥) → HasAt (copied_entries names p q) x v → is_at_or_below q x ≡ true
 copied_below names p q x v p_other q_other there =
     let found = copied_of p q (table.entries names) x v there in
     let rest = at_or_below_is p found.0 p_other found.2 in

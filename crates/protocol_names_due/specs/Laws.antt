@@ -1,10 +1,9 @@
 -- In each reached world, what the master does on the names unasked: snapshots that wait can be taken, and files that expire are due (sections 3.4 and 4.4).
-use Rattle.std.specs.Prelude.{◌≡◌, ℕ, ◌+◌, ◌≤◌, List, [], ◌∷◌, Some, IsTrue, IsFalse}
+use Rattle.std.specs.Prelude.{ℕ, ◌+◌, ◌≤◌, List, [], ◌∷◌, IsTrue, IsFalse}
 use Rattle.std.specs.FinMap as table
 use Rattle.gfs_types.specs.declared.config.Config.{Config}
 use Rattle.gfs_types.specs.Paths.{hidden_name}
 use Rattle.protocol.specs.Tables.{has_number}
-use Rattle.protocol.specs.Logged.{Logged}
 use Rattle.protocol.specs.Master.{MasterState}
 use Rattle.protocol.specs.MasterStep.{master_at, expired_files}
 use Rattle.protocol.specs.World.{WorldState, IsReached}

@@ -1,15 +1,12 @@
 -- The files that expire at a moment: each stands under a hidden name alone, which tells that it was kept long enough.
-use Rattle.std.proofs.Common.{◌≡◌, ⊎_elim, ℕ, ◌+◌, ◌-◌, ◌≤◌, Bool, true, false, cond, T, List, [], ◌∷◌, Option, Some, None, refl, sym, ap, ◌∙◌, inl, inr, arith}
-use Rattle.std.specs.Prelude.{◌==◌, ◌&&◌, ◌||◌, nat_le, filter, map}
-use Rattle.std.proofs.lemmas.Bool.{true≢false, and_parts, leb-true, eqb-true}
-use Rattle.std.specs.Ordering.{nat_cmp}
-use Rattle.std.specs.Cmp.Lexicographic.{slice_cmp}
+use Rattle.std.proofs.Common.{◌≡◌, ℕ, ◌-◌, Bool, true, false, cond, List, [], ◌∷◌, Some, None, refl, sym, ap, ◌∙◌, inl, inr, arith}
+use Rattle.std.specs.Prelude.{◌==◌, ◌||◌, nat_le, filter, map}
+use Rattle.std.proofs.lemmas.Bool.{and_parts, leb-true, eqb-true}
 use Rattle.std.specs.FinMap as table
 use Rattle.gfs_types.specs.Paths.{Path, trash, is_child, hidden_name}
 use Rattle.relaxed_file.specs.Names.{Node, Dir, File, node_at}
 use Rattle.relaxed_file.proofs.NamesTree.{HasAt, entry_is}
 use Rattle.protocol.specs.Tables.{has_number}
-use Rattle.protocol.specs.Logged.{Logged}
 use Rattle.protocol.specs.Master.{MasterState}
 use Rattle.protocol.specs.MasterStep.{hidden_moment, is_old, old_file, before_none, master_at, expired_files}
 use Rattle.protocol_laws.proofs.Entries.{AllOf}

@@ -1,6 +1,5 @@
 -- Each action of a run by names keeps one name for each file.
 use Rattle.std.proofs.Common.{◌≡◌, ◌⊎◌, ⊎_elim, ℕ, suc, ◌-◌, ◌≤◌, ◌<◌, Bool, true, false, cond, List, [], ◌∷◌, ◌++◌, Option, Some, None, refl, sym, ap, subst, ◌∙◌, inl, inr, arith}
-use Rattle.std.specs.Prelude.{◌&&◌, ◌||◌}
 use Rattle.std.specs.List.{AllByRecursion, list_all}
 use Rattle.std.specs.Str.{bytes_eq}
 use Rattle.std.proofs.lemmas.Option.{none-some}
@@ -16,7 +15,7 @@ use Rattle.relaxed_file.specs.NameStep.{path_tests, name_tests, refusal_of, is_r
 use Rattle.relaxed_file.specs.Answers.{returned}
 use Rattle.relaxed_file.specs.Run.{Action, Invoke, Return, ReturnFd, Step, FindBusy, FindFull, Lock, Expire, Pass, Allows, IsLawful, after, after_all}
 use Rattle.relaxed_file.proofs.Tables.{at_some, from_some, put_is, put_other}
-use Rattle.relaxed_file.proofs.NamesTree.{HasAt, inserted_there, inserted_other, removed_there, removed_other, same_or_other, entry_is, copied_of, unrefused, tests_passed, first_look, hidden_in_trash}
+use Rattle.relaxed_file.proofs.NamesTree.{HasAt, inserted_there, inserted_other, removed_there, removed_other, same_or_other, entry_is, copied_of, unrefused, tests_passed, first_look}
 use Rattle.snapshot_locks.proofs.PathsApart.{open_path, not_in_trash}
 use Rattle.snapshot_locks.proofs.Unrefused.{IsAllowed, allowed_from, copied_below}
 use Rattle.name_runs.specs.Laws.{is_name_action, LeadsByNames}
@@ -153,13 +152,14 @@ still_copied files next state (e ∷ es) all = ((λ id is. later_in files next i
 copies_named : (es : List (Path × Node)) (names : Names) (files : ℕ → FileState) (next : ℕ) → 0 < next → AllByRecursion (IsCopied files next) es → AreNamed names files next
     → AreNamed (with_copies names next es) (with_copied_files files next es) (id_after_all next es)
 copies_named [] names files next low all h = h
-copies_named (e ∷ es) names files next low all h = by_node e.1 refl
+copies_named (e ∷ es) names files next low all h = by_node e.1 refl (λ ns fs more above rest good. copies_named es ns fs more above rest good)
   where
     by_node : (n : Node) → e.1 ≡ n
+        → ((ns : Names) (fs : ℕ → FileState) (more : ℕ) → 0 < more → AllByRecursion (IsCopied fs more) es → AreNamed ns fs more → AreNamed (with_copies ns more es) (with_copied_files fs more es) (id_after_all more es))
         → AreNamed (with_copies (table.insert names e.0 (copy_of_node next n)) (id_after next n) es) (with_copied_files (with_copied_file files next n) (id_after next n) es) (id_after_all (id_after next n) es)
-    by_node Dir is = copies_named es (table.insert names e.0 Dir) files next low all.1 (dir_named names files next e.0 h)
-    by_node (File id) is =
-        copies_named es (table.insert names e.0 (File next)) (put next (files id) files) (suc next) (omega arith) (still_copied files next (files id) es all.1)
+    by_node Dir is go = go (table.insert names e.0 Dir) files next low all.1 (dir_named names files next e.0 h)
+    by_node (File id) is go =
+        go (table.insert names e.0 (File next)) (put next (files id) files) (suc next) (omega arith) (still_copied files next (files id) es all.1)
         (new_named names files next e.0 (files id) low ((all.0).0 id is).2 (all.0).1 h)
 
 all_at_entries : (P : Path × Node → Type 0) (es : List (Path × Node)) → ((p : Path) (v : Node) → HasAt es p v → P (p, v)) → AllByRecursion P es
@@ -168,11 +168,11 @@ all_at_entries P (e ∷ es) f = (f e.0 e.1 (inl (refl, refl)), all_at_entries P 
 
 grows : (es : List (Path × Node)) (next : ℕ) → next ≤ id_after_all next es
 grows [] next = omega arith
-grows (e ∷ es) next = by_node e.1
+grows (e ∷ es) next = by_node e.1 (λ more. grows es more)
   where
-    by_node : (n : Node) → next ≤ id_after_all (id_after next n) es
-    by_node Dir = grows es next
-    by_node (File id) = let more = grows es (suc next) in omega (arith, more)
+    by_node : (n : Node) → ((more : ℕ) → more ≤ id_after_all more es) → next ≤ id_after_all (id_after next n) es
+    by_node Dir go = go next
+    by_node (File id) go = let more = go (suc next) in omega (arith, more)
 
 -- calls that take effect
 

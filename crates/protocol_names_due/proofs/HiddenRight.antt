@@ -1,11 +1,10 @@
 -- Each file that stands right in the trash has a hidden name of its own, whatever record follows.
-use Rattle.std.proofs.Common.{◌≡◌, ⊎_elim, ℕ, Bool, true, false, cond, List, [], ◌∷◌, ◌++◌, Option, Some, None, refl, sym, ap, subst, ◌∙◌, inl, inr}
-use Rattle.std.specs.Prelude.{◌&&◌, ◌||◌, find}
+use Rattle.std.proofs.Common.{◌≡◌, ⊎_elim, ℕ, Bool, true, false, cond, ◌++◌, Option, Some, None, sym, ap, subst, ◌∙◌}
+use Rattle.std.specs.Prelude.{find}
 use Rattle.std.specs.Str.{bytes_eq}
 use Rattle.std.proofs.lemmas.Option.{none-some}
 use Rattle.std.proofs.lemmas.Bool.{true≢false, or_right, and_parts}
 use Rattle.std.specs.FinMap as table
-use Rattle.gfs_types.specs.declared.call.Call.{Call}
 use Rattle.gfs_types.specs.declared.call.Call.TheVariants as call
 use Rattle.gfs_types.specs.Paths.{Path, root, trash, is_below, is_child, hidden_name}
 use Rattle.log_records.specs.declared.record.Record.{Record}
@@ -14,7 +13,7 @@ use Rattle.relaxed_file.specs.Names.{Names, Node, Dir, File, node_at, copied_ent
 use Rattle.relaxed_file.specs.NameStep.{path_tests, name_tests, is_in_trash, with_node, hidden}
 use Rattle.relaxed_file.proofs.Tables.{from_some}
 use Rattle.relaxed_file.proofs.NamesTree.{Tree, inserted_there, inserted_other, removed_there, removed_other, same_or_other, copies_other, copies_are_new, tests_passed, first_look}
-use Rattle.protocol.specs.Logged.{Logged, after_record, is_this_file, name_removed, without_file}
+use Rattle.protocol.specs.Logged.{Logged, after_record, is_this_file, name_removed}
 use Rattle.protocol.specs.MasterStep.{hidden_moment}
 use Rattle.protocol_laws.proofs.Namespace.{IsFree, names_after, names_are_after}
 use Rattle.protocol_laws.proofs.MasterMoves.{IsDue, AreNames}
@@ -63,7 +62,8 @@ dir_right names p h path file at is =
 deleted_right : (names : Names) (p : Path) (moment : ℕ) (o : Option Node) → HidesRight names → HidesRight (hidden names p moment o)
 deleted_right names p moment None h = h
 deleted_right names p moment (Some Dir) h = h
-deleted_right names p moment (Some (File id)) h path file at is =
+deleted_right names p moment (Some (File id)) h =
+    λ path file at is.
     let less : Names = table.remove names p in
     ⊎_elim
     (λ same.

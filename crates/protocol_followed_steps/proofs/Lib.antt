@@ -1,0 +1,4 @@
+pub mod Following
+pub mod Walk
+pub mod Reached
+pub mod Openings
