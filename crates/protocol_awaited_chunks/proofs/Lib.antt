@@ -1,1 +1,2 @@
+pub mod WaitsKept
 pub mod AwaitedChunks

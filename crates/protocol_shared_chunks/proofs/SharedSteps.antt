@@ -28,7 +28,7 @@ use Rattle.protocol_laws.proofs.VersionsAhead.{changed_cases}
 use Rattle.protocol_laws.proofs.LoggedParts.{Parts}
 use Rattle.protocol_laws.proofs.NamesReached.{without_end}
 use Rattle.protocol_laws.proofs.RowsFit.{granted_logged, same_row}
-use Rattle.protocol_laws.proofs.OrderNumbers.{state_of, AllStops, stops_push}
+use Rattle.protocol_laws.proofs.OrderNumbers.{state_of, state-appended, AllStops, stops_push}
 use Rattle.protocol_laws.proofs.MessagesSent.{IsSent, sent_before}
 use Rattle.protocol_laws.proofs.MasterMoves.{Core, core_changed, core_appended, core_ended, core_ordered, core_granted, core_extended, grant_record, IsDue, IsNoGrantRecord, IsPlainOrder}
 use Rattle.protocol_laws.proofs.RevokesNumbered.{one_more}
@@ -179,6 +179,29 @@ other_first a b rest other = by_test (a == b) refl
     by_test true e = absurd (other (eqb-true a b e))
     by_test false e = refl
 
+-- in a state as a log has it, the lease of the granted version of each shared chunk is over
+abbrev pub IsStateDone : (ℕ → ℕ → Type 0) → Logged → Type 0
+IsStateDone Over l = (handle : ℕ) (row : ChunkRow) → table.get (rows_of l) handle ≡ Some row → IsShared l handle → Over handle row.granted
+
+abbrev pub IsLogDone : (ℕ → ℕ → Type 0) → LogDisk → Type 0
+IsLogDone Over d = IsStateDone Over (state_of d)
+
+-- the log has the rows of the state
+pub log_done : (start : LogDisk) (Over : ℕ → ℕ → Type 0) (c : Core) → IsRowing start c → IsStateDone Over c.logged → IsLogDone Over c.disk
+log_done start Over c n done handle row there shared =
+    let k : Logged = state_of c.disk in
+    let here : IsShared c.logged handle = subst (λ (f : Files). 2 ≤ times_in f handle) (sym n.tied.base.base.files) shared in
+    let was = same_row (table.get (rows_of c.logged) handle) (table.get (rows_of k) handle) row (n.tied.same handle (by_copies (table.get c.logged.copies handle) refl (table.get k.copies handle) refl)) there in
+    subst (λ (v : ℕ). Over handle v) (ap (λ (r : ChunkRow). r.granted) was.2) (done handle was.0 was.1 here)
+  where
+    no_copy : (x : Copy) → table.get (state_of c.disk).copies handle ≡ Some x → ⊥
+    no_copy x is = let none = n.tied.base.log.apart handle x is in omega (arith, none, shared)
+
+    by_copies : (o : Option Copy) → table.get c.logged.copies handle ≡ o → (p : Option Copy) → table.get (state_of c.disk).copies handle ≡ p → table.get c.logged.copies handle ≡ table.get (state_of c.disk).copies handle
+    by_copies (Some x) is p also = absurd (no_copy x (n.tied.base.base.among handle x is))
+    by_copies None is (Some x) also = absurd (no_copy x also)
+    by_copies None is None also = is ∙ sym also
+
 -- the step, after these messages, at this greatest moment; which leases were over
 
 module _ (before : List Message) (greatest lease : ℕ) (Over : ℕ → ℕ → Type 0) (settle : (handle version : ℕ) → ((until : ℕ) → IsEndTold before handle version until → IsPast greatest before handle version until) → Over handle version)
@@ -200,34 +223,17 @@ module _ (before : List Message) (greatest lease : ℕ) (Over : ℕ → ℕ → 
       (handle : ℕ) (row : ChunkRow) → table.get (rows_of c.logged) handle ≡ Some row → IsShared c.logged handle
       → ((a : VersionAttempt) → table.get attempts handle ≡ Some a → ⊥) × IsDone c.sent c.now handle row.granted row.lease_end
 
-  -- and in a log
-  abbrev pub IsLogDone : LogDisk → Type 0
-  IsLogDone d = (handle : ℕ) (row : ChunkRow) → table.get (rows_of (state_of d)) handle ≡ Some row → IsShared (state_of d) handle → Over handle row.granted
-
   pub record IsSharing (c : Core) (attempts : Attempts) (ss : Waits) : Type 0 where
     pub done : AreDone c attempts
-    pub stops : AllStops IsLogDone start c.changes
+    pub stops : AllStops (IsLogDone Over) start c.changes
 
   pub over_of_done : (sent : List Message) (now handle version end : ℕ) → IsDone sent now handle version end → Over handle version
   over_of_done sent now handle version end (inl over) = over.0
   over_of_done sent now handle version end (inr past) = settle handle version (λ until is. past.0 until (is.0, sent_before before sent is.0 is.1, is.2))
 
-  -- the log has the rows of the state
-  pub log_done : (c : Core) (attempts : Attempts) → IsRowing start c → AreDone c attempts → IsLogDone c.disk
-  log_done c attempts n done handle row there shared =
-      let k : Logged = state_of c.disk in
-      let here : IsShared c.logged handle = subst (λ (f : Files). 2 ≤ times_in f handle) (sym n.tied.base.base.files) shared in
-      let was = same_row (table.get (rows_of c.logged) handle) (table.get (rows_of k) handle) row (n.tied.same handle (by_copies (table.get c.logged.copies handle) refl (table.get k.copies handle) refl)) there in
-      let is = done handle was.0 was.1 here in
-      subst (λ (v : ℕ). Over handle v) (ap (λ (r : ChunkRow). r.granted) was.2) (over_of_done c.sent c.now handle (was.0).granted (was.0).lease_end is.1)
-    where
-      no_copy : (x : Copy) → table.get (state_of c.disk).copies handle ≡ Some x → ⊥
-      no_copy x is = let none = n.tied.base.log.apart handle x is in omega (arith, none, shared)
-
-      by_copies : (o : Option Copy) → table.get c.logged.copies handle ≡ o → (p : Option Copy) → table.get (state_of c.disk).copies handle ≡ p → table.get c.logged.copies handle ≡ table.get (state_of c.disk).copies handle
-      by_copies (Some x) is p also = absurd (no_copy x (n.tied.base.base.among handle x is))
-      by_copies None is (Some x) also = absurd (no_copy x also)
-      by_copies None is None also = is ∙ sym also
+  -- what holds of the step says it of the state
+  pub state_done : (c : Core) (attempts : Attempts) → AreDone c attempts → IsStateDone Over c.logged
+  state_done c attempts done handle row there shared = over_of_done c.sent c.now handle row.granted row.lease_end (done handle row there shared).1
 
   -- a change of the disk
   changed : (c : Core) (x : LogChange) (l : Logged) (attempts left : Attempts) (ss : Waits) → IsRowing start c → IsRowing start (record (core_changed c x) { logged = l }) → AreDone (record (core_changed c x) { logged = l }) left → IsSharing c attempts ss
@@ -235,8 +241,8 @@ module _ (before : List Message) (greatest lease : ℕ) (Over : ℕ → ℕ → 
   changed c x l attempts left ss n after done h =
       record {
         done = done;
-        stops = stops_push IsLogDone start c.changes x h.stops
-            (subst (λ (d : LogDisk). IsLogDone (log_changed d x)) (sym n.disk) (log_done (record (core_changed c x) { logged = l }) left after done));
+        stops = stops_push (IsLogDone Over) start c.changes x h.stops
+            (subst (λ (d : LogDisk). IsLogDone Over (log_changed d x)) (sym n.disk) (log_done start Over (record (core_changed c x) { logged = l }) after (state_done (record (core_changed c x) { logged = l }) left done)));
       }
 
   -- a row that was there
@@ -332,6 +338,23 @@ module _ (before : List Message) (greatest lease : ℕ) (Over : ℕ → ℕ → 
   done_less : (c : Core) (attempts : Attempts) (handles : List ℕ) → AreDone c attempts → AreDone (record c { logged = copies_given_up c.logged handles }) (removed_all attempts handles)
   done_less c attempts handles h handle row there shared =
       let old = h handle row (removed_cases (rows_of c.logged) handles handle row there) shared in (λ a is. old.0 a (removed_cases attempts handles handle a is), old.1)
+
+  -- a checkpoint
+  pub checkpoint_done : (c : Core) (attempts : Attempts) (ss : Waits) → IsRowing start c → IsRowing start (core_checkpointed c) → IsSharing c attempts ss → IsSharing (core_checkpointed c) (removed_all attempts (table.keys c.logged.copies)) ss
+  checkpoint_done c attempts ss n after h =
+      let handles : List ℕ = table.keys c.logged.copies in
+      changed c (WriteCheckpoint (checkpoint_of c.logged)) (all_copies_given_up c.logged) attempts (removed_all attempts handles) ss n after (done_less c attempts handles h.done) h
+
+  -- a new epoch
+  pub epoch_done : (c : Core) (attempts : Attempts) (ss : Waits) (epoch : ℕ) → IsRowing start c → IsSharing c attempts ss → IsSharing (core_appended c (log.Epoch epoch)) attempts ss
+  epoch_done c attempts ss epoch n h =
+      let r : Record = log.Epoch epoch in
+      record {
+        done = h.done;
+        stops = stops_push (IsLogDone Over) start c.changes (AppendRecord r) h.stops
+            (subst (λ (d : LogDisk). IsLogDone Over (log_changed d (AppendRecord r))) (sym n.disk)
+            (subst (λ (k : Logged). IsStateDone Over k) (sym (state-appended c.disk r)) (log_done start Over c n (state_done c attempts h.done))));
+      }
 
   -- an attempt of a chunk that isn't shared
   done_tried : (c : Core) (attempts : Attempts) (chunk : ℕ) (a : VersionAttempt) → (IsShared c.logged chunk → ⊥) → AreDone c attempts → AreDone c (table.insert attempts chunk a)
@@ -449,9 +472,7 @@ module _ (before : List Message) (greatest lease : ℕ) (Over : ℕ → ℕ → 
         gives = λ c attempts ss server handle a b at has plain given h. sends c attempts ss _ (suc c.order_count) (λ q version. plain_grants q version (b _) (plain _)) (given_tells (b _) _ (given _)) h;
         revokes = λ c attempts ss handle row is h. sends c attempts ss _ (suc c.order_count) (λ q version. refl) (λ q version until. refl) h;
         appends = λ c attempts ss r due plain beside p after h. changed c (AppendRecord r) (after_record c.logged r) attempts attempts ss p.0 after.0 (done_after c attempts ss r due plain beside p h.done) h;
-        checkpoint = λ c attempts ss tree p after h.
-            let handles : List ℕ = table.keys c.logged.copies in
-            changed c (WriteCheckpoint (checkpoint_of c.logged)) (all_copies_given_up c.logged) attempts (removed_all attempts handles) ss p.0 after.0 (done_less c attempts handles h.done) h;
+        checkpoint = λ c attempts ss tree p after h. checkpoint_done c attempts ss p.0 after.0 h;
         less = λ c attempts ss handles copied p h. record { done = done_less c attempts handles h.done; stops = h.stops };
         fewer = λ c attempts left ss from h. record { done = λ handle row there shared. let old = h.done handle row there shared in (λ a is. old.0 a (from handle a is), old.1); stops = h.stops };
         waits = λ c attempts ss more h. record { done = h.done; stops = h.stops };
@@ -464,9 +485,9 @@ module _ (before : List Message) (greatest lease : ℕ) (Over : ℕ → ℕ → 
             let done = done_granted c attempts handle a until primary members at due p.0 h.done in
             record {
               done = done;
-              stops = stops_push IsLogDone start c.changes (AppendRecord (grant_record handle a.version primary members)) h.stops
-                  (subst (λ (d : LogDisk). IsLogDone (log_changed d (AppendRecord (grant_record handle a.version primary members)))) (sym p.0.disk)
-                  (log_done (core_granted c handle a.version until primary members) (table.remove attempts handle) after.0 done));
+              stops = stops_push (IsLogDone Over) start c.changes (AppendRecord (grant_record handle a.version primary members)) h.stops
+                  (subst (λ (d : LogDisk). IsLogDone Over (log_changed d (AppendRecord (grant_record handle a.version primary members)))) (sym p.0.disk)
+                  (log_done start Over (core_granted c handle a.version until primary members) after.0 (state_done (core_granted c handle a.version until primary members) (table.remove attempts handle) done)));
             };
         ends = λ c attempts ss handle row is word p h. record { done = done_ended c attempts handle h.done; stops = h.stops };
         extends = λ c attempts ss handle until row is lasts p h. record { done = done_extended c attempts handle until row is lasts.1 h.done; stops = h.stops };
