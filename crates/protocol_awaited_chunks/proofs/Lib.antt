@@ -1,2 +1,1 @@
-pub mod WaitsKept
 pub mod AwaitedChunks

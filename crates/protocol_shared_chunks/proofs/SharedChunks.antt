@@ -43,12 +43,12 @@ use Rattle.protocol_laws.proofs.LeaseEnds.{IsEndTold, IsVersionGranted, WasSaidO
 use Rattle.protocol_laws.proofs.LeasesTimed.{telling_keeps, AreTimely}
 use Rattle.protocol_laws.proofs.LeasesTimely.{IsOfTimes, times_kept}
 use Rattle.protocol_laws.proofs.ServerSettings.{AreSet, settings_kept}
-use Rattle.protocol_laws.proofs.ScenesReached.{Scene, scene_of, passed, IsNow, more_sent, IsSentTo, after_master_step, IsKeptByScenes, scene_reached}
+use Rattle.protocol_laws.proofs.ScenesReached.{Scene, scene_of, passed, IsNow, more_sent, IsSentTo, after_master_step, IsKeptByScenes, lifted, scene_reached}
 use Rattle.protocol_versions.specs.Laws.{IsLeaseOver}
 use Rattle.protocol_versions.proofs.EndedLeases.{past_is_over, ended_leases_are_over, leases_in_the_log_are_over}
 use Rattle.protocol_versions.proofs.LeasesStayOver.{AreOverAt, StayOver, over_sent, stays_over, over_to, over_of}
 use Rattle.protocol_acts.proofs.MasterActs.{IsRowing, rowing_keeps}
-use Rattle.protocol_awaited_chunks.proofs.WaitsKept.{IsOfWaits, waits_kept}
+use Rattle.protocol_snapshot_acts.proofs.WaitsKept.{IsOfWaits, waits_kept}
 use Rattle.protocol_snapshot_acts.proofs.ActsOfSteps.{IsWordSaid, IsInputSaid, goes_acts}
 use Rattle.protocol_shared_chunks.specs.Laws.{SharedChunksHaveNoLease, SharedChunksInTheLogHaveNoLease}
 use Rattle.protocol_shared_chunks.proofs.SharedSteps.{IsShared, IsStateDone, IsLogDone, log_done, Stepping, IsDone, IsSharing, state_done, checkpoint_done, epoch_done, sharing_acts}
@@ -93,7 +93,7 @@ down_shares Over More m disk under_way stays found =
 pub record IsOfShares (x : Scene) : Type 0 where
   pub base : IsOfTimes x
   pub set : AreSet x
-  pub waits : IsOfWaits x
+  pub waits : IsOfWaits x.sent x.master
   pub shares : IsTrue x.are_clocks_kept → AreShares (IsOverIn x) x.master
 
 -- leases that are over stay over
@@ -172,12 +172,16 @@ module _ (x : Scene) (base : IsOfTimes x) where
   past_still ms handle version until (inl early) = inl early
   past_still ms handle version until (inr said) = inr (said.0, sent_before x.sent ms said.0 said.1, said.2)
 
-  done_over : (k : ℕ) (order : List ℕ) (d : MasterDoing) (handle version end : ℕ) → (let y : Scene = record x { sent = x.sent ++ stamped k (in_order order d.sent); master = d.master } in
-  IsOfTimes y → IsDone x.sent x.greatest lease (IsOverIn x) (settled x base) x.master.disk d.sent d.master.now handle version end → IsOverIn y handle version)
+  -- the scene after a step that nothing stopped
+  abbrev gone : ℕ → List ℕ → MasterDoing → Scene
+  gone k order d = record x { sent = x.sent ++ stamped k (in_order order d.sent); master = d.master }
+
+  done_over : (k : ℕ) (order : List ℕ) (d : MasterDoing) (handle version end : ℕ) → IsOfTimes (gone k order d) → IsDone x.sent x.greatest lease (IsOverIn x) (settled x base) x.master.disk d.sent d.master.now handle version end
+      → IsOverIn (gone k order d) handle version
   done_over k order d handle version end after (inl over) = sent_over x (stamped k (in_order order d.sent)) handle version (no_more x.sent k order d.sent handle version over.1) over.0
   done_over k order d handle version end after (inr past) =
       let more : List Message = stamped k (in_order order d.sent) in
-      settled (record x { sent = x.sent ++ more; master = d.master }) after handle version
+      settled (gone k order d) after handle version
       (λ until told. past_still more handle version until (past.0 until (told_among (x.sent ++ d.sent) (x.sent ++ more) (step_sent x.sent k order d.sent) handle version until told)))
 
   ends_shares : (k : ℕ) (d : MasterDoing) (choice : Choice) (e : Ending) → AreShares (IsOverIn x) x.master → IsRowing x.master.disk (core_of d) → Shares x.master.disk d
@@ -195,7 +199,7 @@ module _ (x : Scene) (base : IsOfTimes x) where
       down_shares (IsOverIn x) (IsOverIn (after_master_step x k (master_ends x.master d choice (Stops made)))) x.master (log_changed_by_all x.master.disk (take made d.changes)) (take 1 (drop made d.changes)) (none_sent k)
       (found_stopped (IsLogDone (IsOverIn x)) x.master.disk d.changes made g.stops)
 
-  step_shares : (k moment : ℕ) (i : Input) (choice : Choice) → IsNow x moment → IsSentTo x.sent node.Master i → IsTrue x.are_clocks_kept → IsOfWaits x → AreShares (IsOverIn x) x.master
+  step_shares : (k moment : ℕ) (i : Input) (choice : Choice) → IsNow x moment → IsSentTo x.sent node.Master i → IsTrue x.are_clocks_kept → IsOfWaits x.sent x.master → AreShares (IsOverIn x) x.master
       → (let y : Scene = after_master_step x k (master_step x.master moment i choice) in IsOfTimes y → AreShares (IsOverIn y) y.master)
   step_shares k moment i choice now is clocks waits h =
       let m : MasterState = x.master in
@@ -278,11 +282,12 @@ no_shares Over l none handle row there shared = none_some row (sym (none handle)
 
 shares_kept : IsKeptByScenes IsOfShares
 shares_kept =
+    let waiting : IsKeptByScenes (λ x. IsOfWaits x.sent x.master) = lifted IsOfWaits waits_kept in
     record {
       new = λ config servers clients. record {
         base = times_kept.new config servers clients;
         set = settings_kept.new config servers clients;
-        waits = waits_kept.new config servers clients;
+        waits = waiting.new config servers clients;
         shares = λ clocks. record {
           found = found_same (IsLogDone _) _ (no_shares _ _ (λ handle. table.get-empty nat_cmp handle));
           up = λ up. (no_shares _ _ (λ handle. table.get-empty nat_cmp handle), λ handle row there shared a is. none_some a (sym (table.get-empty nat_cmp handle) ∙ is));
@@ -291,7 +296,7 @@ shares_kept =
       passes = λ x moment h. record {
         base = times_kept.passes x moment h.base;
         set = settings_kept.passes x moment h.set;
-        waits = waits_kept.passes x moment h.waits;
+        waits = waiting.passes x moment h.waits;
         shares = λ clocks. shares_stay (IsOverIn x) (IsOverIn (passed x moment)) x.master
             (λ handle version over. ((stays_over handle version (grants_of handle version x.sent)).passes x moment (stay x h.base h.set handle version over)).over clocks (omega arith))
             (h.shares (and_parts x.are_clocks_kept (nat_le x.greatest (moment + x.config.skew_ms)) clocks).0);
@@ -299,7 +304,7 @@ shares_kept =
       says = λ x k ms quiet h. record {
         base = times_kept.says x k ms quiet h.base;
         set = settings_kept.says x k ms quiet h.set;
-        waits = waits_kept.says x k ms quiet h.waits;
+        waits = waiting.says x k ms quiet h.waits;
         shares = λ clocks. shares_stay (IsOverIn x) (IsOverIn (more_sent x k ms)) x.master (λ handle version over. sent_over x (stamped k ms) handle version (quiet_sent x.sent k ms handle version (quiet_orders ms quiet)) over) (h.shares clocks);
       };
       masters = λ x k moment i choice now is up h.
@@ -307,19 +312,19 @@ shares_kept =
           record {
             base = after;
             set = settings_kept.masters x k moment i choice now is up h.set;
-            waits = waits_kept.masters x k moment i choice now is up h.waits;
+            waits = waiting.masters x k moment i choice now is up h.waits;
             shares = λ clocks. step_shares x h.base k moment i choice now is clocks h.waits (h.shares clocks) after;
           };
       opens = λ x k moment choice now h. record {
         base = times_kept.opens x k moment choice now h.base;
         set = settings_kept.opens x k moment choice now h.set;
-        waits = waits_kept.opens x k moment choice now h.waits;
+        waits = waiting.opens x k moment choice now h.waits;
         shares = λ clocks. opens_shares x h.base k moment choice choice.ending (h.shares clocks);
       };
       serves = λ x k index moment s i choice now at is up h. record {
         base = times_kept.serves x k index moment s i choice now at is up h.base;
         set = settings_kept.serves x k index moment s i choice now at is up h.set;
-        waits = waits_kept.serves x k index moment s i choice now at is up h.waits;
+        waits = waiting.serves x k index moment s i choice now at is up h.waits;
         shares = λ clocks. shares_stay (IsOverIn x) _ x.master
             (λ handle version over. ((stays_over handle version (grants_of handle version x.sent)).serves x k index moment s i choice now at is up (stay x h.base h.set handle version over)).over clocks
             (quiet_sent x.sent k (server_step s moment i choice).out.sent handle version (server_quiet s moment i choice))) (h.shares clocks);
@@ -327,7 +332,7 @@ shares_kept =
       restarts = λ x k index moment s choice now at h. record {
         base = times_kept.restarts x k index moment s choice now at h.base;
         set = settings_kept.restarts x k index moment s choice now at h.set;
-        waits = waits_kept.restarts x k index moment s choice now at h.waits;
+        waits = waiting.restarts x k index moment s choice now at h.waits;
         shares = λ clocks. shares_stay (IsOverIn x) _ x.master
             (λ handle version over. ((stays_over handle version (grants_of handle version x.sent)).restarts x k index moment s choice now at (stay x h.base h.set handle version over)).over clocks
             (quiet_sent x.sent k (server_restart s moment choice).out.sent handle version (server_restarts_quiet s moment choice choice.ending))) (h.shares clocks);
@@ -335,7 +340,7 @@ shares_kept =
       rots = λ x index q s r at up h. record {
         base = times_kept.rots x index q s r at up h.base;
         set = settings_kept.rots x index q s r at up h.set;
-        waits = waits_kept.rots x index q s r at up h.waits;
+        waits = waiting.rots x index q s r at up h.waits;
         shares = λ clocks. shares_stay (IsOverIn x) _ x.master
             (λ handle version over. ((stays_over handle version (grants_of handle version x.sent)).rots x index q s r at up (stay x h.base h.set handle version over)).over clocks (omega arith)) (h.shares clocks);
       };

@@ -1,16 +1,19 @@
 -- In each reached world no version attempt and no copy is under way for what a snapshot waits for.
-use Rattle.std.proofs.Common.{◌≡◌, ℕ, Bool, List, [], Some, refl, sym, subst, ◌∙◌}
+use Rattle.std.proofs.Common.{◌≡◌, ℕ, suc, Bool, List, [], Some, refl, sym, subst, ◌∙◌}
 use Rattle.std.specs.Prelude.{◌&&◌}
 use Rattle.std.specs.Ordering.{nat_cmp}
 use Rattle.std.specs.FinMap as table
 use Rattle.gfs_types.specs.declared.config.Config.{Config}
 use Rattle.messages.specs.declared.event.Input.{Input}
 use Rattle.messages.specs.declared.event.Input.TheVariants as input
+use Rattle.messages.specs.declared.message.Message.{Message}
 use Rattle.messages.specs.declared.message.Body.{Body}
 use Rattle.messages.specs.declared.message.Body.TheVariants as body
-use Rattle.protocol.specs.Choice.{Choice, Ending, Goes, Lost, Stops}
+use Rattle.log_records.specs.declared.record.Record.TheVariants as log
+use Rattle.protocol.specs.Tables.{removed_all}
+use Rattle.protocol.specs.Choice.{Choice, Ending, Goes, Lost, Stops, made_changes, change_under_way}
 use Rattle.protocol.specs.Seen.{Taken, no_step}
-use Rattle.protocol.specs.Logged.{LogDisk, LogChange}
+use Rattle.protocol.specs.Logged.{LogDisk, LogChange, log_changed_by_all}
 use Rattle.protocol.specs.Master.{MasterState, MasterDoing, VersionAttempt, PendingSnapshot, stopped_master, master_begins}
 use Rattle.protocol.specs.MasterStep.{master_goes, master_ends, master_bounded, master_step, is_within_limits, may_end, found_log, started_master, opening, has_opened, opens_as, master_restart, new_master}
 use Rattle.protocol.specs.World.{WorldState, IsReached}
@@ -21,7 +24,7 @@ use Rattle.protocol_laws.proofs.NamesReached.{IsUpToLog, IsLogged}
 use Rattle.protocol_laws.proofs.RowsLogged.{IsFoundRows, IsRowedLog}
 use Rattle.protocol_laws.proofs.RowsKept.{rows_kept}
 use Rattle.protocol_laws.proofs.RevokesNumbered.{IsOfRevokes, revokes_kept}
-use Rattle.protocol_laws.proofs.ScenesReached.{Scene, scene_of, IsKeptByScenes, lifted, scene_reached}
+use Rattle.protocol_laws.proofs.SentReached.{IsKeptBySent, sent_reached}
 use Rattle.protocol_acts.proofs.MasterActs.{IsRowing, rowing_keeps}
 use Rattle.protocol_awaited.proofs.Awaited.{Attempts, AreWaiting}
 use Rattle.protocol_snapshot_acts.proofs.SnapshotActs.{Waits, Acts}
@@ -82,9 +85,9 @@ opened_waits m none tried =
     let d : MasterDoing = master_begins m [] in
     let waits : (s : PendingSnapshot) → IsAmong m.snapshots s → ⊥ = λ s among. subst (λ (ss : List PendingSnapshot). IsAmong ss s) none among in
     let now : HasForgotten m = record { tried = tried; waits = waits } in
-    let left : (handle : ℕ) (a : VersionAttempt) → _ → ⊥ = λ handle a is. tried handle a (removed_cases m.attempts (table.keys m.logged.copies) handle a is) in
+    let left : (handle : ℕ) (a : VersionAttempt) → table.get (removed_all m.attempts (table.keys m.logged.copies)) handle ≡ Some a → ⊥ = λ handle a is. tried handle a (removed_cases m.attempts (table.keys m.logged.copies) handle a is) in
     forgotten_waits (opening m).master
-    (logs_alone (λ e. HasForgotten e.master) d _ now (record { tried = tried; waits = waits }) (record { tried = left; waits = waits }) (record { tried = left; waits = waits }))
+    (logs_alone (λ e. HasForgotten e.master) d (log.Epoch (suc m.logged.epoch)) now (record { tried = tried; waits = waits }) (record { tried = left; waits = waits }) (record { tried = left; waits = waits }))
 
 step_waits : (m : MasterState) (moment : ℕ) (i : Input) (choice : Choice) → IsLogged IsFoundRows IsRowedLog rows_kept m → WaitsHere m → WaitsHere (master_step m moment i choice).state
 step_waits m moment i choice logged h =
@@ -104,7 +107,9 @@ step_waits m moment i choice logged h =
     by_ending : (e : Ending) → WaitsHere (master_goes m moment i choice.refused).master → WaitsHere (master_ends m (master_goes m moment i choice.refused) choice e).state
     by_ending Goes end = end
     by_ending Lost end = stopped_waits m m.disk []
-    by_ending (Stops made) end = stopped_waits m _ _
+    by_ending (Stops made) end =
+        let d : MasterDoing = master_goes m moment i choice.refused in
+        stopped_waits m (log_changed_by_all m.disk (made_changes made d.changes)) (change_under_way made d.changes)
 
 opens_waits : (old : MasterState) (moment : ℕ) (choice : Choice) → WaitsHere (master_restart old moment choice).state
 opens_waits old moment choice = by_ending choice.ending
@@ -113,34 +118,28 @@ opens_waits old moment choice = by_ending choice.ending
     started = started_master old.config old.server_count (found_log old choice) moment
 
     by_ending : (e : Ending) → WaitsHere (opens_as old started (opening started) choice e).state
-    by_ending Lost = stopped_waits old _ _
-    by_ending (Stops made) = stopped_waits old _ _
+    by_ending Lost = stopped_waits old old.disk old.under_way
+    by_ending (Stops made) = stopped_waits old (log_changed_by_all started.disk (made_changes made (opening started).changes)) (change_under_way made (opening started).changes)
     by_ending Goes =
         on_cond (λ (t : Taken MasterState). WaitsHere t.state) (has_opened started (opening started) && is_within_limits (opening started).master) _ _
-        (λ _. opened_waits started refl (λ handle a is. none_some a (sym (table.get-empty nat_cmp handle) ∙ is))) (λ _. stopped_waits old _ _)
+        (λ _. opened_waits started refl (λ handle a is. none_some a (sym (table.get-empty nat_cmp handle) ∙ is))) (λ _. stopped_waits old (opening started).master.disk [])
 
--- worlds
+-- what was sent, and the master between its steps
+pub record IsOfWaits (sent : List Message) (m : MasterState) : Type 0 where
+  pub base : IsOfRevokes sent m
+  pub waits : WaitsHere m
 
-pub record IsOfWaits (x : Scene) : Type 0 where
-  pub base : IsOfRevokes x.sent x.master
-  pub waits : WaitsHere x.master
-
-pub waits_kept : IsKeptByScenes IsOfWaits
+pub waits_kept : IsKeptBySent IsOfWaits
 waits_kept =
-    let base : IsKeptByScenes (λ x. IsOfRevokes x.sent x.master) = lifted IsOfRevokes revokes_kept in
     record {
-      new = λ config servers clients. record {
-        base = base.new config servers clients;
+      new = λ config servers. record {
+        base = revokes_kept.new config servers;
         waits = forgotten_waits (new_master config servers) (record { tried = λ handle a is. none_some a (sym (table.get-empty nat_cmp handle) ∙ is); waits = λ s among. among });
       };
-      passes = λ x moment h. record { base = base.passes x moment h.base; waits = h.waits };
-      says = λ x k ms quiet h. record { base = base.says x k ms quiet h.base; waits = h.waits };
-      masters = λ x k moment i choice now is up h. record { base = base.masters x k moment i choice now is up h.base; waits = step_waits x.master moment i choice h.base.logged h.waits };
-      opens = λ x k moment choice now h. record { base = base.opens x k moment choice now h.base; waits = opens_waits x.master moment choice };
-      serves = λ x k index moment s i choice now at is up h. record { base = base.serves x k index moment s i choice now at is up h.base; waits = h.waits };
-      restarts = λ x k index moment s choice now at h. record { base = base.restarts x k index moment s choice now at h.base; waits = h.waits };
-      rots = λ x index q s r at up h. record { base = base.rots x index q s r at up h.base; waits = h.waits };
+      quiet = λ sent ms k m quiet h. record { base = revokes_kept.quiet sent ms k m quiet h.base; waits = h.waits };
+      steps = λ sent k m moment i choice is h. record { base = revokes_kept.steps sent k m moment i choice is h.base; waits = step_waits m moment i choice h.base.logged h.waits };
+      restarts = λ sent k m moment choice h. record { base = revokes_kept.restarts sent k m moment choice h.base; waits = opens_waits m moment choice };
     }
 
-pub waits_here : (config : Config) (servers clients : ℕ) (w : WorldState) → IsReached config servers clients w → AreWaiting w.master.logged w.master.attempts w.master.snapshots
-waits_here config servers clients w r = (scene_reached IsOfWaits waits_kept config servers clients w r).waits
+pub waits_here : (config : Config) (servers clients : ℕ) (w : WorldState) → IsReached config servers clients w → WaitsHere w.master
+waits_here config servers clients w r = (sent_reached IsOfWaits waits_kept config servers clients w r).waits
