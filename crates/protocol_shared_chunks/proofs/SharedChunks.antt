@@ -17,13 +17,13 @@ use Rattle.chunk_table.specs.ChunkTable.{ChunkRow}
 use Rattle.protocol.specs.Choice.{Choice, Ending, Goes, Lost, Stops, in_order}
 use Rattle.protocol.specs.Seen.{Taken, no_step}
 use Rattle.protocol.specs.Sending.{order_number}
-use Rattle.protocol.specs.Logged.{Logged, LogDisk, LogChange, log_changed_by_all, replayed}
+use Rattle.protocol.specs.Logged.{Logged, LogDisk, LogChange, first_logged, log_changed_by_all, replayed}
 use Rattle.protocol.specs.Master.{MasterState, MasterDoing, VersionAttempt, stopped_master, master_begins, writes_checkpoint}
-use Rattle.protocol.specs.MasterStep.{master_at, master_goes, master_ends, master_bounded, master_step, is_within_limits, may_end, found_log, lease_after_restart, started_master, opening, has_opened, opens_as, master_restart}
+use Rattle.protocol.specs.MasterStep.{master_at, master_goes, master_ends, master_bounded, master_step, is_within_limits, may_end, found_log, lease_after_restart, started_master, opening, has_opened, opens_as, master_restart, new_master, first_log}
 use Rattle.protocol.specs.Observer.{new_observer}
 use Rattle.protocol.specs.Server.{ServerState}
 use Rattle.protocol.specs.ServerStep.{server_step, server_restart}
-use Rattle.protocol.specs.World.{WorldState, stamped}
+use Rattle.protocol.specs.World.{WorldState, new_world, stamped}
 use Rattle.protocol_laws.specs.Laws.{times_in, is_grant, grants_of, tells_end}
 use Rattle.protocol_laws.proofs.Steps.{on_cond, none_some, tally, count-cons, count-append, same_or_not, removed_cases}
 use Rattle.protocol_laws.proofs.Entries.{AllOf, mapped_cases}
@@ -90,11 +90,11 @@ down_shares : (Over More : ℕ → ℕ → Type 0) (m : MasterState) (disk : Log
 down_shares Over More m disk under_way stays found =
     record { found = λ decided handle row there shared. stays handle row.granted (found decided handle row there shared); up = λ up. absurd (let both : false ≡ true = up in cc) }
 
-pub record IsOfShares (x : Scene) : Type 0 where
-  pub base : IsOfTimes x
-  pub set : AreSet x
-  pub waits : IsOfWaits x.sent x.master
-  pub shares : IsTrue x.are_clocks_kept → AreShares (IsOverIn x) x.master
+record IsOfShares (x : Scene) : Type 0 where
+  base : IsOfTimes x
+  set : AreSet x
+  waits : IsOfWaits x.sent x.master
+  shares : IsTrue x.are_clocks_kept → AreShares (IsOverIn x) x.master
 
 -- leases that are over stay over
 
@@ -277,8 +277,17 @@ module _ (x : Scene) (base : IsOfTimes x) where
 
 -- worlds
 
-no_shares : (Over : ℕ → ℕ → Type 0) (l : Logged) → ((handle : ℕ) → table.get (rows_of l) handle ≡ None) → IsStateDone Over l
-no_shares Over l none handle row there shared = none_some row (sym (none handle) ∙ there)
+no_rows : (Over : ℕ → ℕ → Type 0) (l : Logged) → ((handle : ℕ) → table.get (rows_of l) handle ≡ None) → IsStateDone Over l
+no_rows Over l none handle row there shared = none_some row (sym (none handle) ∙ there)
+
+new_shares : (Over : ℕ → ℕ → Type 0) (config : Config) (servers : ℕ) → AreShares Over (new_master config servers)
+new_shares Over config servers =
+    let one : Logged = record first_logged { epoch = 1 } in
+    let none : IsStateDone Over one = no_rows Over one (λ handle. table.get-empty nat_cmp handle) in
+    record {
+      found = found_same (IsLogDone Over) first_log none;
+      up = λ up. (none, λ handle row there shared a is. none_some a (sym (table.get-empty nat_cmp handle) ∙ is));
+    }
 
 shares_kept : IsKeptByScenes IsOfShares
 shares_kept =
@@ -288,10 +297,7 @@ shares_kept =
         base = times_kept.new config servers clients;
         set = settings_kept.new config servers clients;
         waits = waiting.new config servers clients;
-        shares = λ clocks. record {
-          found = found_same (IsLogDone _) _ (no_shares _ _ (λ handle. table.get-empty nat_cmp handle));
-          up = λ up. (no_shares _ _ (λ handle. table.get-empty nat_cmp handle), λ handle row there shared a is. none_some a (sym (table.get-empty nat_cmp handle) ∙ is));
-        };
+        shares = λ clocks. new_shares (IsOverIn (scene_of (new_world config servers clients))) config servers;
       };
       passes = λ x moment h. record {
         base = times_kept.passes x moment h.base;

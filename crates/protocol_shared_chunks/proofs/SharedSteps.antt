@@ -119,14 +119,18 @@ AreKnown es next = (x : Path) (id : ℕ) → HasAt es x (File id) → id < next
 
 shared_more : (t : ChunkTable) (next : ℕ) (es : List (Path × Node)) (q : ℕ) → AreKnown es next → (times_in (with_copied_nodes t next es).files q ≤ times_in t.files q) ⊎ HasIn t es q
 shared_more t next [] q known = inl (omega arith)
-shared_more t next (e ∷ es) q known = by_node e.1 refl
+shared_more t next (e ∷ es) q known = by_node (λ u n those. shared_more u n es q those) e.1 refl
   where
-    by_node : (v : Node) → e.1 ≡ v → (times_in (with_copied_nodes (with_copied_node t next v) (id_after next v) es).files q ≤ times_in t.files q) ⊎ HasIn t (e ∷ es) q
-    by_node Dir is = elim (shared_more t next es q (λ x id has. known x id (inr has))) [
+    -- of the entries that are left
+    Rest : Type 0
+    Rest = (u : ChunkTable) (n : ℕ) → AreKnown es n → (times_in (with_copied_nodes u n es).files q ≤ times_in u.files q) ⊎ HasIn u es q
+
+    by_node : Rest → (v : Node) → e.1 ≡ v → (times_in (with_copied_nodes (with_copied_node t next v) (id_after next v) es).files q ≤ times_in t.files q) ⊎ HasIn t (e ∷ es) q
+    by_node rest Dir is = elim (rest t next (λ x id has. known x id (inr has))) [
       | inl low ↦ inl low
       | inr there ↦ inr (there.0, there.1, inr there.2, there.3)
     ]
-    by_node (File file) is = by_count (stands q (chunks_at t.files file)) refl
+    by_node rest (File file) is = by_count (stands q (chunks_at t.files file)) refl
       where
         u : ChunkTable
         u = with_copied_node t next (File file)
@@ -136,7 +140,7 @@ shared_more t next (e ∷ es) q known = by_node e.1 refl
 
         by_count : (n : ℕ) → stands q (chunks_at t.files file) ≡ n → (times_in (with_copied_nodes u (suc next) es).files q ≤ times_in t.files q) ⊎ HasIn t (e ∷ es) q
         by_count (suc n) some = inr (e.0, file, inl (refl, is), omega (arith, some))
-        by_count zero none = elim (shared_more u (suc next) es q (λ x id has. let low = known x id (inr has) in omega (arith, low))) [
+        by_count zero none = elim (rest u (suc next) (λ x id has. let low = known x id (inr has) in omega (arith, low))) [
           | inl low ↦ inl (let put = times_put t.files next (handles_of t file) q in omega (arith, low, put, none))
           | inr there ↦ inr (there.0, there.1, inr there.2, still there.1 (known there.0 there.1 (inr there.2)) there.3)
         ]
@@ -326,13 +330,13 @@ module _ (before : List Message) (greatest lease : ℕ) (Over : ℕ → ℕ → 
       let was = shared_before c.logged (used c p.0) (log.Issue chunk version) due plain tt handle row there shared in kept c attempts h handle row was.0 was.1
   done_after c attempts ss (log.CopyStart file index source copy copy_version) due plain beside p h handle row there shared =
       let was = shared_before c.logged (used c p.0) (log.CopyStart file index source copy copy_version) due plain tt handle row there shared in kept c attempts h handle row was.0 was.1
-  done_after c attempts ss (log.Grant chunk version primary members) due plain beside p h = absurd plain
-  done_after c attempts ss (log.Epoch epoch) due plain beside p h = absurd due
-  done_after c attempts ss (log.Counters next_file next_handle epoch) due plain beside p h = absurd due
-  done_after c attempts ss (log.DirItem path) due plain beside p h = absurd due
-  done_after c attempts ss (log.FileItem path file handles) due plain beside p h = absurd due
-  done_after c attempts ss (log.ChunkItem chunk granted issued primary members) due plain beside p h = absurd due
-  done_after c attempts ss (log.ClientItem client n refusal) due plain beside p h = absurd due
+  done_after c attempts ss (log.Grant chunk version primary members) due plain beside p h handle row there shared = absurd plain
+  done_after c attempts ss (log.Epoch epoch) due plain beside p h handle row there shared = absurd due
+  done_after c attempts ss (log.Counters next_file next_handle epoch) due plain beside p h handle row there shared = absurd due
+  done_after c attempts ss (log.DirItem path) due plain beside p h handle row there shared = absurd due
+  done_after c attempts ss (log.FileItem path file handles) due plain beside p h handle row there shared = absurd due
+  done_after c attempts ss (log.ChunkItem chunk granted issued primary members) due plain beside p h handle row there shared = absurd due
+  done_after c attempts ss (log.ClientItem client n refusal) due plain beside p h handle row there shared = absurd due
 
   -- copies are given up
   done_less : (c : Core) (attempts : Attempts) (handles : List ℕ) → AreDone c attempts → AreDone (record c { logged = copies_given_up c.logged handles }) (removed_all attempts handles)
@@ -476,10 +480,10 @@ module _ (before : List Message) (greatest lease : ℕ) (Over : ℕ → ℕ → 
         less = λ c attempts ss handles copied p h. record { done = done_less c attempts handles h.done; stops = h.stops };
         fewer = λ c attempts left ss from h. record { done = λ handle row there shared. let old = h.done handle row there shared in (λ a is. old.0 a (from handle a is), old.1); stops = h.stops };
         waits = λ c attempts ss more h. record { done = h.done; stops = h.stops };
-        issues = λ c attempts ss handle row a is next alone p before h. record { done = done_tried _ attempts handle a (alone_once (times_in c.logged.table.files handle) alone) h.done; stops = h.stops };
+        issues = λ c attempts ss handle row a is next alone p before h. record { done = done_tried (core_appended c (log.Issue (handle_of handle) (version_of a.version))) attempts handle a (alone_once (times_in c.logged.table.files handle) alone) h.done; stops = h.stops };
         copies = λ c attempts ss file index source copy a next p before h.
             let none = fresh (times_in c.logged.table.files copy) c.logged.next_handle copy (used c p.0 copy) next in
-            record { done = done_tried _ attempts copy a (λ shared. omega (arith, none, shared)) h.done; stops = h.stops };
+            record { done = done_tried (core_appended c (log.CopyStart file index source (handle_of copy) (version_of a.version))) attempts copy a (λ shared. omega (arith, none, shared)) h.done; stops = h.stops };
         records = λ c attempts ss handle a b at same servers h. record { done = λ q row there shared. let old = h.done q row there shared in (λ x is. elim (put_cases attempts handle b q x is) [ inl now ↦ old.0 a (ap (λ (n : ℕ). table.get attempts n) now.0 ∙ at) | inr earlier ↦ old.0 x earlier ], old.1); stops = h.stops };
         grants = λ c attempts ss handle a until primary members at all due p after h.
             let done = done_granted c attempts handle a until primary members at due p.0 h.done in
