@@ -1,5 +1,5 @@
 -- In each reached world whose clocks were kept, a chunk with several owners has no version attempt, and the lease of its granted version is over.
-use Rattle.std.proofs.Common.{◌≡◌, ◌⊎◌, ℕ, suc, ◌+◌, ◌≤◌, Bool, true, false, List, [], ◌∷◌, ◌++◌, take, drop, Option, Some, None, refl, sym, ap, subst, ◌∙◌, inl, inr, arith}
+use Rattle.std.proofs.Common.{◌≡◌, ℕ, suc, ◌+◌, ◌≤◌, true, false, List, [], ◌∷◌, ◌++◌, take, drop, Option, Some, None, refl, sym, ap, subst, ◌∙◌, inl, inr, arith}
 use Rattle.std.specs.Prelude.{nat_le, nat_lt, ◌&&◌, IsTrue}
 use Rattle.std.specs.Ordering.{nat_cmp}
 use Rattle.std.specs.FinMap as table
@@ -19,13 +19,12 @@ use Rattle.protocol.specs.Seen.{Taken, no_step}
 use Rattle.protocol.specs.Sending.{order_number}
 use Rattle.protocol.specs.Logged.{Logged, LogDisk, LogChange, first_logged, log_changed_by_all, replayed}
 use Rattle.protocol.specs.Master.{MasterState, MasterDoing, VersionAttempt, stopped_master, master_begins, writes_checkpoint}
-use Rattle.protocol.specs.MasterStep.{master_at, master_goes, master_ends, master_bounded, master_step, is_within_limits, may_end, found_log, lease_after_restart, started_master, opening, has_opened, opens_as, master_restart, new_master, first_log}
+use Rattle.protocol.specs.MasterStep.{master_at, master_goes, master_ends, master_bounded, master_step, is_within_limits, may_end, found_log, lease_after_restart, started_master, opening, has_opened, opens_as, new_master, first_log}
 use Rattle.protocol.specs.Observer.{new_observer}
-use Rattle.protocol.specs.Server.{ServerState}
 use Rattle.protocol.specs.ServerStep.{server_step, server_restart}
 use Rattle.protocol.specs.World.{WorldState, new_world, stamped}
-use Rattle.protocol_laws.specs.Laws.{times_in, is_grant, grants_of, tells_end}
-use Rattle.protocol_laws.proofs.Steps.{on_cond, none_some, tally, count-cons, count-append, same_or_not, removed_cases}
+use Rattle.protocol_laws.specs.Laws.{is_grant, grants_of, tells_end}
+use Rattle.protocol_laws.proofs.Steps.{on_cond, none_some, tally, count-cons, same_or_not, removed_cases}
 use Rattle.protocol_laws.proofs.Entries.{AllOf, mapped_cases}
 use Rattle.protocol_laws.proofs.ChunkRows.{rows_of}
 use Rattle.protocol_laws.proofs.Owners.{references_of, AreCounted}
@@ -34,11 +33,10 @@ use Rattle.protocol_laws.proofs.ClientMoves.{HasNoOrder, quiet_orders}
 use Rattle.protocol_laws.proofs.SentReached.{without_order, count-sent, server_quiet, server_restarts_quiet}
 use Rattle.protocol_laws.proofs.MessagesSent.{IsSent, sent_before, step_sent}
 use Rattle.protocol_laws.proofs.OrderNumbers.{state_of, AllStops, AllFound, found_same, found_stopped}
-use Rattle.protocol_laws.proofs.GrantedIssued.{IsIssued}
 use Rattle.protocol_laws.proofs.NamesReached.{IsGood, IsUpToLog, IsLogged, opening_first, opening_naming}
 use Rattle.protocol_laws.proofs.RowsLogged.{IsFoundRows, IsRowedLog}
 use Rattle.protocol_laws.proofs.RowsKept.{rows_kept}
-use Rattle.protocol_laws.proofs.RevokesNumbered.{AreAmong, before_among, none_more}
+use Rattle.protocol_laws.proofs.RevokesNumbered.{AreAmong, none_more}
 use Rattle.protocol_laws.proofs.LeaseEnds.{IsEndTold, IsVersionGranted, WasSaidOver, IsPast, HasEnd, HasVersion, AreEnds, ends_among, IsTelling}
 use Rattle.protocol_laws.proofs.LeasesTimed.{telling_keeps, AreTimely}
 use Rattle.protocol_laws.proofs.LeasesTimely.{IsOfTimes, times_kept}

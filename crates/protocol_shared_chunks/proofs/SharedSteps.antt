@@ -2,7 +2,7 @@
 use Rattle.std.proofs.Common.{◌≡◌, ◌⊎◌, ℕ, zero, suc, ◌+◌, ◌≤◌, ◌<◌, Bool, true, false, List, [], ◌∷◌, ◌++◌, Option, Some, None, refl, sym, ap, subst, ◌∙◌, inl, inr, arith}
 use Rattle.std.specs.Prelude.{◌==◌, ◌&&◌, unwrap_or}
 use Rattle.std.specs.FinMap as table
-use Rattle.std.proofs.lemmas.Bool.{true≢false, and_parts, eqb-true}
+use Rattle.std.proofs.lemmas.Bool.{true≢false, eqb-true}
 use Rattle.gfs_types.specs.Paths.{Path, is_at_or_below}
 use Rattle.gfs_types.specs.declared.ids.Node.TheVariants as node
 use Rattle.messages.specs.declared.message.Body.{Body}
@@ -10,34 +10,33 @@ use Rattle.messages.specs.declared.message.Body.TheVariants as body
 use Rattle.messages.specs.declared.message.Message.{Message}
 use Rattle.log_records.specs.declared.record.Record.{Record}
 use Rattle.log_records.specs.declared.record.Record.TheVariants as log
-use Rattle.relaxed_file.specs.Names.{Names, Node, Dir, File, node_at, copied_entries, id_after}
+use Rattle.relaxed_file.specs.Names.{Node, Dir, File, node_at, copied_entries, id_after}
 use Rattle.relaxed_file.proofs.NamesTree.{HasAt, copied_of, entry_is}
-use Rattle.protocol.specs.Tables.{Table, removed_all, with_at}
+use Rattle.protocol.specs.Tables.{removed_all, with_at}
 use Rattle.protocol.specs.Sending.{message, the_server, handle_of, version_of, moment_of, order_number}
-use Rattle.chunk_table.specs.ChunkTable.{ChunkRow, ChunkTable, new_row, chunk_of, handles_of, row_granted, grant}
-use Rattle.protocol.specs.Logged.{Logged, Copy, LogDisk, LogChange, AppendRecord, WriteCheckpoint, log_changed, log_changed_by_all, after_record, checkpoint_of, copies_for_file, copies_given_up, all_copies_given_up, swapped_in, with_copied_node, with_copied_nodes}
+use Rattle.chunk_table.specs.ChunkTable.{ChunkRow, ChunkTable, new_row, chunk_of, handles_of, row_granted}
+use Rattle.protocol.specs.Logged.{Logged, Copy, LogDisk, LogChange, AppendRecord, WriteCheckpoint, log_changed, after_record, checkpoint_of, copies_given_up, all_copies_given_up, swapped_in, with_copied_node, with_copied_nodes}
 use Rattle.protocol.specs.Master.{VersionAttempt}
 use Rattle.protocol_laws.specs.Laws.{times_in, is_grant, grants_of, tells_end}
 use Rattle.protocol_laws.proofs.Steps.{none_some, same_some, tally, count-cons, count-append, same_or_not, put_cases, put_other, kept_cases, removed_cases}
-use Rattle.protocol_laws.proofs.ChunkRows.{Rows, rows_of, OwnedFrom, removed_owned, all_copied_owned, swapped_owned, expired_owned}
+use Rattle.protocol_laws.proofs.ChunkRows.{Rows, rows_of, OwnedFrom, all_copied_owned, swapped_owned, expired_owned}
 use Rattle.protocol_laws.proofs.FilesNamed.{Files}
 use Rattle.protocol_laws.proofs.OneName.{HasOneName}
 use Rattle.protocol_laws.proofs.Owners.{stands, chunks_at, times_put, times_gone, tally_same, tally_other}
 use Rattle.protocol_laws.proofs.CountsLogged.{fresh, apart_here}
 use Rattle.protocol_laws.proofs.VersionsAhead.{changed_cases}
 use Rattle.protocol_laws.proofs.LoggedParts.{Parts}
-use Rattle.protocol_laws.proofs.NamesReached.{without_end}
 use Rattle.protocol_laws.proofs.RowsFit.{granted_logged, same_row}
 use Rattle.protocol_laws.proofs.OrderNumbers.{state_of, state-appended, AllStops, stops_push}
-use Rattle.protocol_laws.proofs.MessagesSent.{IsSent, sent_before}
-use Rattle.protocol_laws.proofs.MasterMoves.{Core, core_changed, core_appended, core_ended, core_ordered, core_granted, core_extended, grant_record, IsDue, IsNoGrantRecord, IsPlainOrder}
+use Rattle.protocol_laws.proofs.MessagesSent.{sent_before}
+use Rattle.protocol_laws.proofs.MasterMoves.{Core, core_changed, core_appended, core_ended, core_granted, core_extended, grant_record, IsDue, IsNoGrantRecord, IsPlainOrder}
 use Rattle.protocol_laws.proofs.RevokesNumbered.{one_more}
 use Rattle.protocol_laws.proofs.LeaseEnds.{IsKeptRow, IsEndTold, WasSaidOver, IsPast, plain_tells, quiet_tells, IsTelling}
-use Rattle.protocol_laws.proofs.Words.{is_of_lease, no_order}
+use Rattle.protocol_laws.proofs.Words.{no_order}
 use Rattle.protocol_acts.specs.Given.{version_given}
 use Rattle.protocol_acts.proofs.MasterActs.{IsRowing, core_checkpointed}
 use Rattle.protocol_awaited.proofs.Awaited.{Attempts}
-use Rattle.protocol_awaited.proofs.AwaitedRecords.{IsBeside, copied_other}
+use Rattle.protocol_awaited.proofs.AwaitedRecords.{IsBeside}
 use Rattle.protocol_snapshot_acts.proofs.SnapshotActs.{Waits, Acts}
 
 -- the chunk stands in files more than once
