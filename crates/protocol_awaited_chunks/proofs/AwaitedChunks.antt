@@ -12,7 +12,7 @@ use Rattle.protocol_laws.proofs.Namespace.{IsAmong, all_among}
 use Rattle.protocol_laws.proofs.Entries.{AllOf, same_number}
 use Rattle.protocol_awaited.proofs.Awaited.{handle_of, file_of_it}
 use Rattle.protocol_awaited_chunks.specs.Laws.{WaitingSnapshotsAreAlone, AwaitedChunksAreNotTried}
-use Rattle.protocol_snapshot_acts.proofs.WaitsKept.{WaitsHere, waits_here}
+use Rattle.protocol_acts.proofs.WaitsKept.{WaitsHere, waits_here}
 
 -- as the laws say it
 

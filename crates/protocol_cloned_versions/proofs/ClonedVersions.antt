@@ -28,7 +28,7 @@ use Rattle.protocol_laws.proofs.Entries.{AllOf}
 use Rattle.protocol_laws.proofs.MembersRecorded.{all_at, all_in_order}
 use Rattle.protocol_laws.proofs.MessagesSent.{IsSent, sent_before, sent_cases, none_sent, numbered_sent}
 use Rattle.protocol_laws.proofs.ClientMoves.{HasNoOrder, quiet_orders, client_quiet, call_quiet}
-use Rattle.protocol_laws.proofs.SentReached.{without_order, server_quiet, server_restarts_quiet}
+use Rattle.protocol_laws.proofs.SentReached.{without_order, server_quiet, server_restarts_quiet, sent_reached}
 use Rattle.protocol_laws.proofs.ChunkRows.{rows_of}
 use Rattle.protocol_laws.proofs.OrderNumbers.{AllFound}
 use Rattle.protocol_laws.proofs.LeaseEnds.{IsEndTold, IsPast, HasEnd}
@@ -39,6 +39,7 @@ use Rattle.protocol_versions.proofs.ScenesGoOn.{goes_on}
 use Rattle.protocol_versions.proofs.EndedLeases.{past_is_over}
 use Rattle.protocol_versions.proofs.LeasesStayOver.{reached_later, over_later}
 use Rattle.protocol_acts.proofs.IssuedNumbers.{IsPassed, IsLogPassed}
+use Rattle.protocol_acts.proofs.WaitsKept.{IsOfWaits, waits_kept}
 use Rattle.protocol_closed_versions.proofs.ClosedVersions.{StaysShut, stays_shut, clocks_before}
 use Rattle.protocol_given_versions.proofs.GivenVersions.{given_reached}
 use Rattle.protocol_held_versions.specs.Laws.{version_cloned, WasCloned}
@@ -71,8 +72,7 @@ AreClonesShut w = (handle version : ℕ) → IsCloneSent w.sent handle version �
 pub shut_later : (config : Config) (servers clients : ℕ) (w : WorldState) → IsReached config servers clients w → (step : Event × Choice) (handle version : ℕ) → IsShutIn w handle version → IsShutIn (happens w step.0 step.1).world handle version
 shut_later config servers clients w r step handle version h =
     let count : ℕ = grants_of handle version w.sent in
-    let base : IsOfTimes (scene_of w) = scene_reached IsOfTimes times_kept config servers clients w r in
-    let start : StaysShut handle version count (scene_of w) = record { base = base.base.sent; shut = record { few = omega arith; found = h.found; up = h.up } } in
+    let start : StaysShut handle version count (scene_of w) = record { base = sent_reached IsOfWaits waits_kept config servers clients w r; shut = record { few = omega arith; found = h.found; up = h.up } } in
     let end : StaysShut handle version count (scene_of (after_events w (step ∷ []))) = goes_on (StaysShut handle version count) (stays_shut handle version count) w (step ∷ []) start in
     record {
       found = end.shut.found;

@@ -46,8 +46,8 @@ use Rattle.protocol_versions.specs.Laws.{IsLeaseOver}
 use Rattle.protocol_versions.proofs.EndedLeases.{past_is_over, ended_leases_are_over, leases_in_the_log_are_over}
 use Rattle.protocol_versions.proofs.LeasesStayOver.{AreOverAt, StayOver, over_sent, stays_over, over_to, over_of}
 use Rattle.protocol_acts.proofs.MasterActs.{IsRowing, rowing_keeps}
-use Rattle.protocol_snapshot_acts.proofs.WaitsKept.{IsOfWaits, waits_kept}
-use Rattle.protocol_snapshot_acts.proofs.ActsOfSteps.{IsWordSaid, IsInputSaid, goes_acts}
+use Rattle.protocol_acts.proofs.WaitsKept.{IsOfWaits, waits_kept}
+use Rattle.protocol_acts.proofs.ActsOfSteps.{IsWordSaid, IsInputSaid, goes_acts}
 use Rattle.protocol_shared_chunks.specs.Laws.{SharedChunksHaveNoLease, SharedChunksInTheLogHaveNoLease}
 use Rattle.protocol_shared_chunks.proofs.SharedSteps.{IsShared, IsStateDone, IsLogDone, log_done, Stepping, IsDone, IsSharing, state_done, checkpoint_done, epoch_done, sharing_acts}
 

@@ -34,10 +34,9 @@ use Rattle.protocol_laws.proofs.RevokesNumbered.{one_more}
 use Rattle.protocol_laws.proofs.LeaseEnds.{IsKeptRow, IsEndTold, WasSaidOver, IsPast, plain_tells, quiet_tells, IsTelling}
 use Rattle.protocol_laws.proofs.Words.{no_order}
 use Rattle.protocol_acts.specs.Given.{version_given}
-use Rattle.protocol_acts.proofs.MasterActs.{IsRowing, core_checkpointed}
+use Rattle.protocol_acts.proofs.MasterActs.{IsRowing, core_checkpointed, Waits, Acts}
 use Rattle.protocol_awaited.proofs.Awaited.{Attempts}
 use Rattle.protocol_awaited.proofs.AwaitedRecords.{IsBeside}
-use Rattle.protocol_snapshot_acts.proofs.SnapshotActs.{Waits, Acts}
 
 -- the chunk stands in files more than once
 abbrev pub IsShared : Logged → ℕ → Type 0

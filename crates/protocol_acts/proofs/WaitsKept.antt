@@ -25,10 +25,9 @@ use Rattle.protocol_laws.proofs.RowsLogged.{IsFoundRows, IsRowedLog}
 use Rattle.protocol_laws.proofs.RowsKept.{rows_kept}
 use Rattle.protocol_laws.proofs.RevokesNumbered.{IsOfRevokes, revokes_kept}
 use Rattle.protocol_laws.proofs.SentReached.{IsKeptBySent, sent_reached}
-use Rattle.protocol_acts.proofs.MasterActs.{IsRowing, rowing_keeps}
+use Rattle.protocol_acts.proofs.MasterActs.{IsRowing, rowing_keeps, Waits, Acts}
 use Rattle.protocol_awaited.proofs.Awaited.{Attempts, AreWaiting}
-use Rattle.protocol_snapshot_acts.proofs.SnapshotActs.{Waits, Acts}
-use Rattle.protocol_snapshot_acts.proofs.ActsOfSteps.{IsWordSaid, IsInputSaid, goes_acts}
+use Rattle.protocol_acts.proofs.ActsOfSteps.{IsWordSaid, IsInputSaid, goes_acts}
 
 -- where nothing more is asked of a step
 
@@ -55,11 +54,11 @@ any_acts start =
       extends = λ c attempts ss handle until row is lasts n h. h;
     }
 
-any_word : (b : Body) → IsWordSaid NoneEnded b
+pub any_word : (b : Body) → IsWordSaid NoneEnded b
 any_word (body.Revoked handle version) = tt
 any_word other = tt
 
-any_input : (i : Input) → IsInputSaid NoneEnded i
+pub any_input : (i : Input) → IsInputSaid NoneEnded i
 any_input (input.Deliver m) = any_word m.body
 any_input input.Tick = tt
 
