@@ -1,5 +1,6 @@
 pub mod MasterActs
+pub mod IssuedNumbers
 pub mod ActsOfNames
 pub mod ActsOfChunks
 pub mod ActsOfSteps
-pub mod IssuedNumbers
+pub mod WaitsKept

@@ -29,7 +29,7 @@ use Rattle.protocol_laws.proofs.Entries.{AllOf, all_filtered, kept_where_cases, 
 use Rattle.protocol_laws.proofs.ChunkRows.{Rows, rows_of, OwnedFrom, removed_owned, all_copied_owned, expired_owned}
 use Rattle.protocol_acts.proofs.MasterActs.{AreAttemptedFrom}
 use Rattle.protocol_told_versions.proofs.TrueWords.{all_entries}
-use Rattle.protocol_told_versions.proofs.MasterWords.{IsMastersWord, IsMastersMessage, Words, orders_words, expires_words, ready_words, name_words, look_words, ask_words, takes_revoked_words, learns_words, report_words}
+use Rattle.protocol_told_versions.proofs.MasterWords.{IsMastersWord, IsMastersMessage, cond_some, IsHeld, held_in, Words, orders_words, expires_words, ready_words, name_words, look_words, ask_words, takes_revoked_words, learns_words, report_words}
 
 -- what a step leaves of rows, attempts and its moment
 
@@ -112,31 +112,6 @@ pub record IsChosen (m : MasterState) (handle version : ℕ) : Type 0 where
   pub server : ℕ
   pub held : version_held m handle server ≡ Some version
   pub free : (a : VersionAttempt) → table.get m.attempts handle ≡ Some a → a.version ≡ version → ⊥
-
-cond_some : {X : Type 0} (b : Bool) (x : Option X) (y : X) → cond b x None ≡ Some y → (b ≡ true) × (x ≡ Some y)
-cond_some true x y is = (refl, is)
-cond_some false x y is = none_some y is
-
--- the server holds its version
-abbrev IsHeld : MasterState → ℕ → HeldAt → Type 0
-IsHeld m handle h = version_held m handle h.server ≡ Some h.version
-
-held_one : (m : MasterState) (handle : ℕ) (test : ℕ → Bool) (server : ℕ) (o : Option ℕ) → version_held m handle server ≡ o → (h : HeldAt) → held_where test server o ≡ Some h → IsHeld m handle h
-held_one m handle test server None is h there = none_some h there
-held_one m handle test server (Some version) is h there =
-    let made = cond_some (test version) (Some (record { server = server; version = version })) h there in
-    let same = same_some (record { server = server; version = version }) h made.1 in
-    ap (λ (x : HeldAt). version_held m handle x.server) (sym same) ∙ is ∙ ap (λ (x : HeldAt). Some x.version) same
-
-held_cons : (m : MasterState) (handle : ℕ) (o : Option HeldAt) (rest : List HeldAt) → ((h : HeldAt) → o ≡ Some h → IsHeld m handle h) → AllOf (IsHeld m handle) rest → AllOf (IsHeld m handle) (cons_option o rest)
-held_cons m handle None rest one all = all
-held_cons m handle (Some h) rest one all = (one h refl, all)
-
-held_in : (m : MasterState) (handle : ℕ) (test : ℕ → Bool) (servers : List ℕ) → AllOf (IsHeld m handle) (filter_map (λ s. held_where test s (version_held m handle s)) servers)
-held_in m handle test [] = tt
-held_in m handle test (s ∷ servers) =
-    held_cons m handle (held_where test s (version_held m handle s)) (filter_map (λ x. held_where test x (version_held m handle x)) servers) (λ h is. held_one m handle test s (version_held m handle s) refl h is)
-    (held_in m handle test servers)
 
 all_pass : {X : Type 0} (test : X → Bool) (xs : List X) → AllOf (λ x. test x ≡ true) (filter test xs)
 all_pass test [] = tt
@@ -264,10 +239,13 @@ no_clone_said other h = tt
 abbrev Anything : Table (Table ℕ) → Type 0
 Anything holders = Unit {0}
 
+abbrev Unowned : ℕ → Type 0
+Unowned handle = Unit {0}
+
 takes_none : (d : MasterDoing) (m : Message) (b : Body) → Words Anything IsNoClone d → Words Anything IsNoClone (master_takes d m b)
 takes_none d m (body.Name number deadline c) h = name_words Anything IsNoClone no_clone_said d (client_number m.sender) number deadline.0 c h
 takes_none d m (body.Look number c) h = look_words Anything IsNoClone no_clone_said d m.sender number c h
-takes_none d m (body.Ask number file w deadline lost) h = ask_words Anything IsNoClone no_clone_said d m.sender number file.0 w deadline.0 lost h
+takes_none d m (body.Ask number file w deadline lost) h = ask_words Anything IsNoClone no_clone_said Unowned (λ holders held handle version server k is order copy n. tt) d m.sender number file.0 w deadline.0 lost (λ handle row is more. tt) h
 takes_none d m (body.Recorded handle version) h = learns_words Anything IsNoClone no_clone_said (holds_now d (server_number m.sender) handle.0 version.0) (server_number m.sender) handle.0 version.0 h
 takes_none d m (body.Revoked handle version) h = takes_revoked_words Anything IsNoClone no_clone_said d (server_number m.sender) handle.0 version.0 h
 takes_none d m (body.Cloned handle version) h = h

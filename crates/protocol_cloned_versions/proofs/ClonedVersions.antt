@@ -28,7 +28,7 @@ use Rattle.protocol_laws.proofs.Entries.{AllOf}
 use Rattle.protocol_laws.proofs.MembersRecorded.{all_at, all_in_order}
 use Rattle.protocol_laws.proofs.MessagesSent.{IsSent, sent_before, sent_cases, none_sent, numbered_sent}
 use Rattle.protocol_laws.proofs.ClientMoves.{HasNoOrder, quiet_orders, client_quiet, call_quiet}
-use Rattle.protocol_laws.proofs.SentReached.{without_order, server_quiet, server_restarts_quiet}
+use Rattle.protocol_laws.proofs.SentReached.{without_order, server_quiet, server_restarts_quiet, sent_reached}
 use Rattle.protocol_laws.proofs.ChunkRows.{rows_of}
 use Rattle.protocol_laws.proofs.OrderNumbers.{AllFound}
 use Rattle.protocol_laws.proofs.LeaseEnds.{IsEndTold, IsPast, HasEnd}
@@ -39,6 +39,7 @@ use Rattle.protocol_versions.proofs.ScenesGoOn.{goes_on}
 use Rattle.protocol_versions.proofs.EndedLeases.{past_is_over}
 use Rattle.protocol_versions.proofs.LeasesStayOver.{reached_later, over_later}
 use Rattle.protocol_acts.proofs.IssuedNumbers.{IsPassed, IsLogPassed}
+use Rattle.protocol_acts.proofs.WaitsKept.{IsOfWaits, waits_kept}
 use Rattle.protocol_closed_versions.proofs.ClosedVersions.{StaysShut, stays_shut, clocks_before}
 use Rattle.protocol_given_versions.proofs.GivenVersions.{given_reached}
 use Rattle.protocol_held_versions.specs.Laws.{version_cloned, WasCloned}
@@ -52,27 +53,26 @@ use Rattle.protocol_cloned_versions.specs.Laws.{version_copied, IsVersionOver, C
 use Rattle.protocol_cloned_versions.proofs.CloneOrders.{IsLess, IsChosen, IsTickWord, IsTick, tick_says, IsNoClone, delivery_says}
 
 -- one of these messages orders a clone of the version
-abbrev IsCloneSent : List Message → ℕ → ℕ → Type 0
+abbrev pub IsCloneSent : List Message → ℕ → ℕ → Type 0
 IsCloneSent sent handle version = (m : Message) × IsSent sent m × (version_cloned m.body ≡ Some (handle, version))
 
-sent_of_cloned : (sent : List Message) (server handle version : ℕ) → WasCloned sent server handle version → IsCloneSent sent handle version
+pub sent_of_cloned : (sent : List Message) (server handle version : ℕ) → WasCloned sent server handle version → IsCloneSent sent handle version
 sent_of_cloned sent server handle version g = (g.1, (g.0, g.2), g.4)
 
 -- a version that is closed, whether or not its chunk is still there
-record IsShutIn (w : WorldState) (handle version : ℕ) : Type 0 where
-  found : AllFound (IsLogPassed handle version) w.master.disk w.master.under_way
-  up : IsTrue w.master.up → IsPassed handle version w.master.logged × ((a : VersionAttempt) → table.get w.master.attempts handle ≡ Some a → a.version ≡ version → ⊥)
-  over : IsTrue w.observer.are_clocks_kept → IsLeaseOver w handle version
+pub record IsShutIn (w : WorldState) (handle version : ℕ) : Type 0 where
+  pub found : AllFound (IsLogPassed handle version) w.master.disk w.master.under_way
+  pub up : IsTrue w.master.up → IsPassed handle version w.master.logged × ((a : VersionAttempt) → table.get w.master.attempts handle ≡ Some a → a.version ≡ version → ⊥)
+  pub over : IsTrue w.observer.are_clocks_kept → IsLeaseOver w handle version
 
-abbrev AreClonesShut : WorldState → Type 0
+abbrev pub AreClonesShut : WorldState → Type 0
 AreClonesShut w = (handle version : ℕ) → IsCloneSent w.sent handle version → IsShutIn w handle version
 
 -- what is closed stays so after an event
-shut_later : (config : Config) (servers clients : ℕ) (w : WorldState) → IsReached config servers clients w → (step : Event × Choice) (handle version : ℕ) → IsShutIn w handle version → IsShutIn (happens w step.0 step.1).world handle version
+pub shut_later : (config : Config) (servers clients : ℕ) (w : WorldState) → IsReached config servers clients w → (step : Event × Choice) (handle version : ℕ) → IsShutIn w handle version → IsShutIn (happens w step.0 step.1).world handle version
 shut_later config servers clients w r step handle version h =
     let count : ℕ = grants_of handle version w.sent in
-    let base : IsOfTimes (scene_of w) = scene_reached IsOfTimes times_kept config servers clients w r in
-    let start : StaysShut handle version count (scene_of w) = record { base = base.base.sent; shut = record { few = omega arith; found = h.found; up = h.up } } in
+    let start : StaysShut handle version count (scene_of w) = record { base = sent_reached IsOfWaits waits_kept config servers clients w r; shut = record { few = omega arith; found = h.found; up = h.up } } in
     let end : StaysShut handle version count (scene_of (after_events w (step ∷ []))) = goes_on (StaysShut handle version count) (stays_shut handle version count) w (step ∷ []) start in
     record {
       found = end.shut.found;
@@ -283,7 +283,7 @@ clones_on config servers clients w (step ∷ rest) r h =
       | inr new ↦ new_shut config servers clients w r step handle version h new
     ])
 
-clones_shut : (config : Config) (servers clients : ℕ) (w : WorldState) → IsReached config servers clients w → AreClonesShut w
+pub clones_shut : (config : Config) (servers clients : ℕ) (w : WorldState) → IsReached config servers clients w → AreClonesShut w
 clones_shut config servers clients w r =
     subst (λ (v : WorldState). AreClonesShut v) r.1 (clones_on config servers clients (new_world config servers clients) r.0 ([], refl) (λ handle version g. none_sent g.0 g.1))
 
@@ -306,7 +306,7 @@ copied_sent config servers clients w r m sent handle version is = by_body m.body
     by_body (body.Image q n serial bytes) same word copied = at_key q.0 n.0 copied (some_clone q.0 n.0 (image_true w.sent m.sender q n serial bytes word))
     by_body other same word copied = none_some (handle, version) copied
 
-version_over : (w : WorldState) (handle version : ℕ) → IsTrue w.observer.are_clocks_kept → IsShutIn w handle version → IsVersionOver w handle version
+pub version_over : (w : WorldState) (handle version : ℕ) → IsTrue w.observer.are_clocks_kept → IsShutIn w handle version → IsVersionOver w handle version
 version_over w handle version clocks h =
     record {
       lease = h.over clocks;

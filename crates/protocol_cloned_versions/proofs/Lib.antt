@@ -1,2 +1,3 @@
 pub mod CloneOrders
 pub mod ClonedVersions
+pub mod CopySources

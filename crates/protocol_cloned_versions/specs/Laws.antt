@@ -26,6 +26,11 @@ version_copied (body.CopyAsk handle version) = Some (handle.0, version.0)
 version_copied (body.Image handle version serial bytes) = Some (handle.0, version.0)
 version_copied other = None
 
+-- the chunk and the version that an order has a server copy under a new handle, for one of the owners
+abbrev pub version_sourced : Body → Option (ℕ × ℕ)
+version_sourced (body.CopyLocal order handle version copy copy_version) = Some (handle.0, version.0)
+version_sourced other = None
+
 -- A version of a chunk is over: no server numbers a mutation under it, and a master that is up issued it and doesn't attempt it.
 pub record IsVersionOver (w : WorldState) (handle version : ℕ) : Type 0 where
   pub lease : IsLeaseOver w handle version
@@ -37,6 +42,12 @@ abbrev pub ClonesAreOfClosedVersions : Type 0
 ClonesAreOfClosedVersions =
     (config : Config) (servers clients : ℕ) (w : WorldState) → IsReached config servers clients w → IsTrue w.observer.are_clocks_kept
     → (place : ℕ) (m : Message) → element_at w.sent place ≡ Some m → (handle version : ℕ) → version_copied m.body ≡ Some (handle, version) → IsVersionOver w handle version
+
+-- Where clocks are kept, the version that a CopyLocal which was sent copies is over, from the moment it is sent (section 3.4).
+abbrev pub CopiesAreOfClosedVersions : Type 0
+CopiesAreOfClosedVersions =
+    (config : Config) (servers clients : ℕ) (w : WorldState) → IsReached config servers clients w → IsTrue w.observer.are_clocks_kept
+    → (place : ℕ) (m : Message) → element_at w.sent place ≡ Some m → (handle version : ℕ) → version_sourced m.body ≡ Some (handle, version) → IsVersionOver w handle version
 
 -- No message gives a server a version, or has servers copy one, above what a master that is up issued of its chunk (section 3.1).
 abbrev pub OrderedVersionsWereIssued : Type 0

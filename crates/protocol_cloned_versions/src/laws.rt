@@ -1,10 +1,15 @@
 //! Laws of the versions that servers copy from each other, in every lawful list of events from a new cell: restarts, stops in a step, losses, repeats, refused memory and rot.
 
-ghost use Rattle.protocol_cloned_versions.specs.Laws.{AttemptedVersionsAreNotCopied, AttemptedVersionsStandAtTheirServers, ClonesAreOfClosedVersions, GrantedVersionsStandAtMembers, OrderedVersionsWereIssued, ReplicasAreOfIssuedVersions, SaidVersionsWereIssued};
+ghost use Rattle.protocol_cloned_versions.specs.Laws.{AttemptedVersionsAreNotCopied, AttemptedVersionsStandAtTheirServers, ClonesAreOfClosedVersions, CopiesAreOfClosedVersions, GrantedVersionsStandAtMembers, OrderedVersionsWereIssued, ReplicasAreOfIssuedVersions, SaidVersionsWereIssued};
 
 /// Where clocks are kept, each Clone, CopyAsk and Image that was sent names a version that was issued, is not attempted, and whose lease is over, from the moment it is sent.
 pub fn clones_are_of_closed_versions()
     ensures { ClonesAreOfClosedVersions }
+{}
+
+/// Where clocks are kept, the version that a CopyLocal which was sent copies under a new handle was issued, is not attempted, and its lease is over, from the moment the order is sent.
+pub fn copies_are_of_closed_versions()
+    ensures { CopiesAreOfClosedVersions }
 {}
 
 /// No order gives a server a version, and no Clone, CopyAsk or Image names one, above what a master that is up issued of its chunk.

@@ -28,9 +28,9 @@ use Rattle.protocol_laws.proofs.Steps.{on_cond, none_some, same_some, tally, put
 use Rattle.protocol_laws.proofs.Entries.{AllOf}
 use Rattle.protocol_laws.proofs.Words.{no_order}
 use Rattle.protocol_laws.proofs.ChunkRows.{rows_of}
-use Rattle.protocol_laws.proofs.MasterMoves.{Core, core_of, core_changed, core_appended, core_ended, core_granted, grant_record, IsDue, IsNoGrantRecord, IsPlainOrder, logs_alone}
+use Rattle.protocol_laws.proofs.MasterMoves.{Core, core_of, NoneEnded, core_changed, core_appended, core_ended, core_granted, grant_record, IsDue, IsNoGrantRecord, IsPlainOrder, logs_alone}
 use Rattle.protocol_laws.proofs.ClientMoves.{HasNoOrder, quiet_orders}
-use Rattle.protocol_laws.proofs.SentReached.{without_order, count-sent, server_quiet, server_restarts_quiet}
+use Rattle.protocol_laws.proofs.SentReached.{without_order, count-sent, server_quiet, server_restarts_quiet, sent_reached}
 use Rattle.protocol_laws.proofs.OrderNumbers.{state_of, state-appended, AllStops, stops_push, AllFound, found_same, found_stopped}
 use Rattle.protocol_laws.proofs.LoggedParts.{Parts, parts_of}
 use Rattle.protocol_laws.proofs.GrantedIssued.{IsIssued}
@@ -38,7 +38,6 @@ use Rattle.protocol_laws.proofs.NamesReached.{IsGood, IsUpToLog, IsLogged, openi
 use Rattle.protocol_laws.proofs.RowsLogged.{IsFoundRows, IsRowedLog}
 use Rattle.protocol_laws.proofs.RowsKept.{rows_kept}
 use Rattle.protocol_laws.proofs.GrantsOnce.{row_below}
-use Rattle.protocol_laws.proofs.RevokesNumbered.{IsOfRevokes, revokes_kept}
 use Rattle.protocol_laws.proofs.LeasesTimely.{IsOfTimes, times_kept}
 use Rattle.protocol_laws.proofs.ScenesReached.{Scene, scene_of, IsKeptByScenes, lifted, scene_reached}
 use Rattle.protocol_versions.specs.Laws.{IsLeaseOver}
@@ -46,7 +45,9 @@ use Rattle.protocol_closed_versions.specs.Laws.{ClosedVersionsStayClosed}
 use Rattle.protocol_versions.proofs.ScenesGoOn.{IsKeptOn, goes_on}
 use Rattle.protocol_versions.proofs.EndedLeases.{over_by_row}
 use Rattle.protocol_versions.proofs.LeasesStayOver.{over_later}
-use Rattle.protocol_acts.proofs.MasterActs.{IsRowing, rowing_keeps, Attempts, Acts}
+use Rattle.protocol_awaited.proofs.Awaited.{Attempts}
+use Rattle.protocol_acts.proofs.MasterActs.{IsRowing, rowing_keeps, Waits, Acts}
+use Rattle.protocol_acts.proofs.WaitsKept.{WaitsHere, any_input, IsOfWaits, waits_kept}
 use Rattle.protocol_acts.proofs.ActsOfSteps.{goes_acts}
 use Rattle.protocol_acts.proofs.IssuedNumbers.{IsPassed, IsLogPassed, passed_after, passed_grant, passed_ended, passed_same, passed_less, passed_checkpoint, started_passed}
 
@@ -135,16 +136,19 @@ module _ (handle version : ℕ) where
           let parts = and_parts (chunk == handle) (a.version == version) e in
           absurd (h.above a (ap (λ (k : ℕ). table.get attempts k) (sym (eqb-true chunk handle parts.0)) ∙ at) (eqb-true a.version version parts.1))
 
-  shut_acts : (start : LogDisk) → Acts start (IsShut start)
+  abbrev Shut : LogDisk → Core → Attempts → Waits → Type 0
+  Shut start c attempts ss = IsShut start c attempts
+
+  shut_acts : (start : LogDisk) → Acts start NoneEnded (IsRowing start) (Shut start)
   shut_acts start =
       record {
-        tells = λ c attempts receiver b quiet h. sends start c attempts _ c.order_count (no_order_grants b (no_order b quiet)) h;
-        orders = λ c attempts server b is plain none h. sends start c attempts _ (suc c.order_count) (plain_grants (b _) (plain _)) h;
-        gives = λ c attempts server chunk a b at has plain given h. sends start c attempts _ (suc c.order_count) (plain_grants (b _) (plain _)) h;
-        revokes = λ c attempts chunk row is h. sends start c attempts _ (suc c.order_count) refl h;
-        appends = λ c attempts r due plain n after h. appended start c attempts r due plain n h;
-        checkpoint = λ c attempts tree n h. checkpointed start c attempts tree n h;
-        less = λ c attempts handles h.
+        tells = λ c attempts ss receiver b quiet h. sends start c attempts _ c.order_count (no_order_grants b (no_order b quiet)) h;
+        orders = λ c attempts ss server b is plain none h. sends start c attempts _ (suc c.order_count) (plain_grants (b _) (plain _)) h;
+        gives = λ c attempts ss server chunk a b at has plain given h. sends start c attempts _ (suc c.order_count) (plain_grants (b _) (plain _)) h;
+        revokes = λ c attempts ss chunk row is h. sends start c attempts _ (suc c.order_count) refl h;
+        appends = λ c attempts ss r due plain beside n after h. appended start c attempts r due plain n h;
+        checkpoint = λ c attempts ss tree n after h. checkpointed start c attempts tree n h;
+        less = λ c attempts ss handles copied n h.
             record {
               state = passed_less handle version c.logged handles h.state;
               above = λ a is. h.above a (removed_cases attempts handles handle a is);
@@ -152,17 +156,18 @@ module _ (handle version : ℕ) where
               disk = h.disk;
               stops = h.stops;
             };
-        fewer = λ c attempts left from h. with_above start c attempts left (λ a is. h.above a (from handle a is)) h;
-        issues = λ c attempts chunk row a is next n before h.
+        fewer = λ c attempts left ss from h. with_above start c attempts left (λ a is. h.above a (from handle a is)) h;
+        waits = λ c attempts ss more h. h;
+        issues = λ c attempts ss chunk row a is next alone n before h.
             with_above start _ attempts (table.insert attempts chunk a)
             (put_above attempts chunk a (λ same number. let low = before.state.1 row (ap (λ (n : ℕ). table.get (rows_of c.logged) n) (sym same) ∙ is) in omega (arith, low, next, number)) h.above) h;
-        copies = λ c attempts file index source copy a next n before h.
+        copies = λ c attempts ss file index source copy a next n before h.
             with_above start _ attempts (table.insert attempts copy a) (put_above attempts copy a (λ same number. let low = before.state.0 in omega (arith, low, same, next)) h.above) h;
-        records = λ c attempts chunk a b at same servers h.
+        records = λ c attempts ss chunk a b at same servers h.
             with_above start c attempts (table.insert attempts chunk b) (put_above attempts chunk b (λ key number. h.above a (ap (λ (n : ℕ). table.get attempts n) (sym key) ∙ at) (sym same ∙ number)) h.above) h;
-        grants = λ c attempts chunk a until primary members at all due n after h. granted start c attempts chunk a until primary members at due n h;
-        ends = λ c attempts chunk h. ended start c attempts chunk 0 h;
-        extends = λ c attempts chunk until row is h. sends start (core_ended c chunk until) attempts _ c.order_count refl (ended start c attempts chunk until h);
+        grants = λ c attempts ss chunk a until primary members at all due n after h. granted start c attempts chunk a until primary members at due n h;
+        ends = λ c attempts ss chunk row is word n h. ended start c attempts chunk 0 h;
+        extends = λ c attempts ss chunk until row is lasts n h. sends start (core_ended c chunk until) attempts _ c.order_count refl (ended start c attempts chunk until h);
       }
 
   -- between steps
@@ -212,9 +217,9 @@ module _ (handle version : ℕ) where
   ends_shut count sent k m d choice (Stops made) h n g =
       down_shut count sent k m (log_changed_by_all m.disk (take made d.changes)) (take 1 (drop made d.changes)) h (found_stopped (IsLogPassed handle version) m.disk d.changes made g.stops)
 
-  step_shut : (count : ℕ) (sent : List Message) (k : ℕ) (m : MasterState) (moment : ℕ) (i : Input) (choice : Choice) → IsLogged IsFoundRows IsRowedLog rows_kept m → AreShut count sent m
+  step_shut : (count : ℕ) (sent : List Message) (k : ℕ) (m : MasterState) (moment : ℕ) (i : Input) (choice : Choice) → IsLogged IsFoundRows IsRowedLog rows_kept m → WaitsHere m → AreShut count sent m
       → AreShut count (sent ++ stamped k (master_step m moment i choice).out.sent) (master_step m moment i choice).state
-  step_shut count sent k m moment i choice logged h =
+  step_shut count sent k m moment i choice logged waits h =
       let d : MasterDoing = master_goes m moment i choice.refused in
       let good : Taken MasterState → Type 0 = λ t. AreShut count (sent ++ stamped k t.out.sent) t.state in
       let low = h.few in
@@ -222,9 +227,12 @@ module _ (handle version : ℕ) where
       on_cond good m.up (master_bounded m d choice) (no_step m)
       (λ up. on_cond good (may_end d choice.ending) (master_ends m d choice choice.ending) (no_step m)
       (λ _.
-      let end = goes_acts (IsShut m.disk) m moment i choice.refused (shut_acts m.disk) logged up
+      let u : IsUpToLog IsFoundRows IsRowedLog rows_kept m = logged.up up in
+      let end =
+      goes_acts NoneEnded (IsRowing m.disk) (Shut m.disk) m moment i choice.refused (rowing_keeps m.disk) (λ c n. n) (shut_acts m.disk) (any_input i) logged up waits
+      (record { none = u.idle; disk = refl; same = u.same; tied = u.tied; stops = logged.found [] })
       (record { state = (h.up up).0; above = (h.up up).1; none = refl; disk = h.found []; stops = h.found [] }) in
-      ends_shut count sent k m d choice choice.ending h end.0 end.1)
+      ends_shut count sent k m d choice choice.ending h end.0 end.2)
       (λ _. same))
       (λ _. same)
 
@@ -276,17 +284,17 @@ module _ (handle version : ℕ) where
   -- worlds
 
   pub record StaysShut (count : ℕ) (x : Scene) : Type 0 where
-    pub base : IsOfRevokes x.sent x.master
+    pub base : IsOfWaits x.sent x.master
     pub shut : AreShut count x.sent x.master
 
   pub stays_shut : (count : ℕ) → IsKeptOn (StaysShut count)
   stays_shut count =
-      let base : IsKeptByScenes (λ x. IsOfRevokes x.sent x.master) = lifted IsOfRevokes revokes_kept in
+      let base : IsKeptByScenes (λ x. IsOfWaits x.sent x.master) = lifted IsOfWaits waits_kept in
       record {
         passes = λ x moment h. record { base = h.base; shut = h.shut };
         says = λ x k ms quiet h. record { base = base.says x k ms quiet h.base; shut = quiet_shut count x.sent ms k x.master (quiet_orders ms quiet) h.shut };
-        masters = λ x k moment i choice now is up h. record { base = base.masters x k moment i choice now is up h.base; shut = step_shut count x.sent k x.master moment i choice h.base.logged h.shut };
-        opens = λ x k moment choice now h. record { base = base.opens x k moment choice now h.base; shut = opens_shut count x.sent k x.master moment choice choice.ending h.base.issued h.base.logged h.shut };
+        masters = λ x k moment i choice now is up h. record { base = base.masters x k moment i choice now is up h.base; shut = step_shut count x.sent k x.master moment i choice h.base.base.logged h.base.waits h.shut };
+        opens = λ x k moment choice now h. record { base = base.opens x k moment choice now h.base; shut = opens_shut count x.sent k x.master moment choice choice.ending h.base.base.issued h.base.base.logged h.shut };
         serves = λ x k index moment s i choice now at is up h.
             record { base = base.serves x k index moment s i choice now at is up h.base; shut = quiet_shut count x.sent (server_step s moment i choice).out.sent k x.master (server_quiet s moment i choice) h.shut };
         restarts = λ x k index moment s choice now at h.
@@ -327,7 +335,7 @@ closed_versions_stay_closed config servers clients w r up handle row there versi
     let passed = log_passed handle version w.master.logged (state_of w.master.disk) u.same u.tied row there closed.issued in
     let start : StaysShut handle version count (scene_of w) =
     record {
-      base = h.base.sent;
+      base = sent_reached IsOfWaits waits_kept config servers clients w r;
       shut = record {
         few = omega arith;
         found = subst (λ (xs : List LogChange). AllFound (IsLogPassed handle version) w.master.disk xs) (sym u.idle) (found_same (IsLogPassed handle version) w.master.disk passed.1);

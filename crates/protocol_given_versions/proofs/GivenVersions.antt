@@ -31,21 +31,23 @@ use Rattle.protocol.specs.World.{WorldState, stamped, IsReached}
 use Rattle.protocol_laws.proofs.Steps.{on_cond, none_some, same_some, same_or_not, put_cases, gone_split, removed_cases}
 use Rattle.protocol_laws.proofs.Entries.{same_number}
 use Rattle.protocol_laws.proofs.Words.{no_order}
-use Rattle.protocol_laws.proofs.MasterMoves.{Core, core_of, core_changed, core_appended, core_ended, core_granted, grant_record, IsDue, IsNoGrantRecord, IsPlainOrder, logs_alone}
+use Rattle.protocol_laws.proofs.MasterMoves.{Core, core_of, NoneEnded, core_changed, core_appended, core_ended, core_granted, grant_record, IsDue, IsNoGrantRecord, IsPlainOrder, logs_alone}
 use Rattle.protocol_laws.proofs.MessagesSent.{IsSent, sent_before, sent_cases, none_sent, numbered_sent, step_sent}
 use Rattle.protocol_laws.proofs.MembersRecorded.{all_at}
 use Rattle.protocol_laws.proofs.ClientMoves.{HasNoOrder}
 use Rattle.protocol_laws.proofs.SentReached.{without_order, IsKeptBySent, sent_reached}
 use Rattle.protocol_laws.proofs.OrderNumbers.{state_of, state-appended, AllStops, stops_push, AllFound, found_same, found_stopped}
 use Rattle.protocol_laws.proofs.LoggedParts.{Parts}
-use Rattle.protocol_laws.proofs.NamesReached.{IsGood, IsLogged, opening_first, opening_naming}
+use Rattle.protocol_laws.proofs.NamesReached.{IsGood, IsUpToLog, IsLogged, opening_first, opening_naming}
 use Rattle.protocol_laws.proofs.RowsLogged.{IsFoundRows, IsRowedLog}
 use Rattle.protocol_laws.proofs.RowsKept.{rows_kept}
 use Rattle.protocol_laws.proofs.GrantsOnce.{row_below}
-use Rattle.protocol_laws.proofs.RevokesNumbered.{IsOfRevokes, revokes_kept, one_more}
+use Rattle.protocol_laws.proofs.RevokesNumbered.{one_more}
 use Rattle.protocol_laws.proofs.GrantedIssued.{IsIssued}
 use Rattle.protocol_acts.specs.Given.{version_given}
-use Rattle.protocol_acts.proofs.MasterActs.{IsRowing, rowing_keeps, Attempts, Acts}
+use Rattle.protocol_awaited.proofs.Awaited.{Attempts}
+use Rattle.protocol_acts.proofs.MasterActs.{IsRowing, rowing_keeps, Waits, Acts}
+use Rattle.protocol_acts.proofs.WaitsKept.{WaitsHere, any_input, IsOfWaits, waits_kept}
 use Rattle.protocol_acts.proofs.ActsOfSteps.{goes_acts}
 use Rattle.protocol_acts.proofs.IssuedNumbers.{IsPassed, IsLogPassed, passed_after, passed_grant, passed_ended, passed_less, passed_checkpoint, passed_issue, passed_copy, started_passed}
 use Rattle.protocol_given_versions.specs.Laws.{IsToOneOf, MembersAloneAreGivenAVersion, AttemptsAreGivenToTheirServers}
@@ -444,23 +446,27 @@ module _ (handle version : ℕ) where
             not_word none (inl g) = no_given m.body refl g
             not_word none (inr g) = none g.0 g.1
 
-    giving_acts : Acts start (IsGiving before start)
+    abbrev Giving : Core → Attempts → Waits → Type 0
+    Giving c attempts ss = IsGiving before start c attempts
+
+    giving_acts : Acts start NoneEnded (IsRowing start) Giving
     giving_acts =
         record {
-          tells = λ c attempts receiver b quiet h. sends c attempts _ c.order_count (unordered_no_word b (no_order b quiet)) h;
-          orders = λ c attempts server b is plain none h. sends c attempts _ (suc c.order_count) (no_word (b _) (none _) (plain _)) h;
-          gives = λ c attempts server chunk a b at has plain given h. gave c attempts server chunk a _ (suc c.order_count) refl at has (plain _) (given _) h;
-          revokes = λ c attempts chunk row is h. sends c attempts _ (suc c.order_count) (revoke_no_word _ (handle_of chunk) (version_of row.granted)) h;
-          appends = λ c attempts r due plain n after h. appended c attempts r due plain n h;
-          checkpoint = λ c attempts tree n h. checkpointed c attempts tree n h;
-          less = λ c attempts handles h. quieter c attempts (removed_all attempts handles) (copies_given_up c.logged handles) (passed_less handle version c.logged handles) (λ a is. removed_cases attempts handles handle a is) h;
-          fewer = λ c attempts left from h. fewer c attempts left (λ a is. from handle a is) h;
-          issues = λ c attempts chunk row a is next n old h. issued c attempts chunk row a is next n old h;
-          copies = λ c attempts file index source copy a next n old h. copied c attempts file index source copy a next n old h;
-          records = λ c attempts chunk a b at same servers h. recorded c attempts chunk a b at same servers h;
-          grants = λ c attempts chunk a until primary members at all due n after h. granted_to c attempts chunk a until primary members at all due n h;
-          ends = λ c attempts chunk h. ended c attempts chunk 0 h;
-          extends = λ c attempts chunk until row is h. sends (core_ended c chunk until) attempts _ c.order_count (extend_no_word (handle_of chunk) (version_of row.granted) (moment_of until)) (ended c attempts chunk until h);
+          tells = λ c attempts ss receiver b quiet h. sends c attempts _ c.order_count (unordered_no_word b (no_order b quiet)) h;
+          orders = λ c attempts ss server b is plain none h. sends c attempts _ (suc c.order_count) (no_word (b _) (none _) (plain _)) h;
+          gives = λ c attempts ss server chunk a b at has plain given h. gave c attempts server chunk a _ (suc c.order_count) refl at has (plain _) (given _) h;
+          revokes = λ c attempts ss chunk row is h. sends c attempts _ (suc c.order_count) (revoke_no_word _ (handle_of chunk) (version_of row.granted)) h;
+          appends = λ c attempts ss r due plain beside n after h. appended c attempts r due plain n h;
+          checkpoint = λ c attempts ss tree n after h. checkpointed c attempts tree n h;
+          less = λ c attempts ss handles copied n h. quieter c attempts (removed_all attempts handles) (copies_given_up c.logged handles) (passed_less handle version c.logged handles) (λ a is. removed_cases attempts handles handle a is) h;
+          fewer = λ c attempts left ss from h. fewer c attempts left (λ a is. from handle a is) h;
+          waits = λ c attempts ss more h. h;
+          issues = λ c attempts ss chunk row a is next alone n old h. issued c attempts chunk row a is next n old h;
+          copies = λ c attempts ss file index source copy a next n old h. copied c attempts file index source copy a next n old h;
+          records = λ c attempts ss chunk a b at same servers h. recorded c attempts chunk a b at same servers h;
+          grants = λ c attempts ss chunk a until primary members at all due n after h. granted_to c attempts chunk a until primary members at all due n h;
+          ends = λ c attempts ss chunk row is word n h. ended c attempts chunk 0 h;
+          extends = λ c attempts ss chunk until row is lasts n h. sends (core_ended c chunk until) attempts _ c.order_count (extend_no_word (handle_of chunk) (version_of row.granted) (moment_of until)) (ended c attempts chunk until h);
         }
       where
         revoke_no_word : (order : OrderNo) (q : Handle) (v : Version) → IsWord (body.Revoke order q v) → ⊥
@@ -528,17 +534,20 @@ module _ (handle version : ℕ) where
       down_giving sent k m (log_changed_by_all m.disk (take made d.changes)) (take 1 (drop made d.changes)) h.granted
       (λ x s word. found_stopped (IsLogPassed handle version) m.disk d.changes made (g.stops x s word))
 
-  step_giving : (sent : List Message) (k : ℕ) (m : MasterState) (moment : ℕ) (i : Input) (choice : Choice) → IsLogged IsFoundRows IsRowedLog rows_kept m → AreGiving sent m
+  step_giving : (sent : List Message) (k : ℕ) (m : MasterState) (moment : ℕ) (i : Input) (choice : Choice) → IsLogged IsFoundRows IsRowedLog rows_kept m → WaitsHere m → AreGiving sent m
       → AreGiving (sent ++ stamped k (master_step m moment i choice).out.sent) (master_step m moment i choice).state
-  step_giving sent k m moment i choice logged h =
+  step_giving sent k m moment i choice logged waits h =
       let d : MasterDoing = master_goes m moment i choice.refused in
       let good : Taken MasterState → Type 0 = λ t. AreGiving (sent ++ stamped k t.out.sent) t.state in
       let same : AreGiving (sent ++ stamped k []) m = among_giving (sent ++ stamped k []) sent m (nothing_more sent) h in
       on_cond good m.up (master_bounded m d choice) (no_step m)
       (λ up. on_cond good (may_end d choice.ending) (master_ends m d choice choice.ending) (no_step m)
       (λ _.
-      let end = goes_acts (IsGiving sent m.disk) m moment i choice.refused (giving_acts sent m.disk) logged up (begun sent m moment choice.refused up h) in
-      ends_giving sent k m d choice choice.ending h end.0 end.1)
+      let u : IsUpToLog IsFoundRows IsRowedLog rows_kept m = logged.up up in
+      let end =
+      goes_acts NoneEnded (IsRowing m.disk) (Giving sent m.disk) m moment i choice.refused (rowing_keeps m.disk) (λ c n. n) (giving_acts sent m.disk) (any_input i) logged up waits
+      (record { none = u.idle; disk = refl; same = u.same; tied = u.tied; stops = logged.found [] }) (begun sent m moment choice.refused up h) in
+      ends_giving sent k m d choice choice.ending h end.0 end.2)
       (λ _. same))
       (λ _. same)
 
@@ -601,7 +610,7 @@ module _ (handle version : ℕ) where
   -- worlds
 
   record IsGivingWorld (sent : List Message) (m : MasterState) : Type 0 where
-    base : IsOfRevokes sent m
+    base : IsOfWaits sent m
     giving : AreGiving sent m
 
   giving_kept : IsKeptBySent IsGivingWorld
@@ -609,16 +618,16 @@ module _ (handle version : ℕ) where
       record {
         new = λ config servers.
             record {
-              base = revokes_kept.new config servers;
+              base = waits_kept.new config servers;
               giving = record {
                 words = λ x s word. none_sent x s;
                 tried = λ up a is same. none_some a (sym (table.get-empty nat_cmp handle) ∙ is);
                 granted = λ x s members g. none_sent x s;
               };
             };
-        quiet = λ sent ms k m quiet h. record { base = revokes_kept.quiet sent ms k m quiet h.base; giving = among_giving (sent ++ stamped k ms) sent m (quiet_among sent ms k quiet) h.giving };
-        steps = λ sent k m moment i choice is h. record { base = revokes_kept.steps sent k m moment i choice is h.base; giving = step_giving sent k m moment i choice h.base.logged h.giving };
-        restarts = λ sent k m moment choice h. record { base = revokes_kept.restarts sent k m moment choice h.base; giving = opens_giving sent k m moment choice choice.ending h.base.issued h.base.logged h.giving };
+        quiet = λ sent ms k m quiet h. record { base = waits_kept.quiet sent ms k m quiet h.base; giving = among_giving (sent ++ stamped k ms) sent m (quiet_among sent ms k quiet) h.giving };
+        steps = λ sent k m moment i choice is h. record { base = waits_kept.steps sent k m moment i choice is h.base; giving = step_giving sent k m moment i choice h.base.base.logged h.base.waits h.giving };
+        restarts = λ sent k m moment choice h. record { base = waits_kept.restarts sent k m moment choice h.base; giving = opens_giving sent k m moment choice choice.ending h.base.base.issued h.base.base.logged h.giving };
       }
 
   pub given_reached : (config : Config) (servers clients : ℕ) (w : WorldState) → IsReached config servers clients w → AreGiving w.sent w.master

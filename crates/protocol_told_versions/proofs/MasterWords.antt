@@ -1,7 +1,9 @@
 -- What the master says in a step, and what it keeps of servers: only a tick orders a clone, and only words of servers change what is kept.
-use Rattle.std.proofs.Common.{◌≡◌, ℕ, zero, suc, ◌+◌, Bool, true, false, cond, List, [], ◌∷◌, ◌++◌, length, map, Option, Some, None, refl}
-use Rattle.std.specs.Prelude.{◌==◌, ◌&&◌, not, nat_le, nat_lt}
+use Rattle.std.proofs.Common.{◌≡◌, ℕ, zero, suc, ◌+◌, Bool, true, false, cond, List, [], ◌∷◌, ◌++◌, length, map, Option, Some, None, refl, sym, ap, ◌∙◌}
+use Rattle.std.specs.Prelude.{◌==◌, ◌&&◌, not, nat_le, nat_lt, unwrap_or}
+use Rattle.std.specs.List.{filter_map, cons_option}
 use Rattle.std.specs.FinMap as table
+use Rattle.std.proofs.lemmas.Bool.{true≢false}
 use Rattle.gfs_types.specs.declared.ids.Node.{Node}
 use Rattle.gfs_types.specs.declared.ids.Node.TheVariants as node
 use Rattle.gfs_types.specs.declared.ids.OrderNo.{OrderNo}
@@ -23,23 +25,23 @@ use Rattle.log_records.specs.declared.record.Record.{Record}
 use Rattle.log_records.specs.declared.record.Record.TheVariants as log
 use Rattle.relaxed_file.specs.NameStep.{needs_room, outcome_by}
 use Rattle.leases.specs.LeaseEnds.{has_ended}
-use Rattle.chunk_table.specs.ChunkTable.{ChunkRow, chunk_of, file_of}
+use Rattle.chunk_table.specs.ChunkTable.{ChunkRow, new_row, chunk_of, file_of}
 use Rattle.protocol.specs.Tables.{Table, element_at, rising, has_number, with_number}
 use Rattle.protocol.specs.Sending.{message, the_server, the_client, client_id, file_id, handle_of, version_of, moment_of, server_id}
 use Rattle.protocol.specs.LogSizes.{checkpoint_fits}
 use Rattle.protocol.specs.Logged.{KeptCall, checkpoint_of}
-use Rattle.protocol.specs.Master.{MasterDoing, PendingSnapshot, VersionAttempt, HeldAt, tells, orders, ends_at, with_attempt, without_attempt, without_attempts, gives_up_copies, gives_up_copy, appends, fits, writes_checkpoint, logs, logs_after_checkpoint, is_of_copy, has_lease, holders_where}
+use Rattle.protocol.specs.Master.{MasterState, MasterDoing, PendingSnapshot, VersionAttempt, HeldAt, tells, orders, ends_at, with_attempt, without_attempt, without_attempts, gives_up_copies, gives_up_copy, appends, fits, writes_checkpoint, logs, logs_after_checkpoint, is_of_copy, has_lease, held_where, holders_where, current_holders, servers_of, version_held}
 use Rattle.protocol.specs.MasterSnapshots.{revokes_row, revokes, revokes_all, takes_locks, begins_snapshot, snapshot_handles, snapshot_files, copies_for_files, reply_of, answers_name, settles_name, refuses_name, changes_names, first_is_true, all_but_first, lets_go, takes_snapshot, takes_ready, is_ready, waits_for}
 use Rattle.protocol.specs.MasterNames.{master_refusal, reply_by, takes_look, performs, names_by, is_waiting_call, names_anew, names_kept, takes_name}
-use Rattle.protocol.specs.MasterVersions.{Asker, VersionTarget, holder_target, tells_location, tells_none, tells_to_wait, version_order, sends_versions, new_attempt, sends_issued, issues_to, targets_by, recorded_holders, issues_own, is_attempted, copy_order, sends_copies, copy_targets, sends_copy_started, copies_to, begins_copy, copy_for, is_copied, wants_own, wants_own_of, issues_copy, wants_copy, wants_by, wants_primary, sends_grant, grants_to, is_complete, with_recorded, learns_attempt, learns}
+use Rattle.protocol.specs.MasterVersions.{Asker, VersionTarget, holder_target, placement, tells_location, tells_none, tells_to_wait, version_order, sends_versions, new_attempt, sends_issued, issues_to, targets_by, recorded_holders, issues_own, is_attempted, copy_order, sends_copies, copy_targets, sends_copy_started, copies_to, begins_copy, copy_for, is_copied, wants_own, wants_own_of, issues_copy, wants_copy, wants_by, wants_primary, sends_grant, grants_to, is_complete, with_recorded, learns_attempt, learns}
 use Rattle.protocol.specs.MasterAsks.{looks_at_row, looks_at, mutates_row, mutates_at, adds_chunk, with_index, asks_to_write, asks_to_append, asks_for_last, asks_for, asks_of, takes_ask}
 use Rattle.protocol.specs.MasterReports.{revoked_row, takes_revoked, is_useless, drops_useless, learns_all, may_extend, extends_row, extends_all, hears, takes_report}
 use Rattle.protocol.specs.declared.seen.Seen.TheVariants.{CopyStarted}
 use Rattle.protocol.specs.MasterStep.{expires_all}
-use Rattle.protocol_laws.proofs.Steps.{on_cond}
+use Rattle.protocol_laws.proofs.Steps.{on_cond, none_some, same_some, put_there, removed_cases}
 use Rattle.protocol_laws.proofs.Entries.{AllOf, all_joined}
 
--- what the master says at no tick
+-- what the master says at no tick; a copy by a server, which only an ask leads to, aside
 abbrev pub IsMastersWord : Body → Type 0
 IsMastersWord (body.Recorded handle version) = ⊥
 IsMastersWord (body.Cloned handle version) = ⊥
@@ -47,10 +49,44 @@ IsMastersWord (body.Report replicas leases) = ⊥
 IsMastersWord (body.CopyAsk handle version) = ⊥
 IsMastersWord (body.Image handle version serial bytes) = ⊥
 IsMastersWord (body.Clone order handle version source) = ⊥
+IsMastersWord (body.CopyLocal order handle version copy copy_version) = ⊥
 IsMastersWord other = Unit {0}
 
 abbrev pub IsMastersMessage : (Body → Type 0) → Message → Type 0
 IsMastersMessage S m = (m.sender ≡ node.Master) × S m.body
+
+-- what the master keeps of the servers of a chunk
+
+pub cond_some : {X : Type 0} (b : Bool) (x : Option X) (y : X) → cond b x None ≡ Some y → (b ≡ true) × (x ≡ Some y)
+cond_some true x y is = (refl, is)
+cond_some false x y is = none_some y is
+
+-- the server holds its version
+abbrev pub IsHeld : MasterState → ℕ → HeldAt → Type 0
+IsHeld m handle h = version_held m handle h.server ≡ Some h.version
+
+held_one : (m : MasterState) (handle : ℕ) (test : ℕ → Bool) (server : ℕ) (o : Option ℕ) → version_held m handle server ≡ o → (h : HeldAt) → held_where test server o ≡ Some h → IsHeld m handle h
+held_one m handle test server None is h there = none_some h there
+held_one m handle test server (Some version) is h there =
+    let made = cond_some (test version) (Some (record { server = server; version = version })) h there in
+    let same = same_some (record { server = server; version = version }) h made.1 in
+    ap (λ (x : HeldAt). version_held m handle x.server) (sym same) ∙ is ∙ ap (λ (x : HeldAt). Some x.version) same
+
+held_cons : (m : MasterState) (handle : ℕ) (o : Option HeldAt) (rest : List HeldAt) → ((h : HeldAt) → o ≡ Some h → IsHeld m handle h) → AllOf (IsHeld m handle) rest → AllOf (IsHeld m handle) (cons_option o rest)
+held_cons m handle None rest one all = all
+held_cons m handle (Some h) rest one all = (one h refl, all)
+
+pub held_in : (m : MasterState) (handle : ℕ) (test : ℕ → Bool) (servers : List ℕ) → AllOf (IsHeld m handle) (filter_map (λ s. held_where test s (version_held m handle s)) servers)
+held_in m handle test [] = tt
+held_in m handle test (s ∷ servers) =
+    held_cons m handle (held_where test s (version_held m handle s)) (filter_map (λ x. held_where test x (version_held m handle x)) servers) (λ h is. held_one m handle test s (version_held m handle s) refl h is)
+    (held_in m handle test servers)
+
+-- what is said of each copy by a server: of a chunk of which K holds, and of the version that is kept of the server
+abbrev pub AreCopiesSaid : (Table (Table ℕ) → Type 0) → (Body → Type 0) → (ℕ → Type 0) → Type 0
+AreCopiesSaid H S K =
+    (holders : Table (Table ℕ)) → H holders → (handle version server : ℕ) → K handle → table.get (unwrap_or (table.get holders server) table.empty) handle ≡ Some version
+    → (order : OrderNo) (copy number : ℕ) → S (body.CopyLocal order (handle_of handle) (version_of version) (handle_of copy) (version_of number))
 
 -- H of what is kept of servers, S of each word that is said
 module _ (H : Table (Table ℕ) → Type 0) (S : Body → Type 0) where
@@ -171,10 +207,6 @@ module _ (H : Table (Table ℕ) → Type 0) (S : Body → Type 0) where
     version_said handle version None order = all _ tt
     version_said handle version (Some base) order = all _ tt
 
-    copy_said : (handle copy version : ℕ) (base : Option ℕ) (order : OrderNo) → S (copy_order handle copy version base order)
-    copy_said handle copy version None order = all _ tt
-    copy_said handle copy version (Some held) order = all _ tt
-
     versions_words : (d : MasterDoing) (handle version : ℕ) (targets : List VersionTarget) → Words d → Words (sends_versions d handle version targets)
     versions_words d handle version [] h = h
     versions_words d handle version (t ∷ rest) h =
@@ -193,52 +225,6 @@ module _ (H : Table (Table ℕ) → Type 0) (S : Body → Type 0) where
     own_words : (d : MasterDoing) (a : Asker) (handle : ℕ) (row : ChunkRow) (b : Bool) → Words d → Words (issues_own d a handle row b)
     own_words d a handle row true h = wait_words d a h
     own_words d a handle row false h = issues_words d a handle row handle row (targets_by d.master handle row (recorded_holders d.master handle row)) h
-
-    copies_sent : (d : MasterDoing) (handle copy version : ℕ) (targets : List VersionTarget) → Words d → Words (sends_copies d handle copy version targets)
-    copies_sent d handle copy version [] h = h
-    copies_sent d handle copy version (t ∷ rest) h =
-        copies_sent (orders d t.server (copy_order handle copy version t.base)) handle copy version rest (orders_words d t.server (copy_order handle copy version t.base) (copy_said handle copy version t.base) h)
-
-    started_words : (d : MasterDoing) (a : Asker) (handle copy version : ℕ) (targets : List VersionTarget) → Words d → Words (sends_copy_started d a handle copy version targets)
-    started_words d a handle copy version targets h =
-        let seen : MasterDoing = record d { seen = d.seen ++ CopyStarted (handle_of handle) (handle_of copy) ∷ [] } in
-        let begun : MasterDoing = with_attempt seen copy (new_attempt d.master version targets) in
-        wait_words (sends_copies begun handle copy version targets) a (copies_sent begun handle copy version targets h)
-
-    copies_words : (d : MasterDoing) (a : Asker) (handle : ℕ) (row : ChunkRow) (targets : List VersionTarget) → Words d → Words (copies_to d a handle row targets)
-    copies_words d a handle row [] h = location_words d a handle row [] h
-    copies_words d a handle row (t ∷ rest) h =
-        let copy : ℕ = d.master.logged.next_handle in
-        logs_words d (log.CopyStart (file_id a.file) a.index (handle_of handle) (handle_of copy) (version_of (suc row.issued))) (λ e. sends_copy_started e a handle copy (suc row.issued) (t ∷ rest))
-        (λ e g. started_words e a handle copy (suc row.issued) (t ∷ rest) g) h
-
-    wants_own_words : (d : MasterDoing) (a : Asker) (handle : ℕ) (row : ChunkRow) → Words d → Words (wants_own d a handle row)
-    wants_own_words d a handle row h =
-        on_cond Words (nat_lt 1 row.references) (begins_copy d a handle row) _ (λ _. copies_words d a handle row (copy_targets d.master handle row) h)
-        (λ _. on_cond Words (is_copied d.master.logged handle) (tells_to_wait d a) (issues_own d a handle row (is_attempted d.master handle)) (λ _. wait_words d a h) (λ _. own_words d a handle row (is_attempted d.master handle) h))
-
-    wants_own_of_words : (d : MasterDoing) (a : Asker) (handle : ℕ) (o : Option ChunkRow) → Words d → Words (wants_own_of d a handle o)
-    wants_own_of_words d a handle None h = h
-    wants_own_of_words d a handle (Some row) h = wants_own_words d a handle row h
-
-    issues_copy_words : (d : MasterDoing) (a : Asker) (handle : ℕ) (row : ChunkRow) (copy : ℕ) (copy_row : ChunkRow) (holders : List HeldAt) → Words d → Words (issues_copy d a handle row copy copy_row holders)
-    issues_copy_words d a handle row copy copy_row [] h = wants_own_of_words (gives_up_copy d copy) a handle (chunk_of (gives_up_copy d copy).master.logged.table handle) h
-    issues_copy_words d a handle row copy copy_row (x ∷ rest) h = issues_words d a handle row copy copy_row (map holder_target (x ∷ rest)) h
-
-    wants_copy_words : (d : MasterDoing) (a : Asker) (handle : ℕ) (row : ChunkRow) (copy : ℕ) (o : Option ChunkRow) → Words d → Words (wants_copy d a handle row copy o)
-    wants_copy_words d a handle row copy None h = wants_own_words d a handle row h
-    wants_copy_words d a handle row copy (Some copy_row) h =
-        let holders : List HeldAt = holders_where d.master copy (λ v. v == copy_row.issued) in
-        on_cond Words (is_attempted d.master copy) (tells_to_wait d a) (issues_copy d a handle row copy copy_row holders) (λ _. wait_words d a h) (λ _. issues_copy_words d a handle row copy copy_row holders h)
-
-    wants_by_words : (d : MasterDoing) (a : Asker) (handle : ℕ) (row : ChunkRow) (o : Option ℕ) → Words d → Words (wants_by d a handle row o)
-    wants_by_words d a handle row None h = wants_own_words d a handle row h
-    wants_by_words d a handle row (Some copy) h = wants_copy_words d a handle row copy (chunk_of d.master.logged.table copy) h
-
-    wants_words : (d : MasterDoing) (a : Asker) (handle : ℕ) (row : ChunkRow) → Words d → Words (wants_primary d a handle row)
-    wants_words d a handle row h =
-        on_cond Words (waits_for d.master handle) (tells_to_wait d a) (wants_by d a handle row (copy_for d.master.logged a.file a.index)) (λ _. wait_words d a h)
-        (λ _. wants_by_words d a handle row (copy_for d.master.logged a.file a.index) h)
 
     -- grants
 
@@ -264,62 +250,145 @@ module _ (H : Table (Table ℕ) → Type 0) (S : Body → Type 0) where
     pub learns_words : (d : MasterDoing) (server handle version : ℕ) → Words d → Words (learns d server handle version)
     learns_words d server handle version h = learn_words d server handle version (chunk_of d.master.logged.table handle) (table.get d.master.attempts handle) h
 
-    -- asks
+    -- copies and asks: K holds of a chunk with several owners, of which a server copies the version that it holds
+    module _ (K : ℕ → Type 0) (source : AreCopiesSaid H S K) where
+      -- of a chunk with several owners
+      abbrev pub IsKnown : MasterDoing → ℕ → Type 0
+      IsKnown d handle = (row : ChunkRow) → chunk_of d.master.logged.table handle ≡ Some row → nat_lt 1 row.references ≡ true → K handle
 
-    look_row_words : (d : MasterDoing) (a : Asker) (handle : ℕ) (o : Option ChunkRow) → Words d → Words (looks_at_row d a handle o)
-    look_row_words d a handle None h = h
-    look_row_words d a handle (Some row) h = location_words d a handle row _ h
+      abbrev AreSaid : ℕ → ℕ → ℕ → List VersionTarget → Type 0
+      AreSaid handle copy version targets = AllOf (λ t. (order : OrderNo) → S (copy_order handle copy version t.base order)) targets
 
-    look_at_words : (d : MasterDoing) (a : Asker) (o : Option ℕ) → Words d → Words (looks_at d a o)
-    look_at_words d a None h = none_words d a h
-    look_at_words d a (Some handle) h = look_row_words d a handle (chunk_of d.master.logged.table handle) h
+      held_said : (m : MasterState) (handle copy version : ℕ) → K handle → H m.holders → (hs : List HeldAt) → AllOf (IsHeld m handle) hs → AreSaid handle copy version (map holder_target hs)
+      held_said m handle copy version k h [] each = tt
+      held_said m handle copy version k h (x ∷ hs) each = (λ order. source m.holders h handle x.version x.server k each.0 order copy version, held_said m handle copy version k h hs each.1)
 
-    lost_words : (d : MasterDoing) (lost : Bool) (handle : ℕ) → Words d → Words (cond lost (revokes d handle) d)
-    lost_words d lost handle h = on_cond Words lost (revokes d handle) d (λ _. revoke_row_words d handle (chunk_of d.master.logged.table handle) h) (λ _. h)
+      placed_said : (handle copy version : ℕ) (ns : List ℕ) → AreSaid handle copy version (map (λ s. record { server = s; base = None }) ns)
+      placed_said handle copy version [] = tt
+      placed_said handle copy version (n ∷ ns) = (λ order. all (body.Create order (handle_of copy) (version_of version)) tt, placed_said handle copy version ns)
 
-    mutate_row_words : (d : MasterDoing) (a : Asker) (lost : Bool) (handle : ℕ) (o : Option ChunkRow) → Words d → Words (mutates_row d a lost handle o)
-    mutate_row_words d a lost handle None h = h
-    mutate_row_words d a lost handle (Some row) h =
-        on_cond Words (has_ended row d.master.now) (wants_primary d a handle row) _ (λ _. wants_words d a handle row h) (λ _. location_words (cond lost (revokes d handle) d) a handle row _ (lost_words d lost handle h))
+      targets_said : (m : MasterState) (handle copy version : ℕ) (row : ChunkRow) → K handle → H m.holders → AreSaid handle copy version (copy_targets m handle row)
+      targets_said m handle copy version row k h =
+          on_cond (AreSaid handle copy version) (nat_lt 0 row.granted) (map holder_target (current_holders m handle row)) (map (λ s. record { server = s; base = None }) (placement m))
+          (λ _. held_said m handle copy version k h (current_holders m handle row) (held_in m handle (λ v. nat_le row.granted v) (servers_of m))) (λ _. placed_said handle copy version (placement m))
 
-    mutate_at_words : (d : MasterDoing) (a : Asker) (lost : Bool) (o : Option ℕ) → Words d → Words (mutates_at d a lost o)
-    mutate_at_words d a lost None h = h
-    mutate_at_words d a lost (Some handle) h = mutate_row_words d a lost handle (chunk_of d.master.logged.table handle) h
+      copies_sent : (d : MasterDoing) (handle copy version : ℕ) (targets : List VersionTarget) → AreSaid handle copy version targets → Words d → Words (sends_copies d handle copy version targets)
+      copies_sent d handle copy version [] said h = h
+      copies_sent d handle copy version (t ∷ rest) said h =
+          copies_sent (orders d t.server (copy_order handle copy version t.base)) handle copy version rest said.1 (orders_words d t.server (copy_order handle copy version t.base) said.0 h)
 
-    add_words : (d : MasterDoing) (a : Asker) (lost : Bool) → Words d → Words (adds_chunk d a lost)
-    add_words d a lost h =
-        let handle : ℕ = d.master.logged.next_handle in
-        logs_words d (log.AddChunk (file_id a.file) (handle_of handle)) (λ e. mutates_at e a lost (Some handle)) (λ e g. mutate_at_words e a lost (Some handle) g) h
+      started_words : (d : MasterDoing) (a : Asker) (handle copy version : ℕ) (targets : List VersionTarget) → AreSaid handle copy version targets → Words d → Words (sends_copy_started d a handle copy version targets)
+      started_words d a handle copy version targets said h =
+          let seen : MasterDoing = record d { seen = d.seen ++ CopyStarted (handle_of handle) (handle_of copy) ∷ [] } in
+          let begun : MasterDoing = with_attempt seen copy (new_attempt d.master version targets) in
+          wait_words (sends_copies begun handle copy version targets) a (copies_sent begun handle copy version targets said h)
 
-    write_words : (d : MasterDoing) (a : Asker) (lost : Bool) (handles : List ℕ) (index : ℕ) → Words d → Words (asks_to_write d a lost handles index)
-    write_words d a lost handles index h =
-        on_cond Words (nat_lt (length handles) index) (tells d a.client (body.Refused a.number TooLong)) _ (λ _. tells_words d a.client (body.Refused a.number TooLong) (all _ tt) h)
-        (λ _. on_cond Words (index == length handles) (adds_chunk d (with_index a index) lost) (mutates_at d (with_index a index) lost (element_at handles index)) (λ _. add_words d (with_index a index) lost h)
-        (λ _. mutate_at_words d (with_index a index) lost (element_at handles index) h))
+      copies_words : (d : MasterDoing) (a : Asker) (handle : ℕ) (row : ChunkRow) (targets : List VersionTarget) → AreSaid handle d.master.logged.next_handle (suc row.issued) targets → Words d → Words (copies_to d a handle row targets)
+      copies_words d a handle row [] said h = location_words d a handle row [] h
+      copies_words d a handle row (t ∷ rest) said h =
+          let copy : ℕ = d.master.logged.next_handle in
+          logs_words d (log.CopyStart (file_id a.file) a.index (handle_of handle) (handle_of copy) (version_of (suc row.issued))) (λ e. sends_copy_started e a handle copy (suc row.issued) (t ∷ rest))
+          (λ e g. started_words e a handle copy (suc row.issued) (t ∷ rest) said g) h
 
-    append_words : (d : MasterDoing) (a : Asker) (lost : Bool) (handles : List ℕ) (after n : ℕ) → Words d → Words (asks_to_append d a lost handles after n)
-    append_words d a lost handles after zero h = add_words d (with_index a 0) lost h
-    append_words d a lost handles after (suc last) h =
-        on_cond Words (nat_lt last after) (adds_chunk d (with_index a (suc last)) lost) (mutates_at d (with_index a last) lost (element_at handles last)) (λ _. add_words d (with_index a (suc last)) lost h)
-        (λ _. mutate_at_words d (with_index a last) lost (element_at handles last) h)
+      wants_own_words : (d : MasterDoing) (a : Asker) (handle : ℕ) (row : ChunkRow) → chunk_of d.master.logged.table handle ≡ Some row → IsKnown d handle → Words d → Words (wants_own d a handle row)
+      wants_own_words d a handle row is known h =
+          on_cond Words (nat_lt 1 row.references) (begins_copy d a handle row) _
+          (λ more. copies_words d a handle row (copy_targets d.master handle row) (targets_said d.master handle d.master.logged.next_handle (suc row.issued) row (known row is more) h.0) h)
+          (λ _. on_cond Words (is_copied d.master.logged handle) (tells_to_wait d a) (issues_own d a handle row (is_attempted d.master handle)) (λ _. wait_words d a h) (λ _. own_words d a handle row (is_attempted d.master handle) h))
 
-    last_words : (d : MasterDoing) (a : Asker) (handles : List ℕ) (n : ℕ) → Words d → Words (asks_for_last d a handles n)
-    last_words d a handles zero h = none_words d a h
-    last_words d a handles (suc last) h = look_at_words d (with_index a last) (element_at handles last) h
+      wants_own_of_words : (d : MasterDoing) (a : Asker) (handle : ℕ) (o : Option ChunkRow) → chunk_of d.master.logged.table handle ≡ o → IsKnown d handle → Words d → Words (wants_own_of d a handle o)
+      wants_own_of_words d a handle None is known h = h
+      wants_own_of_words d a handle (Some row) is known h = wants_own_words d a handle row is known h
 
-    for_words : (d : MasterDoing) (a : Asker) (lost : Bool) (w : Wanted) (handles : List ℕ) → Words d → Words (asks_for d a lost w handles)
-    for_words d a lost (wanted.Read index) handles h = look_at_words d (with_index a index) (element_at handles index) h
-    for_words d a lost (wanted.Write index) handles h = write_words d a lost handles index h
-    for_words d a lost (wanted.Append after) handles h = append_words d a lost handles after (length handles) h
-    for_words d a lost wanted.Last handles h = last_words d a handles (length handles) h
+      issues_copy_words : (d : MasterDoing) (a : Asker) (handle : ℕ) (row : ChunkRow) (copy : ℕ) (copy_row : ChunkRow) (holders : List HeldAt) → IsKnown d handle → Words d → Words (issues_copy d a handle row copy copy_row holders)
+      issues_copy_words d a handle row copy copy_row [] known h =
+          wants_own_of_words (gives_up_copy d copy) a handle (chunk_of (gives_up_copy d copy).master.logged.table handle) refl (λ r there more. known r (removed_cases d.master.logged.table.chunks (copy ∷ []) handle r there) more) h
+      issues_copy_words d a handle row copy copy_row (x ∷ rest) known h = issues_words d a handle row copy copy_row (map holder_target (x ∷ rest)) h
 
-    of_words : (d : MasterDoing) (a : Asker) (lost : Bool) (w : Wanted) (o : Option (List ℕ)) → Words d → Words (asks_of d a lost w o)
-    of_words d a lost w None h = tells_words d a.client (body.Refused a.number Collected) (all _ tt) h
-    of_words d a lost w (Some handles) h = for_words d a lost w handles h
+      wants_copy_words : (d : MasterDoing) (a : Asker) (handle : ℕ) (row : ChunkRow) (copy : ℕ) (o : Option ChunkRow) → chunk_of d.master.logged.table handle ≡ Some row → IsKnown d handle → Words d → Words (wants_copy d a handle row copy o)
+      wants_copy_words d a handle row copy None is known h = wants_own_words d a handle row is known h
+      wants_copy_words d a handle row copy (Some copy_row) is known h =
+          let holders : List HeldAt = holders_where d.master copy (λ v. v == copy_row.issued) in
+          on_cond Words (is_attempted d.master copy) (tells_to_wait d a) (issues_copy d a handle row copy copy_row holders) (λ _. wait_words d a h) (λ _. issues_copy_words d a handle row copy copy_row holders known h)
 
-    pub ask_words : (d : MasterDoing) (client : Node) (number file : ℕ) (w : Wanted) (deadline : ℕ) (lost : Bool) → Words d → Words (takes_ask d client number file w deadline lost)
-    ask_words d client number file w deadline lost h =
-        on_cond Words (nat_le deadline d.master.now) d _ (λ _. h) (λ _. of_words d (record { client = client; number = number; file = file; index = 0 }) lost w (file_of d.master.logged.table file) h)
+      wants_by_words : (d : MasterDoing) (a : Asker) (handle : ℕ) (row : ChunkRow) (o : Option ℕ) → chunk_of d.master.logged.table handle ≡ Some row → IsKnown d handle → Words d → Words (wants_by d a handle row o)
+      wants_by_words d a handle row None is known h = wants_own_words d a handle row is known h
+      wants_by_words d a handle row (Some copy) is known h = wants_copy_words d a handle row copy (chunk_of d.master.logged.table copy) is known h
+
+      wants_words : (d : MasterDoing) (a : Asker) (handle : ℕ) (row : ChunkRow) → chunk_of d.master.logged.table handle ≡ Some row → IsKnown d handle → Words d → Words (wants_primary d a handle row)
+      wants_words d a handle row is known h =
+          on_cond Words (waits_for d.master handle) (tells_to_wait d a) (wants_by d a handle row (copy_for d.master.logged a.file a.index)) (λ _. wait_words d a h)
+          (λ _. wants_by_words d a handle row (copy_for d.master.logged a.file a.index) is known h)
+
+      -- asks
+
+      look_row_words : (d : MasterDoing) (a : Asker) (handle : ℕ) (o : Option ChunkRow) → Words d → Words (looks_at_row d a handle o)
+      look_row_words d a handle None h = h
+      look_row_words d a handle (Some row) h = location_words d a handle row _ h
+
+      look_at_words : (d : MasterDoing) (a : Asker) (o : Option ℕ) → Words d → Words (looks_at d a o)
+      look_at_words d a None h = none_words d a h
+      look_at_words d a (Some handle) h = look_row_words d a handle (chunk_of d.master.logged.table handle) h
+
+      lost_words : (d : MasterDoing) (lost : Bool) (handle : ℕ) → Words d → Words (cond lost (revokes d handle) d)
+      lost_words d lost handle h = on_cond Words lost (revokes d handle) d (λ _. revoke_row_words d handle (chunk_of d.master.logged.table handle) h) (λ _. h)
+
+      mutate_row_words : (d : MasterDoing) (a : Asker) (lost : Bool) (handle : ℕ) (o : Option ChunkRow) → chunk_of d.master.logged.table handle ≡ o → IsKnown d handle → Words d → Words (mutates_row d a lost handle o)
+      mutate_row_words d a lost handle None is known h = h
+      mutate_row_words d a lost handle (Some row) is known h =
+          on_cond Words (has_ended row d.master.now) (wants_primary d a handle row) _ (λ _. wants_words d a handle row is known h) (λ _. location_words (cond lost (revokes d handle) d) a handle row _ (lost_words d lost handle h))
+
+      mutate_at_words : (d : MasterDoing) (a : Asker) (lost : Bool) (o : Option ℕ) → ((handle : ℕ) → o ≡ Some handle → IsKnown d handle) → Words d → Words (mutates_at d a lost o)
+      mutate_at_words d a lost None known h = h
+      mutate_at_words d a lost (Some handle) known h = mutate_row_words d a lost handle (chunk_of d.master.logged.table handle) refl (known handle refl) h
+
+      -- a chunk that was just added has one owner
+      new_known : (e : MasterDoing) (file handle other : ℕ) → ◌≡◌ {A = Option ℕ} (Some handle) (Some other) → IsKnown (appends e (log.AddChunk (file_id file) (handle_of handle))) other
+      new_known e file handle other same row there more =
+          let new : ChunkRow = record new_row { references = 1 } in
+          let is : new ≡ row = same_some new row (sym (put_there e.master.logged.table.chunks handle new other (sym (same_some handle other same))) ∙ there) in
+          absurd (true≢false (sym more ∙ ap (λ (r : ChunkRow). nat_lt 1 r.references) (sym is)))
+
+      add_words : (d : MasterDoing) (a : Asker) (lost : Bool) → Words d → Words (adds_chunk d a lost)
+      add_words d a lost h =
+          let handle : ℕ = d.master.logged.next_handle in
+          let r : Record = log.AddChunk (file_id a.file) (handle_of handle) in
+          let then_ : MasterDoing → MasterDoing = λ e. mutates_at e a lost (Some handle) in
+          let was : Bool = is_of_copy d.master.logged r in
+          let b : MasterDoing = writes_checkpoint d in
+          on_cond Words (fits d r) (then_ (appends d r)) _ (λ _. mutate_at_words (appends d r) a lost (Some handle) (new_known d a.file handle) h)
+          (λ _. on_cond Words (checkpoint_fits d.master.config.log_bytes (checkpoint_of d.master.logged)) (logs_after_checkpoint b r was then_) d
+          (λ _. on_cond Words (fits b r && not was) (then_ (appends b r)) b (λ _. mutate_at_words (appends b r) a lost (Some handle) (new_known b a.file handle) h) (λ _. h)) (λ _. h))
+
+      write_words : (d : MasterDoing) (a : Asker) (lost : Bool) (handles : List ℕ) (index : ℕ) → ((handle : ℕ) → IsKnown d handle) → Words d → Words (asks_to_write d a lost handles index)
+      write_words d a lost handles index known h =
+          on_cond Words (nat_lt (length handles) index) (tells d a.client (body.Refused a.number TooLong)) _ (λ _. tells_words d a.client (body.Refused a.number TooLong) (all _ tt) h)
+          (λ _. on_cond Words (index == length handles) (adds_chunk d (with_index a index) lost) (mutates_at d (with_index a index) lost (element_at handles index)) (λ _. add_words d (with_index a index) lost h)
+          (λ _. mutate_at_words d (with_index a index) lost (element_at handles index) (λ q is. known q) h))
+
+      append_words : (d : MasterDoing) (a : Asker) (lost : Bool) (handles : List ℕ) (after n : ℕ) → ((handle : ℕ) → IsKnown d handle) → Words d → Words (asks_to_append d a lost handles after n)
+      append_words d a lost handles after zero known h = add_words d (with_index a 0) lost h
+      append_words d a lost handles after (suc last) known h =
+          on_cond Words (nat_lt last after) (adds_chunk d (with_index a (suc last)) lost) (mutates_at d (with_index a last) lost (element_at handles last)) (λ _. add_words d (with_index a (suc last)) lost h)
+          (λ _. mutate_at_words d (with_index a last) lost (element_at handles last) (λ q is. known q) h)
+
+      last_words : (d : MasterDoing) (a : Asker) (handles : List ℕ) (n : ℕ) → Words d → Words (asks_for_last d a handles n)
+      last_words d a handles zero h = none_words d a h
+      last_words d a handles (suc last) h = look_at_words d (with_index a last) (element_at handles last) h
+
+      for_words : (d : MasterDoing) (a : Asker) (lost : Bool) (w : Wanted) (handles : List ℕ) → ((handle : ℕ) → IsKnown d handle) → Words d → Words (asks_for d a lost w handles)
+      for_words d a lost (wanted.Read index) handles known h = look_at_words d (with_index a index) (element_at handles index) h
+      for_words d a lost (wanted.Write index) handles known h = write_words d a lost handles index known h
+      for_words d a lost (wanted.Append after) handles known h = append_words d a lost handles after (length handles) known h
+      for_words d a lost wanted.Last handles known h = last_words d a handles (length handles) h
+
+      of_words : (d : MasterDoing) (a : Asker) (lost : Bool) (w : Wanted) (o : Option (List ℕ)) → ((handle : ℕ) → IsKnown d handle) → Words d → Words (asks_of d a lost w o)
+      of_words d a lost w None known h = tells_words d a.client (body.Refused a.number Collected) (all _ tt) h
+      of_words d a lost w (Some handles) known h = for_words d a lost w handles known h
+
+      pub ask_words : (d : MasterDoing) (client : Node) (number file : ℕ) (w : Wanted) (deadline : ℕ) (lost : Bool) → ((handle : ℕ) → IsKnown d handle) → Words d → Words (takes_ask d client number file w deadline lost)
+      ask_words d client number file w deadline lost known h =
+          on_cond Words (nat_le deadline d.master.now) d _ (λ _. h) (λ _. of_words d (record { client = client; number = number; file = file; index = 0 }) lost w (file_of d.master.logged.table file) known h)
 
     -- words of servers
 

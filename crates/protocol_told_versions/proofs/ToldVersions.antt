@@ -108,6 +108,9 @@ all_held sent holders server lines ordered h =
 
 -- the master
 
+abbrev Anything : ℕ → Type 0
+Anything handle = Unit {0}
+
 said_by_master : (b : Body) → IsMastersWord b → IsOthersWord b
 said_by_master (body.Recorded handle version) h = h
 said_by_master (body.Cloned handle version) h = h
@@ -123,7 +126,7 @@ module _ (sent : List Message) where
   takes_good : (d : MasterDoing) (m : Message) (b : Body) → IsTrueFrom sent m.sender b → Good d → Good (master_takes d m b)
   takes_good d m (body.Name number deadline c) is h = name_words (AreHeld sent) IsOthersWord said_by_master d (client_number m.sender) number deadline.0 c h
   takes_good d m (body.Look number c) is h = look_words (AreHeld sent) IsOthersWord said_by_master d m.sender number c h
-  takes_good d m (body.Ask number file w deadline lost) is h = ask_words (AreHeld sent) IsOthersWord said_by_master d m.sender number file.0 w deadline.0 lost h
+  takes_good d m (body.Ask number file w deadline lost) is h = ask_words (AreHeld sent) IsOthersWord said_by_master Anything (λ holders held handle v server k at order copy n. tt) d m.sender number file.0 w deadline.0 lost (λ handle row at more. tt) h
   takes_good d m (body.Recorded handle version) is h =
       learns_words (AreHeld sent) IsOthersWord said_by_master (holds_now d (server_number m.sender) handle.0 version.0) (server_number m.sender) handle.0 version.0
       (one_held sent d.master (server_number m.sender) handle.0 version.0 (recorded_true sent m.sender handle version is) h.0, h.1)

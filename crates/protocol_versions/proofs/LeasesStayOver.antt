@@ -209,7 +209,7 @@ module _ (handle version count : ℕ) where
   granting_it m = is_grant handle version m.body
 
   -- at each server
-  abbrev AreOverAt : List Message → ℕ → List ServerState → Type 0
+  abbrev pub AreOverAt : List Message → ℕ → List ServerState → Type 0
   AreOverAt sent greatest servers = (index : ℕ) (s : ServerState) → element_at servers index ≡ Some s → IsOverAt sent greatest (suc index) handle version s.disk s.leases
 
   -- as long as no more than these Grants of the version are sent
@@ -219,7 +219,7 @@ module _ (handle version count : ℕ) where
     pub some : count ≤ grants_of handle version x.sent
     pub over : IsTrue x.are_clocks_kept → grants_of handle version x.sent ≤ count → AreOverAt x.sent x.greatest x.servers
 
-  over_sent : (sent more : List Message) (greatest n : ℕ) (d : ServerDisk) (leases : Table SerialOrder) → count ≤ grants_of handle version sent → grants_of handle version (sent ++ more) ≤ count
+  pub over_sent : (sent more : List Message) (greatest n : ℕ) (d : ServerDisk) (leases : Table SerialOrder) → count ≤ grants_of handle version sent → grants_of handle version (sent ++ more) ≤ count
       → IsOverAt sent greatest n handle version d leases → IsOverAt (sent ++ more) greatest n handle version d leases
   over_sent sent more greatest n d leases some few h =
       record {
@@ -244,7 +244,7 @@ module _ (handle version count : ℕ) where
   late_at : (x : Scene) (moment index : ℕ) (s : ServerState) → AreSet x → IsNow x moment → element_at x.servers index ≡ Some s → IsTrue x.are_clocks_kept → x.greatest ≤ moment + s.config.skew_ms
   late_at x moment index s set now at clocks = let skew = ap (λ (c : Config). c.skew_ms) (set index s at) in let late = now.kept clocks in omega (arith, skew, late)
 
-  stays_over : IsKeptOn StayOver
+  pub stays_over : IsKeptOn StayOver
   stays_over =
       let tells = kept_on AreTold told_kept in
       let sets = kept_on AreSet settings_kept in
@@ -332,7 +332,7 @@ reached_later config servers clients w steps r =
 
 -- as the law says it
 
-over_to : (w : WorldState) (handle version : ℕ) → IsLeaseOver w handle version → AreOverAt handle version 0 w.sent w.observer.greatest w.servers
+pub over_to : (w : WorldState) (handle version : ℕ) → IsLeaseOver w handle version → AreOverAt handle version 0 w.sent w.observer.greatest w.servers
 over_to w handle version h index s at =
     record {
       held = λ p is same.
@@ -347,7 +347,7 @@ over_to w handle version h index s at =
           ];
     }
 
-over_of : (w : WorldState) (handle version : ℕ) → AreOverAt handle version 0 w.sent w.observer.greatest w.servers → IsLeaseOver w handle version
+pub over_of : (w : WorldState) (handle version : ℕ) → AreOverAt handle version 0 w.sent w.observer.greatest w.servers → IsLeaseOver w handle version
 over_of w handle version h =
     record {
       held = λ index p holds same. let low = (h index holds.0 holds.1).held p holds.2 same in let lasts = holds.3 in omega (arith, low, lasts);

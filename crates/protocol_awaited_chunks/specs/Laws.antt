@@ -1,5 +1,5 @@
 -- Laws of the snapshots that wait at the master, in every lawful list of events, restarts, losses and repeats included, that public functions of this crate state.
-use Rattle.std.specs.Prelude.{◌≡◌, ℕ, List, None, IsTrue}
+use Rattle.std.specs.Prelude.{◌≡◌, ℕ, None, IsTrue}
 use Rattle.std.specs.List.{AllByRecursion}
 use Rattle.std.specs.FinMap as table
 use Rattle.gfs_types.specs.declared.config.Config.{Config}

@@ -2,7 +2,7 @@
 use Rattle.std.proofs.Common.{◌≡◌, ◌⊎◌, ℕ, zero, suc, ◌+◌, ◌≤◌, ◌<◌, Bool, true, false, List, [], ◌∷◌, ◌++◌, Option, Some, None, refl, sym, ap, subst, ◌∙◌, inl, inr, arith}
 use Rattle.std.specs.Prelude.{◌==◌, ◌&&◌, unwrap_or}
 use Rattle.std.specs.FinMap as table
-use Rattle.std.proofs.lemmas.Bool.{true≢false, and_parts, eqb-true}
+use Rattle.std.proofs.lemmas.Bool.{true≢false, eqb-true}
 use Rattle.gfs_types.specs.Paths.{Path, is_at_or_below}
 use Rattle.gfs_types.specs.declared.ids.Node.TheVariants as node
 use Rattle.messages.specs.declared.message.Body.{Body}
@@ -10,35 +10,33 @@ use Rattle.messages.specs.declared.message.Body.TheVariants as body
 use Rattle.messages.specs.declared.message.Message.{Message}
 use Rattle.log_records.specs.declared.record.Record.{Record}
 use Rattle.log_records.specs.declared.record.Record.TheVariants as log
-use Rattle.relaxed_file.specs.Names.{Names, Node, Dir, File, node_at, copied_entries, id_after}
+use Rattle.relaxed_file.specs.Names.{Node, Dir, File, node_at, copied_entries, id_after}
 use Rattle.relaxed_file.proofs.NamesTree.{HasAt, copied_of, entry_is}
-use Rattle.protocol.specs.Tables.{Table, removed_all, with_at}
+use Rattle.protocol.specs.Tables.{removed_all, with_at}
 use Rattle.protocol.specs.Sending.{message, the_server, handle_of, version_of, moment_of, order_number}
-use Rattle.chunk_table.specs.ChunkTable.{ChunkRow, ChunkTable, new_row, chunk_of, handles_of, row_granted, grant}
-use Rattle.protocol.specs.Logged.{Logged, Copy, LogDisk, LogChange, AppendRecord, WriteCheckpoint, log_changed, log_changed_by_all, after_record, checkpoint_of, copies_for_file, copies_given_up, all_copies_given_up, swapped_in, with_copied_node, with_copied_nodes}
+use Rattle.chunk_table.specs.ChunkTable.{ChunkRow, ChunkTable, new_row, chunk_of, handles_of, row_granted}
+use Rattle.protocol.specs.Logged.{Logged, Copy, LogDisk, LogChange, AppendRecord, WriteCheckpoint, log_changed, after_record, checkpoint_of, copies_given_up, all_copies_given_up, swapped_in, with_copied_node, with_copied_nodes}
 use Rattle.protocol.specs.Master.{VersionAttempt}
 use Rattle.protocol_laws.specs.Laws.{times_in, is_grant, grants_of, tells_end}
 use Rattle.protocol_laws.proofs.Steps.{none_some, same_some, tally, count-cons, count-append, same_or_not, put_cases, put_other, kept_cases, removed_cases}
-use Rattle.protocol_laws.proofs.ChunkRows.{Rows, rows_of, OwnedFrom, removed_owned, all_copied_owned, swapped_owned, expired_owned}
+use Rattle.protocol_laws.proofs.ChunkRows.{Rows, rows_of, OwnedFrom, all_copied_owned, swapped_owned, expired_owned}
 use Rattle.protocol_laws.proofs.FilesNamed.{Files}
 use Rattle.protocol_laws.proofs.OneName.{HasOneName}
 use Rattle.protocol_laws.proofs.Owners.{stands, chunks_at, times_put, times_gone, tally_same, tally_other}
 use Rattle.protocol_laws.proofs.CountsLogged.{fresh, apart_here}
 use Rattle.protocol_laws.proofs.VersionsAhead.{changed_cases}
 use Rattle.protocol_laws.proofs.LoggedParts.{Parts}
-use Rattle.protocol_laws.proofs.NamesReached.{without_end}
 use Rattle.protocol_laws.proofs.RowsFit.{granted_logged, same_row}
-use Rattle.protocol_laws.proofs.OrderNumbers.{state_of, AllStops, stops_push}
-use Rattle.protocol_laws.proofs.MessagesSent.{IsSent, sent_before}
-use Rattle.protocol_laws.proofs.MasterMoves.{Core, core_changed, core_appended, core_ended, core_ordered, core_granted, core_extended, grant_record, IsDue, IsNoGrantRecord, IsPlainOrder}
+use Rattle.protocol_laws.proofs.OrderNumbers.{state_of, state-appended, AllStops, stops_push}
+use Rattle.protocol_laws.proofs.MessagesSent.{sent_before}
+use Rattle.protocol_laws.proofs.MasterMoves.{Core, core_changed, core_appended, core_ended, core_granted, core_extended, grant_record, IsDue, IsNoGrantRecord, IsPlainOrder}
 use Rattle.protocol_laws.proofs.RevokesNumbered.{one_more}
 use Rattle.protocol_laws.proofs.LeaseEnds.{IsKeptRow, IsEndTold, WasSaidOver, IsPast, plain_tells, quiet_tells, IsTelling}
-use Rattle.protocol_laws.proofs.Words.{is_of_lease, no_order}
+use Rattle.protocol_laws.proofs.Words.{no_order}
 use Rattle.protocol_acts.specs.Given.{version_given}
-use Rattle.protocol_acts.proofs.MasterActs.{IsRowing, core_checkpointed}
+use Rattle.protocol_acts.proofs.MasterActs.{IsRowing, core_checkpointed, Waits, Acts}
 use Rattle.protocol_awaited.proofs.Awaited.{Attempts}
-use Rattle.protocol_awaited.proofs.AwaitedRecords.{IsBeside, copied_other}
-use Rattle.protocol_snapshot_acts.proofs.SnapshotActs.{Waits, Acts}
+use Rattle.protocol_awaited.proofs.AwaitedRecords.{IsBeside}
 
 -- the chunk stands in files more than once
 abbrev pub IsShared : Logged → ℕ → Type 0
@@ -119,14 +117,18 @@ AreKnown es next = (x : Path) (id : ℕ) → HasAt es x (File id) → id < next
 
 shared_more : (t : ChunkTable) (next : ℕ) (es : List (Path × Node)) (q : ℕ) → AreKnown es next → (times_in (with_copied_nodes t next es).files q ≤ times_in t.files q) ⊎ HasIn t es q
 shared_more t next [] q known = inl (omega arith)
-shared_more t next (e ∷ es) q known = by_node e.1 refl
+shared_more t next (e ∷ es) q known = by_node (λ u n those. shared_more u n es q those) e.1 refl
   where
-    by_node : (v : Node) → e.1 ≡ v → (times_in (with_copied_nodes (with_copied_node t next v) (id_after next v) es).files q ≤ times_in t.files q) ⊎ HasIn t (e ∷ es) q
-    by_node Dir is = elim (shared_more t next es q (λ x id has. known x id (inr has))) [
+    -- of the entries that are left
+    Rest : Type 0
+    Rest = (u : ChunkTable) (n : ℕ) → AreKnown es n → (times_in (with_copied_nodes u n es).files q ≤ times_in u.files q) ⊎ HasIn u es q
+
+    by_node : Rest → (v : Node) → e.1 ≡ v → (times_in (with_copied_nodes (with_copied_node t next v) (id_after next v) es).files q ≤ times_in t.files q) ⊎ HasIn t (e ∷ es) q
+    by_node rest Dir is = elim (rest t next (λ x id has. known x id (inr has))) [
       | inl low ↦ inl low
       | inr there ↦ inr (there.0, there.1, inr there.2, there.3)
     ]
-    by_node (File file) is = by_count (stands q (chunks_at t.files file)) refl
+    by_node rest (File file) is = by_count (stands q (chunks_at t.files file)) refl
       where
         u : ChunkTable
         u = with_copied_node t next (File file)
@@ -136,7 +138,7 @@ shared_more t next (e ∷ es) q known = by_node e.1 refl
 
         by_count : (n : ℕ) → stands q (chunks_at t.files file) ≡ n → (times_in (with_copied_nodes u (suc next) es).files q ≤ times_in t.files q) ⊎ HasIn t (e ∷ es) q
         by_count (suc n) some = inr (e.0, file, inl (refl, is), omega (arith, some))
-        by_count zero none = elim (shared_more u (suc next) es q (λ x id has. let low = known x id (inr has) in omega (arith, low))) [
+        by_count zero none = elim (rest u (suc next) (λ x id has. let low = known x id (inr has) in omega (arith, low))) [
           | inl low ↦ inl (let put = times_put t.files next (handles_of t file) q in omega (arith, low, put, none))
           | inr there ↦ inr (there.0, there.1, inr there.2, still there.1 (known there.0 there.1 (inr there.2)) there.3)
         ]
@@ -179,6 +181,29 @@ other_first a b rest other = by_test (a == b) refl
     by_test true e = absurd (other (eqb-true a b e))
     by_test false e = refl
 
+-- in a state as a log has it, the lease of the granted version of each shared chunk is over
+abbrev pub IsStateDone : (ℕ → ℕ → Type 0) → Logged → Type 0
+IsStateDone Over l = (handle : ℕ) (row : ChunkRow) → table.get (rows_of l) handle ≡ Some row → IsShared l handle → Over handle row.granted
+
+abbrev pub IsLogDone : (ℕ → ℕ → Type 0) → LogDisk → Type 0
+IsLogDone Over d = IsStateDone Over (state_of d)
+
+-- the log has the rows of the state
+pub log_done : (start : LogDisk) (Over : ℕ → ℕ → Type 0) (c : Core) → IsRowing start c → IsStateDone Over c.logged → IsLogDone Over c.disk
+log_done start Over c n done handle row there shared =
+    let k : Logged = state_of c.disk in
+    let here : IsShared c.logged handle = subst (λ (f : Files). 2 ≤ times_in f handle) (sym n.tied.base.base.files) shared in
+    let was = same_row (table.get (rows_of c.logged) handle) (table.get (rows_of k) handle) row (n.tied.same handle (by_copies (table.get c.logged.copies handle) refl (table.get k.copies handle) refl)) there in
+    subst (λ (v : ℕ). Over handle v) (ap (λ (r : ChunkRow). r.granted) was.2) (done handle was.0 was.1 here)
+  where
+    no_copy : (x : Copy) → table.get (state_of c.disk).copies handle ≡ Some x → ⊥
+    no_copy x is = let none = n.tied.base.log.apart handle x is in omega (arith, none, shared)
+
+    by_copies : (o : Option Copy) → table.get c.logged.copies handle ≡ o → (p : Option Copy) → table.get (state_of c.disk).copies handle ≡ p → table.get c.logged.copies handle ≡ table.get (state_of c.disk).copies handle
+    by_copies (Some x) is p also = absurd (no_copy x (n.tied.base.base.among handle x is))
+    by_copies None is (Some x) also = absurd (no_copy x also)
+    by_copies None is None also = is ∙ sym also
+
 -- the step, after these messages, at this greatest moment; which leases were over
 
 module _ (before : List Message) (greatest lease : ℕ) (Over : ℕ → ℕ → Type 0) (settle : (handle version : ℕ) → ((until : ℕ) → IsEndTold before handle version until → IsPast greatest before handle version until) → Over handle version)
@@ -200,34 +225,17 @@ module _ (before : List Message) (greatest lease : ℕ) (Over : ℕ → ℕ → 
       (handle : ℕ) (row : ChunkRow) → table.get (rows_of c.logged) handle ≡ Some row → IsShared c.logged handle
       → ((a : VersionAttempt) → table.get attempts handle ≡ Some a → ⊥) × IsDone c.sent c.now handle row.granted row.lease_end
 
-  -- and in a log
-  abbrev pub IsLogDone : LogDisk → Type 0
-  IsLogDone d = (handle : ℕ) (row : ChunkRow) → table.get (rows_of (state_of d)) handle ≡ Some row → IsShared (state_of d) handle → Over handle row.granted
-
   pub record IsSharing (c : Core) (attempts : Attempts) (ss : Waits) : Type 0 where
     pub done : AreDone c attempts
-    pub stops : AllStops IsLogDone start c.changes
+    pub stops : AllStops (IsLogDone Over) start c.changes
 
   pub over_of_done : (sent : List Message) (now handle version end : ℕ) → IsDone sent now handle version end → Over handle version
   over_of_done sent now handle version end (inl over) = over.0
   over_of_done sent now handle version end (inr past) = settle handle version (λ until is. past.0 until (is.0, sent_before before sent is.0 is.1, is.2))
 
-  -- the log has the rows of the state
-  pub log_done : (c : Core) (attempts : Attempts) → IsRowing start c → AreDone c attempts → IsLogDone c.disk
-  log_done c attempts n done handle row there shared =
-      let k : Logged = state_of c.disk in
-      let here : IsShared c.logged handle = subst (λ (f : Files). 2 ≤ times_in f handle) (sym n.tied.base.base.files) shared in
-      let was = same_row (table.get (rows_of c.logged) handle) (table.get (rows_of k) handle) row (n.tied.same handle (by_copies (table.get c.logged.copies handle) refl (table.get k.copies handle) refl)) there in
-      let is = done handle was.0 was.1 here in
-      subst (λ (v : ℕ). Over handle v) (ap (λ (r : ChunkRow). r.granted) was.2) (over_of_done c.sent c.now handle (was.0).granted (was.0).lease_end is.1)
-    where
-      no_copy : (x : Copy) → table.get (state_of c.disk).copies handle ≡ Some x → ⊥
-      no_copy x is = let none = n.tied.base.log.apart handle x is in omega (arith, none, shared)
-
-      by_copies : (o : Option Copy) → table.get c.logged.copies handle ≡ o → (p : Option Copy) → table.get (state_of c.disk).copies handle ≡ p → table.get c.logged.copies handle ≡ table.get (state_of c.disk).copies handle
-      by_copies (Some x) is p also = absurd (no_copy x (n.tied.base.base.among handle x is))
-      by_copies None is (Some x) also = absurd (no_copy x also)
-      by_copies None is None also = is ∙ sym also
+  -- what holds of the step says it of the state
+  pub state_done : (c : Core) (attempts : Attempts) → AreDone c attempts → IsStateDone Over c.logged
+  state_done c attempts done handle row there shared = over_of_done c.sent c.now handle row.granted row.lease_end (done handle row there shared).1
 
   -- a change of the disk
   changed : (c : Core) (x : LogChange) (l : Logged) (attempts left : Attempts) (ss : Waits) → IsRowing start c → IsRowing start (record (core_changed c x) { logged = l }) → AreDone (record (core_changed c x) { logged = l }) left → IsSharing c attempts ss
@@ -235,8 +243,8 @@ module _ (before : List Message) (greatest lease : ℕ) (Over : ℕ → ℕ → 
   changed c x l attempts left ss n after done h =
       record {
         done = done;
-        stops = stops_push IsLogDone start c.changes x h.stops
-            (subst (λ (d : LogDisk). IsLogDone (log_changed d x)) (sym n.disk) (log_done (record (core_changed c x) { logged = l }) left after done));
+        stops = stops_push (IsLogDone Over) start c.changes x h.stops
+            (subst (λ (d : LogDisk). IsLogDone Over (log_changed d x)) (sym n.disk) (log_done start Over (record (core_changed c x) { logged = l }) after (state_done (record (core_changed c x) { logged = l }) left done)));
       }
 
   -- a row that was there
@@ -320,18 +328,35 @@ module _ (before : List Message) (greatest lease : ℕ) (Over : ℕ → ℕ → 
       let was = shared_before c.logged (used c p.0) (log.Issue chunk version) due plain tt handle row there shared in kept c attempts h handle row was.0 was.1
   done_after c attempts ss (log.CopyStart file index source copy copy_version) due plain beside p h handle row there shared =
       let was = shared_before c.logged (used c p.0) (log.CopyStart file index source copy copy_version) due plain tt handle row there shared in kept c attempts h handle row was.0 was.1
-  done_after c attempts ss (log.Grant chunk version primary members) due plain beside p h = absurd plain
-  done_after c attempts ss (log.Epoch epoch) due plain beside p h = absurd due
-  done_after c attempts ss (log.Counters next_file next_handle epoch) due plain beside p h = absurd due
-  done_after c attempts ss (log.DirItem path) due plain beside p h = absurd due
-  done_after c attempts ss (log.FileItem path file handles) due plain beside p h = absurd due
-  done_after c attempts ss (log.ChunkItem chunk granted issued primary members) due plain beside p h = absurd due
-  done_after c attempts ss (log.ClientItem client n refusal) due plain beside p h = absurd due
+  done_after c attempts ss (log.Grant chunk version primary members) due plain beside p h handle row there shared = absurd plain
+  done_after c attempts ss (log.Epoch epoch) due plain beside p h handle row there shared = absurd due
+  done_after c attempts ss (log.Counters next_file next_handle epoch) due plain beside p h handle row there shared = absurd due
+  done_after c attempts ss (log.DirItem path) due plain beside p h handle row there shared = absurd due
+  done_after c attempts ss (log.FileItem path file handles) due plain beside p h handle row there shared = absurd due
+  done_after c attempts ss (log.ChunkItem chunk granted issued primary members) due plain beside p h handle row there shared = absurd due
+  done_after c attempts ss (log.ClientItem client n refusal) due plain beside p h handle row there shared = absurd due
 
   -- copies are given up
   done_less : (c : Core) (attempts : Attempts) (handles : List ℕ) → AreDone c attempts → AreDone (record c { logged = copies_given_up c.logged handles }) (removed_all attempts handles)
   done_less c attempts handles h handle row there shared =
       let old = h handle row (removed_cases (rows_of c.logged) handles handle row there) shared in (λ a is. old.0 a (removed_cases attempts handles handle a is), old.1)
+
+  -- a checkpoint
+  pub checkpoint_done : (c : Core) (attempts : Attempts) (ss : Waits) → IsRowing start c → IsRowing start (core_checkpointed c) → IsSharing c attempts ss → IsSharing (core_checkpointed c) (removed_all attempts (table.keys c.logged.copies)) ss
+  checkpoint_done c attempts ss n after h =
+      let handles : List ℕ = table.keys c.logged.copies in
+      changed c (WriteCheckpoint (checkpoint_of c.logged)) (all_copies_given_up c.logged) attempts (removed_all attempts handles) ss n after (done_less c attempts handles h.done) h
+
+  -- a new epoch
+  pub epoch_done : (c : Core) (attempts : Attempts) (ss : Waits) (epoch : ℕ) → IsRowing start c → IsSharing c attempts ss → IsSharing (core_appended c (log.Epoch epoch)) attempts ss
+  epoch_done c attempts ss epoch n h =
+      let r : Record = log.Epoch epoch in
+      record {
+        done = h.done;
+        stops = stops_push (IsLogDone Over) start c.changes (AppendRecord r) h.stops
+            (subst (λ (d : LogDisk). IsLogDone Over (log_changed d (AppendRecord r))) (sym n.disk)
+            (subst (λ (k : Logged). IsStateDone Over k) (sym (state-appended c.disk r)) (log_done start Over c n (state_done c attempts h.done))));
+      }
 
   -- an attempt of a chunk that isn't shared
   done_tried : (c : Core) (attempts : Attempts) (chunk : ℕ) (a : VersionAttempt) → (IsShared c.logged chunk → ⊥) → AreDone c attempts → AreDone c (table.insert attempts chunk a)
@@ -449,24 +474,22 @@ module _ (before : List Message) (greatest lease : ℕ) (Over : ℕ → ℕ → 
         gives = λ c attempts ss server handle a b at has plain given h. sends c attempts ss _ (suc c.order_count) (λ q version. plain_grants q version (b _) (plain _)) (given_tells (b _) _ (given _)) h;
         revokes = λ c attempts ss handle row is h. sends c attempts ss _ (suc c.order_count) (λ q version. refl) (λ q version until. refl) h;
         appends = λ c attempts ss r due plain beside p after h. changed c (AppendRecord r) (after_record c.logged r) attempts attempts ss p.0 after.0 (done_after c attempts ss r due plain beside p h.done) h;
-        checkpoint = λ c attempts ss tree p after h.
-            let handles : List ℕ = table.keys c.logged.copies in
-            changed c (WriteCheckpoint (checkpoint_of c.logged)) (all_copies_given_up c.logged) attempts (removed_all attempts handles) ss p.0 after.0 (done_less c attempts handles h.done) h;
+        checkpoint = λ c attempts ss tree p after h. checkpoint_done c attempts ss p.0 after.0 h;
         less = λ c attempts ss handles copied p h. record { done = done_less c attempts handles h.done; stops = h.stops };
         fewer = λ c attempts left ss from h. record { done = λ handle row there shared. let old = h.done handle row there shared in (λ a is. old.0 a (from handle a is), old.1); stops = h.stops };
         waits = λ c attempts ss more h. record { done = h.done; stops = h.stops };
-        issues = λ c attempts ss handle row a is next alone p before h. record { done = done_tried _ attempts handle a (alone_once (times_in c.logged.table.files handle) alone) h.done; stops = h.stops };
+        issues = λ c attempts ss handle row a is next alone p before h. record { done = done_tried (core_appended c (log.Issue (handle_of handle) (version_of a.version))) attempts handle a (alone_once (times_in c.logged.table.files handle) alone) h.done; stops = h.stops };
         copies = λ c attempts ss file index source copy a next p before h.
             let none = fresh (times_in c.logged.table.files copy) c.logged.next_handle copy (used c p.0 copy) next in
-            record { done = done_tried _ attempts copy a (λ shared. omega (arith, none, shared)) h.done; stops = h.stops };
+            record { done = done_tried (core_appended c (log.CopyStart file index source (handle_of copy) (version_of a.version))) attempts copy a (λ shared. omega (arith, none, shared)) h.done; stops = h.stops };
         records = λ c attempts ss handle a b at same servers h. record { done = λ q row there shared. let old = h.done q row there shared in (λ x is. elim (put_cases attempts handle b q x is) [ inl now ↦ old.0 a (ap (λ (n : ℕ). table.get attempts n) now.0 ∙ at) | inr earlier ↦ old.0 x earlier ], old.1); stops = h.stops };
         grants = λ c attempts ss handle a until primary members at all due p after h.
             let done = done_granted c attempts handle a until primary members at due p.0 h.done in
             record {
               done = done;
-              stops = stops_push IsLogDone start c.changes (AppendRecord (grant_record handle a.version primary members)) h.stops
-                  (subst (λ (d : LogDisk). IsLogDone (log_changed d (AppendRecord (grant_record handle a.version primary members)))) (sym p.0.disk)
-                  (log_done (core_granted c handle a.version until primary members) (table.remove attempts handle) after.0 done));
+              stops = stops_push (IsLogDone Over) start c.changes (AppendRecord (grant_record handle a.version primary members)) h.stops
+                  (subst (λ (d : LogDisk). IsLogDone Over (log_changed d (AppendRecord (grant_record handle a.version primary members)))) (sym p.0.disk)
+                  (log_done start Over (core_granted c handle a.version until primary members) after.0 (state_done (core_granted c handle a.version until primary members) (table.remove attempts handle) done)));
             };
         ends = λ c attempts ss handle row is word p h. record { done = done_ended c attempts handle h.done; stops = h.stops };
         extends = λ c attempts ss handle until row is lasts p h. record { done = done_extended c attempts handle until row is lasts.1 h.done; stops = h.stops };

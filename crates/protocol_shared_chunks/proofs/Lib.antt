@@ -1,0 +1,2 @@
+pub mod SharedSteps
+pub mod SharedChunks

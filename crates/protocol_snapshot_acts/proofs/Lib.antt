@@ -1,4 +1,0 @@
-pub mod SnapshotActs
-pub mod ActsOfNames
-pub mod ActsOfChunks
-pub mod ActsOfSteps
