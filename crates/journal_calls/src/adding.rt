@@ -1,6 +1,7 @@
 //! A node's next step goes into the journal.
 
-ghost use Rattle.std.specs.Prelude.{◌≡◌, ◌<◌, ◌≤◌, ◌-◌, ◌++◌, ◌∷◌, [], Some};
+ghost use Rattle.std.specs.Prelude.{◌≡◌, ◌<◌, ◌≤◌, ◌-◌, ◌++◌, ◌∷◌, [], Some, length};
+ghost use Rattle.protocol_journal.specs.Journal.{sent_after};
 ghost use Rattle.journal_list.specs.Log.{listed};
 ghost use Rattle.journal_pages.specs.Identity.{Filled, filled};
 ghost use Rattle.cell_journal.specs.Rules.{IsSame, IsStepOf, gave};
@@ -11,22 +12,37 @@ use journal_list::Beginning;
 use journal_pages::entry::Entry;
 use journal_pages::pages::Pages;
 
+/// The journal as it is once a step was added, its length, and how many messages were sent before.
+#[derive(Drop)]
+pub struct Longer {
+    pub beginning: Beginning<Entry>,
+    pub count: usize,
+    pub sent_before: u128,
+}
+
 /// What comes of adding a step: the journal as it was then, and the table's word that was found.
 #[derive(Drop)]
 pub struct Added {
-    pub beginning: Beginning<Entry>,
+    pub longer: Longer,
     pub found: u64,
 }
 
-fn push(slot: &mut Option<Pages>, entry: Entry) -> Beginning<Entry>
+fn push(slot: &mut Option<Pages>, entry: Entry) -> Longer
     requires { (y : Filled) × (slot.old ≡ Some y) × (0 < y.reserved) }
     ensures slot { (y : Filled) → slot.old ≡ Some y → slot.new ≡ Some (filled y.cell (y.entries ++ entry ∷ []) (y.reserved - 1)) }
-    ensures beginning { (y : Filled) → slot.old ≡ Some y → result ≡ listed y.cell.name (y.entries ++ entry ∷ []) }
+    ensures beginning { (y : Filled) → slot.old ≡ Some y → result.beginning ≡ listed y.cell.name (y.entries ++ entry ∷ []) }
+    ensures count { (y : Filled) → slot.old ≡ Some y → result.count ≡ length (y.entries ++ entry ∷ []) }
+    ensures sent { (y : Filled) → slot.old ≡ Some y → result.sent_before ≡ length (sent_after [] y.entries) }
 {
     match slot {
         Some(pages) => {
+            let sent_before = pages.message_count();
             pages.push(entry);
-            pages.beginning()
+            Longer {
+                beginning: pages.beginning(),
+                count: pages.len(),
+                sent_before,
+            }
         }
         None => unreachable!(),
     }
@@ -40,9 +56,10 @@ pub fn add(book: &Book, place: &mut Place, entry: Entry) -> Added
     requires step { IsStepOf place.old.me.0 entry }
     ensures same { (place.new.table_id ≡ place.old.table_id) × (place.new.id ≡ place.old.id) }
     ensures gave { (y : Filled) → place.old.me.1 ≡ (0, Some y) ∷ [] → place.new.me ≡ (gave place.old.me.0 (filled y.cell (y.entries ++ entry ∷ []) (y.reserved - 1)), []) }
-    ensures beginning { result.beginning ≡ listed place.old.me.0.of.name (place.old.me.0.seen ++ entry ∷ []) }
+    ensures beginning { result.longer.beginning ≡ listed place.old.me.0.of.name (place.old.me.0.seen ++ entry ∷ []) }
+    ensures count { result.longer.count ≡ length (place.old.me.0.seen ++ entry ∷ []) }
 {
-    let beginning = push(place.slot_mut(book, 0), entry);
+    let longer = push(place.slot_mut(book, 0), entry);
     let found = give_longer(book, place);
-    Added { beginning, found }
+    Added { longer, found }
 }

@@ -5,6 +5,6 @@ mod adding;
 mod closing;
 mod opening;
 
-pub use adding::{Added, add};
+pub use adding::{Added, Longer, add};
 pub use closing::close;
 pub use opening::{JournalTable, open};
