@@ -42,21 +42,30 @@ def edits_of(path):
                 old = text
             elif word == 'new':
                 found.append((target, old, text))
-            elif word and word not in ('seed', 'row'):
-                raise StaleEdit(f'{path}: a line begins with none of file, old, new, seed and row: {line}')
+            elif word and word not in ('seed', 'row', 'facts'):
+                raise StaleEdit(f'{path}: a line begins with none of file, old, new, seed, row and facts: {line}')
     return found
+
+
+def line_of(path, word):
+    """What an edit's line of this word says, or None."""
+    with open(path, encoding='utf8') as edits:
+        return next((line[len(word) + 2:].strip() for line in edits if line.startswith(word + ': ')), None)
 
 
 def seed_of(path):
     """Where exploring begins, of a wrong definition that few lists lead to."""
-    with open(path, encoding='utf8') as edits:
-        return next((int(line[6:]) for line in edits if line.startswith('seed: ')), 0)
+    return int(line_of(path, 'seed') or 0)
 
 
 def row_of(path):
     """The worked row that finds a wrong definition to which no list of the explorer leads, or None."""
-    with open(path, encoding='utf8') as edits:
-        return next((line[5:].strip() for line in edits if line.startswith('row: ')), None)
+    return line_of(path, 'row')
+
+
+def why_facts_alone(path):
+    """Why a wrong definition breaks a fact, and no part of the invariant; or None."""
+    return line_of(path, 'facts')
 
 
 def edited_copy(path, folder):
