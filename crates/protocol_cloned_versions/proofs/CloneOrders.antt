@@ -1,7 +1,6 @@
 -- A Clone that the master orders at a tick names a version that a server holds, that is not attempted, and whose chunk's lease has ended.
 use Rattle.std.proofs.Common.{◌≡◌, ◌⊎◌, ℕ, ◌≤◌, Bool, true, false, cond, List, [], ◌∷◌, Option, Some, None, refl, sym, ap, subst, ◌∙◌, inl, inr}
 use Rattle.std.specs.Prelude.{◌==◌, ◌&&◌, not, nat_le, nat_lt, filter}
-use Rattle.std.specs.List.{filter_map, cons_option}
 use Rattle.std.specs.FinMap as table
 use Rattle.std.proofs.lemmas.Bool.{and_parts, leb-true, true≢false}
 use Rattle.messages.specs.declared.event.Input.TheVariants as input
@@ -19,7 +18,7 @@ use Rattle.protocol.specs.Tables.{Table, first_of_list}
 use Rattle.protocol.specs.Sending.{client_id, client_number, server_number, server_id, file_id, handle_of, version_of}
 use Rattle.protocol.specs.LogSizes.{checkpoint_fits}
 use Rattle.protocol.specs.Logged.{Logged, checkpoint_of, after_record}
-use Rattle.protocol.specs.Master.{MasterState, MasterDoing, PendingSnapshot, VersionAttempt, HeldAt, master_begins, appends, fits, writes_checkpoint, gives_up_copies, logs, logs_after_checkpoint, is_of_copy, held_where, current_holders, present_current_holders, is_present, servers_of, version_held}
+use Rattle.protocol.specs.Master.{MasterState, MasterDoing, PendingSnapshot, VersionAttempt, HeldAt, master_begins, appends, fits, writes_checkpoint, gives_up_copies, logs, logs_after_checkpoint, is_of_copy, current_holders, present_current_holders, is_present, servers_of, version_held}
 use Rattle.protocol.specs.MasterSnapshots.{answers_name, settles_name, refuses_name, first_is_true, all_but_first, lets_go, takes_snapshot, takes_ready, is_ready}
 use Rattle.protocol.specs.MasterReports.{holds_now}
 use Rattle.protocol.specs.MasterClones.{CloneOrder, is_attempt_at, is_closed, clone_source, clone_target, clone_by, missing_replicas, clone_of, better_clone, best_clone, orders_clone}

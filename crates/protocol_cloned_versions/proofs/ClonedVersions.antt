@@ -1,5 +1,5 @@
 -- Versions that servers copy from each other are closed as they are ordered to be cloned, and stay so.
-use Rattle.std.proofs.Common.{◌≡◌, ◌⊎◌, ℕ, suc, ◌+◌, ◌-◌, ◌≤◌, Bool, false, List, [], ◌∷◌, ◌++◌, length, Option, Some, None, refl, sym, ap, subst, ◌∙◌, inl, inr, arith}
+use Rattle.std.proofs.Common.{◌≡◌, ◌⊎◌, ℕ, suc, ◌≤◌, Bool, false, List, [], ◌∷◌, ◌++◌, length, Option, Some, None, refl, sym, ap, subst, ◌∙◌, inl, inr, arith}
 use Rattle.std.specs.Prelude.{◌&&◌, max, IsTrue, unwrap_or}
 use Rattle.std.specs.FinMap as table
 use Rattle.std.proofs.lemmas.Bool.{true≢false}
@@ -33,7 +33,7 @@ use Rattle.protocol_laws.proofs.ChunkRows.{rows_of}
 use Rattle.protocol_laws.proofs.OrderNumbers.{AllFound}
 use Rattle.protocol_laws.proofs.LeaseEnds.{IsEndTold, IsPast, HasEnd}
 use Rattle.protocol_laws.proofs.LeasesTimely.{IsOfTimes, times_kept}
-use Rattle.protocol_laws.proofs.ScenesReached.{scene_of, passed, scene_reached}
+use Rattle.protocol_laws.proofs.ScenesReached.{scene_of, scene_reached}
 use Rattle.protocol_versions.specs.Laws.{IsLeaseOver}
 use Rattle.protocol_versions.proofs.ScenesGoOn.{goes_on}
 use Rattle.protocol_versions.proofs.EndedLeases.{past_is_over}

@@ -1,5 +1,5 @@
 -- A CopyLocal names a version that a server holds of a chunk with several owners: it is closed as the order is sent, and stays so.
-use Rattle.std.proofs.Common.{◌≡◌, ◌⊎◌, ℕ, suc, ◌++◌, ◌≤◌, Bool, List, [], ◌∷◌, length, Option, Some, None, refl, sym, ap, subst, ◌∙◌, inl, inr}
+use Rattle.std.proofs.Common.{◌≡◌, ◌⊎◌, ℕ, suc, ◌++◌, ◌≤◌, Bool, List, [], ◌∷◌, length, Some, None, refl, sym, ap, subst, ◌∙◌, inl, inr}
 use Rattle.std.specs.Prelude.{◌&&◌, IsTrue, unwrap_or}
 use Rattle.std.specs.FinMap as table
 use Rattle.std.proofs.lemmas.Bool.{ltb-true}
@@ -15,7 +15,7 @@ use Rattle.protocol.specs.Choice.{Choice, Ending, Goes, Lost, Stops}
 use Rattle.protocol.specs.Seen.{Taken, no_step}
 use Rattle.protocol.specs.Tables.{Table}
 use Rattle.protocol.specs.Sending.{client_number, server_number, order_number}
-use Rattle.protocol.specs.Master.{MasterState, MasterDoing, VersionAttempt, master_begins, version_held}
+use Rattle.protocol.specs.Master.{MasterState, MasterDoing, master_begins, version_held}
 use Rattle.protocol.specs.MasterReports.{holds_now}
 use Rattle.protocol.specs.MasterStep.{master_at, master_takes, master_goes, master_ends, master_bounded, master_step, is_within_limits, may_end, found_log, started_master, opening, has_opened, opens_as}
 use Rattle.protocol.specs.ServerStep.{server_step, server_restart}
@@ -35,7 +35,7 @@ use Rattle.protocol_given_versions.proofs.GivenVersions.{given_reached}
 use Rattle.protocol_attempts.proofs.Events.{HoldsAfter, holds_after}
 use Rattle.protocol_shared_chunks.proofs.SharedChunks.{shared_chunks_have_no_lease}
 use Rattle.protocol_told_versions.specs.Laws.{WasOrdered}
-use Rattle.protocol_told_versions.proofs.MasterWords.{IsMastersWord, IsMastersMessage, AreCopiesSaid, Words, ready_words, name_words, look_words, ask_words, takes_revoked_words, learns_words, report_words}
+use Rattle.protocol_told_versions.proofs.MasterWords.{IsMastersWord, IsMastersMessage, AreCopiesSaid, ready_words, name_words, look_words, ask_words, takes_revoked_words, learns_words, report_words}
 use Rattle.protocol_told_versions.proofs.ToldVersions.{holders_were_ordered}
 use Rattle.protocol_cloned_versions.specs.Laws.{version_sourced, CopiesAreOfClosedVersions}
 use Rattle.protocol_cloned_versions.proofs.CloneOrders.{IsTickWord, tick_says}
@@ -153,8 +153,8 @@ module _ (w : WorldState) (moment : ℕ) where
         | inl old ↦ inl old
         | inr new ↦ inr (up, sourced_by (master_at w.master moment) (new.0).body handle version (all_at (IsMastersMessage S) t.out.sent (new.1).0 new.0 words (new.1).1).1 new.2)
       ]
-  ends_known i choice Lost up = silent_known (master_ends w.master (master_goes w.master moment i choice.refused) choice Lost) refl
-  ends_known i choice (Stops made) up = silent_known (master_ends w.master (master_goes w.master moment i choice.refused) choice (Stops made)) refl
+  ends_known i choice Lost up handle version g = silent_known (master_ends w.master (master_goes w.master moment i choice.refused) choice Lost) refl handle version g
+  ends_known i choice (Stops made) up handle version g = silent_known (master_ends w.master (master_goes w.master moment i choice.refused) choice (Stops made)) refl handle version g
 
   step_known : (i : Input) (choice : Choice) → IsTrue w.master.up → BringsKnown (master_step w.master moment i choice)
   step_known i choice up =
