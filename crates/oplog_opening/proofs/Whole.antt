@@ -1,6 +1,6 @@
 -- What stands on a disk, and what a stop within an opening leaves.
 use Rattle.std.proofs.Common.{◌≡◌, ◌≢◌, ◌⊎◌, ℕ, ◌<◌, ◌≤◌, Bool, true, false, ◌==◌, List, [], ◌∷◌, ◌++◌, length, get_or, take, refl, sym, ap, subst, ◌∙◌, arith, inl, inr}
-use Rattle.std.specs.Prelude.{Err, Ok, OnOk, Result}
+use Rattle.std.specs.Prelude.{Err, IfOk, Ok, OnOk, Result}
 use Rattle.std.proofs.lemmas.List.{get_or-take}
 use Rattle.disk.specs.Device.{NoMore, Only}
 use Rattle.gated_disk.specs.Moments.{LeavesOnly, OnlyReads}
@@ -12,6 +12,7 @@ use Rattle.log_area.specs.Layout.{area_at, area_size}
 use Rattle.log_disk.specs.Disks.{head, is_formatted, DiskSays, HasLog}
 use Rattle.log_disk.proofs.Disks.{has_log}
 use Rattle.oplog.specs.Logs.{IsOpen}
+use Rattle.oplog.specs.declared.fault.LogFault.{LogFault}
 use Rattle.oplog_areas.specs.Writing.{area_with}
 use Rattle.oplog_format.specs.NewLogs.{IsLogOf, IsNew}
 use Rattle.oplog_opening.specs.Opening.{area_found, IsFound, IsOpening}
@@ -47,15 +48,27 @@ opened_log items records d opened (inl new) = let both : true ≡ false = sym op
 opened_log items records d opened (inr log) = log
 
 pub headed : (b : Bool) → b ≡ true → b ≡ false → ⊥
-headed b yes no = let both : true ≡ false = sym yes ∙ no in absurd cc
+headed b opened shut = let both : true ≡ false = sym opened ∙ shut in absurd cc
 
 -- what was found is the disk's log
 pub found_log : (found : Found) (d : List ℕ) → IsFound found d → IsLogOf found.items.items found.records.items d
 found_log found d is = inr (has_log (length d) found.which (area_found found) d is.says)
 
+pub found_logs : (r : Result Found LogFault) (d : List ℕ) → IfOk r (λ x. IsFound x d) → IfOk r (λ x. IsLogOf x.items.items x.records.items d)
+found_logs (Ok x) d is = found_log x d is
+found_logs (Err e) d is = tt
+
+abbrev pub state_of : ℕ → List Record → List Record → AreaState
+state_of number items records = record { number = number; items = items; records = records }
+
+nothing_found : (found : Found) → found.number ≡ 1 → found.items.items ≡ [] → found.records.items ≡ [] → area_found found ≡ area_with 1 []
+nothing_found found number items records =
+    ap (λ (k : ℕ). state_of k found.items.items found.records.items) number ∙ ap (λ (l : List Record). state_of 1 l found.records.items) items ∙ ap (λ (l : List Record). state_of 1 [] l) records
+
 -- a log that was formatted was found
-pub formatted_found : (found : Found) (n : ℕ) (d : List ℕ) → found.which ≡ 0 → area_found found ≡ area_with 1 [] → found.end ≡ 13 → DiskSays n 0 (area_with 1 []) d → IsFound found d
-formatted_found found n d at empty ends says =
+pub formatted_found : (found : Found) (n : ℕ) (d : List ℕ) → found.which ≡ 0 → found.number ≡ 1 → found.items.items ≡ [] → found.records.items ≡ [] → found.end ≡ 13 → DiskSays n 0 (area_with 1 []) d → IsFound found d
+formatted_found found n d at number items records ends says =
+    let empty = nothing_found found number items records in
     let of_size : DiskSays (length d) 0 (area_with 1 []) d = subst (λ (k : ℕ). DiskSays k 0 (area_with 1 []) d) (sym says.sized) says in
     let of_area : DiskSays (length d) 0 (area_found found) d = subst (λ (a : AreaState). DiskSays (length d) 0 a d) (sym empty) of_size in
     record {
@@ -68,7 +81,7 @@ pub found_none : (items records : List Record) (d : List ℕ) → is_formatted d
 found_none items records d shut empty none = inl (record { closed = shut; no_items = empty; no_records = none })
 
 module _ {D : Type 0} (seen : D → List ℕ) (may_leave : D → List ℕ → Type 0) (moment : D → ℕ) (left_since : D → ℕ → List ℕ → Type 0) where
-  abbrev Opening : D → List ℕ → Type 0
+  abbrev pub Opening : D → List ℕ → Type 0
   Opening old = IsOpening (seen old) (may_leave old)
 
   -- reads alone

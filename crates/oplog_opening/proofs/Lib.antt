@@ -1,3 +1,4 @@
 pub mod Newest
+pub mod Refused
 pub mod Starting
 pub mod Whole

@@ -111,6 +111,5 @@ pub fn read_log<D: Disk>(disk: &mut D, alloc: Global) -> Result<Found, LogFault>
     let Some(which) = current else {
         return Err(LogFault::Damaged);
     };
-    let found = read_current(disk, alloc, which)?;
-    Ok(found)
+    read_current(disk, alloc, which)
 }

@@ -1,9 +1,10 @@
 -- The area that is current is the newest one.
 use Rattle.std.proofs.Common.{◌≡◌, ◌⊎◌, ℕ, zero, suc, ◌<◌, ◌≤◌, Bool, true, false, List, [], ◌∷◌, ◌++◌, length, take, Option, Some, None, refl, sym, ap, subst, ◌∙◌, arith, inl, inr}
-use Rattle.std.specs.Prelude.{if◌then◌else◌, nat_lt}
+use Rattle.std.specs.Prelude.{if◌then◌else◌, nat_lt, Err, IfOk, Ok, Result}
 use Rattle.std.proofs.lemmas.Bool.{cases_Bool, le-ltb, ltb-true}
 use Rattle.log_area.specs.Areas.{AreaSays, AreaState, end_of}
 use Rattle.log_disk.specs.Disks.{area_of, front_of, head, is_below, later_if_below, newest, open_number, other, second_or_none, DiskSays}
+use Rattle.oplog.specs.declared.fault.LogFault.{LogFault}
 use Rattle.oplog_areas.proofs.Current.{open_front}
 use Rattle.oplog_opening.specs.Opening.{area_found, IsFound}
 use Rattle.oplog_opening.specs.declared.found.Found.{Found}
@@ -41,12 +42,12 @@ second_newest (Some k) n below =
     let above : nat_lt n k ≡ false = le-ltb n k (omega (arith, ltb-true k n below)) in
     ap (λ (t : Bool). if t then Some 0 else later_if_below (Some k) n) above ∙ ap (λ (t : Bool). if t then Some 1 else None) below
 
-below_two : {first second : Option ℕ} (which : ℕ) → IsNewest first second which → which < 2
-below_two which (inl first) = omega (arith, first.0)
-below_two which (inr second) = omega (arith, second.0)
+below_two : (first second : Option ℕ) (which : ℕ) → IsNewest first second which → which < 2
+below_two first second which (inl is) = omega (arith, is.0)
+below_two first second which (inr is) = omega (arith, is.0)
 
 module _ (size : ℕ) (d : List ℕ) (large : 4096 ≤ size) (sized : length d ≡ size) where
-  abbrev number_at : ℕ → Option ℕ
+  abbrev pub number_at : ℕ → Option ℕ
   number_at which = open_number (front_of size which d)
 
   -- what stands in the newest area is current
@@ -66,18 +67,12 @@ module _ (size : ℕ) (d : List ℕ) (large : 4096 ≤ size) (sized : length d �
   pub newest_says : (which : ℕ) (area : AreaState) → newest (number_at 0) (number_at 1) ≡ Some which → take 16 d ≡ head ++ 1 ∷ [] → AreaSays area (area_of size which d) → DiskSays size which area d
   newest_says which area is headed says =
       let at = newest_is (number_at 0) (number_at 1) which is in
-      let one = below_two which at in
+      let one = below_two (number_at 0) (number_at 1) which at in
       let older = older_if which which refl at area.number (open_front size which area d large sized one says) in
       record { sized = sized; one_of_two = one; formatted = headed; says = says; older = older.1 }
 
   pub only_area : (which w : ℕ) (area : AreaState) → DiskSays size w area d → newest (number_at 0) (number_at 1) ≡ Some which → AreaSays area (area_of size which d)
   only_area which w area says is = subst (λ (k : ℕ). AreaSays area (area_of size k d)) (same_some w which (sym (current_is w area says) ∙ is)) says.says
-
-  -- a log has a newest area
-  pub none_says : (which : ℕ) (area : AreaState) → DiskSays size which area d → newest (number_at 0) (number_at 1) ≡ None → ⊥
-  none_says which area says none =
-      let some : None ≡ Some which = sym none ∙ current_is which area says in
-      absurd cc
 
 -- what was read of the newest area was found
 pub found_says : (d : List ℕ) (which : ℕ) (found : Found) → 4096 ≤ length d → newest (open_number (front_of (length d) 0 d)) (open_number (front_of (length d) 1 d)) ≡ Some which → take 16 d ≡ head ++ 1 ∷ [] → found.which ≡ which
@@ -86,3 +81,9 @@ found_says d which found large is headed at says ends = record {
   says = subst (λ (k : ℕ). DiskSays (length d) k (area_found found) d) (sym at) (newest_says (length d) d large refl which (area_found found) is headed says);
   end = ends;
 }
+
+-- where something was read
+pub found_if : (d : List ℕ) (which : ℕ) (r : Result Found LogFault) → 4096 ≤ length d → newest (open_number (front_of (length d) 0 d)) (open_number (front_of (length d) 1 d)) ≡ Some which → take 16 d ≡ head ++ 1 ∷ []
+    → IfOk r (λ x. x.which ≡ which) → IfOk r (λ x. AreaSays (area_found x) (area_of (length d) which d)) → IfOk r (λ x. x.end ≡ end_of (area_found x)) → IfOk r (λ x. IsFound x d)
+found_if d which (Ok x) large is headed at says ends = found_says d which x large is headed at says ends
+found_if d which (Err e) large is headed at says ends = tt
