@@ -17,7 +17,8 @@ use Rattle.protocol_laws.proofs.CountsKept.{counts_kept}
 use Rattle.protocol_laws.proofs.NamesReached.{opening_naming, logged_here}
 use Rattle.protocol_name_steps.specs.Alike.{Requests, AreAlike}
 use Rattle.protocol_name_steps.proofs.LocksAndFiles.{chunks_change_no_names}
-use Rattle.protocol_name_requests.proofs.Moves.{stays}
+use Rattle.protocol_name_requests.specs.Followed.{AreKeptOn}
+use Rattle.protocol_name_requests.proofs.Moves.{stays, kept_same}
 use Rattle.protocol_followed_steps.specs.Laws.{ComesTo, log_left, RestartsAreFollowed}
 use Rattle.protocol_followed_steps.proofs.Following.{IsGoodLog, IsFollowedTo, HasLog, chunk_log, checkpoint_log}
 
@@ -26,25 +27,28 @@ still_here n requests = record { run = stays n; told = λ x t. t }
 
 module _ (config : Config) (requests : Requests) (n : Machine) (found : LogDisk) where
   abbrev Opens : MasterDoing → Type 0
-  Opens d = AreAlike d.master.logged d.master.snapshots n requests × (AllStops IsGoodLog found d.changes → HasLog config requests n found n d.master.logged d.master.disk d.changes)
+  Opens d = AreAlike d.master.logged d.master.snapshots n requests × AreKeptOn requests (state_of found).kept d.master.logged.kept × (AllStops IsGoodLog found d.changes → HasLog config requests n found n d.master.logged d.master.disk d.changes)
 
   epoch_opens : (d : MasterDoing) (epoch : ℕ) → Opens d → Opens (appends d (log.Epoch epoch))
   epoch_opens d epoch h = (
     (chunks_change_no_names d.master.logged d.master.snapshots n requests h.0).0 (log.Epoch epoch) tt,
-    chunk_log config requests n found n d.master.logged d.master.disk d.changes d.master.snapshots (log.Epoch epoch) (still_here n requests) tt h.0 h.1,
+    h.1,
+    chunk_log config requests n found n d.master.logged d.master.disk d.changes d.master.snapshots (log.Epoch epoch) (still_here n requests) h.1 tt h.0 h.2,
   )
 
   checkpoint_opens : (d : MasterDoing) → Opens d → Opens (writes_checkpoint d)
   checkpoint_opens d h = (
     (chunks_change_no_names d.master.logged d.master.snapshots n requests h.0).1 (table.keys d.master.logged.copies),
-    checkpoint_log config requests n found n d.master.logged d.master.disk d.changes (still_here n requests) h.1,
+    h.1,
+    checkpoint_log config requests n found n d.master.logged d.master.disk d.changes (still_here n requests) h.1 h.2,
   )
 
   begins_open : (count moment : ℕ) → AreAlike (replayed found) [] n requests → Opens (master_begins (started_master config count found moment) [])
   begins_open count moment a =
-      let alone : AreAlike (state_of found) [] n requests = record { names = a.names; next = a.next; files = a.files; kept = a.kept; locks = tt } in (
-        record { names = a.names; next = a.next; files = a.files; kept = a.kept; locks = tt },
-        λ good. record { disk = refl; same = refl; alone = alone; stops = (n, still_here n requests, alone) },
+      let alone : AreAlike (state_of found) [] n requests = record { names = a.names; next = a.next; files = a.files; kept = a.kept; untaken = a.untaken; locks = tt } in (
+        record { names = a.names; next = a.next; files = a.files; kept = a.kept; untaken = a.untaken; locks = tt },
+        kept_same requests (state_of found).kept,
+        λ good. record { disk = refl; same = refl; alone = alone; stops = (n, still_here n requests, alone, kept_same requests (state_of found).kept) },
       )
 
   pub opening_opens : (count moment : ℕ) → AreAlike (replayed found) [] n requests → Opens (opening (started_master config count found moment))
@@ -67,10 +71,11 @@ restarts_are_followed config servers clients w r moment choice n requests a =
     let d : MasterDoing = opening (started_master m.config m.server_count found moment) in
     let sound : AllStops IsGoodLog found d.changes = (opening_naming IsFoundCounts IsCountedLog counts_kept m.config m.server_count found moment (known.1.found choice.decided) (known.0.found choice.decided)).0.stops in
     let end = opening_opens m.config requests n found m.server_count moment a in
-    let log : HasLog m.config requests n found n d.master.logged d.master.disk d.changes = end.1 sound in (
+    let log : HasLog m.config requests n found n d.master.logged d.master.disk d.changes = end.2 sound in (
       end.0,
+      end.1,
       λ made decided.
           let left = found_stopped (IsFollowedTo m.config requests n found) found d.changes made log.stops decided in
           let read : Logged = state_of (log_left found d.changes made decided) in
-          (left.0, left.1, (chunks_change_no_names read [] left.0 requests left.2).1 (table.keys read.copies)),
+          (left.0, left.1, (chunks_change_no_names read [] left.0 requests left.2).1 (table.keys read.copies), left.3),
     )

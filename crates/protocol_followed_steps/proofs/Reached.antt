@@ -1,11 +1,12 @@
 -- A whole step in a reached world: the machine follows it, and each log that a stop may leave.
-use Rattle.std.proofs.Common.{◌≡◌, ℕ, Bool, List, [], refl, sym, ap, ◌∙◌}
+use Rattle.std.proofs.Common.{◌≡◌, ℕ, Bool, List, [], refl, sym, ap, subst, ◌∙◌, inl}
 use Rattle.std.specs.Prelude.{IsTrue}
 use Rattle.std.specs.FinMap as table
 use Rattle.gfs_types.specs.declared.config.Config.{Config}
 use Rattle.messages.specs.declared.event.Input.{Input}
 use Rattle.relaxed_file.specs.Machine.{Machine}
-use Rattle.protocol.specs.Logged.{Logged, LogChange}
+use Rattle.protocol.specs.Tables.{Table}
+use Rattle.protocol.specs.Logged.{Logged, KeptCall, LogChange}
 use Rattle.protocol.specs.Master.{MasterDoing, PendingSnapshot, master_begins}
 use Rattle.protocol.specs.MasterStep.{master_at, master_goes}
 use Rattle.protocol.specs.World.{WorldState, IsReached}
@@ -16,9 +17,10 @@ use Rattle.protocol_laws.proofs.MasterSteps.{no_input, goes_named}
 use Rattle.protocol_laws.proofs.CountsLogged.{IsFoundCounts, IsCountedLog}
 use Rattle.protocol_laws.proofs.CountsKept.{counts_kept}
 use Rattle.protocol_laws.proofs.NamesReached.{IsNaming, naming_keeps, IsUpToLog, logged_here}
-use Rattle.protocol_name_steps.specs.Alike.{Requests, AreAlike}
+use Rattle.protocol_name_steps.specs.Alike.{Requests, AreUntaken, AreAlike}
 use Rattle.protocol_name_steps.proofs.LocksAndFiles.{chunks_change_no_names}
-use Rattle.protocol_name_requests.proofs.Moves.{stays}
+use Rattle.protocol_name_requests.specs.Followed.{AreKeptOn}
+use Rattle.protocol_name_requests.proofs.Moves.{stays, kept_same}
 use Rattle.protocol_waiting_snapshots.proofs.Walk.{begins_live}
 use Rattle.protocol_names_due.proofs.Unrefused.{waiting_snapshots_are_unrefused}
 use Rattle.protocol_names_due.proofs.Expiring.{expiring_files_are_old}
@@ -34,6 +36,7 @@ log_alike l k ss n requests same files a =
       next = ap (λ (p : Parts). p.next_file) (sym same) ∙ a.next;
       files = λ file. ap (λ t. table.contains_key t file) (sym files) ∙ a.files file;
       kept = λ client x is. a.kept client x (ap (λ (p : Parts). table.get p.kept client) same ∙ is);
+      untaken = subst (λ (t : Table KeptCall). AreUntaken t n requests) (ap (λ (p : Parts). p.kept) same) a.untaken;
       locks = tt;
     }
 
@@ -50,7 +53,18 @@ module _ (config : Config) (servers clients : ℕ) (w : WorldState) (r : IsReach
     begun =
         let comes : ComesTo n n requests = record { run = stays n; told = λ x t. t } in
         let alone : AreAlike (state_of w.master.disk) [] n requests = log_alike w.master.logged (state_of w.master.disk) (master_at w.master moment).snapshots n requests known.same known.tied.base.files h.alike in
-        record { alike = h.alike; told = tt; run = h.run; comes = comes; log = λ good. record { disk = refl; same = known.same; alone = alone; stops = (n, comes, alone) } }
+        record {
+          alike = h.alike;
+          told = tt;
+          run = h.run;
+          comes = comes;
+          kept_on = λ client. inl (ap (λ (p : Parts). table.get p.kept client) known.same);
+          log = λ good. record { disk = refl; same = known.same; alone = alone; stops = (n, comes, alone, kept_same requests (state_of w.master.disk).kept) };
+        }
+
+    -- what the log has kept is what the state has
+    kept_since : (now : Table KeptCall) → AreKeptOn requests (state_of w.master.disk).kept now → AreKeptOn requests w.master.logged.kept now
+    kept_since now h = subst (λ (p : Parts). AreKeptOn requests p.kept now) (sym known.same) h
 
     goes : Comes config requests n w.master.disk n done
     goes =
@@ -66,7 +80,7 @@ module _ (config : Config) (servers clients : ℕ) (w : WorldState) (r : IsReach
 pub steps_are_followed : StepsAreFollowed
 steps_are_followed config servers clients w r up moment i refused n requests h of =
     let end = goes config servers clients w r up moment i refused n requests h of in
-    (end.0, (end.2).comes, record { alike = (end.2).alike; told = (end.2).told })
+    (end.0, (end.2).comes, record { alike = (end.2).alike; told = (end.2).told }, kept_since config servers clients w r up moment i refused n requests h of (master_goes w.master moment i refused).master.logged.kept (end.2).kept_on)
 
 pub stopped_steps_are_followed : StoppedStepsAreFollowed
 stopped_steps_are_followed config servers clients w r up moment i refused n requests h of made decided =
@@ -75,4 +89,4 @@ stopped_steps_are_followed config servers clients w r up moment i refused n requ
     let log : HasLog config requests n w.master.disk end.0 _ _ changes = (end.2).log (sound config servers clients w r up moment i refused n requests h of) in
     let left = found_stopped (IsFollowedTo config requests n w.master.disk) w.master.disk changes made log.stops decided in
     let read : Logged = state_of (log_left w.master.disk changes made decided) in
-    (left.0, left.1, (chunks_change_no_names read [] left.0 requests left.2).1 (table.keys read.copies))
+    (left.0, left.1, (chunks_change_no_names read [] left.0 requests left.2).1 (table.keys read.copies), kept_since config servers clients w r up moment i refused n requests h of read.kept left.3)

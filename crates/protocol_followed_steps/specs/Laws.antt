@@ -16,7 +16,7 @@ use Rattle.protocol.specs.Master.{MasterState, MasterDoing, master_begins}
 use Rattle.protocol.specs.MasterStep.{master_at, master_goes, found_log, started_master, opening}
 use Rattle.protocol.specs.World.{WorldState, IsReached}
 use Rattle.protocol_name_steps.specs.Alike.{Requests, AreAlike, IsWaiting}
-use Rattle.protocol_name_requests.specs.Followed.{RunsTo, IsTold, IsBeside, IsTimely, IsRequest}
+use Rattle.protocol_name_requests.specs.Followed.{RunsTo, IsTold, AreKeptOn, IsBeside, IsTimely, IsRequest}
 
 -- the machine comes to this state, unseen, and what clients were told stays true
 pub record ComesTo (m n : Machine) (requests : Requests) : Type 0 where
@@ -40,13 +40,14 @@ abbrev pub IsInputOfOpenCall : MasterDoing → Machine → Requests → Input �
 IsInputOfOpenCall d n requests (input.Deliver x) = IsOfOpenCall d n requests x x.body
 IsInputOfOpenCall d n requests input.Tick = Unit {0}
 
--- The machine follows a step that goes through: names, files, kept answers and locks are the same again, and what is told are outcomes.
+-- The machine follows a step that goes through: names, files, kept answers and locks are the same again, what is told are outcomes, and no answer is kept but of open requests.
 abbrev pub StepsAreFollowed : Type 0
 StepsAreFollowed =
     (config : Config) (servers clients : ℕ) (w : WorldState) → IsReached config servers clients w → IsTrue w.master.up
     → (moment : ℕ) (i : Input) (refused : List Bool) (n : Machine) (requests : Requests)
     → IsAtStep config (master_at w.master moment) n requests → IsInputOfOpenCall (master_begins (master_at w.master moment) refused) n requests i
     → (k : Machine) × ComesTo n k requests × IsBeside (master_goes w.master moment i refused) k requests
+    × AreKeptOn requests w.master.logged.kept (master_goes w.master moment i refused).master.logged.kept
 
 -- what a stop after so many changes may leave of the log, as it is decided what was under way
 abbrev pub log_left : LogDisk → List LogChange → ℕ → List Bool → LogDisk
@@ -60,6 +61,7 @@ StoppedStepsAreFollowed =
     → IsAtStep config (master_at w.master moment) n requests → IsInputOfOpenCall (master_begins (master_at w.master moment) refused) n requests i
     → (made : ℕ) (decided : List Bool)
     → (k : Machine) × ComesTo n k requests × AreAlike (replayed (log_left w.master.disk (master_goes w.master moment i refused).changes made decided)) [] k requests
+    × AreKeptOn requests w.master.logged.kept (replayed (log_left w.master.disk (master_goes w.master moment i refused).changes made decided)).kept
 
 -- the opening of a restart, which has read the log as it was decided
 abbrev pub opened : MasterState → ℕ → Choice → MasterDoing
@@ -71,5 +73,7 @@ RestartsAreFollowed =
     (config : Config) (servers clients : ℕ) (w : WorldState) → IsReached config servers clients w → (moment : ℕ) (choice : Choice) (n : Machine) (requests : Requests)
     → AreAlike (replayed (found_log w.master choice)) [] n requests
     → AreAlike (opened w.master moment choice).master.logged (opened w.master moment choice).master.snapshots n requests
+    × AreKeptOn requests (replayed (found_log w.master choice)).kept (opened w.master moment choice).master.logged.kept
     × ((made : ℕ) (decided : List Bool)
-    → (k : Machine) × ComesTo n k requests × AreAlike (replayed (log_left (found_log w.master choice) (opened w.master moment choice).changes made decided)) [] k requests)
+    → (k : Machine) × ComesTo n k requests × AreAlike (replayed (log_left (found_log w.master choice) (opened w.master moment choice).changes made decided)) [] k requests
+    × AreKeptOn requests (replayed (found_log w.master choice)).kept (replayed (log_left (found_log w.master choice) (opened w.master moment choice).changes made decided)).kept)

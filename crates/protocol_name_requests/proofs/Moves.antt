@@ -1,7 +1,9 @@
 -- Steps of the master beside the machine: what each move keeps is kept where records are logged, with the checkpoints that make room for them.
-use Rattle.std.proofs.Common.{◌≡◌, ⊎_elim, ℕ, Bool, true, false, cond, List, [], ◌∷◌, ◌++◌, None, refl, sym, ap, subst, ◌∙◌}
+use Rattle.std.proofs.Common.{◌≡◌, ⊎_elim, ℕ, Bool, true, false, cond, List, [], ◌∷◌, ◌++◌, Option, Some, None, refl, sym, ap, subst, ◌∙◌, inl, inr}
 use Rattle.std.specs.Prelude.{◌&&◌, not, Contains}
 use Rattle.std.specs.List.{cons_option}
+use Rattle.std.specs.FinMap as table
+use Rattle.gfs_types.specs.declared.refusal.Refusal.{Refusal}
 use Rattle.messages.specs.declared.message.Body.{Body}
 use Rattle.messages.specs.declared.message.Body.TheVariants as body
 use Rattle.messages.specs.declared.message.Message.{Message}
@@ -10,13 +12,14 @@ use Rattle.relaxed_file.specs.Machine.{Machine, OpenCall, Outcome, IsOpen}
 use Rattle.relaxed_file.specs.Run.{Action, Visible, Allows, after, shown, visible}
 use Rattle.name_runs.specs.Laws.{is_name_action}
 use Rattle.name_runs.proofs.Runs.{name_runs_go_on}
+use Rattle.protocol.specs.Tables.{Table}
 use Rattle.protocol.specs.LogSizes.{checkpoint_fits}
-use Rattle.protocol.specs.Logged.{Logged, LogDisk, LogChange, AppendRecord, WriteCheckpoint, log_changed, after_record, checkpoint_of, copies_given_up, all_copies_given_up}
+use Rattle.protocol.specs.Logged.{Logged, KeptCall, LogDisk, LogChange, AppendRecord, WriteCheckpoint, log_changed, after_record, checkpoint_of, copies_given_up, all_copies_given_up}
 use Rattle.protocol.specs.Master.{MasterDoing, PendingSnapshot, fits, appends, writes_checkpoint, logs, logs_after_checkpoint, is_of_copy}
 use Rattle.protocol.specs.Sending.{client_number}
 use Rattle.protocol_name_steps.specs.Alike.{Requests, AreAlike, IsWaiting}
-use Rattle.protocol_name_steps.proofs.OpenCalls.{GoesOn, same_or_not, one_call, back_at_other}
-use Rattle.protocol_name_requests.specs.Followed.{RunsTo, IsTold, IsToldTo, outcome_told}
+use Rattle.protocol_name_steps.proofs.OpenCalls.{GoesOn, same_or_not, one_call, back_at_other, got_same, got_other}
+use Rattle.protocol_name_requests.specs.Followed.{RunsTo, IsTold, IsToldTo, outcome_told, AreKeptOn}
 
 on_cond : {A : Type 0} (P : A → Type 0) (b : Bool) (x y : A) → P x → P y → P (cond b x y)
 on_cond P true x y f g = f
@@ -53,12 +56,36 @@ told_stays m n requests client current later g x h = by_body x.body h
     by_body (body.Named number reply) told = named number (outcome_told reply) told
     by_body other told = tt
 
+-- kept answers
+
+pub kept_same : (requests : Requests) (kept : Table KeptCall) → AreKeptOn requests kept kept
+kept_same requests kept client = inl refl
+
+pub kept_then : (requests : Requests) (a b c : Table KeptCall) → AreKeptOn requests a b → AreKeptOn requests b c → AreKeptOn requests a c
+kept_then requests a b c one two client = elim (two client) [
+  | inl same ↦ ⊎_elim (λ before. inl (same ∙ before)) (λ new. inr (new.0, same ∙ new.1, new.2)) (one client)
+  | inr new ↦ inr new
+]
+
+-- the answer to the client's open request
+pub kept_put : (requests : Requests) (kept now : Table KeptCall) (client number : ℕ) (refusal : Option Refusal) → requests client ≡ Some number → now ≡ table.insert kept client (record { number = number; refusal = refusal })
+    → AreKeptOn requests kept now
+kept_put requests kept now client number refusal asked is q = ⊎_elim
+    (λ same. inr (
+      record { number = number; refusal = refusal },
+      ap (λ (t : Table KeptCall). table.get t q) is ∙ got_same kept client (record { number = number; refusal = refusal }) q same,
+      ap requests same ∙ asked,
+    ))
+    (λ other. inl (ap (λ (t : Table KeptCall). table.get t q) is ∙ got_other kept client (record { number = number; refusal = refusal }) q other))
+    (same_or_not q client)
+
 -- The machine moves, and the master's state and the snapshots that wait change: both are alike again. So it is with the log alone, where no snapshot waits.
 pub record IsMove (m n : Machine) (requests : Requests) (before later : List PendingSnapshot) (change : Logged → Logged) : Type 0 where
   pub run : RunsTo m n
   pub alike : (l : Logged) → AreAlike l before m requests → AreAlike (change l) later n requests
   pub alone : (l : Logged) → AreAlike l [] m requests → AreAlike (change l) [] n requests
   pub told : (x : Message) → IsTold m requests x → IsTold n requests x
+  pub kept_on : (l : Logged) (ss : List PendingSnapshot) → AreAlike l ss m requests → AreKeptOn requests l.kept (change l).kept
 
 -- What is kept by each move, of the machine, the master's state, its disk, the changes and messages of the step, and the snapshots that wait.
 pub record Keeps (requests : Requests) (P : Machine → Logged → LogDisk → List LogChange → List Message → List PendingSnapshot → Type 0) : Type 0 where

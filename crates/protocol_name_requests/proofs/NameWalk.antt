@@ -35,7 +35,7 @@ use Rattle.protocol_name_steps.proofs.OpenCalls.{GoesOn, step_goes_on, outcome_g
 use Rattle.protocol_name_steps.proofs.NameSteps.{HasOutcome, looked, may_step, stepped_at, no_look, look_is_name, look_effect, either, find_holder, busy_allowed}
 use Rattle.protocol_name_steps.proofs.LocksAndFiles.{locks_are_taken, locks_go_back}
 use Rattle.protocol_name_requests.specs.Followed.{RunsTo, IsTold, outcome_told, IsTimely, IsRequest}
-use Rattle.protocol_name_requests.proofs.Moves.{IsMove, Keeps, At, Reaches, here, alike_at, logs_at, one_action, told_stays}
+use Rattle.protocol_name_requests.proofs.Moves.{IsMove, Keeps, At, Reaches, here, alike_at, logs_at, one_action, told_stays, kept_same}
 use Rattle.protocol_name_requests.proofs.Requests.{IsAnswered, effect_move, refused_move, full_move}
 
 on_test : {A : Type 0} (P : A → Type 0) (b : Bool) (x y : A) → (b ≡ true → P x) → (b ≡ false → P y) → P (cond b x y)
@@ -55,6 +55,7 @@ lock_move l snapshots m requests s h new free =
       alike = λ x a. (locks_are_taken x snapshots m requests s a new (as_free x snapshots a)).1;
       alone = λ x a. locks_go_back x (s ∷ []) n requests (λ _. false) (locks_are_taken x [] m requests s a none (as_free x [] a)).1;
       told = λ x t. told_stays m n requests s.client new.current later g x t;
+      kept_on = λ x ss a. kept_same requests x.kept;
     }
   where
     as_free : (x : Logged) (ss : List PendingSnapshot) → AreAlike x ss m requests → refusal_of x.names (snapshot_call s) ≡ None
@@ -164,10 +165,24 @@ module _ (requests : Requests) (P : Machine → Logged → LogDisk → List LogC
       (λ alone. let o = opened (leb-false deadline d.master.now early) in
       by_at m d client number deadline c (master_refusal d.master c) refl there timely (record { current = o.0; waiting = o.1; call_is = o.2; untaken = o.3; alone = alone }) h))
 
+  -- the open call that a request is of took no step
+  opened_at : (m : Machine) (d : MasterDoing) (client number deadline : ℕ) (c : Call) → IsRequest d m requests client number deadline c → ((x : KeptCall) → table.get d.master.logged.kept client ≡ Some x → x.number < number)
+      → At requests P k m d → d.master.now < deadline → (current : OpenCall) × IsWaiting m requests client number current × (current.asked.call ≡ c) × (current.outcomes ≡ [])
+  opened_at m d client number deadline c request later h early =
+      let r = request early later in
+      let untaken : (r.1).outcomes ≡ [] = elim ((alike_at requests P k m d h).untaken client number r.1 r.2 (ap is_look r.3 ∙ r.0)) [
+        | inl none ↦ none
+        | inr found ↦
+            let less = later found.0 found.1 in
+            let same = found.2 in
+            absurd (omega (arith, less, same))
+      ] in
+      (r.1, r.2, r.3, untaken)
+
   kept_at : (m : Machine) (d : MasterDoing) (client number deadline : ℕ) (c : Call) (o : Option KeptCall) → table.get d.master.logged.kept client ≡ o → AreNamedFilesThere d.master.logged → IsTimely m d.master.now
       → IsRequest d m requests client number deadline c → At requests P k m d → Reaches requests P k m (names_kept d client number deadline c o)
   kept_at m d client number deadline c None is there timely request h =
-      anew_at m d client number deadline c there timely (λ early. request early (λ x at. absurd (none-some x (sym is ∙ at)))) h
+      anew_at m d client number deadline c there timely (opened_at m d client number deadline c request (λ x at. absurd (none-some x (sym is ∙ at))) h) h
   kept_at m d client number deadline c (Some x) is there timely request h =
       let good : MasterDoing → Type 0 = λ e. Reaches requests P k m e in
       let a : AreAlike d.master.logged d.master.snapshots m requests = alike_at requests P k m d h in
@@ -176,7 +191,8 @@ module _ (requests : Requests) (P : Machine → Logged → LogDisk → List LogC
       (tells_at m d (the_client client) (body.Named number (Answered (reply_of x.refusal)))
       (λ cur w. a.kept client x is cur (record { is_open = w.is_open; number_is = w.number_is ∙ ap Some (sym (eqb-true x.number number same)) })) h))
       (λ other. on_test good (nat_lt number x.number) d (names_anew d client number deadline c) (λ _. here requests P k m d h)
-      (λ late. anew_at m d client number deadline c there timely (λ early. request early (λ y at. below x.number y.number (ap (λ (q : KeptCall). q.number) (from_some (sym is ∙ at))) (eqb-false x.number number other) (ltb-false number x.number late))) h))
+      (λ late. anew_at m d client number deadline c there timely
+      (opened_at m d client number deadline c request (λ y at. below x.number y.number (ap (λ (q : KeptCall). q.number) (from_some (sym is ∙ at))) (eqb-false x.number number other) (ltb-false number x.number late)) h) h))
     where
       below : (p q : ℕ) → p ≡ q → (p ≡ number → ⊥) → p ≤ number → q < number
       below p q same other least = elim (cases_lt q number) [ inl less ↦ less | inr more ↦ absurd (other (omega (arith, same, least, more))) ]
@@ -195,14 +211,15 @@ module _ (requests : Requests) (P : Machine → Logged → LogDisk → List LogC
       let n : Machine = with_outcome m client outcome in
       let later : OpenCall = record current { outcomes = outcome ∷ current.outcomes; has_begun = true } in
       let g : GoesOn m n client current later = outcome_goes_on m m client current outcome refl w.is_open in
-      let plain : (t : PendingSnapshot) → current.asked.call ≡ snapshot_call t → ⊥ = λ t e. no_look c look t (sym same ∙ e) in
+      let reads : is_look current.asked.call ≡ true = ap is_look same ∙ look in
       let move : IsMove m n requests d.master.snapshots d.master.snapshots (λ x. x) = record {
         run = look_runs d.master m requests client c current a w.is_open same look;
-        alike = λ l b. (looked l d.master.snapshots m requests client current outcome b w.is_open plain).0;
-        alone = λ l b. (looked l [] m requests client current outcome b w.is_open plain).0;
+        alike = λ l b. (looked l d.master.snapshots m requests client current outcome b w.is_open reads).0;
+        alone = λ l b. (looked l [] m requests client current outcome b w.is_open reads).0;
         told = λ x t. told_stays m n requests client current later g x t;
+        kept_on = λ x ss b. kept_same requests x.kept;
       } in
-      let has : HasOutcome n client outcome = (looked d.master.logged d.master.snapshots m requests client current outcome a w.is_open plain).1 in (
+      let has : HasOutcome n client outcome = (looked d.master.logged d.master.snapshots m requests client current outcome a w.is_open reads).1 in (
         n,
         move.run,
         tells_at n d sender (body.Named number (reply_by outcome))

@@ -26,7 +26,7 @@ use Rattle.protocol_name_steps.specs.Laws.{AreNamedFilesThere}
 use Rattle.protocol_name_steps.proofs.OpenCalls.{outcome_goes_on, none_of_client}
 use Rattle.protocol_name_steps.proofs.NameSteps.{IsBase, IsEffect, HasOutcome, answered, may_step, stepped_at, effect_of, refused_base, refused_is_name, find_holder, busy_allowed}
 use Rattle.protocol_name_requests.specs.Followed.{RunsTo}
-use Rattle.protocol_name_requests.proofs.Moves.{IsMove, one_action, told_stays}
+use Rattle.protocol_name_requests.proofs.Moves.{IsMove, one_action, told_stays, kept_put}
 
 -- a call of this client is answered so, by an action
 pub record IsAnswered (m n : Machine) (requests : Requests) (snapshots : List PendingSnapshot) (client : ℕ) (r : Record) (refusal : Option Refusal) : Type 0 where
@@ -48,6 +48,7 @@ with_outcome_move m base requests snapshots client number c r refusal same run n
         alike = λ x a. (answered x (after_record x r) snapshots m base requests client number c refusal a new (based x snapshots a)).0;
         alone = λ x a. (answered x (after_record x r) [] m base requests client number c refusal a none (based x [] a)).0;
         told = λ x t. told_stays m n requests client new.current _ g x t;
+        kept_on = λ x ss a. kept_put requests x.kept (after_record x r).kept client number refusal new.waiting.number_is (based x ss a).kept;
       };
       told = (answered l (after_record l r) snapshots m base requests client number c refusal h new (based l snapshots h)).1;
     }

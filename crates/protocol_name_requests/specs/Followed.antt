@@ -1,5 +1,5 @@
 -- How the machine follows a step of the master: by actions that clients don't see, after which it has the same names, and what clients are told are outcomes of their calls.
-use Rattle.std.specs.Prelude.{◌≡◌, ℕ, ◌-◌, ◌≤◌, ◌<◌, List, [], Some, Contains}
+use Rattle.std.specs.Prelude.{◌≡◌, ◌⊎◌, ℕ, ◌-◌, ◌≤◌, ◌<◌, List, [], Some, Contains, IsFalse}
 use Rattle.std.specs.List.{AllByRecursion}
 use Rattle.std.specs.FinMap as table
 use Rattle.gfs_types.specs.declared.call.Call.{Call}
@@ -9,8 +9,10 @@ use Rattle.messages.specs.declared.message.Message.{Message}
 use Rattle.messages.specs.declared.message.NameReply.{NameReply}
 use Rattle.messages.specs.declared.message.NameReply.TheVariants.{Opened, Answered}
 use Rattle.relaxed_file.specs.Machine.{Machine, OpenCall, Outcome, Replies, Opens}
+use Rattle.relaxed_file.specs.NameStep.{is_look}
 use Rattle.relaxed_file.specs.Run.{visible}
 use Rattle.name_runs.specs.Laws.{LeadsByNames}
+use Rattle.protocol.specs.Tables.{Table}
 use Rattle.protocol.specs.Sending.{client_number}
 use Rattle.protocol.specs.Logged.{KeptCall}
 use Rattle.protocol.specs.Master.{MasterDoing}
@@ -42,12 +44,16 @@ pub record IsBeside (d : MasterDoing) (m : Machine) (requests : Requests) : Type
 abbrev pub IsFollowed : Machine → MasterDoing → Requests → Type 0
 IsFollowed m d requests = (n : Machine) × RunsTo m n × IsBeside d n requests
 
+-- Each answer that is kept now was kept before, or is to the client's open request.
+abbrev pub AreKeptOn : Requests → Table KeptCall → Table KeptCall → Type 0
+AreKeptOn requests before now = (client : ℕ) → (table.get now client ≡ table.get before client) ⊎ ((k : KeptCall) × (table.get now client ≡ Some k) × (requests client ≡ Some k.number))
+
 -- the master's moment is not ahead of the clock, and behind it by the clock bound at most
 abbrev pub IsTimely : Machine → ℕ → Type 0
 IsTimely m now = (m.clock - m.config.skew_ms ≤ now) × (now ≤ m.clock)
 
--- A request that comes in time and was not answered, nor a later one of its client: its call is open and took no step yet.
+-- A request that comes in time and was not answered, nor a later one of its client: it is to change names, and its call is open.
 abbrev pub IsRequest : MasterDoing → Machine → Requests → ℕ → ℕ → ℕ → Call → Type 0
 IsRequest d m requests client number deadline c =
     d.master.now < deadline → ((k : KeptCall) → table.get d.master.logged.kept client ≡ Some k → k.number < number)
-    → (current : OpenCall) × IsWaiting m requests client number current × (current.asked.call ≡ c) × (current.outcomes ≡ [])
+    → IsFalse (is_look c) × (current : OpenCall) × IsWaiting m requests client number current × (current.asked.call ≡ c)

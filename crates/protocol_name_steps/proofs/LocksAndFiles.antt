@@ -20,9 +20,9 @@ use Rattle.relaxed_file.proofs.NamesTree.{HasAt, found_at, entry_is}
 use Rattle.protocol.specs.Logged.{Logged, Copy, after_record, copies_given_up, is_this_file, name_removed, without_file, swapped_in}
 use Rattle.protocol.specs.Master.{PendingSnapshot}
 use Rattle.protocol.specs.MasterNames.{snapshot_call}
-use Rattle.protocol_name_steps.specs.Alike.{Requests, HoldsLocks, AreAlike}
+use Rattle.protocol_name_steps.specs.Alike.{Requests, AreUntaken, HoldsLocks, AreAlike}
 use Rattle.protocol_name_steps.specs.Laws.{LocksAreTaken, LocksGoBack, ExpiredFilesAreCollected, IsOnlyName, IsOfChunks, ChunksChangeNoNames}
-use Rattle.protocol_name_steps.proofs.OpenCalls.{GoesOn, step_goes_on, kept_stays, all_hold_still, none_of_client, some_hold, one_more_holds, waits_still, all_still}
+use Rattle.protocol_name_steps.proofs.OpenCalls.{GoesOn, step_goes_on, kept_stays, untaken_stays, all_hold_still, none_of_client, some_hold, one_more_holds, waits_still, all_still}
 use Rattle.protocol_name_steps.proofs.FilesThere.{AreIn, files_in, files_alike, file_out, put_again}
 
 pub locks_are_taken : LocksAreTaken
@@ -48,12 +48,13 @@ locks_are_taken l snapshots m requests s h new free =
         next = h.next;
         files = h.files;
         kept = λ q k is. kept_stays m n requests s.client new.current later g q k (h.kept q k is);
+        untaken = untaken_stays m n requests s.client new.current later g l.kept h.untaken (λ number plain. inl new.untaken);
         locks = one_more_holds n requests snapshots s still one;
       },
     )
 
 pub locks_go_back : LocksGoBack
-locks_go_back l snapshots m requests stays h = record { names = h.names; next = h.next; files = h.files; kept = h.kept; locks = some_hold m requests stays snapshots h.locks }
+locks_go_back l snapshots m requests stays h = record { names = h.names; next = h.next; files = h.files; kept = h.kept; untaken = h.untaken; locks = some_hold m requests stays snapshots h.locks }
 
 -- files that are collected
 
@@ -102,6 +103,7 @@ expired_files_are_collected l snapshots m requests file moment h only has kept_l
         next = h.next;
         files = files_alike (table.remove l.table.files file) n out;
         kept = λ client k is c w. h.kept client k is c (waits_still m n requests client k.number c refl w);
+        untaken = λ client number c w plain. h.untaken client number c (waits_still m n requests client number c refl w) plain;
         locks = all_still m n requests snapshots refl h.locks;
       },
     )
@@ -116,6 +118,7 @@ same_but_chunks l k snapshots m requests names next files kept h =
       next = sym next ∙ h.next;
       files = λ file. files file ∙ h.files file;
       kept = λ client c is. h.kept client c (ap (λ t. table.get t client) kept ∙ is);
+      untaken = subst (λ t. AreUntaken t m requests) kept h.untaken;
       locks = h.locks;
     }
 

@@ -28,9 +28,9 @@ use Rattle.protocol.specs.MasterNames.{snapshot_call, master_refusal}
 use Rattle.protocol.specs.MasterSnapshots.{reply_of}
 use Rattle.protocol_names.specs.Laws.{record_of, HasNamesOf}
 use Rattle.protocol_names.proofs.NameRecords.{records_do_the_name_step, refusals_are_the_machines}
-use Rattle.protocol_name_steps.specs.Alike.{Requests, is_there, HoldsLocks, AreAlike, IsNew, Follows}
+use Rattle.protocol_name_steps.specs.Alike.{Requests, is_there, AreUntaken, HoldsLocks, AreAlike, IsNew, Follows}
 use Rattle.protocol_name_steps.specs.Laws.{AreNamedFilesThere, RecordsAreSteps, RefusalsAreSteps, BusyCallsFindAHolder, FullNamesAreFound, LooksAreSteps}
-use Rattle.protocol_name_steps.proofs.OpenCalls.{contains_first, GoesOn, outcome_goes_on, kept_stays, kept_now, all_hold_still, none_of_client, none_of_call}
+use Rattle.protocol_name_steps.proofs.OpenCalls.{contains_first, GoesOn, outcome_goes_on, kept_stays, kept_now, untaken_stays, untaken_now, all_hold_still, none_of_client, none_of_call}
 use Rattle.protocol_name_steps.proofs.FilesThere.{AreIn, IsNodeIn, files_in, files_alike, file_in, copies_in, copied_nodes}
 
 -- The master's state after a record of a client's call, and the machine as it is but for the outcome.
@@ -59,16 +59,20 @@ answered l k snapshots m base requests client number c refusal h new b =
         next = b.next;
         files = b.files;
         kept = λ q x is. kept_now m n requests client new.current later g l.kept number refusal h.kept has q x (ap (λ (t : Table KeptCall). table.get t q) (sym b.kept) ∙ is);
+        untaken = subst (λ (t : Table KeptCall). AreUntaken t n requests) (sym b.kept) (untaken_now m n requests client new.current later g l.kept number refusal new.waiting.number_is h.untaken);
         locks = all_hold_still m n requests client new.current later g snapshots (none_of_client m requests client number snapshots new.waiting.number_is new.alone h.locks) h.locks;
       },
       (later, g.after, has),
     )
 
+pub no_look : (c : Call) → is_look c ≡ true → (s : PendingSnapshot) → c ≡ snapshot_call s → ⊥
+no_look c look s is = true≢false (sym look ∙ ap is_look is)
+
 -- a call that only reads takes a step
 pub looked : (l : Logged) (snapshots : List PendingSnapshot) (m : Machine) (requests : Requests) (client : ℕ) (current : OpenCall) (outcome : Outcome)
-    → AreAlike l snapshots m requests → IsOpen m client current → ((s : PendingSnapshot) → current.asked.call ≡ snapshot_call s → ⊥)
+    → AreAlike l snapshots m requests → IsOpen m client current → is_look current.asked.call ≡ true
     → AreAlike l snapshots (with_outcome m client outcome) requests × HasOutcome (with_outcome m client outcome) client outcome
-looked l snapshots m requests client current outcome h is plain =
+looked l snapshots m requests client current outcome h is look =
     let n : Machine = with_outcome m client outcome in
     let later : OpenCall = record current { outcomes = outcome ∷ current.outcomes; has_begun = true } in
     let g : GoesOn m n client current later = outcome_goes_on m m client current outcome refl is in (
@@ -77,7 +81,8 @@ looked l snapshots m requests client current outcome h is plain =
         next = h.next;
         files = h.files;
         kept = λ q x at. kept_stays m n requests client current later g q x (h.kept q x at);
-        locks = all_hold_still m n requests client current later g snapshots (none_of_call m requests client current snapshots is plain h.locks) h.locks;
+        untaken = untaken_stays m n requests client current later g l.kept h.untaken (λ number plain. absurd (true≢false (sym look ∙ plain)));
+        locks = all_hold_still m n requests client current later g snapshots (none_of_call m requests client current snapshots is (no_look current.asked.call look) h.locks) h.locks;
       },
       (later, g.after, contains_first outcome current.outcomes),
     )
@@ -271,9 +276,6 @@ full_names_are_found l snapshots m requests client number c h new room free =
 
 -- looks
 
-pub no_look : (c : Call) → is_look c ≡ true → (s : PendingSnapshot) → c ≡ snapshot_call s → ⊥
-no_look c look s is = true≢false (sym look ∙ ap is_look is)
-
 pub look_is_name : (c : Call) → is_look c ≡ true → IsTrue (is_name_call c)
 look_is_name (call.Open p) h = refl
 look_is_name (call.List p) h = refl
@@ -291,7 +293,7 @@ either false m n h = h
 look_step : (s : MasterState) (m : Machine) (requests : Requests) (client : ℕ) (c : Call) (current : OpenCall) (outcome : Outcome) → AreAlike s.logged s.snapshots m requests → IsOpen m client current → current.asked.call ≡ c
     → is_look c ≡ true → outcome ≡ outcome_of m.names c → Follows s.logged s.snapshots m requests (Step client 0 outcome) client outcome
 look_step s m requests client c current outcome h is same look equal =
-    let both = looked s.logged s.snapshots m requests client current outcome h is (λ t e. no_look c look t (sym same ∙ e)) in
+    let both = looked s.logged s.snapshots m requests client current outcome h is (ap is_look same ∙ look) in
     let effect = look_effect m c look 0 in
     let base : Machine = cond (is_refused outcome) m (performed m c 0) in
     let at : base ≡ m = either (is_refused outcome) m (performed m c 0) effect.0 in
@@ -312,7 +314,7 @@ looks_are_steps s m requests client number c current h waits same look =
           let others = none_of_call m requests client current s.snapshots waits.is_open (λ t e. no_look c look t (sym same ∙ e)) h.locks in
           let found = find_holder m requests client c s.snapshots h.locks others busy.1 in
           let told : Replies (answer.Refused Busy) ≡ outcome_by s.logged.names c (master_refusal s c) = ap (λ (o : Option Refusal). outcome_by s.logged.names c o) (sym busy.0) in
-          let both = looked s.logged s.snapshots m requests client current (Replies (answer.Refused Busy)) h waits.is_open (λ t e. no_look c look t (sym same ∙ e)) in (
+          let both = looked s.logged s.snapshots m requests client current (Replies (answer.Refused Busy)) h waits.is_open (ap is_look same ∙ look) in (
             FindBusy client (found.0).client,
             subst (λ (o : Outcome). Follows s.logged s.snapshots m requests (FindBusy client (found.0).client) client o) told
                 (record { allowed = busy_allowed m requests client c current found.0 waits.is_open same (inl (ap is_look same ∙ look)) busy.2 found.1; alike = both.0; told = both.1 }),

@@ -1,20 +1,20 @@
 -- The open call of one client goes on; those of the others stay, with their kept answers and locks.
 use Rattle.std.proofs.Common.{◌≡◌, ◌⊎◌, ⊎_elim, ℕ, zero, suc, Bool, true, false, cond, List, [], ◌∷◌, ◌++◌, Option, Some, refl, sym, ap, subst, ◌∙◌, inl, inr, arith}
-use Rattle.std.specs.Prelude.{◌==◌, ◌&&◌, option_map, Contains, filter}
+use Rattle.std.specs.Prelude.{◌==◌, ◌&&◌, option_map, Contains, filter, IsFalse}
 use Rattle.std.specs.List.{AllByRecursion}
 use Rattle.std.specs.Cmp.{nat_cmp_total, unsigned_tied}
-use Rattle.std.proofs.lemmas.Bool.{true≢false, eqb-true, eqb-false, eq-eqb, or_parts}
+use Rattle.std.proofs.lemmas.Bool.{true≢false, eqb-true, eqb-false, eq-eqb, ne_eqb, or_parts}
 use Rattle.std.specs.FinMap as table
 use Rattle.gfs_types.specs.declared.refusal.Refusal.{Refusal}
 use Rattle.relaxed_file.specs.Machine.{Machine, Client, OpenCall, Outcome, Replies, IsOpen, with_step}
-use Rattle.relaxed_file.specs.NameStep.{with_outcome}
+use Rattle.relaxed_file.specs.NameStep.{is_look, with_outcome}
 use Rattle.relaxed_file.proofs.Tables.{put_same, put_other, from_some}
 use Rattle.protocol.specs.Tables.{Table}
 use Rattle.protocol.specs.Logged.{KeptCall}
 use Rattle.protocol.specs.Master.{PendingSnapshot}
 use Rattle.protocol.specs.MasterNames.{snapshot_call}
 use Rattle.protocol.specs.MasterSnapshots.{reply_of}
-use Rattle.protocol_name_steps.specs.Alike.{Requests, IsWaiting, IsKept, HoldsLocks, waits_among}
+use Rattle.protocol_name_steps.specs.Alike.{Requests, IsWaiting, IsKept, IsAnswered, AreUntaken, HoldsLocks, waits_among}
 
 pub contains_first : {X : Type 0} (x : X) (xs : List X) → Contains (x ∷ xs) x
 contains_first x xs = (zero, omega arith, refl)
@@ -36,6 +36,13 @@ put_split {X} t k v q x h = split (q == k) refl (sym (table.get-insert nat_cmp_t
     split : (b : Bool) → (q == k) ≡ b → cond b (Some v) (table.get t q) ≡ Some x → ((q ≡ k) × (v ≡ x)) ⊎ ((q ≡ k → ⊥) × (table.get t q ≡ Some x))
     split true e g = inl (eqb-true q k e, from_some g)
     split false e g = inr (eqb-false q k e, g)
+
+-- what was put in stands there, and the others stay
+pub got_same : {X : Type 0} (t : Table X) (k : ℕ) (v : X) (q : ℕ) → q ≡ k → table.get (table.insert t k v) q ≡ Some v
+got_same t k v q same = table.get-insert nat_cmp_total t k v q ∙ ap (λ b. cond b (Some v) (table.get t q)) (unsigned_tied q k ∙ eq-eqb q k same)
+
+pub got_other : {X : Type 0} (t : Table X) (k : ℕ) (v : X) (q : ℕ) → (q ≡ k → ⊥) → table.get (table.insert t k v) q ≡ table.get t q
+got_other t k v q other = table.get-insert nat_cmp_total t k v q ∙ ap (λ b. cond b (Some v) (table.get t q)) (unsigned_tied q k ∙ ne_eqb q k other)
 
 -- from one state to another the open call of this client alone goes on, and keeps its outcomes
 pub record GoesOn (m n : Machine) (client : ℕ) (current later : OpenCall) : Type 0 where
@@ -90,6 +97,27 @@ module _ (m n : Machine) (requests : Requests) (client : ℕ) (current later : O
         subst (λ (x : KeptCall). Contains c.outcomes (Replies (reply_of x.refusal))) now.1 told
     | inr old ↦ kept_stays q k (all q k old.1)
   ]
+
+  -- the calls of the others took no step now
+  pub untaken_stays : (kept : Table KeptCall) → AreUntaken kept m requests → ((number : ℕ) → IsFalse (is_look later.asked.call) → (later.outcomes ≡ []) ⊎ IsAnswered kept client number) → AreUntaken kept n requests
+  untaken_stays kept all own q number c w plain = ⊎_elim
+      (λ same.
+      let is : later ≡ c = one_call n client later c g.after (subst (λ (i : ℕ). IsOpen n i c) same w.is_open) in
+      subst (λ (x : OpenCall). (x.outcomes ≡ []) ⊎ IsAnswered kept q number) is
+      (subst (λ (i : ℕ). (later.outcomes ≡ []) ⊎ IsAnswered kept i number) (sym same) (own number (ap (λ (x : OpenCall). is_look x.asked.call) is ∙ plain))))
+      (λ other. all q number c (record { is_open = back_at_other m n client current later g q c other w.is_open; number_is = w.number_is }) plain)
+      (same_or_not q client)
+
+  -- the call that took a step now is answered
+  pub untaken_now : (kept : Table KeptCall) (number : ℕ) (refusal : Option Refusal) → requests client ≡ Some number → AreUntaken kept m requests
+      → AreUntaken (table.insert kept client (record { number = number; refusal = refusal })) n requests
+  untaken_now kept number refusal is all q asked c w plain = ⊎_elim
+      (λ same. inr (record { number = number; refusal = refusal }, got_same kept client (record { number = number; refusal = refusal }) q same, from_some (sym is ∙ ap requests (sym same) ∙ w.number_is)))
+      (λ other. ⊎_elim
+      (λ none. inl none)
+      (λ found. inr (found.0, got_other kept client (record { number = number; refusal = refusal }) q other ∙ found.1, found.2))
+      (all q asked c (record { is_open = back_at_other m n client current later g q c other w.is_open; number_is = w.number_is }) plain))
+      (same_or_not q client)
 
   -- another client's locks stay
   pub holds_still : (s : PendingSnapshot) → (s.client ≡ client → ⊥) → HoldsLocks m requests s → HoldsLocks n requests s

@@ -1,10 +1,12 @@
 -- The master beside the machine: both have the same names and files, kept answers are outcomes, and what waits at the master holds its locks at the machine.
-use Rattle.std.specs.Prelude.{◌≡◌, ℕ, suc, ◌==◌, ◌&&◌, nat_lt, nat_le, Bool, false, not, List, [], Option, Some, Contains, IsTrue}
+use Rattle.std.specs.Prelude.{◌≡◌, ◌⊎◌, ℕ, suc, ◌==◌, ◌&&◌, nat_lt, nat_le, Bool, false, not, List, [], Option, Some, Contains, IsTrue, IsFalse}
 use Rattle.std.specs.List.{AllByRecursion, list_any}
 use Rattle.std.specs.FinMap as table
 use Rattle.gfs_types.specs.declared.call.Call.{Call}
 use Rattle.relaxed_file.specs.Machine.{Machine, OpenCall, Outcome, Replies, IsOpen}
+use Rattle.relaxed_file.specs.NameStep.{is_look}
 use Rattle.relaxed_file.specs.Run.{Action, Allows, after, OnOpen}
+use Rattle.protocol.specs.Tables.{Table}
 use Rattle.protocol.specs.Logged.{Logged, KeptCall}
 use Rattle.protocol.specs.Master.{PendingSnapshot}
 use Rattle.protocol.specs.MasterNames.{snapshot_call}
@@ -27,6 +29,15 @@ pub record IsWaiting (m : Machine) (requests : Requests) (client number : ℕ) (
 abbrev pub IsKept : Machine → Requests → ℕ → KeptCall → Type 0
 IsKept m requests client k = (current : OpenCall) → IsWaiting m requests client k.number current → Contains current.outcomes (Replies (reply_of k.refusal))
 
+-- the answer to the client's request of this number is kept
+abbrev pub IsAnswered : Table KeptCall → ℕ → ℕ → Type 0
+IsAnswered kept client number = (k : KeptCall) × (table.get kept client ≡ Some k) × (k.number ≡ number)
+
+-- An open call that changes names took no step before it was answered.
+abbrev pub AreUntaken : Table KeptCall → Machine → Requests → Type 0
+AreUntaken kept m requests =
+    (client number : ℕ) (current : OpenCall) → IsWaiting m requests client number current → IsFalse (is_look current.asked.call) → (current.outcomes ≡ []) ⊎ IsAnswered kept client number
+
 -- A snapshot that waits holds its locks: its call is open and took no step yet.
 pub record HoldsLocks (m : Machine) (requests : Requests) (s : PendingSnapshot) : Type 0 where
   pub current : OpenCall
@@ -41,6 +52,7 @@ pub record AreAlike (l : Logged) (snapshots : List PendingSnapshot) (m : Machine
   pub next : l.next_file ≡ suc m.file_count
   pub files : (file : ℕ) → table.contains_key l.table.files file ≡ is_there m file
   pub kept : (client : ℕ) (k : KeptCall) → table.get l.kept client ≡ Some k → IsKept m requests client k
+  pub untaken : AreUntaken l.kept m requests
   pub locks : AllByRecursion (HoldsLocks m requests) snapshots
 
 -- whether a snapshot of this very request waits

@@ -1,5 +1,5 @@
 -- In a step a server's leases stay right by what was shown, and each success that it tells is that of a mutation that was settled.
-use Rattle.std.proofs.Common.{◌≡◌, ◌⊎◌, ℕ, zero, suc, ◌+◌, ◌-◌, Bool, true, false, List, [], ◌∷◌, ◌++◌, length, map, Option, Some, None, refl, sym, ap, subst, ◌∙◌, inl, inr}
+use Rattle.std.proofs.Common.{◌≡◌, ◌⊎◌, ℕ, zero, suc, ◌+◌, ◌-◌, Bool, true, false, List, [], ◌∷◌, ◌++◌, length, map, Option, Some, None, refl, sym, subst, ◌∙◌, inl, inr}
 use Rattle.std.specs.Prelude.{nat_le, nat_lt, ◌==◌, filter, cond}
 use Rattle.std.specs.Option.{option_map}
 use Rattle.std.specs.Ordering.{nat_cmp}
@@ -53,7 +53,7 @@ use Rattle.protocol.specs.ServerReads.{answers_bytes, reads_from, measures, send
 use Rattle.protocol.specs.ServerWrites.{passes_on, refuses_attempt, answers_settled, denies, forward_to, forwards, settles, acknowledges, change_of, stored_as, primary_applies, places, appends_as, mutates_with, mutates_new, mutates_as, mutates_under, nacks, member_stores, member_applies, applies_data, applies_change, forwarded_to, acked_under, refuses_waiting, nacked_under}
 use Rattle.protocol.specs.ServerOrders.{on_order, records, can_take, takes_create, raises, takes_set_version, holds_version, takes_grant, extends_held, ends_held, takes_revoke, drops_old, takes_drop, takes_clone, takes_image, copies_locally, takes_copy_local}
 use Rattle.protocol.specs.ServerStep.{replica_line, lease_line, asks_no_more, counting_leases, server_ticks, server_takes, server_does, server_at, server_goes, server_ends, server_step, server_restarts, server_restart}
-use Rattle.protocol_laws.proofs.Steps.{on_cond, none_some, same_some, put_cases, kept_cases}
+use Rattle.protocol_laws.proofs.Steps.{on_cond, none_some, put_cases, kept_cases}
 use Rattle.protocol_laws.proofs.Entries.{AllOf, all_joined, mapped_cases, kept_where_cases}
 use Rattle.protocol_laws.proofs.MembersRecorded.{kept_place, all_in_order}
 use Rattle.protocol_numbered_once.proofs.KnownNumbers.{primary_there}

@@ -6,6 +6,7 @@ use Rattle.std.specs.FinMap as table
 use Rattle.gfs_types.specs.declared.config.Config.{Config}
 use Rattle.messages.specs.declared.event.Event.{Event}
 use Rattle.messages.specs.declared.event.Input.{Input}
+use Rattle.messages.specs.declared.event.Input.TheVariants as input
 use Rattle.messages.specs.declared.message.Body.{Body}
 use Rattle.messages.specs.declared.message.Body.TheVariants as body
 use Rattle.messages.specs.declared.message.Message.{Message}
@@ -27,6 +28,7 @@ use Rattle.protocol_attempts.proofs.Events.{with_call, with_rot, HoldsAfter, hol
 use Rattle.protocol_attempts.proofs.ClientNumbers.{IsSaid, IsStepOf, of_step, of_call}
 use Rattle.protocol_attempts.proofs.RequestsOnce.{AreNumbered, each_event, numbered_reached, later_cases}
 use Rattle.protocol_words.proofs.MasterTalks.{is_masters, MasterTalks, master_said, restart_said}
+use Rattle.protocol_entries.proofs.Stemming.{came_in}
 use Rattle.protocol_chunk_orders.proofs.Numbering.{came_first, came_later}
 use Rattle.protocol_successes.specs.Laws.{IsShownNow, WasShown, SuccessesWereSettled}
 use Rattle.protocol_successes.proofs.RightLeases.{IsCaused, right_on, caused_on, settled_on}
@@ -99,29 +101,29 @@ module _ (w : WorldState) (K : Seen → Type 0) (h : IsSound K w) (x : Happened)
         | inr there ↦ leases_on other u there
       ]
 
-shown_now : (v : WorldState) (L : Seen → Type 0) (index moment : ℕ) (s : ServerState) (i : Input) (choice : Choice) → element_at v.servers index ≡ Some s → (y : Seen) → Since L (server_step s moment i choice).seen y
+shown_now : (v : WorldState) (L : Seen → Type 0) (index moment : ℕ) (s : ServerState) (i : Input) (choice : Choice) → element_at v.servers index ≡ Some s → ((m : Message) → i ≡ input.Deliver m → (at : ℕ) × (element_at v.sent at ≡ Some m)) → (y : Seen) → Since L (server_step s moment i choice).seen y
     → Next v (after_server v index moment (server_step s moment i choice)) L y
-shown_now v L index moment s i choice at y since =
+shown_now v L index moment s i choice at came y since =
     elim (since) [
       | inl before ↦ inl before
-      | inr now ↦ inr (record { index = index; moment = moment; server = s; input = i; choice = choice; place = now.0; is = at; step_is = refl; seen = now.1 })
+      | inr now ↦ inr (record { index = index; moment = moment; server = s; input = i; choice = choice; place = now.0; is = at; came = came; step_is = refl; seen = now.1 })
     ]
 
-served_leases : (v : WorldState) (L : Seen → Type 0) (g : IsSound L v) (index moment : ℕ) (s : ServerState) (i : Input) (choice : Choice) → element_at v.servers index ≡ Some s → (other : ℕ) (u : ServerState)
+served_leases : (v : WorldState) (L : Seen → Type 0) (g : IsSound L v) (index moment : ℕ) (s : ServerState) (i : Input) (choice : Choice) → element_at v.servers index ≡ Some s → ((m : Message) → i ≡ input.Deliver m → (at : ℕ) × (element_at v.sent at ≡ Some m)) → (other : ℕ) (u : ServerState)
     → element_at (with_at v.servers index (server_step s moment i choice).state) other ≡ Some u → AreRight (Next v (after_server v index moment (server_step s moment i choice)) L) u.leases
-served_leases v L g index moment s i choice at =
+served_leases v L g index moment s i choice at came =
     let x : Happened = after_server v index moment (server_step s moment i choice) in
     let left = step_leaves L s moment i choice (g.leases index s at) in
-    one_server v L g x index (server_step s moment i choice).state (λ q p there. right_on (Since L (server_step s moment i choice).seen) (Next v x L) (shown_now v L index moment s i choice at) q p (left.0 q p there))
+    one_server v L g x index (server_step s moment i choice).state (λ q p there. right_on (Since L (server_step s moment i choice).seen) (Next v x L) (shown_now v L index moment s i choice at came) q p (left.0 q p there))
 
-served_told : (v : WorldState) (L : Seen → Type 0) (g : IsSound L v) (index moment : ℕ) (s : ServerState) (i : Input) (choice : Choice) → element_at v.servers index ≡ Some s → (place : ℕ) (m : Message)
+served_told : (v : WorldState) (L : Seen → Type 0) (g : IsSound L v) (index moment : ℕ) (s : ServerState) (i : Input) (choice : Choice) → element_at v.servers index ≡ Some s → ((m : Message) → i ≡ input.Deliver m → (at : ℕ) × (element_at v.sent at ≡ Some m)) → (place : ℕ) (m : Message)
     → element_at (v.sent ++ stamped (suc (length v.sent)) (server_step s moment i choice).out.sent) place ≡ Some m → IsCaused (Next v (after_server v index moment (server_step s moment i choice)) L) m.body
-served_told v L g index moment s i choice at =
+served_told v L g index moment s i choice at came =
     let x : Happened = after_server v index moment (server_step s moment i choice) in
     let left = step_leaves L s moment i choice (g.leases index s at) in
     more_told (Next v x L) v.sent (suc (length v.sent)) (server_step s moment i choice).out.sent (told_on v L g x)
     (all_on (λ m. IsCaused (Since L (server_step s moment i choice).seen) m.body) (λ m. IsCaused (Next v x L) m.body)
-    (λ m c. caused_on (Since L (server_step s moment i choice).seen) (Next v x L) (shown_now v L index moment s i choice at) m.body c) (server_step s moment i choice).out.sent left.1)
+    (λ m c. caused_on (Since L (server_step s moment i choice).seen) (Next v x L) (shown_now v L index moment s i choice at came) m.body c) (server_step s moment i choice).out.sent left.1)
 
 each_sound : (w : WorldState) (K : Seen → Type 0) → IsSound K w → HoldsAfter w (λ e x. IsSound (Next w x K) x.world)
 each_sound w K h =
@@ -143,7 +145,7 @@ each_sound w K h =
             leases = leases_on w K h x;
             told = more_told (Next w x K) w.sent k (master_restart w.master moment choice).out.sent (told_on w K h x) (restart_said _ (master_talks (Next w x K)) w.master moment choice);
           };
-      serves = λ e index moment s i choice at is up. record { numbered = numbered.serves e index moment s i choice at is up; leases = served_leases w K h index moment s i choice at; told = served_told w K h index moment s i choice at };
+      serves = λ e index moment s i choice at is up. record { numbered = numbered.serves e index moment s i choice at is up; leases = served_leases w K h index moment s i choice at (came_in w e (suc index) moment i is); told = served_told w K h index moment s i choice at (came_in w e (suc index) moment i is) };
       restarts = λ e index moment s choice at.
           let x : Happened = after_server w index moment (server_restart s moment choice) in
           record {

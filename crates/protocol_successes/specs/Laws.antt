@@ -5,6 +5,7 @@ use Rattle.gfs_types.specs.declared.ids.DataId.{DataId}
 use Rattle.gfs_types.specs.declared.mutation.Mutation.{Mutation}
 use Rattle.messages.specs.declared.event.Event.{Event}
 use Rattle.messages.specs.declared.event.Input.{Input}
+use Rattle.messages.specs.declared.event.Input.TheVariants.{Deliver}
 use Rattle.messages.specs.declared.message.Message.{Message}
 use Rattle.messages.specs.declared.message.Body.TheVariants as body
 use Rattle.primary_order.specs.PrimaryOrder.{place_of}
@@ -18,7 +19,7 @@ use Rattle.protocol.specs.ServerStep.{server_step}
 use Rattle.protocol.specs.World.{WorldState, Happened, new_world, after_server, after_events}
 use Rattle.protocol_chunk_orders.specs.Laws.{CameAbout}
 
--- By what happened in this world a server's step showed this.
+-- By what happened in this world a server's step, on a message that was sent or a tick, showed this.
 pub record IsShownNow (w : WorldState) (x : Happened) (shown : Seen) : Type 0 where
   pub index : ℕ
   pub moment : ℕ
@@ -27,6 +28,7 @@ pub record IsShownNow (w : WorldState) (x : Happened) (shown : Seen) : Type 0 wh
   pub choice : Choice
   pub place : ℕ
   pub is : element_at w.servers index ≡ Some server
+  pub came : (m : Message) → input ≡ Deliver m → (at : ℕ) × (element_at w.sent at ≡ Some m)
   pub step_is : x ≡ after_server w index moment (server_step server moment input choice)
   pub seen : element_at (server_step server moment input choice).seen place ≡ Some shown
 

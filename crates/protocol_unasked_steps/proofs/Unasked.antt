@@ -32,7 +32,7 @@ use Rattle.protocol_name_steps.specs.Laws.{AreNamedFilesThere, IsOnlyName}
 use Rattle.protocol_name_steps.proofs.OpenCalls.{waits_still}
 use Rattle.protocol_name_steps.proofs.LocksAndFiles.{locks_go_back, chunks_change_no_names, expired_files_are_collected}
 use Rattle.protocol_name_requests.specs.Followed.{RunsTo, IsTold, IsToldTo, IsFollowed}
-use Rattle.protocol_name_requests.proofs.Moves.{IsMove, Keeps, At, Reaches, here, alike_at, appends_at, checkpoint_at, stays, join, one_action}
+use Rattle.protocol_name_requests.proofs.Moves.{IsMove, Keeps, At, Reaches, here, alike_at, appends_at, checkpoint_at, stays, join, one_action, kept_same}
 use Rattle.protocol_name_requests.proofs.NameWalk.{changes_at}
 use Rattle.protocol_unasked_steps.specs.Laws.{SnapshotsAreFollowed, IsOldFile, AreOldFiles, ExpirationsAreFollowed}
 
@@ -126,6 +126,7 @@ expire_move l m requests snapshots file old h =
       alike = λ x a. collected x snapshots a;
       alone = λ x a. collected x [] a;
       told = λ x t. told_still m n requests (client_number x.receiver) x.body refl t;
+      kept_on = λ x ss a. kept_same requests x.kept;
     }
   where
     collected : (x : Logged) (ss : List PendingSnapshot) → AreAlike x ss m requests → AreAlike (after_record x (log.Expired (file_id file))) ss (after m (Expire file old.0)) requests
@@ -166,7 +167,7 @@ module _ (requests : Requests) (P : Machine → Logged → LogDisk → List LogC
       let held : HoldsLocks m requests s = contained (HoldsLocks m requests) d.master.snapshots s a.locks among in
       let stay : PendingSnapshot → Bool = λ t. not (is_same_snapshot s t) in
       let move : IsMove m m requests d.master.snapshots (filter stay d.master.snapshots) (λ x. x) =
-      record { run = stays m; alike = λ l b. locks_go_back l d.master.snapshots m requests stay b; alone = λ l b. b; told = λ x t. t } in
+      record { run = stays m; alike = λ l b. locks_go_back l d.master.snapshots m requests stay b; alone = λ l b. b; told = λ x t. t; kept_on = λ l ss b. kept_same requests l.kept } in
       let e : MasterDoing = lets_go d s in
       let left : At requests P k m e = k.moves m m d.master.logged d.master.disk d.changes d.sent d.master.snapshots (filter stay d.master.snapshots) move h in
       let new : IsNew e.master.snapshots m requests s.client s.number (snapshot_call s) =

@@ -1,0 +1,113 @@
+//! A call of a client, until it is answered.
+
+ghost use Rattle.std.specs.Prelude.{◌≡◌, ◌++◌, ◌∷◌, [], IfOk, IfSome};
+ghost use Rattle.cell_slot.specs.Slots.{IsLedTo};
+ghost use Rattle.cell_asking.specs.Seen.{visible_of, IsFurther, HasSeen, Hears, IsHeard, Asked as CallAsked, Answered as CallAnswered};
+
+use cell_desk::post::Letter;
+use cell_slot::gate::OpenGate;
+use cell_slot::slot::{Slot, Taken};
+use cell_slot::stepper::Stepper;
+use crossbeam_channel::Receiver;
+use gfs_types::answer::Answer;
+use gfs_types::call::Call;
+use gfs_types::refusal::Refusal;
+use journal_list::Beginning;
+use journal_pages::entry::Entry;
+use std::sync::Wait;
+use std::time::Clock;
+
+/// An answer, and the journal as it was then, with its length.
+#[derive(Drop)]
+pub struct Heard {
+    pub answer: Answer,
+    pub beginning: Beginning<Entry>,
+    pub count: usize,
+}
+
+/// Makes the call, and waits for its answer.
+#[tactic(auto, using(crate::proofs::Shown::asked_answered, crate::proofs::Shown::answered_later, crate::proofs::Shown::further_trans))]
+pub fn ask<R: Wait + Clock, N: Stepper + Drop>(
+    rt: &R,
+    slot: &mut Slot<N>,
+    inbox: &Receiver<Letter>,
+    call: Call,
+) -> Result<Heard, Refusal>
+    requires led { IfSome slot.old.node (λ n. IsLedTo slot.old.desk.place.me.0 slot.old.desk.node (N.stands n)) }
+    ensures node { slot.new.desk.node ≡ slot.old.desk.node }
+    ensures led { IfSome slot.new.node (λ n. IsLedTo slot.new.desk.place.me.0 slot.new.desk.node (N.stands n)) }
+    ensures further { IsFurther slot.old.desk.place.me.0 slot.new.desk.place.me.0 }
+    ensures shows { IfOk result (λ h. visible_of slot.new.desk.place.me.0.mine ≡ visible_of slot.old.desk.place.me.0.mine ++ CallAsked call ∷ CallAnswered h.answer ∷ []) }
+    ensures seen { IfOk result (λ h. HasSeen slot.new.desk.node slot.new.desk.place.me.0 h.beginning h.count) }
+{
+    if let Some(heard) = begin(rt, slot, call)? {
+        return Ok(heard);
+    }
+    for _ in rt.forever() {
+        if let Some(heard) = hear(rt, slot, inbox)? {
+            return Ok(heard);
+        }
+    }
+    unreachable!()
+}
+
+// The call is made. It may be answered at once.
+fn begin<R: Wait + Clock, N: Stepper + Drop>(
+    rt: &R,
+    slot: &mut Slot<N>,
+    call: Call,
+) -> Result<Option<Heard>, Refusal>
+    requires led { IfSome slot.old.node (λ n. IsLedTo slot.old.desk.place.me.0 slot.old.desk.node (N.stands n)) }
+    ensures node { slot.new.desk.node ≡ slot.old.desk.node }
+    ensures led { IfSome slot.new.node (λ n. IsLedTo slot.new.desk.place.me.0 slot.new.desk.node (N.stands n)) }
+    ensures further { IsFurther slot.old.desk.place.me.0 slot.new.desk.place.me.0 }
+    ensures ok { IfOk result (λ h. Hears slot.new.desk.node (visible_of slot.old.desk.place.me.0.mine ++ CallAsked call ∷ []) slot.new.desk.place.me.0 h) }
+{
+    what_is_heard(slot.call(rt, call)?)
+}
+
+// The client's next step.
+fn hear<R: Wait + Clock, N: Stepper + Drop>(
+    rt: &R,
+    slot: &mut Slot<N>,
+    inbox: &Receiver<Letter>,
+) -> Result<Option<Heard>, Refusal>
+    requires led { IfSome slot.old.node (λ n. IsLedTo slot.old.desk.place.me.0 slot.old.desk.node (N.stands n)) }
+    ensures node { slot.new.desk.node ≡ slot.old.desk.node }
+    ensures led { IfSome slot.new.node (λ n. IsLedTo slot.new.desk.place.me.0 slot.new.desk.node (N.stands n)) }
+    ensures further { IsFurther slot.old.desk.place.me.0 slot.new.desk.place.me.0 }
+    ensures ok { IfOk result (λ h. Hears slot.new.desk.node (visible_of slot.old.desk.place.me.0.mine) slot.new.desk.place.me.0 h) }
+{
+    let Ok(letter) = inbox.recv(rt) else {
+        return Err(Refusal::Closed);
+    };
+    let Letter::Take(input) = letter else {
+        return Err(Refusal::Closed);
+    };
+    match slot.take(rt, input, &OpenGate) {
+        Ok(taken) => what_is_heard(taken),
+        // The message is lost.
+        Err(Refusal::NoMemory) => Ok(None),
+        Err(refusal) => Err(refusal),
+    }
+}
+
+// What a step gave its client.
+fn what_is_heard(taken: Taken) -> Result<Option<Heard>, Refusal>
+    ensures { IfOk result (λ h. IsHeard taken.answer taken.beginning taken.count h) }
+{
+    let Taken {
+        answer,
+        beginning,
+        count,
+    } = taken;
+    match answer {
+        Ok(Some(answer)) => Ok(Some(Heard {
+            answer,
+            beginning,
+            count,
+        })),
+        Ok(None) => Ok(None),
+        Err(_) => Err(Refusal::JournalFull),
+    }
+}

@@ -1,0 +1,21 @@
+use Rattle.std.proofs.Common.{sym, subst}
+use Rattle.journal_pages.specs.Entries.{taking_of}
+use Rattle.gfs_types.specs.declared.ids.Node.{Node}
+use Rattle.cell_slot.specs.Slots.{IsLedTo}
+use Rattle.cell_slot.proofs.Moving.{step_of, led_on}
+use Rattle.cell_slot.proofs.slot.step_with.Goals as goal
+
+pub end-requires-clause-step : goal.end-requires-clause-step
+end-requires-clause-step g c =
+    let d = c.args.desk.now in
+    let led = c.requires.led in
+    step_of d.place.me.0 d.place.me.1 d.node (g.N.Stepper.stands c.args.node) (g.N.Stepper.stands c.step-out.new.self) c.args.now.0 (taking_of c.args.taking) c.step-out.result d.own led
+    (c.requires.may led.state led.stands) (c.step-out.ensures led.state led.stands) c.requires.moment c.requires.reads
+
+pub returns-in-Some-clause-led : goal.returns-in-Some-clause-led
+returns-in-Some-clause-led g c =
+    let d = c.args.desk.now in
+    let led = c.requires.led in
+    subst (λ (k : Node). IsLedTo c.end.new.self.place.me.0 k (g.N.Stepper.stands c.step-out.new.self)) (sym c.in-Some.ensures.node)
+    (led_on d.place.me.0 c.end.new.self.place.me.0 d.node (g.N.Stepper.stands c.args.node) (g.N.Stepper.stands c.step-out.new.self) c.args.now.0 (taking_of c.args.taking) c.step-out.result led
+    (c.requires.may led.state led.stands) (c.step-out.ensures led.state led.stands) c.in-Some.ensures.some.0)

@@ -1,0 +1,248 @@
+//! A node with its place at the journal, as its lock guards it.
+
+ghost use Rattle.std.specs.Prelude.{◌≡◌, ◌<◌, ◌≤◌, [], true, Some, IfOk, IfSome, IfNone, OnOk, OnErr, IsSome, MatchBool, IsTrue};
+ghost use Rattle.protocol.specs.Tables.{moment_limit};
+ghost use Rattle.protocol_journal.specs.Journal.{NodeState, sent_after, IsForNode, may_take, Calls as CallTaken};
+ghost use Rattle.journal_pages.specs.Entries.{taking_of};
+ghost use Rattle.journal_steps.specs.Places.{IsLater};
+ghost use Rattle.cell_slot.specs.Slots.{IsLedTo, IsTakenOn, number_in, StepTaken, ActsOn, Acts};
+
+use crate::gate::Gate;
+use crate::stepper::Stepper;
+use cell_desk::desk::Desk;
+use cell_desk::post::Input;
+use gfs_types::answer::Answer;
+use gfs_types::call::Call;
+use gfs_types::ids::Moment;
+use gfs_types::no_memory::NoMemory;
+use gfs_types::refusal::Refusal;
+use journal_list::Beginning;
+use journal_pages::entry::{Entry, Taking};
+use messages::event::Input as NodeInput;
+use messages::message::Message;
+use std::alloc::Global;
+use std::sync::Wait;
+use std::time::Clock;
+
+/// A node with its place. A node that took a step while the journal was closed is gone. While it is there, its own steps in the journal
+/// led to the state in which it is: each function below wants that and leaves it so (`led`).
+#[derive(Drop)]
+pub struct Slot<N: Stepper + Drop> {
+    alloc: Global,
+    pub desk: Desk,
+    pub node: Option<N>,
+}
+
+/// What a step gave its caller: a copy of its answer, if there was one, and the journal as it was then, with its length.
+#[derive(Drop)]
+pub struct Taken {
+    pub answer: Result<Option<Answer>, NoMemory>,
+    pub beginning: Beginning<Entry>,
+    pub count: usize,
+}
+
+impl<N: Stepper + Drop> Slot<N> {
+    pub fn new(alloc: Global, desk: Desk, node: N) -> Slot<N>
+        ensures { (result.desk ≡ desk) × (result.node ≡ Some node) }
+    {
+        Slot {
+            alloc,
+            desk,
+            node: Some(node),
+        }
+    }
+
+    /// Takes one step and adds it to the journal, or none and answers false.
+    pub fn act<R: Wait + Clock, G: Gate>(&mut self, rt: &R, input: Input, gate: &G) -> bool
+        requires led { IfSome self.old.node (λ n. IsLedTo self.old.desk.place.me.0 self.old.desk.node (N.stands n)) }
+        ensures node { self.new.desk.node ≡ self.old.desk.node }
+        ensures led { IfSome self.new.node (λ n. IsLedTo self.new.desk.place.me.0 self.new.desk.node (N.stands n)) }
+        ensures acts { MatchBool result (Acts self.old.desk.node self.old.desk.place.me.0 self.new.desk.place.me.0 input) (IsLater self.old.desk.place.me.0 self.new.desk.place.me.0) }
+    {
+        match self.take(rt, input, gate) {
+            Ok(_) => true,
+            Err(_) => false,
+        }
+    }
+
+    /// A step on a message, a tick or a restart.
+    pub fn take<R: Wait + Clock, G: Gate>(
+        &mut self,
+        rt: &R,
+        input: Input,
+        gate: &G,
+    ) -> Result<Taken, Refusal>
+        requires led { IfSome self.old.node (λ n. IsLedTo self.old.desk.place.me.0 self.old.desk.node (N.stands n)) }
+        ensures node { self.new.desk.node ≡ self.old.desk.node }
+        ensures led { IfSome self.new.node (λ n. IsLedTo self.new.desk.place.me.0 self.new.desk.node (N.stands n)) }
+        ensures ok { IfOk result (λ t. ActsOn self.old.desk.node self.old.desk.place.me.0 self.new.desk.place.me.0 input t.answer t.beginning t.count) }
+        ensures err { OnErr result (IsLater self.old.desk.place.me.0 self.new.desk.place.me.0) }
+    {
+        let message = self.desk.begin(rt, number_of(input))?;
+        let taking = taking_on(input, message);
+        gate.before(self.desk.node, &taking);
+        self.steps(rt, taking)
+    }
+
+    /// A call.
+    pub fn call<R: Wait + Clock>(&mut self, rt: &R, call: Call) -> Result<Taken, Refusal>
+        requires led { IfSome self.old.node (λ n. IsLedTo self.old.desk.place.me.0 self.old.desk.node (N.stands n)) }
+        ensures node { self.new.desk.node ≡ self.old.desk.node }
+        ensures led { IfSome self.new.node (λ n. IsLedTo self.new.desk.place.me.0 self.new.desk.node (N.stands n)) }
+        ensures ok { IfOk result (λ t. StepTaken self.old.desk.node self.old.desk.place.me.0 self.new.desk.place.me.0 (CallTaken call) t.answer t.beginning t.count) }
+        ensures err { OnErr result (IsLater self.old.desk.place.me.0 self.new.desk.place.me.0) }
+    {
+        self.desk.begin(rt, None)?;
+        self.steps(rt, Taking::Calls(call))
+    }
+
+    // A step for which there is room.
+    fn steps<R: Wait + Clock>(&mut self, rt: &R, taking: Taking) -> Result<Taken, Refusal>
+        requires led { IfSome self.old.node (λ n. IsLedTo self.old.desk.place.me.0 self.old.desk.node (N.stands n)) }
+        requires room { 0 < self.old.desk.place.me.0.rooms }
+        requires reads { IsForNode (sent_after [] self.old.desk.place.me.0.seen) self.old.desk.node (taking_of taking) }
+        ensures node { self.new.desk.node ≡ self.old.desk.node }
+        ensures led { IfSome self.new.node (λ n. IsLedTo self.new.desk.place.me.0 self.new.desk.node (N.stands n)) }
+        ensures ok { IfOk result (λ t. StepTaken self.old.desk.node self.old.desk.place.me.0 self.new.desk.place.me.0 (taking_of taking) t.answer t.beginning t.count) }
+        ensures err { OnErr result (IsLater self.old.desk.place.me.0 self.new.desk.place.me.0) }
+    {
+        match self.ready(rt, &taking) {
+            Ok(now) => self.goes(rt, now, taking),
+            Err(refusal) => {
+                self.desk.give_up(rt);
+                Err(refusal)
+            }
+        }
+    }
+
+    // The moment of a step on this, if the node takes one.
+    fn ready<R: Clock>(&self, rt: &R, taking: &Taking) -> Result<Moment, Refusal>
+        ensures moment { IfOk result (λ m. m.0 ≤ moment_limit) }
+        ensures some { OnOk result (IsSome self.now.node) }
+        ensures may { OnOk result ((n : N) → self.now.node ≡ Some n → (s : NodeState) → N.stands n s → IsTrue (may_take s (taking_of taking.now))) }
+    {
+        let Some(now) = self.desk.now(rt) else {
+            return Err(Refusal::ClockBroken);
+        };
+        if may_take(&self.node, taking) {
+            Ok(now)
+        } else {
+            Err(Refusal::Closed)
+        }
+    }
+
+    // A step that the node takes.
+    fn goes<R: Wait + Clock>(
+        &mut self,
+        rt: &R,
+        now: Moment,
+        taking: Taking,
+    ) -> Result<Taken, Refusal>
+        requires led { IfSome self.old.node (λ n. IsLedTo self.old.desk.place.me.0 self.old.desk.node (N.stands n)) }
+        requires moment { now.0 ≤ moment_limit }
+        requires some { IsSome self.old.node }
+        requires may { (n : N) → self.old.node ≡ Some n → (s : NodeState) → N.stands n s → IsTrue (may_take s (taking_of taking)) }
+        requires room { 0 < self.old.desk.place.me.0.rooms }
+        requires reads { IsForNode (sent_after [] self.old.desk.place.me.0.seen) self.old.desk.node (taking_of taking) }
+        ensures node { self.new.desk.node ≡ self.old.desk.node }
+        ensures led { IfSome self.new.node (λ n. IsLedTo self.new.desk.place.me.0 self.new.desk.node (N.stands n)) }
+        ensures ok { IfOk result (λ t. StepTaken self.old.desk.node self.old.desk.place.me.0 self.new.desk.place.me.0 (taking_of taking) t.answer t.beginning t.count) }
+        ensures err { OnErr result (IsLater self.old.desk.place.me.0 self.new.desk.place.me.0) }
+    {
+        match self.node.take() {
+            Some(node) => match step_with(&mut self.desk, rt, self.alloc, node, now, taking) {
+                Some(went) => {
+                    self.node = Some(went.node);
+                    Ok(went.taken)
+                }
+                None => Err(Refusal::Closed),
+            },
+            None => unreachable!(),
+        }
+    }
+}
+
+/// A node after its step, and what the step gave.
+#[derive(Drop)]
+struct Went<N: Stepper + Drop> {
+    node: N,
+    taken: Taken,
+}
+
+// Whether the node, if it is there, takes a step on this.
+fn may_take<N: Stepper + Drop>(node: &Option<N>, taking: &Taking) -> bool
+    ensures some { result ≡ true → IsSome node.now }
+    ensures may { result ≡ true → (n : N) → node.now ≡ Some n → (s : NodeState) → N.stands n s → IsTrue (may_take s (taking_of taking.now)) }
+{
+    match node {
+        Some(node) => node.may_take(taking),
+        None => false,
+    }
+}
+
+// The node takes its step, and the journal has it. None: the journal was closed.
+fn step_with<R: Wait, N: Stepper + Drop>(
+    desk: &mut Desk,
+    rt: &R,
+    alloc: Global,
+    node: N,
+    now: Moment,
+    taking: Taking,
+) -> Option<Went<N>>
+    requires led { IsLedTo desk.old.place.me.0 desk.old.node (N.stands node) }
+    requires moment { now.0 ≤ moment_limit }
+    requires may { (s : NodeState) → N.stands node s → IsTrue (may_take s (taking_of taking)) }
+    requires room { 0 < desk.old.place.me.0.rooms }
+    requires reads { IsForNode (sent_after [] desk.old.place.me.0.seen) desk.old.node (taking_of taking) }
+    ensures node { desk.new.node ≡ desk.old.node }
+    ensures led { IfSome result (λ w. IsLedTo desk.new.place.me.0 desk.new.node (N.stands w.node)) }
+    ensures some { IfSome result (λ w. StepTaken desk.old.node desk.old.place.me.0 desk.new.place.me.0 (taking_of taking) w.taken.answer w.taken.beginning w.taken.count) }
+    ensures none { IfNone result (desk.new.place.me ≡ desk.old.place.me) }
+{
+    let mut node = node;
+    let out = node.step(now, &taking);
+    let answer = copied(alloc, &out.answer);
+    match desk.end(rt, alloc, now, taking, out) {
+        Some(longer) => Some(Went {
+            node,
+            taken: Taken {
+                answer,
+                beginning: longer.beginning,
+                count: longer.count,
+            },
+        }),
+        None => None,
+    }
+}
+
+fn number_of(input: Input) -> Option<u64>
+    ensures { result ≡ number_in input }
+{
+    match input {
+        Input::Deliver(number) => Some(number),
+        Input::Tick => None,
+        Input::Restart => None,
+    }
+}
+
+// What the step is taken on, once its message is there.
+fn taking_on(input: Input, message: Option<Message>) -> Taking
+    ensures { IsTakenOn input message (taking_of result) }
+{
+    match input {
+        Input::Restart => Taking::Restarts,
+        _ => match message {
+            Some(message) => Taking::Takes(NodeInput::Deliver(message)),
+            None => Taking::Takes(NodeInput::Tick),
+        },
+    }
+}
+
+fn copied(alloc: Global, answer: &Option<Answer>) -> Result<Option<Answer>, NoMemory>
+    ensures { IfOk result (λ a. a ≡ answer.now) }
+{
+    match answer {
+        Some(answer) => Ok(Some(answer.copy(alloc)?)),
+        None => Ok(None),
+    }
+}

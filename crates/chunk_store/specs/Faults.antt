@@ -1,0 +1,15 @@
+-- A disk's fault, as the store's; and when one is answered.
+use Rattle.std.specs.Prelude.{ℕ, ◌<◌, ◌≤◌, Result, IsErrOf}
+use Rattle.disk.specs.declared.device.DiskFault.{DiskFault}
+use Rattle.disk.specs.declared.device.DiskFault.TheVariants as disk
+use Rattle.chunk_store.specs.declared.fault.StoreFault.{StoreFault}
+use Rattle.chunk_store.specs.declared.fault.StoreFault.TheVariants as store
+
+abbrev pub fault_of : DiskFault → StoreFault
+fault_of disk.Device = store.Device
+fault_of disk.NoMemory = store.NoMemory
+
+-- `Device` is answered only where the disk has failed in this call.
+pub record MayFail {T : Type 0} (before now : ℕ) (result : Result T StoreFault) : Type 0 where
+  pub later : before ≤ now
+  pub failed : IsErrOf result store.Device → before < now

@@ -1,0 +1,51 @@
+//! Changes of the store. Each is on the disk for good at `Ok`; a stop at any moment of a call, and `Device` and `NoMemory`, leave the disk as it was before the change or after it.
+
+ghost use Rattle.std.specs.Prelude.{◌≡◌, ◌↔◌, OnOk, IsErrOf, None};
+ghost use Rattle.replica_store.specs.declared.change.StoreChange.TheVariants.{Remove, SetOrder};
+ghost use Rattle.replica_store.specs.Replicas.{ServerDisk, disk_changed, row_at};
+ghost use Rattle.chunk_store.specs.Faults.{MayFail};
+ghost use Rattle.chunk_store.specs.Stores.{IsOpen, LeavesChange};
+ghost use Rattle.chunk_store.specs.declared.fault.StoreFault.TheVariants as faults;
+
+use crate::fault::StoreFault;
+use crate::store::Store;
+use disk::Disk;
+use gfs_types::ids::{Handle, OrderNo};
+use std::alloc::Global;
+use store_changes::{remove, set_order};
+
+impl<D: Disk> Store<D> {
+    /// Keeps the number of the last order that was taken.
+    pub fn set_order(&mut self, alloc: Global, order: OrderNo) -> Result<(), StoreFault>
+        requires is_open { (d : ServerDisk) × IsOpen D.seen D.may_leave self.old d }
+        ensures ok { (d : ServerDisk) → IsOpen D.seen D.may_leave self.old d → OnOk result (IsOpen D.seen D.may_leave self.new (disk_changed d (SetOrder order))) }
+        ensures any_moment { LeavesChange D.seen D.moment D.left_since self.old self.new (SetOrder order) }
+        ensures cause { MayFail (D.failed self.old.disk) (D.failed self.new.disk) result }
+    {
+        set_order(alloc, &mut self.disk, self.layout, order)?;
+        self.order = order;
+        Ok(())
+    }
+
+    /// Removes a replica. Its slot is free again.
+    pub fn drop_replica(&mut self, alloc: Global, handle: Handle) -> Result<(), StoreFault>
+        requires is_open { (d : ServerDisk) × IsOpen D.seen D.may_leave self.old d }
+        ensures ok { (d : ServerDisk) → IsOpen D.seen D.may_leave self.old d → OnOk result (IsOpen D.seen D.may_leave self.new (disk_changed d (Remove handle))) }
+        ensures no_chunk { (d : ServerDisk) → IsOpen D.seen D.may_leave self.old d → (IsErrOf result faults.NoChunk ↔ row_at d handle.0 ≡ None) }
+        ensures any_moment { LeavesChange D.seen D.moment D.left_since self.old self.new (Remove handle) }
+        ensures cause { MayFail (D.failed self.old.disk) (D.failed self.new.disk) result }
+    {
+        let Some(found) = self.index.get(handle) else {
+            return Err(StoreFault::NoChunk);
+        };
+        remove(
+            alloc,
+            &mut self.disk,
+            self.layout,
+            &mut self.index,
+            handle,
+            found,
+        )?;
+        Ok(())
+    }
+}

@@ -1,0 +1,38 @@
+//! Why a call of the store failed.
+
+ghost use Rattle.std.specs.Prelude.{◌≡◌};
+ghost use Rattle.chunk_store.specs.Faults.{fault_of};
+ghost use Rattle.chunk_store.specs.declared.fault.StoreFault.TheVariants.{NoMemory as OutOfMemory};
+
+use disk::DiskFault;
+use std::alloc::AllocError;
+
+/// Why a call of the store failed.
+#[derive(Clone, Copy, Debug, PartialEq, Eq)]
+pub enum StoreFault {
+    /// There is no such replica, and nothing changed.
+    NoChunk,
+    /// The disk failed. The store is open no more: open its disk again.
+    Device,
+    /// Memory was refused. The store is open no more: open its disk again.
+    NoMemory,
+}
+
+impl From<DiskFault> for StoreFault {
+    ghost from_gives = { λ d e. e ≡ fault_of d };
+
+    fn from(fault: DiskFault) -> StoreFault {
+        match fault {
+            DiskFault::Device => StoreFault::Device,
+            DiskFault::NoMemory => StoreFault::NoMemory,
+        }
+    }
+}
+
+impl From<AllocError> for StoreFault {
+    ghost from_gives = { λ _ e. e ≡ OutOfMemory };
+
+    fn from(_error: AllocError) -> StoreFault {
+        StoreFault::NoMemory
+    }
+}

@@ -1,0 +1,10 @@
+//! A chunkserver's store of replicas on a disk: each change is made as a whole or not at all, whenever the disk stops.
+#![tactic(auto)]
+
+mod changing;
+mod fault;
+mod looking;
+mod store;
+
+pub use fault::StoreFault;
+pub use store::Store;

@@ -1,0 +1,2 @@
+pub mod FirstNode
+pub mod Levels

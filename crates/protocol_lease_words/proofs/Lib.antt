@@ -1,0 +1,2 @@
+pub mod LeaseWords
+pub mod LeaseLaws

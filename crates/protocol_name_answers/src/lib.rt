@@ -1,0 +1,4 @@
+//! How clients answer name calls.
+#![tactic(auto)]
+
+pub mod laws;

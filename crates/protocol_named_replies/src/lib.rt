@@ -1,0 +1,4 @@
+//! To whom the master answers name calls.
+#![tactic(auto)]
+
+pub mod laws;

@@ -1,0 +1,3 @@
+pub mod DropWords
+pub mod OutdatedVersions
+pub mod DropLaws

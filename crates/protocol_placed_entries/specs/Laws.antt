@@ -1,0 +1,23 @@
+-- The law of every lawful list of events on where entries lie, that a public function of this crate states.
+use Rattle.std.specs.Prelude.{◌≡◌, ◌≤◌, ◌<◌, ◌+◌, ℕ, List, length, Some}
+use Rattle.gfs_types.specs.declared.config.Config.{Config}
+use Rattle.gfs_types.specs.declared.mutation.Mutation.{Mutation}
+use Rattle.gfs_types.specs.declared.mutation.Mutation.TheVariants.{Write, Append, Pad}
+use Rattle.messages.specs.declared.event.Event.{Event}
+use Rattle.protocol.specs.Tables.{element_at}
+use Rattle.protocol.specs.Choice.{Choice}
+use Rattle.protocol.specs.Observer.{Placed, order_of}
+use Rattle.protocol.specs.World.{new_world, after_events}
+
+-- it lies within a chunk of this size; a pad begins in it, and covers the rest
+abbrev pub LiesWithin : ℕ → Mutation → Type 0
+LiesWithin size (Write offset bytes) = offset + length bytes ≤ size
+LiesWithin size (Append offset bytes) = offset + length bytes ≤ size
+LiesWithin size (Pad offset) = offset < size
+
+-- Each entry of a chunk's order lies within the chunk (sections 2.3 and 3.3).
+abbrev pub EntriesLieWithinTheChunk : Type 0
+EntriesLieWithinTheChunk =
+    (config : Config) (servers clients : ℕ) (steps : List (Event × Choice)) (handle place : ℕ) (p : Placed)
+    → element_at (order_of (after_events (new_world config servers clients) steps).observer handle) place ≡ Some p
+    → LiesWithin config.chunk p.entry.mutation

@@ -1,0 +1,2 @@
+pub mod WaitedMutates
+pub mod NotedRounds
