@@ -1,9 +1,9 @@
-//! Runs the worked scripts, and tells of each whether it prints what it has to.
+//! Runs the worked scripts and the examples, and tells of each whether it prints what it has to.
 #![tactic(auto)]
 
 mod row;
 
-use crate::row::outcome;
+use crate::row::{example_outcome, row_outcome};
 use anyhow::{Context, Result};
 use std::fs;
 
@@ -59,10 +59,40 @@ const ROWS: [&str; 48] = [
     "write_over_chunks.row",
 ];
 
+/// The scripts of `examples/`, each beside a file with what it has to print.
+const EXAMPLES: [&str; 15] = [
+    "append_race",
+    "cut_primary",
+    "first",
+    "holes",
+    "lengths",
+    "lost_forward",
+    "names",
+    "pad",
+    "records",
+    "rotten_block",
+    "server_back",
+    "snapshot",
+    "stale_reader",
+    "stopped_master",
+    "undelete",
+];
+
+fn text_of(rt: &HostRuntime, name: &str) -> Result<String> {
+    fs::read_to_string(rt, name).context(format_args!("reading {name}"))
+}
+
 fn main(rt: HostRuntime) -> Result<()> {
+    let alloc = rt.alloc();
     for name in ROWS {
-        let text = fs::read_to_string(&rt, name).context(format_args!("reading {name}"))?;
-        println!(rt; "{name}: {}", outcome(rt.alloc(), text.as_str())?)?;
+        let row = text_of(&rt, name)?;
+        println!(rt; "{name}: {}", row_outcome(alloc, row.as_str())?)?;
+    }
+    for name in EXAMPLES {
+        let script = text_of(&rt, format!(in alloc; "examples/{name}.gfs")?.as_str())?;
+        let expected = text_of(&rt, format!(in alloc; "examples/{name}.out")?.as_str())?;
+        let outcome = example_outcome(alloc, script.as_str(), expected.as_str())?;
+        println!(rt; "examples/{name}.gfs: {outcome}")?;
     }
     Ok(())
 }

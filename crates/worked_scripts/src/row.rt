@@ -1,4 +1,4 @@
-//! A worked script with its options, and what it has to print.
+//! A script with its options, and what it has to print.
 
 use anyhow::{Context, Result, anyhow};
 use command_line::command::{Request, parse};
@@ -16,16 +16,13 @@ const OPTIONS: &str = "# --";
 /// The words of a command line that stand behind the script's name where the row has no others.
 const SMALL_CELL: [&str; 4] = ["--chunk", "64", "--block", "16"];
 
-/// The options in the comments of a row, for two clients and small chunks where it has no others.
-fn options_of(alloc: Global, row: &str) -> Result<Options> {
+/// These options and those in the script's comments.
+fn options_of(alloc: Global, first: &[&str], script: &str) -> Result<Options> {
     let mut words = Vec::new(alloc);
-    for word in ["gfscell", "sim", "-"].iter().chain(&SMALL_CELL) {
+    for word in ["gfscell", "sim", "-"].iter().chain(first) {
         words.push(String::from_str(alloc, word)?)?;
     }
-    if !row.contains("--clients") {
-        words.push(String::from_str(alloc, "--clients=2")?)?;
-    }
-    for line in row.lines() {
+    for line in script.lines() {
         if line.starts_with(OPTIONS) {
             for word in line.split_whitespace().skip(1) {
                 words.push(String::from_str(alloc, word)?)?;
@@ -34,16 +31,15 @@ fn options_of(alloc: Global, row: &str) -> Result<Options> {
     }
     match parse(alloc, words.as_slice())? {
         Request::Sim { options, .. } => Ok(options),
-        Request::Show(_) => Err(anyhow!("a row asks for no script")),
+        Request::Show(_) => Err(anyhow!("the options ask for no script")),
     }
 }
 
-/// Whether a row's script prints what it has to, in words; else all that it prints.
-pub fn outcome(alloc: Global, row: &str) -> Result<String> {
-    let (script, expected) = row.split_once(RULE).context("a row has no rule")?;
+/// Whether a script prints what it has to, in words; else all that it prints.
+fn outcome(alloc: Global, options: &Options, script: &str, expected: &str) -> Result<String> {
     let mut reader = script.as_bytes();
     let mut printed = Vec::new(alloc);
-    if let Err(fault) = run_script(alloc, &options_of(alloc, row)?, &mut reader, &mut printed) {
+    if let Err(fault) = run_script(alloc, options, &mut reader, &mut printed) {
         writeln!(printed, "{fault}")?;
     }
     if printed.as_slice() == expected.as_bytes() {
@@ -54,4 +50,20 @@ pub fn outcome(alloc: Global, row: &str) -> Result<String> {
             str::from_utf8(printed.as_slice())?
         )?)
     }
+}
+
+/// The outcome of a row: a script, a rule and what it has to print. Without options of its own it has two clients and small chunks.
+pub fn row_outcome(alloc: Global, row: &str) -> Result<String> {
+    let (script, expected) = row.split_once(RULE).context("a row has no rule")?;
+    let mut first = Vec::from_slice(alloc, SMALL_CELL.as_slice())?;
+    if !row.contains("--clients") {
+        first.push("--clients=2")?;
+    }
+    let options = options_of(alloc, first.as_slice(), row)?;
+    outcome(alloc, &options, script, expected)
+}
+
+/// The outcome of a script beside which a file has what it has to print.
+pub fn example_outcome(alloc: Global, script: &str, expected: &str) -> Result<String> {
+    outcome(alloc, &options_of(alloc, &[], script)?, script, expected)
 }
