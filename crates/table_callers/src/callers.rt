@@ -13,7 +13,7 @@ ghost use Rattle.record_append.specs.declared.placing.Placing.TheVariants.{At};
 
 use chunk_table::fault::TableFault;
 use chunk_table::table::Table;
-use gfs_types::ids::{ClientId, FileId, Handle, Moment, ServerId, Version};
+use gfs_types::ids::{ClientId, Handle, Moment, ServerId, Version};
 use gfs_types::lists::ServerList;
 use gfs_types::no_memory::NoMemory;
 use gfs_types::refusal::Refusal;
@@ -23,10 +23,9 @@ use primary_order::answer::Accept;
 use primary_order::primary::Primary;
 use record_append::place;
 use record_append::placing::Placing;
-use std::test::Fail;
 
 /// Issues the chunk's next version and grants it to a primary and its members, until that moment.
-fn lease(
+pub fn lease(
     table: &mut Table,
     handle: Handle,
     primary: ServerId,
@@ -43,7 +42,7 @@ fn lease(
 }
 
 /// Moves the lease's end on, and says whether it counts.
-fn renew(held: &mut Held, until: Moment, now: Moment) -> bool
+pub fn renew(held: &mut Held, until: Moment, now: Moment) -> bool
     ensures after { held.new ≡ after_call (after_call held.old (Extend until.0 now.0)) (Ask now.0) }
     ensures counts { result ≡ counts held.new }
 {
@@ -52,7 +51,7 @@ fn renew(held: &mut Held, until: Moment, now: Moment) -> bool
 }
 
 /// Refuses an attempt whose data are not here. A repeat is answered the same from now on, also when its data come.
-fn refuse_without_data(
+pub fn refuse_without_data(
     primary: &mut Primary,
     client: ClientId,
     seq: u64,
@@ -66,7 +65,7 @@ fn refuse_without_data(
 }
 
 /// The offset of the record in this chunk, if it fits there.
-fn fits(length: u64, size: u64, chunk: u64) -> Option<u64>
+pub fn fits(length: u64, size: u64, chunk: u64) -> Option<u64>
     ensures at { IfSome result (λ offset. placing length size chunk ≡ At offset) }
     ensures nowhere { IfNone result ((offset : ℕ) → placing length size chunk ≡ At offset → ⊥) }
 {
@@ -77,7 +76,7 @@ fn fits(length: u64, size: u64, chunk: u64) -> Option<u64>
 }
 
 /// Puts a value at a number, unless one stands there.
-fn add(values: &mut NumberMap<u64>, number: u64, value: u64) -> Result<(), Refusal>
+pub fn add(values: &mut NumberMap<u64>, number: u64, value: u64) -> Result<(), Refusal>
     ensures added { OnOk result (values.new ≡ map.insert values.old number value) }
     ensures exists { IsErrOf result Exists ↔ IsSome (map.get values.old number) }
     ensures refused { OnErr result (values.new ≡ values.old) }
@@ -89,44 +88,4 @@ fn add(values: &mut NumberMap<u64>, number: u64, value: u64) -> Result<(), Refus
         Ok(()) => Ok(()),
         Err(_) => Err(Refusal::NoMemory),
     }
-}
-
-#[test]
-fn a_lease_is_granted_and_renewed(rt: HostRuntime) -> Result<(), Fail> {
-    let alloc = rt.alloc();
-    let mut table = Table::new(alloc);
-    let file = table.add_file()?;
-    let chunk = table.add_chunk(file)?;
-    let members = ServerList::new(Vec::from_slice(alloc, &[1u16, 2])?);
-    let version = lease(&mut table, chunk, ServerId(1), members, Moment(60))?;
-    assert_eq!(rt; (file, version), (FileId(1), Version(1)));
-    assert_eq!(rt;
-        table.chunk(chunk).map(|c| (c.granted(), c.lease_end())),
-        Some((Version(1), Moment(60)))
-    );
-    let members = ServerList::new(Vec::from_slice(alloc, &[1u16, 2])?);
-    let mut held = Held::take(version, Moment(60), members, 10);
-    assert!(rt; renew(&mut held, Moment(90), Moment(49)));
-    assert!(rt; !renew(&mut held, Moment(120), Moment(80)));
-    let mut primary = Primary::new(alloc, held);
-    let answer = refuse_without_data(&mut primary, ClientId(1), 1)?;
-    assert_eq!(rt; answer, Some(Accept::Refused(Refusal::NoData)));
-    Ok(())
-}
-
-#[test]
-fn a_record_fits_behind_a_chunk_of_less(rt: HostRuntime) {
-    assert_eq!(rt; fits(48, 16, 64), Some(48));
-    assert_eq!(rt; fits(49, 16, 64), None);
-    assert_eq!(rt; fits(0, 17, 64), None);
-    assert_eq!(rt; fits(64, 0, 64), None);
-}
-
-#[test]
-fn a_number_is_added_once(rt: HostRuntime) {
-    let mut values = NumberMap::new(rt.alloc());
-    assert_eq!(rt; add(&mut values, 7, 1), Ok(()));
-    assert_eq!(rt; add(&mut values, 7, 2), Err(Refusal::Exists));
-    assert_eq!(rt; values.get(7).copied(), Some(1));
-    assert_eq!(rt; values.get(8).copied(), None);
 }

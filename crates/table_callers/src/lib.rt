@@ -1,10 +1,9 @@
-//! The callers that the pages `CALLING.md` of `chunk_table`, `leases`, `primary_order`, `record_append` and `number_map` show, and
-//! tests of the bounds of moments and of where records go.
+//! The callers that the pages `CALLING.md` of `chunk_table`, `leases`, `primary_order`, `record_append` and `number_map` show; and tests: a
+//! primary's order once, and where records go.
 #![tactic(auto)]
 
+pub mod callers;
 #[cfg(test)]
-mod callers;
-#[cfg(test)]
-mod moments;
+mod primary;
 #[cfg(test)]
 mod records;

@@ -1,39 +1,39 @@
-//! Where records go in a file's last chunk.
+//! Where records go in a file's last chunk, by hand.
 
 use record_append::place;
 use record_append::placing::Placing;
 
-/// Chunks of 64 bytes: a record has at most 16.
-#[test]
-fn the_table(rt: HostRuntime) {
-    assert_eq!(rt; place(0, 13, 64), Placing::At(0));
-    assert_eq!(rt; place(39, 13, 64), Placing::At(39));
-    assert_eq!(rt; place(48, 16, 64), Placing::At(48));
-    assert_eq!(rt; place(49, 16, 64), Placing::Pad(49));
-    assert_eq!(rt; place(52, 13, 64), Placing::Pad(52));
-    assert_eq!(rt; place(63, 1, 64), Placing::At(63));
-    assert_eq!(rt; place(63, 2, 64), Placing::Pad(63));
-    assert_eq!(rt; place(64, 1, 64), Placing::Full);
-    assert_eq!(rt; place(64, 0, 64), Placing::Full);
-    assert_eq!(rt; place(0, 0, 64), Placing::At(0));
-}
+const MOST: u64 = u64::MAX;
 
-/// The length of the record is looked at first.
-#[test]
-fn a_record_of_more_than_a_quarter(rt: HostRuntime) {
-    assert_eq!(rt; place(0, 16, 64), Placing::At(0));
-    assert_eq!(rt; place(0, 17, 64), Placing::TooLong);
-    assert_eq!(rt; place(64, 17, 64), Placing::TooLong);
-    assert_eq!(rt; place(0, 17, 71), Placing::At(0));
-    assert_eq!(rt; place(0, 18, 71), Placing::TooLong);
-}
+/// The bytes of the chunk and of the record, how many a chunk holds, and where the record goes: at most a quarter of a chunk is taken,
+/// and no sum wraps.
+const PLACES: [(u64, u64, u64, Placing); 18] = [
+    (0, 13, 64, Placing::At(0)),
+    (39, 13, 64, Placing::At(39)),
+    (48, 16, 64, Placing::At(48)),
+    (49, 16, 64, Placing::Pad(49)),
+    (52, 13, 64, Placing::Pad(52)),
+    (63, 1, 64, Placing::At(63)),
+    (63, 2, 64, Placing::Pad(63)),
+    (64, 1, 64, Placing::Full),
+    (64, 0, 64, Placing::Full),
+    (0, 0, 64, Placing::At(0)),
+    (0, 17, 64, Placing::TooLong),
+    (64, 17, 64, Placing::TooLong),
+    (0, 17, 71, Placing::At(0)),
+    (0, 18, 71, Placing::TooLong),
+    (MOST - 1, MOST / 4, MOST, Placing::Pad(MOST - 1)),
+    (MOST, 1, 64, Placing::Pad(MOST)),
+    (MOST, 0, 64, Placing::Pad(MOST)),
+    (0, MOST, MOST, Placing::TooLong),
+];
 
-/// No sum wraps at the greatest numbers.
 #[test]
-fn the_greatest_numbers(rt: HostRuntime) {
-    let most = u64::MAX;
-    assert_eq!(rt; place(most - 1, most / 4, most), Placing::Pad(most - 1));
-    assert_eq!(rt; place(most, 1, 64), Placing::Pad(most));
-    assert_eq!(rt; place(most, 0, 64), Placing::Pad(most));
-    assert_eq!(rt; place(0, most, most), Placing::TooLong);
+fn records_go_behind_a_chunk_or_into_the_next(rt: HostRuntime) {
+    for (length, size, chunk, placing) in &PLACES {
+        assert!(rt;
+            place(*length, *size, *chunk) == *placing,
+            "{length} {size} {chunk}"
+        );
+    }
 }
