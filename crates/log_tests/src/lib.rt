@@ -1,4 +1,4 @@
-//! Tests of the operation log's bytes: written out by hand, and each record there and back.
+//! Tests of the operation log's bytes: written out by hand.
 #![tactic(auto)]
 
 #[cfg(test)]

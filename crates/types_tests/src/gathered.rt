@@ -2,18 +2,17 @@
 
 use bytes::Bytes;
 use client_state::gathered::Gathered;
+use gfs_types::no_memory::NoMemory;
+use std::alloc::Global;
 use std::test::Fail;
+
+fn joined(alloc: Global) -> Result<Bytes, NoMemory> {
+    let one = Gathered::new(alloc).with(&Bytes::from_static(b"one "), 7)?;
+    one.with(&Bytes::from_static(b"two"), 7)?.into_bytes()
+}
 
 #[test]
 fn pieces_are_joined(rt: HostRuntime) -> Result<(), Fail> {
-    let alloc = rt.alloc();
-    let first = Bytes::copy_from_slice(alloc, b"one ")?;
-    let second = Bytes::copy_from_slice(alloc, b"two ")?;
-    let third = Bytes::copy_from_slice(alloc, b"three")?;
-    let one = Gathered::new(alloc).with(&first, 13)?;
-    let all = one.with(&second, 13)?.with(&third, 13)?.into_bytes()?;
-    assert_eq!(rt; all.as_slice(), b"one two three".as_slice());
-    let alone = Gathered::new(alloc).with(&first, 4)?.into_bytes()?;
-    assert_eq!(rt; alone.as_slice(), b"one ".as_slice());
+    assert!(rt; joined(rt.alloc())?.as_slice() == b"one two".as_slice());
     Ok(())
 }

@@ -9,22 +9,34 @@ use std::test::Fail;
 
 // paths
 
+/// Whether the text is a path, and stays as it is.
+fn is_path(alloc: Global, text: &str) -> bool {
+    match Path::parse(text, alloc) {
+        Ok(path) => path.as_str() == text,
+        Err(_) => false,
+    }
+}
+
+fn is_bad_path(alloc: Global, text: &str) -> bool {
+    matches!(Path::parse(text, alloc), Err(PathFault::BadPath))
+}
+
 #[test]
-fn a_path_is_parsed_exactly_in_the_grammar(rt: HostRuntime) -> Result<(), Fail> {
+fn a_path_is_parsed_exactly_in_the_grammar(rt: HostRuntime) {
     for text in ["/", "/a", "/a/b", "/.gone", "/.gone/x", "/...", "/a b"] {
-        let path = Path::parse(text, rt.alloc())?;
-        assert_eq!(rt; path.as_str(), text);
-        assert!(rt; path.copy(rt.alloc())? == path);
-        assert_eq!(rt; path.to_text(rt.alloc())?.as_str(), text);
+        assert!(rt; is_path(rt.alloc(), text), "{text}");
     }
     for text in [
         "", "a", "/x//y", "/..", "/.", "/a/", "//", "/a/../b", "/a\0b",
     ] {
-        assert!(rt;
-            Path::parse(text, rt.alloc()).err() == Some(PathFault::BadPath),
-            "{text}"
-        );
+        assert!(rt; is_bad_path(rt.alloc(), text), "{text}");
     }
+}
+
+#[test]
+fn a_path_is_copied(rt: HostRuntime) -> Result<(), Fail> {
+    Path::parse("/a", rt.alloc())?.copy(rt.alloc())?;
+    Path::parse("/a", rt.alloc())?.to_text(rt.alloc())?;
     Ok(())
 }
 
@@ -37,27 +49,24 @@ fn repeated(alloc: Global, first: &str, part: &str, count: usize) -> Result<Stri
     Ok(text)
 }
 
-/// Whether a text of this length is a path.
-fn is_path_of(alloc: Global, text: &str, len: usize) -> bool {
-    text.len() == len && Path::parse(text, alloc).is_ok()
-}
-
-/// Whether a text of this length is a bad path.
-fn is_bad_path_of(alloc: Global, text: &str, len: usize) -> bool {
-    text.len() == len && Path::parse(text, alloc).err() == Some(PathFault::BadPath)
-}
-
 #[test]
 fn a_path_ends_at_its_bounds(rt: HostRuntime) -> Result<(), Fail> {
-    let alloc = rt.alloc();
-    let longest_part = repeated(alloc, "/", "x", 255)?;
-    assert!(rt; is_path_of(alloc, longest_part.as_str(), 256));
-    let longer_part = repeated(alloc, "/", "x", 256)?;
-    assert!(rt; is_bad_path_of(alloc, longer_part.as_str(), 257));
-    let longest = repeated(alloc, "", "/x", 2_048)?;
-    assert!(rt; is_path_of(alloc, longest.as_str(), 4_096));
-    let longer = repeated(alloc, "/xx", "/x", 2_047)?;
-    assert!(rt; is_bad_path_of(alloc, longer.as_str(), 4_097));
+    for (first, part, count) in [("/", "x", 255), ("", "/x", 2_048)] {
+        assert!(rt;
+            is_path(
+                rt.alloc(),
+                repeated(rt.alloc(), first, part, count)?.as_str()
+            )
+        );
+    }
+    for (first, part, count) in [("/", "x", 256), ("/xx", "/x", 2_047)] {
+        assert!(rt;
+            is_bad_path(
+                rt.alloc(),
+                repeated(rt.alloc(), first, part, count)?.as_str()
+            )
+        );
+    }
     Ok(())
 }
 
@@ -196,7 +205,7 @@ fn a_block_where_none_is_given(rt: HostRuntime) {
         (77, 1),
         (0, 65_536),
     ] {
-        assert_eq!(rt; default_block(chunk), block, "{chunk}");
+        assert!(rt; default_block(chunk) == block, "{chunk}");
     }
 }
 
@@ -244,8 +253,10 @@ const SERVER_REFUSALS: [(Refusal, u8, &str); 12] = [
 #[test]
 fn a_clients_refusals(rt: HostRuntime) {
     for (refusal, number, name) in &CLIENT_REFUSALS {
-        assert_eq!(rt; refusal.number(), *number);
-        assert_eq!(rt; refusal.name(), *name);
+        assert!(rt;
+            refusal.number() == *number && refusal.name() == *name,
+            "{name}"
+        );
         assert!(rt; refusal.is_of_client(), "{name}");
     }
 }
@@ -253,25 +264,38 @@ fn a_clients_refusals(rt: HostRuntime) {
 #[test]
 fn a_servers_refusals(rt: HostRuntime) {
     for (refusal, number, name) in &SERVER_REFUSALS {
-        assert_eq!(rt; refusal.number(), *number);
-        assert_eq!(rt; refusal.name(), *name);
+        assert!(rt;
+            refusal.number() == *number && refusal.name() == *name,
+            "{name}"
+        );
         assert!(rt; !refusal.is_of_client(), "{name}");
     }
 }
 
 #[test]
-fn printed_text(rt: HostRuntime) -> Result<(), Fail> {
-    let alloc = rt.alloc();
-    let refusal = format!(in alloc; "{} {}", Refusal::Exists, Refusal::ServerTooLong)?;
-    assert_eq!(rt; refusal.as_str(), "3 Exists 42 TooLong");
-    let fault = format!(in alloc; "{} {}", ConfigFault::LeaseMs.name(), ConfigFault::Journal)?;
-    assert_eq!(rt; fault.as_str(), "lease_ms journal is out of its range");
-    let path = Path::parse("/a/b", alloc)?;
-    let rest = format!(in alloc;
-        "{path} {} {} {NoMemory}",
-        PathFault::BadPath,
-        PathFault::NoMemory
-    )?;
-    assert_eq!(rt; rest.as_str(), "/a/b bad path no memory no memory");
+fn printed_refusals(rt: HostRuntime) -> Result<(), Fail> {
+    let text = format!(in rt.alloc(); "{} {}", Refusal::Exists, Refusal::ServerTooLong)?;
+    assert!(rt; text.as_str() == "3 Exists 42 TooLong");
+    Ok(())
+}
+
+#[test]
+fn printed_settings(rt: HostRuntime) -> Result<(), Fail> {
+    let text = format!(in rt.alloc(); "{} {}", ConfigFault::LeaseMs.name(), ConfigFault::Journal)?;
+    assert!(rt; text.as_str() == "lease_ms journal is out of its range");
+    Ok(())
+}
+
+#[test]
+fn printed_faults(rt: HostRuntime) -> Result<(), Fail> {
+    let text = format!(in rt.alloc(); "{} {} {NoMemory}", PathFault::BadPath, PathFault::NoMemory)?;
+    assert!(rt; text.as_str() == "bad path no memory no memory");
+    Ok(())
+}
+
+#[test]
+fn a_printed_path(rt: HostRuntime) -> Result<(), Fail> {
+    let text = format!(in rt.alloc(); "{}", Path::parse("/a/b", rt.alloc())?)?;
+    assert!(rt; text.as_str() == "/a/b");
     Ok(())
 }
