@@ -42,11 +42,27 @@ use Rattle.protocol_answered_orders.specs.Laws.{IsRefusedBy, RecordedOrdersAreRe
 use Rattle.protocol_answered_orders.proofs.ServerCauses.{is_plain, IsOrderOf, Said, reported, step_words}
 use Rattle.protocol_answered_orders.proofs.SaidByServers.{IsSaidNow, WasSaid, was_said}
 
-server_id_is : (config : Config) (servers clients : ℕ) (w : WorldState) → IsReached config servers clients w → (index : ℕ) (s : ServerState) → element_at w.servers index ≡ Some s → s.id ≡ suc index
+pub server_id_is : (config : Config) (servers clients : ℕ) (w : WorldState) → IsReached config servers clients w → (index : ℕ) (s : ServerState) → element_at w.servers index ≡ Some s → s.id ≡ suc index
 server_id_is config servers clients w r index s at = (scene_reached AreTold told_kept config servers clients w r index s at).id
 
-placed_later : (sent all : List Message) (place : ℕ) (m : Message) → IsGrown sent all → element_at sent place ≡ Some m → element_at all place ≡ Some m
+pub placed_later : (sent all : List Message) (place : ℕ) (m : Message) → IsGrown sent all → element_at sent place ≡ Some m → element_at all place ≡ Some m
 placed_later sent all place m grown at = subst (λ (ms : List Message). element_at ms place ≡ Some m) (sym grown.1) (kept_place sent grown.0 place m at)
+
+-- who sends a Report or a Recorded
+pub sender_is : (config : Config) (servers clients : ℕ) (w : WorldState) → IsReached config servers clients w → (place : ℕ) (m : Message) → element_at w.sent place ≡ Some m → is_plain m.body ≡ false
+    → (index : ℕ) × (m.sender ≡ the_server (suc index))
+sender_is config servers clients w r place m at none = (n.index, sym n.same.0 ∙ one.0)
+  where
+    h : WasSaid config servers clients w place m
+    h = was_said config servers clients w r place m at none
+
+    n : IsSaidNow h.before h.next m
+    n = h.now
+
+    one : Said (suc n.index) (λ b. Unit {0}) (λ b is. tt) n.word
+    one =
+        all_at (Said (suc n.index) (λ b. Unit {0}) (λ b is. tt)) _ n.said.0 n.word
+        (step_words (suc n.index) (λ b. Unit {0}) (λ b is. tt) n.server n.moment n.taken n.choice (server_id_is config servers clients h.before h.reached n.index n.server n.at) (λ _. tt) (λ x came order q v of new. tt)) n.said.1
 
 -- leases that are reported
 
