@@ -240,7 +240,7 @@ there_now (z ∷ zs) zero x y at = refl
 there_now (z ∷ zs) (suc n) x y at = there_now zs n x y at
 
 -- an order that is refused, with all of the same or a lower number
-stale_refuses : (s : ServerState) (order : OrderNo) → IsStaleAt s.disk order → IsRefusedBy s order
+pub stale_refuses : (s : ServerState) (order : OrderNo) → IsStaleAt s.disk order → IsRefusedBy s order
 stale_refuses s order stale other lower = refused (is_new_order s.disk other.epoch other.count) refl
   where
     disk_of : OrderNo → ServerDisk
