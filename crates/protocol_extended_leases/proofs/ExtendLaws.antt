@@ -41,7 +41,7 @@ use Rattle.protocol_answered_orders.specs.Laws.{IsLeaseReported}
 use Rattle.protocol_answered_orders.proofs.ServerCauses.{is_plain}
 use Rattle.protocol_answered_orders.proofs.AnsweredOrders.{placed_later, sender_is, reported_leases_were_granted}
 use Rattle.protocol_extended_leases.specs.Laws.{version_extended, ExtendsAnswerReports, ExtendsFollowTheirGrants}
-use Rattle.protocol_extended_leases.proofs.MasterCauses.{is_caused, Causes, step_caused}
+use Rattle.protocol_extended_leases.proofs.MasterCauses.{is_caused, Attempts, Causes, step_caused}
 
 -- a master that opens says nothing
 opens_silent : (m started : MasterState) (d : MasterDoing) (choice : Choice) (e : Ending) → (opens_as m started d choice e).out.sent ≡ []
@@ -101,8 +101,8 @@ no_extend : (b : Body) → is_caused b ≡ false → version_extended b ≡ None
 no_extend (body.Extend handle version end_moment) none = true_false none
 no_extend other none = refl
 
-master_due : (sent : List Message) (l : Logged) (i : Input) → ((m : Message) → i ≡ input.Deliver m → IsSent sent m) → Causes l i (IsDue sent)
-master_due sent l i came =
+master_due : (sent : List Message) (l : Logged) (tried : Attempts) (i : Input) → ((m : Message) → i ≡ input.Deliver m → IsSent sent m) → Causes l tried i (IsDue sent)
+master_due sent l tried i came =
     record {
       plain = λ receiver b none handle version is. none_some (handle, version) (sym (no_extend b none) ∙ is);
       extends = λ server line until due handle version is.
@@ -153,7 +153,7 @@ each_due config servers clients u r =
       nothing = λ e place m from at handle version is. none_before u.sent place m from at;
       masters = λ e moment i choice given up place m from at handle version is.
           let new = new_one u.sent (master_step u.master moment i choice).out.sent k place m from at in
-          let all = step_caused u.master moment i choice (IsDue u.sent) (granted_is_at_most_issued config servers clients u r) (master_due u.sent u.master.logged i (came_in u e node.Master moment i given)) in
+          let all = step_caused u.master moment i choice (IsDue u.sent) (granted_is_at_most_issued config servers clients u r) (master_due u.sent u.master.logged u.master.attempts i (came_in u e node.Master moment i given)) in
           subst (λ (n : Node). IsLeaseAsked u.sent n handle version) (new.2).1 (all_at (IsDue u.sent) (master_step u.master moment i choice).out.sent (new.1).0 new.0 all (new.1).1 handle version (ap version_extended (new.2).2 ∙ is));
       opens = λ e moment choice place m from at handle version is.
           none_new u.sent (master_restart u.master moment choice).out.sent k place m (subst (λ (ms : List Message). TellNoEnds ms) (sym (restart_silent u.master moment choice)) tt) from at handle version is;

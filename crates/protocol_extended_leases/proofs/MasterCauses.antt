@@ -1,7 +1,8 @@
 -- What the master says in a step of versions and leases, each with its cause: orders that give a version answer an Ask, a Grant answers what a server recorded, and an Extend a line of a Report.
-use Rattle.std.proofs.Common.{◌≡◌, ◌⊎◌, ℕ, zero, suc, ◌+◌, ◌≤◌, ◌<◌, Bool, true, false, List, [], ◌∷◌, ◌++◌, length, map, Option, Some, None, refl, ap, inl, inr, arith}
-use Rattle.std.specs.Prelude.{◌==◌, ◌&&◌, nat_lt, nat_le, cond, unwrap_or}
-use Rattle.std.specs.List.{filter_map, cons_option}
+use Rattle.std.proofs.Common.{◌≡◌, ◌⊎◌, ℕ, zero, suc, ◌+◌, ◌≤◌, Bool, true, false, List, [], ◌∷◌, ◌++◌, length, map, Option, Some, None, refl, ap, inl, inr, arith, sym, ◌∙◌}
+use Rattle.std.specs.Prelude.{◌==◌, ◌&&◌, nat_lt, nat_le, cond, unwrap_or, is_some}
+use Rattle.std.specs.Ordering.{nat_cmp, eq_by_cmp}
+use Rattle.std.specs.List.{filter_map, cons_option, list_any}
 use Rattle.std.proofs.lemmas.Bool.{eqb-true, leb-true, ltb-false}
 use Rattle.std.proofs.Math.Nat.{le-max_left}
 use Rattle.std.specs.FinMap as table
@@ -30,7 +31,7 @@ use Rattle.log_records.specs.declared.record.Record.TheVariants as log
 use Rattle.relaxed_file.specs.NameStep.{outcome_by, needs_room}
 use Rattle.chunk_table.specs.ChunkTable.{ChunkRow, new_row, chunk_of, file_of}
 use Rattle.leases.specs.LeaseEnds.{has_ended}
-use Rattle.protocol.specs.Tables.{element_at, rising, has_number, with_number}
+use Rattle.protocol.specs.Tables.{Table, element_at, rising, has_number, with_number, removed_all}
 use Rattle.protocol.specs.LogSizes.{checkpoint_fits}
 use Rattle.protocol.specs.Sending.{message, client_id, file_id, server_id, handle_of, version_of, moment_of, the_server, the_client, client_number, server_number}
 use Rattle.protocol.specs.Choice.{Choice, Ending, Goes, Lost, Stops}
@@ -45,7 +46,9 @@ use Rattle.protocol.specs.MasterAsks.{looks_at_row, looks_at, mutates_row, mutat
 use Rattle.protocol.specs.MasterReports.{holds_now, revoked_row, is_useless, drops_useless, learns_all, may_extend, extends_row, extends_all, hears, takes_report}
 use Rattle.protocol.specs.MasterClones.{CloneOrder, orders_clone, best_clone}
 use Rattle.protocol.specs.MasterStep.{master_ticks, gives_up_attempts, gives_up_lost_copies, expires_all, expires_old, expired_files, master_takes, master_does, master_at, master_goes, may_end, master_bounded, master_ends, master_step}
-use Rattle.protocol_laws.proofs.Steps.{on_cond, put_cases, removed_cases}
+use Rattle.protocol_laws.proofs.Words.{true_false}
+use Rattle.protocol_laws.proofs.MasterMoves.{removed_other}
+use Rattle.protocol_laws.proofs.Steps.{on_cond, none_some, put_cases, removed_cases, now_gone}
 use Rattle.protocol_laws.proofs.Entries.{AllOf, all_joined, all_filtered}
 use Rattle.protocol_laws.proofs.MembersRecorded.{all_in_order}
 
@@ -91,43 +94,65 @@ pub record IsLineTaken (i : Input) (server : ℕ) (line : LeaseLine) : Type 0 wh
   pub place : ℕ
   pub at : element_at leases place ≡ Some line
 
--- The chunk was there, with no more granted than the base and nothing issued from the version on; or its handle is a new one.
-abbrev pub IsRaised : Logged → ℕ → ℕ → ℕ → Type 0
-IsRaised l handle version base = ((row : ChunkRow) × (chunk_of l.table handle ≡ Some row) × (row.granted ≤ base) × (row.issued < version)) ⊎ (l.next_handle ≤ handle)
+abbrev pub Attempts : Type 0
+Attempts = Table VersionAttempt
 
--- W of what the master says in a step on this input, from what was logged as it began
-pub record Causes (l : Logged) (i : Input) (W : Message → Type 0) : Type 0 where
+-- The chunk was there, with no more granted than the base, its next number the version, and no attempt; or its handle is a new one, with the first number.
+abbrev pub IsRaised : Logged → Attempts → ℕ → ℕ → ℕ → Type 0
+IsRaised l tried handle version base =
+    ((row : ChunkRow) × (chunk_of l.table handle ≡ Some row) × (row.granted ≤ base) × (suc row.issued ≡ version) × (table.get tried handle ≡ None)) ⊎ ((l.next_handle ≤ handle) × (version ≡ 1))
+
+-- W of what the master says in a step on this input, from what was logged and attempted as it began
+pub record Causes (l : Logged) (tried : Attempts) (i : Input) (W : Message → Type 0) : Type 0 where
   pub plain : (receiver : Node) (b : Body) → is_caused b ≡ false → W (message node.Master receiver b)
   pub extends : (server : ℕ) (line : LeaseLine) (until : ℕ) → IsLineTaken i server line → W (message node.Master (the_server server) (body.Extend line.handle line.version (moment_of until)))
   pub grants : (server : ℕ) (order : OrderNo) (handle version until : ℕ) (members : List ℕ) → IsTold i → W (message node.Master (the_server server) (body.Grant order (handle_of handle) (version_of version) (moment_of until) members))
-  pub creates : (server : ℕ) (order : OrderNo) (handle version : ℕ) → IsAsk i → IsRaised l handle version 0 → W (message node.Master (the_server server) (body.Create order (handle_of handle) (version_of version)))
-  pub raises : (server : ℕ) (order : OrderNo) (handle version base : ℕ) → IsAsk i → IsRaised l handle version base → W (message node.Master (the_server server) (body.SetVersion order (handle_of handle) (version_of version) (version_of base)))
+  pub creates : (server : ℕ) (order : OrderNo) (handle version : ℕ) → IsAsk i → IsRaised l tried handle version 0 ⊎ (l.next_handle ≤ handle) → W (message node.Master (the_server server) (body.Create order (handle_of handle) (version_of version)))
+  pub raises : (server : ℕ) (order : OrderNo) (handle version base : ℕ) → IsAsk i → IsRaised l tried handle version base → W (message node.Master (the_server server) (body.SetVersion order (handle_of handle) (version_of version) (version_of base)))
   pub copies : (server : ℕ) (order : OrderNo) (handle version copy copy_version : ℕ) → IsAsk i → l.next_handle ≤ copy
       → W (message node.Master (the_server server) (body.CopyLocal order (handle_of handle) (version_of version) (handle_of copy) (version_of copy_version)))
 
--- rows since the step began: each was there with the same versions, or is of a new handle
-abbrev IsKept : Logged → ℕ → ChunkRow → Type 0
-IsKept l handle row = ((old : ChunkRow) × (chunk_of l.table handle ≡ Some old) × (old.granted ≡ row.granted) × (old.issued ≡ row.issued)) ⊎ (l.next_handle ≤ handle)
+-- rows since the step began: each was there with the same versions, and with an attempt that was there is one still; or it is of a new handle, of which nothing was issued
+abbrev IsKept : Logged → Attempts → Attempts → ℕ → ChunkRow → Type 0
+IsKept l tried now handle row =
+    ((old : ChunkRow) × (chunk_of l.table handle ≡ Some old) × (old.granted ≡ row.granted) × (old.issued ≡ row.issued) × (table.get now handle ≡ None → table.get tried handle ≡ None)) ⊎ ((l.next_handle ≤ handle) × (row.issued ≡ 0))
 
-record AreKept (l k : Logged) : Type 0 where
+record AreKept (l : Logged) (tried : Attempts) (k : Logged) (now : Attempts) : Type 0 where
   next : l.next_handle ≤ k.next_handle
-  rows : (handle : ℕ) (row : ChunkRow) → chunk_of k.table handle ≡ Some row → IsKept l handle row
+  rows : (handle : ℕ) (row : ChunkRow) → chunk_of k.table handle ≡ Some row → IsKept l tried now handle row
 
-same_kept : (l : Logged) → AreKept l l
-same_kept l = record { next = omega arith; rows = λ handle row is. inl (row, is, refl, refl) }
+same_kept : (l : Logged) (tried : Attempts) → AreKept l tried l tried
+same_kept l tried = record { next = omega arith; rows = λ handle row is. inl (row, is, refl, refl, λ none. none) }
 
-less_kept : (l k : Logged) (handles : List ℕ) → AreKept l k → AreKept l (copies_given_up k handles)
-less_kept l k handles h = record { next = h.next; rows = λ handle row is. h.rows handle row (removed_cases k.table.chunks handles handle row is) }
+less_kept : (l : Logged) (tried : Attempts) (k : Logged) (now : Attempts) (handles : List ℕ) → AreKept l tried k now → AreKept l tried (copies_given_up k handles) (removed_all now handles)
+less_kept l tried k now handles h =
+    record {
+      next = h.next;
+      rows = λ handle row is.
+          elim (h.rows handle row (removed_cases k.table.chunks handles handle row is)) [
+            | inl was ↦ inl (was.0, was.1, was.2, was.3, λ none. was.4 (by_place handle row is none (list_any (eq_by_cmp nat_cmp handle) handles) refl))
+            | inr new ↦ inr new
+          ];
+    }
+  where
+    by_place : (handle : ℕ) (row : ChunkRow) → table.get (removed_all k.table.chunks handles) handle ≡ Some row → table.get (removed_all now handles) handle ≡ None → (b : Bool) → list_any (eq_by_cmp nat_cmp handle) handles ≡ b → table.get now handle ≡ None
+    by_place handle row is none true e = none_some row (sym (now_gone k.table.chunks handles handle e) ∙ is)
+    by_place handle row is none false e = sym (removed_other now handles handle e) ∙ none
 
-added_kept : (l k : Logged) (file handle : ℕ) → l.next_handle ≤ handle → AreKept l k → AreKept l (after_record k (log.AddChunk (file_id file) (handle_of handle)))
-added_kept l k file handle new h =
+added_kept : (l : Logged) (tried : Attempts) (k : Logged) (now : Attempts) (file handle : ℕ) → l.next_handle ≤ handle → AreKept l tried k now → AreKept l tried (after_record k (log.AddChunk (file_id file) (handle_of handle))) now
+added_kept l tried k now file handle new h =
     record {
       next = let low = h.next in let high = le-max_left k.next_handle (handle + 1) in omega (arith, low, high);
       rows = λ q row is. elim (put_cases k.table.chunks handle (record new_row { references = 1 }) q row is) [
-        | inl same ↦ inr (let key = same.0 in omega (arith, new, key))
+        | inl same ↦ inr ((let key = same.0 in omega (arith, new, key)), sym (ap (λ (x : ChunkRow). x.issued) same.1))
         | inr before ↦ h.rows q row before
       ];
     }
+
+-- no attempt
+unattempted : (o : Option VersionAttempt) → is_some o ≡ false → o ≡ None
+unattempted None is = refl
+unattempted (Some a) is = true_false is
 
 all_placed : {X : Type 0} (P : X → Type 0) (xs : List X) → ((place : ℕ) (x : X) → element_at xs place ≡ Some x → P x) → AllOf P xs
 all_placed P [] f = tt
@@ -147,7 +172,7 @@ holders_pass m handle test (s ∷ rest) = first (version_held m handle s) (holde
         on_cond (λ (o : Option HeldAt). AllOf (λ (x : HeldAt). test x.version ≡ true) (cons_option o others)) (test version) (Some (record { server = s; version = version })) None
         (λ passes. (passes, all)) (λ _. all)
 
-module _ (l : Logged) (i : Input) (issued : (handle : ℕ) (row : ChunkRow) → chunk_of l.table handle ≡ Some row → row.granted ≤ row.issued) (W : Message → Type 0) (k : Causes l i W) where
+module _ (l : Logged) (tried : Attempts) (i : Input) (issued : (handle : ℕ) (row : ChunkRow) → chunk_of l.table handle ≡ Some row → row.granted ≤ row.issued) (W : Message → Type 0) (k : Causes l tried i W) where
   abbrev pub Fine : MasterDoing → Type 0
   Fine d = AllOf W d.sent
 
@@ -244,15 +269,15 @@ module _ (l : Logged) (i : Input) (issued : (handle : ℕ) (row : ChunkRow) → 
   wait_said d a h = said d a.client (body.Wait a.number) refl h
 
   -- targets of a version: none has less than what was granted
-  module _ (d : MasterDoing) (kept : AreKept l d.master.logged) (handle : ℕ) (row : ChunkRow) (at : chunk_of d.master.logged.table handle ≡ Some row) where
+  module _ (d : MasterDoing) (kept : AreKept l tried d.master.logged d.master.attempts) (handle : ℕ) (row : ChunkRow) (at : chunk_of d.master.logged.table handle ≡ Some row) (none : table.get d.master.attempts handle ≡ None) where
     abbrev IsDue : ℕ → Type 0
-    IsDue base = IsRaised l handle (suc row.issued) base
+    IsDue base = IsRaised l tried handle (suc row.issued) base
 
     raised_by : (base : ℕ) → row.granted ≤ base → IsDue base
     raised_by base low =
         elim (kept.rows handle row at) [
-          | inl was ↦ inl (was.0, was.1, (let same = was.2 in omega (arith, same, low)), (let same = was.3 in omega (arith, same)))
-          | inr new ↦ inr new
+          | inl was ↦ inl (was.0, was.1, (let same = was.2 in omega (arith, same, low)), ap (λ (n : ℕ). suc n) was.3, was.4 none)
+          | inr new ↦ inr (new.0, ap (λ (n : ℕ). suc n) new.1)
         ]
 
     issued_raised : (base : ℕ) → base ≡ row.issued → IsDue base
@@ -260,8 +285,8 @@ module _ (l : Logged) (i : Input) (issued : (handle : ℕ) (row : ChunkRow) → 
         elim (kept.rows handle row at) [
           | inl was ↦
               let low = issued handle was.0 was.1 in
-              inl (was.0, was.1, (let same = was.3 in omega (arith, same, low, is)), (let same = was.3 in omega (arith, same)))
-          | inr new ↦ inr new
+              inl (was.0, was.1, (let same = was.3 in omega (arith, same, low, is)), ap (λ (n : ℕ). suc n) was.3, was.4 none)
+          | inr new ↦ inr (new.0, ap (λ (n : ℕ). suc n) new.1)
         ]
 
     abbrev IsTarget : VersionTarget → Type 0
@@ -272,8 +297,8 @@ module _ (l : Logged) (i : Input) (issued : (handle : ℕ) (row : ChunkRow) → 
     held_due (x ∷ rest) all = (all.0, held_due rest all.1)
 
     placed_due : (servers : List ℕ) → row.granted ≤ 0 → AllOf IsTarget (map (λ s. record { server = s; base = version_held d.master handle s }) servers)
-    placed_due [] none = tt
-    placed_due (s ∷ rest) none = (raised_by (unwrap_or (version_held d.master handle s) 0) (omega (arith, none)), placed_due rest none)
+    placed_due [] zero_granted = tt
+    placed_due (s ∷ rest) zero_granted = (raised_by (unwrap_or (version_held d.master handle s) 0) (omega (arith, zero_granted)), placed_due rest zero_granted)
 
     current_due : (holders : List HeldAt) → AllOf (λ (x : HeldAt). nat_le row.granted x.version ≡ true) holders → AllOf (λ (x : HeldAt). IsDue x.version) holders
     current_due [] all = tt
@@ -289,7 +314,7 @@ module _ (l : Logged) (i : Input) (issued : (handle : ℕ) (row : ChunkRow) → 
         (λ _. held_due (present_current_holders d.master handle row)
         (current_due (present_current_holders d.master handle row)
         (all_filtered (λ (x : HeldAt). nat_le row.granted x.version ≡ true) (λ x. is_present d.master x.server) (current_holders d.master handle row) (holders_pass d.master handle (λ v. nat_le row.granted v) (servers_of d.master)))))
-        (λ none. placed_due (placement d.master) (ltb-false 0 row.granted none))
+        (λ zero_granted. placed_due (placement d.master) (ltb-false 0 row.granted zero_granted))
     by_holders (x ∷ rest) all = held_due (x ∷ rest) all
 
     recorded_due : AllOf (λ (x : HeldAt). IsDue x.version) (recorded_holders d.master handle row)
@@ -303,35 +328,36 @@ module _ (l : Logged) (i : Input) (issued : (handle : ℕ) (row : ChunkRow) → 
   -- an Ask
 
   module _ (ask : IsAsk i) where
-    version_said : (d : MasterDoing) (server handle version : ℕ) (base : Option ℕ) → IsRaised l handle version (unwrap_or base 0) → Fine d → Fine (orders d server (version_order handle version base))
+    version_said : (d : MasterDoing) (server handle version : ℕ) (base : Option ℕ) → IsRaised l tried handle version (unwrap_or base 0) → Fine d → Fine (orders d server (version_order handle version base))
     version_said d server handle version None due h =
         let o : OrderNo = record { epoch = d.master.logged.epoch; count = suc d.master.order_count } in
-        all_joined W d.sent (message node.Master (the_server server) (version_order handle version None o) ∷ []) h (k.creates server o handle version ask due, tt)
+        all_joined W d.sent (message node.Master (the_server server) (version_order handle version None o) ∷ []) h (k.creates server o handle version ask (inl due), tt)
     version_said d server handle version (Some base) due h =
         let o : OrderNo = record { epoch = d.master.logged.epoch; count = suc d.master.order_count } in
         all_joined W d.sent (message node.Master (the_server server) (version_order handle version (Some base) o) ∷ []) h (k.raises server o handle version base ask due, tt)
 
-    versions_sent : (d : MasterDoing) (handle version : ℕ) (targets : List VersionTarget) → AllOf (λ (t : VersionTarget). IsRaised l handle version (unwrap_or t.base 0)) targets → Fine d → Fine (sends_versions d handle version targets)
+    versions_sent : (d : MasterDoing) (handle version : ℕ) (targets : List VersionTarget) → AllOf (λ (t : VersionTarget). IsRaised l tried handle version (unwrap_or t.base 0)) targets → Fine d → Fine (sends_versions d handle version targets)
     versions_sent d handle version [] all h = h
     versions_sent d handle version (t ∷ rest) all h =
         versions_sent (orders d t.server (version_order handle version t.base)) handle version rest all.1 (version_said d t.server handle version t.base all.0 h)
 
-    issued_said : (a : Asker) (handle version : ℕ) (targets : List VersionTarget) → AllOf (λ (t : VersionTarget). IsRaised l handle version (unwrap_or t.base 0)) targets → (d : MasterDoing) → Fine d → Fine (sends_issued d a handle version targets)
+    issued_said : (a : Asker) (handle version : ℕ) (targets : List VersionTarget) → AllOf (λ (t : VersionTarget). IsRaised l tried handle version (unwrap_or t.base 0)) targets → (d : MasterDoing) → Fine d → Fine (sends_issued d a handle version targets)
     issued_said a handle version targets all d h =
         let held : MasterDoing = with_attempt d handle (new_attempt d.master version targets) in
         wait_said (sends_versions held handle version targets) a (versions_sent held handle version targets all h)
 
-    issues_said : (d : MasterDoing) (a : Asker) (own : ℕ) (own_row : ChunkRow) (handle : ℕ) (row : ChunkRow) (targets : List VersionTarget) → AllOf (λ (t : VersionTarget). IsRaised l handle (suc row.issued) (unwrap_or t.base 0)) targets → Fine d
+    issues_said : (d : MasterDoing) (a : Asker) (own : ℕ) (own_row : ChunkRow) (handle : ℕ) (row : ChunkRow) (targets : List VersionTarget) → AllOf (λ (t : VersionTarget). IsRaised l tried handle (suc row.issued) (unwrap_or t.base 0)) targets → Fine d
         → Fine (issues_to d a own own_row handle row targets)
     issues_said d a own own_row handle row [] all h = location_said d a own own_row [] h
     issues_said d a own own_row handle row (t ∷ rest) all h =
         logged d (log.Issue (handle_of handle) (version_of (suc row.issued))) (λ e. sends_issued e a handle (suc row.issued) (t ∷ rest)) (issued_said a handle (suc row.issued) (t ∷ rest) all) h
 
-    own_said : (d : MasterDoing) (a : Asker) (handle : ℕ) (row : ChunkRow) (b : Bool) → AreKept l d.master.logged → chunk_of d.master.logged.table handle ≡ Some row → Fine d → Fine (issues_own d a handle row b)
-    own_said d a handle row true kept at h = wait_said d a h
-    own_said d a handle row false kept at h =
+    own_said : (d : MasterDoing) (a : Asker) (handle : ℕ) (row : ChunkRow) (b : Bool) → AreKept l tried d.master.logged d.master.attempts → chunk_of d.master.logged.table handle ≡ Some row → is_attempted d.master handle ≡ b → Fine d → Fine (issues_own d a handle row b)
+    own_said d a handle row true kept at is h = wait_said d a h
+    own_said d a handle row false kept at is h =
         let holders : List HeldAt = recorded_holders d.master handle row in
-        issues_said d a handle row handle row (targets_by d.master handle row holders) (by_holders d kept handle row at holders (recorded_due d kept handle row at)) h
+        let none : table.get d.master.attempts handle ≡ None = unattempted (table.get d.master.attempts handle) is in
+        issues_said d a handle row handle row (targets_by d.master handle row holders) (by_holders d kept handle row at none holders (recorded_due d kept handle row at none)) h
 
     copy_said : (d : MasterDoing) (server handle copy version : ℕ) (held : Option ℕ) → l.next_handle ≤ copy → Fine d → Fine (orders d server (copy_order handle copy version held))
     copy_said d server handle copy version None new h =
@@ -351,43 +377,44 @@ module _ (l : Logged) (i : Input) (issued : (handle : ℕ) (row : ChunkRow) → 
         let held : MasterDoing = with_attempt seen copy (new_attempt d.master version targets) in
         wait_said (sends_copies held handle copy version targets) a (copies_sent held handle copy version targets new h)
 
-    copies_said : (d : MasterDoing) (a : Asker) (handle : ℕ) (row : ChunkRow) (targets : List VersionTarget) → AreKept l d.master.logged → Fine d → Fine (copies_to d a handle row targets)
+    copies_said : (d : MasterDoing) (a : Asker) (handle : ℕ) (row : ChunkRow) (targets : List VersionTarget) → AreKept l tried d.master.logged d.master.attempts → Fine d → Fine (copies_to d a handle row targets)
     copies_said d a handle row [] kept h = location_said d a handle row [] h
     copies_said d a handle row (t ∷ rest) kept h =
         let copy : ℕ = d.master.logged.next_handle in
         logged d (log.CopyStart (file_id a.file) a.index (handle_of handle) (handle_of copy) (version_of (suc row.issued))) (λ e. sends_copy_started e a handle copy (suc row.issued) (t ∷ rest))
         (started_said a handle copy (suc row.issued) (t ∷ rest) kept.next) h
 
-    wants_said : (d : MasterDoing) (a : Asker) (handle : ℕ) (row : ChunkRow) → AreKept l d.master.logged → chunk_of d.master.logged.table handle ≡ Some row → Fine d → Fine (wants_own d a handle row)
+    wants_said : (d : MasterDoing) (a : Asker) (handle : ℕ) (row : ChunkRow) → AreKept l tried d.master.logged d.master.attempts → chunk_of d.master.logged.table handle ≡ Some row → Fine d → Fine (wants_own d a handle row)
     wants_said d a handle row kept at h =
         on_cond Fine (nat_lt 1 row.references) (begins_copy d a handle row) _ (λ _. copies_said d a handle row (copy_targets d.master handle row) kept h)
         (λ _. on_cond Fine (is_copied d.master.logged handle) (tells_to_wait d a) (issues_own d a handle row (is_attempted d.master handle)) (λ _. wait_said d a h)
-        (λ _. own_said d a handle row (is_attempted d.master handle) kept at h))
+        (λ _. own_said d a handle row (is_attempted d.master handle) kept at refl h))
 
-    wants_of_said : (d : MasterDoing) (a : Asker) (handle : ℕ) (o : Option ChunkRow) → AreKept l d.master.logged → chunk_of d.master.logged.table handle ≡ o → Fine d → Fine (wants_own_of d a handle o)
+    wants_of_said : (d : MasterDoing) (a : Asker) (handle : ℕ) (o : Option ChunkRow) → AreKept l tried d.master.logged d.master.attempts → chunk_of d.master.logged.table handle ≡ o → Fine d → Fine (wants_own_of d a handle o)
     wants_of_said d a handle None kept at h = h
     wants_of_said d a handle (Some row) kept at h = wants_said d a handle row kept at h
 
-    issues_copy_said : (d : MasterDoing) (a : Asker) (handle : ℕ) (row : ChunkRow) (copy : ℕ) (copy_row : ChunkRow) (holders : List HeldAt) → AreKept l d.master.logged → chunk_of d.master.logged.table copy ≡ Some copy_row
-        → AllOf (λ (x : HeldAt). IsRaised l copy (suc copy_row.issued) x.version) holders → Fine d → Fine (issues_copy d a handle row copy copy_row holders)
-    issues_copy_said d a handle row copy copy_row [] kept at all h =
+    issues_copy_said : (d : MasterDoing) (a : Asker) (handle : ℕ) (row : ChunkRow) (copy : ℕ) (copy_row : ChunkRow) (holders : List HeldAt) → AreKept l tried d.master.logged d.master.attempts → chunk_of d.master.logged.table copy ≡ Some copy_row
+        → table.get d.master.attempts copy ≡ None → AllOf (λ (x : HeldAt). IsRaised l tried copy (suc copy_row.issued) x.version) holders → Fine d → Fine (issues_copy d a handle row copy copy_row holders)
+    issues_copy_said d a handle row copy copy_row [] kept at none all h =
         let given_up : MasterDoing = gives_up_copy d copy in
-        wants_of_said given_up a handle (chunk_of given_up.master.logged.table handle) (less_kept l d.master.logged (copy ∷ []) kept) refl h
-    issues_copy_said d a handle row copy copy_row (x ∷ rest) kept at all h =
-        issues_said d a handle row copy copy_row (map holder_target (x ∷ rest)) (held_due d kept copy copy_row at (x ∷ rest) all) h
+        wants_of_said given_up a handle (chunk_of given_up.master.logged.table handle) (less_kept l tried d.master.logged d.master.attempts (copy ∷ []) kept) refl h
+    issues_copy_said d a handle row copy copy_row (x ∷ rest) kept at none all h =
+        issues_said d a handle row copy copy_row (map holder_target (x ∷ rest)) (held_due d kept copy copy_row at none (x ∷ rest) all) h
 
-    wants_copy_said : (d : MasterDoing) (a : Asker) (handle : ℕ) (row : ChunkRow) (copy : ℕ) (o : Option ChunkRow) → AreKept l d.master.logged → chunk_of d.master.logged.table handle ≡ Some row → chunk_of d.master.logged.table copy ≡ o → Fine d
+    wants_copy_said : (d : MasterDoing) (a : Asker) (handle : ℕ) (row : ChunkRow) (copy : ℕ) (o : Option ChunkRow) → AreKept l tried d.master.logged d.master.attempts → chunk_of d.master.logged.table handle ≡ Some row → chunk_of d.master.logged.table copy ≡ o → Fine d
         → Fine (wants_copy d a handle row copy o)
     wants_copy_said d a handle row copy None kept at copy_at h = wants_said d a handle row kept at h
     wants_copy_said d a handle row copy (Some copy_row) kept at copy_at h =
         on_cond Fine (is_attempted d.master copy) (tells_to_wait d a) (issues_copy d a handle row copy copy_row (holders_where d.master copy (λ v. v == copy_row.issued))) (λ _. wait_said d a h)
-        (λ _. issues_copy_said d a handle row copy copy_row (holders_where d.master copy (λ v. v == copy_row.issued)) kept copy_at (copied_due d kept copy copy_row copy_at) h)
+        (λ no. let none : table.get d.master.attempts copy ≡ None = unattempted (table.get d.master.attempts copy) no in
+        issues_copy_said d a handle row copy copy_row (holders_where d.master copy (λ v. v == copy_row.issued)) kept copy_at none (copied_due d kept copy copy_row copy_at none) h)
 
-    by_said : (d : MasterDoing) (a : Asker) (handle : ℕ) (row : ChunkRow) (o : Option ℕ) → AreKept l d.master.logged → chunk_of d.master.logged.table handle ≡ Some row → Fine d → Fine (wants_by d a handle row o)
+    by_said : (d : MasterDoing) (a : Asker) (handle : ℕ) (row : ChunkRow) (o : Option ℕ) → AreKept l tried d.master.logged d.master.attempts → chunk_of d.master.logged.table handle ≡ Some row → Fine d → Fine (wants_by d a handle row o)
     by_said d a handle row None kept at h = wants_said d a handle row kept at h
     by_said d a handle row (Some copy) kept at h = wants_copy_said d a handle row copy (chunk_of d.master.logged.table copy) kept at refl h
 
-    primary_said : (d : MasterDoing) (a : Asker) (handle : ℕ) (row : ChunkRow) → AreKept l d.master.logged → chunk_of d.master.logged.table handle ≡ Some row → Fine d → Fine (wants_primary d a handle row)
+    primary_said : (d : MasterDoing) (a : Asker) (handle : ℕ) (row : ChunkRow) → AreKept l tried d.master.logged d.master.attempts → chunk_of d.master.logged.table handle ≡ Some row → Fine d → Fine (wants_primary d a handle row)
     primary_said d a handle row kept at h =
         on_cond Fine (waits_for d.master handle) (tells_to_wait d a) (wants_by d a handle row (copy_for d.master.logged a.file a.index)) (λ _. wait_said d a h)
         (λ _. by_said d a handle row (copy_for d.master.logged a.file a.index) kept at h)
@@ -400,34 +427,34 @@ module _ (l : Logged) (i : Input) (issued : (handle : ℕ) (row : ChunkRow) → 
         by_row None = h
         by_row (Some row) = holders_said d a handle row h
 
-    row_said : (d : MasterDoing) (a : Asker) (lost : Bool) (handle : ℕ) (o : Option ChunkRow) → AreKept l d.master.logged → chunk_of d.master.logged.table handle ≡ o → Fine d → Fine (mutates_row d a lost handle o)
+    row_said : (d : MasterDoing) (a : Asker) (lost : Bool) (handle : ℕ) (o : Option ChunkRow) → AreKept l tried d.master.logged d.master.attempts → chunk_of d.master.logged.table handle ≡ o → Fine d → Fine (mutates_row d a lost handle o)
     row_said d a lost handle None kept at h = h
     row_said d a lost handle (Some row) kept at h =
         on_cond Fine (has_ended row d.master.now) (wants_primary d a handle row) (tells_holders (cond lost (revokes d handle) d) a handle row) (λ _. primary_said d a handle row kept at h)
         (λ _. holders_said (cond lost (revokes d handle) d) a handle row (on_cond Fine lost (revokes d handle) d (λ _. revoked_of d handle (chunk_of d.master.logged.table handle) h) (λ _. h)))
 
-    at_said : (d : MasterDoing) (a : Asker) (lost : Bool) (o : Option ℕ) → AreKept l d.master.logged → Fine d → Fine (mutates_at d a lost o)
+    at_said : (d : MasterDoing) (a : Asker) (lost : Bool) (o : Option ℕ) → AreKept l tried d.master.logged d.master.attempts → Fine d → Fine (mutates_at d a lost o)
     at_said d a lost None kept h = h
     at_said d a lost (Some handle) kept h = row_said d a lost handle (chunk_of d.master.logged.table handle) kept refl h
 
-    adds_said : (d : MasterDoing) (a : Asker) (lost : Bool) → AreKept l d.master.logged → Fine d → Fine (adds_chunk d a lost)
+    adds_said : (d : MasterDoing) (a : Asker) (lost : Bool) → AreKept l tried d.master.logged d.master.attempts → Fine d → Fine (adds_chunk d a lost)
     adds_said d a lost kept h =
         let handle : ℕ = d.master.logged.next_handle in
         let r : Record = log.AddChunk (file_id a.file) (handle_of handle) in
         let b : MasterDoing = writes_checkpoint d in
         let then_ : MasterDoing → MasterDoing = λ e. mutates_at e a lost (Some handle) in
-        on_cond Fine (fits d r) (then_ (appends d r)) _ (λ _. at_said (appends d r) a lost (Some handle) (added_kept l d.master.logged a.file handle kept.next kept) h)
+        on_cond Fine (fits d r) (then_ (appends d r)) _ (λ _. at_said (appends d r) a lost (Some handle) (added_kept l tried d.master.logged d.master.attempts a.file handle kept.next kept) h)
         (λ _. on_cond Fine (checkpoint_fits d.master.config.log_bytes (checkpoint_of d.master.logged)) (logs_after_checkpoint b r (is_of_copy d.master.logged r) then_) d
         (λ _. on_cond Fine _ (then_ (appends b r)) b
-        (λ _. at_said (appends b r) a lost (Some handle) (added_kept l b.master.logged a.file handle kept.next (less_kept l d.master.logged (table.keys d.master.logged.copies) kept)) h) (λ _. h)) (λ _. h))
+        (λ _. at_said (appends b r) a lost (Some handle) (added_kept l tried b.master.logged b.master.attempts a.file handle kept.next (less_kept l tried d.master.logged d.master.attempts (table.keys d.master.logged.copies) kept)) h) (λ _. h)) (λ _. h))
 
-    write_said : (d : MasterDoing) (a : Asker) (lost : Bool) (handles : List ℕ) (index : ℕ) → AreKept l d.master.logged → Fine d → Fine (asks_to_write d a lost handles index)
+    write_said : (d : MasterDoing) (a : Asker) (lost : Bool) (handles : List ℕ) (index : ℕ) → AreKept l tried d.master.logged d.master.attempts → Fine d → Fine (asks_to_write d a lost handles index)
     write_said d a lost handles index kept h =
         on_cond Fine (nat_lt (length handles) index) (tells d a.client (body.Refused a.number TooLong)) _ (λ _. said d a.client (body.Refused a.number TooLong) refl h)
         (λ _. on_cond Fine (index == length handles) (adds_chunk d (with_index a index) lost) (mutates_at d (with_index a index) lost (element_at handles index)) (λ _. adds_said d (with_index a index) lost kept h)
         (λ _. at_said d (with_index a index) lost (element_at handles index) kept h))
 
-    append_said : (d : MasterDoing) (a : Asker) (lost : Bool) (handles : List ℕ) (after count : ℕ) → AreKept l d.master.logged → Fine d → Fine (asks_to_append d a lost handles after count)
+    append_said : (d : MasterDoing) (a : Asker) (lost : Bool) (handles : List ℕ) (after count : ℕ) → AreKept l tried d.master.logged d.master.attempts → Fine d → Fine (asks_to_append d a lost handles after count)
     append_said d a lost handles after zero kept h = adds_said d (with_index a 0) lost kept h
     append_said d a lost handles after (suc last) kept h =
         on_cond Fine (nat_lt last after) (adds_chunk d (with_index a (suc last)) lost) (mutates_at d (with_index a last) lost (element_at handles last)) (λ _. adds_said d (with_index a (suc last)) lost kept h)
@@ -437,17 +464,17 @@ module _ (l : Logged) (i : Input) (issued : (handle : ℕ) (row : ChunkRow) → 
     last_said d a handles zero h = none_said d a h
     last_said d a handles (suc last) h = looks_said d (with_index a last) (element_at handles last) h
 
-    asks_for_said : (d : MasterDoing) (a : Asker) (lost : Bool) (w : Wanted) (handles : List ℕ) → AreKept l d.master.logged → Fine d → Fine (asks_for d a lost w handles)
+    asks_for_said : (d : MasterDoing) (a : Asker) (lost : Bool) (w : Wanted) (handles : List ℕ) → AreKept l tried d.master.logged d.master.attempts → Fine d → Fine (asks_for d a lost w handles)
     asks_for_said d a lost (wanted.Read index) handles kept h = looks_said d (with_index a index) (element_at handles index) h
     asks_for_said d a lost (wanted.Write index) handles kept h = write_said d a lost handles index kept h
     asks_for_said d a lost (wanted.Append after) handles kept h = append_said d a lost handles after (length handles) kept h
     asks_for_said d a lost wanted.Last handles kept h = last_said d a handles (length handles) h
 
-    asks_of_said : (d : MasterDoing) (a : Asker) (lost : Bool) (w : Wanted) (o : Option (List ℕ)) → AreKept l d.master.logged → Fine d → Fine (asks_of d a lost w o)
+    asks_of_said : (d : MasterDoing) (a : Asker) (lost : Bool) (w : Wanted) (o : Option (List ℕ)) → AreKept l tried d.master.logged d.master.attempts → Fine d → Fine (asks_of d a lost w o)
     asks_of_said d a lost w None kept h = said d a.client (body.Refused a.number Collected) refl h
     asks_of_said d a lost w (Some handles) kept h = asks_for_said d a lost w handles kept h
 
-    ask_said : (d : MasterDoing) (client : Node) (number file : ℕ) (w : Wanted) (deadline : ℕ) (lost : Bool) → AreKept l d.master.logged → Fine d → Fine (takes_ask d client number file w deadline lost)
+    ask_said : (d : MasterDoing) (client : Node) (number file : ℕ) (w : Wanted) (deadline : ℕ) (lost : Bool) → AreKept l tried d.master.logged d.master.attempts → Fine d → Fine (takes_ask d client number file w deadline lost)
     ask_said d client number file w deadline lost kept h =
         let a : Asker = record { client = client; number = number; file = file; index = 0 } in
         on_cond Fine (nat_le deadline d.master.now) d (asks_of d a lost w (file_of d.master.logged.table file)) (λ _. h) (λ _. asks_of_said d a lost w (file_of d.master.logged.table file) kept h)
@@ -536,7 +563,7 @@ module _ (l : Logged) (i : Input) (issued : (handle : ℕ) (row : ChunkRow) → 
       all_placed (IsLineTaken i (server_number m.sender)) leases
       (λ place line at. record { report = m; replicas = replicas; leases = leases; taken = came; is = is; sender = refl; place = place; at = at })
 
-  takes_said : (d : MasterDoing) (m : Message) (b : Body) → AreKept l d.master.logged → i ≡ input.Deliver m → m.body ≡ b → Fine d → Fine (master_takes d m b)
+  takes_said : (d : MasterDoing) (m : Message) (b : Body) → AreKept l tried d.master.logged d.master.attempts → i ≡ input.Deliver m → m.body ≡ b → Fine d → Fine (master_takes d m b)
   takes_said d m (body.Name number deadline c) kept came is h = kept_said d (client_number m.sender) number deadline.0 c (table.get d.master.logged.kept (client_number m.sender)) h
   takes_said d m (body.Look number c) kept came is h = said d m.sender (body.Named number (reply_by (outcome_by d.master.logged.names c (master_refusal d.master c)))) refl h
   takes_said d m (body.Ask number file w deadline lost) kept came is h = ask_said (record { message = m; number = number; file = file; what = w; deadline = deadline; lost = lost; taken = came; is = is }) d m.sender number file.0 w deadline.0 lost kept h
@@ -572,7 +599,7 @@ module _ (l : Logged) (i : Input) (issued : (handle : ℕ) (row : ChunkRow) → 
   takes_said d m (body.Image handle version serial bytes) kept came is h = h
   takes_said d m (body.CopyLocal order handle version copy copy_version) kept came is h = h
 
-  does_said : (d : MasterDoing) (j : Input) → AreKept l d.master.logged → i ≡ j → Fine d → Fine (master_does d j)
+  does_said : (d : MasterDoing) (j : Input) → AreKept l tried d.master.logged d.master.attempts → i ≡ j → Fine d → Fine (master_does d j)
   does_said d (input.Deliver m) kept came h = takes_said d m m.body kept came refl h
   does_said d input.Tick kept came h = ticks_said d h
 
@@ -582,7 +609,7 @@ ends_said W m d choice Lost h = tt
 ends_said W m d choice (Stops made) h = tt
 
 -- what the master says in a step
-pub step_caused : (m : MasterState) (moment : ℕ) (i : Input) (choice : Choice) (W : Message → Type 0) → ((handle : ℕ) (row : ChunkRow) → chunk_of m.logged.table handle ≡ Some row → row.granted ≤ row.issued) → Causes m.logged i W
+pub step_caused : (m : MasterState) (moment : ℕ) (i : Input) (choice : Choice) (W : Message → Type 0) → ((handle : ℕ) (row : ChunkRow) → chunk_of m.logged.table handle ≡ Some row → row.granted ≤ row.issued) → Causes m.logged m.attempts i W
     → AllOf W (master_step m moment i choice).out.sent
 step_caused m moment i choice W issued k =
     let d : MasterDoing = master_goes m moment i choice.refused in
@@ -590,4 +617,4 @@ step_caused m moment i choice W issued k =
     let done : MasterDoing = master_does first i in
     on_cond (λ (t : Taken MasterState). AllOf W t.out.sent) m.up (master_bounded m d choice) (no_step m)
     (λ _. on_cond (λ (t : Taken MasterState). AllOf W t.out.sent) (may_end d choice.ending) (master_ends m d choice choice.ending) (no_step m)
-    (λ _. ends_said W m d choice choice.ending (ready m.logged i issued W k done done.master.snapshots (does_said m.logged i issued W k first i (same_kept m.logged) refl tt))) (λ _. tt)) (λ _. tt)
+    (λ _. ends_said W m d choice choice.ending (ready m.logged m.attempts i issued W k done done.master.snapshots (does_said m.logged m.attempts i issued W k first i (same_kept m.logged m.attempts) refl tt))) (λ _. tt)) (λ _. tt)
