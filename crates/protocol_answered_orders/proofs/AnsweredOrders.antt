@@ -59,10 +59,10 @@ sender_is config servers clients w r place m at none = (n.index, sym n.same.0 �
     n : IsSaidNow h.before h.next m
     n = h.now
 
-    one : Said (suc n.index) (λ b. Unit {0}) (λ b is. tt) n.word
+    one : Said (suc n.index) (server_at n.server n.moment).now (λ b. Unit {0}) (λ b is. tt) n.word
     one =
-        all_at (Said (suc n.index) (λ b. Unit {0}) (λ b is. tt)) _ n.said.0 n.word
-        (step_words (suc n.index) (λ b. Unit {0}) (λ b is. tt) n.server n.moment n.taken n.choice (server_id_is config servers clients h.before h.reached n.index n.server n.at) (λ _. tt) (λ x came order q v of new. tt)) n.said.1
+        all_at (Said (suc n.index) (server_at n.server n.moment).now (λ b. Unit {0}) (λ b is. tt)) _ n.said.0 n.word
+        (step_words (suc n.index) (server_at n.server n.moment).now (λ b. Unit {0}) (λ b is. tt) n.server n.moment n.taken n.choice (server_id_is config servers clients h.before h.reached n.index n.server n.at) refl (λ _. tt) (λ x came order q v of new. tt)) n.said.1
 
 -- leases that are reported
 
@@ -124,10 +124,10 @@ reported_leases_were_granted config servers clients w r place m at replicas leas
     n : IsSaidNow h.before h.next m
     n = h.now
 
-    one : Said (suc n.index) (TellsGranted h.before.sent (suc n.index)) (plain_tells h.before.sent (suc n.index)) n.word
+    one : Said (suc n.index) (server_at n.server n.moment).now (TellsGranted h.before.sent (suc n.index)) (plain_tells h.before.sent (suc n.index)) n.word
     one =
-        all_at (Said (suc n.index) (TellsGranted h.before.sent (suc n.index)) (plain_tells h.before.sent (suc n.index))) _ n.said.0 n.word
-        (step_words (suc n.index) (TellsGranted h.before.sent (suc n.index)) (plain_tells h.before.sent (suc n.index)) n.server n.moment n.taken n.choice (server_id_is config servers clients h.before h.reached n.index n.server n.at)
+        all_at (Said (suc n.index) (server_at n.server n.moment).now (TellsGranted h.before.sent (suc n.index)) (plain_tells h.before.sent (suc n.index))) _ n.said.0 n.word
+        (step_words (suc n.index) (server_at n.server n.moment).now (TellsGranted h.before.sent (suc n.index)) (plain_tells h.before.sent (suc n.index)) n.server n.moment n.taken n.choice (server_id_is config servers clients h.before h.reached n.index n.server n.at) refl
         (λ _. report_tells config servers clients h.before h.reached n.index n.server n.at n.moment)
         (λ x came order q v of new. recorded_tells h.before.sent (suc n.index) q v))
         n.said.1
@@ -273,10 +273,10 @@ recorded_orders_are_refused config servers clients w r place m at handle version
     n : IsSaidNow h.before h.next m
     n = h.now
 
-    one : Said (suc n.index) (AnswersOrder n.server n.taken) (plain_answers n.server n.taken) n.word
+    one : Said (suc n.index) (server_at n.server n.moment).now (AnswersOrder n.server n.taken) (plain_answers n.server n.taken) n.word
     one =
-        all_at (Said (suc n.index) (AnswersOrder n.server n.taken) (plain_answers n.server n.taken)) _ n.said.0 n.word
-        (step_words (suc n.index) (AnswersOrder n.server n.taken) (plain_answers n.server n.taken) n.server n.moment n.taken n.choice (server_id_is config servers clients h.before h.reached n.index n.server n.at)
+        all_at (Said (suc n.index) (server_at n.server n.moment).now (AnswersOrder n.server n.taken) (plain_answers n.server n.taken)) _ n.said.0 n.word
+        (step_words (suc n.index) (server_at n.server n.moment).now (AnswersOrder n.server n.taken) (plain_answers n.server n.taken) n.server n.moment n.taken n.choice (server_id_is config servers clients h.before h.reached n.index n.server n.at) refl
         (λ _. reported_answers n.server (server_at n.server n.moment) n.taken)
         (λ x came order q v of new. recorded_answers n.server n.taken x came order q v of new))
         n.said.1

@@ -1,6 +1,7 @@
 -- What a server says in a step, with the cause of each Report and each Recorded.
-use Rattle.std.proofs.Common.{◌≡◌, ℕ, ◌+◌, ◌-◌, Bool, true, false, List, [], ◌∷◌, length, Option, Some, None, refl, ap}
-use Rattle.std.specs.Prelude.{◌==◌, ◌&&◌, nat_le, nat_lt, map}
+use Rattle.std.proofs.Common.{◌≡◌, ℕ, ◌+◌, ◌-◌, Bool, true, false, List, [], ◌∷◌, length, Option, Some, None, refl, ap, ◌≤◌, arith}
+use Rattle.std.proofs.Math.Nat.{le-max_left}
+use Rattle.std.specs.Prelude.{◌==◌, ◌&&◌, nat_le, nat_lt, map, max}
 use Rattle.std.specs.Option.{option_map}
 use Rattle.std.specs.FinMap as table
 use Rattle.gfs_types.specs.declared.ids.Node.{Node}
@@ -68,16 +69,16 @@ pub record IsOrderOf (b : Body) (order : OrderNo) (handle version : ℕ) : Type 
 abbrev pub reported : ServerState → Body
 reported s = body.Report (map replica_line (table.entries s.disk.replicas)) (map lease_line (table.entries (counting_leases s)))
 
-module _ (server : ℕ) (W : Body → Type 0) (plain : (b : Body) → is_plain b ≡ true → W b) where
+module _ (server now : ℕ) (W : Body → Type 0) (plain : (b : Body) → is_plain b ≡ true → W b) where
   abbrev pub Said : Message → Type 0
   Said m = (m.sender ≡ the_server server) × W m.body
 
-  -- a step so far, of the server of this number
-  abbrev Says : ServerDoing → Type 0
-  Says d = (d.server.id ≡ server) × AllOf Said d.sent
+  -- a step so far, of the server of this number, at this moment
+  abbrev pub Says : ServerDoing → Type 0
+  Says d = ((d.server.id ≡ server) × (d.server.now ≡ now)) × AllOf Said d.sent
 
   says_true : (d : ServerDoing) (receiver : Node) (b : Body) → W b → Says d → Says (says d receiver b)
-  says_true d receiver b is h = (h.0, all_joined Said d.sent (message (the_server d.server.id) receiver b ∷ []) h.1 ((ap the_server h.0, is), tt))
+  says_true d receiver b is h = (h.0, all_joined Said d.sent (message (the_server d.server.id) receiver b ∷ []) h.1 ((ap the_server h.0.0, is), tt))
 
   calm : (d : ServerDoing) (receiver : Node) (b : Body) → is_plain b ≡ true → Says d → Says (says d receiver b)
   calm d receiver b is h = says_true d receiver b (plain b is) h
@@ -139,7 +140,7 @@ module _ (server : ℕ) (W : Body → Type 0) (plain : (b : Body) → is_plain b
 
   forwards_says : (d : ServerDoing) (members : List ℕ) (handle version serial : ℕ) (id : DataId) (c : Change) → Says d → Says (forwards d members handle version serial id c)
   forwards_says d members handle version serial id c h =
-      (h.0, all_joined Said d.sent (map (forward_to d.server.id handle version serial id c) members) h.1 (forwards_true d.server.id members handle version serial id c h.0))
+      (h.0, all_joined Said d.sent (map (forward_to d.server.id handle version serial id c) members) h.1 (forwards_true d.server.id members handle version serial id c h.0.0))
 
   primary_says : (d : ServerDoing) (handle : ℕ) (p : SerialOrder) (id : DataId) (m : Mutation) → Says d → Says (primary_applies d handle p id m)
   primary_says d handle p id m h =
@@ -338,9 +339,22 @@ module _ (server : ℕ) (W : Body → Type 0) (plain : (b : Body) → is_plain b
   ends_says s d choice (Stops made) h = tt
 
   -- what a server says in a step: a Report of what it has, a Recorded of what a new order gives it, and words that need no cause here
-  pub step_words : (s : ServerState) (moment : ℕ) (i : Input) (choice : Choice) → s.id ≡ server → (i ≡ input.Tick → W (reported (server_at s moment)))
+  pub step_words : (s : ServerState) (moment : ℕ) (i : Input) (choice : Choice) → s.id ≡ server → (server_at s moment).now ≡ now → (i ≡ input.Tick → W (reported (server_at s moment)))
       → ((m : Message) → i ≡ input.Deliver m → (order : OrderNo) (handle version : ℕ) → IsOrderOf m.body order handle version → is_new_order s.disk order.epoch order.count ≡ true → W (body.Recorded (handle_of handle) (version_of version)))
       → AllOf Said (server_step s moment i choice).out.sent
-  step_words s moment i choice id reports may =
+  step_words s moment i choice id clock reports may =
       on_cond (λ (t : Taken ServerState). AllOf Said t.out.sent) s.up (server_ends s (server_goes s moment i) choice choice.ending) (no_step s)
-      (λ _. ends_says s (server_goes s moment i) choice choice.ending (does_says (server_begins (server_at s moment)) i reports may (id, tt))) (λ _. tt)
+      (λ _. ends_says s (server_goes s moment i) choice choice.ending (does_says (server_begins (server_at s moment)) i reports may ((id, clock), tt))) (λ _. tt)
+
+-- after a step a server is at the greatest moment that it was given since its start
+pub step_now : (s : ServerState) (moment : ℕ) (i : Input) (choice : Choice) → (server_step s moment i choice).state.now ≤ max s.now moment
+step_now s moment i choice =
+    on_cond (λ (t : Taken ServerState). t.state.now ≤ max s.now moment) s.up (server_ends s (server_goes s moment i) choice choice.ending) (no_step s) (λ _. by_ending choice.ending) (λ _. le-max_left s.now moment)
+  where
+    goes : Says s.id (max s.now moment) (λ b. Unit {0}) (λ b is. tt) (server_goes s moment i)
+    goes = does_says s.id (max s.now moment) (λ b. Unit {0}) (λ b is. tt) (server_begins (server_at s moment)) i (λ _. tt) (λ m came order handle version of new. tt) ((refl, refl), tt)
+
+    by_ending : (e : Ending) → (server_ends s (server_goes s moment i) choice e).state.now ≤ max s.now moment
+    by_ending Goes = let same = goes.0.1 in omega (arith, same)
+    by_ending Lost = omega arith
+    by_ending (Stops made) = omega arith

@@ -1,13 +1,9 @@
 -- Why a SetVersion skips no granted version: as it is sent, nothing above its base was granted, its number is the next one, and no other is attempted. So those between are shut.
-use Rattle.std.proofs.Common.{◌≡◌, ◌⊎◌, ℕ, zero, suc, ◌≤◌, ◌<◌, ◌-◌, Bool, true, false, List, [], ◌∷◌, ◌++◌, length, Option, Some, None, refl, sym, ap, subst, ◌∙◌, inl, inr, arith}
-use Rattle.std.specs.Prelude.{◌==◌, ◌&&◌, nat_lt, nat_le, IsTrue}
+use Rattle.std.proofs.Common.{◌≡◌, ◌⊎◌, ℕ, zero, suc, ◌≤◌, ◌<◌, Bool, true, false, List, [], ◌∷◌, ◌++◌, length, Option, Some, None, refl, sym, ap, subst, ◌∙◌, inl, inr, arith}
+use Rattle.std.specs.Prelude.{◌==◌, nat_le, IsTrue}
 use Rattle.std.specs.FinMap as table
 use Rattle.std.proofs.lemmas.Bool.{eqb-true, and_parts, leb-true, leb-false}
 use Rattle.gfs_types.specs.declared.config.Config.{Config}
-use Rattle.gfs_types.specs.declared.ids.Node.{Node}
-use Rattle.gfs_types.specs.declared.ids.Node.TheVariants as node
-use Rattle.gfs_types.specs.declared.ids.Handle.{Handle}
-use Rattle.gfs_types.specs.declared.ids.Version.{Version}
 use Rattle.gfs_types.specs.declared.ids.Moment.{Moment}
 use Rattle.gfs_types.specs.declared.ids.OrderNo.{OrderNo}
 use Rattle.messages.specs.declared.event.Event.{Event}
@@ -17,27 +13,24 @@ use Rattle.messages.specs.declared.message.Body.{Body}
 use Rattle.messages.specs.declared.message.Body.TheVariants as body
 use Rattle.chunk_table.specs.ChunkTable.{ChunkRow, chunk_of}
 use Rattle.protocol.specs.Tables.{element_at}
-use Rattle.protocol.specs.Sending.{message, handle_of, version_of, order_number}
+use Rattle.protocol.specs.Sending.{handle_of, version_of, order_number}
 use Rattle.protocol.specs.Choice.{Choice}
 use Rattle.protocol.specs.Logged.{Logged, Copy, LogChange}
-use Rattle.protocol.specs.Master.{MasterState, VersionAttempt}
 use Rattle.protocol.specs.MasterStep.{master_step, master_restart}
 use Rattle.protocol.specs.ServerStep.{server_step, server_restart}
 use Rattle.protocol.specs.ClientStep.{client_step, client_call}
-use Rattle.protocol.specs.World.{WorldState, new_world, stamped, happens, after_events, IsReached}
+use Rattle.protocol.specs.World.{WorldState, new_world, stamped, after_events, IsReached}
 use Rattle.protocol_laws.specs.Laws.{is_grant, grants_of}
-use Rattle.protocol_laws.proofs.Steps.{on_cond, none_some, same_some, tally, count-cons}
-use Rattle.protocol_laws.proofs.Entries.{AllOf}
+use Rattle.protocol_laws.proofs.Steps.{none_some, same_some, tally, count-cons}
 use Rattle.protocol_laws.proofs.Words.{true_false}
 use Rattle.protocol_laws.proofs.ChunkRows.{rows_of}
 use Rattle.protocol_laws.proofs.MembersRecorded.{all_at}
-use Rattle.protocol_laws.proofs.MessagesSent.{IsSent, IsSameMessage}
+use Rattle.protocol_laws.proofs.MessagesSent.{IsSent}
 use Rattle.protocol_laws.proofs.ClientMoves.{HasNoOrder, quiet_orders, client_quiet, call_quiet}
 use Rattle.protocol_laws.proofs.SentReached.{without_order, server_quiet, server_restarts_quiet, sent_reached}
 use Rattle.protocol_laws.proofs.OrderNumbers.{state_of, AllFound, found_same}
 use Rattle.protocol_laws.proofs.LoggedParts.{Parts, parts_of}
 use Rattle.protocol_laws.proofs.NamesReached.{IsUpToLog}
-use Rattle.protocol_laws.proofs.RowsFit.{same_row}
 use Rattle.protocol_laws.proofs.RowsLogged.{IsFoundRows, IsRowedLog}
 use Rattle.protocol_laws.proofs.RowsKept.{rows_kept}
 use Rattle.protocol_laws.proofs.GrantedIssued.{granted_is_at_most_issued}
@@ -51,7 +44,6 @@ use Rattle.protocol_acts.proofs.IssuedNumbers.{IsPassed, IsLogPassed, passed_sam
 use Rattle.protocol_closed_versions.proofs.ClosedVersions.{StaysShut, stays_shut}
 use Rattle.protocol_attempts.proofs.Events.{HoldsAfter, holds_after}
 use Rattle.protocol_words.proofs.Histories.{SentIn, sent_in, after_both}
-use Rattle.protocol_deadlines.specs.Laws.{Numbers}
 use Rattle.protocol_empty_grants.specs.Laws.{IsGrantUsed}
 use Rattle.protocol_empty_grants.proofs.UsedGrants.{numbered_versions_have_used_grants}
 use Rattle.protocol_extended_leases.proofs.MasterCauses.{is_caused, Attempts, IsRaised, Causes, step_caused}
@@ -128,13 +120,13 @@ each_raised config servers clients u r =
     }
 
 -- a Grant that is counted
-grant_parts : (handle version : ℕ) (b : Body) → is_grant handle version b ≡ true → (order : OrderNo) × (end_moment : Moment) × (members : List ℕ) × (b ≡ body.Grant order (handle_of handle) (version_of version) end_moment members)
+pub grant_parts : (handle version : ℕ) (b : Body) → is_grant handle version b ≡ true → (order : OrderNo) × (end_moment : Moment) × (members : List ℕ) × (b ≡ body.Grant order (handle_of handle) (version_of version) end_moment members)
 grant_parts handle version (body.Grant order q v end_moment members) is =
     let parts = and_parts (q.0 == handle) (v.0 == version) is in
     (order, end_moment, members, ap (λ (n : ℕ). body.Grant order (handle_of n) v end_moment members) (eqb-true q.0 handle parts.0) ∙ ap (λ (n : ℕ). body.Grant order (handle_of handle) (version_of n) end_moment members) (eqb-true v.0 version parts.1))
 grant_parts handle version other is = true_false (sym is)
 
-counted_grant : (handle version : ℕ) (sent : List Message) → 1 ≤ grants_of handle version sent → (m : Message) × IsSent sent m × (is_grant handle version m.body ≡ true)
+pub counted_grant : (handle version : ℕ) (sent : List Message) → 1 ≤ grants_of handle version sent → (m : Message) × IsSent sent m × (is_grant handle version m.body ≡ true)
 counted_grant handle version [] some = absurd (let none : 1 ≤ 0 = some in omega (arith, none))
 counted_grant handle version (x ∷ sent) some = by_first (is_grant handle version x.body) refl (counted_grant handle version sent)
   where
@@ -179,7 +171,7 @@ module _ (config : Config) (servers clients : ℕ) (u : WorldState) (r : IsReach
           let fits = ((agrees.rows handle row there g.0 g.1).0 parts.0 (version_of granted) parts.1 parts.2 parts.3).0 in
           absurd (omega (arith, fits, low, above))
 
-  skipped : (steps : List (Event × Choice)) → 1 ≤ grants_of handle granted (after_events u steps).sent → ⊥
+  pub skipped : (steps : List (Event × Choice)) → 1 ≤ grants_of handle granted (after_events u steps).sent → ⊥
   skipped steps some =
       let logged : IsUpToLog IsFoundRows IsRowedLog rows_kept u.master = h.sent.logged.up up in
       let passed = log_passed handle granted u.master.logged (state_of u.master.disk) logged.same logged.tied row there (omega (arith, next, below)) in
