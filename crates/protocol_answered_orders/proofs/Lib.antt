@@ -1,0 +1,3 @@
+pub mod ServerCauses
+pub mod SaidByServers
+pub mod AnsweredOrders

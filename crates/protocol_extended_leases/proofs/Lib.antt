@@ -1,0 +1,2 @@
+pub mod MasterCauses
+pub mod ExtendLaws

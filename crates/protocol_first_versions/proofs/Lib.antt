@@ -1,0 +1,2 @@
+pub mod AttemptsAbove
+pub mod FirstVersions
