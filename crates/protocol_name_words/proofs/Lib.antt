@@ -1,0 +1,4 @@
+pub mod Reaching
+mod ServerSilence
+mod WaitingRequests
+pub mod NameWords
