@@ -47,7 +47,7 @@ call_before (Some d) b same c is = (d, refl, ap (λ (x : OpenCall). x.asked) (fr
 unseen : (m : Machine) (action : Action) → Allows m action → is_name_action action ≡ true → shown action ≡ None → AreLeft m (after m action)
 unseen m action allowed is none = unseen_runs_leave_clients m (after m action) (single m action allowed is) (ap (λ (o : Option Visible). cons_option o []) none)
 
-abbrev calling : Machine → ℕ → Call → Client
+abbrev pub calling : Machine → ℕ → Call → Client
 calling m client c =
     record (m.clients client) {
       call_count = suc (m.clients client).call_count;
@@ -55,7 +55,7 @@ calling m client c =
       open_call = Some (record { number = suc (m.clients client).call_count; asked = asked_now m client c; has_begun = false; has_locks = false; outcomes = []; offers = []; pieces = []; lengths = [] });
     }
 
-abbrev answered : Machine → ℕ → OpenCall → Answer → Client
+abbrev pub answered : Machine → ℕ → OpenCall → Answer → Client
 answered m client current reply = record (m.clients client) { open_call = None; descriptors = descriptors_after (m.clients client).descriptors current.asked.call reply }
 
 abbrev opened : Machine → ℕ → ℕ → ℕ → Client

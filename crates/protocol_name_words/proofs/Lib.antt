@@ -1,4 +1,4 @@
 pub mod Reaching
-mod ServerSilence
-mod WaitingRequests
+pub mod ServerSilence
+pub mod WaitingRequests
 pub mod NameWords

@@ -1,5 +1,5 @@
 -- In each reached world: who said each word of names.
-use Rattle.std.proofs.Common.{◌≡◌, ⊎_elim, ℕ, suc, ◌-◌, Bool, true, false, List, [], ◌∷◌, ◌++◌, length, Option, Some, None, refl, sym, ap, subst, ◌∙◌}
+use Rattle.std.proofs.Common.{◌≡◌, ⊎_elim, ℕ, suc, ◌-◌, true, List, [], ◌++◌, length, Option, Some, None, refl, sym, ap, subst, ◌∙◌}
 use Rattle.std.specs.Prelude.{◌&&◌, IsTrue}
 use Rattle.std.specs.Option.{option_to_list}
 use Rattle.std.proofs.lemmas.Bool.{true≢false}
@@ -20,17 +20,16 @@ use Rattle.protocol.specs.Seen.{Taken}
 use Rattle.protocol.specs.Sending.{the_client, client_number}
 use Rattle.protocol.specs.Master.{MasterState, MasterDoing, PendingSnapshot}
 use Rattle.protocol.specs.MasterStep.{master_step, master_restart, opening, has_opened, is_within_limits, opens_as, found_log, started_master}
-use Rattle.protocol.specs.Server.{ServerState}
 use Rattle.protocol.specs.ServerStep.{server_step, server_restart}
 use Rattle.protocol.specs.Client.{ClientState, ClientDoing}
 use Rattle.protocol.specs.ClientStep.{client_at, client_step, client_call}
-use Rattle.protocol.specs.World.{WorldState, IsReached, new_world, stamped, numbered_from_1}
-use Rattle.protocol_laws.proofs.Steps.{on_cond, none_some, same_some}
+use Rattle.protocol.specs.World.{WorldState, IsReached, stamped}
+use Rattle.protocol_laws.proofs.Steps.{on_cond, none_some}
 use Rattle.protocol_laws.proofs.Entries.{AllOf}
 use Rattle.protocol_laws.proofs.RisingOrders.{element_numbered}
 use Rattle.protocol_laws.proofs.MembersRecorded.{kept_place, all_at}
 use Rattle.protocol_laws.proofs.MessagesSent.{IsSent, IsSameMessage, none_sent, sent_last}
-use Rattle.protocol_attempts.proofs.Events.{IsGiven, HoldsAfter}
+use Rattle.protocol_attempts.proofs.Events.{IsGiven}
 use Rattle.protocol_attempts.proofs.ClientNumbers.{IsSaid, IsStepOf, of_step, of_call}
 use Rattle.protocol_attempts.proofs.RequestsOnce.{AreNumbered, later_cases, numbered_reached}
 use Rattle.protocol_words.proofs.MasterTalks.{is_masters, MasterTalks, master_said}
@@ -80,7 +79,7 @@ no_words sent ms none place x at = none_some x (ap (λ (xs : List Message). elem
 
 -- the master
 
-abbrev IsUnasked : Body → Type 0
+abbrev pub IsUnasked : Body → Type 0
 IsUnasked (body.Name number deadline c) = ⊥
 IsUnasked (body.Look number c) = ⊥
 IsUnasked other = Unit {0}
@@ -92,6 +91,9 @@ masters_unasked other is = tt
 
 talks : MasterTalks (λ x. IsUnasked x.body)
 talks = record { plain = λ receiver b is. masters_unasked b is; locates = λ receiver number l current. tt }
+
+pub master_asks_nothing : (m : MasterState) (moment : ℕ) (i : Input) (choice : Choice) → AllOf (λ x. IsUnasked x.body) (master_step m moment i choice).out.sent
+master_asks_nothing m moment i choice = master_said (λ x. IsUnasked x.body) talks m moment i choice
 
 unasked_of : (sender : Node) (b : Body) → IsUnasked b → IsOfClient sender b
 unasked_of sender (body.Name number deadline c) is = absurd is
@@ -131,7 +133,7 @@ module _ (config : Config) (servers clients : ℕ) (w : WorldState) (r : IsReach
   master_words : (e : Event) (moment : ℕ) (i : Input) (choice : Choice) → IsGiven w e node.Master moment i → IsTrue w.master.up → AreWords w.sent (master_step w.master moment i choice).out.sent
   master_words e moment i choice given up place x at = (
     answers_asked e moment i given up (client_number x.receiver) x.body (named_replies_were_asked_for config servers clients w r up moment i choice place x at),
-    unasked_of x.sender x.body (all_at (λ m. IsUnasked m.body) (master_step w.master moment i choice).out.sent place x (master_said (λ m. IsUnasked m.body) talks w.master moment i choice) at),
+    unasked_of x.sender x.body (all_at (λ m. IsUnasked m.body) (master_step w.master moment i choice).out.sent place x (master_asks_nothing w.master moment i choice) at),
   )
 
   -- clients

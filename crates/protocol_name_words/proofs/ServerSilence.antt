@@ -1,5 +1,5 @@
 -- A server says nothing of names.
-use Rattle.std.proofs.Common.{◌≡◌, ℕ, ◌+◌, ◌-◌, Bool, true, false, cond, List, [], ◌∷◌, length, map, Option, Some, None}
+use Rattle.std.proofs.Common.{ℕ, ◌+◌, ◌-◌, Bool, true, false, cond, List, [], ◌∷◌, length, map, Option, Some, None}
 use Rattle.std.specs.Prelude.{nat_le, nat_lt, ◌==◌}
 use Rattle.std.specs.Option.{option_map}
 use Rattle.std.specs.FinMap as table
@@ -47,7 +47,7 @@ use Rattle.protocol.specs.Server.{ServerState, ServerDoing, server_begins, chunk
 use Rattle.protocol.specs.ServerReads.{answers_bytes, reads_from, measures, sends_image, copies_out}
 use Rattle.protocol.specs.ServerWrites.{passes_on, refuses_attempt, answers_settled, denies, forward_to, forwards, settles, acknowledges, change_of, stored_as, primary_applies, places, appends_as, mutates_with, mutates_new, mutates_as, mutates_under, nacks, member_stores, member_applies, applies_data, applies_change, forwarded_to, acked_under, refuses_waiting, nacked_under}
 use Rattle.protocol.specs.ServerOrders.{on_order, records, can_take, takes_create, raises, takes_set_version, holds_version, takes_grant, extends_held, ends_held, takes_revoke, drops_old, takes_drop, takes_clone, takes_image, copies_locally, takes_copy_local}
-use Rattle.protocol.specs.ServerStep.{server_ticks, server_takes, server_does, server_at, server_goes, server_ends, server_step, server_restarts, server_restart}
+use Rattle.protocol.specs.ServerStep.{server_takes, server_does, server_at, server_goes, server_ends, server_step, server_restarts, server_restart}
 use Rattle.protocol_laws.proofs.Steps.{on_cond}
 use Rattle.protocol_laws.proofs.Entries.{AllOf, all_joined}
 use Rattle.protocol_laws.proofs.MembersRecorded.{all_in_order}

@@ -1,10 +1,9 @@
 -- A snapshot begins to wait for the Name that asks for it, with its number and deadline.
-use Rattle.std.proofs.Common.{◌≡◌, ℕ, suc, Bool, true, false, cond, max, List, [], ◌∷◌, ◌++◌, Option, Some, None, refl, sym, subst}
+use Rattle.std.proofs.Common.{◌≡◌, ℕ, suc, Bool, cond, max, List, [], ◌∷◌, ◌++◌, Option, Some, None, refl, sym, subst}
 use Rattle.std.specs.Prelude.{◌==◌, ◌&&◌, nat_lt, nat_le, not, filter, IsTrue}
 use Rattle.std.specs.List.{AllByRecursion}
 use Rattle.std.proofs.lemmas.Bool.{true≢false}
 use Rattle.std.specs.FinMap as table
-use Rattle.gfs_types.specs.declared.config.Config.{Config}
 use Rattle.gfs_types.specs.declared.call.Call.{Call}
 use Rattle.gfs_types.specs.declared.call.Call.TheVariants as call
 use Rattle.gfs_types.specs.declared.refusal.Refusal.{Refusal}
@@ -26,10 +25,10 @@ use Rattle.protocol.specs.Logged.{KeptCall}
 use Rattle.protocol.specs.Master.{MasterState, MasterDoing, PendingSnapshot, master_begins, without_attempts, gives_up_copies, logs}
 use Rattle.protocol.specs.MasterNames.{master_refusal, performs, names_by, is_waiting_call, names_anew, names_kept}
 use Rattle.protocol.specs.MasterSnapshots.{answers_name, refuses_name, changes_names, takes_locks, begins_snapshot, snapshot_handles, snapshot_files, copies_for_files, is_same_snapshot, lets_go, takes_snapshot, takes_ready, is_ready}
-use Rattle.protocol.specs.MasterClones.{CloneOrder, best_clone, orders_clone}
+use Rattle.protocol.specs.MasterClones.{best_clone}
 use Rattle.protocol.specs.MasterReports.{holds_now}
-use Rattle.protocol.specs.MasterStep.{master_takes, master_does, master_at, master_goes, master_ends, master_bounded, master_step, master_restart, may_end, is_within_limits, gives_up_attempts, gives_up_lost_copies, expired_files, expires_all, expires_old, found_log, started_master, opening, has_opened, opens_as, new_master}
-use Rattle.protocol.specs.World.{WorldState, IsReached, stamped}
+use Rattle.protocol.specs.MasterStep.{master_takes, master_does, master_at, master_goes, master_ends, master_bounded, master_step, master_restart, may_end, is_within_limits, gives_up_attempts, gives_up_lost_copies, expired_files, expires_all, expires_old, found_log, started_master, opening, has_opened, opens_as}
+use Rattle.protocol.specs.World.{stamped}
 use Rattle.protocol_laws.proofs.Steps.{on_cond}
 use Rattle.protocol_laws.proofs.MembersRecorded.{kept_place}
 use Rattle.protocol_laws.proofs.SentReached.{IsInputSent, sent_reached}

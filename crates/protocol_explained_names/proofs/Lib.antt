@@ -1,0 +1,4 @@
+mod Beside
+mod Clients
+mod Worlds
+pub mod Explained
