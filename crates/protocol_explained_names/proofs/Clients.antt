@@ -1,5 +1,5 @@
 -- The machine beside a cell as one client takes a step or makes a call.
-use Rattle.std.proofs.Common.{◌≡◌, ⊎_elim, ℕ, suc, ◌+◌, ◌≤◌, Bool, true, false, cond, max, List, [], ◌∷◌, ◌++◌, Option, Some, None, refl, sym, ap, subst, ◌∙◌, inl, inr, arith}
+use Rattle.std.proofs.Common.{◌≡◌, ◌⊎◌, ⊎_elim, ℕ, suc, ◌+◌, ◌≤◌, Bool, true, false, cond, max, List, [], ◌∷◌, ◌++◌, Option, Some, None, refl, sym, ap, subst, ◌∙◌, inl, inr, arith}
 use Rattle.std.specs.Prelude.{◌==◌, ◌&&◌, nat_lt, not, filter, is_none, Contains, IsTrue, IsFalse}
 use Rattle.std.specs.List.{AllByRecursion}
 use Rattle.std.specs.Option.{option_to_list}
@@ -83,12 +83,12 @@ all_pass : {X : Type 0} (test : X → Bool) (xs : List X) → AllByRecursion (λ
 all_pass test [] all = refl
 all_pass {X} test (x ∷ xs) all = ap (λ (b : Bool). cond b (x ∷ filter test xs) (filter test xs)) all.0 ∙ ap (λ (ys : List X). x ∷ ys) (all_pass test xs all.1)
 
-sent_one : (o : Option Message) (m : Message) → IsSent (option_to_list o) m → o ≡ Some m
+pub sent_one : (o : Option Message) (m : Message) → IsSent (option_to_list o) m → o ≡ Some m
 sent_one None m h = none_sent m h
 sent_one (Some x) m h = ⊎_elim (λ none. none_sent m none) (λ same. ap (λ (y : Message). Some y) same) (sent_last [] x m h)
 
 -- a sender of this number is that client
-the_sender : (n : Node) (index : ℕ) → client_number n ≡ suc index → n ≡ the_client (suc index)
+pub the_sender : (n : Node) (index : ℕ) → client_number n ≡ suc index → n ≡ the_client (suc index)
 the_sender node.Master index is = absurd (omega (arith, is))
 the_sender (node.Server x) index is = absurd (omega (arith, is))
 the_sender (node.Client c) index is = ap (λ (k : ℕ). the_client k) is
@@ -97,7 +97,7 @@ the_sender (node.Client c) index is = ap (λ (k : ℕ). the_client k) is
 
 module _ (config : Config) (trace : List Visible) (greatest : ℕ) (sent : List Message) (l : Logged) (ss : List PendingSnapshot) (m : Machine) (requests : Requests) (h : IsNamesBeside config trace greatest sent l ss m requests) where
   -- what is seen is of calls on files
-  reseen : (more : List Visible) → name_trace more ≡ name_trace trace → IsNamesBeside config more greatest sent l ss m requests
+  pub reseen : (more : List Visible) → name_trace more ≡ name_trace trace → IsNamesBeside config more greatest sent l ss m requests
   reseen more same = record { run = h.run; seen = h.seen ∙ sym same; clock = h.clock; alike = h.alike; told = h.told; known = h.known; later = h.later }
 
   file_answered : (client : ℕ) (a : Option Answer) → is_naming (last_calls none_called trace client) ≡ false → name_trace (answered_trace client a trace) ≡ name_trace trace
@@ -105,21 +105,21 @@ module _ (config : Config) (trace : List Visible) (greatest : ℕ) (sent : List 
   file_answered client (Some reply) plain =
       part_grows none_called trace (Answered client reply) ∙ ap (λ (b : Bool). name_trace trace ++ cond b (Answered client reply ∷ []) []) plain ∙ append-nil (name_trace trace)
 
-  file_called : (client : ℕ) (c : Call) → is_name_call c ≡ false → name_trace (trace ++ Called client c ∷ []) ≡ name_trace trace
+  pub file_called : (client : ℕ) (c : Call) → is_name_call c ≡ false → name_trace (trace ++ Called client c ∷ []) ≡ name_trace trace
   file_called client c plain = part_grows none_called trace (Called client c) ∙ ap (λ (b : Bool). name_trace trace ++ cond b (Called client c ∷ []) []) plain ∙ append-nil (name_trace trace)
 
   module _ (client : ℕ) (n : Machine) (run : LeadsByNames m n) where
-    abbrev AreOthersLeft : Type 0
+    abbrev pub AreOthersLeft : Type 0
     AreOthersLeft = (q : ℕ) → (q ≡ client → ⊥) → IsLeft (m.clients q) (n.clients q)
 
-    clock_left : (x : Visible) → visible run.0 ≡ x ∷ [] → clock_after m.clock (x ∷ []) ≡ m.clock → n.clock ≡ m.clock
+    pub clock_left : (x : Visible) → visible run.0 ≡ x ∷ [] → clock_after m.clock (x ∷ []) ≡ m.clock → n.clock ≡ m.clock
     clock_left x seen stays = (clock_and_settings_are_seen m n run).0 ∙ ap (λ (xs : List Visible). clock_after m.clock xs) seen ∙ stays
 
     others_left : (x : Visible) → visible run.0 ≡ x ∷ [] → ((q : ℕ) → (q ≡ client → ⊥) → IsNotOf q x) → AreOthersLeft
     others_left x seen apart q not = unseen_clients_are_left m n run q (subst (λ (xs : List Visible). AllByRecursion (IsNotOf q) xs) (sym seen) (apart q not, tt))
 
     -- a call is answered
-    ends_call : (reply : Answer) → visible run.0 ≡ Answered client reply ∷ [] → AreAlike l (filter (λ t. not (t.client == client)) (lasting config.skew_ms greatest ss)) n requests
+    pub ends_call : (reply : Answer) → visible run.0 ≡ Answered client reply ∷ [] → AreAlike l (filter (λ t. not (t.client == client)) (lasting config.skew_ms greatest ss)) n requests
         → ((x : Message) → IsTold m requests x → IsTold n requests x) → AllByRecursion (λ t. (t.client == client) ≡ false) (lasting config.skew_ms greatest ss)
         → is_naming (last_calls none_called trace client) ≡ true → ((x : Message) → IsSent sent x → client_number x.sender ≡ client → IsKnown l.kept n requests client x.body)
         → IsNamesBeside config (trace ++ Answered client reply ∷ []) greatest sent l ss n requests × AreOthersLeft
@@ -149,12 +149,12 @@ module _ (config : Config) (trace : List Visible) (greatest : ℕ) (sent : List 
         each_passes (x ∷ xs) all = (ap not all.0, each_passes xs all.1)
 
     -- a Look of another number
-    abbrev IsNotUnder : Option ℕ → Body → Type 0
+    abbrev pub IsNotUnder : Option ℕ → Body → Type 0
     IsNotUnder number (body.Look asked c) = number ≡ Some asked → ⊥
     IsNotUnder number other = Unit {0}
 
     -- a call begins
-    begins_call : (c : Call) (number : Option ℕ) → is_name_call c ≡ true → visible run.0 ≡ Called client c ∷ [] → AreAlike l (lasting config.skew_ms greatest ss) n (with_request requests client number)
+    pub begins_call : (c : Call) (number : Option ℕ) → is_name_call c ≡ true → visible run.0 ≡ Called client c ∷ [] → AreAlike l (lasting config.skew_ms greatest ss) n (with_request requests client number)
         → ((x : Message) → IsSent sent x → IsTold n (with_request requests client number) x) → (m.clients client).open_call ≡ None
         → ((x : Message) → IsSent sent x → client_number x.sender ≡ client → IsNotUnder number x.body) → ((k : KeptCall) (q : ℕ) → table.get l.kept client ≡ Some k → number ≡ Some q → k.number ≤ q)
         → IsNamesBeside config (trace ++ Called client c ∷ []) greatest sent l ss n (with_request requests client number) × AreOthersLeft
@@ -220,11 +220,11 @@ module _ (config : Config) (trace : List Visible) (greatest : ℕ) (clients : Li
   abbrev client : ℕ
   client = suc index
 
-  abbrev Left : List Visible → ClientState → List Message → Type 0
+  abbrev pub Left : List Visible → ClientState → List Message → Type 0
   Left more t ms = Beside config more greatest (with_at clients index t) (sent ++ stamped k ms) l ss
 
   -- nothing is said, and the machine stays
-  stays_with : (t : ClientState) → (IsTrue t.up → IsClientBeside config trace greatest t m requests client) → Left trace t []
+  pub stays_with : (t : ClientState) → (IsTrue t.up → IsClientBeside config trace greatest t m requests client) → Left trace t []
   stays_with t own = (
     m,
     requests,
@@ -254,7 +254,7 @@ module _ (config : Config) (trace : List Visible) (greatest : ℕ) (clients : Li
   file_stage None a c is now = none_some c now
   file_stage (Some e) a c is now = subst (λ (x : CurrentCall). is_asked_names x.stage ≡ false) (same_some e c now) (of_file e.stage is.0)
 
-  file_goes : (s : ClientState) (moment : ℕ) (d : ClientDoing) → IsClientBeside config trace greatest s m requests client → moment ≤ greatest → IsFileStep s moment d → (m.clients client).open_call ≡ None
+  pub file_goes : (s : ClientState) (moment : ℕ) (d : ClientDoing) → IsClientBeside config trace greatest s m requests client → moment ≤ greatest → IsFileStep s moment d → (m.clients client).open_call ≡ None
       → is_naming (last_calls none_called trace client) ≡ false → Left (answered_trace client d.answer trace) d.client (option_to_list d.sent)
   file_goes s moment d own reached step idle plain = (
     m,
@@ -272,7 +272,7 @@ module _ (config : Config) (trace : List Visible) (greatest : ℕ) (clients : Li
   )
 
   -- what a client asks of names is known of its open call
-  asks_known : (t : ClientState) (n : Machine) (later : Requests) (q : ℕ) (b : Body) → IsBesideClient t n later client → IsForTheCall t b → IsToldTo n later q b × IsKnown l.kept n later client b
+  pub asks_known : (t : ClientState) (n : Machine) (later : Requests) (q : ℕ) (b : Body) → IsBesideClient t n later client → IsForTheCall t b → IsToldTo n later q b × IsKnown l.kept n later client b
   asks_known t n later q (body.Name number deadline c) beside f =
       let e : CurrentCall = (f.1).0 in
       let open_at : IsBesideAt n later client e AskedNames =
@@ -292,7 +292,7 @@ module _ (config : Config) (trace : List Visible) (greatest : ℕ) (clients : Li
     abbrev own : IsClientBeside config trace greatest s m requests client
     own = all index s at up
 
-    client_asked : (number : ℕ) → HasAsked sent client number → number ≤ s.call_count
+    pub client_asked : (number : ℕ) → HasAsked sent client number → number ≤ s.call_count
     client_asked number asked = by_body (asked.1).body (facts.numbered.used up asked.0 asked.1 asked.2 (the_sender (asked.1).sender index asked.3)) asked.4
       where
         by_body : (b : Body) → IsRequestOf s b → IsRequestUnder number b → number ≤ s.call_count
@@ -300,7 +300,7 @@ module _ (config : Config) (trace : List Visible) (greatest : ℕ) (clients : Li
         by_body (body.Look asked_now c) used is = omega (arith, used, is)
         by_body other used is = absurd is
 
-    kept_asked : (x : KeptCall) → table.get l.kept client ≡ Some x → x.number ≤ s.call_count
+    pub kept_asked : (x : KeptCall) → table.get l.kept client ≡ Some x → x.number ≤ s.call_count
     kept_asked x is =
         let was = facts.kept client x is in
         by_body (was.1).body (facts.numbered.used up was.0 was.1 was.2 (the_sender (was.1).sender index was.3)) was.4
@@ -315,7 +315,7 @@ module _ (config : Config) (trace : List Visible) (greatest : ℕ) (clients : Li
     -- an open name call
 
     module _ (moment : ℕ) (reached : moment ≤ greatest) (i : Input) (came : ComesTo sent client i) (c : CurrentCall) (is_open : s.current ≡ Some c) (stage_is : c.stage ≡ AskedNames) where
-      abbrev d : ClientDoing
+      abbrev pub d : ClientDoing
       d = client_goes s moment i
 
       here : IsBesideAt m requests client c AskedNames
@@ -441,7 +441,7 @@ module _ (config : Config) (trace : List Visible) (greatest : ℕ) (clients : Li
           )
           by_body other same g = tt
 
-      name_goes : Left (answered_trace client d.answer trace) d.client (option_to_list d.sent)
+      pub name_goes : Left (answered_trace client d.answer trace) d.client (option_to_list d.sent)
       name_goes = ⊎_elim goes_on over (name_calls_are_answered_as_told s moment i c is_open stage_is)
         where
           followed : (n : Machine) × (run : LeadsByNames m n) × (visible run.0 ≡ answer_shown client d.answer) × AreAlike l (snapshots_left client d.answer (lasting config.skew_ms greatest ss)) n requests

@@ -1,4 +1,6 @@
 mod Beside
 mod Clients
+mod Calls
+mod Masters
 mod Worlds
 pub mod Explained
