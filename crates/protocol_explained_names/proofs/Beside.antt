@@ -12,7 +12,7 @@ use Rattle.gfs_types.specs.declared.call.Call.{Call}
 use Rattle.messages.specs.declared.message.Body.{Body}
 use Rattle.messages.specs.declared.message.Body.TheVariants as body
 use Rattle.messages.specs.declared.message.Message.{Message}
-use Rattle.relaxed_file.specs.Machine.{Machine, Client, Asked, OpenCall, new_machine}
+use Rattle.relaxed_file.specs.Machine.{Machine, Asked, OpenCall, new_machine}
 use Rattle.relaxed_file.specs.NameStep.{is_look}
 use Rattle.relaxed_file.specs.Run.{Visible, Passed, Pass, visible, after}
 use Rattle.name_runs.specs.Laws.{LeadsByNames}
@@ -21,7 +21,7 @@ use Rattle.unseen_runs.specs.Laws.{IsSameCall, IsLeft, AreLeft}
 use Rattle.unseen_runs.proofs.Unseen.{unseen_runs_leave_clients}
 use Rattle.name_traces.specs.Laws.{none_called, last_calls, is_naming, name_trace}
 use Rattle.name_traces.proofs.Seen.{single, left_same, call_before, clock_and_settings_are_seen}
-use Rattle.name_traces.proofs.Traces.{part_grows, calls_grow}
+use Rattle.name_traces.proofs.Traces.{part_grows}
 use Rattle.client_state.specs.declared.call.CurrentCall.{CurrentCall}
 use Rattle.client_state.specs.declared.call.Stage.{Stage}
 use Rattle.client_state.specs.declared.call.Stage.TheVariants.{AskedNames}

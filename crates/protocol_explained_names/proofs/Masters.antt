@@ -1,8 +1,8 @@
 -- The machine beside a cell as the master takes a step, stops, or starts again.
-use Rattle.std.proofs.Common.{◌≡◌, ⊎_elim, ℕ, zero, suc, ◌+◌, ◌-◌, ◌≤◌, Bool, true, false, cond, max, List, [], ◌∷◌, ◌++◌, length, take, drop, Option, Some, None, refl, sym, ap, subst, ◌∙◌, inl, inr, arith}
-use Rattle.std.specs.Prelude.{◌&&◌, nat_lt, nat_le, filter, IsTrue, IsFalse}
+use Rattle.std.proofs.Common.{◌≡◌, ℕ, zero, suc, ◌+◌, ◌≤◌, Bool, true, false, max, List, [], ◌∷◌, ◌++◌, length, take, drop, Some, refl, sym, ap, subst, ◌∙◌, arith}
+use Rattle.std.specs.Prelude.{◌&&◌, nat_lt, filter, IsTrue, IsFalse}
 use Rattle.std.specs.List.{AllByRecursion}
-use Rattle.std.proofs.lemmas.Bool.{true≢false, and_parts, ltb-true, lt-ltb, leb-true}
+use Rattle.std.proofs.lemmas.Bool.{true≢false, ltb-true, lt-ltb}
 use Rattle.std.proofs.lemmas.List.{take_all, drop_all}
 use Rattle.std.proofs.Math.Nat.{le-max_left, le-max_right, max-le}
 use Rattle.gfs_types.specs.declared.config.Config.{Config}
@@ -23,18 +23,16 @@ use Rattle.protocol.specs.Tables.{Table, element_at}
 use Rattle.protocol.specs.Choice.{Choice, Ending, Goes, Lost, Stops, decided_changes, in_order}
 use Rattle.protocol.specs.Seen.{Taken, no_step}
 use Rattle.protocol.specs.Sending.{client_number}
-use Rattle.protocol.specs.Observer.{observed_moment}
 use Rattle.protocol.specs.Logged.{Logged, KeptCall, LogDisk, LogChange, log_changed_by_all, replayed}
 use Rattle.protocol.specs.Master.{MasterState, MasterDoing, PendingSnapshot, stopped_master, master_begins}
-use Rattle.protocol.specs.MasterStep.{master_at, master_goes, master_ends, master_bounded, master_step, master_restart, may_end, is_within_limits, found_log, started_master, opening, has_opened, opens_as}
+use Rattle.protocol.specs.MasterStep.{master_at, master_goes, master_ends, master_bounded, master_step, master_restart, may_end, is_within_limits, found_log, started_master, has_opened, opens_as}
 use Rattle.protocol.specs.Client.{ClientState}
 use Rattle.protocol.specs.World.{WorldState, IsReached, stamped}
 use Rattle.protocol_laws.proofs.Steps.{on_cond, none_some, same_some}
-use Rattle.protocol_laws.proofs.Entries.{AllOf}
 use Rattle.protocol_laws.proofs.MembersRecorded.{all_at}
 use Rattle.protocol_laws.proofs.MessagesSent.{IsSent, none_sent, ordered_sent}
-use Rattle.protocol_laws.proofs.OrderNumbers.{state_of, AllFound, found_same}
-use Rattle.protocol_laws.proofs.MasterMoves.{Nothing, NoneEnded, Core, Keeps, logs_alone}
+use Rattle.protocol_laws.proofs.OrderNumbers.{AllFound, found_same}
+use Rattle.protocol_laws.proofs.MasterMoves.{Nothing, NoneEnded, Keeps, logs_alone}
 use Rattle.protocol_laws.proofs.MasterSteps.{goes_keeps}
 use Rattle.protocol_laws.proofs.MasterClock.{master_in_time}
 use Rattle.protocol_laws.proofs.CountsLogged.{IsFoundCounts, IsCountedLog}
@@ -50,9 +48,9 @@ use Rattle.protocol_followed_steps.specs.Laws.{IsAtStep, IsOfOpenCall, IsInputOf
 use Rattle.protocol_followed_steps.proofs.Reached.{steps_are_followed, stopped_steps_are_followed}
 use Rattle.protocol_followed_steps.proofs.Openings.{restarts_are_followed}
 use Rattle.protocol_open_requests.proofs.Requests.{old_or_open_names_are_requests}
-use Rattle.protocol_name_words.proofs.NameWords.{IsUnasked, master_asks_nothing, given_sent, restart_none}
+use Rattle.protocol_name_words.proofs.NameWords.{IsUnasked, master_asks_nothing, given_sent}
 use Rattle.protocol_file_calls.specs.Laws.{IsNoWordOfNames}
-use Rattle.protocol_explained_names.proofs.Beside.{lasts, lasting, all_fewer, relocked, IsKnown, IsNamesBeside, settings_of, AreClientsBeside, Beside, passed_trace, all_on, passes, moved, says_more, says_else, relogged}
+use Rattle.protocol_explained_names.proofs.Beside.{lasts, lasting, all_fewer, relocked, IsKnown, IsNamesBeside, settings_of, Beside, passed_trace, all_on, passes, moved, says_more, says_else, relogged}
 
 -- what the log says as it is decided
 abbrev pub log_of : MasterState → List Bool → Logged
@@ -154,112 +152,112 @@ module _ (config : Config) (servers clients : ℕ) (w : WorldState) (r : IsReach
   module _ (moment : ℕ) (reached : moment ≤ greatest) (behind : greatest ≤ moment + w.config.skew_ms) (timed : w.master.now ≤ greatest) (e : Event) (i : Input) (given : IsGiven w e node.Master moment i) (up : IsTrue w.master.up) (k : ℕ) (choice : Choice)
       (h : BesideMaster w.config trace greatest w.clients w.sent w.master)
     where
-    abbrev d : MasterDoing
-    d = master_goes w.master moment i choice.refused
+      abbrev d : MasterDoing
+      d = master_goes w.master moment i choice.refused
 
-    abbrev Good : Taken MasterState → Type 0
-    Good t = ((x : Message) → IsSent t.out.sent x → IsUnasked x.body) → BesideMaster w.config trace greatest w.clients (w.sent ++ stamped k t.out.sent) t.state
+      abbrev Good : Taken MasterState → Type 0
+      Good t = ((x : Message) → IsSent t.out.sent x → IsUnasked x.body) → BesideMaster w.config trace greatest w.clients (w.sent ++ stamped k t.out.sent) t.state
 
-    abbrev m : Machine
-    m = (h.state up).0
+      abbrev m : Machine
+      m = (h.state up).0
 
-    abbrev requests : Requests
-    requests = (h.state up).1
+      abbrev requests : Requests
+      requests = (h.state up).1
 
-    abbrev names : IsNamesBeside w.config trace greatest w.sent w.master.logged w.master.snapshots m requests
-    names = (h.state up).2
+      abbrev names : IsNamesBeside w.config trace greatest w.sent w.master.logged w.master.snapshots m requests
+      names = (h.state up).2
 
-    same_settings : m.config ≡ w.config
-    same_settings = settings_of w.config trace greatest w.sent w.master.logged w.master.snapshots m requests names
+      same_settings : m.config ≡ w.config
+      same_settings = settings_of w.config trace greatest w.sent w.master.logged w.master.snapshots m requests names
 
-    skew_is : m.config.skew_ms ≡ w.config.skew_ms
-    skew_is = ap (λ (x : Config). x.skew_ms) same_settings
+      skew_is : m.config.skew_ms ≡ w.config.skew_ms
+      skew_is = ap (λ (x : Config). x.skew_ms) same_settings
 
-    timely : IsTimely m (max w.master.now moment)
-    timely =
-        let clock = names.clock in
-        let skew = skew_is in
-        let low = le-max_right w.master.now moment in
-        let most : max w.master.now moment ≤ greatest = max-le timed reached in
-        (omega (arith, clock, skew, low, behind), omega (arith, clock, most))
+      timely : IsTimely m (max w.master.now moment)
+      timely =
+          let clock = names.clock in
+          let skew = skew_is in
+          let low = le-max_right w.master.now moment in
+          let most : max w.master.now moment ≤ greatest = max-le timed reached in
+          (omega (arith, clock, skew, low, behind), omega (arith, clock, most))
 
-    live : AllByRecursion (HoldsLocks m requests) (filter (λ s. nat_lt (max w.master.now moment) s.deadline) w.master.snapshots)
-    live =
-        let low = le-max_right w.master.now moment in
-        all_fewer (HoldsLocks m requests) (λ s. nat_lt (max w.master.now moment) s.deadline) (lasts w.config.skew_ms greatest) w.master.snapshots
-        (λ s is. let early = ltb-true (max w.master.now moment) s.deadline is in lt-ltb greatest (s.deadline + w.config.skew_ms) (omega (arith, early, low, behind))) (names.alike).locks
+      live : AllByRecursion (HoldsLocks m requests) (filter (λ s. nat_lt (max w.master.now moment) s.deadline) w.master.snapshots)
+      live =
+          let low = le-max_right w.master.now moment in
+          all_fewer (HoldsLocks m requests) (λ s. nat_lt (max w.master.now moment) s.deadline) (lasts w.config.skew_ms greatest) w.master.snapshots
+          (λ s is. let early = ltb-true (max w.master.now moment) s.deadline is in lt-ltb greatest (s.deadline + w.config.skew_ms) (omega (arith, early, low, behind))) (names.alike).locks
 
-    at_step : IsAtStep config (master_at w.master moment) m requests
-    at_step =
-        record {
-          run = subst (λ (g : Config). LeadsByNames (new_machine g) m) same names.run;
-          settings = same_settings ∙ sym (master_in_time config servers clients w r).0;
-          timely = timely;
-          alike = relocked w.master.logged (lasting w.config.skew_ms greatest w.master.snapshots) (filter (λ s. nat_lt (max w.master.now moment) s.deadline) w.master.snapshots) m requests names.alike live;
-        }
+      at_step : IsAtStep config (master_at w.master moment) m requests
+      at_step =
+          record {
+            run = subst (λ (g : Config). LeadsByNames (new_machine g) m) same names.run;
+            settings = same_settings ∙ sym (master_in_time config servers clients w r).0;
+            timely = timely;
+            alike = relocked w.master.logged (lasting w.config.skew_ms greatest w.master.snapshots) (filter (λ s. nat_lt (max w.master.now moment) s.deadline) w.master.snapshots) m requests names.alike live;
+          }
 
-    abbrev begun : MasterDoing
-    begun = master_begins (master_at w.master moment) choice.refused
+      abbrev begun : MasterDoing
+      begun = master_begins (master_at w.master moment) choice.refused
 
-    body_open : (x : Message) (b : Body) → IsKnown w.master.logged.kept m requests (client_number x.sender) b → IsOfOpenCall begun m requests x b
-    body_open x (body.Name number deadline c) g = old_or_open_names_are_requests begun m requests (client_number x.sender) number deadline.0 c timely g.0 g.1
-    body_open x (body.Look number c) g = g
-    body_open x other g = tt
+      body_open : (x : Message) (b : Body) → IsKnown w.master.logged.kept m requests (client_number x.sender) b → IsOfOpenCall begun m requests x b
+      body_open x (body.Name number deadline c) g = old_or_open_names_are_requests begun m requests (client_number x.sender) number deadline.0 c timely g.0 g.1
+      body_open x (body.Look number c) g = g
+      body_open x other g = tt
 
-    input_open : (j : Input) → IsGiven w e node.Master moment j → IsInputOfOpenCall begun m requests j
-    input_open (input.Deliver x) is = let there = given_sent w e node.Master moment x is in body_open x x.body (names.known x (there.0, there.1))
-    input_open input.Tick is = tt
+      input_open : (j : Input) → IsGiven w e node.Master moment j → IsInputOfOpenCall begun m requests j
+      input_open (input.Deliver x) is = let there = given_sent w e node.Master moment x is in body_open x x.body (names.known x (there.0, there.1))
+      input_open input.Tick is = tt
 
-    still_up : d.master.up ≡ true
-    still_up = goes_keeps (λ c. c.up ≡ true) up_keeps w.master moment i choice.refused up
+      still_up : d.master.up ≡ true
+      still_up = goes_keeps (λ c. c.up ≡ true) up_keeps w.master moment i choice.refused up
 
-    goes : Good (master_ends w.master d choice Goes)
-    goes unasked =
-        record {
-          state = λ _.
-              let f = steps_are_followed config servers clients w r up moment i choice.refused m requests at_step (input_open i given) in
-              let n : Machine = f.0 in
-              let alike : AreAlike d.master.logged (lasting w.config.skew_ms greatest d.master.snapshots) n requests = locks_go_back d.master.logged d.master.snapshots n requests (lasts w.config.skew_ms greatest) (f.2).alike in
-              let after_it = moved w.config trace greatest w.sent w.master.logged w.master.snapshots m requests names d.master.logged d.master.snapshots n (f.1).run (f.1).told alike f.3 in (
-                n,
-                requests,
-                says_more w.config trace greatest w.sent d.master.logged d.master.snapshots n requests after_it.0 k (in_order choice.order d.sent)
-                    (λ x is.
-                    let there = ordered_sent choice.order d.sent x is in
-                    (told_at n requests d.sent there.0 x (f.2).told there.1, unasked_known d.master.logged.kept n requests (client_number x.sender) x.body (unasked x is))),
-                all_on w.config trace trace greatest greatest w.clients m n requests after_it.1 (λ q. refl) (omega arith) (h.state up).3,
-              );
-          log = λ down. absurd (true≢false (sym still_up ∙ down));
-        }
+      goes : Good (master_ends w.master d choice Goes)
+      goes unasked =
+          record {
+            state = λ _.
+                let f = steps_are_followed config servers clients w r up moment i choice.refused m requests at_step (input_open i given) in
+                let n : Machine = f.0 in
+                let alike : AreAlike d.master.logged (lasting w.config.skew_ms greatest d.master.snapshots) n requests = locks_go_back d.master.logged d.master.snapshots n requests (lasts w.config.skew_ms greatest) (f.2).alike in
+                let after_it = moved w.config trace greatest w.sent w.master.logged w.master.snapshots m requests names d.master.logged d.master.snapshots n (f.1).run (f.1).told alike f.3 in (
+                  n,
+                  requests,
+                  says_more w.config trace greatest w.sent d.master.logged d.master.snapshots n requests after_it.0 k (in_order choice.order d.sent)
+                      (λ x is.
+                      let there = ordered_sent choice.order d.sent x is in
+                      (told_at n requests d.sent there.0 x (f.2).told there.1, unasked_known d.master.logged.kept n requests (client_number x.sender) x.body (unasked x is))),
+                  all_on w.config trace trace greatest greatest w.clients m n requests after_it.1 (λ q. refl) (omega arith) (h.state up).3,
+                );
+            log = λ down. absurd (true≢false (sym still_up ∙ down));
+          }
 
-    idle : w.master.under_way ≡ []
-    idle = ((logged_here IsFoundCounts IsCountedLog counts_kept config servers clients w r).1.up up).idle
+      idle : w.master.under_way ≡ []
+      idle = ((logged_here IsFoundCounts IsCountedLog counts_kept config servers clients w r).1.up up).idle
 
-    stops : (made : ℕ) → Good (master_ends w.master d choice (Stops made))
-    stops made unasked =
-        record {
-          state = λ on. absurd (true≢false (sym on));
-          log = λ down decided.
-              let f = stopped_steps_are_followed config servers clients w r up moment i choice.refused m requests at_step (input_open i given) made decided in
-              let read : Logged = replayed (log_left w.master.disk d.changes made decided) in
-              let after_it = moved w.config trace greatest w.sent w.master.logged w.master.snapshots m requests names read [] f.0 (f.1).run (f.1).told f.2 f.3 in
-              else_said w.config trace greatest w.clients w.sent read [] k [] (λ x none. none_sent x none)
-              (f.0, requests, after_it.0, all_on w.config trace trace greatest greatest w.clients m f.0 requests after_it.1 (λ q. refl) (omega arith) (h.state up).3);
-        }
+      stops : (made : ℕ) → Good (master_ends w.master d choice (Stops made))
+      stops made unasked =
+          record {
+            state = λ on. absurd (true≢false (sym on));
+            log = λ down decided.
+                let f = stopped_steps_are_followed config servers clients w r up moment i choice.refused m requests at_step (input_open i given) made decided in
+                let read : Logged = replayed (log_left w.master.disk d.changes made decided) in
+                let after_it = moved w.config trace greatest w.sent w.master.logged w.master.snapshots m requests names read [] f.0 (f.1).run (f.1).told f.2 f.3 in
+                else_said w.config trace greatest w.clients w.sent read [] k [] (λ x none. none_sent x none)
+                (f.0, requests, after_it.0, all_on w.config trace trace greatest greatest w.clients m f.0 requests after_it.1 (λ q. refl) (omega arith) (h.state up).3);
+          }
 
-    by_ending : (x : Ending) → Good (master_ends w.master d choice x)
-    by_ending Goes = goes
-    by_ending (Stops made) = stops made
-    by_ending Lost = λ unasked. stopped k w.master.disk [] (subst (λ (xs : List LogChange). AllFound (λ d. Here (replayed d) [] w.sent) w.master.disk xs) idle (found_beside h))
+      by_ending : (x : Ending) → Good (master_ends w.master d choice x)
+      by_ending Goes = goes
+      by_ending (Stops made) = stops made
+      by_ending Lost = λ unasked. stopped k w.master.disk [] (subst (λ (xs : List LogChange). AllFound (λ d. Here (replayed d) [] w.sent) w.master.disk xs) idle (found_beside h))
 
-    same_master : Good (no_step w.master)
-    same_master unasked = master_hears w.config trace greatest w.clients w.sent w.master k [] (λ x none. none_sent x none) h
+      same_master : Good (no_step w.master)
+      same_master unasked = master_hears w.config trace greatest w.clients w.sent w.master k [] (λ x none. none_sent x none) h
 
-    pub step_beside : BesideMaster w.config trace greatest w.clients (w.sent ++ stamped k (master_step w.master moment i choice).out.sent) (master_step w.master moment i choice).state
-    step_beside =
-        on_cond Good w.master.up (master_bounded w.master d choice) (no_step w.master)
-        (λ _. on_cond Good (may_end d choice.ending) (master_ends w.master d choice choice.ending) (no_step w.master) (λ _. by_ending choice.ending) (λ _. same_master)) (λ _. same_master)
-        (λ x is. all_at (λ y. IsUnasked y.body) (master_step w.master moment i choice).out.sent is.0 x (master_asks_nothing w.master moment i choice) is.1)
+      pub step_beside : BesideMaster w.config trace greatest w.clients (w.sent ++ stamped k (master_step w.master moment i choice).out.sent) (master_step w.master moment i choice).state
+      step_beside =
+          on_cond Good w.master.up (master_bounded w.master d choice) (no_step w.master)
+          (λ _. on_cond Good (may_end d choice.ending) (master_ends w.master d choice choice.ending) (no_step w.master) (λ _. by_ending choice.ending) (λ _. same_master)) (λ _. same_master)
+          (λ x is. all_at (λ y. IsUnasked y.body) (master_step w.master moment i choice).out.sent is.0 x (master_asks_nothing w.master moment i choice) is.1)
 
   -- a restart
 

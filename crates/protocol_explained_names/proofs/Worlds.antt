@@ -1,13 +1,12 @@
 -- In each world that is reached with kept clocks there is a machine beside the master, and beside each log that a restart may find.
-use Rattle.std.proofs.Common.{◌≡◌, ⊎_elim, ℕ, zero, suc, ◌+◌, ◌-◌, ◌≤◌, Bool, true, false, cond, max, List, [], ◌∷◌, ◌++◌, length, map, Option, Some, None, refl, sym, ap, subst, ◌∙◌, arith}
-use Rattle.std.specs.Prelude.{◌&&◌, nat_lt, nat_le, not, is_none, is_some, IsTrue}
+use Rattle.std.proofs.Common.{◌≡◌, ℕ, zero, suc, ◌+◌, ◌≤◌, Bool, true, false, cond, max, List, [], ◌∷◌, ◌++◌, length, map, Option, Some, None, refl, sym, ap, subst, ◌∙◌, arith}
+use Rattle.std.specs.Prelude.{◌&&◌, nat_lt, nat_le, is_none, is_some, IsTrue}
 use Rattle.std.specs.Ordering.{nat_cmp}
 use Rattle.std.specs.List.{AllByRecursion}
 use Rattle.std.proofs.lemmas.Bool.{true≢false, and_parts, ltb-true, leb-true}
 use Rattle.std.proofs.Math.Nat.{le-max_left, le-max_right, max-le, max-eq_left}
 use Rattle.std.specs.FinMap as table
 use Rattle.gfs_types.specs.declared.config.Config.{Config}
-use Rattle.gfs_types.specs.declared.ids.Node.{Node}
 use Rattle.gfs_types.specs.declared.call.Call.{Call}
 use Rattle.gfs_types.specs.declared.answer.Answer.{Answer}
 use Rattle.messages.specs.declared.event.Event.{Event}
@@ -16,21 +15,21 @@ use Rattle.messages.specs.declared.event.Input.TheVariants as input
 use Rattle.messages.specs.declared.message.Body.{Body}
 use Rattle.messages.specs.declared.message.Body.TheVariants as body
 use Rattle.messages.specs.declared.message.Message.{Message}
-use Rattle.relaxed_file.specs.Machine.{Machine, new_machine}
+use Rattle.relaxed_file.specs.Machine.{new_machine}
 use Rattle.relaxed_file.specs.Run.{Visible, Called, Passed}
 use Rattle.client_state.specs.declared.call.CurrentCall.{CurrentCall}
 use Rattle.protocol.specs.Tables.{element_at, with_at, first_numbers}
 use Rattle.protocol.specs.Choice.{Choice}
 use Rattle.protocol.specs.Seen.{Taken}
-use Rattle.protocol.specs.Sending.{the_client, client_number}
+use Rattle.protocol.specs.Sending.{the_client}
 use Rattle.protocol.specs.Observer.{Observer, observed_moment, observed_call, observed_answer}
 use Rattle.protocol.specs.Logged.{Logged}
-use Rattle.protocol.specs.Master.{MasterState, PendingSnapshot}
+use Rattle.protocol.specs.Master.{PendingSnapshot}
 use Rattle.protocol.specs.MasterStep.{new_master}
 use Rattle.protocol.specs.ServerStep.{server_step, server_restart}
 use Rattle.protocol.specs.Client.{ClientState, new_client}
 use Rattle.protocol.specs.ClientStep.{client_step, client_call, has_room_to_count}
-use Rattle.protocol.specs.World.{WorldState, IsReached, new_world, stamped, after_client}
+use Rattle.protocol.specs.World.{WorldState, IsReached, stamped, after_client}
 use Rattle.protocol_laws.proofs.Steps.{none_some, same_some}
 use Rattle.protocol_laws.proofs.MembersRecorded.{all_at}
 use Rattle.protocol_laws.proofs.MessagesSent.{IsSent, none_sent}
@@ -47,7 +46,7 @@ use Rattle.protocol_name_words.proofs.WaitingRequests.{snapshots_wait_for_their_
 use Rattle.protocol_name_words.proofs.NameWords.{given_sent, name_answers_were_asked_for}
 use Rattle.protocol_file_calls.specs.Laws.{IsNoWordOfNames}
 use Rattle.protocol_name_steps.specs.Alike.{is_there}
-use Rattle.protocol_explained_names.proofs.Beside.{IsNamesBeside, IsClientBeside, AreClientsBeside, Beside, passed_trace}
+use Rattle.protocol_explained_names.proofs.Beside.{IsNamesBeside, IsClientBeside, AreClientsBeside, passed_trace}
 use Rattle.protocol_explained_names.proofs.Clients.{answered_trace, IsKnownClient, ComesTo}
 use Rattle.protocol_explained_names.proofs.Calls.{steps_beside, calls_beside}
 use Rattle.protocol_explained_names.proofs.Masters.{log_of, BesideMaster, master_passes, master_hears, step_beside, restart_beside}

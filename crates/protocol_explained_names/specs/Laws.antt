@@ -1,5 +1,5 @@
 -- Where clocks are kept, the names of each reached world, and what its name calls were answered, are those of a run of the machine by names alone (sections 2.4, 2.7 and 4.1).
-use Rattle.std.specs.Prelude.{◌≡◌, ℕ, Bool, List, ◌∷◌, ◌++◌, Some, IsTrue}
+use Rattle.std.specs.Prelude.{◌≡◌, ℕ, suc, Bool, List, ◌∷◌, ◌++◌, Some, IsTrue}
 use Rattle.std.specs.FinMap as table
 use Rattle.gfs_types.specs.declared.config.Config.{Config}
 use Rattle.gfs_types.specs.declared.call.Call.{Call}
@@ -21,6 +21,7 @@ IsRunBeside w m = (run : LeadsByNames (new_machine w.config) m) × (visible run.
 -- names, files and the next file's number are the machine's
 pub record HasItsNames (m : Machine) (l : Logged) : Type 0 where
   pub names : l.names ≡ m.names
+  pub next : l.next_file ≡ suc m.file_count
   pub files : (file : ℕ) → table.contains_key l.table.files file ≡ is_there m file
 
 -- The names of a master that is up.
