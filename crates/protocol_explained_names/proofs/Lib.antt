@@ -1,6 +1,6 @@
-mod Beside
-mod Clients
-mod Calls
-mod Masters
-mod Worlds
+pub mod Beside
+pub mod Clients
+pub mod Calls
+pub mod Masters
+pub mod Worlds
 pub mod Explained
