@@ -50,7 +50,8 @@ use Rattle.protocol_followed_steps.proofs.Openings.{restarts_are_followed}
 use Rattle.protocol_open_requests.proofs.Requests.{old_or_open_names_are_requests}
 use Rattle.protocol_name_words.proofs.NameWords.{IsUnasked, master_asks_nothing, given_sent}
 use Rattle.protocol_file_calls.specs.Laws.{IsNoWordOfNames}
-use Rattle.protocol_explained_names.proofs.Beside.{lasts, lasting, all_fewer, relocked, IsKnown, IsNamesBeside, settings_of, Beside, passed_trace, all_on, passes, moved, says_more, says_else, relogged}
+use Rattle.protocol_beside_clients.specs.Beside.{lasts, lasting, IsKnown, IsNamesBeside, Beside}
+use Rattle.protocol_beside_clients.proofs.Beside.{all_fewer, relocked, settings_of, passed_trace, all_on, passes, moved, says_more, says_else, relogged}
 
 -- what the log says as it is decided
 abbrev pub log_of : MasterState → List Bool → Logged

@@ -35,20 +35,17 @@ use Rattle.protocol_laws.proofs.MembersRecorded.{all_at}
 use Rattle.protocol_laws.proofs.MessagesSent.{IsSent, none_sent}
 use Rattle.protocol_laws.proofs.MasterClock.{master_in_time}
 use Rattle.protocol_attempts.proofs.Events.{IsGiven, HoldsAfter, with_call}
-use Rattle.protocol_attempts.proofs.RequestsOnce.{numbered_reached}
-use Rattle.protocol_name_calls.proofs.Reached.{name_requests_ask_for_their_call}
-use Rattle.protocol_kept_answers.specs.Laws.{WereAskedFor}
 use Rattle.protocol_kept_answers.proofs.Reached.{kept_answers_were_asked_for}
-use Rattle.protocol_name_words.specs.Laws.{HasItsRequest}
 use Rattle.protocol_name_words.proofs.Reaching.{reached_with}
 use Rattle.protocol_name_words.proofs.ServerSilence.{IsSilent, AreSilent, server_silent, server_restart_silent}
 use Rattle.protocol_name_words.proofs.WaitingRequests.{snapshots_wait_for_their_request}
-use Rattle.protocol_name_words.proofs.NameWords.{given_sent, name_answers_were_asked_for}
+use Rattle.protocol_name_words.proofs.NameWords.{given_sent}
 use Rattle.protocol_file_calls.specs.Laws.{IsNoWordOfNames}
 use Rattle.protocol_name_steps.specs.Alike.{is_there}
-use Rattle.protocol_explained_names.proofs.Beside.{IsNamesBeside, IsClientBeside, AreClientsBeside, passed_trace}
-use Rattle.protocol_explained_names.proofs.Clients.{answered_trace, IsKnownClient, ComesTo}
-use Rattle.protocol_explained_names.proofs.Calls.{steps_beside, calls_beside}
+use Rattle.protocol_beside_clients.specs.Beside.{IsNamesBeside, IsClientBeside, AreClientsBeside, answered_trace, ComesTo}
+use Rattle.protocol_beside_clients.specs.Laws.{IsAskedFor}
+use Rattle.protocol_beside_clients.proofs.Beside.{passed_trace}
+use Rattle.protocol_beside_clients.proofs.Followed.{client_steps_are_followed, client_calls_are_followed}
 use Rattle.protocol_explained_names.proofs.Masters.{log_of, BesideMaster, master_passes, master_hears, step_beside, restart_beside}
 
 -- a new world
@@ -150,21 +147,11 @@ module _ (config : Config) (servers clients : ℕ) where
     -- clients
 
     module _ (index : ℕ) (s : ClientState) (up : IsTrue s.up) (at : element_at w.clients index ≡ Some s) where
-      facts : (l : Logged) (ss : List PendingSnapshot) → WereAskedFor w.sent l.kept → AllByRecursion (HasItsRequest w.sent) ss → IsKnownClient w.sent l ss index s
-      facts l ss kept waits =
-          record {
-            numbered = (numbered_reached config servers clients w r).each index s at;
-            asks = λ x is from. name_requests_ask_for_their_call config servers clients w r index s at up is.0 x is.1 from;
-            answers = λ x is. name_answers_were_asked_for config servers clients w r is.0 x is.1;
-            kept = kept;
-            waits = waits;
-          }
+      state_asked : IsTrue w.master.up → IsAskedFor w.sent w.master.logged w.master.snapshots
+      state_asked on_now = ((kept_answers_were_asked_for config servers clients w r).0 on_now, snapshots_wait_for_their_request config servers clients w r on_now)
 
-      state_facts : IsTrue w.master.up → IsKnownClient w.sent w.master.logged w.master.snapshots index s
-      state_facts on_now = facts w.master.logged w.master.snapshots ((kept_answers_were_asked_for config servers clients w r).0 on_now) (snapshots_wait_for_their_request config servers clients w r on_now)
-
-      log_facts : (decided : List Bool) → IsKnownClient w.sent (log_of w.master decided) [] index s
-      log_facts decided = facts (log_of w.master decided) [] ((kept_answers_were_asked_for config servers clients w r).1 decided) tt
+      log_asked : (decided : List Bool) → IsAskedFor w.sent (log_of w.master decided) []
+      log_asked decided = ((kept_answers_were_asked_for config servers clients w r).1 decided, tt)
 
       abbrev k : ℕ
       k = suc (length w.sent)
@@ -181,10 +168,10 @@ module _ (config : Config) (servers clients : ℕ) where
           let h = beside_at moment kept in
           let reached = le-max_right w.observer.greatest moment in
           record {
-            state = λ on_now. let b = h.state on_now in
-                steps_beside w.config (more moment) (later moment) w.clients w.sent w.master.logged w.master.snapshots b.0 b.1 b.2 b.3 k index s up at (state_facts on_now) moment reached i (comes_in e moment i given) choice;
-            log = λ down decided. let b = h.log down decided in
-                steps_beside w.config (more moment) (later moment) w.clients w.sent (log_of w.master decided) [] b.0 b.1 b.2 b.3 k index s up at (log_facts decided) moment reached i (comes_in e moment i given) choice;
+            state = λ on_now.
+                client_steps_are_followed config servers clients w r index s at up w.master.logged w.master.snapshots (state_asked on_now) (more moment) (later moment) (h.state on_now) moment i reached (comes_in e moment i given) k choice;
+            log = λ down decided.
+                client_steps_are_followed config servers clients w r index s at up (log_of w.master decided) [] (log_asked decided) (more moment) (later moment) (h.log down decided) moment i reached (comes_in e moment i given) k choice;
           }
 
       call_goes : (moment : ℕ) (c : Call) (choice : Choice) → s.current ≡ None → IsKeptAt moment → AfterIt (more moment ++ Called (suc index) c ∷ []) (later moment) (client_call s moment c choice)
@@ -192,10 +179,9 @@ module _ (config : Config) (servers clients : ℕ) where
           let h = beside_at moment kept in
           let reached = le-max_right w.observer.greatest moment in
           record {
-            state = λ on_now. let b = h.state on_now in
-                calls_beside w.config (more moment) (later moment) w.clients w.sent w.master.logged w.master.snapshots b.0 b.1 b.2 b.3 k index s up at (state_facts on_now) moment reached none c choice;
-            log = λ down decided. let b = h.log down decided in
-                calls_beside w.config (more moment) (later moment) w.clients w.sent (log_of w.master decided) [] b.0 b.1 b.2 b.3 k index s up at (log_facts decided) moment reached none c choice;
+            state = λ on_now.
+                client_calls_are_followed config servers clients w r index s at up w.master.logged w.master.snapshots (state_asked on_now) (more moment) (later moment) (h.state on_now) moment c reached none k choice;
+            log = λ down decided. client_calls_are_followed config servers clients w r index s at up (log_of w.master decided) [] (log_asked decided) (more moment) (later moment) (h.log down decided) moment c reached none k choice;
           }
 
       -- as the observer has it

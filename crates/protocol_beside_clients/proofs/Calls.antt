@@ -55,8 +55,9 @@ use Rattle.protocol_name_clients.proofs.Ends.{answers_end_calls}
 use Rattle.protocol_name_clients.proofs.Answers.{name_calls_may_give_up}
 use Rattle.protocol_followed_clients.specs.Laws.{IsBesideAt, IsBesideCall}
 use Rattle.protocol_followed_clients.proofs.Calls.{name_calls_are_begun}
-use Rattle.protocol_explained_names.proofs.Beside.{lasting, IsKnown, IsNamesBeside, is_asked_names, IsClientBeside, AreClientsBeside, client_on, one_on, says_more, says_else}
-use Rattle.protocol_explained_names.proofs.Clients.{answered_trace, sent_one, the_sender, reseen, file_called, ends_call, begins_call, IsNotUnder, IsKnownClient, ComesTo, Left, stays_with, file_goes, asks_known, client_asked, kept_asked, name_goes}
+use Rattle.protocol_beside_clients.specs.Beside.{lasting, IsKnown, IsNamesBeside, is_asked_names, IsClientBeside, AreClientsBeside, answered_trace, ComesTo}
+use Rattle.protocol_beside_clients.proofs.Beside.{client_on, one_on, says_more, says_else}
+use Rattle.protocol_beside_clients.proofs.Clients.{sent_one, the_sender, reseen, file_called, ends_call, begins_call, IsNotUnder, IsKnownClient, Left, stays_with, file_goes, asks_known, client_asked, kept_asked, name_goes}
 
 module _ (config : Config) (trace : List Visible) (greatest : ℕ) (clients : List ClientState) (sent : List Message) (l : Logged) (ss : List PendingSnapshot) (m : Machine) (requests : Requests)
     (h : IsNamesBeside config trace greatest sent l ss m requests) (all : AreClientsBeside config trace greatest clients m requests) (k index : ℕ) (s : ClientState) (up : IsTrue s.up) (at : element_at clients index ≡ Some s)

@@ -1,6 +1,6 @@
 -- The machine beside a cell: how it goes on as the clock does, as the master does, as more is said, and as one client does.
 use Rattle.std.proofs.Common.{◌≡◌, ⊎_elim, ℕ, zero, suc, ◌+◌, ◌≤◌, Bool, true, false, cond, max, List, [], ◌∷◌, ◌++◌, Option, Some, None, refl, sym, ap, subst, ◌∙◌, inl, inr, arith}
-use Rattle.std.specs.Prelude.{nat_lt, filter, IsTrue, IsFalse}
+use Rattle.std.specs.Prelude.{nat_lt, filter, IsTrue}
 use Rattle.std.specs.List.{AllByRecursion}
 use Rattle.std.proofs.lemmas.Bool.{true≢false, ltb-true, ltb-false, lt-ltb}
 use Rattle.std.proofs.lemmas.List.{append-nil}
@@ -13,13 +13,11 @@ use Rattle.messages.specs.declared.message.Body.{Body}
 use Rattle.messages.specs.declared.message.Body.TheVariants as body
 use Rattle.messages.specs.declared.message.Message.{Message}
 use Rattle.relaxed_file.specs.Machine.{Machine, Asked, OpenCall, new_machine}
-use Rattle.relaxed_file.specs.NameStep.{is_look}
 use Rattle.relaxed_file.specs.Run.{Visible, Passed, Pass, visible, after}
-use Rattle.name_runs.specs.Laws.{LeadsByNames}
 use Rattle.name_runs.proofs.Runs.{name_runs_go_on}
 use Rattle.unseen_runs.specs.Laws.{IsSameCall, IsLeft, AreLeft}
 use Rattle.unseen_runs.proofs.Unseen.{unseen_runs_leave_clients}
-use Rattle.name_traces.specs.Laws.{none_called, last_calls, is_naming, name_trace}
+use Rattle.name_traces.specs.Laws.{none_called, last_calls, is_naming}
 use Rattle.name_traces.proofs.Seen.{single, left_same, call_before, clock_and_settings_are_seen}
 use Rattle.name_traces.proofs.Traces.{part_grows}
 use Rattle.client_state.specs.declared.call.CurrentCall.{CurrentCall}
@@ -42,14 +40,7 @@ use Rattle.protocol_followed_clients.specs.Laws.{IsBesideAt, IsBesideCall, IsBes
 use Rattle.protocol_open_requests.specs.Laws.{IsOldOrOpen, AreNotLater}
 use Rattle.protocol_open_requests.proofs.Requests.{names_stay_old_or_open}
 use Rattle.protocol_file_calls.specs.Laws.{IsNoWordOfNames}
-
--- the snapshots of which the deadline and the clock bound are not past
-
-abbrev pub lasts : ℕ → ℕ → PendingSnapshot → Bool
-lasts skew clock s = nat_lt clock (s.deadline + skew)
-
-abbrev pub lasting : ℕ → ℕ → List PendingSnapshot → List PendingSnapshot
-lasting skew clock ss = filter (lasts skew clock) ss
+use Rattle.protocol_beside_clients.specs.Beside.{lasts, lasting, IsKnown, IsNamesBeside, IsClientBeside, AreClientsBeside}
 
 pub all_fewer : (P : PendingSnapshot → Type 0) (p q : PendingSnapshot → Bool) (ss : List PendingSnapshot) → ((s : PendingSnapshot) → p s ≡ true → q s ≡ true) → AllByRecursion P (filter q ss) → AllByRecursion P (filter p ss)
 all_fewer P p q [] more all = tt
@@ -64,43 +55,8 @@ all_fewer P p q (s ∷ ss) more all = by_tests (p s) refl (q s) refl (λ h. all_
 pub relocked : (l : Logged) (ss others : List PendingSnapshot) (m : Machine) (requests : Requests) → AreAlike l ss m requests → AllByRecursion (HoldsLocks m requests) others → AreAlike l others m requests
 relocked l ss others m requests h locks = record { names = h.names; next = h.next; files = h.files; kept = h.kept; untaken = h.untaken; locks = locks }
 
--- what is known of a request on names
-abbrev pub IsKnown : Table KeptCall → Machine → Requests → ℕ → Body → Type 0
-IsKnown kept m requests client (body.Name number deadline c) = IsFalse (is_look c) × IsOldOrOpen kept m requests client number deadline.0 c
-IsKnown kept m requests client (body.Look number c) = IsTrue (is_look c) × ((current : OpenCall) → IsWaiting m requests client number current → current.asked.call ≡ c)
-IsKnown kept m requests client other = Unit {0}
-
--- the machine beside what was seen and sent, and beside the log with the snapshots that wait
-pub record IsNamesBeside (config : Config) (trace : List Visible) (greatest : ℕ) (sent : List Message) (l : Logged) (ss : List PendingSnapshot) (m : Machine) (requests : Requests) : Type 0 where
-  pub run : LeadsByNames (new_machine config) m
-  pub seen : visible run.0 ≡ name_trace trace
-  pub clock : m.clock ≡ greatest
-  pub alike : AreAlike l (lasting config.skew_ms greatest ss) m requests
-  pub told : (x : Message) → IsSent sent x → IsTold m requests x
-  pub known : (x : Message) → IsSent sent x → IsKnown l.kept m requests (client_number x.sender) x.body
-  pub later : AreNotLater requests l.kept
-
 pub settings_of : (config : Config) (trace : List Visible) (greatest : ℕ) (sent : List Message) (l : Logged) (ss : List PendingSnapshot) (m : Machine) (requests : Requests) → IsNamesBeside config trace greatest sent l ss m requests → m.config ≡ config
 settings_of config trace greatest sent l ss m requests h = (clock_and_settings_are_seen (new_machine config) m h.run).1
-
-abbrev pub is_asked_names : Stage → Bool
-is_asked_names AskedNames = true
-is_asked_names other = false
-
--- a client that is up
-pub record IsClientBeside (config : Config) (trace : List Visible) (greatest : ℕ) (s : ClientState) (m : Machine) (requests : Requests) (client : ℕ) : Type 0 where
-  pub beside : IsBesideClient s m requests client
-  pub naming : (c : CurrentCall) → s.current ≡ Some c → is_naming (last_calls none_called trace client) ≡ is_asked_names c.stage
-  pub settings : s.config ≡ config
-  pub now : s.now ≤ greatest
-
-abbrev pub AreClientsBeside : Config → List Visible → ℕ → List ClientState → Machine → Requests → Type 0
-AreClientsBeside config trace greatest clients m requests = (index : ℕ) (s : ClientState) → element_at clients index ≡ Some s → IsTrue s.up → IsClientBeside config trace greatest s m requests (suc index)
-
--- a machine beside a cell
-abbrev pub Beside : Config → List Visible → ℕ → List ClientState → List Message → Logged → List PendingSnapshot → Type 0
-Beside config trace greatest clients sent l ss =
-    (m : Machine) × (requests : Requests) × IsNamesBeside config trace greatest sent l ss m requests × AreClientsBeside config trace greatest clients m requests
 
 -- a client whose call is left
 

@@ -61,12 +61,8 @@ use Rattle.protocol_name_clients.specs.Laws.{with_request}
 use Rattle.protocol_followed_clients.specs.Laws.{IsBesideAt, IsBesideCall, IsBesideClient, IsInputTold, answer_shown, snapshots_left}
 use Rattle.protocol_followed_clients.proofs.Calls.{name_calls_are_followed}
 use Rattle.protocol_open_requests.proofs.Requests.{answered_names_are_kept}
-use Rattle.protocol_explained_names.proofs.Beside.{lasts, lasting, IsKnown, IsNamesBeside, settings_of, is_asked_names, IsClientBeside, AreClientsBeside, Beside, known_on, one_on, moved, says_more, says_else}
-
--- what is seen of an answer, if there is one
-abbrev pub answered_trace : ℕ → Option Answer → List Visible → List Visible
-answered_trace client None trace = trace
-answered_trace client (Some reply) trace = trace ++ Answered client reply ∷ []
+use Rattle.protocol_beside_clients.specs.Beside.{lasts, lasting, IsKnown, IsNamesBeside, is_asked_names, IsClientBeside, AreClientsBeside, Beside, answered_trace, ComesTo}
+use Rattle.protocol_beside_clients.proofs.Beside.{settings_of, known_on, one_on, moved, says_more, says_else}
 
 all_pass : {X : Type 0} (test : X → Bool) (xs : List X) → AllByRecursion (λ x. test x ≡ true) xs → filter test xs ≡ xs
 all_pass test [] all = refl
@@ -197,11 +193,6 @@ pub record IsKnownClient (sent : List Message) (l : Logged) (ss : List PendingSn
   pub answers : (x : Message) → IsSent sent x → IsAnswerToAsked sent (client_number x.receiver) x.body
   pub kept : WereAskedFor sent l.kept
   pub waits : AllByRecursion (HasItsRequest sent) ss
-
--- what comes in was sent to the client
-abbrev pub ComesTo : List Message → ℕ → Input → Type 0
-ComesTo sent client (input.Deliver x) = IsSent sent x × (x.receiver ≡ the_client client)
-ComesTo sent client input.Tick = Unit {0}
 
 module _ (config : Config) (trace : List Visible) (greatest : ℕ) (clients : List ClientState) (sent : List Message) (l : Logged) (ss : List PendingSnapshot) (m : Machine) (requests : Requests)
     (h : IsNamesBeside config trace greatest sent l ss m requests) (all : AreClientsBeside config trace greatest clients m requests) (k index : ℕ)
