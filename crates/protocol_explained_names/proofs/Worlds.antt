@@ -2,7 +2,6 @@
 use Rattle.std.proofs.Common.{◌≡◌, ℕ, zero, suc, ◌+◌, ◌≤◌, Bool, true, false, cond, max, List, [], ◌∷◌, ◌++◌, length, map, Option, Some, None, refl, sym, ap, subst, ◌∙◌, arith}
 use Rattle.std.specs.Prelude.{◌&&◌, nat_lt, nat_le, is_none, is_some, IsTrue}
 use Rattle.std.specs.Ordering.{nat_cmp}
-use Rattle.std.specs.List.{AllByRecursion}
 use Rattle.std.proofs.lemmas.Bool.{true≢false, and_parts, ltb-true, leb-true}
 use Rattle.std.proofs.Math.Nat.{le-max_left, le-max_right, max-le, max-eq_left}
 use Rattle.std.specs.FinMap as table
@@ -23,8 +22,6 @@ use Rattle.protocol.specs.Choice.{Choice}
 use Rattle.protocol.specs.Seen.{Taken}
 use Rattle.protocol.specs.Sending.{the_client}
 use Rattle.protocol.specs.Observer.{Observer, observed_moment, observed_call, observed_answer}
-use Rattle.protocol.specs.Logged.{Logged}
-use Rattle.protocol.specs.Master.{PendingSnapshot}
 use Rattle.protocol.specs.MasterStep.{new_master}
 use Rattle.protocol.specs.ServerStep.{server_step, server_restart}
 use Rattle.protocol.specs.Client.{ClientState, new_client}
