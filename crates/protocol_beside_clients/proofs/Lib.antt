@@ -1,0 +1,4 @@
+pub mod Beside
+pub mod Clients
+pub mod Calls
+pub mod Followed

@@ -1,0 +1,3 @@
+pub mod Masters
+pub mod Worlds
+pub mod Explained

@@ -1,0 +1,4 @@
+pub mod Reaching
+pub mod ServerSilence
+pub mod WaitingRequests
+pub mod NameWords
