@@ -2,9 +2,12 @@
 #![tactic(auto)]
 
 mod changing;
+mod creating;
 mod fault;
 mod looking;
+mod opening;
 mod store;
 
 pub use fault::StoreFault;
+pub use opening::open;
 pub use store::Store;

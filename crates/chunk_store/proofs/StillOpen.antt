@@ -1,5 +1,6 @@
 -- A store that is open, before a change and after it.
-use Rattle.std.proofs.Common.{◌≡◌, ℕ, ◌<◌, ◌≤◌, Bool, false, List, [], ◌∷◌, drop, length, slice_get, refl, sym, ap, ◌∙◌, subst, arith, Option, None, Some}
+use Rattle.std.proofs.Common.{◌≡◌, ℕ, ◌<◌, ◌≤◌, ◌%◌, Bool, true, false, List, [], ◌∷◌, drop, length, slice_get, refl, sym, ap, ◌∙◌, subst, arith, Option, None, Some}
+use Rattle.std.specs.Prelude.{is_some}
 use Rattle.std.specs.FinMap as map
 use Rattle.std.specs.Option.{option_map}
 use Rattle.gfs_types.specs.declared.ids.OrderNo.{OrderNo}
@@ -28,6 +29,31 @@ row_known chunk block slots index bytes d is h = by (replica_of d h) refl
     by : (o : Option Replica) → replica_of d h ≡ o → row_at d h ≡ row_found (map.get index.held h)
     by None e = ap row_of e ∙ sym (ap row_found (is.no_other h e))
     by (Some r) e = let k = is.held h r e in ap row_of e ∙ k.2.row ∙ sym (ap row_found k.1)
+
+-- what is known of a replica is its row
+pub row_held : (chunk block slots : ℕ) (index : IndexState) (bytes : List ℕ) (d : ServerDisk) → IsDiskOf chunk block slots index bytes d → (h : ℕ) (found : HeldReplica) → map.get index.held h ≡ Some found → row_at d h ≡ Some found.row
+row_held chunk block slots index bytes d is h found there = row_known chunk block slots index bytes d is h ∙ ap row_found there
+
+pub none_held : (chunk block slots : ℕ) (index : IndexState) (bytes : List ℕ) (d : ServerDisk) → IsDiskOf chunk block slots index bytes d → (h : ℕ) → map.get index.held h ≡ None → row_at d h ≡ None
+none_held chunk block slots index bytes d is h none = row_known chunk block slots index bytes d is h ∙ ap row_found none
+
+pub test_none : {X : Type 0} (o : Option X) → is_some o ≡ false → o ≡ None
+test_none None e = refl
+test_none (Some x) e = absurd cc
+
+-- a replica is there
+pub test_row : (chunk block slots : ℕ) (index : IndexState) (bytes : List ℕ) (d : ServerDisk) → IsDiskOf chunk block slots index bytes d → (h : ℕ) → is_some (map.get index.held h) ≡ true → (row : Row) × (row_at d h ≡ Some row)
+test_row chunk block slots index bytes d is h there = by (map.get index.held h) refl there
+  where
+    by : (o : Option HeldReplica) → map.get index.held h ≡ o → is_some o ≡ true → (row : Row) × (row_at d h ≡ Some row)
+    by None e t = absurd cc
+    by (Some found) e t = (found.row, row_held chunk block slots index bytes d is h found e)
+
+pub no_row : {X : Type 0} (o : Option X) (x : X) → o ≡ None → o ≡ Some x → ⊥
+no_row o x none some = let f : None ≡ Some x = sym none ∙ some in absurd cc
+
+pub one_row : {X : Type 0} (o : Option X) (x y : X) → o ≡ Some x → o ≡ Some y → x ≡ y
+one_row o x y p q = let f : Some x ≡ Some y = sym p ∙ q in cc
 
 abbrev pub order_of : ServerDisk → OrderNo
 order_of d = record { epoch = d.epoch; count = d.count }
@@ -63,5 +89,6 @@ module _ {D : Type 0} (seen : D → List ℕ) (may_leave : D → List ℕ → Ty
     says = subst (λ layout. Says layout.chunk layout.block layout.slots new.index (seen new.disk) (disk_changed d change)) (sym same) (made d is.says);
     order = ordered;
     large = subst (λ layout. disk_size layout.chunk layout.block layout.slots ≤ length (seen new.disk)) (sym same) (subst (λ (n : ℕ). disk_size store.layout.chunk store.layout.block store.layout.slots ≤ n) (sym size) is.large);
+    whole = subst (λ layout. layout.chunk % layout.block ≡ 0) (sym same) is.whole;
     rest = rest;
   }

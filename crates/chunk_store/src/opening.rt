@@ -1,0 +1,40 @@
+//! Opening a store.
+
+ghost use Rattle.std.specs.Prelude.{◌≡◌, ◌<◌, ◌≤◌, ◌%◌, true, length, IfErr, IfOk};
+ghost use Rattle.gated_disk.specs.Moments.{LeavesOnly};
+ghost use Rattle.replica_store.specs.Replicas.{ServerDisk};
+ghost use Rattle.store_format.specs.Formats.{is_head_open};
+ghost use Rattle.store_layout.specs.Places.{disk_size};
+ghost use Rattle.store_opening.specs.Opening.{HoldsReplicas, IsHeadOf, IsOpening};
+ghost use Rattle.store_opening.specs.declared.fault.OpenFault.TheVariants as faults;
+ghost use Rattle.chunk_store.specs.Stores.{IsOpen};
+
+use crate::store::Store;
+use disk::Disk;
+use std::alloc::Global;
+use store_layout::Layout;
+use store_opening::{OpenFault, open_disk};
+
+/// Opens a store, for chunks of whole blocks. A disk whose head is closed is formatted, and holds no replicas.
+///
+/// An error hands the disk back. `Damaged`: the disk is another layout's. `NoMemory`: an allocator refused what the call needs. `Device`: the disk failed in this call.
+pub fn open<D: Disk>(mut disk: D, alloc: Global, layout: Layout) -> Result<Store<D>, (D, OpenFault)>
+    requires whole { layout.chunk % layout.block ≡ 0 }
+    ensures open { IfOk result (λ store. (d : ServerDisk) → HoldsReplicas layout.chunk layout.block layout.slots (D.seen disk) d → IsOpen D.seen D.may_leave store d) }
+    ensures layout { IfOk result (λ store. store.layout ≡ layout) }
+    ensures undamaged { disk_size layout.chunk layout.block layout.slots ≤ length (D.seen disk) → is_head_open (D.seen disk) ≡ true → IsHeadOf layout.chunk layout.block layout.slots (D.seen disk) → IfErr result (λ e. e.1 ≡ faults.Damaged → ⊥) }
+    // A stop at any moment of the call leaves what one before it might have left, a disk that is being formatted, or one that stands for what the disk held.
+    ensures any_moment { IfOk result (λ store. LeavesOnly D.moment D.left_since disk store.disk (IsOpening layout.chunk layout.block layout.slots (D.seen disk) (D.may_leave disk))) }
+    ensures any_moment_of_error { IfErr result (λ e. LeavesOnly D.moment D.left_since disk e.0 (IsOpening layout.chunk layout.block layout.slots (D.seen disk) (D.may_leave disk))) }
+    ensures cause { IfErr result (λ e. e.1 ≡ faults.Device → D.failed disk < D.failed e.0) }
+{
+    match open_disk(alloc, &mut disk, layout) {
+        Ok(found) => Ok(Store {
+            disk,
+            layout,
+            order: found.order,
+            index: found.index,
+        }),
+        Err(fault) => Err((disk, fault)),
+    }
+}
