@@ -1,5 +1,5 @@
 -- What a disk's fault, or want of memory, is never answered as.
-use Rattle.std.proofs.Common.{◌≡◌, sym, ap, ◌∙◌, Result, Ok, Err}
+use Rattle.std.proofs.Common.{◌≡◌, ◌⊎◌, inl, inr, sym, ap, ◌∙◌, Result, Ok, Err}
 use Rattle.std.specs.Prelude.{IsErrAnd, IsErrOf}
 use Rattle.disk.specs.declared.device.DiskFault.{DiskFault}
 use Rattle.disk.specs.declared.device.DiskFault.TheVariants as disk
@@ -29,3 +29,7 @@ memory_no_version e = absurd cc
 -- a fault that is handed on
 pub handed_on : {T U : Type 0} (f other : StoreFault) → IsErrOf {T = T} (Err f) other → IsErrOf {T = U} (Err f) other
 handed_on f other e = let same : f ≡ other = cc in ap (λ (x : StoreFault). Err x) same
+
+pub not_corrupt : {T : Type 0} (f : StoreFault) → (f ≡ store.NoChunk) ⊎ (f ≡ store.Version) → IsErrOf {T = T} (Err f) store.Corrupt → ⊥
+not_corrupt f (inl none) e = let same : f ≡ store.Corrupt = cc in let wrong : store.NoChunk ≡ store.Corrupt = sym none ∙ same in absurd cc
+not_corrupt f (inr other) e = let same : f ≡ store.Corrupt = cc in let wrong : store.Version ≡ store.Corrupt = sym other ∙ same in absurd cc

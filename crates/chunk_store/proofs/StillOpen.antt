@@ -3,6 +3,7 @@ use Rattle.std.proofs.Common.{◌≡◌, ℕ, ◌<◌, ◌≤◌, ◌%◌, Bool,
 use Rattle.std.specs.Prelude.{is_some}
 use Rattle.std.specs.FinMap as map
 use Rattle.std.specs.Option.{option_map}
+use Rattle.gated_disk.specs.Moments.{OnlyReads}
 use Rattle.gfs_types.specs.declared.ids.OrderNo.{OrderNo}
 use Rattle.redo_area.specs.Redo.{IsAtRest, is_open, stands_for}
 use Rattle.replica_store.specs.declared.change.StoreChange.{StoreChange}
@@ -16,6 +17,7 @@ use Rattle.store_changes.proofs.Areas.{rest_size}
 use Rattle.store_layout.specs.Places.{disk_size}
 use Rattle.stored_replicas.specs.Stored.{IsDiskOf}
 use Rattle.stored_replicas.proofs.Changing.{within}
+use Rattle.stored_replicas.proofs.Replicas.{its_replica}
 use Rattle.chunk_store.specs.Stores.{IsOpen}
 use Rattle.chunk_store.specs.declared.store.Store.{Store}
 
@@ -63,6 +65,13 @@ pub order_stays : (change : Replica → Replica) (d : ServerDisk) (h : ℕ) (o :
 order_stays change d h None = refl
 order_stays change d h (Some r) = refl
 
+-- what is known of a replica lies within the disk
+pub held_within : (chunk block slots : ℕ) (index : IndexState) (bytes : List ℕ) (d : ServerDisk) → IsDiskOf chunk block slots index bytes d → (h : ℕ) (found : HeldReplica) → map.get index.held h ≡ Some found → (found.slot < slots) × (found.row.count ≤ chunk)
+held_within chunk block slots index bytes d is h found there =
+    let its = its_replica chunk block slots index bytes d is h found there in
+    let same : length its.0.bytes ≡ found.row.count = (let e = its.2.row in cc) in
+    (its.2.there, omega (arith, its.2.holds.fits, same))
+
 -- the first of the free slots
 pub first_free : (free : List ℕ) (slot : ℕ) → slice_get free 0 ≡ Some slot → free ≡ slot ∷ drop 1 free
 first_free [] slot e = absurd cc
@@ -92,3 +101,19 @@ module _ {D : Type 0} (seen : D → List ℕ) (may_leave : D → List ℕ → Ty
     whole = subst (λ layout. layout.chunk % layout.block ≡ 0) (sym same) is.whole;
     rest = rest;
   }
+
+-- the disk was read
+module _ {D : Type 0} (seen : D → List ℕ) (may_leave : D → List ℕ → Type 0) (moment : D → ℕ) (left_since : D → ℕ → List ℕ → Type 0) (store : Store D) (disk : D) (d : ServerDisk) where
+  pub read_open : IsOpen seen may_leave store d → OnlyReads seen may_leave moment left_since store.disk disk → IsOpen seen may_leave (record { disk = disk; layout = store.layout; order = store.order; index = store.index }) d
+  read_open is reads =
+      let layout = store.layout in
+      record {
+        says = subst (λ (l : List ℕ). Says layout.chunk layout.block layout.slots store.index l d) (sym reads.seen_same) is.says;
+        order = is.order;
+        large = subst (λ (l : List ℕ). disk_size layout.chunk layout.block layout.slots ≤ length l) (sym reads.seen_same) is.large;
+        whole = is.whole;
+        rest = record {
+          closed = ap (is_open (area_of layout.chunk layout.block)) reads.seen_same ∙ is.rest.closed;
+          durable = λ c left. is.rest.durable c (reads.crash c left) ∙ sym reads.seen_same;
+        };
+      }

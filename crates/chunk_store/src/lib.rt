@@ -6,6 +6,7 @@ mod creating;
 mod fault;
 mod looking;
 mod opening;
+mod reading;
 mod store;
 
 pub use fault::StoreFault;
