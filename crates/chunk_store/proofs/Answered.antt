@@ -33,3 +33,20 @@ handed_on f other e = let same : f ≡ other = cc in ap (λ (x : StoreFault). Er
 pub not_corrupt : {T : Type 0} (f : StoreFault) → (f ≡ store.NoChunk) ⊎ (f ≡ store.Version) → IsErrOf {T = T} (Err f) store.Corrupt → ⊥
 not_corrupt f (inl none) e = let same : f ≡ store.Corrupt = cc in let wrong : store.NoChunk ≡ store.Corrupt = sym none ∙ same in absurd cc
 not_corrupt f (inr other) e = let same : f ≡ store.Corrupt = cc in let wrong : store.Version ≡ store.Corrupt = sym other ∙ same in absurd cc
+
+pub disk_not_old : (d : DiskFault) → fault_of d ≡ store.OldSerial → ⊥
+disk_not_old disk.Device e = absurd cc
+disk_not_old disk.NoMemory e = absurd cc
+
+pub memory_no_chunk : store.NoMemory ≡ store.NoChunk → ⊥
+memory_no_chunk e = absurd cc
+
+pub memory_not_corrupt : store.NoMemory ≡ store.Corrupt → ⊥
+memory_not_corrupt e = absurd cc
+
+pub memory_not_old : store.NoMemory ≡ store.OldSerial → ⊥
+memory_not_old e = absurd cc
+
+pub not_old : {T : Type 0} (f : StoreFault) → (f ≡ store.NoChunk) ⊎ (f ≡ store.Version) → IsErrOf {T = T} (Err f) store.OldSerial → ⊥
+not_old f (inl none) e = let same : f ≡ store.OldSerial = cc in let wrong : store.NoChunk ≡ store.OldSerial = sym none ∙ same in absurd cc
+not_old f (inr other) e = let same : f ≡ store.OldSerial = cc in let wrong : store.Version ≡ store.OldSerial = sym other ∙ same in absurd cc

@@ -1,2 +1,4 @@
 pub mod Answered
+pub mod Applied
+pub mod Imaged
 pub mod StillOpen

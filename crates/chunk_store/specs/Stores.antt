@@ -1,6 +1,5 @@
 -- A store that is open on its disk.
 use Rattle.std.specs.Prelude.{◌≡◌, ℕ, ◌≤◌, ◌%◌, List, length}
-use Rattle.disk.specs.Device.{Only}
 use Rattle.redo_area.specs.Redo.{IsAtRest}
 use Rattle.replica_store.specs.Replicas.{ServerDisk}
 use Rattle.replica_store.specs.declared.change.StoreChange.{StoreChange}

@@ -1,6 +1,7 @@
 //! A chunkserver's store of replicas on a disk: each change is made as a whole or not at all, whenever the disk stops.
 #![tactic(auto)]
 
+mod applying;
 mod changing;
 mod creating;
 mod fault;

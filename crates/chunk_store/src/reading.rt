@@ -5,6 +5,7 @@ ghost use Rattle.gated_disk.specs.Moments.{OnlyReads};
 ghost use Rattle.replica_store.specs.declared.row.Row.{Row};
 ghost use Rattle.replica_store.specs.Replicas.{ServerDisk, read_at, row_at};
 ghost use Rattle.chunk_store.specs.Faults.{MayFail};
+ghost use Rattle.chunk_store.specs.Images.{image_at};
 ghost use Rattle.chunk_store.specs.Stores.{IsOpen};
 ghost use Rattle.chunk_store.specs.declared.fault.StoreFault.TheVariants as faults;
 
@@ -44,5 +45,25 @@ impl<D: Disk> Store<D> {
             Some(bytes) => Ok(bytes),
             None => Err(StoreFault::Corrupt),
         }
+    }
+
+    /// All bytes of a replica of exactly this version. Nothing is answered where one of its blocks doesn't match its digest.
+    pub fn image(
+        &mut self,
+        alloc: Global,
+        handle: Handle,
+        version: Version,
+    ) -> Result<Bytes, StoreFault>
+        requires is_open { (d : ServerDisk) × IsOpen D.seen D.may_leave self.old d }
+        ensures ok { (d : ServerDisk) → IsOpen D.seen D.may_leave self.old d → IfOk result (λ bytes. Some bytes ≡ image_at d handle.0) }
+        ensures still_open { (d : ServerDisk) → IsOpen D.seen D.may_leave self.old d → IsOpen D.seen D.may_leave self.new d }
+        ensures no_chunk { (d : ServerDisk) → IsOpen D.seen D.may_leave self.old d → (IsErrOf result faults.NoChunk ↔ row_at d handle.0 ≡ None) }
+        ensures version { (d : ServerDisk) → IsOpen D.seen D.may_leave self.old d → (IsErrOf result faults.Version ↔ (row : Row) × (row_at d handle.0 ≡ Some row) × (row.version ≢ version)) }
+        ensures corrupt { (d : ServerDisk) → IsOpen D.seen D.may_leave self.old d → IsErrOf result faults.Corrupt → image_at d handle.0 ≡ None }
+        ensures reads { OnlyReads D.seen D.may_leave D.moment D.left_since self.old.disk self.new.disk }
+        ensures cause { MayFail (D.failed self.old.disk) (D.failed self.new.disk) result }
+    {
+        let count = self.length(handle).unwrap_or(0);
+        self.read(alloc, handle, version, 0, count)
     }
 }

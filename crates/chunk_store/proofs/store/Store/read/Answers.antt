@@ -1,4 +1,4 @@
-use Rattle.std.proofs.Common.{◌≡◌, ℕ, ◌⊎◌, inl, inr, ◌<◌, ◌≤◌, refl, sym, ap, ◌∙◌, Some, None}
+use Rattle.std.proofs.Common.{sym, ap, ◌∙◌}
 use Rattle.redo_area.specs.Redo.{stands_for}
 use Rattle.store_changes.specs.Areas.{area_of}
 use Rattle.chunk_store.specs.Faults.{fault_of}

@@ -1,4 +1,4 @@
-use Rattle.std.proofs.Common.{◌≡◌, refl, sym, ap, ◌∙◌, Some, None, Option}
+use Rattle.std.proofs.Common.{refl, ap, ◌∙◌}
 use Rattle.redo_area.specs.Redo.{stands_for}
 use Rattle.replica_store.specs.declared.change.StoreChange.TheVariants.{Raise}
 use Rattle.replica_store.specs.Replicas.{raised_replica, replica_of}
