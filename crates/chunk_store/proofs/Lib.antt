@@ -1,1 +1,4 @@
-pub mod Open
+pub mod Answered
+pub mod Applied
+pub mod Imaged
+pub mod StillOpen

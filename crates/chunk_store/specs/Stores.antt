@@ -1,6 +1,5 @@
 -- A store that is open on its disk.
-use Rattle.std.specs.Prelude.{◌≡◌, ℕ, ◌≤◌, List, length}
-use Rattle.disk.specs.Device.{Only}
+use Rattle.std.specs.Prelude.{◌≡◌, ℕ, ◌≤◌, ◌%◌, List, length}
 use Rattle.redo_area.specs.Redo.{IsAtRest}
 use Rattle.replica_store.specs.Replicas.{ServerDisk}
 use Rattle.replica_store.specs.declared.change.StoreChange.{StoreChange}
@@ -9,11 +8,12 @@ use Rattle.store_changes.specs.Changing.{LeavesEither, Says}
 use Rattle.store_layout.specs.Places.{disk_size}
 use Rattle.chunk_store.specs.declared.store.Store.{Store}
 
--- The store is open: its disk says this, for good, and the store knows where.
+-- The store is open: its disk says this, for good, and the store knows where. Each chunk is of whole blocks.
 pub record IsOpen {D : Type 0} (seen : D → List ℕ) (may_leave : D → List ℕ → Type 0) (store : Store D) (d : ServerDisk) : Type 0 where
   pub says : Says store.layout.chunk store.layout.block store.layout.slots store.index (seen store.disk) d
   pub order : store.order ≡ record { epoch = d.epoch; count = d.count }
   pub large : disk_size store.layout.chunk store.layout.block store.layout.slots ≤ length (seen store.disk)
+  pub whole : store.layout.chunk % store.layout.block ≡ 0
   pub rest : IsAtRest seen may_leave (area_of store.layout.chunk store.layout.block) store.disk
 
 -- What is read, and what a stop at any moment of a call leaves, says what the disk said before the change or after it.

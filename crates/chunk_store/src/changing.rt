@@ -1,7 +1,8 @@
 //! Changes of the store. Each is on the disk for good at `Ok`; a stop at any moment of a call, and `Device` and `NoMemory`, leave the disk as it was before the change or after it.
 
-ghost use Rattle.std.specs.Prelude.{◌≡◌, ◌↔◌, OnOk, IsErrOf, None};
-ghost use Rattle.replica_store.specs.declared.change.StoreChange.TheVariants.{Remove, SetOrder};
+ghost use Rattle.std.specs.Prelude.{◌≡◌, ◌≢◌, ◌↔◌, OnOk, IsErrOf, None, Some};
+ghost use Rattle.replica_store.specs.declared.change.StoreChange.TheVariants.{Raise, Remove, SetOrder};
+ghost use Rattle.replica_store.specs.declared.row.Row.{Row};
 ghost use Rattle.replica_store.specs.Replicas.{ServerDisk, disk_changed, row_at};
 ghost use Rattle.chunk_store.specs.Faults.{MayFail};
 ghost use Rattle.chunk_store.specs.Stores.{IsOpen, LeavesChange};
@@ -10,9 +11,9 @@ ghost use Rattle.chunk_store.specs.declared.fault.StoreFault.TheVariants as faul
 use crate::fault::StoreFault;
 use crate::store::Store;
 use disk::Disk;
-use gfs_types::ids::{Handle, OrderNo};
+use gfs_types::ids::{Handle, OrderNo, Version};
 use std::alloc::Global;
-use store_changes::{remove, set_order};
+use store_changes::{raise, remove, set_order};
 
 impl<D: Disk> Store<D> {
     /// Keeps the number of the last order that was taken.
@@ -24,6 +25,38 @@ impl<D: Disk> Store<D> {
     {
         set_order(alloc, &mut self.disk, self.layout, order)?;
         self.order = order;
+        Ok(())
+    }
+
+    /// Gives a replica of exactly the base a new version, under which serials begin anew.
+    pub fn set_version(
+        &mut self,
+        alloc: Global,
+        handle: Handle,
+        version: Version,
+        base: Version,
+    ) -> Result<(), StoreFault>
+        requires is_open { (d : ServerDisk) × IsOpen D.seen D.may_leave self.old d }
+        ensures ok { (d : ServerDisk) → IsOpen D.seen D.may_leave self.old d → OnOk result (IsOpen D.seen D.may_leave self.new (disk_changed d (Raise handle version))) }
+        ensures no_chunk { (d : ServerDisk) → IsOpen D.seen D.may_leave self.old d → (IsErrOf result faults.NoChunk ↔ row_at d handle.0 ≡ None) }
+        ensures version { (d : ServerDisk) → IsOpen D.seen D.may_leave self.old d → (IsErrOf result faults.Version ↔ (row : Row) × (row_at d handle.0 ≡ Some row) × (row.version ≢ base)) }
+        ensures unchanged { IsErrOf result faults.Version → self.new ≡ self.old }
+        ensures any_moment { LeavesChange D.seen D.moment D.left_since self.old self.new (Raise handle version) }
+        ensures cause { MayFail (D.failed self.old.disk) (D.failed self.new.disk) result }
+    {
+        let found = match self.find(handle, base) {
+            Ok(found) => found,
+            Err(fault) => return Err(fault),
+        };
+        raise(
+            alloc,
+            &mut self.disk,
+            self.layout,
+            &mut self.index,
+            handle,
+            found,
+            version,
+        )?;
         Ok(())
     }
 

@@ -12,6 +12,14 @@ use std::alloc::AllocError;
 pub enum StoreFault {
     /// There is no such replica, and nothing changed.
     NoChunk,
+    /// The replica has another version, or there is one already, and nothing changed.
+    Version,
+    /// The replica has applied this serial or a later one, and nothing changed.
+    OldSerial,
+    /// A block doesn't match its digest, and nothing changed.
+    Corrupt,
+    /// Each slot is used, and nothing changed.
+    NoRoom,
     /// The disk failed. The store is open no more: open its disk again.
     Device,
     /// Memory was refused. The store is open no more: open its disk again.

@@ -1,10 +1,15 @@
 //! A chunkserver's store of replicas on a disk: each change is made as a whole or not at all, whenever the disk stops.
 #![tactic(auto)]
 
+mod applying;
 mod changing;
+mod creating;
 mod fault;
 mod looking;
+mod opening;
+mod reading;
 mod store;
 
 pub use fault::StoreFault;
+pub use opening::open;
 pub use store::Store;

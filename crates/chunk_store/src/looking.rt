@@ -1,16 +1,40 @@
 //! What the store knows without a look at its disk.
 
-ghost use Rattle.std.specs.Prelude.{◌≡◌};
+ghost use Rattle.std.specs.Prelude.{◌≡◌, ◌≢◌, ◌↔◌, ◌⊎◌, IfErr, IfOk, IsErrOf, None, Some};
+ghost use Rattle.std.specs.FinMap as map;
 ghost use Rattle.std.specs.Option.{option_map};
+ghost use Rattle.replica_store.specs.declared.row.Row.{Row};
 ghost use Rattle.replica_store.specs.Replicas.{ServerDisk, row_at};
+ghost use Rattle.chunk_store.specs.declared.fault.StoreFault.TheVariants as faults;
 ghost use Rattle.chunk_store.specs.Stores.{IsOpen};
 
+use crate::fault::StoreFault;
 use crate::store::Store;
 use disk::Disk;
-use gfs_types::ids::{Handle, OrderNo};
+use gfs_types::ids::{Handle, OrderNo, Version};
 use replica_store::row::Row;
+use slot_index::HeldReplica;
 
 impl<D: Disk> Store<D> {
+    // Where a replica of exactly this version lies.
+    pub(crate) fn find(&self, handle: Handle, version: Version) -> Result<HeldReplica, StoreFault>
+        ensures found { IfOk result (λ found. (map.get self.now.index.held handle.0 ≡ Some found) × (found.row.version ≡ version)) }
+        ensures no_chunk { (d : ServerDisk) → IsOpen D.seen D.may_leave self.now d → (IsErrOf result faults.NoChunk ↔ row_at d handle.0 ≡ None) }
+        ensures version { (d : ServerDisk) → IsOpen D.seen D.may_leave self.now d → (IsErrOf result faults.Version ↔ (row : Row) × (row_at d handle.0 ≡ Some row) × (row.version ≢ version)) }
+        ensures no_other { IfErr result (λ fault. (fault ≡ faults.NoChunk) ⊎ (fault ≡ faults.Version)) }
+    {
+        let Some(found) = self.index.get(handle) else {
+            return Err(StoreFault::NoChunk);
+        };
+        let held = found.row.version.0;
+        let wanted = version.0;
+        if held == wanted {
+            Ok(found)
+        } else {
+            Err(StoreFault::Version)
+        }
+    }
+
     /// The version, the last serial and the number of bytes of a replica.
     pub fn row(&self, handle: Handle) -> Option<Row>
         ensures { (d : ServerDisk) → IsOpen D.seen D.may_leave self.now d → result ≡ row_at d handle.0 }

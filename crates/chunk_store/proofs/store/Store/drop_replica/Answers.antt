@@ -1,10 +1,9 @@
-use Rattle.std.proofs.Common.{◌≡◌, Some, None, refl, sym, ap, ◌∙◌, Option}
+use Rattle.std.proofs.Common.{◌≡◌, Some, None, refl, sym, ap, ◌∙◌}
 use Rattle.redo_area.specs.Redo.{stands_for}
 use Rattle.replica_store.specs.declared.change.StoreChange.TheVariants.{Remove}
-use Rattle.replica_store.specs.declared.row.Row.{Row}
 use Rattle.store_changes.specs.Areas.{area_of}
 use Rattle.store_changes.proofs.Made.{nothing_made}
-use Rattle.chunk_store.proofs.Open.{row_found, row_known, still_open}
+use Rattle.chunk_store.proofs.StillOpen.{row_found, row_known, still_open}
 use Rattle.chunk_store.proofs.store.Store.drop_replica.Goals as goal
 
 pub returns-in_default-clause-no_chunk : goal.returns-in_default-clause-no_chunk

@@ -1,7 +1,7 @@
-use Rattle.std.proofs.Common.{◌≡◌, sym, ap, ◌∙◌}
+use Rattle.std.proofs.Common.{sym, ap, ◌∙◌}
 use Rattle.redo_area.specs.Redo.{stands_for}
 use Rattle.store_changes.specs.Areas.{area_of}
-use Rattle.chunk_store.proofs.Open.{row_found, row_known}
+use Rattle.chunk_store.proofs.StillOpen.{row_found, row_known}
 use Rattle.chunk_store.proofs.store.Store.row.Goals as goal
 
 pub returns-in_default : goal.returns-in_default

@@ -1,6 +1,6 @@
-use Rattle.std.proofs.Common.{◌≡◌, refl}
+use Rattle.std.proofs.Common.{refl}
 use Rattle.replica_store.specs.declared.change.StoreChange.TheVariants.{SetOrder}
-use Rattle.chunk_store.proofs.Open.{still_open}
+use Rattle.chunk_store.proofs.StillOpen.{still_open}
 use Rattle.chunk_store.proofs.store.Store.set_order.Goals as goal
 
 pub returns-in_err-set_order-clause-any_moment : goal.returns-in_err-set_order-clause-any_moment

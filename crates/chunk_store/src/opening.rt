@@ -1,6 +1,6 @@
 //! Opening a store.
 
-ghost use Rattle.std.specs.Prelude.{◌≡◌, ◌<◌, ◌≤◌, true, length, IfErr, IfOk};
+ghost use Rattle.std.specs.Prelude.{◌≡◌, ◌<◌, ◌≤◌, ◌%◌, true, length, IfErr, IfOk};
 ghost use Rattle.gated_disk.specs.Moments.{LeavesOnly};
 ghost use Rattle.replica_store.specs.Replicas.{ServerDisk};
 ghost use Rattle.store_format.specs.Formats.{is_head_open};
@@ -15,10 +15,11 @@ use std::alloc::Global;
 use store_layout::Layout;
 use store_opening::{OpenFault, open_disk};
 
-/// Opens a store. A disk whose head is closed is formatted, and holds no replicas.
+/// Opens a store, for chunks of whole blocks. A disk whose head is closed is formatted, and holds no replicas.
 ///
 /// An error hands the disk back. `Damaged`: the disk is another layout's. `NoMemory`: an allocator refused what the call needs. `Device`: the disk failed in this call.
 pub fn open<D: Disk>(mut disk: D, alloc: Global, layout: Layout) -> Result<Store<D>, (D, OpenFault)>
+    requires whole { layout.chunk % layout.block ≡ 0 }
     ensures open { IfOk result (λ store. (d : ServerDisk) → HoldsReplicas layout.chunk layout.block layout.slots (D.seen disk) d → IsOpen D.seen D.may_leave store d) }
     ensures layout { IfOk result (λ store. store.layout ≡ layout) }
     ensures undamaged { disk_size layout.chunk layout.block layout.slots ≤ length (D.seen disk) → is_head_open (D.seen disk) ≡ true → IsHeadOf layout.chunk layout.block layout.slots (D.seen disk) → IfErr result (λ e. e.1 ≡ faults.Damaged → ⊥) }

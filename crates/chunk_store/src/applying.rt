@@ -1,0 +1,101 @@
+//! Applying mutations.
+
+ghost use Rattle.std.specs.Prelude.{◌≡◌, ◌≢◌, ◌≤◌, ◌+◌, ◌↔◌, false, length, IfOk, OnOk, IsErrOf, None, Some};
+ghost use Rattle.replica_store.specs.declared.row.Row.{Row};
+ghost use Rattle.replica_store.specs.Replicas.{ServerDisk, disk_changed, is_writable_at, row_at};
+ghost use Rattle.store_writes.specs.Writing.{IsNoticedAt, LeavesWritten};
+ghost use Rattle.chunk_store.specs.Faults.{MayFail};
+ghost use Rattle.chunk_store.specs.Mutations.{bytes_of as bytes_value, change_of, place_of as place_value};
+ghost use Rattle.chunk_store.specs.Stores.{IsOpen};
+ghost use Rattle.chunk_store.specs.declared.fault.StoreFault.TheVariants as faults;
+
+use crate::fault::StoreFault;
+use crate::store::Store;
+use bytes::Bytes;
+use disk::Disk;
+use gfs_types::ids::{Handle, Serial, Version};
+use gfs_types::mutation::Mutation;
+use std::alloc::{AllocError, Global};
+use store_writes::write;
+
+// Where the bytes of a mutation go.
+fn place_of(mutation: &Mutation) -> u64
+    ensures { result ≡ place_value mutation.now }
+{
+    match mutation {
+        Mutation::Write(offset, _) => *offset,
+        Mutation::Append(offset, _) => *offset,
+        Mutation::Pad(offset) => *offset,
+    }
+}
+
+// The bytes that a mutation puts there: a pad has zeros up to the chunk's end.
+fn bytes_of(alloc: Global, chunk: u32, mutation: &Mutation) -> Result<Bytes, AllocError>
+    requires { place_value mutation.now ≤ chunk }
+    ensures { IfOk result (λ bytes. bytes ≡ bytes_value chunk mutation.now) }
+{
+    match mutation {
+        Mutation::Write(_, bytes) => Ok(bytes.clone()?),
+        Mutation::Append(_, bytes) => Ok(bytes.clone()?),
+        Mutation::Pad(offset) => {
+            let zeros = vec![in alloc; 0; (chunk as u64 - *offset) as usize]?;
+            Ok(Bytes::from_vec(zeros)?)
+        }
+    }
+}
+
+impl<D: Disk> Store<D> {
+    /// Applies a mutation to a replica of exactly this version, where its serial is greater than the last one. Before part of a block is written over, the first and the last block of the range are checked.
+    pub fn apply(
+        &mut self,
+        alloc: Global,
+        handle: Handle,
+        version: Version,
+        serial: Serial,
+        mutation: &Mutation,
+    ) -> Result<(), StoreFault>
+        requires is_open { (d : ServerDisk) × IsOpen D.seen D.may_leave self.old d }
+        requires place { place_value mutation.now ≤ self.old.layout.chunk }
+        requires within { place_value mutation.now + length (bytes_value self.old.layout.chunk mutation.now) ≤ self.old.layout.chunk }
+        ensures ok { (d : ServerDisk) → IsOpen D.seen D.may_leave self.old d → IsNoticedAt d handle.0
+            → OnOk result (IsOpen D.seen D.may_leave self.new (disk_changed d (change_of self.old.layout.chunk handle serial mutation.now))) }
+        ensures no_chunk { (d : ServerDisk) → IsOpen D.seen D.may_leave self.old d → (IsErrOf result faults.NoChunk ↔ row_at d handle.0 ≡ None) }
+        ensures version { (d : ServerDisk) → IsOpen D.seen D.may_leave self.old d → (IsErrOf result faults.Version ↔ (row : Row) × (row_at d handle.0 ≡ Some row) × (row.version ≢ version)) }
+        ensures old_serial { (d : ServerDisk) → IsOpen D.seen D.may_leave self.old d
+            → (IsErrOf result faults.OldSerial ↔ (row : Row) × (row_at d handle.0 ≡ Some row) × (row.version ≡ version) × (serial.0 ≤ row.serial.0)) }
+        ensures corrupt { (d : ServerDisk) → IsOpen D.seen D.may_leave self.old d → IsErrOf result faults.Corrupt
+            → is_writable_at d handle.0 (place_value mutation.now) (place_value mutation.now + length (bytes_value self.old.layout.chunk mutation.now)) ≡ false }
+        // A block that doesn't match changes nothing, and the store stays open.
+        ensures refused { (d : ServerDisk) → IsOpen D.seen D.may_leave self.old d → IsErrOf result faults.Corrupt → IsOpen D.seen D.may_leave self.new d }
+        ensures any_moment { LeavesWritten D.seen D.moment D.left_since self.old.layout.chunk self.old.layout.block self.old.layout.slots self.old.disk self.new.disk self.old.index handle.0 (change_of self.old.layout.chunk handle serial mutation.now) }
+        ensures cause { MayFail (D.failed self.old.disk) (D.failed self.new.disk) result }
+    {
+        let found = match self.find(handle, version) {
+            Ok(found) => found,
+            Err(fault) => return Err(fault),
+        };
+        let new = serial.0;
+        let last = found.row.serial.0;
+        if new <= last {
+            return Err(StoreFault::OldSerial);
+        }
+        let bytes = bytes_of(alloc, self.layout.chunk, mutation)?;
+        let place = place_of(mutation);
+        let written = write(
+            alloc,
+            &mut self.disk,
+            self.layout,
+            &mut self.index,
+            handle,
+            found,
+            serial,
+            place,
+            &bytes,
+        )?;
+        if written {
+            Ok(())
+        } else {
+            Err(StoreFault::Corrupt)
+        }
+    }
+}

@@ -1,0 +1,69 @@
+//! New replicas.
+
+ghost use Rattle.std.specs.Prelude.{◌≡◌, ◌≤◌, ◌↔◌, [], length, OnOk, IsErrOf, Some};
+ghost use Rattle.replica_store.specs.declared.change.StoreChange.TheVariants.{Put};
+ghost use Rattle.replica_store.specs.declared.row.Row.{Row};
+ghost use Rattle.replica_store.specs.Replicas.{ServerDisk, disk_changed, row_at};
+ghost use Rattle.chunk_store.specs.Faults.{MayFail};
+ghost use Rattle.chunk_store.specs.Stores.{IsOpen, LeavesChange};
+ghost use Rattle.chunk_store.specs.declared.fault.StoreFault.TheVariants as faults;
+
+use crate::fault::StoreFault;
+use crate::store::Store;
+use disk::Disk;
+use gfs_types::ids::{Handle, Serial, Version};
+use replica_store::row::Row;
+use std::alloc::Global;
+use store_changes::put_in_slot;
+
+impl<D: Disk> Store<D> {
+    /// Stores a new replica with these bytes, in the lowest free slot.
+    pub fn install(
+        &mut self,
+        alloc: Global,
+        handle: Handle,
+        version: Version,
+        serial: Serial,
+        bytes: &[u8],
+    ) -> Result<(), StoreFault>
+        requires is_open { (d : ServerDisk) × IsOpen D.seen D.may_leave self.old d }
+        requires within { length bytes.now ≤ self.old.layout.chunk }
+        ensures ok { (d : ServerDisk) → IsOpen D.seen D.may_leave self.old d → OnOk result (IsOpen D.seen D.may_leave self.new (disk_changed d (Put handle version serial bytes.now))) }
+        ensures version { (d : ServerDisk) → IsOpen D.seen D.may_leave self.old d → (IsErrOf result faults.Version ↔ (row : Row) × (row_at d handle.0 ≡ Some row)) }
+        ensures no_room { IsErrOf result faults.NoRoom → self.old.index.free ≡ [] }
+        ensures no_chunk { IsErrOf result faults.NoChunk → ⊥ }
+        ensures any_moment { LeavesChange D.seen D.moment D.left_since self.old self.new (Put handle version serial bytes.now) }
+        ensures cause { MayFail (D.failed self.old.disk) (D.failed self.new.disk) result }
+    {
+        if self.index.get(handle).is_some() {
+            return Err(StoreFault::Version);
+        }
+        let row = Row {
+            version,
+            serial,
+            count: bytes.len() as u64,
+        };
+        let Some(slot) = self.index.add(handle, row)? else {
+            return Err(StoreFault::NoRoom);
+        };
+        put_in_slot(alloc, &mut self.disk, self.layout, slot, handle, row, bytes)?;
+        Ok(())
+    }
+
+    /// Stores a new replica without bytes.
+    pub fn create(
+        &mut self,
+        alloc: Global,
+        handle: Handle,
+        version: Version,
+    ) -> Result<(), StoreFault>
+        requires is_open { (d : ServerDisk) × IsOpen D.seen D.may_leave self.old d }
+        ensures ok { (d : ServerDisk) → IsOpen D.seen D.may_leave self.old d → OnOk result (IsOpen D.seen D.may_leave self.new (disk_changed d (Put handle version (record { 0 = 0 }) []))) }
+        ensures version { (d : ServerDisk) → IsOpen D.seen D.may_leave self.old d → (IsErrOf result faults.Version ↔ (row : Row) × (row_at d handle.0 ≡ Some row)) }
+        ensures no_room { IsErrOf result faults.NoRoom → self.old.index.free ≡ [] }
+        ensures any_moment { LeavesChange D.seen D.moment D.left_since self.old self.new (Put handle version (record { 0 = 0 }) []) }
+        ensures cause { MayFail (D.failed self.old.disk) (D.failed self.new.disk) result }
+    {
+        self.install(alloc, handle, version, Serial(0), &[])
+    }
+}

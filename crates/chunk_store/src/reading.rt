@@ -1,0 +1,69 @@
+//! Reading replicas.
+
+ghost use Rattle.std.specs.Prelude.{◌≡◌, ◌≢◌, ◌↔◌, IfOk, IsErrOf, None, Some};
+ghost use Rattle.gated_disk.specs.Moments.{OnlyReads};
+ghost use Rattle.replica_store.specs.declared.row.Row.{Row};
+ghost use Rattle.replica_store.specs.Replicas.{ServerDisk, read_at, row_at};
+ghost use Rattle.chunk_store.specs.Faults.{MayFail};
+ghost use Rattle.chunk_store.specs.Images.{image_at};
+ghost use Rattle.chunk_store.specs.Stores.{IsOpen};
+ghost use Rattle.chunk_store.specs.declared.fault.StoreFault.TheVariants as faults;
+
+use crate::fault::StoreFault;
+use crate::store::Store;
+use bytes::Bytes;
+use disk::Disk;
+use gfs_types::ids::{Handle, Version};
+use std::alloc::Global;
+use store_reads::read_replica;
+
+impl<D: Disk> Store<D> {
+    /// The bytes of a replica of exactly this version from `offset` on, at most `count`; those past its end aren't there. Bytes of a block that doesn't match its digest are never answered.
+    pub fn read(
+        &mut self,
+        alloc: Global,
+        handle: Handle,
+        version: Version,
+        offset: u64,
+        count: u64,
+    ) -> Result<Bytes, StoreFault>
+        requires is_open { (d : ServerDisk) × IsOpen D.seen D.may_leave self.old d }
+        ensures ok { (d : ServerDisk) → IsOpen D.seen D.may_leave self.old d → IfOk result (λ bytes. Some bytes ≡ read_at d handle.0 offset count) }
+        ensures still_open { (d : ServerDisk) → IsOpen D.seen D.may_leave self.old d → IsOpen D.seen D.may_leave self.new d }
+        ensures no_chunk { (d : ServerDisk) → IsOpen D.seen D.may_leave self.old d → (IsErrOf result faults.NoChunk ↔ row_at d handle.0 ≡ None) }
+        ensures version { (d : ServerDisk) → IsOpen D.seen D.may_leave self.old d → (IsErrOf result faults.Version ↔ (row : Row) × (row_at d handle.0 ≡ Some row) × (row.version ≢ version)) }
+        ensures corrupt { (d : ServerDisk) → IsOpen D.seen D.may_leave self.old d → IsErrOf result faults.Corrupt → read_at d handle.0 offset count ≡ None }
+        ensures reads { OnlyReads D.seen D.may_leave D.moment D.left_since self.old.disk self.new.disk }
+        ensures cause { MayFail (D.failed self.old.disk) (D.failed self.new.disk) result }
+    {
+        let found = match self.find(handle, version) {
+            Ok(found) => found,
+            Err(fault) => return Err(fault),
+        };
+        let read = read_replica(alloc, &mut self.disk, self.layout, found, offset, count)?;
+        match read {
+            Some(bytes) => Ok(bytes),
+            None => Err(StoreFault::Corrupt),
+        }
+    }
+
+    /// All bytes of a replica of exactly this version. Nothing is answered where one of its blocks doesn't match its digest.
+    pub fn image(
+        &mut self,
+        alloc: Global,
+        handle: Handle,
+        version: Version,
+    ) -> Result<Bytes, StoreFault>
+        requires is_open { (d : ServerDisk) × IsOpen D.seen D.may_leave self.old d }
+        ensures ok { (d : ServerDisk) → IsOpen D.seen D.may_leave self.old d → IfOk result (λ bytes. Some bytes ≡ image_at d handle.0) }
+        ensures still_open { (d : ServerDisk) → IsOpen D.seen D.may_leave self.old d → IsOpen D.seen D.may_leave self.new d }
+        ensures no_chunk { (d : ServerDisk) → IsOpen D.seen D.may_leave self.old d → (IsErrOf result faults.NoChunk ↔ row_at d handle.0 ≡ None) }
+        ensures version { (d : ServerDisk) → IsOpen D.seen D.may_leave self.old d → (IsErrOf result faults.Version ↔ (row : Row) × (row_at d handle.0 ≡ Some row) × (row.version ≢ version)) }
+        ensures corrupt { (d : ServerDisk) → IsOpen D.seen D.may_leave self.old d → IsErrOf result faults.Corrupt → image_at d handle.0 ≡ None }
+        ensures reads { OnlyReads D.seen D.may_leave D.moment D.left_since self.old.disk self.new.disk }
+        ensures cause { MayFail (D.failed self.old.disk) (D.failed self.new.disk) result }
+    {
+        let count = self.length(handle).unwrap_or(0);
+        self.read(alloc, handle, version, 0, count)
+    }
+}

@@ -1,0 +1,4 @@
+pub mod Bounds
+pub mod Checked
+pub mod Ranges
+pub mod Rested
