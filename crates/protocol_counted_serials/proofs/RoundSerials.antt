@@ -271,3 +271,22 @@ has_none round (x ∷ ps) (suc place) p at same none = has_none round ps place p
 pub entry_counts : (round : ℕ) (ps : List Placed) (place : ℕ) (p : Placed) → element_at ps place ≡ Some p → p.entry.round ≡ round → (count : ℕ) → serials_of round ps ≡ first_numbers count → 1 ≤ count
 entry_counts round ps place p at same zero is = absurd (has_none round ps place p at same is)
 entry_counts round ps place p at same (suc count) is = omega arith
+
+-- a later entry of the round has a later serial
+
+later_by : (round : ℕ) (x : Placed) (ps : List Placed) (b : Bool) → (x.entry.round == round) ≡ b → (place later : ℕ) (p q : Placed) → Rise (cond b (x.serial ∷ []) [] ++ serials_of round ps) → element_at (x ∷ ps) place ≡ Some p → element_at (x ∷ ps) later ≡ Some q
+    → p.entry.round ≡ round → q.entry.round ≡ round → place < later → ((n m : ℕ) → Rise (serials_of round ps) → element_at ps n ≡ Some p → element_at ps m ≡ Some q → n < m → p.serial < q.serial) → p.serial < q.serial
+later_by round x ps b is place zero p q h at there one two less rest = absurd (omega (arith, less))
+later_by round x ps true is zero (suc m) p q h at there one two less rest = subst (λ (y : Placed). y.serial < q.serial) (same_some x p at) (all_after round x.serial ps m q h.0 there two)
+later_by round x ps true is (suc n) (suc m) p q h at there one two less rest = rest n m h.1 at there (omega (arith, less))
+later_by round x ps false is zero (suc m) p q h at there one two less rest = absurd (true≢false (sym (is_of round x p (same_some x p at) one) ∙ is))
+later_by round x ps false is (suc n) (suc m) p q h at there one two less rest = rest n m h at there (omega (arith, less))
+
+later_serials : (round : ℕ) (ps : List Placed) (place later : ℕ) (p q : Placed) → Rise (serials_of round ps) → element_at ps place ≡ Some p → element_at ps later ≡ Some q → p.entry.round ≡ round → q.entry.round ≡ round → place < later → p.serial < q.serial
+later_serials round [] place later p q h at there one two less = none_some p at
+later_serials round (x ∷ ps) place later p q h at there one two less =
+    later_by round x ps (x.entry.round == round) refl place later p q (subst Rise (serials_first round x ps) h) at there one two less (λ n m rest here also low. later_serials round ps n m p q rest here also one two low)
+
+pub later_place : (round : ℕ) (ps : List Placed) (count : ℕ) → serials_of round ps ≡ first_numbers count → (place later : ℕ) (p q : Placed) → element_at ps place ≡ Some p → element_at ps later ≡ Some q → p.entry.round ≡ round → q.entry.round ≡ round → place < later
+    → p.serial < q.serial
+later_place round ps count is place later p q at there one two less = later_serials round ps place later p q (subst Rise (sym is) (first_rise count)) at there one two less
