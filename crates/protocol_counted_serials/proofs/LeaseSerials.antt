@@ -57,7 +57,7 @@ use Rattle.protocol.specs.ServerOrders.{on_order, can_take, takes_create, raises
 use Rattle.protocol.specs.ServerStep.{server_at, asks_no_more, counting_leases, server_ticks, server_takes, server_does, server_goes, server_ends, server_step}
 use Rattle.protocol_laws.proofs.Steps.{on_cond, none_some, put_split, kept_cases, tally, count-cons, count-append}
 use Rattle.protocol_laws.proofs.Entries.{mapped_cases, kept_where_cases, same_number}
-use Rattle.protocol_numbered_once.proofs.KnownNumbers.{primary_there}
+use Rattle.protocol_new_handles.proofs.RoundsPassed.{primary_there}
 
 -- a mutation is numbered under this version of the chunk
 abbrev pub is_numbered : ℕ → ℕ → Seen → Bool

@@ -1,6 +1,6 @@
 -- In each reached world the master has passed the round of each entry at the entry's chunk. So a copy's handle is new.
-use Rattle.std.proofs.Common.{◌≡◌, ℕ, zero, suc, ◌≤◌, Bool, true, false, List, [], ◌∷◌, ◌++◌, Option, Some, None, refl, sym, ap, subst, ◌∙◌, inl, inr, arith}
-use Rattle.std.specs.Prelude.{◌==◌, unwrap_or, count_by, IsTrue}
+use Rattle.std.proofs.Common.{◌≡◌, ℕ, zero, suc, ◌≤◌, Bool, true, false, cond, List, [], ◌∷◌, ◌++◌, Option, Some, None, refl, sym, ap, subst, ◌∙◌, inl, inr, arith}
+use Rattle.std.specs.Prelude.{◌==◌, ◌&&◌, unwrap_or, count_by, IsTrue}
 use Rattle.std.specs.Ordering.{nat_cmp}
 use Rattle.std.specs.FinMap as table
 use Rattle.std.proofs.lemmas.Bool.{eqb-true, and_parts, and_from}
@@ -12,6 +12,7 @@ use Rattle.messages.specs.declared.event.Input.TheVariants as input
 use Rattle.messages.specs.declared.message.Body.{Body}
 use Rattle.messages.specs.declared.message.Body.TheVariants as body
 use Rattle.messages.specs.declared.message.Message.{Message}
+use Rattle.leases.specs.LeaseHeld.{counts_at}
 use Rattle.primary_order.specs.declared.order.SerialOrder.{SerialOrder}
 use Rattle.relaxed_file.specs.Run.{Visible}
 use Rattle.protocol.specs.Tables.{Table, element_at}
@@ -21,7 +22,7 @@ use Rattle.protocol.specs.declared.seen.Seen.{Seen}
 use Rattle.protocol.specs.declared.seen.Seen.TheVariants.{Numbered, BecameSettled, CopyStarted}
 use Rattle.protocol.specs.Observer.{Placed, observed_moment, placed_in, orders_after_all}
 use Rattle.protocol.specs.Master.{MasterState}
-use Rattle.protocol.specs.Server.{ServerState}
+use Rattle.protocol.specs.Server.{ServerState, counting_primary}
 use Rattle.protocol.specs.ServerStep.{server_at, server_step}
 use Rattle.protocol.specs.MasterStep.{master_step, master_restart}
 use Rattle.protocol.specs.ClientStep.{client_step, client_call}
@@ -40,7 +41,6 @@ use Rattle.protocol_words.proofs.MasterTalks.{restart_shown}
 use Rattle.protocol_words.proofs.ServerTalks.{step_said}
 use Rattle.protocol_entries.specs.Laws.{IsAmong}
 use Rattle.protocol_entries.proofs.Stemming.{came_in, numbered_mutations_were_asked_for}
-use Rattle.protocol_numbered_once.proofs.KnownNumbers.{primary_there}
 use Rattle.protocol_chunk_orders.proofs.Placing.{all_placed, Holds, AreAll, all_go_on, Keeps, all_keep, same_orders}
 use Rattle.protocol_chunk_orders.proofs.Numbering.{restarted_shown}
 use Rattle.protocol_acts.proofs.WaitsKept.{IsOfWaits, waits_kept}
@@ -76,6 +76,18 @@ server_shown s moment i choice = said.1
           numbers = λ m id handle version t deadline p bytes placed is asked primary new there fit. tt;
         })
         (any_data s.pushed.entries)
+
+-- a lease that counts is there, and of that version
+pub primary_there : (s : ServerState) (version : ℕ) (o : Option SerialOrder) (p : SerialOrder) → counting_primary s version o ≡ Some p → (o ≡ Some p) × (p.held.version ≡ version)
+primary_there s version None p is = none_some p is
+primary_there s version (Some q) p is = by_test ((q.held.version == version) && counts_at s.config.skew_ms q.held s.now) refl is
+  where
+    by_test : (b : Bool) → (q.held.version == version) && counts_at s.config.skew_ms q.held s.now ≡ b → cond b (Some q) None ≡ Some p → (Some q ≡ Some p) × (p.held.version ≡ version)
+    by_test true at g = (
+      g,
+      sym (ap (λ (x : SerialOrder). x.held.version) (same_some q p g)) ∙ eqb-true q.held.version version (and_parts (q.held.version == version) (counts_at s.config.skew_ms q.held s.now) at).0,
+    )
+    by_test false at g = none_some p g
 
 -- what was granted is passed
 

@@ -46,7 +46,6 @@ use Rattle.protocol_words.proofs.Histories.{after_both}
 use Rattle.protocol_words.proofs.MasterTalks.{IsCopying, master_shown, restart_shown}
 use Rattle.protocol_entries.specs.Laws.{IsAmong}
 use Rattle.protocol_entries.proofs.Stemming.{came_in, numbered_mutations_were_asked_for}
-use Rattle.protocol_numbered_once.proofs.KnownNumbers.{primary_there}
 use Rattle.protocol_chunk_orders.specs.Laws.{unsettled}
 use Rattle.protocol_chunk_orders.proofs.Placing.{all_placed, Holds, AreAll, all_keep, same_orders}
 use Rattle.protocol_chunk_orders.proofs.Numbering.{restarted_shown}
@@ -54,7 +53,7 @@ use Rattle.protocol_one_entry.proofs.OnceShown.{NumbersNone, step_once}
 use Rattle.protocol_acts.proofs.WaitsKept.{IsOfWaits, waits_kept}
 use Rattle.protocol_new_handles.proofs.GrantsFollow.{GrantsAbove, step_passed}
 use Rattle.protocol_new_handles.proofs.CopiesBegun.{step_shows}
-use Rattle.protocol_new_handles.proofs.RoundsPassed.{IsOfServers, server_shown, rounds_passed, unused_is_new}
+use Rattle.protocol_new_handles.proofs.RoundsPassed.{IsOfServers, server_shown, rounds_passed, unused_is_new, primary_there}
 use Rattle.protocol_rising_rounds.specs.Laws.{LowerLeasesAreOver, EntriesAreOfGrantedRounds, RoundsOfOrdersRise}
 use Rattle.protocol_rising_rounds.proofs.SentGrants.{counted_one, some_counted, AreAbove, above_more, quiet_above, above_counted, none_granted}
 use Rattle.protocol_rising_rounds.proofs.OrderedOrders.{ArePaired, AreAllOrdered, none_ordered, IsNext, none_keep, once_keep, two_places}
