@@ -1,0 +1,2 @@
+pub mod ServerCauses
+pub mod Forwards

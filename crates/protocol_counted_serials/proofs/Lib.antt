@@ -1,0 +1,3 @@
+pub mod LeaseSerials
+pub mod RoundSerials
+pub mod CountedRounds

@@ -1,0 +1,2 @@
+pub mod HadLeases
+pub mod HeldRounds

@@ -1,0 +1,4 @@
+pub mod GrantsFollow
+pub mod ShownAlone
+pub mod CopiesBegun
+pub mod RoundsPassed

@@ -1,0 +1,4 @@
+pub mod SentGrants
+pub mod OrderedOrders
+pub mod RisingRounds
+pub mod CopiesBegin
