@@ -1,17 +1,16 @@
 //! The places of a running cell's nodes are dealt out: the master's, then the servers', then the clients'.
 
-ghost use Rattle.std.specs.Prelude.{◌≡◌, ◌≤◌, ◌<◌, ◌+◌, ◌^◌, IfOk, IfSome, OnErr, OnOk};
+ghost use Rattle.std.specs.Prelude.{◌≡◌, ◌<◌, ◌+◌, ◌^◌, IfOk, IfSome, OnErr, OnOk};
 ghost use Rattle.std.specs.Arc.{arc_value};
 ghost use Rattle.cell_journal.specs.Roles.{node_at};
-ghost use Rattle.cell_journal.specs.Rules.{IsJournalOf};
 ghost use Rattle.journal_steps.specs.Places.{IsAt};
-ghost use Rattle.cell_run.specs.Dealing.{Deals, IsDealt, IsSeenBy};
+ghost use Rattle.cell_dealer.specs.Dealing.{Deals, IsDealt, IsSeenBy};
 
+use cell_desk::desk::Desk;
+use cell_desk::hall::Hall;
 use cell_journal::Place;
 use cell_journal::steps::next;
 use cell_seat::journal::Journal;
-use cell_desk::desk::Desk;
-use cell_desk::hall::Hall;
 use gfs_types::config::Config;
 use gfs_types::ids::Node;
 use gfs_types::no_memory::NoMemory;
@@ -55,10 +54,15 @@ impl Dealer {
         look(rt, &self.hall.table.shared, &mut self.place)
     }
 
-    /// Closes the journal.
-    pub fn close<R: Wait + Clock>(&mut self, rt: &R) -> Journal
-        ensures { result.pages.cell ≡ self.old.place.me.0.of }
+    /// Closes the journal. Nothing is added to it any more.
+    pub fn close<R: Wait + Clock>(self, rt: &R) -> Journal
+        ensures { result.cell ≡ self.place.me.0.of }
     {
-        Journal::new(close(rt, &self.hall.table.shared, &mut self.place))
+        let Dealer {
+            hall,
+            mut place,
+            ..
+        } = self;
+        Journal::new(close(rt, &hall.table.shared, &mut place))
     }
 }
