@@ -1,7 +1,6 @@
 //! A call of a client, until it is answered.
 
-ghost use Rattle.std.specs.Prelude.{◌≡◌, ◌++◌, ◌∷◌, [], IfOk, IfSome};
-ghost use Rattle.cell_slot.specs.Slots.{IsLedTo};
+ghost use Rattle.std.specs.Prelude.{◌≡◌, ◌++◌, ◌∷◌, [], IfOk};
 ghost use Rattle.cell_asking.specs.Seen.{visible_of, IsFurther, HasSeen, Hears, IsHeard, Asked as CallAsked, Answered as CallAnswered};
 
 use cell_desk::post::Letter;
@@ -33,12 +32,10 @@ pub fn ask<R: Wait + Clock, N: Stepper + Drop>(
     inbox: &Receiver<Letter>,
     call: Call,
 ) -> Result<Heard, Refusal>
-    requires led { IfSome slot.old.node (λ n. IsLedTo slot.old.desk.place.me.0 slot.old.desk.node (N.stands n)) }
-    ensures node { slot.new.desk.node ≡ slot.old.desk.node }
-    ensures led { IfSome slot.new.node (λ n. IsLedTo slot.new.desk.place.me.0 slot.new.desk.node (N.stands n)) }
-    ensures further { IsFurther slot.old.desk.place.me.0 slot.new.desk.place.me.0 }
-    ensures shows { IfOk result (λ h. visible_of slot.new.desk.place.me.0.mine ≡ visible_of slot.old.desk.place.me.0.mine ++ CallAsked call ∷ CallAnswered h.answer ∷ []) }
-    ensures seen { IfOk result (λ h. HasSeen slot.new.desk.node slot.new.desk.place.me.0 h.beginning h.count) }
+    ensures node { slot.new.node ≡ slot.old.node }
+    ensures further { IsFurther slot.old.place slot.new.place }
+    ensures shows { IfOk result (λ h. visible_of slot.new.place.mine ≡ visible_of slot.old.place.mine ++ CallAsked call ∷ CallAnswered h.answer ∷ []) }
+    ensures seen { IfOk result (λ h. HasSeen slot.new.node slot.new.place h.beginning h.count) }
 {
     if let Some(heard) = begin(rt, slot, call)? {
         return Ok(heard);
@@ -57,11 +54,9 @@ fn begin<R: Wait + Clock, N: Stepper + Drop>(
     slot: &mut Slot<N>,
     call: Call,
 ) -> Result<Option<Heard>, Refusal>
-    requires led { IfSome slot.old.node (λ n. IsLedTo slot.old.desk.place.me.0 slot.old.desk.node (N.stands n)) }
-    ensures node { slot.new.desk.node ≡ slot.old.desk.node }
-    ensures led { IfSome slot.new.node (λ n. IsLedTo slot.new.desk.place.me.0 slot.new.desk.node (N.stands n)) }
-    ensures further { IsFurther slot.old.desk.place.me.0 slot.new.desk.place.me.0 }
-    ensures ok { IfOk result (λ h. Hears slot.new.desk.node (visible_of slot.old.desk.place.me.0.mine ++ CallAsked call ∷ []) slot.new.desk.place.me.0 h) }
+    ensures node { slot.new.node ≡ slot.old.node }
+    ensures further { IsFurther slot.old.place slot.new.place }
+    ensures ok { IfOk result (λ h. Hears slot.new.node (visible_of slot.old.place.mine ++ CallAsked call ∷ []) slot.new.place h) }
 {
     what_is_heard(slot.call(rt, call)?)
 }
@@ -72,11 +67,9 @@ fn hear<R: Wait + Clock, N: Stepper + Drop>(
     slot: &mut Slot<N>,
     inbox: &Receiver<Letter>,
 ) -> Result<Option<Heard>, Refusal>
-    requires led { IfSome slot.old.node (λ n. IsLedTo slot.old.desk.place.me.0 slot.old.desk.node (N.stands n)) }
-    ensures node { slot.new.desk.node ≡ slot.old.desk.node }
-    ensures led { IfSome slot.new.node (λ n. IsLedTo slot.new.desk.place.me.0 slot.new.desk.node (N.stands n)) }
-    ensures further { IsFurther slot.old.desk.place.me.0 slot.new.desk.place.me.0 }
-    ensures ok { IfOk result (λ h. Hears slot.new.desk.node (visible_of slot.old.desk.place.me.0.mine) slot.new.desk.place.me.0 h) }
+    ensures node { slot.new.node ≡ slot.old.node }
+    ensures further { IsFurther slot.old.place slot.new.place }
+    ensures ok { IfOk result (λ h. Hears slot.new.node (visible_of slot.old.place.mine) slot.new.place h) }
 {
     let Ok(letter) = inbox.recv(rt) else {
         return Err(Refusal::Closed);

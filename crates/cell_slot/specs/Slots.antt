@@ -16,6 +16,14 @@ use Rattle.journal_steps.specs.Places.{GoesOn, IsSeen}
 use Rattle.cell_desk.specs.declared.post.Input.{Input}
 use Rattle.cell_desk.specs.declared.post.Input.TheVariants.{Deliver, Tick, Restart}
 
+-- a node, and what its place knows
+pub record SlotState : Type 0 where
+  pub node : Node
+  pub place : View
+
+abbrev pub slot_state : Node → View → SlotState
+slot_state node place = record { node = node; place = place }
+
 -- The step of a node gave this, for some choice; the code's node stands for the state to which it led.
 pub record StepsSo (s : NodeState) (moment : ℕ) (taking : Taking) (out : StepOut) (Stands : NodeState → Type 0) : Type 0 where
   pub choice : Choice

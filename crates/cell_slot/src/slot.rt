@@ -5,11 +5,12 @@ ghost use Rattle.protocol.specs.Tables.{moment_limit};
 ghost use Rattle.protocol_journal.specs.Journal.{NodeState, sent_after, IsForNode, may_take, Calls as CallTaken};
 ghost use Rattle.journal_pages.specs.Entries.{taking_of};
 ghost use Rattle.journal_steps.specs.Places.{IsLater};
-ghost use Rattle.cell_slot.specs.Slots.{IsLedTo, IsTakenOn, number_in, StepTaken, ActsOn, Acts};
+ghost use Rattle.cell_slot.specs.Slots.{slot_state, IsLedTo, IsTakenOn, number_in, StepTaken, ActsOn, Acts};
 
 use crate::gate::Gate;
 use crate::stepper::Stepper;
 use cell_desk::desk::Desk;
+use cell_desk::hall::Hall;
 use cell_desk::post::Input;
 use gfs_types::answer::Answer;
 use gfs_types::call::Call;
@@ -21,16 +22,28 @@ use journal_pages::entry::{Entry, Taking};
 use messages::event::Input as NodeInput;
 use messages::message::Message;
 use std::alloc::Global;
+use std::marker::Model;
 use std::sync::Wait;
 use std::time::Clock;
 
 /// A node with its place. A node that took a step while the journal was closed is gone. While it is there, its own steps in the journal
-/// led to the state in which it is: each function below wants that and leaves it so (`led`).
+/// led to the state in which it is.
 #[derive(Drop)]
 pub struct Slot<N: Stepper + Drop> {
     alloc: Global,
-    pub desk: Desk,
-    pub node: Option<N>,
+    desk: Desk,
+    node: Option<N>,
+}
+
+impl<N: Stepper + Drop> Model for Slot<N> {
+    ghost use Rattle.std.specs.Prelude.{IfSome};
+    ghost use Rattle.cell_slot.specs.Slots.{SlotState, slot_state, IsLedTo};
+
+    ghost Value = { SlotState };
+
+    ghost view = { λ s. slot_state s.desk.node s.desk.place.me.0 };
+
+    ghost invariant = { λ s. IfSome s.node (λ n. IsLedTo s.desk.place.me.0 s.desk.node (N.stands n)) };
 }
 
 /// What a step gave its caller: a copy of its answer, if there was one, and the journal as it was then, with its length.
@@ -43,7 +56,8 @@ pub struct Taken {
 
 impl<N: Stepper + Drop> Slot<N> {
     pub fn new(alloc: Global, desk: Desk, node: N) -> Slot<N>
-        ensures { (result.desk ≡ desk) × (result.node ≡ Some node) }
+        requires led { IsLedTo desk.place.me.0 desk.node (N.stands node) }
+        ensures { result ≡ slot_state desk.node desk.place.me.0 }
     {
         Slot {
             alloc,
@@ -52,12 +66,22 @@ impl<N: Stepper + Drop> Slot<N> {
         }
     }
 
+    /// The node, while it is there. Its own steps led to the state in which it is.
+    pub fn node(&self) -> Option<&N>
+        ensures { IfSome result (λ n. IsLedTo self.now.place self.now.node (N.stands n.now)) }
+    {
+        self.node.as_ref()
+    }
+
+    /// What it shares with the other nodes of its cell.
+    pub fn hall(&self) -> &Hall {
+        &self.desk.hall
+    }
+
     /// Takes one step and adds it to the journal, or none and answers false.
     pub fn act<R: Wait + Clock, G: Gate>(&mut self, rt: &R, input: Input, gate: &G) -> bool
-        requires led { IfSome self.old.node (λ n. IsLedTo self.old.desk.place.me.0 self.old.desk.node (N.stands n)) }
-        ensures node { self.new.desk.node ≡ self.old.desk.node }
-        ensures led { IfSome self.new.node (λ n. IsLedTo self.new.desk.place.me.0 self.new.desk.node (N.stands n)) }
-        ensures acts { MatchBool result (Acts self.old.desk.node self.old.desk.place.me.0 self.new.desk.place.me.0 input) (IsLater self.old.desk.place.me.0 self.new.desk.place.me.0) }
+        ensures node { self.new.node ≡ self.old.node }
+        ensures acts { MatchBool result (Acts self.old.node self.old.place self.new.place input) (IsLater self.old.place self.new.place) }
     {
         match self.take(rt, input, gate) {
             Ok(_) => true,
@@ -72,93 +96,137 @@ impl<N: Stepper + Drop> Slot<N> {
         input: Input,
         gate: &G,
     ) -> Result<Taken, Refusal>
-        requires led { IfSome self.old.node (λ n. IsLedTo self.old.desk.place.me.0 self.old.desk.node (N.stands n)) }
-        ensures node { self.new.desk.node ≡ self.old.desk.node }
-        ensures led { IfSome self.new.node (λ n. IsLedTo self.new.desk.place.me.0 self.new.desk.node (N.stands n)) }
-        ensures ok { IfOk result (λ t. ActsOn self.old.desk.node self.old.desk.place.me.0 self.new.desk.place.me.0 input t.answer t.beginning t.count) }
-        ensures err { OnErr result (IsLater self.old.desk.place.me.0 self.new.desk.place.me.0) }
+        ensures node { self.new.node ≡ self.old.node }
+        ensures ok { IfOk result (λ t. ActsOn self.old.node self.old.place self.new.place input t.answer t.beginning t.count) }
+        ensures err { OnErr result (IsLater self.old.place self.new.place) }
     {
-        let message = self.desk.begin(rt, number_of(input))?;
-        let taking = taking_on(input, message);
-        gate.before(self.desk.node, &taking);
-        self.steps(rt, taking)
+        take_in(rt, self.alloc, &mut self.desk, &mut self.node, input, gate)
     }
 
     /// A call.
     pub fn call<R: Wait + Clock>(&mut self, rt: &R, call: Call) -> Result<Taken, Refusal>
-        requires led { IfSome self.old.node (λ n. IsLedTo self.old.desk.place.me.0 self.old.desk.node (N.stands n)) }
-        ensures node { self.new.desk.node ≡ self.old.desk.node }
-        ensures led { IfSome self.new.node (λ n. IsLedTo self.new.desk.place.me.0 self.new.desk.node (N.stands n)) }
-        ensures ok { IfOk result (λ t. StepTaken self.old.desk.node self.old.desk.place.me.0 self.new.desk.place.me.0 (CallTaken call) t.answer t.beginning t.count) }
-        ensures err { OnErr result (IsLater self.old.desk.place.me.0 self.new.desk.place.me.0) }
+        ensures node { self.new.node ≡ self.old.node }
+        ensures ok { IfOk result (λ t. StepTaken self.old.node self.old.place self.new.place (CallTaken call) t.answer t.beginning t.count) }
+        ensures err { OnErr result (IsLater self.old.place self.new.place) }
     {
-        self.desk.begin(rt, None)?;
-        self.steps(rt, Taking::Calls(call))
+        call_in(rt, self.alloc, &mut self.desk, &mut self.node, call)
     }
+}
 
-    // A step for which there is room.
-    fn steps<R: Wait + Clock>(&mut self, rt: &R, taking: Taking) -> Result<Taken, Refusal>
-        requires led { IfSome self.old.node (λ n. IsLedTo self.old.desk.place.me.0 self.old.desk.node (N.stands n)) }
-        requires room { 0 < self.old.desk.place.me.0.rooms }
-        requires reads { IsForNode (sent_after [] self.old.desk.place.me.0.seen) self.old.desk.node (taking_of taking) }
-        ensures node { self.new.desk.node ≡ self.old.desk.node }
-        ensures led { IfSome self.new.node (λ n. IsLedTo self.new.desk.place.me.0 self.new.desk.node (N.stands n)) }
-        ensures ok { IfOk result (λ t. StepTaken self.old.desk.node self.old.desk.place.me.0 self.new.desk.place.me.0 (taking_of taking) t.answer t.beginning t.count) }
-        ensures err { OnErr result (IsLater self.old.desk.place.me.0 self.new.desk.place.me.0) }
-    {
-        match self.ready(rt, &taking) {
-            Ok(now) => self.goes(rt, now, taking),
-            Err(refusal) => {
-                self.desk.give_up(rt);
-                Err(refusal)
+// A step of a node on what an input names.
+fn take_in<R: Wait + Clock, N: Stepper + Drop, G: Gate>(
+    rt: &R,
+    alloc: Global,
+    desk: &mut Desk,
+    node: &mut Option<N>,
+    input: Input,
+    gate: &G,
+) -> Result<Taken, Refusal>
+    requires led { IfSome node.old (λ n. IsLedTo desk.old.place.me.0 desk.old.node (N.stands n)) }
+    ensures node { desk.new.node ≡ desk.old.node }
+    ensures led { IfSome node.new (λ n. IsLedTo desk.new.place.me.0 desk.new.node (N.stands n)) }
+    ensures ok { IfOk result (λ t. ActsOn desk.old.node desk.old.place.me.0 desk.new.place.me.0 input t.answer t.beginning t.count) }
+    ensures err { OnErr result (IsLater desk.old.place.me.0 desk.new.place.me.0) }
+{
+    let message = desk.begin(rt, number_of(input))?;
+    let taking = taking_on(input, message);
+    gate.before(desk.node, &taking);
+    steps(rt, alloc, desk, node, taking)
+}
+
+// A step of a node on a call.
+fn call_in<R: Wait + Clock, N: Stepper + Drop>(
+    rt: &R,
+    alloc: Global,
+    desk: &mut Desk,
+    node: &mut Option<N>,
+    call: Call,
+) -> Result<Taken, Refusal>
+    requires led { IfSome node.old (λ n. IsLedTo desk.old.place.me.0 desk.old.node (N.stands n)) }
+    ensures node { desk.new.node ≡ desk.old.node }
+    ensures led { IfSome node.new (λ n. IsLedTo desk.new.place.me.0 desk.new.node (N.stands n)) }
+    ensures ok { IfOk result (λ t. StepTaken desk.old.node desk.old.place.me.0 desk.new.place.me.0 (CallTaken call) t.answer t.beginning t.count) }
+    ensures err { OnErr result (IsLater desk.old.place.me.0 desk.new.place.me.0) }
+{
+    desk.begin(rt, None)?;
+    steps(rt, alloc, desk, node, Taking::Calls(call))
+}
+
+// A step for which there is room.
+fn steps<R: Wait + Clock, N: Stepper + Drop>(
+    rt: &R,
+    alloc: Global,
+    desk: &mut Desk,
+    node: &mut Option<N>,
+    taking: Taking,
+) -> Result<Taken, Refusal>
+    requires led { IfSome node.old (λ n. IsLedTo desk.old.place.me.0 desk.old.node (N.stands n)) }
+    requires room { 0 < desk.old.place.me.0.rooms }
+    requires reads { IsForNode (sent_after [] desk.old.place.me.0.seen) desk.old.node (taking_of taking) }
+    ensures node { desk.new.node ≡ desk.old.node }
+    ensures led { IfSome node.new (λ n. IsLedTo desk.new.place.me.0 desk.new.node (N.stands n)) }
+    ensures ok { IfOk result (λ t. StepTaken desk.old.node desk.old.place.me.0 desk.new.place.me.0 (taking_of taking) t.answer t.beginning t.count) }
+    ensures err { OnErr result (IsLater desk.old.place.me.0 desk.new.place.me.0) }
+{
+    match ready(rt, desk, node, &taking) {
+        Ok(now) => goes(rt, alloc, desk, node, now, taking),
+        Err(refusal) => {
+            desk.give_up(rt);
+            Err(refusal)
+        }
+    }
+}
+
+// The moment of a step on this, if the node takes one.
+fn ready<R: Clock, N: Stepper + Drop>(
+    rt: &R,
+    desk: &Desk,
+    node: &Option<N>,
+    taking: &Taking,
+) -> Result<Moment, Refusal>
+    ensures moment { IfOk result (λ m. m.0 ≤ moment_limit) }
+    ensures some { OnOk result (IsSome node.now) }
+    ensures may { OnOk result ((n : N) → node.now ≡ Some n → (s : NodeState) → N.stands n s → IsTrue (may_take s (taking_of taking.now))) }
+{
+    let Some(now) = desk.now(rt) else {
+        return Err(Refusal::ClockBroken);
+    };
+    if may_take(node, taking) {
+        Ok(now)
+    } else {
+        Err(Refusal::Closed)
+    }
+}
+
+// A step that the node takes.
+fn goes<R: Wait + Clock, N: Stepper + Drop>(
+    rt: &R,
+    alloc: Global,
+    desk: &mut Desk,
+    node: &mut Option<N>,
+    now: Moment,
+    taking: Taking,
+) -> Result<Taken, Refusal>
+    requires led { IfSome node.old (λ n. IsLedTo desk.old.place.me.0 desk.old.node (N.stands n)) }
+    requires moment { now.0 ≤ moment_limit }
+    requires some { IsSome node.old }
+    requires may { (n : N) → node.old ≡ Some n → (s : NodeState) → N.stands n s → IsTrue (may_take s (taking_of taking)) }
+    requires room { 0 < desk.old.place.me.0.rooms }
+    requires reads { IsForNode (sent_after [] desk.old.place.me.0.seen) desk.old.node (taking_of taking) }
+    ensures node { desk.new.node ≡ desk.old.node }
+    ensures led { IfSome node.new (λ n. IsLedTo desk.new.place.me.0 desk.new.node (N.stands n)) }
+    ensures ok { IfOk result (λ t. StepTaken desk.old.node desk.old.place.me.0 desk.new.place.me.0 (taking_of taking) t.answer t.beginning t.count) }
+    ensures err { OnErr result (IsLater desk.old.place.me.0 desk.new.place.me.0) }
+{
+    match node.take() {
+        Some(taker) => match step_with(desk, rt, alloc, taker, now, taking) {
+            Some(went) => {
+                *node = Some(went.node);
+                Ok(went.taken)
             }
-        }
-    }
-
-    // The moment of a step on this, if the node takes one.
-    fn ready<R: Clock>(&self, rt: &R, taking: &Taking) -> Result<Moment, Refusal>
-        ensures moment { IfOk result (λ m. m.0 ≤ moment_limit) }
-        ensures some { OnOk result (IsSome self.now.node) }
-        ensures may { OnOk result ((n : N) → self.now.node ≡ Some n → (s : NodeState) → N.stands n s → IsTrue (may_take s (taking_of taking.now))) }
-    {
-        let Some(now) = self.desk.now(rt) else {
-            return Err(Refusal::ClockBroken);
-        };
-        if may_take(&self.node, taking) {
-            Ok(now)
-        } else {
-            Err(Refusal::Closed)
-        }
-    }
-
-    // A step that the node takes.
-    fn goes<R: Wait + Clock>(
-        &mut self,
-        rt: &R,
-        now: Moment,
-        taking: Taking,
-    ) -> Result<Taken, Refusal>
-        requires led { IfSome self.old.node (λ n. IsLedTo self.old.desk.place.me.0 self.old.desk.node (N.stands n)) }
-        requires moment { now.0 ≤ moment_limit }
-        requires some { IsSome self.old.node }
-        requires may { (n : N) → self.old.node ≡ Some n → (s : NodeState) → N.stands n s → IsTrue (may_take s (taking_of taking)) }
-        requires room { 0 < self.old.desk.place.me.0.rooms }
-        requires reads { IsForNode (sent_after [] self.old.desk.place.me.0.seen) self.old.desk.node (taking_of taking) }
-        ensures node { self.new.desk.node ≡ self.old.desk.node }
-        ensures led { IfSome self.new.node (λ n. IsLedTo self.new.desk.place.me.0 self.new.desk.node (N.stands n)) }
-        ensures ok { IfOk result (λ t. StepTaken self.old.desk.node self.old.desk.place.me.0 self.new.desk.place.me.0 (taking_of taking) t.answer t.beginning t.count) }
-        ensures err { OnErr result (IsLater self.old.desk.place.me.0 self.new.desk.place.me.0) }
-    {
-        match self.node.take() {
-            Some(node) => match step_with(&mut self.desk, rt, self.alloc, node, now, taking) {
-                Some(went) => {
-                    self.node = Some(went.node);
-                    Ok(went.taken)
-                }
-                None => Err(Refusal::Closed),
-            },
-            None => unreachable!(),
-        }
+            None => Err(Refusal::Closed),
+        },
+        None => unreachable!(),
     }
 }
 
