@@ -340,7 +340,7 @@ module _ (F : DataId → Type 0) where
   -- A server s that takes an input: what a new attempt comes to, and what no member says.
   module _ (s : ServerState) (i : Input)
       (anew : (m : Message) (id : DataId) (q : Handle) (v : VersionId) (t : Target) (deadline : Moment) (p : SerialOrder) → i ≡ input.Deliver m → m.body ≡ body.Mutate id q v t deadline → primary_of s q.0 v.0 ≡ Some p → attempted p id.client id.seq ≡ IsNew
-          → IsFullEnd (server_begins s) q.0 p id (mutates_under (server_begins s) q.0 id t deadline.0 (primary_of s q.0 v.0)) → F id)
+      → IsFullEnd (server_begins s) q.0 p id (mutates_under (server_begins s) q.0 id t deadline.0 (primary_of s q.0 v.0)) → F id)
       (nacked : (m : Message) (q : Handle) (v : VersionId) (serial : Serial) (refusal : Refusal) → i ≡ input.Deliver m → m.body ≡ body.Nacked q v serial refusal → IsOther refusal) where
     abbrev D : ServerDoing
     D = server_begins s
@@ -410,7 +410,7 @@ module _ (F : DataId → Type 0) where
 
   pub step_leaves : (s : ServerState) (moment : ℕ) (i : Input) (choice : Choice)
       → ((m : Message) (id : DataId) (q : Handle) (v : VersionId) (t : Target) (deadline : Moment) (p : SerialOrder) → i ≡ input.Deliver m → m.body ≡ body.Mutate id q v t deadline → primary_of (server_at s moment) q.0 v.0 ≡ Some p → attempted p id.client id.seq ≡ IsNew
-          → IsFullEnd (server_begins (server_at s moment)) q.0 p id (mutates_under (server_begins (server_at s moment)) q.0 id t deadline.0 (primary_of (server_at s moment) q.0 v.0)) → F id)
+      → IsFullEnd (server_begins (server_at s moment)) q.0 p id (mutates_under (server_begins (server_at s moment)) q.0 id t deadline.0 (primary_of (server_at s moment) q.0 v.0)) → F id)
       → ((m : Message) (q : Handle) (v : VersionId) (serial : Serial) (refusal : Refusal) → i ≡ input.Deliver m → m.body ≡ body.Nacked q v serial refusal → IsOther refusal) → AreRight F s.leases → Leaves (server_step s moment i choice)
   step_leaves s moment i choice anew nacked h =
       on_cond Leaves s.up (server_ends s (server_goes s moment i) choice choice.ending) (no_step s)
