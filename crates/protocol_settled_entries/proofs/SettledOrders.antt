@@ -1,5 +1,5 @@
 -- What is kept of one chunk's order by what a step shows: an entry that was placed, and that all entries of a serial are settled.
-use Rattle.std.proofs.Common.{true≢false, ◌≡◌, ℕ, zero, suc, ◌+◌, Bool, true, false, List, [], ◌∷◌, ◌++◌, map, Option, Some, refl, sym, ap, subst, ◌∙◌, inl, inr}
+use Rattle.std.proofs.Common.{true≢false, ◌≡◌, ℕ, zero, suc, Bool, true, false, List, [], ◌∷◌, ◌++◌, map, Option, Some, refl, sym, ap, subst, ◌∙◌, inl, inr}
 use Rattle.std.specs.Prelude.{unwrap_or, ◌==◌, ◌&&◌}
 use Rattle.std.specs.FinMap as table
 use Rattle.std.proofs.lemmas.Bool.{eqb-false}

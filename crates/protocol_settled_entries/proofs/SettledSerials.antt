@@ -37,7 +37,7 @@ use Rattle.primary_order.specs.declared.kept.Standing.TheVariants.{IsPending, Is
 use Rattle.primary_order.specs.declared.waiting.Waiting.{Waiting}
 use Rattle.primary_order.specs.declared.order.SerialOrder.{SerialOrder}
 use Rattle.primary_order.specs.PrimaryOrder.{place_of, settled_by, success_of, is_last}
-use Rattle.primary_order.specs.SerialOrder.{attempted, numbered, settled, acknowledged, refused_by, attempt_of}
+use Rattle.primary_order.specs.SerialOrder.{attempted, numbered, acknowledged, refused_by, attempt_of}
 use Rattle.protocol.specs.Tables.{counter_limit, without}
 use Rattle.protocol.specs.Sending.{handle_of, version_of, serial_of, server_number}
 use Rattle.protocol.specs.PushBuffer.{next_hop}

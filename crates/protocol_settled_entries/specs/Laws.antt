@@ -1,5 +1,5 @@
 -- The laws of every lawful list of events on successes and entries of chunks' orders, that public functions of this crate state.
-use Rattle.std.specs.Prelude.{◌≡◌, ℕ, suc, true, List, Option, Some}
+use Rattle.std.specs.Prelude.{◌≡◌, ℕ, suc, true, List, Some}
 use Rattle.gfs_types.specs.declared.config.Config.{Config}
 use Rattle.gfs_types.specs.declared.ids.DataId.{DataId}
 use Rattle.messages.specs.declared.event.Event.{Event}
