@@ -69,7 +69,7 @@ map_after w Q R go q =
 each_good : (w : WorldState) (handle : ℕ) (Good : List Placed → Type 0) → Good (order_of w.observer handle)
     → ((moment : ℕ) (i : Input) (choice : Choice) → AllOf (IsKept (observed_moment w.config.skew_ms w.observer moment).trace handle Good) (master_step w.master moment i choice).seen)
     → ((index moment : ℕ) (s : ServerState) (i : Input) (choice : Choice) → element_at w.servers index ≡ Some s → ((m : Message) → i ≡ input.Deliver m → IsAmong w.sent m)
-        → AllOf (IsKept (observed_moment w.config.skew_ms w.observer moment).trace handle Good) (server_step s moment i choice).seen)
+    → AllOf (IsKept (observed_moment w.config.skew_ms w.observer moment).trace handle Good) (server_step s moment i choice).seen)
     → HoldsAfter w (λ e x. Good (order_of x.world.observer handle))
 each_good w handle Good h masters servers =
     record {

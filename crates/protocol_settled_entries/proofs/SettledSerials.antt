@@ -242,7 +242,7 @@ module _ (S : Seen → Type 0) where
 
   under_fine : (d : ServerDoing) (q : ℕ) (id : DataId) (t : Target) (deadline : ℕ) (o : Option SerialOrder)
       → ((p : SerialOrder) → o ≡ Some p → attempted p id.client id.seq ≡ IsNew
-          → ((m : Mutation) → S (Numbered (handle_of q) (version_of p.held.version) (serial_of (p.serial + 1)) id m)) × S (BecameSettled (handle_of q) (version_of p.held.version) (serial_of (p.serial + 1))))
+      → ((m : Mutation) → S (Numbered (handle_of q) (version_of p.held.version) (serial_of (p.serial + 1)) id m)) × S (BecameSettled (handle_of q) (version_of p.held.version) (serial_of (p.serial + 1))))
       → Fine d → Fine (mutates_under d q id t deadline o)
   under_fine d q id t deadline None due h = h
   under_fine d q id t deadline (Some p) due h =
