@@ -190,12 +190,12 @@ knowing : (config : Config) (servers clients : ℕ) (w : WorldState) → IsReach
     → ((m : Message) → i ≡ input.Deliver m → IsAmong w.sent m) → (G : ℕ → ℕ → Type 0)
     → (m : Message) (id : DataId) (handle : Handle) (version : Version) (t : Target) (deadline : Moment) (p : SerialOrder) → i ≡ input.Deliver m → m.body ≡ body.Mutate id handle version t deadline → primary_of (server_at s moment) handle.0 version.0 ≡ Some p
     → Knowing (λ x. IsUsed (after_server w index moment (server_step s moment i choice)).world x) G (server_begins (server_at s moment)) handle.0 p id
-        (mutates_under (server_begins (server_at s moment)) handle.0 id t deadline.0 (primary_of (server_at s moment) handle.0 version.0))
+    (mutates_under (server_begins (server_at s moment)) handle.0 id t deadline.0 (primary_of (server_at s moment) handle.0 version.0))
 knowing config servers clients w r index moment s i choice at up came G m id handle version t deadline p is asked primary = (
   λ old. new_used config servers clients w r index moment s i choice at up came m id handle version t deadline p is asked primary (does_fit (Knows id) (knows_keeps id) handle.0 version.0 (server_at s moment) i none_granted i refl (held_known old)),
   λ new end. new_used config servers clients w r index moment s i choice at up came m id handle version t deadline p is asked primary
-  (subst (λ (x : ServerDoing). AreFit (Knows id) handle.0 version.0 x.server.leases) (sym (goes_is s moment i m id handle version t deadline is asked))
-  (end_done id handle.0 version.0 (server_begins (server_at s moment)) (mutates_under (server_begins (server_at s moment)) handle.0 id t deadline.0 (primary_of (server_at s moment) handle.0 version.0)) p end)),
+      (subst (λ (x : ServerDoing). AreFit (Knows id) handle.0 version.0 x.server.leases) (sym (goes_is s moment i m id handle version t deadline is asked))
+      (end_done id handle.0 version.0 (server_begins (server_at s moment)) (mutates_under (server_begins (server_at s moment)) handle.0 id t deadline.0 (primary_of (server_at s moment) handle.0 version.0)) p end)),
 )
   where
     held : (table.get s.leases handle.0 ≡ Some p) × (p.held.version ≡ version.0)

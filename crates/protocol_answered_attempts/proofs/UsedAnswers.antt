@@ -351,7 +351,7 @@ module _ (F : DataId → Type 0) (G : ℕ → ℕ → Type 0) where
   -- A server s that takes an input: what it knows of an attempt that is asked for, and who asks for readings.
   module _ (s : ServerState) (i : Input)
       (knows : (m : Message) (id : DataId) (q : Handle) (v : VersionId) (t : Target) (deadline : Moment) (p : SerialOrder) → i ≡ input.Deliver m → m.body ≡ body.Mutate id q v t deadline → primary_of s q.0 v.0 ≡ Some p
-          → Knowing (server_begins s) q.0 p id (mutates_under (server_begins s) q.0 id t deadline.0 (primary_of s q.0 v.0)))
+      → Knowing (server_begins s) q.0 p id (mutates_under (server_begins s) q.0 id t deadline.0 (primary_of s q.0 v.0)))
       (reads : (m : Message) (number : ℕ) → i ≡ input.Deliver m → IsReading number m.body → Reads m.sender number) where
     abbrev D : ServerDoing
     D = server_begins s
@@ -421,7 +421,7 @@ module _ (F : DataId → Type 0) (G : ℕ → ℕ → Type 0) where
 
   pub step_leaves : (s : ServerState) (moment : ℕ) (i : Input) (choice : Choice)
       → ((m : Message) (id : DataId) (q : Handle) (v : VersionId) (t : Target) (deadline : Moment) (p : SerialOrder) → i ≡ input.Deliver m → m.body ≡ body.Mutate id q v t deadline → primary_of (server_at s moment) q.0 v.0 ≡ Some p
-          → Knowing (server_begins (server_at s moment)) q.0 p id (mutates_under (server_begins (server_at s moment)) q.0 id t deadline.0 (primary_of (server_at s moment) q.0 v.0)))
+      → Knowing (server_begins (server_at s moment)) q.0 p id (mutates_under (server_begins (server_at s moment)) q.0 id t deadline.0 (primary_of (server_at s moment) q.0 v.0)))
       → ((m : Message) (number : ℕ) → i ≡ input.Deliver m → IsReading number m.body → Reads m.sender number) → AreRight F s.leases → Leaves (server_step s moment i choice)
   step_leaves s moment i choice knows reads h =
       on_cond Leaves s.up (server_ends s (server_goes s moment i) choice choice.ending) (no_step s)

@@ -127,19 +127,22 @@ module _ (A : Call) (F : ℕ → Type 0) (Size Own : ℕ) (Sent : List Message) 
         h.0,
         h.1,
         h.2,
-        (same, λ it. (
-          _,
-          inr refl,
-          record {
-            id = data_id d.client.id (suc d.client.number);
-            rest = hops_after g.members first.0;
-            sender_is = ap (λ (n : ℕ). the_client n) h.2;
-            body_is = ap (λ (bytes : List ℕ). body.Push (data_id d.client.id (suc d.client.number)) bytes (hops_after g.members first.0))
-                (ap (λ (x : Call). bytes_to_send (file_chunk d.client c.file.0) c.index x) same ∙ sends_appended A (file_chunk d.client c.file.0) c.index it);
-            client_is = h.2;
-            seq_is = refl;
-          },
-        )),
+        (
+          same,
+          λ it. (
+            _,
+            inr refl,
+            record {
+              id = data_id d.client.id (suc d.client.number);
+              rest = hops_after g.members first.0;
+              sender_is = ap (λ (n : ℕ). the_client n) h.2;
+              body_is = ap (λ (bytes : List ℕ). body.Push (data_id d.client.id (suc d.client.number)) bytes (hops_after g.members first.0))
+                  (ap (λ (x : Call). bytes_to_send (file_chunk d.client c.file.0) c.index x) same ∙ sends_appended A (file_chunk d.client c.file.0) c.index it);
+              client_is = h.2;
+              seq_is = refl;
+            },
+          ),
+        ),
       )
 
   goes_good : (d : ClientDoing) (c : CurrentCall) (l : Location) → c.asked ≡ A → Base d → Good (goes_on_at d c l)
