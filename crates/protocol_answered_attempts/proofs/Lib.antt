@@ -1,0 +1,3 @@
+pub mod UsedOrders
+pub mod UsedAnswers
+pub mod AnsweredAttempts

@@ -1,0 +1,2 @@
+pub mod NewCopies
+pub mod Unleased

@@ -1,0 +1,3 @@
+pub mod OrderWalk
+pub mod SpentVersions
+pub mod SerialsOnce

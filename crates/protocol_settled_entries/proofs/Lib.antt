@@ -1,0 +1,4 @@
+pub mod SettledSerials
+pub mod SettledOrders
+pub mod KnownEntries
+pub mod SettledEntries
