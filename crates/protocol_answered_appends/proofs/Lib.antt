@@ -1,2 +1,4 @@
 pub mod Replies
 pub mod AnsweredAppends
+pub mod Sendings
+pub mod AppendedBytes

@@ -1,2 +1,3 @@
 pub mod HadLeases
 pub mod HeldRounds
+pub mod Rising

@@ -1,5 +1,5 @@
 -- Laws of every lawful list of events on what the replica of a primary has, that public functions of this crate state.
-use Rattle.std.specs.Prelude.{◌≡◌, ℕ, ◌≤◌, length, Some}
+use Rattle.std.specs.Prelude.{◌≡◌, ℕ, ◌≤◌, length, Some, IsTrue}
 use Rattle.std.specs.FinMap as table
 use Rattle.gfs_types.specs.declared.config.Config.{Config}
 use Rattle.gfs_types.specs.declared.ids.DataId.{DataId}
@@ -19,6 +19,7 @@ use Rattle.protocol.specs.Observer.{Placed, order_of}
 use Rattle.protocol.specs.Server.{ServerState}
 use Rattle.protocol.specs.ServerStep.{server_step}
 use Rattle.protocol.specs.World.{WorldState, IsReached}
+use Rattle.protocol_invariant.specs.Versions.{AreRising}
 
 -- While a lease is held, each entry of its round ends within the bytes of the server's replica, which is of the lease's version (section 3.1).
 abbrev pub HeldRoundsAreApplied : Type 0
@@ -42,3 +43,9 @@ RecordsComeBehindTheirRound =
     → element_at (server_step s moment i choice).seen shown ≡ Some (Numbered handle version serial id m)
     → (place : ℕ) (e : Placed) → element_at (order_of w.observer handle.0) place ≡ Some e → e.entry.round ≡ version.0
     → ComesBehind (end_of config.chunk e.entry.mutation) m
+
+-- Where clocks are kept, rounds never fall in a chunk's order, and serials rise within a round (section 3.1).
+abbrev pub OrdersRise : Type 0
+OrdersRise =
+    (config : Config) (servers clients : ℕ) (w : WorldState) → IsReached config servers clients w → IsTrue w.observer.are_clocks_kept
+    → (handle : ℕ) → AreRising (order_of w.observer handle)

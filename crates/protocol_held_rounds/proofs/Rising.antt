@@ -8,7 +8,7 @@ use Rattle.protocol_invariant.specs.Versions.{IsBefore, AreRising}
 use Rattle.protocol_rising_rounds.proofs.RisingRounds.{rounds_of_orders_rise}
 use Rattle.protocol_counted_serials.proofs.RoundSerials.{later_place}
 use Rattle.protocol_counted_serials.proofs.CountedRounds.{serials_of_rounds_are_counted}
-use Rattle.protocol_rising_orders.specs.Laws.{OrdersRise}
+use Rattle.protocol_held_rounds.specs.Laws.{OrdersRise}
 
 all_from : {X : Type 0} (P : X → Type 0) (xs : List X) → ((n : ℕ) (x : X) → element_at xs n ≡ Some x → P x) → AllByRecursion P xs
 all_from P [] each = tt

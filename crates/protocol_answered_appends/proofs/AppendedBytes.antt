@@ -36,8 +36,8 @@ use Rattle.protocol_attempts.proofs.RequestsOnce.{AreNumbered, each_event, numbe
 use Rattle.protocol_entries.specs.Laws.{IsAmong, IsPlacedFor}
 use Rattle.protocol_settled_entries.proofs.SettledEntries.{successes_have_entries}
 use Rattle.protocol_settled_entries.specs.Laws.{HasSettledEntry}
-use Rattle.protocol_appended_bytes.specs.Laws.{bytes_in, AnsweredAppendsHaveTheirBytes}
-use Rattle.protocol_appended_bytes.proofs.Sendings.{appended, IsPushOf, HasPushed, FineReply, FineStage, FineNow, FineAnswer, Good, TellsPlace, TellsInput, does_good, calls_good}
+use Rattle.protocol_answered_appends.specs.Bytes.{bytes_in, AnsweredAppendsHaveTheirBytes}
+use Rattle.protocol_answered_appends.proofs.Sendings.{appended, IsPushOf, HasPushed, FineReply, FineStage, FineNow, FineAnswer, Good, TellsPlace, TellsInput, does_good, calls_good}
 use Rattle.gfs_types.specs.declared.mutation.Mutation.{Mutation}
 use Rattle.gfs_types.specs.declared.mutation.Mutation.TheVariants as mutation
 use Rattle.messages.specs.declared.message.Target.{Target}

@@ -1,2 +1,0 @@
-pub mod Sendings
-pub mod AppendedBytes
