@@ -8,11 +8,12 @@ use anyhow::{Context, Result};
 use std::fs;
 
 /// The scripts that hinder no node by other means than lines.
-const ROWS: [&str; 48] = [
+const ROWS: [&str; 49] = [
     "bad_line.row",
     "bad_paths.row",
     "cache_kept_at_open.row",
     "calls_of_one_client.row",
+    "checkpoint.row",
     "clone.row",
     "clone_of_attempt.row",
     "clone_serial_zero.row",
