@@ -1,13 +1,13 @@
 -- The names of a tree as a finite map.
-use Rattle.std.proofs.Common.{◌≡◌, ℕ, ◌+◌, ◌≤◌, Bool, true, false, cond, not, T, List, [], ◌∷◌, length, Option, Some, None, is_some, refl, sym, ap, subst, ◌∙◌, arith}
-use Rattle.std.specs.declared.cmp.Ordering.{Ordering}
+use Rattle.std.proofs.Common.{◌≡◌, ℕ, ◌+◌, ◌-◌, Bor, option_copied, Bool, true, false, cond, not, T, List, length, Option, Some, None, is_some, refl, sym, ap, subst, ◌∙◌, arith}
 use Rattle.std.specs.Ordering.{nat_cmp, eq_by_cmp}
 use Rattle.std.specs.Cmp.{eq_by_cmp_equiv}
 use Rattle.std.specs.Cmp.Lexicographic.{slice_cmp, nat_list_cmp_total}
-use Rattle.std.specs.FinMap.{IsAntisymmetric, get, entries, insert, remove, find, len, is_sorted, from_entries, from_sorted, get-from_entries, get-from_sorted, entries-from_sorted, get-insert, get-remove, len-entries, same_map, slice_cmp-IsAntisymmetric, nat_cmp-IsAntisymmetric}
+use Rattle.std.specs.FinMap.{IsAntisymmetric, get, entries, insert, remove, len, is_sorted, from_entries, from_sorted, get-from_entries, get-from_sorted, entries-from_sorted, get-insert, get-remove, len-entries, same_map, slice_cmp-IsAntisymmetric, nat_cmp-IsAntisymmetric}
 use Rattle.std.specs.FinMap.Entries.{is_sorted-put, is_sorted-where_key, find-put, find-where_key, length-put, length_without}
 use Rattle.path_trie.specs.Texts.{Names}
 use Rattle.label_tree.specs.Entries.{find_path, put_path, without_path}
+use mir.Val.{bool_byte}
 use Rattle.label_trie.specs.Counts.{IsCounted}
 
 -- equal paths have equal bytes
@@ -55,20 +55,55 @@ module _ {X : Type 0} where
   pub counted_new : (k : List ℕ) (v : X) (es : List (List ℕ × X)) (count : ℕ) → IsCounted es count → find_path k es ≡ None → IsCounted (put_path k v es) (count + 1)
   counted_new k v es count h none = record {
     sorted = is_sorted-put (slice_cmp nat_cmp) nat_list_cmp_total k v es h.sorted;
-    counted = ap (λ n. n + 1) h.counted ∙ sym (length-put (slice_cmp nat_cmp) nat_list_cmp_total k v es h.sorted ∙ ap (λ o. cond (is_some o) (length es) (length es + 1)) none)
+    counted = ap (λ n. n + 1) h.counted ∙ sym (length-put (slice_cmp nat_cmp) nat_list_cmp_total k v es h.sorted ∙ ap (λ o. cond (is_some o) (length es) (length es + 1)) none);
   }
 
   pub counted_same : (k : List ℕ) (v : X) (es : List (List ℕ × X)) (count : ℕ) → IsCounted es count → is_some (find_path k es) ≡ true → IsCounted (put_path k v es) count
   counted_same k v es count h some = record {
     sorted = is_sorted-put (slice_cmp nat_cmp) nat_list_cmp_total k v es h.sorted;
-    counted = h.counted ∙ sym (length-put (slice_cmp nat_cmp) nat_list_cmp_total k v es h.sorted ∙ ap (λ t. cond t (length es) (length es + 1)) some)
+    counted = h.counted ∙ sym (length-put (slice_cmp nat_cmp) nat_list_cmp_total k v es h.sorted ∙ ap (λ t. cond t (length es) (length es + 1)) some);
   }
 
   pub one_fewer : (k : List ℕ) (es : List (List ℕ × X)) (count : ℕ) → IsCounted es count → is_some (find_path k es) ≡ true → count ≡ 1 + length (without_path k es)
   one_fewer k es count h some = h.counted ∙ sym (ap (λ t. cond t 1 0 + length (without_path k es)) (sym some) ∙ length_without (slice_cmp nat_cmp) nat_list_cmp_total k es h.sorted)
 
   pub none_fewer : (k : List ℕ) (es : List (List ℕ × X)) (count : ℕ) → IsCounted es count → is_some (find_path k es) ≡ false → count ≡ length (without_path k es)
-  none_fewer k es count h none = h.counted ∙ sym (ap (λ t. cond t 1 0 + length (without_path k es)) (sym none) ∙ length_without (slice_cmp nat_cmp) nat_list_cmp_total k es h.sorted)
+  none_fewer k es count h none =
+      let left : 0 + length (without_path k es) ≡ length es = ap (λ t. cond t 1 0 + length (without_path k es)) (sym none) ∙ length_without (slice_cmp nat_cmp) nat_list_cmp_total k es h.sorted in
+      omega (arith, h.counted, left)
 
   pub sorted_without : (k : List ℕ) (es : List (List ℕ × X)) (count : ℕ) → IsCounted es count → T (is_sorted (slice_cmp nat_cmp) (without_path k es))
   sorted_without k es count h = is_sorted-where_key (slice_cmp nat_cmp) (λ x. not (eq_by_cmp (slice_cmp nat_cmp) k x)) es h.sorted
+
+  none_of : (o : Option X) → is_some o ≡ false → o ≡ None
+  none_of None h = refl
+  none_of (Some v) h = absurd (subst T h tt)
+
+  -- what is put in is counted where it is new
+  pub counted_put : (k : List ℕ) (v : X) (es : List (List ℕ × X)) (count : ℕ) (is_new : Bool) → IsCounted es count → is_some (find_path k es) ≡ not is_new → IsCounted (put_path k v es) (count + bool_byte is_new)
+  counted_put k v es count true h new = counted_new k v es count h (none_of (find_path k es) new)
+  counted_put k v es count false h old =
+      let more : count ≡ count + 0 = omega arith in
+      subst (IsCounted (put_path k v es)) more (counted_same k v es count h old)
+
+  -- what is taken out is counted no more
+  pub counted_without : (k : List ℕ) (es : List (List ℕ × X)) (count : ℕ) (was_there : Bool) → IsCounted es count → is_some (find_path k es) ≡ was_there → IsCounted (without_path k es) (count - bool_byte was_there)
+  counted_without k es count true h there =
+      let fewer : count ≡ 1 + length (without_path k es) = one_fewer k es count h there in
+      record { sorted = sorted_without k es count h; counted = omega (arith, fewer) }
+  counted_without k es count false h none =
+      let fewer : count ≡ length (without_path k es) = none_fewer k es count h none in
+      record { sorted = sorted_without k es count h; counted = omega (arith, fewer) }
+
+  -- what a look-up found
+  pub found : (es : List (List ℕ × X)) (q p : List ℕ) (names : Names X) → names_of es ≡ names → q ≡ p → find_path q es ≡ get names p
+  found es q p names is same = ap (λ k. find_path k es) same ∙ sym (get_names es p) ∙ ap (λ m. get m p) is
+
+-- a reference that isn't there shows nothing
+pub copied_is_some : {E : Type 0} (o : Option (Bor E)) → is_some (option_copied o) ≡ is_some o
+copied_is_some None = refl
+copied_is_some (Some b) = refl
+
+pub copied_none : {E : Type 0} (o : Option (Bor E)) → is_some o ≡ false → option_copied o ≡ None
+copied_none None h = refl
+copied_none (Some b) h = absurd (subst T h tt)

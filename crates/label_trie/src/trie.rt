@@ -2,10 +2,14 @@
 
 ghost use Rattle.std.specs.Prelude.{◌≡◌, None, IfOk, IfErr, OnOk, OnErr, option_copied};
 ghost use Rattle.std.specs.FinMap as map;
+ghost use Rattle.path_trie.specs.Below.{has_below, has_at_or_below};
 
+use crate::below::{has_more, has_slash_behind};
 use gfs_types::no_memory::NoMemory;
 use gfs_types::path::Path;
 use label_tree::tree::Tree;
+use label_tree_insertions::insert::insert;
+use label_tree_removals::remove::remove;
 use std::alloc::Allocator;
 use std::marker::Model;
 
@@ -70,11 +74,13 @@ impl<V: Drop, A: Allocator + Clone> Trie<V, A> {
         if is_new && self.count == usize::MAX {
             return Err((value, NoMemory));
         }
-        self.names.insert(&self.alloc, bytes, value)?;
-        if is_new {
-            self.count += 1;
+        match insert(&mut self.names, &self.alloc, bytes, value) {
+            Ok(()) => {
+                self.count += usize::from(is_new);
+                Ok(())
+            }
+            Err(back) => Err(back),
         }
-        Ok(())
     }
 
     /// Takes what stands at the path. It needs no memory.
@@ -82,10 +88,26 @@ impl<V: Drop, A: Allocator + Clone> Trie<V, A> {
         ensures value { result ≡ map.get self.old path.now }
         ensures rest { self.new ≡ map.remove self.old path.now }
     {
-        let taken = self.names.remove(path.as_str().as_bytes());
-        if taken.is_some() {
-            self.count -= 1;
-        }
+        let taken = remove(&mut self.names, path.as_str().as_bytes());
+        self.count -= usize::from(taken.is_some());
         taken
+    }
+
+    /// Whether a name lies below the directory, at any depth. It needs no memory.
+    pub fn has_below(&self, directory: &Path) -> bool
+        ensures { result ≡ has_below self.now directory.now }
+    {
+        let front = directory.as_str().as_bytes();
+        if front == b"/".as_slice() {
+            return has_more(&self.names, front);
+        }
+        has_slash_behind(&self.names, front)
+    }
+
+    /// Whether a name lies at the path or below it, at any depth. It needs no memory.
+    pub fn has_at_or_below(&self, path: &Path) -> bool
+        ensures { result ≡ has_at_or_below self.now path.now }
+    {
+        self.names.get(path.as_str().as_bytes()).is_some() || self.has_below(path)
     }
 }

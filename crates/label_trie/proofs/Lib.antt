@@ -1,0 +1,4 @@
+pub mod Maps
+pub mod Behind
+pub mod Fronts
+pub mod LowerNames

@@ -1,0 +1,29 @@
+use Rattle.std.proofs.Common.{sym, ap, subst, ◌∙◌, ◌+◌, is_some}
+use Rattle.std.specs.FinMap as map
+use Rattle.label_tree.specs.Entries.{put_path}
+use Rattle.label_trie.specs.Counts.{IsCounted}
+use Rattle.label_trie.proofs.Maps.{names_of, inserted, counted_put, found, copied_is_some, copied_none}
+use Rattle.label_trie.proofs.trie.Trie.insert.Goals as goal
+
+pub returns-then-self-clause-absent : goal.returns-then-self-clause-absent
+returns-then-self-clause-absent g c =
+    sym (found c.self.inside.names c.as_bytes-bytes.result.now c.args.path.now c.args.self.now c.self.view_is (c.as_bytes-bytes.ensures.value ∙ c.as_str.ensures.text))
+    ∙ sym c.get.ensures ∙ copied_none c.get.result c.if-is_new.ensures
+
+pub invariant_of-self : goal.invariant_of-self
+invariant_of-self g c =
+    let es = c.self.inside.names in
+    let bytes = c.as_bytes-bytes.result.now in
+    let new = put_path bytes c.args.value es in
+    let first = counted_put bytes c.args.value es c.self.inside.count c.is_none-is_new.result c.self.invariant (ap is_some (sym c.get.ensures) ∙ copied_is_some c.get.result ∙ c.is_none-is_new.ensures) in
+    subst (λ t. IsCounted t (c.self.inside.count + c.from.result)) (sym c.in-Ok.ensures.ok) (subst (λ n. IsCounted new (c.self.inside.count + n)) (sym c.from.ensures) first)
+
+pub returns-in-Ok-clause-ok : goal.returns-in-Ok-clause-ok
+returns-in-Ok-clause-ok g c =
+    let same = c.as_bytes-bytes.ensures.value ∙ c.as_str.ensures.text in
+    ap names_of c.in-Ok.ensures.ok ∙ inserted c.as_bytes-bytes.result.now c.args.value c.self.inside.names ∙ (λ i. map.insert (c.self.view_is i) (same i) c.args.value)
+
+pub returns-in-Err-clause-absent : goal.returns-in-Err-clause-absent
+returns-in-Err-clause-absent g c =
+    sym (found c.self.inside.names c.as_bytes-bytes.result.now c.args.path.now c.args.self.now c.self.view_is (c.as_bytes-bytes.ensures.value ∙ c.as_str.ensures.text))
+    ∙ c.in-Err.ensures.absent
