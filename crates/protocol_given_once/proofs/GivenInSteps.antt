@@ -1,11 +1,6 @@
 -- In a step the master gives a server a version of a chunk once at most: all orders of a version are sent at an Ask, to servers that differ.
 use Rattle.std.proofs.Common.{◌≡◌, ◌⊎◌, ℕ, zero, suc, ◌+◌, ◌≤◌, Bool, true, false, List, [], ◌∷◌, ◌++◌, length, map, Option, Some, None, refl, ap, subst, inl, inr, arith, sym, ◌∙◌}
 use Rattle.std.specs.Prelude.{◌==◌, ◌&&◌, nat_lt, nat_le, count_by}
-use Rattle.std.specs.Ordering.{nat_cmp, eq_by_cmp}
-use Rattle.std.specs.List.{filter_map, cons_option, list_any}
-use Rattle.std.proofs.lemmas.Bool.{eqb-true, leb-true, ltb-false}
-use Rattle.std.proofs.Math.Nat.{le-max_left}
-use Rattle.std.specs.FinMap as table
 use Rattle.gfs_types.specs.declared.ids.Node.{Node}
 use Rattle.gfs_types.specs.declared.ids.Node.TheVariants as node
 use Rattle.gfs_types.specs.declared.ids.OrderNo.{OrderNo}
@@ -22,34 +17,28 @@ use Rattle.messages.specs.declared.message.Holder.{Holder}
 use Rattle.messages.specs.declared.message.Wanted.{Wanted}
 use Rattle.messages.specs.declared.message.Wanted.TheVariants as wanted
 use Rattle.messages.specs.declared.message.NameReply.TheVariants.{Answered}
-use Rattle.messages.specs.declared.message.ReplicaLine.{ReplicaLine}
-use Rattle.messages.specs.declared.message.LeaseLine.{LeaseLine}
 use Rattle.messages.specs.declared.event.Input.{Input}
 use Rattle.messages.specs.declared.event.Input.TheVariants as input
 use Rattle.log_records.specs.declared.record.Record.{Record}
 use Rattle.log_records.specs.declared.record.Record.TheVariants as log
-use Rattle.relaxed_file.specs.NameStep.{outcome_by, needs_room}
-use Rattle.chunk_table.specs.ChunkTable.{ChunkRow, new_row, chunk_of, file_of}
+use Rattle.relaxed_file.specs.NameStep.{needs_room}
+use Rattle.chunk_table.specs.ChunkTable.{ChunkRow, chunk_of, file_of}
 use Rattle.leases.specs.LeaseEnds.{has_ended}
-use Rattle.protocol.specs.Tables.{Table, element_at, rising, has_number, with_number, removed_all}
+use Rattle.protocol.specs.Tables.{element_at}
 use Rattle.protocol.specs.LogSizes.{checkpoint_fits}
-use Rattle.protocol.specs.Sending.{message, client_id, file_id, server_id, handle_of, version_of, moment_of, the_server, the_client, client_number, server_number}
+use Rattle.protocol.specs.Sending.{message, client_id, file_id, handle_of, version_of, the_server, the_client}
 use Rattle.protocol.specs.Choice.{Choice, Ending, Goes, Lost, Stops}
 use Rattle.protocol.specs.Seen.{Taken, no_step}
 use Rattle.protocol.specs.declared.seen.Seen.TheVariants.{CopyStarted}
-use Rattle.protocol.specs.Logged.{Logged, KeptCall, checkpoint_of, copies_given_up, after_record}
-use Rattle.protocol.specs.Master.{MasterState, MasterDoing, PendingSnapshot, VersionAttempt, HeldAt, master_begins, tells, orders, logs, logs_after_checkpoint, appends, fits, writes_checkpoint, is_of_copy, ends_at, with_attempt, without_attempts, gives_up_copy, gives_up_copies, holders_where, current_holders, present_current_holders, held_where, version_held, servers_of, is_present, has_lease}
-use Rattle.protocol.specs.MasterSnapshots.{revokes_row, revokes, revokes_all, takes_locks, begins_snapshot, snapshot_handles, snapshot_files, copies_for_files, reply_of, answers_name, settles_name, refuses_name, changes_names, first_is_true, all_but_first, lets_go, takes_snapshot, takes_ready, is_ready, waits_for}
-use Rattle.protocol.specs.MasterNames.{master_refusal, reply_by, performs, names_by, is_waiting_call, names_anew, names_kept}
-use Rattle.protocol.specs.MasterVersions.{Asker, VersionTarget, holder_line, group_of, tells_location, tells_holders, tells_none, tells_to_wait, version_order, sends_versions, new_attempt, sends_issued, issues_to, targets_by, recorded_holders, placement, placed_targets, issues_own, is_attempted, copy_order, sends_copies, copy_targets, sends_copy_started, copies_to, begins_copy, copy_for, is_copied, wants_own, wants_own_of, issues_copy, wants_copy, wants_by, wants_primary, holder_target, sends_grant, grants_to, is_complete, with_recorded, learns_attempt, learns}
+use Rattle.protocol.specs.Logged.{Logged, checkpoint_of}
+use Rattle.protocol.specs.Master.{MasterState, MasterDoing, PendingSnapshot, HeldAt, master_begins, tells, orders, logs, logs_after_checkpoint, appends, fits, writes_checkpoint, is_of_copy, with_attempt, gives_up_copy, holders_where, current_holders, has_lease}
+use Rattle.protocol.specs.MasterSnapshots.{revokes_row, revokes, reply_of, answers_name, settles_name, refuses_name, changes_names, first_is_true, all_but_first, lets_go, takes_snapshot, takes_ready, is_ready, waits_for}
+use Rattle.protocol.specs.MasterVersions.{Asker, VersionTarget, holder_line, group_of, tells_location, tells_holders, tells_none, tells_to_wait, version_order, sends_versions, new_attempt, sends_issued, issues_to, targets_by, recorded_holders, issues_own, is_attempted, copy_order, sends_copies, copy_targets, sends_copy_started, copies_to, begins_copy, copy_for, is_copied, wants_own, wants_own_of, issues_copy, wants_copy, wants_by, wants_primary, holder_target}
 use Rattle.protocol.specs.MasterAsks.{looks_at_row, looks_at, mutates_row, mutates_at, adds_chunk, with_index, asks_to_write, asks_to_append, asks_for_last, asks_for, asks_of, takes_ask}
-use Rattle.protocol.specs.MasterReports.{holds_now, revoked_row, is_useless, drops_useless, learns_all, may_extend, extends_row, extends_all, hears, takes_report}
-use Rattle.protocol.specs.MasterClones.{CloneOrder, orders_clone, best_clone}
-use Rattle.protocol.specs.MasterStep.{master_ticks, gives_up_attempts, gives_up_lost_copies, expires_all, expires_old, expired_files, master_takes, master_does, master_at, master_goes, may_end, master_bounded, master_ends, master_step}
+use Rattle.protocol.specs.MasterStep.{master_takes, master_at, master_goes, may_end, master_bounded, master_ends, master_step}
 use Rattle.protocol_laws.proofs.Words.{true_false}
-use Rattle.protocol_laws.proofs.MasterMoves.{removed_other}
 use Rattle.protocol_laws.proofs.Steps.{on_cond, none_some, same_some, tally, count-cons, count-append, count-in_order}
-use Rattle.protocol_laws.proofs.Entries.{AllOf, all_joined, all_filtered}
+use Rattle.protocol_laws.proofs.Entries.{AllOf}
 use Rattle.protocol_acts.specs.Given.{version_given}
 use Rattle.protocol_extended_leases.proofs.MasterCauses.{is_caused, Attempts, IsAsk, Causes, step_caused}
 use Rattle.protocol_given_once.proofs.Targets.{AreOnce, held_once, own_once, copy_once}

@@ -1,9 +1,8 @@
 -- One order at most gives a server a version: a step gives it once, of a number that was not issued before. A Clone is of a number that was, so it follows each such order.
-use Rattle.std.proofs.Common.{◌≡◌, ◌⊎◌, ℕ, zero, suc, ◌+◌, ◌≤◌, ◌<◌, Bool, true, false, List, [], ◌∷◌, ◌++◌, length, Option, Some, None, refl, sym, ap, subst, ◌∙◌, inl, inr, arith}
-use Rattle.std.specs.Prelude.{◌==◌, ◌&&◌, count_by, IsTrue}
+use Rattle.std.proofs.Common.{◌≡◌, ◌⊎◌, ℕ, zero, suc, ◌≤◌, ◌<◌, Bool, true, false, List, [], ◌∷◌, ◌++◌, length, Option, Some, None, refl, sym, ap, subst, ◌∙◌, inl, inr, arith}
+use Rattle.std.specs.Prelude.{◌==◌, count_by}
 use Rattle.std.proofs.lemmas.Bool.{eqb-true, and_from, and_parts, cases_lt}
 use Rattle.gfs_types.specs.declared.config.Config.{Config}
-use Rattle.gfs_types.specs.declared.ids.Node.{Node}
 use Rattle.gfs_types.specs.declared.ids.OrderNo.{OrderNo}
 use Rattle.messages.specs.declared.event.Input.{Input}
 use Rattle.messages.specs.declared.event.Input.TheVariants as input
@@ -23,7 +22,7 @@ use Rattle.protocol_laws.proofs.Steps.{on_cond, none_some, same_some, tally, cou
 use Rattle.protocol_laws.proofs.Entries.{AllOf, same_number}
 use Rattle.protocol_laws.proofs.Words.{true_false}
 use Rattle.protocol_laws.proofs.MembersRecorded.{all_at, all_in_order, place_below}
-use Rattle.protocol_laws.proofs.MessagesSent.{IsSent, IsSameMessage}
+use Rattle.protocol_laws.proofs.MessagesSent.{IsSent}
 use Rattle.protocol_laws.proofs.GrantedIssued.{granted_is_at_most_issued}
 use Rattle.protocol_acts.specs.Given.{version_given}
 use Rattle.protocol_acts.proofs.IssuedNumbers.{IsPassed}
@@ -35,7 +34,7 @@ use Rattle.protocol_cloned_versions.proofs.CloneOrders.{IsNoClone, delivery_says
 use Rattle.protocol_cloned_versions.proofs.ClonedVersions.{IsShutIn, clones_shut}
 use Rattle.protocol_extended_leases.proofs.MasterCauses.{is_caused, Attempts, IsAsk, IsRaised, Causes, step_caused}
 use Rattle.protocol_extended_leases.proofs.ExtendLaws.{new_one}
-use Rattle.protocol_given_once.specs.Laws.{VersionsAreGivenOnce, IsEarlier, ClonesFollowTheirVersions}
+use Rattle.protocol_given_once.specs.Laws.{VersionsAreGivenOnce, ClonesFollowTheirVersions}
 use Rattle.protocol_given_once.proofs.GivenInSteps.{is_version, is_server, gives, step_once}
 use Rattle.protocol_given_once.proofs.OrderSteps.{IsOrderedNow, WasOrderedIn, was_ordered_in, step_later}
 

@@ -1,10 +1,10 @@
 -- Who has a version refuses the one order that gave it: that order was taken, or a Clone that was numbered after it.
-use Rattle.std.proofs.Common.{◌≡◌, ◌⊎◌, ℕ, suc, ◌≤◌, ◌<◌, true, List, Option, Some, refl, sym, ap, subst, ◌∙◌, inl, inr, arith}
+use Rattle.std.proofs.Common.{◌≡◌, ℕ, suc, sym, ap, subst, ◌∙◌, inl, inr, arith}
 use Rattle.gfs_types.specs.declared.config.Config.{Config}
 use Rattle.gfs_types.specs.declared.ids.OrderNo.{OrderNo}
 use Rattle.messages.specs.declared.message.Message.{Message}
 use Rattle.protocol.specs.Tables.{element_at}
-use Rattle.protocol.specs.Sending.{the_server, handle_of, version_of, order_number}
+use Rattle.protocol.specs.Sending.{handle_of, version_of, order_number}
 use Rattle.protocol.specs.Server.{ServerState}
 use Rattle.protocol.specs.World.{WorldState, IsReached}
 use Rattle.protocol_laws.proofs.Steps.{same_some}
@@ -16,7 +16,7 @@ use Rattle.protocol_held_versions.specs.Laws.{version_cloned}
 use Rattle.protocol_answered_orders.proofs.AnsweredOrders.{stale_refuses}
 use Rattle.protocol_taken_orders.specs.Laws.{IsTaken, WasTaken}
 use Rattle.protocol_taken_orders.proofs.TakenOrders.{replicas_are_of_taken_orders, pending_clones_are_of_taken_orders}
-use Rattle.protocol_taken_orders.proofs.ToldOrders.{same_index, told_versions_are_of_taken_orders}
+use Rattle.protocol_taken_orders.proofs.ToldOrders.{told_versions_are_of_taken_orders}
 use Rattle.protocol_given_once.specs.Laws.{IsEarlier, RefusesItsOrder, HeldVersionsRefuseTheirOrder, PendingClonesRefuseTheirOrder, ToldVersionsRefuseTheirOrder, GrantedOrdersAreRefused}
 use Rattle.protocol_given_once.proofs.GivenOnce.{versions_are_given_once, clones_follow_their_versions}
 
