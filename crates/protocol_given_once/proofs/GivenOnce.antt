@@ -40,10 +40,10 @@ use Rattle.protocol_given_once.proofs.OrderSteps.{IsOrderedNow, WasOrderedIn, wa
 
 -- the number of an order that gives a version is the next one of its chunk, or the chunk is a new one
 
-abbrev IsNext : Logged → ℕ → ℕ → Type 0
+abbrev pub IsNext : Logged → ℕ → ℕ → Type 0
 IsNext l handle version = ((row : ChunkRow) × (chunk_of l.table handle ≡ Some row) × (suc row.issued ≡ version)) ⊎ (l.next_handle ≤ handle)
 
-abbrev IsGivenNext : Logged → Input → Message → Type 0
+abbrev pub IsGivenNext : Logged → Input → Message → Type 0
 IsGivenNext l i x = (handle version : ℕ) → version_given x.body ≡ Some (handle, version) → IsAsk i × IsNext l handle version
 
 raised_next : (l : Logged) (tried : Attempts) (handle version base : ℕ) → IsRaised l tried handle version base → IsNext l handle version
@@ -56,7 +56,7 @@ uncaused_none (body.SetVersion order handle version base) none = true_false none
 uncaused_none (body.CopyLocal order handle version copy copy_version) none = true_false none
 uncaused_none other none = refl
 
-next_causes : (l : Logged) (tried : Attempts) (i : Input) → Causes l tried i (IsGivenNext l i)
+pub next_causes : (l : Logged) (tried : Attempts) (i : Input) → Causes l tried i (IsGivenNext l i)
 next_causes l tried i =
     record {
       plain = λ receiver b none handle version is. none_some (handle, version) (sym (uncaused_none b none) ∙ is);
@@ -69,12 +69,12 @@ next_causes l tried i =
     }
 
 -- such a number was not issued before
-not_passed : (l : Logged) (handle version : ℕ) → IsNext l handle version → IsPassed handle version l → ⊥
+pub not_passed : (l : Logged) (handle version : ℕ) → IsNext l handle version → IsPassed handle version l → ⊥
 not_passed l handle version (inl old) passed = let low = passed.1 old.0 old.1 in let next = old.2 in omega (arith, low, next)
 not_passed l handle version (inr new) passed = let used = passed.0 in omega (arith, used, new)
 
 -- an order of a step that gives a version
-now_given : (config : Config) (servers clients : ℕ) (u v : WorldState) → IsReached config servers clients u → (m : Message) (h : IsOrderedNow u v m) (handle version : ℕ) → version_given m.body ≡ Some (handle, version) → IsAsk h.taken × IsNext u.master.logged handle version
+pub now_given : (config : Config) (servers clients : ℕ) (u v : WorldState) → IsReached config servers clients u → (m : Message) (h : IsOrderedNow u v m) (handle version : ℕ) → version_given m.body ≡ Some (handle, version) → IsAsk h.taken × IsNext u.master.logged handle version
 now_given config servers clients u v r m h handle version is =
     all_at (IsGivenNext u.master.logged h.taken) (master_step u.master h.moment h.taken h.choice).out.sent (h.said).0 h.word
     (step_caused u.master h.moment h.taken h.choice (IsGivenNext u.master.logged h.taken) (granted_is_at_most_issued config servers clients u r) (next_causes u.master.logged u.master.attempts h.taken)) (h.said).1
