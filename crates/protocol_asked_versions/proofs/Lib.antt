@@ -1,0 +1,3 @@
+pub mod AskedOrders
+pub mod LeasesBelow
+pub mod EntriesBelow

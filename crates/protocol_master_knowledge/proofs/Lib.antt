@@ -1,0 +1,3 @@
+pub mod RecordedServers
+pub mod RowMembers
+pub mod GrantMembers
