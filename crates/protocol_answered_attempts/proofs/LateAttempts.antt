@@ -1,5 +1,5 @@
 -- An attempt that a primary refused as Late: each server that holds a lease of its version is past its deadline from then on.
-use Rattle.std.proofs.Common.{◌≡◌, ℕ, zero, suc, ◌-◌, ◌≤◌, true, false, true≢false, List, [], ◌∷◌, length, Some, refl, sym, ap, subst, ◌∙◌, inl, inr, arith}
+use Rattle.std.proofs.Common.{◌≡◌, ℕ, zero, suc, ◌-◌, ◌≤◌, true, true≢false, List, [], ◌∷◌, length, Some, refl, sym, ap, subst, ◌∙◌, inl, inr, arith}
 use Rattle.std.specs.Prelude.{IsTrue, max, nat_le}
 use Rattle.std.specs.FinMap as table
 use Rattle.std.proofs.Math.Nat.{le-max_left}
@@ -19,7 +19,7 @@ use Rattle.messages.specs.declared.message.Message.{Message}
 use Rattle.messages.specs.declared.message.Target.{Target}
 use Rattle.replica_store.specs.Replicas.{is_new_order, with_replica, rotten_replica}
 use Rattle.primary_order.specs.declared.order.SerialOrder.{SerialOrder}
-use Rattle.protocol.specs.Tables.{Table, element_at, with_at}
+use Rattle.protocol.specs.Tables.{element_at, with_at}
 use Rattle.protocol.specs.Sending.{the_server, the_client, handle_of, version_of, order_number}
 use Rattle.protocol.specs.Choice.{Choice, Ending, Goes, Lost, Stops}
 use Rattle.protocol.specs.Seen.{Taken, no_step}

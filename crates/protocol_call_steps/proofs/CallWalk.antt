@@ -112,15 +112,16 @@ module _ (H : CurrentCall → Type 0) (D : Option Message → CurrentCall → To
   StandsAt o c IsOver = H c
   StandsAt o c (HasAnswer reply) = H c × F c.asked reply
 
--- E: of an answer that is given
-module _ (s : ClientState) (H : CurrentCall → Type 0) (D : Option Message → CurrentCall → ToldChunk → ℕ → Type 0) (M : CurrentCall → ToldChunk → ℕ → Type 0) (F : Call → Answer → Type 0) (E : Answer → Type 0) where
+-- E: of an answer that is given, Z: while no call is open
+module _ (s : ClientState) (H : CurrentCall → Type 0) (D : Option Message → CurrentCall → ToldChunk → ℕ → Type 0) (M : CurrentCall → ToldChunk → ℕ → Type 0) (F : Call → Answer → Type 0) (E : Answer → Type 0) (Z : Type 0) where
   abbrev pub StandsNow : Option Message → Option Answer → Option CurrentCall → Type 0
-  StandsNow o None None = Unit {0}
+  StandsNow o None None = Z
   StandsNow o (Some reply) None = E reply
   StandsNow o a (Some c) = (a ≡ None) × StandsAt H D M F o c c.stage
 
   -- a step in which no primary is asked
   pub record IsCalm (d : ClientDoing) : Type 0 where
+    pub kept : (d.client.config ≡ s.config) × (d.client.now ≡ s.now)
     pub silent : (m : Message) → d.sent ≡ Some m → IsNoMutate m.body
     pub stands : StandsNow d.sent d.answer d.client.current
 
@@ -140,10 +141,10 @@ module _ (s : ClientState) (H : CurrentCall → Type 0) (D : Option Message → 
   Leaves d = IsCalm d ⊎ IsAsking d
 
 module _ (s : ClientState) (Came : Body → Type 0) (H : CurrentCall → Type 0) (D : Option Message → CurrentCall → ToldChunk → ℕ → Type 0) (M : CurrentCall → ToldChunk → ℕ → Type 0) (K : CurrentCall → ToldChunk → ℕ → Type 0)
-    (F : Call → Answer → Type 0) (E : Answer → Type 0) (k : KeepsCall s Came H D M K F)
+    (F : Call → Answer → Type 0) (E : Answer → Type 0) (Z : Type 0) (k : KeepsCall s Came H D M K F)
     (ends : (c : CurrentCall) (reply : Answer) → H c → F c.asked reply → (is_mutation c.asked ≡ true → list_any (is_live_at s.now) c.live ≡ false) → E reply) where
   abbrev Calm : ClientDoing → Type 0
-  Calm d = IsCalm s H D M F E d
+  Calm d = IsCalm s H D M F E Z d
 
   abbrev At : Option Message → CurrentCall → Stage → Type 0
   At o c st = StandsAt H D M F o c st
@@ -155,10 +156,10 @@ module _ (s : ClientState) (Came : Body → Type 0) (H : CurrentCall → Type 0)
   none_silent o none m is = none_some m (sym none ∙ is)
 
   waits : (d : ClientDoing) (c : CurrentCall) → IsReady s d → At d.sent c c.stage → Calm (with_current d c)
-  waits d c r h = record { silent = none_silent d.sent r.4; stands = (r.5, h) }
+  waits d c r h = record { kept = (r.0, r.1); silent = none_silent d.sent r.4; stands = (r.5, h) }
 
   replied : (d : ClientDoing) (reply : Answer) → IsReady s d → E reply → Calm (answers d reply)
-  replied d reply r h = record { silent = none_silent d.sent r.4; stands = h }
+  replied d reply r h = record { kept = (r.0, r.1); silent = none_silent d.sent r.4; stands = h }
 
   none_live : (d : ClientDoing) (c : CurrentCall) → IsReady s d → is_mutation c.asked && list_any (is_live_at d.client.now) c.live ≡ false → is_mutation c.asked ≡ true → list_any (is_live_at s.now) c.live ≡ false
   none_live d c r none mutates = subst (λ (n : ℕ). list_any (is_live_at n) c.live ≡ false) r.1 (and_second (is_mutation c.asked) (list_any (is_live_at d.client.now) c.live) none mutates)
@@ -177,23 +178,24 @@ module _ (s : ClientState) (Came : Body → Type 0) (H : CurrentCall → Type 0)
       on_cond Calm (is_last_attempt c) (gives_up d (ended c)) (with_current d (ended c)) (λ _. gives_up_calm d (ended c) r over) (λ _. waits d (ended c) r over)
 
   asks_calm : (d : ClientDoing) (c : CurrentCall) → IsReady s d → H c → Calm (asks d c)
-  asks_calm d c r h = record { silent = λ m is. one_silent _ tt m is; stands = (r.5, k.same c _ (refl, refl, refl, refl, refl) h) }
+  asks_calm d c r h = record { kept = (r.0, r.1); silent = λ m is. one_silent _ tt m is; stands = (r.5, k.same c _ (refl, refl, refl, refl, refl) h) }
 
   reads_calm : (d : ClientDoing) (c : CurrentCall) (chunk : ToldChunk) (hs : List Holder) → IsReady s d → is_mutation c.asked ≡ false → H c → Calm (reads_next d c chunk hs)
   reads_calm d c chunk [] r plain h = refused_calm d (record c { is_nobody_serving = true }) r (k.same c (record c { is_nobody_serving = true }) (refl, refl, refl, refl, refl) h)
   reads_calm d c chunk (x ∷ rest) r plain h =
       record {
+        kept = (r.0, r.1);
         silent = λ m is. one_silent _ (on_cond IsNoMutate (is_length c.asked) (body.Len (suc d.client.number) chunk.handle x.version)
             (body.Read (suc d.client.number) chunk.handle x.version (read_start (file_chunk d.client c.file.0) c.index c.asked) (read_count (file_chunk d.client c.file.0) c.index c.asked)) (λ _. tt) (λ _. tt)) m is;
         stands = (r.5, (plain, k.same c _ (refl, refl, refl, refl, refl) h));
       }
 
   again_calm : (d : ClientDoing) (c : CurrentCall) (chunk : ToldChunk) → IsReady s d → H c → Calm (committed d c (push_planned d.client c chunk None))
-  again_calm d c chunk r h = record { silent = λ m is. none_some m is; stands = (r.5, k.same c _ (refl, refl, refl, refl, refl) h) }
+  again_calm d c chunk r h = record { kept = (r.0, r.1); silent = λ m is. none_some m is; stands = (r.5, k.same c _ (refl, refl, refl, refl, refl) h) }
 
   push_to_calm : (d : ClientDoing) (c : CurrentCall) (chunk : ToldChunk) (g : Group) (o : Option ServerId) → IsReady s d → is_mutation c.asked ≡ true → H c → Calm (committed d c (push_planned_to d.client c chunk g o))
   push_to_calm d c chunk g None r mutates h = again_calm d c chunk r h
-  push_to_calm d c chunk g (Some first) r mutates h = record { silent = λ m is. one_silent _ tt m is; stands = (r.5, (mutates, k.same c _ (refl, refl, refl, refl, refl) h, k.pushes d c chunk g first r mutates h)) }
+  push_to_calm d c chunk g (Some first) r mutates h = record { kept = (r.0, r.1); silent = λ m is. one_silent _ tt m is; stands = (r.5, (mutates, k.same c _ (refl, refl, refl, refl, refl) h, k.pushes d c chunk g first r mutates h)) }
 
   push_calm : (d : ClientDoing) (c : CurrentCall) (chunk : ToldChunk) (o : Option Group) → IsReady s d → is_mutation c.asked ≡ true → H c → Calm (committed d c (push_planned d.client c chunk o))
   push_calm d c chunk None r mutates h = again_calm d c chunk r h
@@ -264,7 +266,7 @@ module _ (s : ClientState) (Came : Body → Type 0) (H : CurrentCall → Type 0)
   named_reply c reply plain h = ends c reply h (k.replies c.asked reply plain) (λ mutates. absurd (true≢false (sym mutates ∙ plain)))
 
   reply_calm : (d : ClientDoing) (c : CurrentCall) (reply : NameReply) → IsReady s d → is_mutation c.asked ≡ false → H c → Calm (takes_reply d reply)
-  reply_calm d c (Opened file) r plain h = record { silent = none_silent d.sent r.4; stands = named_reply c _ plain h }
+  reply_calm d c (Opened file) r plain h = record { kept = (r.0, r.1); silent = none_silent d.sent r.4; stands = named_reply c _ plain h }
   reply_calm d c (Answered reply) r plain h = replied d reply r (named_reply c reply plain h)
 
   takes_named_calm : (d : ClientDoing) (c : CurrentCall) (st : Stage) (number : ℕ) (reply : NameReply) → IsReady s d → At None c st → Calm d → Calm (takes_named d c st number reply)
@@ -336,7 +338,7 @@ module _ (s : ClientState) (Came : Body → Type 0) (H : CurrentCall → Type 0)
   takes_done_calm c other id place h came p = p
 
   abbrev Left : ClientDoing → Type 0
-  Left d = IsCalm s H D M F E d ⊎ IsAsking s H D M F E d
+  Left d = IsCalm s H D M F E Z d ⊎ IsAsking s H D M F E Z d
 
   takes_pushed_calm : (c : CurrentCall) (st : Stage) (id : DataId) → s.current ≡ Some c → At None c st → Calm d0 → Left (takes_pushed (client_begins s) c st id)
   takes_pushed_calm c (SentData chunk primary number) id now h p =
@@ -365,6 +367,7 @@ module _ (s : ClientState) (Came : Body → Type 0) (H : CurrentCall → Type 0)
   naming_calm d c r plain h =
       let begun : CurrentCall = record c { deadline = attempt_end d.client } in
       record {
+        kept = (r.0, r.1);
         silent = λ m is. one_silent _ (on_cond IsNoMutate (is_look c.asked) (body.Look c.number c.asked) (body.Name c.number begun.deadline c.asked) (λ _. tt) (λ _. tt)) m is;
         stands = (r.5, (plain, k.begins c _ (refl, refl, refl, refl) (same_end d r) h));
       }
@@ -388,10 +391,10 @@ module _ (s : ClientState) (Came : Body → Type 0) (H : CurrentCall → Type 0)
   ticks_calm c (SentMutate chunk number) h p = ticks_unanswered_calm c (λ e. forgets e c chunk) ready (k.expires c chunk number h.1) p
   ticks_calm c (SentRead chunk left number) h p = ticks_unanswered_calm c (λ e. forgets e c chunk) ready (λ _. h.1) p
 
-  pub begun_calm : StandsNow s H D M F E None None s.current → IsCalm s H D M F E (client_begins s)
-  begun_calm h = record { silent = λ m is. none_some m is; stands = h }
+  pub begun_calm : StandsNow s H D M F E Z None None s.current → IsCalm s H D M F E Z (client_begins s)
+  begun_calm h = record { kept = (refl, refl); silent = λ m is. none_some m is; stands = h }
 
-  pub does_leave : (i : Input) (o : Option CurrentCall) → s.current ≡ o → IsCameIn Came i → StandsNow s H D M F E None None o → Calm d0 → Left (client_does (client_begins s) i o)
+  pub does_leave : (i : Input) (o : Option CurrentCall) → s.current ≡ o → IsCameIn Came i → StandsNow s H D M F E Z None None o → Calm d0 → Left (client_does (client_begins s) i o)
   does_leave i None now came h p = inl p
   does_leave (input.Deliver m) (Some c) now came h p = takes_at_calm c m c.stage refl now came h.1 p
   does_leave input.Tick (Some c) now came h p = inl (ticks_calm c c.stage h.1 p)

@@ -24,7 +24,7 @@ use Rattle.client_state.specs.declared.call.Stage.TheVariants.{SentData}
 use Rattle.client_state.specs.declared.call.ToldChunk.{ToldChunk}
 use Rattle.protocol.specs.Sending.{data_id, moment_of, the_client}
 use Rattle.protocol.specs.PushBuffer.{hops_after}
-use Rattle.protocol.specs.Client.{file_chunk, ClientState, ClientDoing, client_begins}
+use Rattle.protocol.specs.Client.{file_chunk, ClientState, ClientDoing, client_begins, answers}
 use Rattle.protocol.specs.ClientAttempts.{is_mutation, bytes_to_send, is_live_at, push_planned_to}
 use Rattle.protocol.specs.ClientTakes.{is_kept_beside, less_live, stays_live}
 use Rattle.protocol.specs.ClientStep.{new_call, calls, client_does}
@@ -37,7 +37,7 @@ use Rattle.protocol_deadlines.proofs.Deadlines.{asks_for, asking, same_counted}
 use Rattle.protocol_entries.specs.Laws.{IsAmong, IsPushed}
 use Rattle.protocol_answered_attempts.specs.Laws.{IsFinal}
 use Rattle.protocol_answered_attempts.proofs.AnsweredAttempts.{same_mutate}
-use Rattle.protocol_call_steps.proofs.CallWalk.{IsSamePart, IsDenial, IsReady, KeepsCall, StandsNow, IsCalm, Leaves, does_leave, begun_calm, call_calm}
+use Rattle.protocol_call_steps.proofs.CallWalk.{IsSamePart, IsDenial, IsReady, KeepsCall, StandsNow, IsCalm, Leaves, does_leave, begun_calm, call_calm, at_once_calm}
 use Rattle.protocol_open_calls.specs.Laws.{AsksBy, WasAnswered}
 
 -- lists of live attempts
@@ -95,7 +95,7 @@ module _ (P Q : LiveAttempt → Type 0) where
   both_any [] all h = absurd h
   both_any (x ∷ xs) all h = elim (h) [ inl now ↦ inl (now, all.0) | inr later ↦ inr (both_any xs all.1 later) ]
 
-strictly : (n m : ℕ) → n ≤ m → (n ≡ m → ⊥) → n < m
+pub strictly : (n m : ℕ) → n ≤ m → (n ≡ m → ⊥) → n < m
 strictly n m low apart = by_test (nat_lt n m) refl
   where
     by_test : (b : Bool) → nat_lt n m ≡ b → n < m
@@ -112,6 +112,7 @@ pub record WasPassed (sent : List Message) (id : DataId) (version : Version) (de
   pub end : Moment
   pub asks : AsksBy sent later handle higher end
   pub answered : WasAnswered sent later
+  pub pushed : (bytes : List ℕ) × IsPushed sent later bytes
   pub same_client : later.client ≡ id.client
   pub is_later : id.seq < later.seq
   pub not_lower : version.0 ≤ higher.0
@@ -303,6 +304,7 @@ module _ (config : Config) (sent : List Message) (greatest : ℕ) (s : ClientSta
             end = c.deadline;
             asks = h.asks;
             answered = answered;
+            pushed = h.pushed;
             same_client = ap (λ (n : ℕ). (data_id n number).client) (sym own);
             is_later = strictly id.seq number (h.last id handle version deadline own a) apart;
             not_lower = let same = ap (λ (v : Version). v.0) counted.0 in omega (arith, same, not_above);
@@ -386,15 +388,15 @@ module _ (config : Config) (sent : List Message) (greatest : ℕ) (s : ClientSta
           inl (omega (arith, end, until, known))
 
   abbrev pub Leaving : ClientDoing → Type 0
-  Leaving d = Leaves s Open (λ o c chunk number. HasData config sent greatest s.id o c chunk number) UnderWay AnyReply (λ reply. AllOver config sent greatest s.id) d
+  Leaving d = Leaves s Open (λ o c chunk number. HasData config sent greatest s.id o c chunk number) UnderWay AnyReply (λ reply. AllOver config sent greatest s.id) (AllOver config sent greatest s.id) d
 
   abbrev pub Standing : Option Message → Option Answer → Option CurrentCall → Type 0
-  Standing o a c = StandsNow s Open (λ o c chunk number. HasData config sent greatest s.id o c chunk number) UnderWay AnyReply (λ reply. AllOver config sent greatest s.id) o a c
+  Standing o a c = StandsNow s Open (λ o c chunk number. HasData config sent greatest s.id o c chunk number) UnderWay AnyReply (λ reply. AllOver config sent greatest s.id) (AllOver config sent greatest s.id) o a c
 
   pub step_leaves : (i : Input) → IsCameIn (CameAs sent s.id) i → Standing None None s.current → Leaving (client_does (client_begins s) i s.current)
   step_leaves i came h =
-      does_leave s (CameAs sent s.id) Open (λ o c chunk number. HasData config sent greatest s.id o c chunk number) UnderWay (λ c chunk place. Open c) AnyReply (λ reply. AllOver config sent greatest s.id) open_keeps open_ends i s.current refl came h
-      (begun_calm s (CameAs sent s.id) Open (λ o c chunk number. HasData config sent greatest s.id o c chunk number) UnderWay (λ c chunk place. Open c) AnyReply (λ reply. AllOver config sent greatest s.id) open_keeps open_ends h)
+      does_leave s (CameAs sent s.id) Open (λ o c chunk number. HasData config sent greatest s.id o c chunk number) UnderWay (λ c chunk place. Open c) AnyReply (λ reply. AllOver config sent greatest s.id) (AllOver config sent greatest s.id) open_keeps open_ends i s.current refl came h
+      (begun_calm s (CameAs sent s.id) Open (λ o c chunk number. HasData config sent greatest s.id o c chunk number) UnderWay (λ c chunk place. Open c) AnyReply (λ reply. AllOver config sent greatest s.id) (AllOver config sent greatest s.id) open_keeps open_ends h)
 
   -- a call that is made where all attempts are over
   module _ (all : AllOver config sent greatest s.id) where
@@ -405,8 +407,13 @@ module _ (config : Config) (sent : List Message) (greatest : ℕ) (s : ClientSta
           timely = record { early = omega arith; lives = tt; plain = λ is. refl };
         }
 
-    pub call_leaves : (c : Call) → Standing None None s.current → IsCalm s Open (λ o c chunk number. HasData config sent greatest s.id o c chunk number) UnderWay AnyReply (λ reply. AllOver config sent greatest s.id) (calls (client_begins s) c)
+    pub call_leaves : (c : Call) → Standing None None s.current → IsCalm s Open (λ o c chunk number. HasData config sent greatest s.id o c chunk number) UnderWay AnyReply (λ reply. AllOver config sent greatest s.id) (AllOver config sent greatest s.id) (calls (client_begins s) c)
     call_leaves c h =
-        call_calm s (CameAs sent s.id) Open (λ o c chunk number. HasData config sent greatest s.id o c chunk number) UnderWay (λ c chunk place. Open c) AnyReply (λ reply. AllOver config sent greatest s.id) open_keeps open_ends
+        call_calm s (CameAs sent s.id) Open (λ o c chunk number. HasData config sent greatest s.id o c chunk number) UnderWay (λ c chunk place. Open c) AnyReply (λ reply. AllOver config sent greatest s.id) (AllOver config sent greatest s.id) open_keeps open_ends
         (λ c file index last first. new_open s.config.attempts 0 c file index last) (λ c name. new_open s.config.attempts (suc s.call_count) c 0 0 None) (λ reply. all) c
-        (begun_calm s (CameAs sent s.id) Open (λ o c chunk number. HasData config sent greatest s.id o c chunk number) UnderWay (λ c chunk place. Open c) AnyReply (λ reply. AllOver config sent greatest s.id) open_keeps open_ends h)
+        (begun_calm s (CameAs sent s.id) Open (λ o c chunk number. HasData config sent greatest s.id o c chunk number) UnderWay (λ c chunk place. Open c) AnyReply (λ reply. AllOver config sent greatest s.id) (AllOver config sent greatest s.id) open_keeps open_ends h)
+
+    pub refusal_leaves : (reply : Answer) → IsCalm s Open (λ o c chunk number. HasData config sent greatest s.id o c chunk number) UnderWay AnyReply (λ reply. AllOver config sent greatest s.id) (AllOver config sent greatest s.id) (answers (client_begins s) reply)
+    refusal_leaves reply =
+        at_once_calm s (CameAs sent s.id) Open (λ o c chunk number. HasData config sent greatest s.id o c chunk number) UnderWay (λ c chunk place. Open c) AnyReply (λ reply. AllOver config sent greatest s.id) (AllOver config sent greatest s.id) open_keeps open_ends
+        (λ c file index last first. new_open s.config.attempts 0 c file index last) (λ c name. new_open s.config.attempts (suc s.call_count) c 0 0 None) (λ reply. all) reply

@@ -54,7 +54,7 @@ pub record IsLeftBehind (sent : List Message) (id : DataId) (handle : Handle) (v
 pub record IsOfOpenCall (start : WorldState) (steps : List (Event × Choice)) (index seq : ℕ) : Type 0 where
   pub part : Option ℕ
   pub asked : WasAsked index start steps (calls_made (after_events start steps).observer.trace (suc index)) part seq
-  pub open : IsTrue (waits (suc index) false (after_events start steps).observer.trace)
+  pub is_open : IsTrue (waits (suc index) false (after_events start steps).observer.trace)
 
 -- Where clocks are kept, a mutation is numbered only for the open call of its client, unless the client left it behind (sections 3.1 and 3.3).
 abbrev pub EntriesAreOfOpenCalls : Type 0

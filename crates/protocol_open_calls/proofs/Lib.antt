@@ -1,0 +1,4 @@
+pub mod OpenStages
+pub mod LaterCalls
+pub mod OpenCalls
+pub mod OpenEntries
