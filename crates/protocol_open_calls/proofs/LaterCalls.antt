@@ -126,7 +126,7 @@ module _ (config : Config) (sent more : List Message) (client greatest later : �
     ],
   )
 
-  over_all_later : AllOver config sent greatest client → AllOver config (sent ++ more) later client
+  pub over_all_later : AllOver config sent greatest client → AllOver config (sent ++ more) later client
   over_all_later h id handle version deadline own a = over_later sent more config.skew_ms greatest later grows id version deadline (h id handle version deadline own (none id handle version deadline own a))
 
   pub stands_later : (o : Option Message) → ((m : Message) → o ≡ Some m → (x : Message) × IsAmong (sent ++ more) x × (x.sender ≡ m.sender) × (x.body ≡ m.body)) → (now then_ : ℕ) → now ≤ then_ → (call : Option CurrentCall)
@@ -180,7 +180,7 @@ append-[] (y ∷ xs) = ap (λ (ys : List Message). y ∷ ys) (append-[] xs)
 
 -- who waits, in a trace that goes on
 
-pub waits_after : ℕ → Bool → Visible → Bool
+abbrev pub waits_after : ℕ → Bool → Visible → Bool
 waits_after client now (Called who asked) = cond (client == who) true now
 waits_after client now (Answered who reply) = cond (client == who) false now
 waits_after client now (Passed moment) = now
@@ -202,10 +202,10 @@ waits_others o who client None other = refl
 waits_others o who client (Some reply) other = waits_joined client false o.trace (Answered who reply) ∙ ap (λ (b : Bool). cond b false (waits client false o.trace)) other
 
 pub calls_joined : (client : ℕ) (trace : List Visible) (v : Visible) → is_call_of client v ≡ false → calls_made (trace ++ v ∷ []) client ≡ calls_made trace client
-calls_joined client trace v no =
+calls_joined client trace v other =
     let both = count-append (is_call_of client) trace (v ∷ []) in
     let one = count-cons (is_call_of client) v [] in
-    let none = ap {B = ℕ} (λ (b : Bool). cond b 1 0) no in
+    let none = ap {B = ℕ} (λ (b : Bool). cond b 1 0) other in
     omega (arith, both, one, none)
 
 pub calls_passed : (skew : ℕ) (o : Observer) (moment client : ℕ) → calls_made (observed_moment skew o moment).trace client ≡ calls_made o.trace client

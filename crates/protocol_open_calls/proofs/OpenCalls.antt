@@ -54,7 +54,7 @@ use Rattle.protocol_call_steps.proofs.CallWalk.{IsCalm, IsAsking}
 use Rattle.protocol_call_steps.proofs.Answerers.{came_to, attempts_are_answered_by_servers}
 use Rattle.protocol_open_calls.specs.Laws.{AsksBy, WasAnswered}
 use Rattle.protocol_open_calls.proofs.OpenStages.{IsOver, EachOwn, IsOpen, HasData, IsUnderWay, AllOver, CameAs, AnyReply, step_leaves, call_leaves, refusal_leaves}
-use Rattle.protocol_open_calls.proofs.LaterCalls.{pushed_later, over_later, CallStands, NoNew, stands_later, from_others, one_message, from_silent, last_at, sent_there, append-[], waits_joined, waits_passed, waits_others, calls_joined, calls_passed, calls_answered, greatest_answered, put_at, denial_final, split_now, to_now}
+use Rattle.protocol_open_calls.proofs.LaterCalls.{over_all_later, pushed_later, over_later, CallStands, NoNew, stands_later, from_others, one_message, from_silent, last_at, sent_there, append-[], waits_joined, waits_passed, waits_others, calls_joined, calls_passed, calls_answered, greatest_answered, put_at, denial_final, split_now, to_now}
 
 -- one client; T: the numbers under which it asked so far, for each call and part
 module _ (config : Config) (index : ℕ) where
@@ -70,11 +70,11 @@ module _ (config : Config) (index : ℕ) where
   abbrev pub AreAsked : (ℕ → Option ℕ → ℕ → Type 0) → WorldState → Type 0
   AreAsked T w = EachOwn config w.sent w.observer.greatest (suc index) (λ id handle version deadline. IsOver w.sent config.skew_ms w.observer.greatest id version deadline ⊎ InCall T w id.seq)
 
-  record IsStanding (w : WorldState) (s : ClientState) : Type 0 where
-    config_is : s.config ≡ config
-    known : s.now ≤ w.observer.greatest
-    call : IsTrue s.up → CallStands config w.sent w.observer.greatest (suc index) s.now None s.current
-    is_open : IsTrue s.up → is_some s.current ≡ true → waits (suc index) false w.observer.trace ≡ true
+  pub record IsStanding (w : WorldState) (s : ClientState) : Type 0 where
+    pub config_is : s.config ≡ config
+    pub known : s.now ≤ w.observer.greatest
+    pub call : IsTrue s.up → CallStands config w.sent w.observer.greatest (suc index) s.now None s.current
+    pub is_open : IsTrue s.up → is_some s.current ≡ true → waits (suc index) false w.observer.trace ≡ true
 
   pub record IsOn (T : ℕ → Option ℕ → ℕ → Type 0) (w : WorldState) : Type 0 where
     pub asked : AreAsked T w
@@ -384,14 +384,14 @@ module _ (config : Config) (index : ℕ) where
     -- what comes in was sent to it
 
     answers_so : (m : Message) → IsAmong w.sent m → m.receiver ≡ the_client (suc index) → (b : Body) → m.body ≡ b → CameAs w.sent s.id b
-    answers_so m among to (body.Refused number refusal) is = λ denial data.
+    answers_so m among to (body.Refused number refusal) is = λ denial pushed.
         let id : DataId = data_id s.id number in
         let own_receiver : m.receiver ≡ the_client s.id = to ∙ ap (λ (n : ℕ). the_client n) (sym id_is) in
-        let from = attempts_are_answered_by_servers config servers clients w r among.0 m among.1 id data.0 data.1 (inr (refusal, own_receiver, is)) in
+        let from = attempts_are_answered_by_servers config servers clients w r among.0 m among.1 id pushed.0 pushed.1 (inr (refusal, own_receiver, is)) in
         record { server = from.0; answer = m; sent_is = among; sender_is = from.1; answers = inr (refusal, own_receiver, is, denial_final refusal denial) }
-    answers_so m among to (body.Done id place) is = λ number own seq data.
+    answers_so m among to (body.Done id place) is = λ number own seq pushed.
         let same : data_id s.id number ≡ id = ap (λ (n : ℕ). data_id n number) (sym own) ∙ ap (λ (n : ℕ). data_id id.client.0 n) (sym seq) in
-        let from = attempts_are_answered_by_servers config servers clients w r among.0 m among.1 id data.0 (subst (λ (x : DataId). IsPushed w.sent x data.0) same data.1) (inl (place, is)) in
+        let from = attempts_are_answered_by_servers config servers clients w r among.0 m among.1 id pushed.0 (subst (λ (x : DataId). IsPushed w.sent x pushed.0) same pushed.1) (inl (place, is)) in
         subst (λ (x : DataId). WasAnswered w.sent x) (sym same) (record { server = from.0; answer = m; sent_is = among; sender_is = from.1; answers = inl (place, is) })
     answers_so m among to other is = tt
 
