@@ -1,4 +1,1 @@
-pub mod OpenStages
-pub mod LaterCalls
-pub mod OpenCalls
 pub mod OpenEntries

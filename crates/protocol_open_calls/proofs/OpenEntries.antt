@@ -46,10 +46,11 @@ use Rattle.protocol_full_chunks.proofs.UsedNumbers.{Knows, known_not_new, Asks, 
 use Rattle.protocol_answered_attempts.proofs.LateAttempts.{Always, IsLate}
 use Rattle.protocol_answered_attempts.proofs.AnsweredAttempts.{same_mutate, IsSpentUp, Asked, asked_law, asks_now, Reads, not_both, answers_known, answered_attempts_are_placed_no_more}
 use Rattle.protocol_serials_once.proofs.SpentVersions.{IsSpent}
-use Rattle.protocol_open_calls.specs.Laws.{AsksBy, WasAnswered, IsLeftBehind, IsOfOpenCall, EntriesAreOfOpenCalls, EntriesWereAskedForInTheirCall}
-use Rattle.protocol_open_calls.proofs.OpenStages.{strictly, WasPassed, IsOver, HasPushed}
-use Rattle.protocol_open_calls.proofs.LaterCalls.{asks_later, answered_later}
-use Rattle.protocol_open_calls.proofs.OpenCalls.{IsOn, InCall, Since, all_since, Never, new_on}
+use Rattle.protocol_open_calls.specs.Laws.{IsLeftBehind, EntriesAreOfOpenCalls, EntriesWereAskedForInTheirCall}
+use Rattle.protocol_open_attempts.specs.Laws.{AsksBy, WasPassed, IsOver}
+use Rattle.protocol_open_attempts.proofs.OpenStages.{strictly}
+use Rattle.protocol_open_attempts.proofs.LaterCalls.{asks_later, answered_later}
+use Rattle.protocol_open_attempts.proofs.OpenCalls.{attempts_are_over_or_open}
 
 -- settings stay
 pub config_stays : (config : Config) (w : WorldState) (steps : List (Event × Choice)) → w.config ≡ config → (after_events w steps).config ≡ config
@@ -176,9 +177,10 @@ module _ (config : Config) (servers clients : ℕ) (w : WorldState) (r : IsReach
 
 pub entries_are_of_open_calls : EntriesAreOfOpenCalls
 entries_are_of_open_calls config servers clients steps server moment s i choice handle version id numbers kept index own =
-    elim (on.asked id handle version (timely config servers clients w r settings server moment s i choice handle version id numbers kept).deadline own (asks config servers clients w r settings server moment s i choice handle version id numbers kept)) [
+    elim (attempts_are_over_or_open config servers clients steps index id handle version (timely config servers clients w r settings server moment s i choice handle version id numbers kept).deadline own
+    (asks config servers clients w r settings server moment s i choice handle version id numbers kept)) [
       | inl over ↦ inr (by_over config servers clients w r settings server moment s i choice handle version id numbers kept over)
-      | inr is_open ↦ inl (record { part = (is_open.0).0; asked = elim ((is_open.0).1) [ inl never ↦ absurd never | inr was ↦ was ]; is_open = is_open.1 })
+      | inr is_open ↦ inl is_open
     ]
   where
     w : WorldState
@@ -189,9 +191,6 @@ entries_are_of_open_calls config servers clients steps server moment s i choice 
 
     settings : w.config ≡ config
     settings = config_stays config (new_world config servers clients) steps refl
-
-    on : IsOn config index (Since config index (new_world config servers clients) steps Never) w
-    on = all_since config index servers clients (new_world config servers clients) steps Never ([], refl) (new_on config servers clients index)
 
 -- entries
 

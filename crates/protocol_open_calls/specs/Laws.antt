@@ -1,5 +1,5 @@
 -- The laws of every lawful list of events on the calls for which mutations are placed, that public functions of this crate state.
-use Rattle.std.specs.Prelude.{◌≡◌, ◌≢◌, ◌⊎◌, ℕ, suc, false, ◌≤◌, ◌<◌, List, Option, Some, IsTrue}
+use Rattle.std.specs.Prelude.{◌≡◌, ◌≢◌, ◌⊎◌, ℕ, suc, ◌≤◌, ◌<◌, List, Option, Some, IsTrue}
 use Rattle.gfs_types.specs.declared.config.Config.{Config}
 use Rattle.gfs_types.specs.declared.ids.DataId.{DataId}
 use Rattle.gfs_types.specs.declared.ids.Handle.{Handle}
@@ -8,34 +8,15 @@ use Rattle.gfs_types.specs.declared.ids.Moment.{Moment}
 use Rattle.messages.specs.declared.event.Event.{Event}
 use Rattle.messages.specs.declared.event.Input.{Input}
 use Rattle.messages.specs.declared.message.Message.{Message}
-use Rattle.messages.specs.declared.message.Body.TheVariants as body
-use Rattle.messages.specs.declared.message.Target.{Target}
-use Rattle.relaxed_file.specs.NotRuns.{waits}
 use Rattle.protocol.specs.Tables.{element_at}
-use Rattle.protocol.specs.Sending.{data_id, the_server, the_client, version_of}
+use Rattle.protocol.specs.Sending.{data_id, version_of}
 use Rattle.protocol.specs.Choice.{Choice}
-use Rattle.protocol.specs.Observer.{Placed, order_of, calls_made, observed_moment}
+use Rattle.protocol.specs.Observer.{Placed, order_of, observed_moment}
 use Rattle.protocol.specs.Server.{ServerState}
-use Rattle.protocol.specs.World.{WorldState, new_world, after_events}
-use Rattle.protocol_deadlines.specs.Laws.{IsAmong, Numbers}
+use Rattle.protocol.specs.World.{new_world, after_events}
+use Rattle.protocol_deadlines.specs.Laws.{Numbers}
 use Rattle.protocol_few_attempts.specs.Laws.{WasAsked}
-use Rattle.protocol_answered_attempts.specs.Laws.{IsAnswerTo}
-
--- the client of these data asked to place them in this chunk, under this version and before this deadline
-pub record AsksBy (sent : List Message) (id : DataId) (handle : Handle) (version : Version) (deadline : Moment) : Type 0 where
-  pub asked : Message
-  pub aim : Target
-  pub sent_is : IsAmong sent asked
-  pub sender_is : asked.sender ≡ the_client id.client.0
-  pub body_is : asked.body ≡ body.Mutate id handle version aim deadline
-
--- a server answered the attempt of these data, so that it is over
-pub record WasAnswered (sent : List Message) (id : DataId) : Type 0 where
-  pub server : ℕ
-  pub answer : Message
-  pub sent_is : IsAmong sent answer
-  pub sender_is : answer.sender ≡ the_server server
-  pub answers : IsAnswerTo id answer
+use Rattle.protocol_open_attempts.specs.Laws.{AsksBy, WasAnswered, IsOfOpenCall}
 
 -- A later attempt of the client was answered, which asked for another chunk, under a version that is not lower.
 pub record IsLeftBehind (sent : List Message) (id : DataId) (handle : Handle) (version : Version) : Type 0 where
@@ -49,12 +30,6 @@ pub record IsLeftBehind (sent : List Message) (id : DataId) (handle : Handle) (v
   pub is_later : id.seq < later.seq
   pub elsewhere : other.0 ≢ handle.0
   pub not_lower : version.0 ≤ higher.0
-
--- The client asked under this number in its last call, for a part of it, and that call is open.
-pub record IsOfOpenCall (start : WorldState) (steps : List (Event × Choice)) (index seq : ℕ) : Type 0 where
-  pub part : Option ℕ
-  pub asked : WasAsked index start steps (calls_made (after_events start steps).observer.trace (suc index)) part seq
-  pub is_open : IsTrue (waits (suc index) false (after_events start steps).observer.trace)
 
 -- Where clocks are kept, a mutation is numbered only for the open call of its client, unless the client left it behind (sections 3.1 and 3.3).
 abbrev pub EntriesAreOfOpenCalls : Type 0

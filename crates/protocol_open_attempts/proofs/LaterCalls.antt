@@ -32,8 +32,8 @@ use Rattle.protocol_entries.specs.Laws.{IsAmong, IsPushed}
 use Rattle.protocol_few_attempts.proofs.Budget.{IsNoMutate}
 use Rattle.protocol_answered_attempts.specs.Laws.{IsFinal}
 use Rattle.protocol_call_steps.proofs.CallWalk.{IsDenial, StandsAt, StandsNow}
-use Rattle.protocol_open_calls.specs.Laws.{AsksBy, WasAnswered}
-use Rattle.protocol_open_calls.proofs.OpenStages.{IsOver, HasPushed, IsTimely, IsOpen, HasData, IsUnderWay, AllOver, AnyReply}
+use Rattle.protocol_open_attempts.specs.Laws.{AsksBy, WasAnswered, IsOver}
+use Rattle.protocol_open_attempts.proofs.OpenStages.{HasPushed, IsTimely, IsOpen, HasData, IsUnderWay, AllOver, AnyReply}
 
 
 -- while messages are added

@@ -52,9 +52,9 @@ use Rattle.protocol_few_attempts.specs.Laws.{part_of, IsAskedNow, WasAsked}
 use Rattle.protocol_versions.proofs.LeasesStayOver.{reached_later}
 use Rattle.protocol_call_steps.proofs.CallWalk.{IsCalm, IsAsking}
 use Rattle.protocol_call_steps.proofs.Answerers.{came_to, attempts_are_answered_by_servers}
-use Rattle.protocol_open_calls.specs.Laws.{AsksBy, WasAnswered}
-use Rattle.protocol_open_calls.proofs.OpenStages.{IsOver, EachOwn, IsOpen, HasData, IsUnderWay, AllOver, CameAs, AnyReply, step_leaves, call_leaves, refusal_leaves}
-use Rattle.protocol_open_calls.proofs.LaterCalls.{over_all_later, pushed_later, over_later, CallStands, NoNew, stands_later, from_others, one_message, from_silent, last_at, sent_there, append-[], waits_joined, waits_passed, waits_others, calls_joined, calls_passed, calls_answered, greatest_answered, put_at, denial_final, split_now, to_now}
+use Rattle.protocol_open_attempts.specs.Laws.{AsksBy, WasAnswered, IsOver, AttemptsAreOverOrOpen}
+use Rattle.protocol_open_attempts.proofs.OpenStages.{EachOwn, IsOpen, HasData, IsUnderWay, AllOver, CameAs, AnyReply, step_leaves, call_leaves, refusal_leaves}
+use Rattle.protocol_open_attempts.proofs.LaterCalls.{over_all_later, pushed_later, over_later, CallStands, NoNew, stands_later, from_others, one_message, from_silent, last_at, sent_there, append-[], waits_joined, waits_passed, waits_others, calls_joined, calls_passed, calls_answered, greatest_answered, put_at, denial_final, split_now, to_now}
 
 -- one client; T: the numbers under which it asked so far, for each call and part
 module _ (config : Config) (index : ℕ) where
@@ -661,3 +661,10 @@ new_on config servers clients index =
         is_open = λ up some. absurd (true≢false (sym some ∙ ap is_some there.1));
       };
     }
+
+pub attempts_are_over_or_open : AttemptsAreOverOrOpen
+attempts_are_over_or_open config servers clients steps index id handle version deadline own a =
+    elim ((all_since config index servers clients (new_world config servers clients) steps Never ([], refl) (new_on config servers clients index)).asked id handle version deadline own a) [
+      | inl over ↦ inl over
+      | inr open_one ↦ inr (record { part = (open_one.0).0; asked = elim ((open_one.0).1) [ inl never ↦ absurd never | inr was ↦ was ]; is_open = open_one.1 })
+    ]

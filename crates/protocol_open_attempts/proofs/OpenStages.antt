@@ -38,7 +38,7 @@ use Rattle.protocol_entries.specs.Laws.{IsAmong, IsPushed}
 use Rattle.protocol_answered_attempts.specs.Laws.{IsFinal}
 use Rattle.protocol_answered_attempts.proofs.AnsweredAttempts.{same_mutate}
 use Rattle.protocol_call_steps.proofs.CallWalk.{IsSamePart, IsDenial, IsReady, KeepsCall, StandsNow, IsCalm, Leaves, does_leave, begun_calm, call_calm, at_once_calm}
-use Rattle.protocol_open_calls.specs.Laws.{AsksBy, WasAnswered}
+use Rattle.protocol_open_attempts.specs.Laws.{AsksBy, WasAnswered, WasPassed, IsOver}
 
 -- lists of live attempts
 
@@ -101,25 +101,6 @@ strictly n m low apart = by_test (nat_lt n m) refl
     by_test : (b : Bool) → nat_lt n m ≡ b → n < m
     by_test true is = ltb-true n m is
     by_test false is = let high = ltb-false n m is in absurd (apart (omega (arith, low, high)))
-
--- what is over
-
--- a later attempt of the client was answered, under a version and with a deadline that are not lower
-pub record WasPassed (sent : List Message) (id : DataId) (version : Version) (deadline : Moment) : Type 0 where
-  pub later : DataId
-  pub handle : Handle
-  pub higher : Version
-  pub end : Moment
-  pub asks : AsksBy sent later handle higher end
-  pub answered : WasAnswered sent later
-  pub pushed : (bytes : List ℕ) × IsPushed sent later bytes
-  pub same_client : later.client ≡ id.client
-  pub is_later : id.seq < later.seq
-  pub not_lower : version.0 ≤ higher.0
-  pub not_earlier : deadline.0 ≤ end.0
-
-abbrev pub IsOver : List Message → ℕ → ℕ → DataId → Version → Moment → Type 0
-IsOver sent skew greatest id version deadline = (deadline.0 + skew ≤ greatest) ⊎ (WasAnswered sent id ⊎ WasPassed sent id version deadline)
 
 -- a client pushed its data under this number
 abbrev pub HasPushed : List Message → ℕ → ℕ → Type 0
