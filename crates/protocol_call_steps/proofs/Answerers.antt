@@ -39,7 +39,7 @@ use Rattle.protocol_deadlines.proofs.Deadlines.{same_counted}
 use Rattle.protocol_entries.specs.Laws.{IsAmong, IsPushed}
 use Rattle.protocol_rising_rounds.proofs.RisingRounds.{restart_silent}
 use Rattle.protocol_call_steps.specs.Laws.{IsAnswerUnder, AttemptsAreAnsweredByServers}
-use Rattle.protocol_call_steps.proofs.MasterRefusals.{is_no_answer, IsTakenAsk, MasterRefuses, master_refuses_asks}
+use Rattle.protocol_call_steps.proofs.MasterRefusals.{is_no_answer, master_refuses_asks}
 
 -- this client asked under this number
 pub record HasAsk (sent : List Message) (asker : Node) (number : ℕ) : Type 0 where

@@ -38,7 +38,7 @@ use Rattle.protocol.specs.Client.{file_chunk, place_in_file, ClientState, Client
 use Rattle.protocol.specs.ClientCache.{cached}
 use Rattle.protocol.specs.ClientFiles.{last_append}
 use Rattle.protocol.specs.ClientAttempts.{is_mutation, is_length, is_append, read_start, read_count, has_next_part, is_live_at, completes, last_refusal, gives_up, ended, is_last_attempt, ends_refused, asks, reads_next, push_planned_to, push_planned, mutate_planned, chunk_of, goes_on_at, will_do, begins_with, begins_at, chunk_to_find, attempts, attempts_names, begins_next_part, forgets}
-use Rattle.protocol.specs.ClientTakes.{opens, takes_reply, takes_named, takes_wait, gets, told_none, told_location, told, takes_told, is_own_data, takes_pushed, less_live, succeeds, takes_done, takes_bytes, takes_len_is, master_refuses, stays_live, finds_full, primary_refuses, takes_refused, client_takes}
+use Rattle.protocol.specs.ClientTakes.{takes_reply, takes_named, takes_wait, gets, told_none, told_location, told, takes_told, is_own_data, takes_pushed, less_live, succeeds, takes_done, takes_bytes, takes_len_is, master_refuses, stays_live, finds_full, primary_refuses, takes_refused, client_takes}
 use Rattle.protocol.specs.ClientStep.{new_call, calls_names, calls_file, calls_on, fd_of, calls, ticks_names, ends_unanswered, ticks_unanswered, ticks_at, takes_at, client_does}
 use Rattle.protocol_laws.proofs.Steps.{on_cond, none_some, same_some}
 use Rattle.protocol_laws.proofs.ServerMoves.{IsCameIn}
@@ -401,38 +401,38 @@ module _ (s : ClientState) (Came : Body → Type 0) (H : CurrentCall → Type 0)
 
   -- calls
 
-  module _ (filed : (c : Call) (file index : ℕ) (last : Option ℕ) → IsFirst s.config.chunk c index → H (new_call s.config.attempts 0 c file index last)) (named : (c : Call) → is_name_call c ≡ true → H (new_call s.config.attempts (suc s.call_count) c 0 0 None))
+  module _ (Asked : Call → Type 0) (filed : (c : Call) (file index : ℕ) (last : Option ℕ) → Asked c → IsFirst s.config.chunk c index → H (new_call s.config.attempts 0 c file index last)) (named : (c : Call) → is_name_call c ≡ true → Asked c → H (new_call s.config.attempts (suc s.call_count) c 0 0 None))
       (at_once : (reply : Answer) → E reply) where
-    file_calm : (c : Call) (file : ℕ) → Calm d0 → Calm (calls_file (client_begins s) c file)
-    file_calm (call.Close fd) file p = replied (closed s fd file) answer.Done ready (at_once answer.Done)
-    file_calm (call.Length fd) file p = attempts_calm d0 (new_call s.config.attempts 0 (call.Length fd) file 0 None) ready (filed (call.Length fd) file 0 None tt)
-    file_calm (call.Write fd offset bytes) file p =
+    file_calm : (c : Call) (file : ℕ) → Asked c → Calm d0 → Calm (calls_file (client_begins s) c file)
+    file_calm (call.Close fd) file asks p = replied (closed s fd file) answer.Done ready (at_once answer.Done)
+    file_calm (call.Length fd) file asks p = attempts_calm d0 (new_call s.config.attempts 0 (call.Length fd) file 0 None) ready (filed (call.Length fd) file 0 None asks tt)
+    file_calm (call.Write fd offset bytes) file asks p =
         let c : CurrentCall = new_call s.config.attempts 0 (call.Write fd offset bytes) file (offset / file_chunk s file) None in
         on_cond Calm (is_range_too_long offset (length bytes)) _ _ (λ _. replied d0 (answer.Refused TooLong) ready (at_once (answer.Refused TooLong)))
-        (λ _. on_cond Calm (length bytes == 0) _ (attempts d0 c) (λ _. replied d0 answer.Done ready (at_once answer.Done)) (λ _. attempts_calm d0 c ready (filed (call.Write fd offset bytes) file (offset / file_chunk s file) None refl)))
-    file_calm (call.Append fd bytes) file p =
+        (λ _. on_cond Calm (length bytes == 0) _ (attempts d0 c) (λ _. replied d0 answer.Done ready (at_once answer.Done)) (λ _. attempts_calm d0 c ready (filed (call.Write fd offset bytes) file (offset / file_chunk s file) None asks refl)))
+    file_calm (call.Append fd bytes) file asks p =
         let c : CurrentCall = new_call s.config.attempts 0 (call.Append fd bytes) file 0 (last_append s.files file) in
         on_cond Calm (nat_lt (file_chunk s file / 4) (length bytes)) _ (attempts (noted d0 file None) c) (λ _. replied d0 (answer.Refused TooLong) ready (at_once (answer.Refused TooLong)))
-        (λ _. attempts_calm (noted d0 file None) c ready (filed (call.Append fd bytes) file 0 (last_append s.files file) tt))
-    file_calm (call.Read fd offset count) file p =
+        (λ _. attempts_calm (noted d0 file None) c ready (filed (call.Append fd bytes) file 0 (last_append s.files file) asks tt))
+    file_calm (call.Read fd offset count) file asks p =
         let c : CurrentCall = new_call s.config.attempts 0 (call.Read fd offset count) file (offset / file_chunk s file) None in
         on_cond Calm (is_range_too_long offset count) _ _ (λ _. replied d0 (answer.Refused TooLong) ready (at_once (answer.Refused TooLong)))
-        (λ _. on_cond Calm (count == 0) _ (attempts d0 c) (λ _. replied d0 (answer.Bytes [] []) ready (at_once (answer.Bytes [] []))) (λ _. attempts_calm d0 c ready (filed (call.Read fd offset count) file (offset / file_chunk s file) None tt)))
-    file_calm other file p = p
+        (λ _. on_cond Calm (count == 0) _ (attempts d0 c) (λ _. replied d0 (answer.Bytes [] []) ready (at_once (answer.Bytes [] []))) (λ _. attempts_calm d0 c ready (filed (call.Read fd offset count) file (offset / file_chunk s file) None asks tt)))
+    file_calm other file asks p = p
 
-    calls_on_calm : (c : Call) (o : Option ℕ) → Calm d0 → Calm (calls_on (client_begins s) c o)
-    calls_on_calm c None p = replied d0 (answer.Refused BadFd) ready (at_once (answer.Refused BadFd))
-    calls_on_calm c (Some file) p = file_calm c file p
+    calls_on_calm : (c : Call) (o : Option ℕ) → Asked c → Calm d0 → Calm (calls_on (client_begins s) c o)
+    calls_on_calm c None asks p = replied d0 (answer.Refused BadFd) ready (at_once (answer.Refused BadFd))
+    calls_on_calm c (Some file) asks p = file_calm c file asks p
 
     plain_name : (c : Call) → is_name_call c ≡ true → is_mutation c ≡ false
     plain_name (call.Write fd offset bytes) is = absurd (true≢false (sym is))
     plain_name (call.Append fd bytes) is = absurd (true≢false (sym is))
     plain_name other is = refl
 
-    pub call_calm : (c : Call) → Calm d0 → Calm (calls (client_begins s) c)
-    call_calm c p =
+    pub call_calm : (c : Call) → Asked c → Calm d0 → Calm (calls (client_begins s) c)
+    call_calm c asks p =
         on_cond Calm (is_name_call c) (calls_names d0 c) (calls_on d0 c (table.get s.descriptors (fd_of c)))
-        (λ name. naming_calm (once_more s) (new_call s.config.attempts (suc s.call_count) c 0 0 None) ready (plain_name c name) (named c name)) (λ _. calls_on_calm c (table.get s.descriptors (fd_of c)) p)
+        (λ name. naming_calm (once_more s) (new_call s.config.attempts (suc s.call_count) c 0 0 None) ready (plain_name c name) (named c name asks)) (λ _. calls_on_calm c (table.get s.descriptors (fd_of c)) asks p)
 
     pub at_once_calm : (reply : Answer) → Calm (answers (client_begins s) reply)
     at_once_calm reply = replied d0 reply ready (at_once reply)

@@ -1,6 +1,6 @@
 -- What stands of a client's call and of its attempts goes on while messages are added and moments pass; and who waits, in a trace that goes on.
 use Rattle.std.proofs.Common.{◌≡◌, ◌⊎◌, ℕ, zero, suc, ◌≤◌, Bool, true, false, true≢false, List, [], ◌∷◌, ◌++◌, length, Option, Some, None, refl, sym, ap, subst, ◌∙◌, inl, inr, arith}
-use Rattle.std.specs.Prelude.{◌==◌, ◌&&◌, nat_lt, cond}
+use Rattle.std.specs.Prelude.{◌==◌, nat_lt, cond}
 use Rattle.std.specs.Option.{option_to_list}
 use Rattle.gfs_types.specs.declared.config.Config.{Config}
 use Rattle.gfs_types.specs.declared.ids.DataId.{DataId}
@@ -21,7 +21,7 @@ use Rattle.relaxed_file.specs.Run.{Visible, Called, Answered, Passed}
 use Rattle.protocol.specs.Tables.{element_at, with_at}
 use Rattle.protocol.specs.Sending.{data_id, the_client}
 use Rattle.protocol.specs.Observer.{Observer, is_call_of, observed_moment, observed_answer, calls_made}
-use Rattle.protocol.specs.Client.{ClientState, answers}
+use Rattle.protocol.specs.Client.{ClientState}
 use Rattle.protocol.specs.World.{stamped}
 use Rattle.protocol_laws.proofs.Steps.{on_cond, none_some, same_some, count-append, count-cons}
 use Rattle.protocol_laws.proofs.Entries.{AllOf}
@@ -34,7 +34,6 @@ use Rattle.protocol_answered_attempts.specs.Laws.{IsFinal}
 use Rattle.protocol_call_steps.proofs.CallWalk.{IsDenial, StandsAt, StandsNow}
 use Rattle.protocol_open_attempts.specs.Laws.{AsksBy, WasAnswered, IsOver}
 use Rattle.protocol_open_attempts.proofs.OpenStages.{HasPushed, IsTimely, IsOpen, HasData, IsUnderWay, AllOver, AnyReply}
-
 
 -- while messages are added
 

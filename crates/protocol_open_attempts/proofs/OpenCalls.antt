@@ -344,8 +344,10 @@ module _ (config : Config) (index : ℕ) where
           asked = λ id handle version deadline own a.
               elim (h.asked id handle version deadline own (subst (λ (ms : List Message). AsksBy ms id handle version deadline) (append-[] w.sent) (subst (λ (ms : List Message). AsksBy (w.sent ++ stamped (suc (length w.sent)) ms) id handle version deadline) sent a))) [
                 | inl over ↦ inl (over_later w.sent (stamped (suc (length w.sent)) t.out.sent) config.skew_ms w.observer.greatest x.world.observer.greatest (let top = top_is t.out.answer in let low = grows in omega (arith, top, low)) id version deadline over)
-                | inr is_open ↦ inr (((is_open.0).0, subst (λ (n : ℕ). Next w x T n (is_open.0).0 id.seq) (sym (same_calls t.out.answer)) (inl (is_open.0).1)),
-                    ap (λ (a : Option Answer). waits (suc index) false (observed_answer (observed_moment w.config.skew_ms w.observer moment) (suc index) a).trace) none ∙ waits_passed w.config.skew_ms w.observer moment (suc index) ∙ is_open.1)
+                | inr is_open ↦ inr (
+                  ((is_open.0).0, subst (λ (n : ℕ). Next w x T n (is_open.0).0 id.seq) (sym (same_calls t.out.answer)) (inl (is_open.0).1)),
+                  ap (λ (a : Option Answer). waits (suc index) false (observed_answer (observed_moment w.config.skew_ms w.observer moment) (suc index) a).trace) none ∙ waits_passed w.config.skew_ms w.observer moment (suc index) ∙ is_open.1,
+                )
               ];
           stands = λ v there. subst (λ (y : ClientState). IsStanding x.world y) (sym (put_at t.state w.clients index v there)) (record {
             config_is = same;

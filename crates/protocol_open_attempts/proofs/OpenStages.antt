@@ -11,8 +11,6 @@ use Rattle.gfs_types.specs.declared.ids.Moment.{Moment}
 use Rattle.gfs_types.specs.declared.ids.ServerId.{ServerId}
 use Rattle.gfs_types.specs.declared.call.Call.{Call}
 use Rattle.gfs_types.specs.declared.answer.Answer.{Answer}
-use Rattle.gfs_types.specs.declared.refusal.Refusal.{Refusal}
-use Rattle.gfs_types.specs.declared.refusal.Refusal.TheVariants.{NoLease, NoChunk}
 use Rattle.messages.specs.declared.message.Body.{Body}
 use Rattle.messages.specs.declared.message.Body.TheVariants as body
 use Rattle.messages.specs.declared.message.Message.{Message}
@@ -34,11 +32,10 @@ use Rattle.protocol_laws.proofs.ServerMoves.{IsCameIn}
 use Rattle.protocol_attempts.specs.Laws.{mutates_under}
 use Rattle.protocol_attempts.proofs.ClientWalk.{attempt_end}
 use Rattle.protocol_deadlines.proofs.Deadlines.{asks_for, asking, same_counted}
-use Rattle.protocol_entries.specs.Laws.{IsAmong, IsPushed}
-use Rattle.protocol_answered_attempts.specs.Laws.{IsFinal}
+use Rattle.protocol_entries.specs.Laws.{IsPushed}
 use Rattle.protocol_answered_attempts.proofs.AnsweredAttempts.{same_mutate}
 use Rattle.protocol_call_steps.proofs.CallWalk.{IsSamePart, IsDenial, IsReady, KeepsCall, StandsNow, IsCalm, Leaves, does_leave, begun_calm, call_calm, at_once_calm}
-use Rattle.protocol_open_attempts.specs.Laws.{AsksBy, WasAnswered, WasPassed, IsOver}
+use Rattle.protocol_open_attempts.specs.Laws.{AsksBy, WasAnswered, IsOver}
 
 -- lists of live attempts
 
@@ -308,9 +305,9 @@ module _ (config : Config) (sent : List Message) (greatest : ℕ) (s : ClientSta
             | inr rest ↦ elim (rest) [
               | inl live ↦ elim (kept_any (λ l. Counted version deadline l × (l.until.0 ≤ c.deadline.0 + config.skew_ms)) (is_kept_beside chunk) c.live
                   (both_any (Counted version deadline) (λ l. l.until.0 ≤ c.deadline.0 + config.skew_ms) c.live h.timely.lives live)) [
-                | inl kept ↦ inr (map_any (λ l. Counted version deadline l × (l.until.0 ≤ c.deadline.0 + config.skew_ms)) (Counted version deadline) (λ l both. both.0) (filter (is_kept_beside chunk) c.live) kept)
-                | inr out ↦ inl (left_out id handle version deadline own a out.0 (out.1).0 (out.1).1 out.2 answered)
-              ]
+                    | inl kept ↦ inr (map_any (λ l. Counted version deadline l × (l.until.0 ≤ c.deadline.0 + config.skew_ms)) (Counted version deadline) (λ l both. both.0) (filter (is_kept_beside chunk) c.live) kept)
+                    | inr out ↦ inl (left_out id handle version deadline own a out.0 (out.1).0 (out.1).1 out.2 answered)
+                  ]
               | inr is ↦ inl (inr (inl (subst (λ (x : DataId). WasAnswered sent x) (data_is id own is) answered)))
             ]
           ];
@@ -344,12 +341,16 @@ module _ (config : Config) (sent : List Message) (greatest : ℕ) (s : ClientSta
           → HasData config sent greatest s.id (push_planned_to d.client c chunk g (Some first)).sent (record c { stage = SentData chunk g.primary (suc d.client.number) }) chunk (suc d.client.number)
       pushes_data d c chunk g first r = (
         λ id handle version deadline own a. let most = used id handle version deadline own a in let same = r.3 in omega (arith, most, same),
-        inr (_, refl, record {
-          bytes = bytes_to_send (file_chunk d.client c.file.0) c.index c.asked;
-          rest = hops_after g.members first.0;
-          sender_is = ap (λ (n : ℕ). the_client n) r.2;
-          body_is = ap (λ (n : ℕ). body.Push (data_id n (suc d.client.number)) (bytes_to_send (file_chunk d.client c.file.0) c.index c.asked) (hops_after g.members first.0)) r.2;
-        }),
+        inr (
+          _,
+          refl,
+          record {
+            bytes = bytes_to_send (file_chunk d.client c.file.0) c.index c.asked;
+            rest = hops_after g.members first.0;
+            sender_is = ap (λ (n : ℕ). the_client n) r.2;
+            body_is = ap (λ (n : ℕ). body.Push (data_id n (suc d.client.number)) (bytes_to_send (file_chunk d.client c.file.0) c.index c.asked) (hops_after g.members first.0)) r.2;
+          },
+        ),
       )
 
   -- a call that is answered has no attempt that isn't over
@@ -391,10 +392,10 @@ module _ (config : Config) (sent : List Message) (greatest : ℕ) (s : ClientSta
     pub call_leaves : (c : Call) → Standing None None s.current → IsCalm s Open (λ o c chunk number. HasData config sent greatest s.id o c chunk number) UnderWay AnyReply (λ reply. AllOver config sent greatest s.id) (AllOver config sent greatest s.id) (calls (client_begins s) c)
     call_leaves c h =
         call_calm s (CameAs sent s.id) Open (λ o c chunk number. HasData config sent greatest s.id o c chunk number) UnderWay (λ c chunk place. Open c) AnyReply (λ reply. AllOver config sent greatest s.id) (AllOver config sent greatest s.id) open_keeps open_ends
-        (λ c file index last first. new_open s.config.attempts 0 c file index last) (λ c name. new_open s.config.attempts (suc s.call_count) c 0 0 None) (λ reply. all) c
+        (λ c. Unit {0}) (λ c file index last asks first. new_open s.config.attempts 0 c file index last) (λ c name asks. new_open s.config.attempts (suc s.call_count) c 0 0 None) (λ reply. all) c tt
         (begun_calm s (CameAs sent s.id) Open (λ o c chunk number. HasData config sent greatest s.id o c chunk number) UnderWay (λ c chunk place. Open c) AnyReply (λ reply. AllOver config sent greatest s.id) (AllOver config sent greatest s.id) open_keeps open_ends h)
 
     pub refusal_leaves : (reply : Answer) → IsCalm s Open (λ o c chunk number. HasData config sent greatest s.id o c chunk number) UnderWay AnyReply (λ reply. AllOver config sent greatest s.id) (AllOver config sent greatest s.id) (answers (client_begins s) reply)
     refusal_leaves reply =
         at_once_calm s (CameAs sent s.id) Open (λ o c chunk number. HasData config sent greatest s.id o c chunk number) UnderWay (λ c chunk place. Open c) AnyReply (λ reply. AllOver config sent greatest s.id) (AllOver config sent greatest s.id) open_keeps open_ends
-        (λ c file index last first. new_open s.config.attempts 0 c file index last) (λ c name. new_open s.config.attempts (suc s.call_count) c 0 0 None) (λ reply. all) reply
+        (λ c. Unit {0}) (λ c file index last asks first. new_open s.config.attempts 0 c file index last) (λ c name asks. new_open s.config.attempts (suc s.call_count) c 0 0 None) (λ reply. all) reply
