@@ -1,9 +1,10 @@
 -- In each world that is reached, each attempt that a server answered is used up under its version, or its number is that of a reading.
 use Rattle.std.proofs.Common.{IsTrue, ◌≡◌, ◌⊎◌, ℕ, zero, suc, ◌≤◌, true, false, true≢false, List, [], ◌∷◌, ◌++◌, length, map, Option, Some, None, refl, sym, ap, subst, ◌∙◌, inl, inr, arith}
-use Rattle.std.specs.Prelude.{Bool, cond, nat_lt, ◌==◌, ◌&&◌}
+use Rattle.std.specs.Prelude.{Bool, cond, max, nat_le, nat_lt, ◌==◌, ◌&&◌}
 use Rattle.std.specs.Option.{option_to_list}
 use Rattle.std.specs.FinMap as table
 use Rattle.std.proofs.lemmas.Bool.{and_from, ltb-true}
+use Rattle.std.proofs.Math.Nat.{le-max_left}
 use Rattle.gfs_types.specs.declared.config.Config.{Config}
 use Rattle.gfs_types.specs.declared.ids.Node.{Node}
 use Rattle.gfs_types.specs.declared.ids.DataId.{DataId}
@@ -27,6 +28,7 @@ use Rattle.primary_order.specs.SerialOrder.{attempted, attempted_by, denied}
 use Rattle.protocol.specs.Tables.{Table, element_at, with_at, first_numbers}
 use Rattle.protocol.specs.Sending.{the_server, the_client}
 use Rattle.protocol.specs.Choice.{Choice, Ending, Goes, Lost, Stops}
+use Rattle.protocol.specs.Observer.{observed_moment}
 use Rattle.protocol.specs.Seen.{Taken, no_step}
 use Rattle.protocol.specs.Client.{ClientState, ClientDoing}
 use Rattle.protocol.specs.ClientStep.{client_at, client_step, client_call}
@@ -48,14 +50,16 @@ use Rattle.protocol_words.proofs.Histories.{IsGrown, steps_grown}
 use Rattle.protocol_versions.proofs.LeasesStayOver.{reached_later}
 use Rattle.protocol_entries.specs.Laws.{IsAmong, IsPushed, IsAskedFor}
 use Rattle.protocol_entries.proofs.Stemming.{came_in, numbered_mutations_were_asked_for}
-use Rattle.protocol_deadlines.proofs.Deadlines.{same_counted}
+use Rattle.protocol_deadlines.specs.Laws.{Numbers, IsInTime}
+use Rattle.protocol_deadlines.proofs.Deadlines.{asks_for, asking, same_counted, attempts_are_placed_before_their_deadline}
 use Rattle.protocol_numbered_once.proofs.KnownNumbers.{primary_there}
 use Rattle.protocol_serials_once.proofs.OrderWalk.{AreFit, put_fit, does_fit}
 use Rattle.protocol_serials_once.proofs.SpentVersions.{IsSpent, none_fit, each_spent, first_spent, places_fit}
 use Rattle.protocol_full_chunks.proofs.OwnMutates.{IsOwn, mutates_are_own}
 use Rattle.protocol_full_chunks.proofs.Beside.{each_among}
-use Rattle.protocol_full_chunks.proofs.UsedNumbers.{Knows, knows_keeps, own_kept, IsUsed, used_not_new}
+use Rattle.protocol_full_chunks.proofs.UsedNumbers.{Knows, knows_keeps, own_kept, Asks, IsUsed, used_not_new}
 use Rattle.protocol_answered_attempts.specs.Laws.{IsAnswerTo, AnsweredAttemptsArePlacedNoMore}
+use Rattle.protocol_answered_attempts.proofs.LateAttempts.{IsLate, each_late, new_late}
 use Rattle.protocol_answered_attempts.proofs.UsedOrders.{IsCaused, Causes, right_on, caused_on}
 use Rattle.protocol_answered_attempts.proofs.UsedAnswers.{AreRight, IsReading, IsEnd, Knowing, step_leaves, none_right, restart_leaves}
 
@@ -116,6 +120,27 @@ module _ (config : Config) (servers clients : ℕ) (w : WorldState) (r : IsReach
           calls = λ e index moment s c choice at may. used_in _ (among.calls e index moment s c choice at may) (spent_later.calls e index moment s c choice at may);
           rots = λ e index handle s d place byte is_kept at there up. used_in _ (among.rots e index handle s d place byte is_kept at there up) (spent_later.rots e index handle s d place byte is_kept at there up);
         }
+
+-- It is used up, or too late.
+abbrev pub IsSpentUp : WorldState → DataId → Type 0
+IsSpentUp w id = IsUsed w id ⊎ IsLate w id
+
+also_after : (w : WorldState) (Q R : WorldState → Type 0) → ((u : WorldState) → Q u → R u) → HoldsAfter w (λ e x. Q x.world) → HoldsAfter w (λ e x. R x.world)
+also_after w Q R go q =
+    record {
+      nothing = λ e. go _ (q.nothing e);
+      masters = λ e moment i choice is up. go _ (q.masters e moment i choice is up);
+      opens = λ e moment choice. go _ (q.opens e moment choice);
+      serves = λ e index moment s i choice at is up. go _ (q.serves e index moment s i choice at is up);
+      restarts = λ e index moment s choice at. go _ (q.restarts e index moment s choice at);
+      steps = λ e index moment s i choice at is up. go _ (q.steps e index moment s i choice at is up);
+      calls = λ e index moment s c choice at may. go _ (q.calls e index moment s c choice at may);
+      rots = λ e index handle s d place byte is_kept at there up. go _ (q.rots e index handle s d place byte is_kept at there up);
+    }
+
+each_spent_up : (config : Config) (servers clients : ℕ) (w : WorldState) → IsReached config servers clients w → (id : DataId) → IsSpentUp w id → HoldsAfter w (λ e x. IsSpentUp x.world id)
+each_spent_up config servers clients w r id (inl used) = also_after w (λ u. IsUsed u id) (λ u. IsSpentUp u id) (λ u h. inl h) (each_used config servers clients w r id used)
+each_spent_up config servers clients w r id (inr late) = also_after w (λ u. IsLate u id) (λ u. IsSpentUp u id) (λ u h. inr h) (each_late config servers clients w r id late)
 
 -- what an old or a new attempt comes to
 
@@ -189,15 +214,22 @@ goes_is s moment i m id handle version t deadline is asked = ap (λ (j : Input).
 knowing : (config : Config) (servers clients : ℕ) (w : WorldState) → IsReached config servers clients w → (index moment : ℕ) (s : ServerState) (i : Input) (choice : Choice) → element_at w.servers index ≡ Some s → IsTrue s.up
     → ((m : Message) → i ≡ input.Deliver m → IsAmong w.sent m) → (G : ℕ → ℕ → Type 0)
     → (m : Message) (id : DataId) (handle : Handle) (version : Version) (t : Target) (deadline : Moment) (p : SerialOrder) → i ≡ input.Deliver m → m.body ≡ body.Mutate id handle version t deadline → primary_of (server_at s moment) handle.0 version.0 ≡ Some p
-    → Knowing (λ x. IsUsed (after_server w index moment (server_step s moment i choice)).world x) G (server_begins (server_at s moment)) handle.0 p id
+    → Knowing (λ x. IsSpentUp (after_server w index moment (server_step s moment i choice)).world x) G (server_at s moment).now (server_begins (server_at s moment)) handle.0 p id
     (mutates_under (server_begins (server_at s moment)) handle.0 id t deadline.0 (primary_of (server_at s moment) handle.0 version.0))
+    × (nat_le deadline.0 (server_at s moment).now ≡ true → IsSpentUp (after_server w index moment (server_step s moment i choice)).world id)
 knowing config servers clients w r index moment s i choice at up came G m id handle version t deadline p is asked primary = (
-  λ old. new_used config servers clients w r index moment s i choice at up came m id handle version t deadline p is asked primary (does_fit (Knows id) (knows_keeps id) handle.0 version.0 (server_at s moment) i none_granted i refl (held_known old)),
-  λ new end. new_used config servers clients w r index moment s i choice at up came m id handle version t deadline p is asked primary
-      (subst (λ (x : ServerDoing). AreFit (Knows id) handle.0 version.0 x.server.leases) (sym (goes_is s moment i m id handle version t deadline is asked))
-      (end_done id handle.0 version.0 (server_begins (server_at s moment)) (mutates_under (server_begins (server_at s moment)) handle.0 id t deadline.0 (primary_of (server_at s moment) handle.0 version.0)) p end)),
+  (
+    λ old. inl (new_used config servers clients w r index moment s i choice at up came m id handle version t deadline p is asked primary (does_fit (Knows id) (knows_keeps id) handle.0 version.0 (server_at s moment) i none_granted i refl (held_known old))),
+    λ new end. inl (new_used config servers clients w r index moment s i choice at up came m id handle version t deadline p is asked primary
+        (subst (λ (x : ServerDoing). AreFit (Knows id) handle.0 version.0 x.server.leases) (sym (goes_is s moment i m id handle version t deadline is asked))
+        (end_done id handle.0 version.0 (server_begins (server_at s moment)) (mutates_under (server_begins (server_at s moment)) handle.0 id t deadline.0 (primary_of (server_at s moment) handle.0 version.0)) p end))),
+  ),
+  λ late. inr (new_late config servers clients w r index moment s i choice at up m (came m is) id (own_sender m refl) handle version t deadline asked p held.0 held.1 late),
 )
   where
+    own_sender : (x : Message) → x ≡ m → x.sender ≡ the_client id.client.0
+    own_sender x same = let own = mutates_are_own config servers clients w r (came m is).0 m (came m is).1 in subst (λ (y : Message). y.sender ≡ the_client id.client.0) (sym same) (subst (λ (b : Body). IsOwn m.sender b) asked own)
+
     held : (table.get s.leases handle.0 ≡ Some p) × (p.held.version ≡ version.0)
     held = primary_there (server_at s moment) version.0 (table.get s.leases handle.0) p primary
 
@@ -220,8 +252,8 @@ knowing config servers clients w r index moment s i choice at up came G m id han
 
 record IsSound (w : WorldState) : Type 0 where
   numbered : AreNumbered w.sent w.clients
-  leases : (index : ℕ) (s : ServerState) → element_at w.servers index ≡ Some s → AreRight (IsUsed w) s.leases
-  told : (place : ℕ) (m : Message) → element_at w.sent place ≡ Some m → (server : ℕ) → m.sender ≡ the_server server → Causes (IsUsed w) (Reads w.sent) m
+  leases : (index : ℕ) (s : ServerState) → element_at w.servers index ≡ Some s → AreRight (IsSpentUp w) s.leases
+  told : (place : ℕ) (m : Message) → element_at w.sent place ≡ Some m → (server : ℕ) → m.sender ≡ the_server server → Causes (IsSpentUp w) (Reads w.sent) m
 
 abbrev Tells : (DataId → Type 0) → (ℕ → ℕ → Type 0) → Message → Type 0
 Tells F G m = (server : ℕ) → m.sender ≡ the_server server → Causes F G m
@@ -257,12 +289,12 @@ client_silent : (s : ClientState) (d : ClientDoing) (o : Option Message) → IsS
 client_silent s d None step is = tt
 client_silent s d (Some m) step is = let said = step.says m is in (λ server from. client_apart s.id server m.sender said.0 from, tt)
 
-module _ (w : WorldState) (h : IsSound w) (F : DataId → Type 0) (G : ℕ → ℕ → Type 0) (go : (id : DataId) → IsUsed w id → F id) (on : (c n : ℕ) → Reads w.sent c n → G c n) where
+module _ (w : WorldState) (h : IsSound w) (F : DataId → Type 0) (G : ℕ → ℕ → Type 0) (go : (id : DataId) → IsSpentUp w id → F id) (on : (c n : ℕ) → Reads w.sent c n → G c n) where
   told_on : (place : ℕ) (m : Message) → element_at w.sent place ≡ Some m → Tells F G m
-  told_on place m at server from = caused_on (IsUsed w) (Reads w.sent) F G go on m.body m.receiver (h.told place m at server from)
+  told_on place m at server from = caused_on (IsSpentUp w) (Reads w.sent) F G go on m.body m.receiver (h.told place m at server from)
 
   leases_on : (index : ℕ) (s : ServerState) → element_at w.servers index ≡ Some s → AreRight F s.leases
-  leases_on index s at q p there = right_on (IsUsed w) (Reads w.sent) F G go on p (h.leases index s at q p there)
+  leases_on index s at q p there = right_on (IsSpentUp w) (Reads w.sent) F G go on p (h.leases index s at q p there)
 
   one_server : (index : ℕ) (t : ServerState) → AreRight F t.leases → (other : ℕ) (u : ServerState) → element_at (with_at w.servers index t) other ≡ Some u → AreRight F u.leases
   one_server index t here other u at =
@@ -274,42 +306,42 @@ module _ (w : WorldState) (h : IsSound w) (F : DataId → Type 0) (G : ℕ → �
 module _ (config : Config) (servers clients : ℕ) (w : WorldState) (r : IsReached config servers clients w) (h : IsSound w) where
   -- what is used up stays so, after an event with these messages
   abbrev Stays : Happened → Type 0
-  Stays x = (id : DataId) → IsUsed w id → IsUsed x.world id
+  Stays x = (id : DataId) → IsSpentUp w id → IsSpentUp x.world id
 
   more_reads : (ms : List Message) (c n : ℕ) → Reads w.sent c n → Reads (w.sent ++ stamped (suc (length w.sent)) ms) c n
   more_reads ms c n reads = reads_later w.sent (stamped (suc (length w.sent)) ms) c n reads
 
   -- after a step of others than servers
-  silent : (x : Happened) (ms : List Message) → Stays x → AllOf NoServers ms → (place : ℕ) (m : Message) → element_at (w.sent ++ stamped (suc (length w.sent)) ms) place ≡ Some m → Tells (IsUsed x.world) (Reads (w.sent ++ stamped (suc (length w.sent)) ms)) m
+  silent : (x : Happened) (ms : List Message) → Stays x → AllOf NoServers ms → (place : ℕ) (m : Message) → element_at (w.sent ++ stamped (suc (length w.sent)) ms) place ≡ Some m → Tells (IsSpentUp x.world) (Reads (w.sent ++ stamped (suc (length w.sent)) ms)) m
   silent x ms go none =
-      more_told (IsUsed x.world) (Reads (w.sent ++ stamped (suc (length w.sent)) ms)) w.sent (suc (length w.sent)) ms (told_on w h (IsUsed x.world) (Reads (w.sent ++ stamped (suc (length w.sent)) ms)) go (more_reads ms))
-      (none_tell (IsUsed x.world) (Reads (w.sent ++ stamped (suc (length w.sent)) ms)) ms none)
+      more_told (IsSpentUp x.world) (Reads (w.sent ++ stamped (suc (length w.sent)) ms)) w.sent (suc (length w.sent)) ms (told_on w h (IsSpentUp x.world) (Reads (w.sent ++ stamped (suc (length w.sent)) ms)) go (more_reads ms))
+      (none_tell (IsSpentUp x.world) (Reads (w.sent ++ stamped (suc (length w.sent)) ms)) ms none)
 
   served : (index moment : ℕ) (s : ServerState) (i : Input) (choice : Choice) → element_at w.servers index ≡ Some s → IsTrue s.up → ((m : Message) → i ≡ input.Deliver m → IsAmong w.sent m) → Stays (after_server w index moment (server_step s moment i choice))
-      → AreRight (IsUsed (after_server w index moment (server_step s moment i choice)).world) (server_step s moment i choice).state.leases
-      × AllOf (Causes (IsUsed (after_server w index moment (server_step s moment i choice)).world) (Reads (w.sent ++ stamped (suc (length w.sent)) (server_step s moment i choice).out.sent))) (server_step s moment i choice).out.sent
+      → AreRight (IsSpentUp (after_server w index moment (server_step s moment i choice)).world) (server_step s moment i choice).state.leases
+      × AllOf (Causes (IsSpentUp (after_server w index moment (server_step s moment i choice)).world) (Reads (w.sent ++ stamped (suc (length w.sent)) (server_step s moment i choice).out.sent))) (server_step s moment i choice).out.sent
   served index moment s i choice at up came go =
-      step_leaves (IsUsed (after_server w index moment (server_step s moment i choice)).world) (Reads (w.sent ++ stamped (suc (length w.sent)) (server_step s moment i choice).out.sent)) s moment i choice
+      step_leaves (IsSpentUp (after_server w index moment (server_step s moment i choice)).world) (Reads (w.sent ++ stamped (suc (length w.sent)) (server_step s moment i choice).out.sent)) (server_at s moment).now s moment i choice
       (knowing config servers clients w r index moment s i choice at up came (Reads (w.sent ++ stamped (suc (length w.sent)) (server_step s moment i choice).out.sent)))
       (λ m number is reading c from. more_reads (server_step s moment i choice).out.sent c.0 number (record { asked = m; sent_is = came m is; sender_is = from; reads = reading }))
-      (leases_on w h (IsUsed (after_server w index moment (server_step s moment i choice)).world) (Reads (w.sent ++ stamped (suc (length w.sent)) (server_step s moment i choice).out.sent)) go (more_reads (server_step s moment i choice).out.sent) index s at)
+      refl (leases_on w h (IsSpentUp (after_server w index moment (server_step s moment i choice)).world) (Reads (w.sent ++ stamped (suc (length w.sent)) (server_step s moment i choice).out.sent)) go (more_reads (server_step s moment i choice).out.sent) index s at)
 
   each_sound : HoldsAfter w (λ e x. IsSound x.world)
   each_sound =
       let numbered = each_event w h.numbered in
-      let used : (id : DataId) → IsUsed w id → HoldsAfter w (λ e x. IsUsed x.world id) = each_used config servers clients w r in
+      let used : (id : DataId) → IsSpentUp w id → HoldsAfter w (λ e x. IsSpentUp x.world id) = each_spent_up config servers clients w r in
       record {
         nothing = λ e. h;
         masters = λ e moment i choice is up.
             let x : Happened = after_master w moment (master_step w.master moment i choice) in
             let go : Stays x = λ id f. (used id f).masters e moment i choice is up in
             let ms : List Message = (master_step w.master moment i choice).out.sent in
-            record { numbered = numbered.masters e moment i choice is up; leases = leases_on w h (IsUsed x.world) (Reads x.world.sent) go (more_reads ms); told = silent x ms go (master_said NoServers talks w.master moment i choice) };
+            record { numbered = numbered.masters e moment i choice is up; leases = leases_on w h (IsSpentUp x.world) (Reads x.world.sent) go (more_reads ms); told = silent x ms go (master_said NoServers talks w.master moment i choice) };
         opens = λ e moment choice.
             let x : Happened = after_master w moment (master_restart w.master moment choice) in
             let go : Stays x = λ id f. (used id f).opens e moment choice in
             let ms : List Message = (master_restart w.master moment choice).out.sent in
-            record { numbered = numbered.opens e moment choice; leases = leases_on w h (IsUsed x.world) (Reads x.world.sent) go (more_reads ms); told = silent x ms go (restart_said NoServers talks w.master moment choice) };
+            record { numbered = numbered.opens e moment choice; leases = leases_on w h (IsSpentUp x.world) (Reads x.world.sent) go (more_reads ms); told = silent x ms go (restart_said NoServers talks w.master moment choice) };
         serves = λ e index moment s i choice at is up.
             let x : Happened = after_server w index moment (server_step s moment i choice) in
             let go : Stays x = λ id f. (used id f).serves e index moment s i choice at is up in
@@ -317,18 +349,18 @@ module _ (config : Config) (servers clients : ℕ) (w : WorldState) (r : IsReach
             let left = served index moment s i choice at up (came_in w e (suc index) moment i is) go in
             record {
               numbered = numbered.serves e index moment s i choice at is up;
-              leases = one_server w h (IsUsed x.world) (Reads x.world.sent) go (more_reads ms) index (server_step s moment i choice).state left.0;
-              told = more_told (IsUsed x.world) (Reads x.world.sent) w.sent (suc (length w.sent)) ms (told_on w h (IsUsed x.world) (Reads x.world.sent) go (more_reads ms)) (all_tell (IsUsed x.world) (Reads x.world.sent) ms left.1);
+              leases = one_server w h (IsSpentUp x.world) (Reads x.world.sent) go (more_reads ms) index (server_step s moment i choice).state left.0;
+              told = more_told (IsSpentUp x.world) (Reads x.world.sent) w.sent (suc (length w.sent)) ms (told_on w h (IsSpentUp x.world) (Reads x.world.sent) go (more_reads ms)) (all_tell (IsSpentUp x.world) (Reads x.world.sent) ms left.1);
             };
         restarts = λ e index moment s choice at.
             let x : Happened = after_server w index moment (server_restart s moment choice) in
             let go : Stays x = λ id f. (used id f).restarts e index moment s choice at in
             let ms : List Message = (server_restart s moment choice).out.sent in
-            let left = restart_leaves (IsUsed x.world) (Reads x.world.sent) s moment choice in
+            let left = restart_leaves (IsSpentUp x.world) (Reads x.world.sent) 0 s moment choice in
             record {
               numbered = numbered.restarts e index moment s choice at;
-              leases = one_server w h (IsUsed x.world) (Reads x.world.sent) go (more_reads ms) index (server_restart s moment choice).state left.0;
-              told = more_told (IsUsed x.world) (Reads x.world.sent) w.sent (suc (length w.sent)) ms (told_on w h (IsUsed x.world) (Reads x.world.sent) go (more_reads ms)) (all_tell (IsUsed x.world) (Reads x.world.sent) ms left.1);
+              leases = one_server w h (IsSpentUp x.world) (Reads x.world.sent) go (more_reads ms) index (server_restart s moment choice).state left.0;
+              told = more_told (IsSpentUp x.world) (Reads x.world.sent) w.sent (suc (length w.sent)) ms (told_on w h (IsSpentUp x.world) (Reads x.world.sent) go (more_reads ms)) (all_tell (IsSpentUp x.world) (Reads x.world.sent) ms left.1);
             };
         steps = λ e index moment s i choice at is up.
             let x : Happened = after_client w index moment (client_step s moment i choice) in
@@ -336,7 +368,7 @@ module _ (config : Config) (servers clients : ℕ) (w : WorldState) (r : IsReach
             let ms : List Message = (client_step s moment i choice).out.sent in
             record {
               numbered = numbered.steps e index moment s i choice at is up;
-              leases = leases_on w h (IsUsed x.world) (Reads x.world.sent) go (more_reads ms);
+              leases = leases_on w h (IsSpentUp x.world) (Reads x.world.sent) go (more_reads ms);
               told = silent x ms go (of_step (λ t xs. AllOf NoServers xs) s moment i choice ((h.numbered).each index s at).named (λ d step. client_silent (client_at s moment) d d.sent step refl) tt tt);
             };
         calls = λ e index moment s c choice at may.
@@ -345,7 +377,7 @@ module _ (config : Config) (servers clients : ℕ) (w : WorldState) (r : IsReach
             let ms : List Message = (client_call s moment c choice).out.sent in
             record {
               numbered = numbered.calls e index moment s c choice at may;
-              leases = leases_on w h (IsUsed x.world) (Reads x.world.sent) go (more_reads ms);
+              leases = leases_on w h (IsSpentUp x.world) (Reads x.world.sent) go (more_reads ms);
               told = silent x ms go (of_call (λ t xs. AllOf NoServers xs) s moment c choice ((h.numbered).each index s at).named (λ d step. client_silent (client_at s moment) d d.sent step refl) tt);
             };
         rots = λ e index handle s d place byte is_kept at there up.
@@ -353,9 +385,9 @@ module _ (config : Config) (servers clients : ℕ) (w : WorldState) (r : IsReach
             let go : Stays x = λ id f. (used id f).rots e index handle s d place byte is_kept at there up in
             record {
               numbered = h.numbered;
-              leases = one_server w h (IsUsed x.world) (Reads x.world.sent) go (λ c n reads. reads) index (record s { disk = with_replica s.disk handle (rotten_replica d place byte) })
-                  (leases_on w h (IsUsed x.world) (Reads x.world.sent) go (λ c n reads. reads) index s at);
-              told = told_on w h (IsUsed x.world) (Reads x.world.sent) go (λ c n reads. reads);
+              leases = one_server w h (IsSpentUp x.world) (Reads x.world.sent) go (λ c n reads. reads) index (record s { disk = with_replica s.disk handle (rotten_replica d place byte) })
+                  (leases_on w h (IsSpentUp x.world) (Reads x.world.sent) go (λ c n reads. reads) index s at);
+              told = told_on w h (IsSpentUp x.world) (Reads x.world.sent) go (λ c n reads. reads);
             };
       }
 
@@ -366,14 +398,14 @@ sound_on config servers clients w (step ∷ rest) r h =
 
 new_servers : (F : DataId → Type 0) (config : Config) (ns : List ℕ) (index : ℕ) (s : ServerState) → element_at (map (λ n. started_server config n (new_server_disk config.block) 0) ns) index ≡ Some s → AreRight F s.leases
 new_servers F config [] index s is = none_some s is
-new_servers F config (n ∷ ns) zero s is = subst (λ (x : ServerState). AreRight F x.leases) (same_some (started_server config n (new_server_disk config.block) 0) s is) (none_right F (λ c k. ⊥))
+new_servers F config (n ∷ ns) zero s is = subst (λ (x : ServerState). AreRight F x.leases) (same_some (started_server config n (new_server_disk config.block) 0) s is) (none_right F (λ c k. ⊥) 0)
 new_servers F config (n ∷ ns) (suc index) s is = new_servers F config ns index s is
 
 new_sound : (config : Config) (servers clients : ℕ) → IsSound (new_world config servers clients)
 new_sound config servers clients =
     record {
       numbered = numbered_reached config servers clients (new_world config servers clients) ([], refl);
-      leases = new_servers (IsUsed (new_world config servers clients)) config (first_numbers servers);
+      leases = new_servers (IsSpentUp (new_world config servers clients)) config (first_numbers servers);
       told = λ place m none. none_some m none;
     }
 
@@ -382,21 +414,78 @@ sound_reached config servers clients w r = subst (λ (u : WorldState). IsSound u
 
 -- the law
 
-answer_known : (w : WorldState) (id : DataId) (m : Message) → IsAnswerTo id m → Causes (IsUsed w) (Reads w.sent) m → IsUsed w id ⊎ Reads w.sent id.client.0 id.seq
+answer_known : (w : WorldState) (id : DataId) (m : Message) → IsAnswerTo id m → Causes (IsSpentUp w) (Reads w.sent) m → IsSpentUp w id ⊎ Reads w.sent id.client.0 id.seq
 answer_known w id m answer cause =
     elim (answer) [
-      | inl done ↦ inl (subst (λ (b : Body). IsCaused (IsUsed w) (Reads w.sent) b m.receiver) done.1 cause)
+      | inl done ↦ inl (subst (λ (b : Body). IsCaused (IsSpentUp w) (Reads w.sent) b m.receiver) done.1 cause)
       | inr refused ↦
-          subst (λ (n : Node). IsCaused (IsUsed w) (Reads w.sent) (body.Refused id.seq refused.0) n) refused.1 (subst (λ (b : Body). IsCaused (IsUsed w) (Reads w.sent) b m.receiver) refused.2 cause) refused.3
+          subst (λ (n : Node). IsCaused (IsSpentUp w) (Reads w.sent) (body.Refused id.seq refused.0) n) refused.1 (subst (λ (b : Body). IsCaused (IsSpentUp w) (Reads w.sent) b m.receiver) refused.2 cause) refused.3
     ]
+
+pub same_mutate : (id : DataId) (handle other : Handle) (version later : Version) (aim its : Target) (deadline end : Moment) → body.Mutate id handle version aim deadline ≡ body.Mutate id other later its end → (handle ≡ other) × (version ≡ later) × (deadline ≡ end)
+same_mutate id handle other version later aim its deadline end g = (cc, cc, cc)
+
+-- what is spent up is numbered no more
+module _ (config : Config) (servers clients : ℕ) (u : WorldState) (there : IsReached config servers clients u) (id : DataId) (index moment : ℕ) (s : ServerState) (i : Input) (choice : Choice) (handle : Handle) (version : Version)
+    (numbers : Numbers u index moment s i choice handle version id) where
+  abbrev pub Asked : Type 0
+  Asked = (x : Message) × (i ≡ input.Deliver x) × IsAskedFor (server_at s moment) u.sent x handle version numbers.serial id numbers.placed
+
+  pub asked_law : Asked
+  asked_law = numbered_mutations_were_asked_for config servers clients u there index s numbers.is moment i choice numbers.came numbers.place handle version numbers.serial id numbers.placed numbers.seen
+
+  pub asks_now : Asks u.sent id handle version
+  asks_now =
+      let law = asked_law in record { asked = law.0; aim = (law.2).aim; deadline = (law.2).deadline; sent_is = numbers.came law.0 law.1; sender_is = (law.2).sender_is; body_is = (law.2).body_is }
+
+  late_not_numbered : IsLate u id → ⊥
+  late_not_numbered late = let past = late.past index s numbers.is asked.lease (ap (λ (h : Handle). table.get s.leases h.0) same.0 ∙ there_now.0) (there_now.1 ∙ sym (ap (λ (v : Version). v.0) same.1)) in
+      let early = timely.early in
+      let clock : s.now ≤ max s.now moment = le-max_left s.now moment in
+      let deadlines : late.deadline.0 ≡ timely.deadline.0 = ap (λ (x : Moment). x.0) same.2 in
+      omega (arith, past, early, clock, deadlines)
+    where
+      asked : IsAskedFor (server_at s moment) u.sent asked_law.0 handle version numbers.serial id numbers.placed
+      asked = asked_law.2
+
+      there_now : (table.get s.leases handle.0 ≡ Some asked.lease) × (asked.lease.held.version ≡ version.0)
+      there_now = primary_there (server_at s moment) version.0 (table.get s.leases handle.0) asked.lease asked.lease_is
+
+      law : (m : Message) × (i ≡ input.Deliver m) × IsInTime s moment config.skew_ms (observed_moment config.skew_ms u.observer moment) m handle version id
+      law = attempts_are_placed_before_their_deadline config servers clients u there index moment s i choice handle version id numbers
+
+      timely : IsInTime s moment config.skew_ms (observed_moment config.skew_ms u.observer moment) law.0 handle version id
+      timely = law.2
+
+      sent : IsAmong u.sent law.0
+      sent = numbers.came law.0 law.1
+
+      one : late.asked ≡ law.0
+      one =
+          same_counted (asks_for id) u.sent (late.sent_is).0 sent.0 late.asked law.0 (requests_are_numbered_once config servers clients u there id.client.0 id.seq).1 (late.sent_is).1 sent.1
+          (asking id late.asked late.handle late.version late.aim late.deadline late.sender_is late.body_is) (asking id law.0 handle version timely.aim timely.deadline timely.sender_is timely.body_is)
+
+      same : (late.handle ≡ handle) × (late.version ≡ version) × (late.deadline ≡ timely.deadline)
+      same = same_mutate id late.handle handle late.version version late.aim timely.aim late.deadline timely.deadline (sym late.body_is ∙ ap (λ (m : Message). m.body) one ∙ timely.body_is)
+
+  spent_not_numbered : IsSpentUp u id → ⊥
+  spent_not_numbered spent =
+      let law = asked_law in
+      elim (spent) [
+        | inl used ↦ used_not_new config servers clients u there id used index moment s numbers.is handle version asks_now (law.2).lease (law.2).lease_is (law.2).new
+        | inr late ↦ late_not_numbered late
+      ]
+
+-- what a server told of an attempt in a world that is reached: it is spent up, or its number is a reading's
+pub answers_known : (config : Config) (servers clients : ℕ) (w : WorldState) → IsReached config servers clients w → (place server : ℕ) (m : Message) → element_at w.sent place ≡ Some m → m.sender ≡ the_server server → (id : DataId) → IsAnswerTo id m
+    → IsSpentUp w id ⊎ Reads w.sent id.client.0 id.seq
+answers_known config servers clients w r place server m at from id answer = answer_known w id m answer ((sound_reached config servers clients w r).told place m at server from)
 
 pub answered_attempts_are_placed_no_more : AnsweredAttemptsArePlacedNoMore
 answered_attempts_are_placed_no_more config servers clients w r place server m at from id answer steps index moment s i choice handle version numbers =
-    elim (answer_known u id m answer ((sound_reached config servers clients u there).told place m still server from)) [
-      | inl used ↦
-          used_not_new config servers clients u there id used index moment s numbers.is handle version
-          (record { asked = law.0; aim = asked.aim; deadline = asked.deadline; sent_is = numbers.came law.0 law.1; sender_is = asked.sender_is; body_is = asked.body_is }) asked.lease asked.lease_is asked.new
-      | inr reads ↦ not_both config servers clients u there id asked.bytes asked.pushed reads
+    elim (answers_known config servers clients u there place server m still from id answer) [
+      | inl spent ↦ spent_not_numbered config servers clients u there id index moment s i choice handle version numbers spent
+      | inr reads ↦ let law = asked_law config servers clients u there id index moment s i choice handle version numbers in not_both config servers clients u there id (law.2).bytes (law.2).pushed reads
     ]
   where
     u : WorldState
@@ -410,9 +499,3 @@ answered_attempts_are_placed_no_more config servers clients w r place server m a
 
     still : element_at u.sent place ≡ Some m
     still = subst (λ (ms : List Message). element_at ms place ≡ Some m) (sym grown.1) (kept_place w.sent grown.0 place m at)
-
-    law : (x : Message) × (i ≡ input.Deliver x) × IsAskedFor (server_at s moment) u.sent x handle version numbers.serial id numbers.placed
-    law = numbered_mutations_were_asked_for config servers clients u there index s numbers.is moment i choice numbers.came numbers.place handle version numbers.serial id numbers.placed numbers.seen
-
-    asked : IsAskedFor (server_at s moment) u.sent law.0 handle version numbers.serial id numbers.placed
-    asked = law.2

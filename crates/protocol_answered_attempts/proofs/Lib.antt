@@ -1,3 +1,4 @@
 pub mod UsedOrders
 pub mod UsedAnswers
+pub mod LateAttempts
 pub mod AnsweredAttempts

@@ -78,12 +78,12 @@ IsReading number other = ⊥
 abbrev pub IsEnd : ServerDoing → ℕ → SerialOrder → DataId → ServerDoing → Type 0
 IsEnd d q p id x = ((refusal : Refusal) × (x ≡ denies d q p id refusal)) ⊎ ((m : Mutation) × (x ≡ places d q p id m) × (nat_le counter_limit p.serial ≡ false))
 
-module _ (F : DataId → Type 0) (G : ℕ → ℕ → Type 0) where
+module _ (F : DataId → Type 0) (G : ℕ → ℕ → Type 0) (Now : ℕ) where
   abbrev pub Fine : ServerDoing → Type 0
-  Fine d = AreRight F d.server.leases × AllOf (Causes F G) d.sent
+  Fine d = AreRight F d.server.leases × AllOf (Causes F G) d.sent × (d.server.now ≡ Now)
 
   said : (d : ServerDoing) (receiver : Node) (b : Body) → IsCaused F G b receiver → Fine d → Fine (says d receiver b)
-  said d receiver b cause h = (h.0, all_joined (Causes F G) d.sent (message (the_server d.server.id) receiver b ∷ []) h.1 (cause, tt))
+  said d receiver b cause h = (h.0, all_joined (Causes F G) d.sent (message (the_server d.server.id) receiver b ∷ []) h.1 (cause, tt), h.2)
 
   refused : (d : ServerDoing) (receiver : Node) (number : ℕ) (refusal : Refusal) → IsCaused F G (body.Refused number refusal) receiver → Fine d → Fine (refuses d receiver number refusal)
   refused d receiver number refusal cause h = said d receiver (body.Refused number refusal) cause h
@@ -102,7 +102,7 @@ module _ (F : DataId → Type 0) (G : ℕ → ℕ → Type 0) where
   gone leases q h r x at = h r x (kept_cases leases q r x at)
 
   lost : (d : ServerDoing) (q : ℕ) → Fine d → Fine (drops_corrupt d q)
-  lost d q h = (gone d.server.leases q h.0, h.1)
+  lost d q h = (gone d.server.leases q h.0, h.1, h.2)
 
   right_primary : (d : ServerDoing) (q v : ℕ) (p : SerialOrder) → primary_of d.server q v ≡ Some p → Fine d → IsRight F p
   right_primary d q v p is h = h.0 q p (primary_there d.server v (table.get d.server.leases q) p is).0
@@ -153,13 +153,13 @@ module _ (F : DataId → Type 0) (G : ℕ → ℕ → Type 0) where
 
   forwards_fine : (d : ServerDoing) (members : List ℕ) (q v serial : ℕ) (id : DataId) (c : Change) → Fine d → Fine (forwards d members q v serial id c)
   forwards_fine d members q v serial id c h =
-      (h.0, all_joined (Causes F G) d.sent (map (forward_to d.server.id q v serial id c) members) h.1 (all_forwards d.server.id members q v serial id c))
+      (h.0, all_joined (Causes F G) d.sent (map (forward_to d.server.id q v serial id c) members) h.1 (all_forwards d.server.id members q v serial id c), h.2)
 
   acknowledged_fine : (d : ServerDoing) (q : ℕ) (p : SerialOrder) (server serial : ℕ) → IsRight F p → Fine d → Fine (acknowledges d q p server serial)
   acknowledged_fine d q p server serial right h = by_settled (settled_by server (table.get p.waiting serial)) refl
     where
       put_now : Fine (with_primary d q (acknowledged p server serial))
-      put_now = (put d.server.leases q (acknowledged p server serial) (right_acknowledged F p server serial right) h.0, h.1)
+      put_now = (put d.server.leases q (acknowledged p server serial) (right_acknowledged F p server serial right) h.0, h.1, h.2)
 
       by_settled : (o : Option Waiting) → settled_by server (table.get p.waiting serial) ≡ o → Fine (settles (with_primary d q (acknowledged p server serial)) q p.held.version serial (success_of o))
       by_settled None is = put_now
@@ -169,7 +169,7 @@ module _ (F : DataId → Type 0) (G : ℕ → ℕ → Type 0) where
   denied_fine : (d : ServerDoing) (q : ℕ) (p : SerialOrder) (id : DataId) (refusal : Refusal) → F id → IsRight F p → Fine d → Fine (denies d q p id refusal)
   denied_fine d q p id refusal used right h =
       attempt_refused (takes_data (with_primary d q (denied p id.client id.seq refusal)) id) id refusal (λ final. used)
-      (put d.server.leases q (denied p id.client id.seq refusal) (right_denied F p id.client id.seq refusal used right) h.0, h.1)
+      (put d.server.leases q (denied p id.client id.seq refusal) (right_denied F p id.client id.seq refusal used right) h.0, h.1, h.2)
 
   places_fine : (d : ServerDoing) (q : ℕ) (p : SerialOrder) (id : DataId) (m : Mutation) → (nat_le counter_limit p.serial ≡ false → F id) → IsRight F p → Fine d → Fine (places d q p id m)
   places_fine d q p id m used right h =
@@ -187,7 +187,7 @@ module _ (F : DataId → Type 0) (G : ℕ → ℕ → Type 0) where
       new_right room = right_numbered F p id (place_of m) (used room) right
 
       there : nat_le counter_limit p.serial ≡ false → Fine taken
-      there room = (put d.server.leases q (numbered p id.client id.seq (place_of m)) (new_right room) h.0, h.1)
+      there room = (put d.server.leases q (numbered p id.client id.seq (place_of m)) (new_right room) h.0, h.1, h.2)
 
   appends_fine : (d : ServerDoing) (q : ℕ) (p : SerialOrder) (id : DataId) (bytes : List ℕ) (where_ : Placing) → (IsEnd d q p id (appends_as d q p id bytes where_) → F id) → IsRight F p → Fine d → Fine (appends_as d q p id bytes where_)
   appends_fine d q p id bytes TooLong used right h = denied_fine d q p id ServerTooLong (used (inl (ServerTooLong, refl))) right h
@@ -237,11 +237,11 @@ module _ (F : DataId → Type 0) (G : ℕ → ℕ → Type 0) where
   as_fine d q p id t (IsRepeat (IsRefused refusal)) is used right h = attempt_refused d id refusal (λ final. kept_used p id (IsRefused refusal) is right) h
   as_fine d q p id t IsNew is used right h = new_fine d q p id t (row_at d.server.disk q) (data_of d.server.pushed id) (used.1 is) right h
 
-  under_fine : (d : ServerDoing) (q : ℕ) (id : DataId) (t : Target) (deadline : ℕ) (o : Option SerialOrder) → ((p : SerialOrder) → o ≡ Some p → IsRight F p × Knowing d q p id (mutates_under d q id t deadline o)) → Fine d
+  under_fine : (d : ServerDoing) (q : ℕ) (id : DataId) (t : Target) (deadline : ℕ) (o : Option SerialOrder) → ((p : SerialOrder) → o ≡ Some p → IsRight F p × Knowing d q p id (mutates_under d q id t deadline o) × (nat_le deadline d.server.now ≡ true → F id)) → Fine d
       → Fine (mutates_under d q id t deadline o)
   under_fine d q id t deadline None right h = attempt_refused d id NoLease (λ final. absurd final) h
   under_fine d q id t deadline (Some p) right h =
-      on_cond (λ (x : ServerDoing). Knowing d q p id x → Fine x) (nat_le deadline d.server.now) (refuses_attempt d id Late) (mutates_as d q p id t (attempted p id.client id.seq)) (λ _ used. attempt_refused d id Late (λ final. absurd final) h)
+      on_cond (λ (x : ServerDoing). Knowing d q p id x → Fine x) (nat_le deadline d.server.now) (refuses_attempt d id Late) (mutates_as d q p id t (attempted p id.client id.seq)) (λ late used. attempt_refused d id Late (λ final. (right p refl).2 late) h)
       (λ _ used. as_fine d q p id t (attempted p id.client id.seq) refl used (right p refl).0 h) (right p refl).1
 
   nacks_fine : (d : ServerDoing) (primary : Node) (q v serial : ℕ) (refusal : Refusal) → Fine d → Fine (nacks d primary q v serial refusal)
@@ -285,7 +285,7 @@ module _ (F : DataId → Type 0) (G : ℕ → ℕ → Type 0) where
   nacked_fine d q serial refusal None right h = h
   nacked_fine d q serial refusal (Some p) right h =
       waiting_fine (with_primary d q (refused_by p refusal (table.get p.waiting serial))) refusal (table.get p.waiting serial) (λ w at. (right p refl).waits serial w at)
-      (put d.server.leases q (refused_by p refusal (table.get p.waiting serial)) (right_refused F p refusal (table.get p.waiting serial) (right p refl)) h.0, h.1)
+      (put d.server.leases q (refused_by p refusal (table.get p.waiting serial)) (right_refused F p refusal (table.get p.waiting serial) (right p refl)) h.0, h.1, h.2)
 
   -- orders
 
@@ -304,23 +304,23 @@ module _ (F : DataId → Type 0) (G : ℕ → ℕ → Type 0) where
   raised d q v base None h = h
   raised d q v base (Some r) h =
       let after : ServerDoing = without_lease (stores d (Raise (handle_of q) (version_of v))) q in
-      on_cond Fine (r.version.0 == base) (records after q v) d (λ _. recorded after q v (gone d.server.leases q h.0, h.1)) (λ _. h)
+      on_cond Fine (r.version.0 == base) (records after q v) d (λ _. recorded after q v (gone d.server.leases q h.0, h.1, h.2)) (λ _. h)
 
   granted : (q v end_moment : ℕ) (members : List ℕ) (d : ServerDoing) → Fine d → Fine (takes_grant d q v end_moment members)
   granted q v end_moment members d h =
       let held : LeaseHeld = record { version = v; until = end_moment; members = members } in
-      on_cond Fine (holds_version v (row_at d.server.disk q)) (with_primary d q (new_order held)) d (λ _. (put d.server.leases q (new_order held) (right_new F held) h.0, h.1)) (λ _. h)
+      on_cond Fine (holds_version v (row_at d.server.disk q)) (with_primary d q (new_order held)) d (λ _. (put d.server.leases q (new_order held) (right_new F held) h.0, h.1, h.2)) (λ _. h)
 
   extended_fine : (d : ServerDoing) (q v end_moment : ℕ) (o : Option SerialOrder) → table.get d.server.leases q ≡ o → Fine d → Fine (extends_held d q v end_moment o)
   extended_fine d q v end_moment None at h = h
   extended_fine d q v end_moment (Some p) at h =
       let longer : SerialOrder = record p { held = extended d.server.config.skew_ms p.held end_moment d.server.now } in
       on_cond Fine (p.held.version == v) (with_primary d q longer) d
-      (λ _. (put d.server.leases q longer (right_extended F p d.server.config.skew_ms end_moment d.server.now (h.0 q p at)) h.0, h.1)) (λ _. h)
+      (λ _. (put d.server.leases q longer (right_extended F p d.server.config.skew_ms end_moment d.server.now (h.0 q p at)) h.0, h.1, h.2)) (λ _. h)
 
   ended_fine : (d : ServerDoing) (q v : ℕ) (o : Option SerialOrder) → Fine d → Fine (ends_held d q v o)
   ended_fine d q v None h = h
-  ended_fine d q v (Some p) h = on_cond Fine (p.held.version == v) (without_lease d q) d (λ _. (gone d.server.leases q h.0, h.1)) (λ _. h)
+  ended_fine d q v (Some p) h = on_cond Fine (p.held.version == v) (without_lease d q) d (λ _. (gone d.server.leases q h.0, h.1, h.2)) (λ _. h)
 
   revoked : (q v : ℕ) (d : ServerDoing) → Fine d → Fine (takes_revoke d q v)
   revoked q v d h =
@@ -329,7 +329,7 @@ module _ (F : DataId → Type 0) (G : ℕ → ℕ → Type 0) where
 
   dropped : (d : ServerDoing) (q v : ℕ) (o : Option Row) → Fine d → Fine (drops_old d q v o)
   dropped d q v None h = h
-  dropped d q v (Some r) h = on_cond Fine (nat_le r.version.0 v) _ d (λ _. (gone d.server.leases q h.0, h.1)) (λ _. h)
+  dropped d q v (Some r) h = on_cond Fine (nat_le r.version.0 v) _ d (λ _. (gone d.server.leases q h.0, h.1, h.2)) (λ _. h)
 
   cloned : (q v source : ℕ) (d : ServerDoing) → Fine d → Fine (takes_clone d q v source)
   cloned q v source d h = said (record d { server = record d.server { clones = table.insert d.server.clones q v } }) (the_server source) (body.CopyAsk (handle_of q) (version_of v)) tt h
@@ -351,14 +351,14 @@ module _ (F : DataId → Type 0) (G : ℕ → ℕ → Type 0) where
   -- A server s that takes an input: what it knows of an attempt that is asked for, and who asks for readings.
   module _ (s : ServerState) (i : Input)
       (knows : (m : Message) (id : DataId) (q : Handle) (v : VersionId) (t : Target) (deadline : Moment) (p : SerialOrder) → i ≡ input.Deliver m → m.body ≡ body.Mutate id q v t deadline → primary_of s q.0 v.0 ≡ Some p
-      → Knowing (server_begins s) q.0 p id (mutates_under (server_begins s) q.0 id t deadline.0 (primary_of s q.0 v.0)))
+      → Knowing (server_begins s) q.0 p id (mutates_under (server_begins s) q.0 id t deadline.0 (primary_of s q.0 v.0)) × (nat_le deadline.0 s.now ≡ true → F id))
       (reads : (m : Message) (number : ℕ) → i ≡ input.Deliver m → IsReading number m.body → Reads m.sender number) where
     abbrev D : ServerDoing
     D = server_begins s
 
     takes_fine : (m : Message) (b : Body) → i ≡ input.Deliver m → m.body ≡ b → Fine (server_begins s) → Fine (server_takes (server_begins s) m b)
     takes_fine m (body.Push id bytes rest) came is h = passed (record D { server = record D.server { pushed = with_data D.server.pushed id bytes } }) id bytes rest (next_hop rest D.server.id) h
-    takes_fine m (body.Mutate id q v t deadline) came is h = under_fine D q.0 id t deadline.0 (primary_of D.server q.0 v.0) (λ p at. (right_primary D q.0 v.0 p at h, knows m id q v t deadline p came is at)) h
+    takes_fine m (body.Mutate id q v t deadline) came is h = under_fine D q.0 id t deadline.0 (primary_of D.server q.0 v.0) (λ p at. (right_primary D q.0 v.0 p at h, (knows m id q v t deadline p came is at).0, (knows m id q v t deadline p came is at).1)) h
     takes_fine m (body.Read number q v offset count) came is h = read_fine D m.sender number q.0 v.0 offset count (row_at D.server.disk q.0) (reads m number came (subst (IsReading number) (sym is) refl)) h
     takes_fine m (body.Len number q v) came is h = length_fine D m.sender number v.0 (row_at D.server.disk q.0) (reads m number came (subst (IsReading number) (sym is) refl)) h
     takes_fine m (body.Forward q v serial id c) came is h = forwarded_fine D m.sender q.0 v.0 serial.0 id c (row_at D.server.disk q.0) h
@@ -392,7 +392,7 @@ module _ (F : DataId → Type 0) (G : ℕ → ℕ → Type 0) where
     takes_fine m (body.Report replicas leases) came is h = h
 
     ticks_fine : Fine (server_begins s) → Fine (server_ticks (server_begins s))
-    ticks_fine h = (right, both.1)
+    ticks_fine h = (right, both.1, both.2)
       where
         both : Fine (says D Master (body.Report (map replica_line (table.entries D.server.disk.replicas)) (map lease_line (table.entries (counting_leases D.server)))))
         both = said D Master (body.Report (map replica_line (table.entries D.server.disk.replicas)) (map lease_line (table.entries (counting_leases D.server)))) tt h
@@ -421,11 +421,11 @@ module _ (F : DataId → Type 0) (G : ℕ → ℕ → Type 0) where
 
   pub step_leaves : (s : ServerState) (moment : ℕ) (i : Input) (choice : Choice)
       → ((m : Message) (id : DataId) (q : Handle) (v : VersionId) (t : Target) (deadline : Moment) (p : SerialOrder) → i ≡ input.Deliver m → m.body ≡ body.Mutate id q v t deadline → primary_of (server_at s moment) q.0 v.0 ≡ Some p
-      → Knowing (server_begins (server_at s moment)) q.0 p id (mutates_under (server_begins (server_at s moment)) q.0 id t deadline.0 (primary_of (server_at s moment) q.0 v.0)))
-      → ((m : Message) (number : ℕ) → i ≡ input.Deliver m → IsReading number m.body → Reads m.sender number) → AreRight F s.leases → Leaves (server_step s moment i choice)
-  step_leaves s moment i choice knows reads h =
+      → Knowing (server_begins (server_at s moment)) q.0 p id (mutates_under (server_begins (server_at s moment)) q.0 id t deadline.0 (primary_of (server_at s moment) q.0 v.0)) × (nat_le deadline.0 (server_at s moment).now ≡ true → F id))
+      → ((m : Message) (number : ℕ) → i ≡ input.Deliver m → IsReading number m.body → Reads m.sender number) → (server_at s moment).now ≡ Now → AreRight F s.leases → Leaves (server_step s moment i choice)
+  step_leaves s moment i choice knows reads clock h =
       on_cond Leaves s.up (server_ends s (server_goes s moment i) choice choice.ending) (no_step s)
-      (λ _. ends_fine s (server_goes s moment i) choice choice.ending (does_fine (server_at s moment) i knows reads i refl (h, tt))) (λ _. (h, tt))
+      (λ _. ends_fine s (server_goes s moment i) choice choice.ending (does_fine (server_at s moment) i knows reads i refl (h, tt, clock))) (λ _. (h, tt))
 
   restarted_right : (s : ServerState) (moment : ℕ) (choice : Choice) (e : Ending) → Leaves (server_restarts s moment choice e)
   restarted_right s moment choice Goes = (none_right, tt)
@@ -434,3 +434,19 @@ module _ (F : DataId → Type 0) (G : ℕ → ℕ → Type 0) where
 
   pub restart_leaves : (s : ServerState) (moment : ℕ) (choice : Choice) → Leaves (server_restart s moment choice)
   restart_leaves s moment choice = restarted_right s moment choice choice.ending
+
+-- while it is up a server's clock is at the greatest moment that it was given
+
+abbrev AnyData : DataId → Type 0
+AnyData id = Unit {0}
+
+abbrev AnyReading : ℕ → ℕ → Type 0
+AnyReading client number = Unit {0}
+
+pub goes_clock : (s : ServerState) (moment : ℕ) (i : Input) → (server_goes s moment i).server.now ≡ (server_at s moment).now
+goes_clock s moment i = fine.2
+  where
+    fine : Fine AnyData AnyReading (server_at s moment).now (server_goes s moment i)
+    fine =
+        does_fine AnyData AnyReading (server_at s moment).now (server_at s moment) i (λ m id q v t deadline p came is primary. ((λ old. tt, λ new end. tt), λ late. tt)) (λ m number came is c from. tt) i refl
+        (λ q p at. record { waits = λ n w held. tt; keeps = λ c k held. tt }, tt, refl)

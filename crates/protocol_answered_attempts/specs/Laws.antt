@@ -5,7 +5,7 @@ use Rattle.gfs_types.specs.declared.ids.DataId.{DataId}
 use Rattle.gfs_types.specs.declared.ids.Handle.{Handle}
 use Rattle.gfs_types.specs.declared.ids.Version.{Version}
 use Rattle.gfs_types.specs.declared.refusal.Refusal.{Refusal}
-use Rattle.gfs_types.specs.declared.refusal.Refusal.TheVariants.{NoLease, Late}
+use Rattle.gfs_types.specs.declared.refusal.Refusal.TheVariants.{NoLease}
 use Rattle.messages.specs.declared.event.Event.{Event}
 use Rattle.messages.specs.declared.event.Input.{Input}
 use Rattle.messages.specs.declared.message.Body.TheVariants as body
@@ -17,10 +17,9 @@ use Rattle.protocol.specs.Server.{ServerState}
 use Rattle.protocol.specs.World.{WorldState, after_events, IsReached}
 use Rattle.protocol_deadlines.specs.Laws.{Numbers}
 
--- a refusal by which an attempt is over: a primary without a lease, or behind the deadline, keeps nothing of it
+-- a refusal by which an attempt is over: a server without a lease keeps nothing of it, and another one may place it
 abbrev pub IsFinal : Refusal → Type 0
 IsFinal NoLease = ⊥
-IsFinal Late = ⊥
 IsFinal other = Unit {0}
 
 -- a server's answer to the attempt of these data: a success, or a refusal by which it is over

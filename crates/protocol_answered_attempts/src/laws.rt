@@ -2,7 +2,7 @@
 
 ghost use Rattle.protocol_answered_attempts.specs.Laws.{AnsweredAttemptsArePlacedNoMore};
 
-/// Once a server told a client a Done of its data, or refused them for another reason than NoLease and Late, nothing is numbered any more for that attempt.
+/// Once a server told a client a Done of its data, or refused them for another reason than NoLease, nothing is numbered any more for that attempt.
 pub fn answered_attempts_are_placed_no_more()
     ensures { AnsweredAttemptsArePlacedNoMore }
 {}

@@ -1,0 +1,2 @@
+pub mod ToldParts
+pub mod AnsweredWrites

@@ -1,0 +1,3 @@
+pub mod CallWalk
+pub mod MasterRefusals
+pub mod Answerers

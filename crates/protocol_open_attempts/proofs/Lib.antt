@@ -1,0 +1,3 @@
+pub mod OpenStages
+pub mod LaterCalls
+pub mod OpenCalls
