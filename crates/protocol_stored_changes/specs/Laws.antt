@@ -1,0 +1,3 @@
+-- stub
+abbrev pub Stub : Type 0
+Stub = Unit {0}
