@@ -59,7 +59,7 @@ use Rattle.protocol_rising_rounds.proofs.OrderedOrders.{settled_same}
 use Rattle.protocol_rising_rounds.proofs.RisingRounds.{restart_silent, IsUnderLease, under_lease}
 use Rattle.protocol_copied_entries.specs.Laws.{Follows, IsUpTo, RaisesGoAboveTheirBase, CopiesGoAboveTheirSource, CopiesHaveTheirSourcesEntries}
 use Rattle.protocol_copied_entries.proofs.OrdersGrow.{IsAny, same_follows, follows_both, any_follows, HaveGrown, orders_grow}
-use Rattle.protocol_copied_entries.proofs.AskedOrders.{IsSourced, IsHigher, step_higher}
+use Rattle.protocol_copied_entries.proofs.AskedOrders.{IsHigher, step_higher}
 
 -- what is seen puts no entry up to a version in a chunk's order
 

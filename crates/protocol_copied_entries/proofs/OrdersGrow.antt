@@ -1,5 +1,5 @@
 -- Orders only grow: each entry stays at its place, and what may change of it is that it becomes settled.
-use Rattle.std.proofs.Common.{◌≡◌, ℕ, zero, suc, List, [], ◌∷◌, ◌++◌, map, Option, Some, None, refl, sym, ap, subst, ◌∙◌, inl, inr}
+use Rattle.std.proofs.Common.{◌≡◌, ℕ, zero, suc, List, [], ◌∷◌, ◌++◌, map, Option, Some, refl, sym, ap, subst, ◌∙◌, inl, inr}
 use Rattle.std.specs.Prelude.{unwrap_or}
 use Rattle.std.specs.FinMap as table
 use Rattle.gfs_types.specs.declared.config.Config.{Config}
@@ -11,8 +11,8 @@ use Rattle.protocol.specs.Choice.{Choice}
 use Rattle.protocol.specs.declared.seen.Seen.{Seen}
 use Rattle.protocol.specs.declared.seen.Seen.TheVariants.{Numbered, BecameSettled, CopyStarted}
 use Rattle.protocol.specs.Observer.{Placed, observed_moment, placed_in, order_of, settled_as, new_entry, orders_after, orders_after_all}
-use Rattle.protocol.specs.ServerStep.{server_step, server_restart}
-use Rattle.protocol.specs.MasterStep.{master_step, master_restart}
+use Rattle.protocol.specs.ServerStep.{server_step}
+use Rattle.protocol.specs.MasterStep.{master_step}
 use Rattle.protocol.specs.ClientStep.{client_step, client_call}
 use Rattle.protocol.specs.World.{WorldState, IsReached}
 use Rattle.protocol_laws.proofs.Steps.{none_some, same_some, same_or_not, put_there, put_other}
@@ -21,7 +21,6 @@ use Rattle.protocol_laws.proofs.MembersRecorded.{kept_place}
 use Rattle.protocol_laws.proofs.SentReached.{sent_reached}
 use Rattle.protocol_attempts.proofs.Events.{HoldsAfter}
 use Rattle.protocol_words.proofs.MasterTalks.{restart_shown}
-use Rattle.protocol_chunk_orders.specs.Laws.{unsettled}
 use Rattle.protocol_chunk_orders.proofs.Placing.{same_orders}
 use Rattle.protocol_chunk_orders.proofs.Numbering.{restarted_shown}
 use Rattle.protocol_acts.proofs.WaitsKept.{IsOfWaits, waits_kept}
