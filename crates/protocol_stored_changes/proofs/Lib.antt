@@ -1,1 +1,2 @@
 pub mod StoreCauses
+pub mod ExactEvents

@@ -53,11 +53,7 @@ use Rattle.protocol.specs.ServerStep.{server_takes, server_does, server_at, serv
 use Rattle.protocol_laws.proofs.Steps.{on_cond, none_some}
 use Rattle.protocol_laws.proofs.Entries.{AllOf, all_joined}
 use Rattle.protocol_laws.proofs.MembersRecorded.{kept_place}
-
--- TEMP
-abbrev pub IsNumber : StoreChange → Type 0
-IsNumber (SetOrder order) = Unit {0}
-IsNumber other = ⊥
+use Rattle.protocol_replicas.proofs.HeldReplicas.{IsNumber}
 
 -- what a member stores for a forwarded change, of the data that it keeps
 abbrev pub IsMadeOf : (size handle serial : ℕ) → Option (List ℕ) → Change → StoreChange → Type 0

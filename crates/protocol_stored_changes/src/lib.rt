@@ -1,4 +1,4 @@
-//! Laws of the whole protocol on what servers have on their disks and read there.
+//! A law of the whole protocol on what servers read of their replicas.
 #![tactic(auto)]
 
 pub mod laws;

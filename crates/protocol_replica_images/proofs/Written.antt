@@ -7,7 +7,7 @@ use Rattle.gfs_types.specs.declared.mutation.Mutation.TheVariants.{Write, Append
 use Rattle.gfs_types.specs.Mutations.{start_of, end_of, covers, byte_of}
 use Rattle.gfs_types.specs.Image.{newer, last_that, image_length, byte_at, bytes_from, image}
 use Rattle.replica_store.specs.Replicas.{with_bytes}
-use Rattle.chunk_images.specs.Laws.{written_by, ImagesAreWrittenTo}
+use Rattle.protocol_replica_images.specs.Laws.{written_by, ImagesAreWrittenTo}
 
 -- the byte at a place
 
