@@ -27,7 +27,7 @@ use Rattle.protocol.specs.Choice.{Choice, Ending, Goes, Lost, Stops, decided_cha
 use Rattle.protocol.specs.Seen.{is_numbering, Taken, no_step}
 use Rattle.protocol.specs.declared.seen.Seen.{Seen}
 use Rattle.protocol.specs.declared.seen.Seen.TheVariants.{Numbered}
-use Rattle.protocol.specs.Observer.{Placed, Observer, observed_moment, observed_answer, placed_in, order_of, new_entry, orders_after_all}
+use Rattle.protocol.specs.Observer.{Placed, Observer, observed_moment, observed_call, observed_answer, placed_in, order_of, new_entry, orders_after_all}
 use Rattle.protocol.specs.Client.{ClientState, ClientDoing}
 use Rattle.protocol.specs.ClientStep.{client_at, client_step, client_call}
 use Rattle.protocol.specs.Server.{ServerState, ServerDoing, started_server}
@@ -158,7 +158,7 @@ answered_kept o n (Some reply) h = h
 
 module _ (config : Config) (servers clients : ℕ) (w : WorldState) (r : IsReached config servers clients w) (clocks : IsTrue w.observer.are_clocks_kept) (disks : IsTrue w.observer.are_disks_kept) (h : AreSelections w) where
   module _ (index moment : ℕ) (s : ServerState) (i : Input) (choice : Choice) (at : element_at w.servers index ≡ Some s) (up : IsTrue s.up) (came : (m : Message) → i ≡ input.Deliver m → IsSent w.sent m) where
-    trace : List Visible
+    abbrev trace : List Visible
     trace = (observed_moment w.config.skew_ms w.observer moment).trace
 
     here : AreIn w.config.chunk w.observer.orders s.disk
@@ -373,15 +373,17 @@ module _ (config : Config) (servers clients : ℕ) (w : WorldState) (r : IsReach
                   (λ d step. client_said w.config.chunk orders (client_at s moment) d d.sent step refl) tt tt);
             };
         calls = λ e index moment s c choice at may later kept.
-            let before = was_kept moment (answered_kept _ (suc index) (client_call s moment c choice).out.answer kept) in
+            let seen : Observer = observed_call (observed_moment w.config.skew_ms w.observer moment) (suc index) c in
+            let twice = answered_kept (observed_moment w.config.skew_ms seen moment) (suc index) (client_call s moment c choice).out.answer kept in
+            let before = was_kept moment (kept_of seen.are_clocks_kept (nat_le seen.greatest (moment + w.config.skew_ms)) w.observer.are_disks_kept twice) in
             let both = and_parts w.observer.are_clocks_kept w.observer.are_disks_kept before in
-            let orders : Table (List Placed) = _ in
+            let orders : Table (List Placed) = (observed_answer (observed_moment w.config.skew_ms seen moment) (suc index) (client_call s moment c choice).out.answer).orders in
             let more = grow.calls e index moment s c choice at may in
             record {
-              servers = kept_servers config servers clients w r both.0 both.1 (h before) _ more;
-              sent = more_said config servers clients w r both.0 both.1 (h before) _ more k (client_call s moment c choice).out.sent
-                  (of_call (λ t xs. AllOf (λ m. IsImageSaid w.config.chunk _ m.body) xs) s moment c choice ((numbered_reached config servers clients w r).each index s at).named
-                  (λ d step. client_said w.config.chunk _ (client_at s moment) d d.sent step refl) tt);
+              servers = kept_servers config servers clients w r both.0 both.1 (h before) orders more;
+              sent = more_said config servers clients w r both.0 both.1 (h before) orders more k (client_call s moment c choice).out.sent
+                  (of_call (λ t xs. AllOf (λ m. IsImageSaid w.config.chunk orders m.body) xs) s moment c choice ((numbered_reached config servers clients w r).each index s at).named
+                  (λ d step. client_said w.config.chunk orders (client_at s moment) d d.sent step refl) tt);
             };
         rots = λ e index handle s x place byte at there up later kept.
             let parts = and_parts w.observer.are_clocks_kept (w.observer.are_disks_kept && not _) kept in
