@@ -1,0 +1,2 @@
+pub mod TakenOrders
+pub mod ToldOrders
