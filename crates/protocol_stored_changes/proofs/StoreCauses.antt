@@ -105,10 +105,12 @@ abbrev pub IsStoredFor : ServerState → Body → List Seen → StoreChange → 
 IsStoredFor s b seen (SetOrder order) = ⊥
 IsStoredFor s b seen (Remove handle) = Unit {0}
 IsStoredFor s b seen (Put handle version serial bytes) =
-    (row_at s.disk handle.0 ≡ None) × (((order : OrderNo) × (b ≡ body.Create order handle version) × (serial.0 ≡ 0) × (bytes ≡ [])) ⊎ (b ≡ body.Image handle version serial bytes))
-IsStoredFor s b seen (Raise handle version) = (order : OrderNo) × (base : Version) × (row : Row) × (b ≡ body.SetVersion order handle version base) × (row_at s.disk handle.0 ≡ Some row) × (row.version.0 ≡ base.0)
+    (row_at s.disk handle.0 ≡ None) × (((order : OrderNo) × (b ≡ body.Create order handle version) × (serial.0 ≡ 0) × (bytes ≡ []) × (is_new_order s.disk order.epoch order.count ≡ true)) ⊎ (b ≡ body.Image handle version serial bytes))
+IsStoredFor s b seen (Raise handle version) =
+    (order : OrderNo) × (base : Version) × (row : Row) × (b ≡ body.SetVersion order handle version base) × (row_at s.disk handle.0 ≡ Some row) × (row.version.0 ≡ base.0) × (is_new_order s.disk order.epoch order.count ≡ true)
 IsStoredFor s b seen (Copy handle copy version) =
     (order : OrderNo) × (from : Version) × (row : Row) × (b ≡ body.CopyLocal order handle from copy version) × (row_at s.disk handle.0 ≡ Some row) × (row.version.0 ≡ from.0) × (is_copyable_at s.disk handle.0 ≡ true) × (row_at s.disk copy.0 ≡ None)
+    × (is_new_order s.disk order.epoch order.count ≡ true)
 IsStoredFor s b seen (Write handle serial offset bytes) = IsForwarded s b (Write handle serial offset bytes) ⊎ IsNumbered s seen (Write handle serial offset bytes)
 IsStoredFor s b seen (Zero handle serial offset count) = IsForwarded s b (Zero handle serial offset count) ⊎ IsNumbered s seen (Zero handle serial offset count)
 
@@ -318,8 +320,8 @@ module _ (s : ServerState) where
   abbrev Taken : Body → ServerDoing → Type 0
   Taken b d = AreMade s b d.changes d.seen
 
-  ordered : (b : Body) (order : OrderNo) (f : ServerDoing → ServerDoing) → Taken b (f (stores (server_begins s) (SetOrder order))) → Taken b (on_order (server_begins s) order f)
-  ordered b order f h = on_cond (Taken b) (is_new_order s.disk order.epoch order.count) (f (stores (server_begins s) (SetOrder order))) (server_begins s) (λ _. h) (λ _. inl tt)
+  ordered : (b : Body) (order : OrderNo) (f : ServerDoing → ServerDoing) → (is_new_order s.disk order.epoch order.count ≡ true → Taken b (f (stores (server_begins s) (SetOrder order)))) → Taken b (on_order (server_begins s) order f)
+  ordered b order f h = on_cond (Taken b) (is_new_order s.disk order.epoch order.count) (f (stores (server_begins s) (SetOrder order))) (server_begins s) h (λ _. inl tt)
 
   -- a Forward
   module _ (handle : Handle) (version : Version) (serial : Serial) (id : DataId) (c : Change) where
@@ -373,19 +375,19 @@ module _ (s : ServerState) where
 
   -- orders
 
-  create_fine : (order : OrderNo) (handle : Handle) (version : Version) → Taken (body.Create order handle version) (takes_create (stores (server_begins s) (SetOrder order)) handle.0 version.0)
-  create_fine order handle version =
+  create_fine : (order : OrderNo) (handle : Handle) (version : Version) → is_new_order s.disk order.epoch order.count ≡ true → Taken (body.Create order handle version) (takes_create (stores (server_begins s) (SetOrder order)) handle.0 version.0)
+  create_fine order handle version new =
       let d : ServerDoing = stores (server_begins s) (SetOrder order) in
       on_cond (Taken (body.Create order handle version)) (can_take d handle.0) _ d
-      (λ can. done s (body.Create order handle version) d (Put handle version (serial_of 0) []) (untaken s.config.slots handle.0 s.disk can, inl (order, refl, refl, refl)) (tt, tt)) (λ _. inl (tt, tt))
+      (λ can. done s (body.Create order handle version) d (Put handle version (serial_of 0) []) (untaken s.config.slots handle.0 s.disk can, inl (order, refl, refl, refl, new)) (tt, tt)) (λ _. inl (tt, tt))
 
-  raised_fine : (order : OrderNo) (handle : Handle) (version base : Version) (o : Option Row) → row_at s.disk handle.0 ≡ o
+  raised_fine : (order : OrderNo) (handle : Handle) (version base : Version) (o : Option Row) → row_at s.disk handle.0 ≡ o → is_new_order s.disk order.epoch order.count ≡ true
       → Taken (body.SetVersion order handle version base) (raises (stores (server_begins s) (SetOrder order)) handle.0 version.0 base.0 o)
-  raised_fine order handle version base None there = inl (tt, tt)
-  raised_fine order handle version base (Some row) there =
+  raised_fine order handle version base None there new = inl (tt, tt)
+  raised_fine order handle version base (Some row) there new =
       let d : ServerDoing = stores (server_begins s) (SetOrder order) in
       on_cond (Taken (body.SetVersion order handle version base)) (row.version.0 == base.0) _ d
-      (λ same. done s (body.SetVersion order handle version base) d (Raise handle version) (order, base, row, refl, there, eqb-true row.version.0 base.0 same) (tt, tt)) (λ _. inl (tt, tt))
+      (λ same. done s (body.SetVersion order handle version base) d (Raise handle version) (order, base, row, refl, there, eqb-true row.version.0 base.0 same, new) (tt, tt)) (λ _. inl (tt, tt))
 
   imaged_fine : (handle : Handle) (version : Version) (serial : Serial) (bytes : List ℕ) → Taken (body.Image handle version serial bytes) (takes_image (server_begins s) handle.0 version.0 serial.0 bytes)
   imaged_fine handle version serial bytes =
@@ -395,16 +397,16 @@ module _ (s : ServerState) where
       (λ all. done s (body.Image handle version serial bytes) (server_begins s) (Put handle version serial bytes)
       (untaken s.config.slots handle.0 s.disk (and_parts (pending && short) (can_take (server_begins s) handle.0) all).1, inr refl) tt) (λ _. inl tt)
 
-  local_fine : (order : OrderNo) (handle : Handle) (version : Version) (copy : Handle) (copy_version : Version) (o : Option Row) → row_at s.disk handle.0 ≡ o
+  local_fine : (order : OrderNo) (handle : Handle) (version : Version) (copy : Handle) (copy_version : Version) (o : Option Row) → row_at s.disk handle.0 ≡ o → is_new_order s.disk order.epoch order.count ≡ true
       → Taken (body.CopyLocal order handle version copy copy_version) (copies_locally (stores (server_begins s) (SetOrder order)) handle.0 version.0 copy.0 copy_version.0 o)
-  local_fine order handle version copy copy_version None there = inl (tt, tt)
-  local_fine order handle version copy copy_version (Some row) there =
+  local_fine order handle version copy copy_version None there new = inl (tt, tt)
+  local_fine order handle version copy copy_version (Some row) there new =
       let b : Body = body.CopyLocal order handle version copy copy_version in
       let d : ServerDoing = stores (server_begins s) (SetOrder order) in
       on_cond (Taken b) (row.version.0 == version.0) _ d
       (λ same. on_cond (Taken b) (is_copyable_at s.disk handle.0) _ (drops_corrupt d handle.0)
       (λ sound. on_cond (Taken b) (can_take d copy.0) _ d
-      (λ can. done s b d (Copy handle copy copy_version) (order, version, row, refl, there, eqb-true row.version.0 version.0 same, sound, untaken s.config.slots copy.0 s.disk can) (tt, tt)) (λ _. inl (tt, tt)))
+      (λ can. done s b d (Copy handle copy copy_version) (order, version, row, refl, there, eqb-true row.version.0 version.0 same, sound, untaken s.config.slots copy.0 s.disk can, new) (tt, tt)) (λ _. inl (tt, tt)))
       (λ _. dropped s b d handle.0 (tt, tt)))
       (λ _. inl (tt, tt))
 
@@ -417,20 +419,20 @@ module _ (s : ServerState) where
   takes_made m (body.Forward handle version serial id c) = forwarded_fine handle version serial id c m.sender (row_at s.disk handle.0) refl
   takes_made m (body.Acked handle version serial) = acked_fine s (body.Acked handle version serial) (server_begins s) handle.0 (server_number m.sender) serial.0 (primary_of s handle.0 version.0) tt
   takes_made m (body.Nacked handle version serial refusal) = nacked_fine s (body.Nacked handle version serial refusal) (server_begins s) handle.0 serial.0 refusal (primary_of s handle.0 version.0) tt
-  takes_made m (body.Create order handle version) = ordered (body.Create order handle version) order (λ e. takes_create e handle.0 version.0) (create_fine order handle version)
+  takes_made m (body.Create order handle version) = ordered (body.Create order handle version) order (λ e. takes_create e handle.0 version.0) (λ new. create_fine order handle version new)
   takes_made m (body.SetVersion order handle version base) =
-      ordered (body.SetVersion order handle version base) order (λ e. takes_set_version e handle.0 version.0 base.0) (raised_fine order handle version base (row_at s.disk handle.0) refl)
+      ordered (body.SetVersion order handle version base) order (λ e. takes_set_version e handle.0 version.0 base.0) (λ new. raised_fine order handle version base (row_at s.disk handle.0) refl new)
   takes_made m (body.Grant order handle version end_moment members) =
       ordered (body.Grant order handle version end_moment members) order (λ e. takes_grant e handle.0 version.0 end_moment.0 members)
-      (grant_fine s (body.Grant order handle version end_moment members) (stores (server_begins s) (SetOrder order)) handle.0 version.0 end_moment.0 members (tt, tt))
+      (λ _. grant_fine s (body.Grant order handle version end_moment members) (stores (server_begins s) (SetOrder order)) handle.0 version.0 end_moment.0 members (tt, tt))
   takes_made m (body.Revoke order handle version) =
       ordered (body.Revoke order handle version) order (λ e. takes_revoke e handle.0 version.0)
-      (ended_fine s (body.Revoke order handle version) (stores (server_begins s) (SetOrder order)) handle.0 version.0 (table.get s.leases handle.0) (tt, tt))
+      (λ _. ended_fine s (body.Revoke order handle version) (stores (server_begins s) (SetOrder order)) handle.0 version.0 (table.get s.leases handle.0) (tt, tt))
   takes_made m (body.Drop order handle version) =
-      ordered (body.Drop order handle version) order (λ e. takes_drop e handle.0 version.0) (drops_fine s (body.Drop order handle version) (stores (server_begins s) (SetOrder order)) handle.0 version.0 (row_at s.disk handle.0) (tt, tt))
-  takes_made m (body.Clone order handle version source) = ordered (body.Clone order handle version source) order (λ e. takes_clone e handle.0 version.0 source.0) (inl (tt, tt))
+      ordered (body.Drop order handle version) order (λ e. takes_drop e handle.0 version.0) (λ _. drops_fine s (body.Drop order handle version) (stores (server_begins s) (SetOrder order)) handle.0 version.0 (row_at s.disk handle.0) (tt, tt))
+  takes_made m (body.Clone order handle version source) = ordered (body.Clone order handle version source) order (λ e. takes_clone e handle.0 version.0 source.0) (λ _. inl (tt, tt))
   takes_made m (body.CopyLocal order handle version copy copy_version) =
-      ordered (body.CopyLocal order handle version copy copy_version) order (λ e. takes_copy_local e handle.0 version.0 copy.0 copy_version.0) (local_fine order handle version copy copy_version (row_at s.disk handle.0) refl)
+      ordered (body.CopyLocal order handle version copy copy_version) order (λ e. takes_copy_local e handle.0 version.0 copy.0 copy_version.0) (λ new. local_fine order handle version copy copy_version (row_at s.disk handle.0) refl new)
   takes_made m (body.Extend handle version end_moment) = extend_fine s (body.Extend handle version end_moment) (server_begins s) handle.0 version.0 end_moment.0 (table.get s.leases handle.0) tt
   takes_made m (body.CopyAsk handle version) = copy_fine s (body.CopyAsk handle version) (server_begins s) m.sender handle.0 version.0 (row_at s.disk handle.0) tt
   takes_made m (body.Image handle version serial bytes) = imaged_fine handle version serial bytes
