@@ -1,9 +1,9 @@
 -- Each replica is the image of some entries of its chunk's order, and so are the bytes of each Image: a server's step, by what it changes.
-use Rattle.std.proofs.Common.{◌≡◌, ◌⊎◌, ℕ, zero, suc, ◌+◌, ◌-◌, ◌≤◌, ◌<◌, Bool, true, false, List, [], ◌∷◌, ◌++◌, length, map, take, drop, replicate, Option, Some, None, refl, sym, ap, subst, ◌∙◌, inl, inr, arith}
+use Rattle.std.proofs.Common.{◌≡◌, ◌⊎◌, ℕ, zero, suc, ◌+◌, ◌-◌, ◌≤◌, ◌<◌, true, false, List, [], ◌∷◌, ◌++◌, map, take, replicate, Option, Some, None, refl, sym, ap, subst, ◌∙◌, inl, inr, arith}
 use Rattle.std.specs.Prelude.{◌==◌, IsTrue, filter, unwrap_or}
 use Rattle.std.specs.List.{AllByRecursion}
 use Rattle.std.specs.FinMap as table
-use Rattle.std.proofs.lemmas.Bool.{cases_lt, eqb-true, eq-eqb}
+use Rattle.std.proofs.lemmas.Bool.{eq-eqb}
 use Rattle.gfs_types.specs.declared.config.Config.{Config}
 use Rattle.gfs_types.specs.declared.ids.DataId.{DataId}
 use Rattle.gfs_types.specs.declared.ids.Handle.{Handle}
@@ -26,24 +26,21 @@ use Rattle.replica_store.specs.declared.row.Row.{Row}
 use Rattle.replica_store.specs.declared.change.StoreChange.{StoreChange}
 use Rattle.replica_store.specs.declared.change.StoreChange.TheVariants.{SetOrder, Put, Write, Zero, Raise, Copy, Remove}
 use Rattle.replica_store.specs.Replicas.{Replica, ServerDisk, replica_of, with_replica, replica_becomes, stored_replica, written_replica, raised_replica, bytes_on_disk, with_bytes, disk_changed, disk_changed_by_all, row_of, row_at, is_copyable_at}
-use Rattle.primary_order.specs.declared.order.SerialOrder.{SerialOrder}
 use Rattle.protocol.specs.Tables.{Table, element_at, first_numbers}
 use Rattle.protocol.specs.Sending.{handle_of, version_of, serial_of}
-use Rattle.protocol.specs.Choice.{Choice}
 use Rattle.protocol.specs.declared.seen.Seen.{Seen}
-use Rattle.protocol.specs.declared.seen.Seen.TheVariants.{Numbered, BecameSettled, CopyStarted}
+use Rattle.protocol.specs.declared.seen.Seen.TheVariants.{Numbered}
 use Rattle.protocol.specs.Observer.{Placed, placed_in, order_of, new_entry, orders_after, orders_after_all}
 use Rattle.protocol.specs.Server.{ServerState}
 use Rattle.protocol.specs.ServerStep.{server_at, server_goes}
 use Rattle.protocol.specs.ServerWrites.{change_of, stored_as}
-use Rattle.protocol.specs.World.{WorldState, new_world, after_events, IsReached}
+use Rattle.protocol.specs.World.{WorldState, IsReached}
 use Rattle.protocol_laws.proofs.Steps.{on_cond, none_some, same_some, put_cases, put_there, gone_split}
 use Rattle.protocol_laws.proofs.Entries.{AllOf}
 use Rattle.protocol_laws.proofs.MessagesSent.{IsSent}
 use Rattle.protocol_invariant.specs.Versions.{AreRising}
 use Rattle.protocol_chunk_orders.specs.Laws.{unsettled}
 use Rattle.protocol_placed_entries.specs.Laws.{LiesWithin}
-use Rattle.protocol_placed_entries.proofs.Within.{entries_lie_within_the_chunk}
 use Rattle.protocol_new_handles.proofs.RoundsPassed.{IsOfServers}
 use Rattle.protocol_counted_serials.specs.Laws.{serials_of}
 use Rattle.protocol_counted_serials.proofs.CountedRounds.{leases_count_their_serials}
@@ -51,12 +48,12 @@ use Rattle.protocol_replicas.proofs.Lengths.{all_taken, servers_within, settings
 use Rattle.protocol_replicas.proofs.HeldReplicas.{IsNumber, numbers_quiet, changed_last, leases_have_their_replica}
 use Rattle.protocol_caused_words.specs.Laws.{IsNamedIn}
 use Rattle.protocol_caused_words.proofs.Forwards.{forwards_name_entries}
-use Rattle.protocol_stored_changes.proofs.StoreCauses.{IsMadeOf, change_start, IsForwarded, IsNumbered, IsStoredFor, IsChanged, AreMade, AreMadeOn, step_made}
-use Rattle.protocol_replica_images.proofs.KeptDisks.{replicas_are_read_as_stored}
+use Rattle.protocol_stored_changes.proofs.StoreCauses.{IsMadeOf, change_start, IsForwarded, IsNumbered, IsStoredFor, AreMade, AreMadeOn, step_made}
+use Rattle.protocol_stored_changes.proofs.KeptDisks.{taken_cases, replicas_are_read_as_stored}
 use Rattle.protocol_copied_entries.specs.Laws.{Follows, IsUpTo}
 use Rattle.protocol_copied_entries.proofs.OrdersGrow.{IsAny, all_grow}
 use Rattle.protocol_copied_entries.proofs.CopiedEntries.{raises_go_above_their_base, copies_go_above_their_source, copies_have_their_sources_entries}
-use Rattle.protocol_replica_images.specs.Laws.{written_by, marked, IsWithin, IsImageOf, AreImages}
+use Rattle.protocol_replica_images.specs.Laws.{written_by, marked, IsWithin, IsImageOf}
 use Rattle.protocol_replica_images.proofs.Marks.{all_elements, all_marked, last_element, none_applied, image_on, image_grown, image_raised, image_more}
 use Rattle.protocol_replica_images.proofs.KeptData.{IsCarried, kept_is_carried}
 
@@ -125,17 +122,6 @@ numbered_there trace orders (x ∷ xs) zero handle version serial id m of at =
     let later = all_grow trace (orders_after trace orders x) xs handle.0 of.1 last.0 new now tt in
     (last.0, later.0, later.1, later.2)
 numbered_there trace orders (x ∷ xs) (suc place) handle version serial id m of at = numbered_there trace (orders_after trace orders x) xs place handle version serial id m of.1 at
-
--- changes in a row
-
-pub taken_cases : (made : ℕ) (xs : List StoreChange) (x : StoreChange) → (take made (xs ++ x ∷ []) ≡ take made xs) ⊎ (take made (xs ++ x ∷ []) ≡ xs ++ x ∷ [])
-taken_cases zero xs x = inl refl
-taken_cases (suc made) [] x = inr (taken_one made)
-  where
-    taken_one : (n : ℕ) → x ∷ take n [] ≡ x ∷ []
-    taken_one zero = refl
-    taken_one (suc n) = refl
-taken_cases (suc made) (y ∷ xs) x = elim (taken_cases made xs x) [ inl less ↦ inl (ap (λ (ys : List StoreChange). y ∷ ys) less) | inr all ↦ inr (ap (λ (ys : List StoreChange). y ∷ ys) all) ]
 
 -- a row is of a replica
 row_is : (d : ServerDisk) (handle : ℕ) (row : Row) (r : Replica) → row_at d handle ≡ Some row → replica_of d handle ≡ Some r → (r.version ≡ row.version.0) × (r.serial ≡ row.serial.0)

@@ -1,5 +1,5 @@
 -- In each reached world with kept clocks and disks replicas and Images are images of their orders.
-use Rattle.std.proofs.Common.{◌≡◌, ℕ, zero, suc, Bool, true, false, List, [], ◌∷◌, ◌++◌, length, take, drop, Option, Some, None, refl, sym, ap, subst, ◌∙◌, inl, inr}
+use Rattle.std.proofs.Common.{◌≡◌, ℕ, zero, suc, Bool, true, false, List, [], ◌∷◌, ◌++◌, length, take, Option, Some, None, refl, sym, ap, subst, ◌∙◌, inl, inr}
 use Rattle.std.specs.Prelude.{◌&&◌, nat_le, not, filter, IsTrue, ◌+◌, ◌≤◌}
 use Rattle.std.specs.Option.{option_to_list}
 use Rattle.std.specs.FinMap as table
@@ -7,11 +7,6 @@ use Rattle.std.specs.Ordering.{nat_cmp}
 use Rattle.std.proofs.lemmas.Bool.{and_parts, true≢false}
 use Rattle.gfs_types.specs.declared.answer.Answer.{Answer}
 use Rattle.gfs_types.specs.declared.config.Config.{Config}
-use Rattle.gfs_types.specs.declared.ids.DataId.{DataId}
-use Rattle.gfs_types.specs.declared.ids.Handle.{Handle}
-use Rattle.gfs_types.specs.declared.ids.Version.{Version}
-use Rattle.gfs_types.specs.declared.ids.Serial.{Serial}
-use Rattle.gfs_types.specs.declared.mutation.Mutation.{Mutation}
 use Rattle.gfs_types.specs.Mutations.{start_of}
 use Rattle.messages.specs.declared.event.Event.{Event}
 use Rattle.messages.specs.declared.event.Input.{Input}
@@ -21,13 +16,13 @@ use Rattle.messages.specs.declared.message.Body.TheVariants as body
 use Rattle.messages.specs.declared.message.Message.{Message}
 use Rattle.relaxed_file.specs.Run.{Visible}
 use Rattle.replica_store.specs.declared.change.StoreChange.{StoreChange}
-use Rattle.replica_store.specs.Replicas.{Replica, ServerDisk, new_server_disk, replica_of, with_replica, rotten_replica, read_at, disk_changed, disk_changed_by_all}
+use Rattle.replica_store.specs.Replicas.{Replica, ServerDisk, new_server_disk, replica_of, with_replica, rotten_replica, disk_changed_by_all}
 use Rattle.protocol.specs.Tables.{Table, element_at, with_at}
 use Rattle.protocol.specs.Choice.{Choice, Ending, Goes, Lost, Stops, decided_changes}
 use Rattle.protocol.specs.Seen.{is_numbering, Taken, no_step}
 use Rattle.protocol.specs.declared.seen.Seen.{Seen}
 use Rattle.protocol.specs.declared.seen.Seen.TheVariants.{Numbered}
-use Rattle.protocol.specs.Observer.{Placed, Observer, observed_moment, observed_call, observed_answer, placed_in, order_of, new_entry, orders_after_all}
+use Rattle.protocol.specs.Observer.{Placed, Observer, observed_moment, observed_call, observed_answer, placed_in, order_of, orders_after_all}
 use Rattle.protocol.specs.Client.{ClientState, ClientDoing}
 use Rattle.protocol.specs.ClientStep.{client_at, client_step, client_call}
 use Rattle.protocol.specs.Server.{ServerState, ServerDoing, started_server}
@@ -50,39 +45,17 @@ use Rattle.protocol_invariant.specs.Versions.{AreRising}
 use Rattle.protocol_held_rounds.proofs.Rising.{orders_rise}
 use Rattle.protocol_placed_entries.proofs.Within.{entries_lie_within_the_chunk}
 use Rattle.protocol_new_handles.proofs.RoundsPassed.{IsOfServers, server_shown}
-use Rattle.protocol_replicas.proofs.ServerActs.{Acting, acting, KeepsActs, goes_fine}
 use Rattle.protocol_replicas.proofs.Lengths.{settings_stay}
 use Rattle.protocol_caused_words.proofs.Forwards.{images_are_of_replicas}
 use Rattle.protocol_stored_changes.proofs.ExactEvents.{HoldsExactly, holds_exactly}
-use Rattle.protocol_replica_images.proofs.KeptDisks.{replicas_are_read_as_stored}
+use Rattle.protocol_stored_changes.proofs.KeptDisks.{none_more, found_made, take_whole, frame_kept, replicas_are_read_as_stored}
 use Rattle.protocol_copied_entries.specs.Laws.{Follows}
-use Rattle.protocol_copied_entries.proofs.OrdersGrow.{IsAny, same_follows, all_grow, HaveGrown, orders_grow}
-use Rattle.protocol_replica_images.specs.Laws.{IsImageOf, AreImages, ReplicasAreImages, SentImagesAreImages}
+use Rattle.protocol_copied_entries.proofs.OrdersGrow.{IsAny, same_follows, all_grow, orders_grow}
+use Rattle.protocol_replica_images.specs.Laws.{IsImageOf, ReplicasAreImages, SentImagesAreImages}
 use Rattle.protocol_replica_images.proofs.Marks.{image_grown}
 use Rattle.protocol_replica_images.proofs.Images.{starts_within, numbered_there, AreIn, IsImageSaid, Leaves, after}
 
--- lists of changes
-
-none_more : (d : ServerDisk) (decided : List Bool) → disk_changed_by_all d (decided_changes decided []) ≡ d
-none_more d [] = refl
-none_more d (made ∷ rest) = refl
-
-one_decided : (d : ServerDisk) (decided : List Bool) (x : StoreChange) (xs : List StoreChange) → (n : ℕ) × (disk_changed_by_all d (decided_changes decided (x ∷ [])) ≡ disk_changed_by_all d (take n (x ∷ xs)))
-one_decided d [] x xs = (0, refl)
-one_decided d (true ∷ rest) x xs = (1, none_more (disk_changed d x) rest)
-one_decided d (false ∷ rest) x xs = (0, none_more d rest)
-
--- what is found after a stop is what some of the changes made
-found_made : (d : ServerDisk) (decided : List Bool) (made : ℕ) (xs : List StoreChange)
-    → (n : ℕ) × (disk_changed_by_all (disk_changed_by_all d (take made xs)) (decided_changes decided (take 1 (drop made xs))) ≡ disk_changed_by_all d (take n xs))
-found_made d decided zero [] = (0, none_more d decided)
-found_made d decided zero (x ∷ xs) = one_decided d decided x xs
-found_made d decided (suc made) [] = (0, none_more d decided)
-found_made d decided (suc made) (x ∷ xs) = let rest = found_made (disk_changed d x) decided made xs in (suc rest.0, rest.1)
-
-take_whole : (xs : List StoreChange) → take (length xs) xs ≡ xs
-take_whole [] = refl
-take_whole (x ∷ xs) = ap (λ (ys : List StoreChange). x ∷ ys) (take_whole xs)
+-- what is seen
 
 kept_filtered : (xs : List Seen) (place : ℕ) (x : Seen) → element_at xs place ≡ Some x → is_numbering x ≡ true → (n : ℕ) × (element_at (filter is_numbering xs) n ≡ Some x)
 kept_filtered [] place x at is = none_some x at
@@ -92,25 +65,6 @@ kept_filtered (y ∷ xs) zero x at is =
 kept_filtered (y ∷ xs) (suc place) x at is =
     let rest = kept_filtered xs place x at is in
     on_cond (λ (zs : List Seen). (n : ℕ) × (element_at zs n ≡ Some x)) (is_numbering y) (y ∷ filter is_numbering xs) (filter is_numbering xs) (λ _. (suc rest.0, rest.1)) (λ _. rest)
-
--- handlers leave the disk and what was under way
-frame_kept : (s : ServerState) (moment : ℕ) (i : Input) → ((server_goes s moment i).server.disk ≡ s.disk) × ((server_goes s moment i).server.under_way ≡ s.under_way)
-frame_kept s moment i =
-    goes_fine s (λ c. (c.disk ≡ s.disk) × (c.under_way ≡ s.under_way)) (λ c. (c.disk ≡ s.disk) × (c.under_way ≡ s.under_way))
-    (record {
-      begins = λ c h. h;
-      orders = λ c order h. h;
-      drops = λ c handle h. h;
-      puts = λ c handle version serial bytes none short h. h;
-      raises = λ c handle version r there h. h;
-      copies = λ c handle copy version none h. h;
-      grants = λ c handle version until members holds h. h;
-      holds = λ c leases from h. h;
-      settles = λ c handle version serial h. h;
-      numbers = λ c handle p id m n h. h;
-      spoils = λ c handle p id m n h. h;
-      applies = λ c handle serial r x there less writing h. h;
-    }) moment i (refl, refl)
 
 -- a server's replicas, however what is under way is decided; one that is up has nothing under way
 record IsGood (size : ℕ) (orders : Table (List Placed)) (s : ServerState) : Type 0 where

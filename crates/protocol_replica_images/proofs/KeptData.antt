@@ -1,6 +1,6 @@
 -- What a server keeps as pushed is what the client pushed, and so what each entry of these data carries.
-use Rattle.std.proofs.Common.{◌≡◌, ℕ, zero, suc, Bool, true, false, cond, List, [], ◌∷◌, ◌++◌, length, map, Option, Some, None, refl, sym, ap, subst, ◌∙◌, inl, inr}
-use Rattle.std.specs.Prelude.{◌==◌, ◌&&◌}
+use Rattle.std.proofs.Common.{◌≡◌, ℕ, zero, suc, Bool, true, false, cond, List, [], ◌∷◌, ◌++◌, length, Option, Some, None, refl, sym, ap, subst, ◌∙◌, inl, inr}
+use Rattle.std.specs.Prelude.{◌==◌}
 use Rattle.std.specs.Option.{option_to_list}
 use Rattle.std.specs.Map.{lookup}
 use Rattle.std.proofs.lemmas.Bool.{and_parts, eqb-true}
@@ -16,7 +16,7 @@ use Rattle.messages.specs.declared.message.Target.TheVariants as target
 use Rattle.messages.specs.declared.event.Input.{Input}
 use Rattle.messages.specs.declared.event.Input.TheVariants as input
 use Rattle.data_push.specs.Buffers.{same_id, data_of}
-use Rattle.protocol.specs.Tables.{element_at, with_at, first_numbers}
+use Rattle.protocol.specs.Tables.{element_at, with_at}
 use Rattle.protocol.specs.Sending.{data_id, the_client}
 use Rattle.protocol.specs.Choice.{Choice, Ending, Goes, Lost, Stops}
 use Rattle.protocol.specs.Observer.{Placed, order_of}
@@ -26,7 +26,7 @@ use Rattle.protocol.specs.ClientStep.{client_at, client_step, client_call}
 use Rattle.protocol.specs.Server.{ServerState, started_server}
 use Rattle.protocol.specs.ServerStep.{server_at, server_step, server_restarts, server_restart}
 use Rattle.protocol.specs.MasterStep.{master_step, master_restart}
-use Rattle.protocol.specs.World.{WorldState, stamped, new_world, after_events, IsReached}
+use Rattle.protocol.specs.World.{WorldState, stamped, new_world, IsReached}
 use Rattle.protocol_laws.proofs.Steps.{none_some, same_some}
 use Rattle.protocol_laws.proofs.Entries.{AllOf, same_number}
 use Rattle.protocol_laws.proofs.RisingOrders.{set_cases}

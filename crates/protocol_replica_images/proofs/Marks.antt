@@ -1,5 +1,5 @@
 -- Marked entries of an order: what keeps them as the order grows, and how one more is marked behind them.
-use Rattle.std.proofs.Common.{◌≡◌, ◌⊎◌, ℕ, zero, suc, ◌+◌, ◌≤◌, ◌<◌, Bool, true, false, List, [], ◌∷◌, ◌++◌, map, Option, Some, None, refl, sym, ap, subst, ◌∙◌, inl, inr, arith}
+use Rattle.std.proofs.Common.{◌≡◌, ◌⊎◌, ℕ, zero, suc, ◌≤◌, ◌<◌, Bool, true, false, List, [], ◌∷◌, ◌++◌, Some, refl, sym, ap, subst, ◌∙◌, inl, inr, arith}
 use Rattle.std.specs.List.{AllByRecursion}
 use Rattle.std.proofs.lemmas.Bool.{cases_lt}
 use Rattle.gfs_types.specs.declared.mutation.Mutation.{Mutation}
@@ -11,7 +11,7 @@ use Rattle.protocol.specs.Observer.{Placed}
 use Rattle.protocol_laws.proofs.Steps.{none_some, same_some}
 use Rattle.protocol_invariant.specs.Versions.{IsBefore, AreRising}
 use Rattle.protocol_chunk_orders.specs.Laws.{unsettled}
-use Rattle.protocol_copied_entries.specs.Laws.{Follows, IsUpTo}
+use Rattle.protocol_copied_entries.specs.Laws.{Follows}
 use Rattle.protocol_copied_entries.proofs.OrdersGrow.{IsAny}
 use Rattle.protocol_replica_images.specs.Laws.{written_by, marked, mutations_in, IsWithin, HasEntry, IsImageOf}
 use Rattle.protocol_replica_images.proofs.Written.{images_are_written_to}

@@ -1,8 +1,7 @@
 -- What holds after each event by cases, with what rot says of kept disks: they are kept while each block that changed has another digest.
-use Rattle.std.proofs.Common.{◌≡◌, ℕ, zero, suc, ◌-◌, Bool, List, [], ◌∷◌, Option, Some, None, refl, subst, arith}
+use Rattle.std.proofs.Common.{◌≡◌, ℕ, zero, suc, ◌-◌, Bool, Option, Some, None, refl, subst, arith}
 use Rattle.std.specs.Prelude.{nat_lt, nat_le, ◌&&◌, not, IsTrue}
 use Rattle.std.proofs.lemmas.Bool.{and_parts}
-use Rattle.gfs_types.specs.declared.config.Config.{Config}
 use Rattle.gfs_types.specs.declared.ids.Node.{Node}
 use Rattle.gfs_types.specs.declared.ids.Node.TheVariants as node
 use Rattle.gfs_types.specs.declared.call.Call.{Call}
@@ -14,15 +13,13 @@ use Rattle.messages.specs.declared.event.Input.TheVariants as input
 use Rattle.protocol.specs.Tables.{moment_limit, element_at}
 use Rattle.protocol.specs.Sending.{the_server, the_client}
 use Rattle.protocol.specs.Choice.{Choice}
-use Rattle.protocol.specs.Seen.{no_output}
 use Rattle.replica_store.specs.Replicas.{Replica, replica_of, rotten_replica}
-use Rattle.protocol.specs.Observer.{observed_moment, observed_call}
 use Rattle.protocol.specs.Server.{ServerState}
 use Rattle.protocol.specs.ServerStep.{server_step, server_restart}
 use Rattle.protocol.specs.MasterStep.{master_step, master_restart}
 use Rattle.protocol.specs.Client.{ClientState}
 use Rattle.protocol.specs.ClientStep.{may_call, client_step, client_call}
-use Rattle.protocol.specs.World.{WorldState, Happened, new_world, nothing_happens, numbered_from_1, after_master, after_server, after_client, master_moves, server_moves, client_moves, moves, delivered, server_restarts_at, restarts, call_moves, with_server_disk, hides_change, rots_replica, rots_on, at_moment, happens, after_events, IsReached}
+use Rattle.protocol.specs.World.{WorldState, Happened, nothing_happens, numbered_from_1, after_master, after_server, after_client, master_moves, server_moves, client_moves, moves, delivered, server_restarts_at, restarts, call_moves, hides_change, rots_replica, rots_on, at_moment, happens}
 use Rattle.protocol_laws.proofs.Steps.{on_cond, none_some}
 use Rattle.protocol_laws.proofs.RisingOrders.{element_numbered}
 use Rattle.protocol_attempts.proofs.Events.{IsGiven, with_call, with_rot}

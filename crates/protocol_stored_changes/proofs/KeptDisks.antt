@@ -1,6 +1,6 @@
 -- In each reached world with kept disks each block that changed on a disk has another digest, also on what a restart finds.
 use Rattle.std.proofs.Common.{◌≡◌, ◌⊎◌, ℕ, zero, suc, ◌+◌, ◌-◌, ◌≤◌, Bool, true, false, cond, List, [], ◌∷◌, ◌++◌, length, take, drop, replicate, Option, Some, None, refl, sym, ap, subst, ◌∙◌, inl, inr, arith}
-use Rattle.std.specs.Prelude.{◌&&◌, ◌||◌, ◌==◌, ◌%◌, ◌/◌, nat_le, not, IsTrue}
+use Rattle.std.specs.Prelude.{◌||◌, nat_le, not, IsTrue}
 use Rattle.std.specs.FinMap as table
 use Rattle.std.specs.Ordering.{nat_cmp}
 use Rattle.std.proofs.lemmas.Bool.{and_parts, cases_lt, or_left, le-leb, true≢false}
@@ -14,7 +14,6 @@ use Rattle.messages.specs.declared.event.Event.{Event}
 use Rattle.messages.specs.declared.event.Input.{Input}
 use Rattle.messages.specs.declared.event.Input.TheVariants as input
 use Rattle.messages.specs.declared.message.Body.{Body}
-use Rattle.messages.specs.declared.message.Message.{Message}
 use Rattle.replica_store.specs.declared.change.StoreChange.{StoreChange}
 use Rattle.replica_store.specs.declared.change.StoreChange.TheVariants.{SetOrder, Put, Write, Zero, Raise, Copy, Remove}
 use Rattle.replica_store.specs.Replicas.{Table, Replica, ServerDisk, new_server_disk, replica_of, with_replica, replica_becomes, stored_replica, written_replica, raised_replica, rotten_replica, bytes_on_disk, is_readable, is_writable, is_writable_at, writable_in, is_copyable_at, copyable_in, read_at, read_from, read_bytes, disk_changed, disk_changed_by_all}
@@ -26,17 +25,17 @@ use Rattle.protocol.specs.Observer.{Observer, observed_answer}
 use Rattle.protocol.specs.Server.{ServerState, ServerDoing, started_server}
 use Rattle.protocol.specs.ServerWrites.{stored_as}
 use Rattle.protocol.specs.ServerStep.{server_at, found_disk, server_goes, server_ends, server_step, server_restarts, server_restart}
-use Rattle.protocol.specs.World.{WorldState, new_world, hides_change, happens, after_events, IsReached}
+use Rattle.protocol.specs.World.{WorldState, new_world, hides_change, happens, after_events}
 use Rattle.protocol_laws.proofs.Steps.{on_cond, none_some, same_some, put_cases, gone_split}
 use Rattle.protocol_laws.proofs.Entries.{AllOf}
 use Rattle.protocol_laws.proofs.RisingOrders.{set_cases}
 use Rattle.protocol_laws.proofs.LeasesTold.{numbered_from}
-use Rattle.protocol_replicas.proofs.ServerActs.{Acting, acting, KeepsActs, goes_fine}
+use Rattle.protocol_replicas.proofs.ServerActs.{goes_fine}
 use Rattle.protocol_replicas.proofs.Lengths.{all_taken}
 use Rattle.protocol_replicas.proofs.HeldReplicas.{IsNumber, numbers_quiet, changed_last}
 use Rattle.protocol_stored_changes.specs.Laws.{ReplicasAreReadAsStored}
-use Rattle.protocol_stored_changes.proofs.ExactEvents.{is_kept_after, HoldsExactly, holds_exactly}
-use Rattle.protocol_stored_changes.proofs.StoreCauses.{IsForwarded, IsNumbered, IsWritable, IsStoredFor, IsChanged, AreMade, AreMadeOn, step_made}
+use Rattle.protocol_stored_changes.proofs.ExactEvents.{HoldsExactly, holds_exactly}
+use Rattle.protocol_stored_changes.proofs.StoreCauses.{IsNumbered, IsWritable, IsStoredFor, AreMade, AreMadeOn, step_made}
 use Rattle.protocol_stored_changes.proofs.SoundBlocks.{zeros, alike_long, IsSound, rotten_sound, written_sound, read_whole}
 
 -- lists of changes

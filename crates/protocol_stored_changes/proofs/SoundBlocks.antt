@@ -1,6 +1,6 @@
 -- A block that changed on the disk has another digest: rot, a write over part of a replica, and a whole read.
-use Rattle.std.proofs.Common.{◌≡◌, ◌⊎◌, ℕ, zero, suc, ◌+◌, ◌-◌, ◌*◌, ◌/◌, ◌%◌, ◌≤◌, ◌<◌, min, Bool, true, false, cond, List, [], ◌∷◌, ◌++◌, length, take, drop, replicate, get_or, Option, Some, None, refl, sym, ap, subst, ◌∙◌, inl, inr, arith}
-use Rattle.std.specs.Prelude.{◌==◌, ◌&&◌, ◌||◌, not, nat_lt, nat_le, filter, unwrap_or, slice_set, slice_index, T}
+use Rattle.std.proofs.Common.{◌≡◌, ◌⊎◌, ℕ, zero, suc, ◌+◌, ◌-◌, ◌*◌, ◌/◌, ◌%◌, ◌≤◌, ◌<◌, Bool, true, false, cond, List, [], ◌∷◌, ◌++◌, length, take, drop, replicate, get_or, Option, Some, None, refl, sym, ap, subst, ◌∙◌, inl, inr, arith}
+use Rattle.std.specs.Prelude.{◌==◌, ◌&&◌, ◌||◌, not, nat_lt, nat_le, filter, unwrap_or, slice_set, T}
 use Rattle.std.specs.List.{list_any}
 use Rattle.std.specs.Str.{bytes_eq}
 use Rattle.std.specs.Ordering.{nat_cmp, eq_by_cmp, is_lt, is_eq}
@@ -9,7 +9,7 @@ use Rattle.std.specs.FinMap as table
 use Rattle.std.specs.FinMap.Entries.{find, is_sorted, below_all}
 use Rattle.std.specs.declared.cmp.Ordering.{Ordering}
 use Rattle.std.specs.declared.cmp.Ordering.TheVariants.{Less, Equal, Greater}
-use Rattle.std.proofs.Math.Nat.{mod-lt, div-zero, mul-zero, add-mul, one-mul, div-mul-le_self, div-eq_of_lt-le}
+use Rattle.std.proofs.Math.Nat.{mod-lt, div-zero, add-mul, one-mul, div-mul-le_self, div-eq_of_lt-le}
 use Rattle.std.proofs.lemmas.Nat.{le-div, div-add-mod'}
 use Rattle.std.proofs.lemmas.List.{get_or_append_left, get_or-take, get_or-drop, get_or-append-add, get_or-set_same, get_or-set_other, ext_get_or, length-drop, length-take-le, take_all}
 use Rattle.std.proofs.lemmas.Bool.{cases_lt, and_cases, or_cases, or_parts, or_from, or_left, or_right, not-true, not_from_true, not_from_false, true≢false, eqb-true, eq-eqb, ltb-true, ltb-false, leb-true, le-leb}

@@ -47,11 +47,11 @@ use Rattle.protocol.specs.declared.seen.Seen.{Seen}
 use Rattle.protocol.specs.declared.seen.Seen.TheVariants.{Numbered, BecameSettled}
 use Rattle.protocol.specs.Server.{ServerState, ServerDoing, server_begins, chunk_limit, stores, shows, with_primary, without_lease, takes_data, drops_corrupt, counting_primary, primary_of}
 use Rattle.protocol.specs.ServerReads.{answers_bytes, reads_from, measures, sends_image, copies_out}
-use Rattle.protocol.specs.ServerWrites.{passes_on, answers_settled, denies, forwards, settles, acknowledges, change_of, stored_as, primary_applies, places, appends_as, mutates_with, mutates_new, mutates_as, mutates_under, member_stores, member_applies, applies_data, applies_change, forwarded_to, acked_under, refuses_waiting, nacked_under}
+use Rattle.protocol.specs.ServerWrites.{passes_on, answers_settled, forwards, settles, acknowledges, change_of, stored_as, primary_applies, places, appends_as, mutates_with, mutates_new, mutates_as, mutates_under, member_stores, member_applies, applies_data, applies_change, forwarded_to, acked_under, refuses_waiting, nacked_under}
 use Rattle.protocol.specs.ServerOrders.{on_order, can_take, takes_create, raises, takes_set_version, holds_version, takes_grant, extends_held, ends_held, takes_revoke, drops_old, takes_drop, takes_clone, is_pending_clone, takes_image, copies_locally, takes_copy_local}
 use Rattle.protocol.specs.ServerStep.{server_takes, server_does, server_at, server_goes}
 use Rattle.protocol_laws.proofs.Steps.{on_cond, none_some}
-use Rattle.protocol_laws.proofs.Entries.{AllOf, all_joined}
+use Rattle.protocol_laws.proofs.Entries.{AllOf}
 use Rattle.protocol_laws.proofs.MembersRecorded.{kept_place}
 use Rattle.protocol_replicas.proofs.HeldReplicas.{IsNumber}
 
