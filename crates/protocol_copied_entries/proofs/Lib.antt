@@ -1,0 +1,3 @@
+pub mod AskedOrders
+pub mod OrdersGrow
+pub mod CopiedEntries

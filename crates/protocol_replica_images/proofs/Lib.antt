@@ -1,0 +1,5 @@
+pub mod Written
+pub mod Marks
+pub mod KeptData
+pub mod Images
+pub mod ImagesReached

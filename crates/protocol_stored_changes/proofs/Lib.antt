@@ -1,0 +1,4 @@
+pub mod StoreCauses
+pub mod ExactEvents
+pub mod SoundBlocks
+pub mod KeptDisks

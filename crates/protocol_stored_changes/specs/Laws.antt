@@ -1,0 +1,14 @@
+-- The law of every lawful list of events on what servers read of their replicas, that a public function of this crate states.
+use Rattle.std.specs.Prelude.{◌≡◌, ℕ, List, length, Some, IsTrue}
+use Rattle.gfs_types.specs.declared.config.Config.{Config}
+use Rattle.replica_store.specs.Replicas.{Replica, replica_of, read_at, is_copyable_at, bytes_on_disk}
+use Rattle.protocol.specs.Tables.{element_at}
+use Rattle.protocol.specs.Server.{ServerState}
+use Rattle.protocol.specs.World.{WorldState, IsReached}
+
+-- Where disks are kept, the whole of a replica is read as it was stored, and so it is copied on its disk: rot is found (section 5.2).
+abbrev pub ReplicasAreReadAsStored : Type 0
+ReplicasAreReadAsStored =
+    (config : Config) (servers clients : ℕ) (w : WorldState) → IsReached config servers clients w → IsTrue w.observer.are_disks_kept
+    → (index : ℕ) (s : ServerState) → element_at w.servers index ≡ Some s → (handle : ℕ) (r : Replica) → replica_of s.disk handle ≡ Some r
+    → ((bytes : List ℕ) → read_at s.disk handle 0 (length r.bytes) ≡ Some bytes → bytes ≡ r.bytes) × (IsTrue (is_copyable_at s.disk handle) → bytes_on_disk r ≡ r.bytes)
