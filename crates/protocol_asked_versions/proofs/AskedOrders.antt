@@ -1,6 +1,6 @@
 -- What the master gives at an Ask: a version of a chunk whose last lease has ended, or of a new chunk; where it begins a copy, the first version of the copy, which follows what was issued of the source.
 use Rattle.std.proofs.Common.{◌≡◌, ◌⊎◌, ℕ, zero, suc, ◌+◌, ◌≤◌, Bool, true, false, List, [], ◌∷◌, ◌++◌, length, map, Option, Some, None, refl, ap, subst, inl, inr, arith, sym, ◌∙◌}
-use Rattle.std.specs.Prelude.{◌==◌, ◌&&◌, nat_lt, nat_le, max}
+use Rattle.std.specs.Prelude.{◌==◌, nat_lt, nat_le, max}
 use Rattle.std.specs.FinMap as table
 use Rattle.std.proofs.lemmas.Bool.{leb-true}
 use Rattle.std.proofs.Math.Nat.{le-max_left}
@@ -40,7 +40,6 @@ use Rattle.protocol.specs.MasterSnapshots.{revokes_row, revokes, reply_of, answe
 use Rattle.protocol.specs.MasterVersions.{Asker, VersionTarget, holder_line, group_of, tells_location, tells_holders, tells_none, tells_to_wait, version_order, sends_versions, new_attempt, sends_issued, issues_to, targets_by, recorded_holders, issues_own, is_attempted, copy_order, sends_copies, copy_targets, sends_copy_started, copies_to, begins_copy, copy_for, is_copied, wants_own, wants_own_of, issues_copy, wants_copy, wants_by, wants_primary, holder_target}
 use Rattle.protocol.specs.MasterAsks.{looks_at_row, looks_at, mutates_row, mutates_at, adds_chunk, with_index, asks_to_write, asks_to_append, asks_for_last, asks_for, asks_of, takes_ask}
 use Rattle.protocol.specs.MasterStep.{master_takes, master_at, master_goes, may_end, master_bounded, master_ends, master_step}
-use Rattle.protocol_laws.proofs.Words.{true_false}
 use Rattle.protocol_laws.proofs.Steps.{on_cond, none_some, same_some, put_cases, removed_cases}
 use Rattle.protocol_laws.proofs.ChunkRows.{rows_of}
 use Rattle.protocol_laws.proofs.CopiesUnderWay.{found_for}
@@ -444,7 +443,7 @@ module _ (l : Logged) (now : ℕ) (ready : (handle : ℕ) (c : Copy) → table.g
           let done : MasterDoing = master_takes start x x.body in
           ready_post done done.master.snapshots (subst (λ (b : Body). Post (master_takes start x b)) (sym is) (ask_post start x.sender number file.0 w deadline.0 lost begun))
 
-ready_later : (m : MasterState) (moment : ℕ) → ((handle : ℕ) (c : Copy) → table.get m.logged.copies handle ≡ Some c → HasEnded m.now (rows_of m.logged) handle)
+pub ready_later : (m : MasterState) (moment : ℕ) → ((handle : ℕ) (c : Copy) → table.get m.logged.copies handle ≡ Some c → HasEnded m.now (rows_of m.logged) handle)
     → (handle : ℕ) (c : Copy) → table.get m.logged.copies handle ≡ Some c → HasEnded (max m.now moment) (rows_of m.logged) handle
 ready_later m moment ready handle c at row is = let low = ready handle c at row is in let later = le-max_left m.now moment in omega (arith, low, later)
 

@@ -1,46 +1,34 @@
 -- The round of an entry was granted to its chunk, or lies below each version of the chunk that is given: a copy's first version follows all that was issued of its source.
-use Rattle.std.proofs.Common.{◌≡◌, ◌⊎◌, ℕ, suc, ◌+◌, ◌≤◌, ◌<◌, true, List, [], ◌∷◌, ◌++◌, length, Option, Some, None, refl, sym, ap, subst, ◌∙◌, inl, inr, arith}
-use Rattle.std.specs.Prelude.{◌==◌, ◌&&◌, max, unwrap_or, IsTrue}
+use Rattle.std.proofs.Common.{◌≡◌, ◌⊎◌, ℕ, suc, ◌≤◌, ◌<◌, true, List, [], ◌∷◌, ◌++◌, length, Option, Some, None, refl, sym, ap, subst, ◌∙◌, inl, inr, arith}
+use Rattle.std.specs.Prelude.{max, unwrap_or, IsTrue}
 use Rattle.std.specs.Ordering.{nat_cmp}
 use Rattle.std.specs.FinMap as table
-use Rattle.std.proofs.lemmas.Bool.{and_parts, and_from, cases_lt}
 use Rattle.gfs_types.specs.declared.config.Config.{Config}
-use Rattle.gfs_types.specs.declared.answer.Answer.{Answer}
-use Rattle.gfs_types.specs.declared.ids.DataId.{DataId}
-use Rattle.gfs_types.specs.declared.ids.Handle.{Handle}
-use Rattle.gfs_types.specs.declared.ids.Version.{Version}
-use Rattle.gfs_types.specs.declared.ids.Serial.{Serial}
-use Rattle.gfs_types.specs.declared.mutation.Mutation.{Mutation}
-use Rattle.messages.specs.declared.event.Event.{Event}
 use Rattle.messages.specs.declared.event.Input.{Input}
 use Rattle.messages.specs.declared.event.Input.TheVariants as input
 use Rattle.messages.specs.declared.message.Message.{Message}
-use Rattle.primary_order.specs.declared.order.SerialOrder.{SerialOrder}
 use Rattle.relaxed_file.specs.Run.{Visible}
 use Rattle.protocol.specs.Tables.{Table, element_at}
-use Rattle.protocol.specs.Choice.{Choice, Ending, Goes, Lost, Stops}
-use Rattle.protocol.specs.Seen.{Taken}
+use Rattle.protocol.specs.Choice.{Choice}
 use Rattle.protocol.specs.declared.seen.Seen.{Seen}
 use Rattle.protocol.specs.declared.seen.Seen.TheVariants.{Numbered, BecameSettled, CopyStarted}
-use Rattle.protocol.specs.Observer.{Placed, Observer, observed_moment, observed_answer, placed_in, new_entry, orders_after_all}
-use Rattle.protocol.specs.Master.{MasterState}
-use Rattle.protocol.specs.Server.{ServerState, primary_of}
-use Rattle.protocol.specs.ServerStep.{server_at, server_step, server_restart}
-use Rattle.protocol.specs.MasterStep.{master_step, master_restart, started_master, found_log, opening, opens_as, has_opened, is_within_limits}
+use Rattle.protocol.specs.Observer.{Placed, observed_moment, placed_in, orders_after_all}
+use Rattle.protocol.specs.Server.{ServerState}
+use Rattle.protocol.specs.ServerStep.{server_step, server_restart}
+use Rattle.protocol.specs.MasterStep.{master_step, master_restart}
 use Rattle.protocol.specs.ClientStep.{client_step, client_call}
-use Rattle.protocol.specs.World.{WorldState, new_world, stamped, happens, after_events, IsReached}
-use Rattle.protocol_laws.specs.Laws.{is_grant, grants_of}
+use Rattle.protocol.specs.World.{WorldState, stamped, IsReached}
+use Rattle.protocol_laws.specs.Laws.{is_grant}
 use Rattle.protocol_laws.proofs.Steps.{none_some, same_some}
-use Rattle.protocol_laws.proofs.Entries.{AllOf, same_number}
+use Rattle.protocol_laws.proofs.Entries.{AllOf}
 use Rattle.protocol_laws.proofs.MembersRecorded.{all_at}
 use Rattle.protocol_laws.proofs.MessagesSent.{IsSent, sent_before, sent_cases, numbered_sent}
 use Rattle.protocol_laws.proofs.SentReached.{without_order, server_quiet, server_restarts_quiet, sent_reached}
 use Rattle.protocol_laws.proofs.ClientMoves.{HasNoOrder, quiet_orders, client_quiet, call_quiet}
-use Rattle.protocol_attempts.proofs.Events.{with_call, HoldsAfter, holds_after}
-use Rattle.protocol_words.proofs.Histories.{after_both}
+use Rattle.protocol_attempts.proofs.Events.{HoldsAfter}
 use Rattle.protocol_words.proofs.MasterTalks.{restart_shown}
 use Rattle.protocol_entries.specs.Laws.{IsAmong}
-use Rattle.protocol_entries.proofs.Stemming.{came_in, numbered_mutations_were_asked_for}
+use Rattle.protocol_entries.proofs.Stemming.{came_in}
 use Rattle.protocol_chunk_orders.specs.Laws.{unsettled}
 use Rattle.protocol_chunk_orders.proofs.Placing.{all_placed, Holds, AreAll, all_keep, same_orders}
 use Rattle.protocol_chunk_orders.proofs.Numbering.{restarted_shown}
@@ -57,9 +45,9 @@ use Rattle.protocol_given_versions.proofs.GivenVersions.{given_reached}
 use Rattle.protocol_extended_leases.proofs.MasterCauses.{IsAsk, step_caused}
 use Rattle.protocol_given_once.proofs.GivenOnce.{IsNext, IsGivenNext, next_causes}
 use Rattle.protocol_rising_rounds.proofs.SentGrants.{counted_one}
-use Rattle.protocol_rising_rounds.proofs.RisingRounds.{restart_silent, leased_granted, IsUnderLease, under_lease, put_all, held_reached}
+use Rattle.protocol_rising_rounds.proofs.RisingRounds.{restart_silent, leased_granted, under_lease, put_all, held_reached}
 use Rattle.protocol_asked_versions.specs.Laws.{EntriesLieBelowGivenVersions}
-use Rattle.protocol_asked_versions.proofs.AskedOrders.{GivesFirst, IsBegun, step_asked}
+use Rattle.protocol_asked_versions.proofs.AskedOrders.{GivesFirst, ready_later, step_asked}
 
 -- each order of this chunk among them gives a version above that number
 
@@ -157,7 +145,7 @@ module _ (config : Config) (servers clients : ℕ) (w : WorldState) (r : IsReach
         | inl usual ↦ none_some (CopyStarted (handle_of shows.source) (handle_of shows.copy)) (ap (λ (xs : List Seen). element_at xs 0) (sym usual.1 ∙ shows.seen))
         | inr begun ↦
             let same = same_handles begun.source begun.copy shows.source shows.copy (sym begun.seen ∙ shows.seen) in
-            let first = (all_at (GivesFirst w.master.logged (max w.master.now moment) _ begun.copy begun.issued) (master_step w.master moment i choice).out.sent n m begun.given there shows.copy version given).1 in
+            let first = (all_at (GivesFirst w.master.logged (max w.master.now moment) (ready_later w.master moment ((base.base.logged.up up).ready).copied) begun.copy begun.issued) (master_step w.master moment i choice).out.sent n m begun.given there shows.copy version given).1 in
             elim (begun.known) [
               | inl old ↦ let low = known.issued old.0 (ap (λ (k : ℕ). chunk_of w.master.logged.table k) (sym same.0) ∙ old.1) in let issued = old.2 in omega (arith, low, issued, first)
               | inr new ↦ absurd (let used = known.used in let source = same.0 in omega (arith, used, new, source))

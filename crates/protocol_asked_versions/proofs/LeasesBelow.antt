@@ -1,11 +1,10 @@
 -- The leases below a version that an order gives are over: those of its chunk have ended as it is sent, and none below it is granted any more.
-use Rattle.std.proofs.Common.{◌≡◌, ◌⊎◌, ℕ, suc, ◌≤◌, ◌<◌, Bool, true, false, List, [], ◌∷◌, ◌++◌, length, Option, Some, None, refl, sym, ap, subst, ◌∙◌, inl, inr, arith}
-use Rattle.std.specs.Prelude.{◌==◌, ◌&&◌, max, IsTrue}
+use Rattle.std.proofs.Common.{◌≡◌, ◌⊎◌, ℕ, suc, ◌≤◌, ◌<◌, false, List, ◌++◌, length, Option, Some, None, refl, sym, ap, subst, ◌∙◌, inl, inr, arith}
+use Rattle.std.specs.Prelude.{◌==◌, max, IsTrue}
 use Rattle.std.specs.FinMap as table
 use Rattle.std.proofs.lemmas.Bool.{and_from, cases_lt}
 use Rattle.std.proofs.Math.Nat.{le-max_left, le-max_right, max-le}
 use Rattle.gfs_types.specs.declared.config.Config.{Config}
-use Rattle.messages.specs.declared.event.Event.{Event}
 use Rattle.messages.specs.declared.event.Input.{Input}
 use Rattle.messages.specs.declared.event.Input.TheVariants as input
 use Rattle.messages.specs.declared.message.Message.{Message}
@@ -22,7 +21,7 @@ use Rattle.protocol.specs.MasterStep.{master_step}
 use Rattle.protocol.specs.World.{WorldState, stamped, after_master, after_events, IsReached}
 use Rattle.protocol_laws.specs.Laws.{is_grant, grants_of, tells_end}
 use Rattle.protocol_laws.proofs.Steps.{same_some}
-use Rattle.protocol_laws.proofs.Entries.{AllOf, same_number}
+use Rattle.protocol_laws.proofs.Entries.{same_number}
 use Rattle.protocol_laws.proofs.Words.{true_false}
 use Rattle.protocol_laws.proofs.ChunkRows.{rows_of}
 use Rattle.protocol_laws.proofs.MembersRecorded.{all_at}
@@ -49,7 +48,7 @@ use Rattle.protocol_first_versions.proofs.AttemptsAbove.{step_above}
 use Rattle.protocol_given_once.proofs.OrderSteps.{IsOrderedNow, WasOrderedIn, was_ordered_in}
 use Rattle.protocol_given_once.proofs.GivenOnce.{IsNext, now_given, given_number}
 use Rattle.protocol_asked_versions.specs.Laws.{LeasesBelowAreOver}
-use Rattle.protocol_asked_versions.proofs.AskedOrders.{IsFree, GivesFree, GivesFirst, IsBegun, step_asked}
+use Rattle.protocol_asked_versions.proofs.AskedOrders.{GivesFree, GivesFirst, ready_later, step_asked}
 
 -- the lease of a version that was not granted is over
 none_granted_over : (config : Config) (servers clients : ℕ) (w : WorldState) → IsReached config servers clients w → (handle number : ℕ) → grants_of handle number w.sent ≤ 0 → IsLeaseOver w handle number
@@ -116,9 +115,9 @@ module _ (config : Config) (servers clients : ℕ) (u : WorldState) (r : IsReach
   free : (x : Message) → IsSent ms x → version_given x.body ≡ Some (handle, version) → (u.master.logged.next_handle ≤ handle) ⊎ ((row : ChunkRow) → table.get (rows_of u.master.logged) handle ≡ Some row → row.lease_end ≤ max u.master.now moment)
   free x said is =
       elim (step_asked u.master moment i choice ((base.base.logged.up up).ready).copied ask) [
-        | inl usual ↦ all_at (GivesFree u.master.logged (max u.master.now moment) _) ms said.0 x usual.0 said.1 handle version is
+        | inl usual ↦ all_at (GivesFree u.master.logged (max u.master.now moment) (ready_later u.master moment ((base.base.logged.up up).ready).copied)) ms said.0 x usual.0 said.1 handle version is
         | inr begun ↦
-            let first = all_at (GivesFirst u.master.logged (max u.master.now moment) _ begun.copy begun.issued) ms said.0 x begun.given said.1 handle version is in
+            let first = all_at (GivesFirst u.master.logged (max u.master.now moment) (ready_later u.master moment ((base.base.logged.up up).ready).copied) begun.copy begun.issued) ms said.0 x begun.given said.1 handle version is in
             inl (let same = first.0 in let new = begun.new in omega (arith, same, new))
       ]
 

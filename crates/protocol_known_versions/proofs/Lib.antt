@@ -1,0 +1,3 @@
+pub mod ClonedWords
+pub mod SaidVersions
+pub mod KnownVersions
