@@ -1,5 +1,5 @@
 -- In each world that is reached, a client that has a write open was told of each part before the one in hand; so a write that is answered Done has all its parts placed.
-use Rattle.std.proofs.Common.{◌≡◌, ◌⊎◌, ℕ, zero, suc, ◌≤◌, ◌<◌, Bool, true, false, true≢false, List, [], ◌∷◌, ◌++◌, length, map, Option, Some, None, refl, sym, ap, subst, ◌∙◌, inl, inr, arith}
+use Rattle.std.proofs.Common.{◌≡◌, ℕ, zero, suc, ◌≤◌, Bool, true, false, true≢false, List, [], ◌∷◌, ◌++◌, length, map, Option, Some, None, refl, sym, ap, subst, ◌∙◌, inl, inr, arith}
 use Rattle.std.specs.Prelude.{◌&&◌, cond, is_none, IsTrue}
 use Rattle.std.specs.Option.{option_to_list}
 use Rattle.std.proofs.lemmas.Bool.{and_from, and_parts}
@@ -17,7 +17,6 @@ use Rattle.gfs_types.specs.declared.answer.Answer.TheVariants as answer
 use Rattle.gfs_types.specs.declared.refusal.Refusal.TheVariants.{NoMemory}
 use Rattle.gfs_types.specs.declared.mutation.Mutation.{Mutation}
 use Rattle.gfs_types.specs.declared.mutation.Mutation.TheVariants as mutation
-use Rattle.messages.specs.declared.event.Event.{Event}
 use Rattle.messages.specs.declared.event.Input.{Input}
 use Rattle.messages.specs.declared.event.Input.TheVariants as input
 use Rattle.messages.specs.declared.message.Body.{Body}
@@ -29,20 +28,20 @@ use Rattle.client_state.specs.declared.call.CurrentCall.{CurrentCall}
 use Rattle.client_state.specs.declared.call.ToldChunk.{ToldChunk}
 use Rattle.client_state.specs.declared.call.Stage.{Stage}
 use Rattle.client_state.specs.declared.call.Stage.TheVariants.{AskedNames, AskedWhere, MustAskAgain, SentData, SentMutate, SentRead, IsOver, HasAnswer}
-use Rattle.relaxed_file.specs.Parts.{part_start, has_part, part_bytes}
+use Rattle.relaxed_file.specs.Parts.{part_start, part_bytes}
 use Rattle.primary_order.specs.PrimaryOrder.{place_of}
 use Rattle.protocol.specs.Tables.{element_at, with_at, first_numbers}
 use Rattle.protocol.specs.Sending.{message, data_id, the_server, the_client}
 use Rattle.protocol.specs.Choice.{Choice, Ending, Goes, Lost, Stops}
 use Rattle.protocol.specs.Seen.{Taken, no_step}
 use Rattle.protocol.specs.Observer.{Placed, order_of}
-use Rattle.protocol.specs.Client.{file_chunk, ClientState, ClientDoing, new_client, client_begins, committed, answers}
-use Rattle.protocol.specs.ClientAttempts.{is_mutation, bytes_to_send, target_of, mutate_planned}
-use Rattle.protocol.specs.ClientStep.{client_at, client_does, client_goes, client_call_goes, may_step, may_call, has_room_to_count, client_ends, client_step, client_call}
+use Rattle.protocol.specs.Client.{file_chunk, ClientState, ClientDoing, new_client, client_begins, answers}
+use Rattle.protocol.specs.ClientAttempts.{is_mutation, bytes_to_send, target_of}
+use Rattle.protocol.specs.ClientStep.{client_at, client_does, client_goes, client_call_goes, may_step, has_room_to_count, client_ends, client_step, client_call}
 use Rattle.protocol.specs.MasterSnapshots.{first_is_true}
 use Rattle.protocol.specs.MasterStep.{master_step, master_restart}
 use Rattle.protocol.specs.ServerStep.{server_step, server_restart}
-use Rattle.protocol.specs.World.{WorldState, new_world, stamped, after_events, IsReached}
+use Rattle.protocol.specs.World.{WorldState, new_world, stamped, IsReached}
 use Rattle.protocol_laws.proofs.Steps.{on_cond, none_some, same_some}
 use Rattle.protocol_laws.proofs.Entries.{same_number}
 use Rattle.protocol_laws.proofs.ServerMoves.{IsCameIn}
@@ -51,7 +50,7 @@ use Rattle.protocol_attempts.specs.Laws.{is_from_client, is_request, IsRequestOf
 use Rattle.protocol_attempts.proofs.Events.{HoldsAfter, holds_on}
 use Rattle.protocol_attempts.proofs.ClientNumbers.{IsStepOf, goes_numbered, call_numbered}
 use Rattle.protocol_attempts.proofs.RequestsOnce.{IsNumbered, AreNumbered, from_itself, first_and, each_event, numbered_reached, requests_are_numbered_once}
-use Rattle.protocol_entries.specs.Laws.{IsAmong, IsPushed, IsPlacedFor}
+use Rattle.protocol_entries.specs.Laws.{IsAmong, IsPlacedFor}
 use Rattle.protocol_deadlines.proofs.Deadlines.{asks_for, asking, same_counted}
 use Rattle.protocol_chunk_orders.specs.Laws.{HasMutate}
 use Rattle.protocol_chunk_orders.proofs.Numbering.{entries_stem_from_mutates}
@@ -60,8 +59,8 @@ use Rattle.protocol_settled_entries.proofs.SettledEntries.{successes_have_entrie
 use Rattle.protocol_call_steps.proofs.CallWalk.{StandsAt, StandsNow, IsCalm, IsAsking}
 use Rattle.protocol_call_steps.proofs.Answerers.{came_to}
 use Rattle.protocol_open_attempts.proofs.LaterCalls.{pushed_later, sent_there, last_at}
-use Rattle.protocol_answered_writes.specs.Laws.{IsPartPlaced, AnswersDone, AnsweredWritesHaveTheirBytes}
-use Rattle.protocol_answered_writes.proofs.ToldParts.{HasAsked, IsPartTold, AreTold, AllTold, IsPushing, asked_later, told_later, all_later, IsBetween, HasData, IsUnderWay, FineReply, CameAs, Leaving, step_leaves, call_leaves}
+use Rattle.protocol_answered_writes.specs.Laws.{IsPartPlaced, AnsweredWritesHaveTheirBytes}
+use Rattle.protocol_answered_writes.proofs.ToldParts.{HasAsked, IsPartTold, AllTold, asked_later, told_later, all_later, IsBetween, HasData, IsUnderWay, FineReply, CameAs, Leaving, step_leaves, call_leaves}
 
 -- what stands of a call, of a client that used numbers up to this one
 abbrev Stands : List Message → ℕ → ℕ → ℕ → Call → Option Message → CurrentCall → Stage → Type 0

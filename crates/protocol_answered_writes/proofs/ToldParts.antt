@@ -1,8 +1,8 @@
 -- Of a write a client was told that each part before the one in hand is placed; once it is answered Done, that each part is. A step of the client keeps this.
-use Rattle.std.proofs.Common.{◌≡◌, ◌⊎◌, ℕ, zero, suc, ◌+◌, ◌-◌, ◌*◌, ◌/◌, ◌≤◌, ◌<◌, Bool, true, false, true≢false, List, [], ◌∷◌, ◌++◌, length, Option, Some, None, refl, sym, ap, subst, ◌∙◌, inl, inr, arith}
-use Rattle.std.specs.Prelude.{nat_lt, min, cond, ◌==◌}
+use Rattle.std.proofs.Common.{◌≡◌, ◌⊎◌, ℕ, zero, suc, ◌+◌, ◌-◌, ◌*◌, ◌/◌, ◌≤◌, ◌<◌, Bool, true, false, true≢false, List, ◌++◌, length, Option, Some, None, refl, sym, ap, subst, ◌∙◌, inr, arith}
+use Rattle.std.specs.Prelude.{nat_lt, min, cond}
 use Rattle.std.specs.List.{list_any}
-use Rattle.std.proofs.lemmas.Bool.{ltb-true, ltb-false, le-ltb}
+use Rattle.std.proofs.lemmas.Bool.{ltb-true, ltb-false}
 use Rattle.std.proofs.Math.Nat.{div-mul-le_self, lt-div-mul-add, mul-le-mul_right, suc-mul, min-le_left, min-le_right, le-min}
 use Rattle.gfs_types.specs.declared.config.Config.{Config}
 use Rattle.gfs_types.specs.declared.ids.DataId.{DataId}
@@ -14,7 +14,6 @@ use Rattle.gfs_types.specs.declared.call.Call.{Call}
 use Rattle.gfs_types.specs.declared.call.Call.TheVariants as call
 use Rattle.gfs_types.specs.declared.answer.Answer.{Answer}
 use Rattle.gfs_types.specs.declared.answer.Answer.TheVariants as answer
-use Rattle.gfs_types.specs.declared.refusal.Refusal.{Refusal}
 use Rattle.messages.specs.declared.message.Body.{Body}
 use Rattle.messages.specs.declared.message.Body.TheVariants as body
 use Rattle.messages.specs.declared.message.Message.{Message}
@@ -32,7 +31,7 @@ use Rattle.protocol.specs.Client.{file_chunk, place_in_file, ClientState, Client
 use Rattle.protocol.specs.ClientAttempts.{is_mutation, is_append, bytes_to_send, target_of, has_next_part, is_live_at, push_planned_to}
 use Rattle.protocol.specs.ClientTakes.{less_live}
 use Rattle.protocol.specs.ClientStep.{new_call, calls, client_does}
-use Rattle.protocol_laws.proofs.Steps.{on_cond, none_some, same_or_not}
+use Rattle.protocol_laws.proofs.Steps.{on_cond}
 use Rattle.protocol_entries.specs.Laws.{IsAmong, IsPushed}
 use Rattle.protocol_laws.proofs.ServerMoves.{IsCameIn}
 use Rattle.protocol_call_steps.proofs.CallWalk.{IsFirst, IsReady, KeepsCall, StandsAt, StandsNow, IsCalm, Leaves, does_leave, begun_calm, call_calm}
@@ -328,13 +327,17 @@ module _ (sent : List Message) (size : ℕ) (A : Call) (s : ClientState) (same_s
         s.number,
         h.1,
         let same = r.3 in omega (arith, same),
-        inr (_, refl, record {
-          rest = hops_after g.members first.0;
-          sender_is = ap (λ (n : ℕ). the_client n) r.2;
-          body_is = ap (λ (n : ℕ). body.Push (data_id n (suc d.client.number)) (bytes_to_send (file_chunk d.client c.file.0) c.index c.asked) (hops_after g.members first.0)) r.2
-              ∙ ap (λ (n : ℕ). body.Push (data_id s.id (suc d.client.number)) (bytes_to_send n c.index c.asked) (hops_after g.members first.0)) (ap (λ (g : Config). g.chunk) r.0 ∙ same_size)
-              ∙ ap (λ (x : Call). body.Push (data_id s.id (suc d.client.number)) (bytes_to_send size c.index x) (hops_after g.members first.0)) h.0;
-        }),
+        inr (
+          _,
+          refl,
+          record {
+            rest = hops_after g.members first.0;
+            sender_is = ap (λ (n : ℕ). the_client n) r.2;
+            body_is = ap (λ (n : ℕ). body.Push (data_id n (suc d.client.number)) (bytes_to_send (file_chunk d.client c.file.0) c.index c.asked) (hops_after g.members first.0)) r.2
+                ∙ ap (λ (n : ℕ). body.Push (data_id s.id (suc d.client.number)) (bytes_to_send n c.index c.asked) (hops_after g.members first.0)) (ap (λ (g : Config). g.chunk) r.0 ∙ same_size)
+                ∙ ap (λ (x : Call). body.Push (data_id s.id (suc d.client.number)) (bytes_to_send size c.index x) (hops_after g.members first.0)) h.0;
+          },
+        ),
       )
 
   told_ends : (c : CurrentCall) (reply : Answer) → IsBetween sent s.id size A s.number c → FineReply sent s.id size A c.asked reply → (is_mutation c.asked ≡ true → list_any (is_live_at s.now) c.live ≡ false) → FineReply sent s.id size A A reply

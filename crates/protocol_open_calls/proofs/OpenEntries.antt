@@ -1,8 +1,8 @@
 -- A mutation that is numbered is of its client's open call, or its client left it behind; and so is each entry of an order.
-use Rattle.std.proofs.Common.{◌≡◌, ◌⊎◌, ℕ, suc, ◌≤◌, ◌<◌, Bool, true, false, List, [], ◌∷◌, ◌++◌, length, Option, Some, None, refl, sym, ap, subst, ◌∙◌, inl, inr, arith}
+use Rattle.std.proofs.Common.{◌≡◌, ℕ, suc, ◌≤◌, ◌<◌, List, [], ◌∷◌, ◌++◌, Option, Some, refl, sym, ap, subst, ◌∙◌, inl, inr, arith}
 use Rattle.std.specs.Prelude.{◌+◌, nat_le, max, IsTrue}
 use Rattle.std.specs.FinMap as table
-use Rattle.std.proofs.lemmas.Bool.{ltb-true, ltb-false, and_parts}
+use Rattle.std.proofs.lemmas.Bool.{and_parts}
 use Rattle.std.proofs.Math.Nat.{le-max_left}
 use Rattle.gfs_types.specs.declared.config.Config.{Config}
 use Rattle.gfs_types.specs.declared.ids.ClientId.{ClientId}
@@ -13,20 +13,17 @@ use Rattle.gfs_types.specs.declared.ids.Moment.{Moment}
 use Rattle.messages.specs.declared.event.Event.{Event}
 use Rattle.messages.specs.declared.event.Input.{Input}
 use Rattle.messages.specs.declared.event.Input.TheVariants as input
-use Rattle.messages.specs.declared.message.Body.TheVariants as body
 use Rattle.messages.specs.declared.message.Message.{Message}
 use Rattle.primary_order.specs.declared.order.SerialOrder.{SerialOrder}
-use Rattle.protocol.specs.Tables.{element_at}
 use Rattle.protocol.specs.Sending.{data_id, handle_of, version_of}
 use Rattle.protocol.specs.Choice.{Choice}
-use Rattle.protocol.specs.Observer.{Placed, Observer, order_of, calls_made, observed_moment}
-use Rattle.protocol.specs.Server.{ServerState, primary_of}
-use Rattle.protocol.specs.ServerStep.{server_at, server_step}
-use Rattle.protocol.specs.World.{WorldState, Happened, new_world, after_server, happens, after_events, IsReached}
+use Rattle.protocol.specs.Observer.{Placed, calls_made, observed_moment}
+use Rattle.protocol.specs.Server.{ServerState}
+use Rattle.protocol.specs.ServerStep.{server_at}
+use Rattle.protocol.specs.World.{WorldState, Happened, new_world, happens, after_events, IsReached}
 use Rattle.protocol_laws.specs.Laws.{is_grant, grants_of}
 use Rattle.protocol_laws.proofs.Steps.{none_some, same_or_not}
 use Rattle.protocol_laws.proofs.LeasesTold.{granting}
-use Rattle.protocol_laws.proofs.MembersRecorded.{kept_place}
 use Rattle.protocol_attempts.proofs.Events.{holds_on}
 use Rattle.protocol_attempts.proofs.RequestsOnce.{requests_are_numbered_once}
 use Rattle.protocol_words.proofs.Histories.{IsGrown, steps_grown, after_both}
@@ -35,16 +32,15 @@ use Rattle.protocol_versions.proofs.EndedLeases.{over_leases_number_nothing}
 use Rattle.protocol_closed_versions.proofs.ClosedVersions.{clocks_before}
 use Rattle.protocol_rising_rounds.proofs.RisingRounds.{lower_leases_are_over, leased_granted}
 use Rattle.protocol_rising_rounds.proofs.SentGrants.{counted_one}
-use Rattle.protocol_entries.specs.Laws.{IsAmong, IsAskedFor}
-use Rattle.protocol_few_attempts.specs.Laws.{IsAskedNow, WasAsked}
-use Rattle.protocol_deadlines.specs.Laws.{Numbers, IsInTime, IsOver as IsOverByClock}
+use Rattle.protocol_few_attempts.specs.Laws.{WasAsked}
+use Rattle.protocol_deadlines.specs.Laws.{Numbers, IsInTime}
 use Rattle.protocol_deadlines.proofs.Deadlines.{asks_for, asking, same_counted, attempts_are_placed_before_their_deadline, over_attempts_are_placed_no_more}
 use Rattle.protocol_numbered_once.proofs.KnownNumbers.{primary_there}
 use Rattle.protocol_chunk_orders.specs.Laws.{IsNumberedNow, WasNumbered}
 use Rattle.protocol_chunk_orders.proofs.Numbering.{entries_were_numbered}
-use Rattle.protocol_full_chunks.proofs.UsedNumbers.{Knows, known_not_new, Asks, IsUsed, one_target}
-use Rattle.protocol_answered_attempts.proofs.LateAttempts.{Always, IsLate}
-use Rattle.protocol_answered_attempts.proofs.AnsweredAttempts.{same_mutate, IsSpentUp, Asked, asked_law, asks_now, Reads, not_both, answers_known, answered_attempts_are_placed_no_more}
+use Rattle.protocol_full_chunks.proofs.UsedNumbers.{Knows, known_not_new, one_target}
+use Rattle.protocol_answered_attempts.proofs.LateAttempts.{Always}
+use Rattle.protocol_answered_attempts.proofs.AnsweredAttempts.{same_mutate, IsSpentUp, Asked, asked_law, not_both, answers_known, answered_attempts_are_placed_no_more}
 use Rattle.protocol_serials_once.proofs.SpentVersions.{IsSpent}
 use Rattle.protocol_open_calls.specs.Laws.{IsLeftBehind, EntriesAreOfOpenCalls, EntriesWereAskedForInTheirCall}
 use Rattle.protocol_open_attempts.specs.Laws.{AsksBy, WasPassed, IsOver}

@@ -1,0 +1,2 @@
+pub mod FullPlaces
+pub mod ToldFull
