@@ -1,15 +1,12 @@
 -- Over a list of events, each ChunkFull that a lease keeps or a server tells came about as a primary's replica was full, or as it placed a pad.
-use Rattle.std.proofs.Common.{◌≡◌, ◌⊎◌, ℕ, zero, suc, ◌+◌, Bool, true, false, List, [], ◌∷◌, ◌++◌, length, map, Option, Some, None, refl, sym, ap, subst, ◌∙◌, inl, inr}
-use Rattle.std.specs.Prelude.{IsTrue}
+use Rattle.std.proofs.Common.{◌≡◌, ◌⊎◌, ℕ, zero, suc, ◌+◌, true, false, List, [], ◌∷◌, ◌++◌, length, map, Option, Some, None, refl, sym, ap, subst, ◌∙◌, inl, inr}
 use Rattle.std.specs.Option.{option_to_list}
 use Rattle.gfs_types.specs.declared.config.Config.{Config}
 use Rattle.gfs_types.specs.declared.ids.Node.{Node}
-use Rattle.gfs_types.specs.declared.ids.Node.TheVariants as node
 use Rattle.gfs_types.specs.declared.ids.DataId.{DataId}
 use Rattle.gfs_types.specs.declared.ids.Handle.{Handle}
 use Rattle.gfs_types.specs.declared.ids.Version.{Version}
 use Rattle.gfs_types.specs.declared.ids.Moment.{Moment}
-use Rattle.gfs_types.specs.declared.refusal.Refusal.{Refusal}
 use Rattle.gfs_types.specs.declared.refusal.Refusal.TheVariants.{ChunkFull}
 use Rattle.gfs_types.specs.declared.mutation.Mutation.TheVariants.{Pad}
 use Rattle.messages.specs.declared.event.Event.{Event}
@@ -24,9 +21,8 @@ use Rattle.primary_order.specs.declared.order.SerialOrder.{SerialOrder}
 use Rattle.primary_order.specs.SerialOrder.{attempted}
 use Rattle.replica_store.specs.Replicas.{new_server_disk, with_replica, rotten_replica}
 use Rattle.protocol.specs.Tables.{element_at, with_at, first_numbers}
-use Rattle.protocol.specs.Sending.{data_id, the_client, version_of, serial_of}
+use Rattle.protocol.specs.Sending.{version_of, serial_of}
 use Rattle.protocol.specs.Choice.{Choice}
-use Rattle.protocol.specs.declared.seen.Seen.TheVariants.{Numbered}
 use Rattle.protocol.specs.Client.{ClientState, ClientDoing}
 use Rattle.protocol.specs.ClientStep.{client_at, client_step, client_call}
 use Rattle.protocol.specs.Server.{ServerState, ServerDoing, started_server, server_begins, primary_of}
@@ -51,7 +47,7 @@ use Rattle.protocol_chunk_orders.specs.Laws.{CameAbout}
 use Rattle.protocol_chunk_orders.proofs.Numbering.{came_first, came_later}
 use Rattle.protocol_full_chunks.proofs.FullOrders.{IsCaused, Causes, right_on, caused_on}
 use Rattle.protocol_full_chunks.proofs.FullAnswers.{AreRight, IsFullEnd, step_leaves, none_right, restart_leaves}
-use Rattle.protocol_told_full_chunks.specs.Laws.{IsFullNow, IsReplicaFull, IsPadded, FullChunksAreToldAsFull}
+use Rattle.protocol_told_full_chunks.specs.Laws.{IsFullNow, FullChunksAreToldAsFull}
 use Rattle.protocol_told_full_chunks.proofs.FullPlaces.{placed_first, denied_full}
 
 masters_cause : (F : DataId → Type 0) (b : Body) (receiver : Node) → is_masters b ≡ true → IsNotFull b → IsCaused F b receiver
