@@ -9,4 +9,4 @@ pub returns-in-Restarts : goal.returns-in-Restarts
 returns-in-Restarts g c = λ s stands. master_restarted (g.M.CellMaster.state c.args.self.now.master) (g.M.CellMaster.state c.restart.new.self) s c.args.taking.now c.args.now.0 c.restart.result stands c.in-Restarts.is c.restart.ensures.steps
 
 pub returns-in-Calls : goal.returns-in-Calls
-returns-in-Calls g c = λ s stands. master_never_calls (g.M.CellMaster.state c.args.self.now.master) s c.args.taking.now _ c.args.now.0 c.step.result.out (MasterStands (g.M.CellMaster.state c.step.new.self)) stands (c.requires.may s stands) c.in-Calls.is
+returns-in-Calls g c = λ s stands. master_never_calls (g.M.CellMaster.state c.args.self.now.master) s c.args.taking.now _ c.args.now.0 c.step-in-Calls.result.out (MasterStands (g.M.CellMaster.state c.step-in-Calls.new.self)) stands (c.requires.may s stands) c.in-Calls.is

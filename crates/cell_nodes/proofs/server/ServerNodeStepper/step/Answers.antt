@@ -9,4 +9,4 @@ pub returns-in-Restarts : goal.returns-in-Restarts
 returns-in-Restarts g c = λ s stands. server_restarted c.args.self.now.server c.restart.new.self s c.args.taking.now c.args.now.0 c.restart.result stands c.in-Restarts.is c.restart.ensures
 
 pub returns-in-Calls : goal.returns-in-Calls
-returns-in-Calls g c = λ s stands. server_never_calls c.args.self.now.server s c.args.taking.now _ c.args.now.0 c.step.result.out (ServerStands c.step.new.self) stands (c.requires.may s stands) c.in-Calls.is
+returns-in-Calls g c = λ s stands. server_never_calls c.args.self.now.server s c.args.taking.now _ c.args.now.0 c.step-in-Calls.result.out (ServerStands c.step-in-Calls.new.self) stands (c.requires.may s stands) c.in-Calls.is

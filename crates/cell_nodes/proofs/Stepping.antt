@@ -1,18 +1,17 @@
 -- Steps of the code's nodes are steps of the definitions' nodes.
-use Rattle.std.proofs.Common.{◌≡◌, ℕ, Bool, true, false, List, [], refl, sym, ap, subst, ◌∙◌}
+use Rattle.std.proofs.Common.{◌≡◌, ℕ, Bool, true, false, List, refl, sym, ap, subst, ◌∙◌}
 use Rattle.std.specs.Prelude.{IsTrue}
 use Rattle.gfs_types.specs.declared.call.Call.{Call}
 use Rattle.messages.specs.declared.event.Input.{Input}
 use Rattle.messages.specs.declared.event.StepOut.{StepOut}
-use Rattle.protocol.specs.Client.{ClientState, stopped_client}
+use Rattle.protocol.specs.Client.{ClientState}
 use Rattle.protocol.specs.ClientStep.{may_call}
-use Rattle.protocol.specs.Conforms.{IsLeftAs, MasterSteps, MasterRestarts, ServerSteps, ServerRestarts, ClientCalls, ClientSteps}
+use Rattle.protocol.specs.Conforms.{MasterSteps, MasterRestarts, ServerSteps, ServerRestarts, ClientCalls, ClientSteps}
 use Rattle.protocol.specs.Master.{MasterState}
 use Rattle.protocol.specs.MasterStep.{master_step, master_restart}
-use Rattle.protocol.specs.Seen.{down_output}
 use Rattle.protocol.specs.declared.seen.Seen.{Seen}
 use Rattle.protocol.specs.Server.{ServerState}
-use Rattle.protocol_journal.specs.Journal.{Taking, Calls, Takes, Restarts, NodeState, MasterIs, ServerIs, ClientIs, may_take}
+use Rattle.protocol_journal.specs.Journal.{Calls, Takes, Restarts, NodeState, MasterIs, ServerIs, ClientIs, may_take}
 use Rattle.journal_pages.specs.declared.taking.Taking.{Taking as CodeTaking}
 use Rattle.journal_pages.specs.declared.taking.Taking.TheVariants as code
 use Rattle.journal_pages.specs.Entries.{taking_of}
@@ -74,11 +73,11 @@ master_restarted held new s t moment out stands is restarts =
     (subst (λ (x : NodeState). StepsSo x moment Restarts out (MasterStands new)) (sym stands.is)
     (record {
       choice = alike.0;
-      gives = sym alike.1 ∙ restarts.gives.out_is;
+      gives = sym alike.1.0 ∙ restarts.gives.out_is;
       stands = record {
         master = (master_restart stands.master moment alike.0).state;
         is = refl;
-        left_as = left_on (master_restart stands.master moment alike.0).state (master_restart held moment restarts.choice).state new alike.3 restarts.gives.left_as;
+        left_as = left_on (master_restart stands.master moment alike.0).state (master_restart held moment restarts.choice).state new alike.1.2 restarts.gives.left_as;
       };
     }))
 
