@@ -50,7 +50,7 @@ use Rattle.protocol_chunk_orders.proofs.Placing.{all_placed}
 use Rattle.protocol_invariant.specs.Versions.{AreRising}
 use Rattle.protocol_held_rounds.proofs.Rising.{orders_rise}
 use Rattle.protocol_held_versions.specs.Laws.{version_cloned}
-use Rattle.protocol_given_versions.specs.Laws.{version_given}
+use Rattle.protocol_acts.specs.Given.{version_given}
 use Rattle.protocol_placed_entries.proofs.Within.{entries_lie_within_the_chunk}
 use Rattle.protocol_new_handles.proofs.RoundsPassed.{IsOfServers, server_shown}
 use Rattle.protocol_counted_serials.proofs.CountedRounds.{set_split, comes_in}
@@ -234,7 +234,7 @@ server_sender config servers clients w r index s at moment i choice m there =
 
 -- the server that was put there
 set_there : {X : Type 0} (xs : List X) (n : ℕ) (x y : X) → element_at xs n ≡ Some x → element_at (with_at xs n y) n ≡ Some y
-set_there [] n x y at = none_some y at
+set_there [] n x y at = none_some x at
 set_there (z ∷ xs) zero x y at = refl
 set_there (z ∷ xs) (suc n) x y at = set_there xs n x y at
 
