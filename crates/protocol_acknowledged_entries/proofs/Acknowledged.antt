@@ -151,9 +151,12 @@ none_taken sent ms k index s t later none h =
     (λ x there sender handle version serial is. no_acked x.body (handle_of handle) (version_of version) (serial_of serial) (all_at (λ (m : Message). IsNoAcked m.body) ms there.0 x none there.1) is) h
 
 -- what is said of a server
-record IsServer (w : WorldState) (index : ℕ) (s : ServerState) : Type 0 where
-  good : IsGood (Kept w.sent index) w.config.chunk w.observer.orders s
-  taken : AreTaken w.sent index s
+record IsServerIn (sent : List Message) (size : ℕ) (orders : Table (List Placed)) (index : ℕ) (s : ServerState) : Type 0 where
+  good : IsGood (Kept sent index) size orders s
+  taken : AreTaken sent index s
+
+abbrev IsServer : WorldState → ℕ → ServerState → Type 0
+IsServer w index s = IsServerIn w.sent w.config.chunk w.observer.orders index s
 
 -- a step of a server
 
@@ -332,7 +335,7 @@ module _ (config : Config) (servers clients : ℕ) (w : WorldState) (r : IsReach
       served : (other : ℕ) (u : ServerState) → element_at v.servers other ≡ Some u → IsServer v other u
       served other u there =
           elim (set_split w.servers index t other u there) [
-            | inl both ↦ subst (λ (n : ℕ). IsServer v n u) (sym both.0) (subst (IsServer v index) (sym both.1) here)
+            | inl both ↦ subst (λ (n : ℕ). IsServer v n u) (sym both.0) (subst (λ (x : ServerState). IsServer v index x) (sym both.1) here)
             | inr apart ↦ other_server other u apart.0 apart.1
           ]
 
@@ -386,7 +389,7 @@ module _ (config : Config) (servers clients : ℕ) (w : WorldState) (r : IsReach
               | inl both ↦
                   let one = calm before orders more k ms none index s at in
                   subst (λ (n : ℕ). IsServer (after_server w index moment (server_restart s moment choice)).world n u) (sym both.0)
-                  (subst (IsServer (after_server w index moment (server_restart s moment choice)).world index) (sym both.1)
+                  (subst (λ (x : ServerState). IsServer (after_server w index moment (server_restart s moment choice)).world index x) (sym both.1)
                   (record {
                     good = restart_good (Kept (w.sent ++ stamped k ms) index) orders s moment choice choice.ending one.0;
                     taken = none_taken w.sent ms k index s (server_restart s moment choice).state (restarts_as s moment choice choice.ending (scene_reached AreTold told_kept config servers clients w r index s at).sound).later none (h before index s at).taken;
@@ -413,7 +416,7 @@ module _ (config : Config) (servers clients : ℕ) (w : WorldState) (r : IsReach
               | inl both ↦
                   let one = h before index s at in
                   subst (λ (n : ℕ). IsServer w n u) (sym both.0)
-                  (subst (IsServer w index) (sym both.1) (record { good = rotten_good (Kept w.sent index) s handle x place byte x_there up one.good; taken = one.taken }))
+                  (subst (λ (x : ServerState). IsServer w index x) (sym both.1) (record { good = rotten_good (Kept w.sent index) s handle x place byte x_there up one.good; taken = one.taken }))
               | inr apart ↦ let one = h before other u apart.1 in record { good = one.good; taken = one.taken }
             ];
       }
@@ -430,7 +433,7 @@ acknowledged_on config servers clients w (step ∷ rest) r h =
 
 new_acknowledged : (config : Config) (servers clients : ℕ) → Acknowledged (new_world config servers clients)
 new_acknowledged config servers clients kept index s at =
-    subst (IsServer (new_world config servers clients) index) (sym (numbered_from (λ n. started_server config n (new_server_disk config.block) 0) servers index s at))
+    subst (λ (x : ServerState). IsServer (new_world config servers clients) index x) (sym (numbered_from (λ n. started_server config n (new_server_disk config.block) 0) servers index s at))
     (record {
       good = record {
         found = λ decided handle x is. none_some x (sym (table.get-empty nat_cmp handle) ∙ ap (λ (d : ServerDisk). replica_of d handle) (sym (none_more (new_server_disk config.block) decided)) ∙ is);

@@ -326,9 +326,11 @@ module _ (J K : Carried) (config : Config) (servers clients : ℕ) (w : WorldSta
             (copies_have_their_sources_entries config servers clients w r clocks sent.0 m sent.1 order handle from copy version body_is) (λ p within. let low = within.0 in omega (arith, low, version_is)) was.0 in
             let raised = image_raised w.config.chunk (placed_in w.observer.orders copy.0) x.version x.serial version.0 x.bytes (omega (arith, version_is, above)) over.0 in
             subst (λ (bs : List ℕ). Holds K w.config.chunk (placed_in orders copy.0) copy.0 version.0 0 bs) (sym ((replicas_are_read_as_stored config servers clients w r disks index s at handle.0 x x_there).1 copyable))
-            (holds_grown K w.config.chunk (placed_in w.observer.orders copy.0) (placed_in orders copy.0) copy.0 version.0 0 x.bytes (l.grown copy.0)
-            (raised.0, subst (K copy.0 version.0) (sym over.1 ∙ sym raised.1)
-            (k.copied m taken order handle from copy version body_is new (marked was.0.marks (placed_in w.observer.orders handle.0)) (subst (λ (n : ℕ). K handle.0 n (marked was.0.marks (placed_in w.observer.orders handle.0))) version_is was.1))))
+            (holds_grown K w.config.chunk (placed_in w.observer.orders copy.0) (placed_in orders copy.0) copy.0 version.0 0 x.bytes (l.grown copy.0) (
+              raised.0,
+              subst (K copy.0 version.0) (sym over.1 ∙ sym raised.1)
+                  (k.copied m taken order handle from copy version body_is new (marked was.0.marks (placed_in w.observer.orders handle.0)) (subst (λ (n : ℕ). K handle.0 n (marked was.0.marks (placed_in w.observer.orders handle.0))) version_is was.1)),
+            ))
 
     changed : (e : ServerDisk) → e.replicas ≡ s.disk.replicas → (m : Message) → i ≡ input.Deliver m → (x : StoreChange) → IsStoredFor (server_at s moment) m.body (server_goes s moment i).seen x → Good (disk_changed e x)
     changed e is m taken (SetOrder order) cause = absurd cause

@@ -51,7 +51,7 @@ use Rattle.protocol_stored_changes.proofs.ExactEvents.{HoldsExactly, holds_exact
 use Rattle.protocol_stored_changes.proofs.KeptDisks.{none_more, found_made, take_whole, frame_kept, replicas_are_read_as_stored}
 use Rattle.protocol_copied_entries.specs.Laws.{Follows}
 use Rattle.protocol_copied_entries.proofs.OrdersGrow.{IsAny, same_follows, all_grow, orders_grow}
-use Rattle.protocol_replica_images.specs.Laws.{IsImageOf, ReplicasAreImages, SentImagesAreImages}
+use Rattle.protocol_replica_images.specs.Laws.{ReplicasAreImages, SentImagesAreImages}
 use Rattle.protocol_replica_images.proofs.Images.{Carried, Holds, AreIn, holds_grown, IsImageSaid, starts_within, numbered_there, Leaves, Carries, after}
 
 -- what is seen
