@@ -1,6 +1,6 @@
 -- In each reached world with kept clocks and disks replicas have what their servers acknowledged: a replica that acknowledged takes entries behind it alone, and the order that gives its server the version is refused from then on.
-use Rattle.std.proofs.Common.{◌≡◌, ◌⊎◌, ℕ, zero, suc, ◌+◌, ◌≤◌, Bool, true, false, List, [], ◌∷◌, ◌++◌, length, take, drop, Option, Some, None, refl, sym, ap, subst, ◌∙◌, inl, inr, arith}
-use Rattle.std.specs.Prelude.{◌&&◌, nat_le, not, filter, IsTrue}
+use Rattle.std.proofs.Common.{◌≡◌, ◌⊎◌, ℕ, zero, suc, ◌+◌, ◌≤◌, Bool, true, false, List, [], ◌∷◌, ◌++◌, length, Option, Some, None, refl, sym, ap, subst, ◌∙◌, inl, inr, arith}
+use Rattle.std.specs.Prelude.{◌&&◌, nat_le, not, IsTrue}
 use Rattle.std.specs.Option.{option_to_list}
 use Rattle.std.specs.FinMap as table
 use Rattle.std.specs.Ordering.{nat_cmp}
@@ -9,7 +9,6 @@ use Rattle.gfs_types.specs.declared.config.Config.{Config}
 use Rattle.gfs_types.specs.declared.ids.Handle.{Handle}
 use Rattle.gfs_types.specs.declared.ids.Version.{Version}
 use Rattle.gfs_types.specs.declared.ids.Serial.{Serial}
-use Rattle.gfs_types.specs.declared.ids.Node.{Node}
 use Rattle.gfs_types.specs.declared.ids.OrderNo.{OrderNo}
 use Rattle.gfs_types.specs.Mutations.{start_of}
 use Rattle.messages.specs.declared.event.Event.{Event}
@@ -18,19 +17,16 @@ use Rattle.messages.specs.declared.event.Input.TheVariants as input
 use Rattle.messages.specs.declared.message.Body.{Body}
 use Rattle.messages.specs.declared.message.Body.TheVariants as body
 use Rattle.messages.specs.declared.message.Message.{Message}
-use Rattle.relaxed_file.specs.Run.{Visible}
 use Rattle.replica_store.specs.declared.change.StoreChange.{StoreChange}
 use Rattle.replica_store.specs.Replicas.{Replica, ServerDisk, new_server_disk, replica_of, with_replica, rotten_replica, disk_changed_by_all, is_new_order}
 use Rattle.protocol.specs.Tables.{Table, element_at, with_at}
 use Rattle.protocol.specs.Sending.{handle_of, version_of, serial_of, the_server, server_number, order_number}
 use Rattle.protocol.specs.Choice.{Choice, Ending, Goes, Lost, Stops, decided_changes}
-use Rattle.protocol.specs.Seen.{is_numbering, Taken, no_step}
-use Rattle.protocol.specs.declared.seen.Seen.{Seen}
-use Rattle.protocol.specs.declared.seen.Seen.TheVariants.{Numbered}
+use Rattle.protocol.specs.Seen.{Taken, no_step}
 use Rattle.protocol.specs.Observer.{Placed, Observer, observed_moment, observed_call, observed_answer, placed_in, order_of, orders_after_all}
 use Rattle.protocol.specs.Client.{ClientState, ClientDoing}
 use Rattle.protocol.specs.ClientStep.{client_at, client_step, client_call}
-use Rattle.protocol.specs.Server.{ServerState, ServerDoing, started_server}
+use Rattle.protocol.specs.Server.{ServerState, started_server}
 use Rattle.protocol.specs.ServerStep.{server_at, found_disk, server_goes, server_ends, server_step, server_restarts, server_restart}
 use Rattle.protocol.specs.MasterStep.{master_step, master_restart}
 use Rattle.protocol.specs.World.{WorldState, new_world, stamped, after_server, happens, after_events, IsReached, is_kept}
@@ -46,30 +42,26 @@ use Rattle.protocol_attempts.proofs.ClientNumbers.{IsSaid, IsStepOf, of_step, of
 use Rattle.protocol_attempts.proofs.RequestsOnce.{numbered_reached}
 use Rattle.protocol_versions.proofs.LeasesStayOver.{reached_later}
 use Rattle.protocol_words.proofs.MasterTalks.{is_masters, master_said, restart_said}
-use Rattle.protocol_chunk_orders.proofs.Placing.{all_placed}
-use Rattle.protocol_invariant.specs.Versions.{AreRising}
 use Rattle.protocol_held_rounds.proofs.Rising.{orders_rise}
-use Rattle.protocol_held_versions.specs.Laws.{version_cloned}
 use Rattle.protocol_acts.specs.Given.{version_given}
 use Rattle.protocol_placed_entries.proofs.Within.{entries_lie_within_the_chunk}
-use Rattle.protocol_new_handles.proofs.RoundsPassed.{IsOfServers, server_shown}
+use Rattle.protocol_new_handles.proofs.RoundsPassed.{server_shown}
 use Rattle.protocol_counted_serials.proofs.CountedRounds.{set_split, comes_in}
 use Rattle.protocol_replicas.proofs.Lengths.{settings_stay}
 use Rattle.protocol_caused_words.proofs.Forwards.{acked_serials_are_applied}
 use Rattle.protocol_answered_orders.proofs.ServerCauses.{step_words}
 use Rattle.protocol_answered_orders.proofs.AnsweredOrders.{server_id_is}
-use Rattle.protocol_cloned_versions.specs.Laws.{version_copied, IsVersionOver}
+use Rattle.protocol_cloned_versions.specs.Laws.{version_copied}
 use Rattle.protocol_cloned_versions.proofs.ClonedVersions.{clones_are_of_closed_versions}
 use Rattle.protocol_taken_orders.specs.Laws.{WasTaken}
 use Rattle.protocol_taken_orders.proofs.TakenOrders.{ordered_later, ordered_more, replicas_are_of_taken_orders}
-use Rattle.protocol_given_once.specs.Laws.{RefusesItsOrder}
 use Rattle.protocol_given_once.proofs.RefusedOrders.{taken_refused}
 use Rattle.protocol_stored_changes.proofs.ExactEvents.{HoldsExactly, holds_exactly}
-use Rattle.protocol_stored_changes.proofs.KeptDisks.{none_more, found_made, take_whole, frame_kept}
+use Rattle.protocol_stored_changes.proofs.KeptDisks.{none_more, frame_kept}
 use Rattle.protocol_copied_entries.specs.Laws.{Follows}
-use Rattle.protocol_copied_entries.proofs.OrdersGrow.{IsAny, same_follows, all_grow, HaveGrown, orders_grow}
+use Rattle.protocol_copied_entries.proofs.OrdersGrow.{IsAny, orders_grow}
 use Rattle.protocol_replica_images.specs.Laws.{marked, HasEntry, IsImageOf}
-use Rattle.protocol_replica_images.proofs.Images.{Carried, Holds, AreIn, holds_grown, IsImageSaid, starts_within, Carries}
+use Rattle.protocol_replica_images.proofs.Images.{Carried, Holds, AreIn, starts_within, Carries}
 use Rattle.protocol_replica_images.proofs.ImagesReached.{IsGood, grown_good, Plain, step_done, answered_kept, said_reached}
 use Rattle.protocol_acknowledged_entries.specs.Laws.{HasAcknowledged, AcknowledgedEntriesAreApplied}
 
