@@ -12,7 +12,6 @@ use Rattle.protocol_laws.proofs.Steps.{none_some, same_some}
 use Rattle.protocol_invariant.specs.Versions.{IsBefore, AreRising}
 use Rattle.protocol_chunk_orders.specs.Laws.{unsettled}
 use Rattle.protocol_copied_entries.specs.Laws.{Follows}
-use Rattle.protocol_copied_entries.proofs.OrdersGrow.{IsAny}
 use Rattle.protocol_replica_images.specs.Laws.{written_by, marked, mutations_in, IsWithin, HasEntry, IsImageOf}
 use Rattle.protocol_replica_images.proofs.Written.{images_are_written_to}
 
@@ -91,8 +90,8 @@ marked_more (false ∷ marks) (q ∷ order) (suc place) p at rising all = let re
 
 -- images
 
-pub none_applied : (size : ℕ) (order : List Placed) (version serial : ℕ) (bytes : List ℕ) → serial ≡ 0 → bytes ≡ [] → IsImageOf size order version serial bytes
-none_applied size order version serial bytes none empty = record { marks = []; bytes_are = empty; applied = tt; last = inl none }
+pub none_applied : (size : ℕ) (order : List Placed) (version serial : ℕ) (bytes : List ℕ) → serial ≡ 0 → bytes ≡ [] → (g : IsImageOf size order version serial bytes) × (marked g.marks order ≡ [])
+none_applied size order version serial bytes none empty = (record { marks = []; bytes_are = empty; applied = tt; last = inl none }, refl)
 
 -- the same entries make it in another order that has them at their places
 pub image_on : (T : Placed → Type 0) (size : ℕ) (from to : List Placed) (version serial : ℕ) (bytes : List ℕ) → Follows T from to → ((p : Placed) → IsWithin version serial p → T p) → (h : IsImageOf size from version serial bytes)
@@ -108,35 +107,37 @@ image_on T size from to version serial bytes f go h =
       others.1,
     )
 
-pub image_grown : (size : ℕ) (from to : List Placed) (version serial : ℕ) (bytes : List ℕ) → Follows IsAny from to → IsImageOf size from version serial bytes → IsImageOf size to version serial bytes
-image_grown size from to version serial bytes f h = (image_on IsAny size from to version serial bytes f (λ p is. tt) h).0
-
 -- under a higher version the serials begin anew
-pub image_raised : (size : ℕ) (order : List Placed) (version serial higher : ℕ) (bytes : List ℕ) → version < higher → IsImageOf size order version serial bytes → IsImageOf size order higher 0 bytes
-image_raised size order version serial higher bytes less h =
-    record {
-      marks = h.marks;
-      bytes_are = h.bytes_are;
-      applied = all_elements (IsWithin version serial) (IsWithin higher 0) (λ p is. let low = is.0 in (omega (arith, low, less), λ same. absurd (omega (arith, low, less, same)))) (marked h.marks order) h.applied;
-      last = inl refl;
-    }
+pub image_raised : (size : ℕ) (order : List Placed) (version serial higher : ℕ) (bytes : List ℕ) → version < higher → (h : IsImageOf size order version serial bytes) → (g : IsImageOf size order higher 0 bytes) × (marked g.marks order ≡ marked h.marks order)
+image_raised size order version serial higher bytes less h = (
+  record {
+    marks = h.marks;
+    bytes_are = h.bytes_are;
+    applied = all_elements (IsWithin version serial) (IsWithin higher 0) (λ p is. let low = is.0 in (omega (arith, low, less), λ same. absurd (omega (arith, low, less, same)))) (marked h.marks order) h.applied;
+    last = inl refl;
+  },
+  refl,
+)
 
 -- one more entry is applied, behind all that were
 pub image_more : (size : ℕ) (order : List Placed) (version serial : ℕ) (bytes : List ℕ) (h : IsImageOf size order version serial bytes) → AreRising order → (place : ℕ) (p : Placed) → element_at order place ≡ Some p → p.entry.round ≡ version
-    → AllByRecursion (λ q. q.entry.round ≡ version → q.serial < p.serial) (marked h.marks order) → start_of p.entry.mutation ≤ size → IsImageOf size order version p.serial (with_bytes bytes (start_of p.entry.mutation) (written_by size p.entry.mutation))
-image_more size order version serial bytes h rising place p at round later within =
-    record {
-      marks = others.0;
-      bytes_are =
-          ap (λ (bs : List ℕ). with_bytes bs (start_of p.entry.mutation) (written_by size p.entry.mutation)) h.bytes_are
-          ∙ sym (images_are_written_to size (mutations_in (marked h.marks order)) p.entry.mutation within)
-          ∙ ap (λ (ms : List Mutation). image size ms) (sym (mutations_more (marked h.marks order) (unsettled p)))
-          ∙ ap (λ (ps : List Placed). image size (mutations_in ps)) (sym others.1);
-      applied = subst (λ (ps : List Placed). AllByRecursion (IsWithin version p.serial) ps) (sym others.1) (all_more (IsWithin version p.serial) (marked h.marks order) (unsettled p) low (omega (arith, round), λ same. omega arith));
-      last =
-          let end = last_element (marked h.marks order) (unsettled p) in
-          inr (subst (λ (ps : List Placed). HasEntry ps version p.serial) (sym others.1) (end.0, unsettled p, end.1, round, refl));
-    }
+    → AllByRecursion (λ q. q.entry.round ≡ version → q.serial < p.serial) (marked h.marks order) → start_of p.entry.mutation ≤ size
+    → (g : IsImageOf size order version p.serial (with_bytes bytes (start_of p.entry.mutation) (written_by size p.entry.mutation))) × (marked g.marks order ≡ marked h.marks order ++ unsettled p ∷ [])
+image_more size order version serial bytes h rising place p at round later within = (
+  record {
+    marks = others.0;
+    bytes_are =
+        ap (λ (bs : List ℕ). with_bytes bs (start_of p.entry.mutation) (written_by size p.entry.mutation)) h.bytes_are
+        ∙ sym (images_are_written_to size (mutations_in (marked h.marks order)) p.entry.mutation within)
+        ∙ ap (λ (ms : List Mutation). image size ms) (sym (mutations_more (marked h.marks order) (unsettled p)))
+        ∙ ap (λ (ps : List Placed). image size (mutations_in ps)) (sym others.1);
+    applied = subst (λ (ps : List Placed). AllByRecursion (IsWithin version p.serial) ps) (sym others.1) (all_more (IsWithin version p.serial) (marked h.marks order) (unsettled p) low (omega (arith, round), λ same. omega arith));
+    last =
+        let end = last_element (marked h.marks order) (unsettled p) in
+        inr (subst (λ (ps : List Placed). HasEntry ps version p.serial) (sym others.1) (end.0, unsettled p, end.1, round, refl));
+  },
+  others.1,
+)
   where
     both : AllByRecursion (λ q. IsWithin version serial q × (q.entry.round ≡ version → q.serial < p.serial)) (marked h.marks order)
     both = both_all (IsWithin version serial) (λ q. q.entry.round ≡ version → q.serial < p.serial) (marked h.marks order) h.applied later

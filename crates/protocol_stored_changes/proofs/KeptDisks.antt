@@ -25,7 +25,7 @@ use Rattle.protocol.specs.Observer.{Observer, observed_answer}
 use Rattle.protocol.specs.Server.{ServerState, ServerDoing, started_server}
 use Rattle.protocol.specs.ServerWrites.{stored_as}
 use Rattle.protocol.specs.ServerStep.{server_at, found_disk, server_goes, server_ends, server_step, server_restarts, server_restart}
-use Rattle.protocol.specs.World.{WorldState, new_world, hides_change, happens, after_events}
+use Rattle.protocol.specs.World.{WorldState, new_world, hides_change, happens, after_events, IsReached}
 use Rattle.protocol_laws.proofs.Steps.{on_cond, none_some, same_some, put_cases, gone_split}
 use Rattle.protocol_laws.proofs.Entries.{AllOf}
 use Rattle.protocol_laws.proofs.RisingOrders.{set_cases}
@@ -33,10 +33,10 @@ use Rattle.protocol_laws.proofs.LeasesTold.{numbered_from}
 use Rattle.protocol_replicas.proofs.ServerActs.{goes_fine}
 use Rattle.protocol_replicas.proofs.Lengths.{all_taken}
 use Rattle.protocol_replicas.proofs.HeldReplicas.{IsNumber, numbers_quiet, changed_last}
-use Rattle.protocol_stored_changes.specs.Laws.{ReplicasAreReadAsStored}
+use Rattle.protocol_stored_changes.specs.Laws.{ReplicasAreReadAsStored, ReadsAreAsStored}
 use Rattle.protocol_stored_changes.proofs.ExactEvents.{HoldsExactly, holds_exactly}
 use Rattle.protocol_stored_changes.proofs.StoreCauses.{IsNumbered, IsWritable, IsStoredFor, AreMade, AreMadeOn, step_made}
-use Rattle.protocol_stored_changes.proofs.SoundBlocks.{zeros, alike_long, IsSound, rotten_sound, written_sound, read_whole}
+use Rattle.protocol_stored_changes.proofs.SoundBlocks.{zeros, alike_long, IsSound, rotten_sound, written_sound, read_whole, read_part}
 
 -- lists of changes
 
@@ -320,6 +320,19 @@ new_good config servers clients index s at =
       found = λ decided handle r is. none_some r (sym (table.get-empty nat_cmp handle) ∙ ap (λ (d : ServerDisk). replica_of d handle) (sym (none_more (new_server_disk config.block) decided)) ∙ is);
       idle = λ on. refl;
     })
+
+-- a replica of a reached world
+sound_reached : (config : Config) (servers clients : ℕ) (w : WorldState) → IsReached config servers clients w → IsTrue w.observer.are_disks_kept → (index : ℕ) (s : ServerState) → element_at w.servers index ≡ Some s → (handle : ℕ) (x : Replica)
+    → replica_of s.disk handle ≡ Some x → IsSound s.disk.block x
+sound_reached config servers clients w r kept index s at = (subst AreKept r.1 (kept_on (new_world config servers clients) r.0 (λ _. new_good config servers clients)) kept index s at).found []
+
+pub reads_are_as_stored : ReadsAreAsStored
+reads_are_as_stored config servers clients w r kept index s at handle x there offset count bytes is =
+    by_test (is_readable s.disk.block x offset count) refl (subst (λ (o : Option Replica). read_from s.disk.block offset count o ≡ Some bytes) there is)
+  where
+    by_test : (b : Bool) → is_readable s.disk.block x offset count ≡ b → cond b (Some (read_bytes x offset count)) None ≡ Some bytes → bytes ≡ take count (drop offset x.bytes)
+    by_test true readable g = sym (same_some (read_bytes x offset count) bytes g) ∙ read_part s.disk.block x offset count (sound_reached config servers clients w r kept index s at handle x there) readable
+    by_test false readable g = none_some bytes g
 
 pub replicas_are_read_as_stored : ReplicasAreReadAsStored
 replicas_are_read_as_stored config servers clients w r kept index s at handle x there = (reads, copies)

@@ -439,3 +439,75 @@ read_whole block r h readable = no_others (table.entries r.changed) r.bytes (all
     all_past [] found passes_ = tt
     all_past (e ∷ es) found (inl empty) = (let none = leb-true stop 0 empty in omega (arith, none, stop_is), all_past es found.1 (inl empty))
     all_past (e ∷ es) found (inr fails) = (past e found.0 fails.0, all_past es found.1 (inr fails.1))
+
+-- a read of a part
+
+taken_alike : (n : ℕ) (xs ys : List ℕ) → length xs ≡ length ys → length (take n xs) ≡ length (take n ys)
+taken_alike zero xs ys same = refl
+taken_alike (suc n) [] [] same = refl
+taken_alike (suc n) [] (y ∷ ys) same = absurd (omega (arith, same))
+taken_alike (suc n) (x ∷ xs) [] same = absurd (omega (arith, same))
+taken_alike (suc n) (x ∷ xs) (y ∷ ys) same = ap suc (taken_alike n xs ys (omega (arith, same)))
+
+taken_short : (n : ℕ) (xs : List ℕ) → (length (take n xs) ≤ n) × (length (take n xs) ≤ length xs)
+taken_short zero xs = (omega arith, omega arith)
+taken_short (suc n) [] = (omega arith, omega arith)
+taken_short (suc n) (x ∷ xs) = let rest = taken_short n xs in let a = rest.0 in let b = rest.1 in (omega (arith, a), omega (arith, b))
+
+pub read_part : (block : ℕ) (r : Replica) (offset count : ℕ) → IsSound block r → is_readable block r offset count ≡ true → take count (drop offset (bytes_on_disk r)) ≡ take count (drop offset r.bytes)
+read_part block r offset count h readable =
+    ext_get_or 0 (take count (drop offset (bytes_on_disk r))) (take count (drop offset r.bytes)) alike
+    (λ i less.
+    let short = taken_short count (drop offset (bytes_on_disk r)) in
+    let at_most = short.0 in
+    let in_rest = short.1 in
+    let left = length-drop offset (bytes_on_disk r) in
+    let low : i < count = omega (arith, less, at_most) in
+    let inside : offset + i < length r.bytes = omega (arith, less, in_rest, left, long) in
+    let end_low : offset + i < stop = stop_above (offset + i) (omega (arith, low)) inside in
+    get_or-take count (drop offset (bytes_on_disk r)) i 0 low ∙ get_or-drop offset (bytes_on_disk r) i 0 ∙ others_at r.changed r.bytes (offset + i) inside
+    ∙ ap (λ (o : Option ℕ). unwrap_or o (get_or r.bytes (offset + i) 0)) (unchanged (offset + i) (omega arith) end_low)
+    ∙ sym (get_or-drop offset r.bytes i 0) ∙ sym (get_or-take count (drop offset r.bytes) i 0 low))
+  where
+    stop : ℕ
+    stop = read_end r offset count
+
+    long : length (bytes_on_disk r) ≡ length r.bytes
+    long = others_long (table.entries r.changed) r.bytes
+
+    alike : length (take count (drop offset (bytes_on_disk r))) ≡ length (take count (drop offset r.bytes))
+    alike = taken_alike count (drop offset (bytes_on_disk r)) (drop offset r.bytes) (length-drop offset (bytes_on_disk r) ∙ ap (λ (n : ℕ). n - offset) long ∙ sym (length-drop offset r.bytes))
+
+    stop_above : (j : ℕ) → j < offset + count → j < length r.bytes → j < stop
+    stop_above j low inside = omega (arith, low, inside)
+
+    test : ℕ × ℕ → Bool
+    test e = nat_le (offset / block) (e.0 / block) && nat_le (e.0 / block) ((stop - 1) / block) && not (block_matches block r (e.0 / block))
+
+    passes : (nat_le stop offset ≡ true) ⊎ AllOf (λ e. test e ≡ false) (table.entries r.changed)
+    passes =
+        elim (or_cases (nat_le stop offset) (blocks_match block r offset stop) readable) [
+          | inl empty ↦ inl empty
+          | inr all ↦ inr (none_passes test (table.entries r.changed) (not-true (list_any test (table.entries r.changed)) all))
+        ]
+
+    all_true : (a b c : Bool) → a ≡ true → b ≡ true → c ≡ true → a && b && c ≡ true
+    all_true true true true x y z = refl
+    all_true true true false x y z = z
+    all_true true false c x y z = absurd (true≢false (sym y))
+    all_true false b c x y z = absurd (true≢false (sym x))
+
+    unchanged : (j : ℕ) → offset ≤ j → j < stop → table.get r.changed j ≡ None
+    unchanged j first last = by_value (table.get r.changed j) refl
+      where
+        by_value : (o : Option ℕ) → table.get r.changed j ≡ o → table.get r.changed j ≡ None
+        by_value None is = is
+        by_value (Some byte) is =
+            elim (passes) [
+              | inl empty ↦ let none = leb-true stop offset empty in absurd (omega (arith, none, first, last))
+              | inr fails ↦
+                  let bad : block_matches block r (j / block) ≡ false = h j byte is in
+                  let fails_here : test (j, byte) ≡ false = found_passes (λ e. test e ≡ false) (table.entries r.changed) j byte fails (sym (table.get-entries r.changed j) ∙ is) in
+                  absurd (true≢false (sym (all_true (nat_le (offset / block) (j / block)) (nat_le (j / block) ((stop - 1) / block)) (not (block_matches block r (j / block)))
+                  (le-leb (offset / block) (j / block) (div_below offset j block first)) (le-leb (j / block) ((stop - 1) / block) (div_below j (stop - 1) block (omega (arith, last)))) (not_from_false (block_matches block r (j / block)) bad)) ∙ fails_here))
+            ]

@@ -1,0 +1,5 @@
+use Rattle.protocol_acknowledged_entries.proofs.Acknowledged.{acknowledged_entries_are_applied}
+use Rattle.protocol_acknowledged_entries.proofs.laws.acknowledged_entries_are_applied.Goals as goal
+
+pub returns : goal.returns
+returns c = acknowledged_entries_are_applied
