@@ -1,6 +1,6 @@
 //! The replicas of a disk, by handle.
 
-ghost use Rattle.std.specs.Prelude.{◌≡◌, map as mapped, slice_get, IfOk, OnErr, OnOk};
+ghost use Rattle.std.specs.Prelude.{◌≡◌, ◌≢◌, [], map as mapped, slice_get, IfOk, OnErr, OnOk};
 ghost use Rattle.std.specs.BTreeMap.{is_at};
 ghost use Rattle.std.specs.FinMap as map;
 ghost use Rattle.std.specs.List.{range_with_len};
@@ -64,11 +64,12 @@ impl SlotIndex {
         Ok(rows)
     }
 
-    /// A new replica, in the lowest free slot, which is told; `None` where no slot is free.
+    /// A new replica, in the lowest free slot, which is told; `None` where no slot is free. Memory is needed only where one is.
     pub fn add(&mut self, handle: Handle, row: Row) -> Result<Option<u32>, AllocError>
         ensures slot { IfOk result (λ slot. slot ≡ slice_get self.old.free 0) }
         ensures ok { OnOk result (self.new ≡ index_with self.old handle.0 row self.old.free) }
         ensures err { OnErr result (self.new ≡ self.old) }
+        ensures room { OnErr result (self.old.free ≢ []) }
     {
         let Some(slot) = self.free.lowest() else {
             return Ok(None);

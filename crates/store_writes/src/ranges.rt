@@ -7,7 +7,7 @@ ghost use Rattle.store_layout.specs.Places.{blocks_of};
 ghost use Rattle.store_writes.specs.Writing.{header_range_of, written_ranges};
 ghost use Rattle.stored_replicas.specs.Stored.{header_of as header_value};
 
-use crate::edges::Edges;
+use store_edges::Edges;
 use block_digests::digests_of_blocks;
 use bytes::Bytes;
 use gfs_types::ids::Handle;

@@ -14,7 +14,7 @@ ghost use Rattle.store_layout.specs.Places.{disk_size};
 ghost use Rattle.store_writes.specs.Writing.{IsNoticedAt, LeavesWritten, checked_ranges as checked_value};
 ghost use Rattle.stored_replicas.specs.Stored.{Holds, header_of};
 
-use crate::edges::read_edges;
+use store_edges::read_edges;
 use crate::ranges::{header_range, write_ranges};
 use bytes::Bytes;
 use disk::{Disk, DiskFault};

@@ -10,3 +10,4 @@ pub mod Keeping
 pub mod Blank
 pub mod Listed
 pub mod Counted
+pub mod Looked

@@ -3,7 +3,7 @@ use Rattle.std.specs.Prelude.{ℕ, ◌-◌, ◌*◌, ◌/◌, ◌%◌, if◌then
 use Rattle.disk.specs.Bytes.{range_at}
 use Rattle.replica_blocks.specs.Blocks.{chunk_on_disk}
 use Rattle.replica_store.specs.Replicas.{Replica, is_writable}
-use Rattle.store_writes.specs.declared.edges.Edges.{Edges}
+use Rattle.store_edges.specs.declared.edges.Edges.{Edges}
 
 -- a block as it is on the disk
 abbrev pub block_at : ℕ → ℕ → Replica → ℕ → List ℕ

@@ -1,7 +1,7 @@
 use Rattle.std.proofs.Common.{◌-◌, ◌*◌, ◌/◌, ◌%◌, sym, ◌∙◌, arith, Some}
 use Rattle.store_reads.proofs.Bounds.{first_last, last_within}
-use Rattle.store_writes.proofs.Pairs.{aligned_edges, ends_long, first_slice, last_part, last_slice, mod_less, no_edges, some_edges}
-use Rattle.store_writes.proofs.edges.read_edges.Goals as goal
+use Rattle.store_edges.proofs.Pairs.{aligned_edges, ends_long, first_slice, last_part, last_slice, mod_less, no_edges, some_edges}
+use Rattle.store_edges.proofs.edges.read_edges.Goals as goal
 
 pub returns-then-is_aligned-clause-edges : goal.returns-then-is_aligned-clause-edges
 returns-then-is_aligned-clause-edges g c handle r h =

@@ -3,8 +3,8 @@ use Rattle.std.specs.Prelude.{IfSome}
 use Rattle.std.proofs.lemmas.Result.{IfOk-weaker}
 use Rattle.replica_store.specs.Replicas.{Replica}
 use Rattle.store_reads.specs.Reading.{checked_part}
-use Rattle.store_writes.proofs.Pairs.{some_long}
-use Rattle.store_writes.proofs.edges.read_last.Goals as goal
+use Rattle.store_edges.proofs.Pairs.{some_long}
+use Rattle.store_edges.proofs.edges.read_last.Goals as goal
 use Rattle.stored_replicas.specs.Stored.{Holds}
 
 pub returns-then-first-last-clause-last : goal.returns-then-first-last-clause-last

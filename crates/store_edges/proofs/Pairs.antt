@@ -11,8 +11,8 @@ use Rattle.replica_blocks.specs.Blocks.{chunk_on_disk}
 use Rattle.replica_blocks.proofs.Runs.{touched_is}
 use Rattle.replica_store.specs.Replicas.{Replica, block_matches, blocks_match, is_writable}
 use Rattle.store_reads.specs.Reading.{checked_part}
-use Rattle.store_writes.specs.Edging.{block_at, checked_edges, edges_around}
-use Rattle.store_writes.proofs.Ends.{block_end}
+use Rattle.store_edges.specs.Edging.{block_at, checked_edges, edges_around}
+use Rattle.store_edges.proofs.Ends.{block_end}
 
 both_true : (a b : Bool) → (a ≡ true → b ≡ true) → (b ≡ true → a ≡ true) → a ≡ b
 both_true true true to from = refl

@@ -15,7 +15,7 @@ use Rattle.replica_blocks.proofs.Runs.{disk_block, own_block}
 use Rattle.replica_blocks.proofs.Touched.{part_after, part_before, run_then}
 use Rattle.replica_blocks.proofs.Written.{stored_written}
 use Rattle.replica_store.specs.Replicas.{Replica, block_matches, filled_to, is_writable, with_bytes}
-use Rattle.store_writes.specs.Edging.{block_at, edges_around}
+use Rattle.store_edges.specs.Edging.{block_at, edges_around}
 
 or_cases : (a b : Bool) → (a || b) ≡ true → (a ≡ true) ⊎ (b ≡ true)
 or_cases true b e = inl refl

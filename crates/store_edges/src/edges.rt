@@ -6,7 +6,7 @@ ghost use Rattle.gated_disk.specs.Moments.{OnlyReads};
 ghost use Rattle.replica_store.specs.Replicas.{Replica, block_matches};
 ghost use Rattle.store_layout.specs.Places.{blocks_of, disk_size};
 ghost use Rattle.store_reads.specs.Reading.{checked_part};
-ghost use Rattle.store_writes.specs.Edging.{block_at, checked_edges};
+ghost use Rattle.store_edges.specs.Edging.{block_at, checked_edges};
 ghost use Rattle.stored_replicas.specs.Stored.{Holds};
 
 use bytes::Bytes;

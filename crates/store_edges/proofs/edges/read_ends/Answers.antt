@@ -2,9 +2,9 @@ use Rattle.std.proofs.Common.{◌≡◌, ℕ, ◌*◌, ◌≤◌, List, length, 
 use Rattle.std.specs.Prelude.{IfSome}
 use Rattle.gated_disk.proofs.Moments.{reads_both}
 use Rattle.replica_store.specs.Replicas.{block_matches}
-use Rattle.store_writes.specs.Edging.{block_at}
-use Rattle.store_writes.proofs.Pairs.{both_some, first_none, one_block, second_none}
-use Rattle.store_writes.proofs.edges.read_ends.Goals as goal
+use Rattle.store_edges.specs.Edging.{block_at}
+use Rattle.store_edges.proofs.Pairs.{both_some, first_none, one_block, second_none}
+use Rattle.store_edges.proofs.edges.read_ends.Goals as goal
 use Rattle.stored_replicas.specs.Stored.{Holds}
 
 pub read_last-requires-clause-long : goal.read_last-requires-clause-long

@@ -1,0 +1,101 @@
+//! A store whose disk stops at each of its calls.
+
+use crate::calls::{Rows, STEPS, fused, listed, run};
+use disk::{Disk, FuseDisk};
+use gfs_types::torn::Torn;
+use std::alloc::Global;
+use std::test::Fail;
+
+const WAYS: [Torn; 5] = [
+    Torn::Old,
+    Torn::New,
+    Torn::Byte(0),
+    Torn::Byte(1),
+    Torn::Byte(7),
+];
+
+// All steps take fewer calls of the disk, and an opening fewer than that.
+const CALLS: u64 = 110;
+
+const OPENING_CALLS: u64 = 24;
+
+// What is listed after each number of steps.
+fn states(alloc: Global) -> Result<Vec<Rows>, Fail> {
+    let mut states = Vec::new(alloc);
+    for steps in 0..STEPS + 2 {
+        let (disk, _done) = run(fused(alloc, 1_000)?, alloc, steps);
+        let (_disk, rows) = listed(disk, alloc);
+        let Some(rows) = rows else {
+            return Err(Fail::from("it opens"));
+        };
+        states.push(rows)?;
+    }
+    Ok(states)
+}
+
+fn is_state(states: &[Rows], number: usize, rows: &Rows) -> bool {
+    match states.get(number) {
+        Some(state) => state == rows,
+        None => false,
+    }
+}
+
+// The steps, a stop, an opening that stops, and what is listed then; and how many steps were done.
+fn stopped_twice(
+    alloc: Global,
+    calls: u64,
+    more: u64,
+    torn: Torn,
+) -> Result<(usize, Option<Rows>), Fail> {
+    let (disk, done) = run(fused(alloc, calls)?, alloc, STEPS + 1);
+    let mut second = FuseDisk::new(disk.stop(torn));
+    second.arm(more);
+    let (stopped, _rows) = listed(second, alloc);
+    let (_disk, rows) = listed(stopped.stop(torn), alloc);
+    Ok((done, rows))
+}
+
+// Whether the disk says what it said before the step under way, or after it.
+fn is_kept(
+    alloc: Global,
+    states: &[Rows],
+    calls: u64,
+    more: u64,
+    torn: Torn,
+) -> Result<(usize, bool), Fail> {
+    let (done, rows) = stopped_twice(alloc, calls, more, torn)?;
+    let kept = match rows {
+        Some(rows) => is_state(states, done, &rows) || is_state(states, done.saturating_add(1), &rows),
+        None => false,
+    };
+    Ok((done, kept))
+}
+
+#[test]
+fn each_step_is_done_or_not(rt: HostRuntime) -> Result<(), Fail> {
+    let alloc = rt.alloc();
+    let states = states(alloc)?;
+    let mut all = 0;
+    for calls in 0..CALLS {
+        for torn in WAYS {
+            let (done, kept) = is_kept(alloc, &states, calls, 1_000, torn)?;
+            assert!(rt; kept);
+            all = done;
+        }
+    }
+    assert_eq!(rt; all, STEPS + 1);
+    Ok(())
+}
+
+#[test]
+fn an_opening_that_stopped_is_done_again(rt: HostRuntime) -> Result<(), Fail> {
+    let alloc = rt.alloc();
+    let states = states(alloc)?;
+    for calls in 0..CALLS {
+        for more in 0..OPENING_CALLS {
+            let (_done, kept) = is_kept(alloc, &states, calls, more, Torn::Byte(1))?;
+            assert!(rt; kept);
+        }
+    }
+    Ok(())
+}
