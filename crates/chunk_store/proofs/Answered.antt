@@ -18,7 +18,7 @@ never (Ok x) f other is failed refused e = absurd cc
 never (Err g) f other is failed refused e = let same : g ≡ other = cc in no_refusal f other failed refused (sym is ∙ same)
 
 pub not_refused : {T : Type 0} (r : Result T StoreFault) (f : StoreFault) → IsErrAnd r (λ e. e ≡ f) → is_refusal f ≡ false → IsRefused r → ⊥
-not_refused (Ok x) f is failed refused = absurd cc
+not_refused (Ok x) f is failed refused = absurd is
 not_refused (Err g) f is failed refused = not_both (is_refusal g) refused (ap is_refusal is ∙ failed)
 
 pub disk_never : (d : DiskFault) → is_refusal (fault_of d) ≡ false

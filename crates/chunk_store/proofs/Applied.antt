@@ -1,5 +1,5 @@
 -- A mutation of a store.
-use Rattle.std.proofs.Common.{◌≡◌, ◌⊎◌, inl, inr, ℕ, ◌≤◌, List, length, refl, sym, ap, ◌∙◌, subst, arith, None, Some, Err}
+use Rattle.std.proofs.Common.{◌≡◌, ◌⊎◌, inl, inr, ℕ, ◌<◌, ◌≤◌, List, length, refl, sym, ap, ◌∙◌, subst, arith, None, Some, Err}
 use Rattle.std.specs.Prelude.{◌↔◌, ◌≢◌, IsErrOf}
 use Rattle.std.specs.FinMap as map
 use Rattle.gfs_types.specs.declared.ids.Handle.{Handle}
@@ -59,9 +59,9 @@ module _ {D : Type 0} (seen : D → List ℕ) (may_leave : D → List ℕ → Ty
 
 -- the serial is a new one
 pub serial_there : {D : Type 0} (seen : D → List ℕ) (may_leave : D → List ℕ → Type 0) (store : Store D) (d : ServerDisk) → IsOpen seen may_leave store d → {E : Type 0} (h : ℕ) (found : HeldReplica) (version : Version) (serial : ℕ)
-    → map.get store.index.held h ≡ Some found → (serial ≤ found.row.serial.0 → ⊥) → (E → ⊥) → E ↔ (row : Row) × (row_at d h ≡ Some row) × (row.version ≡ version) × (serial ≤ row.serial.0)
-serial_there seen may_leave store d is h found version serial there new no =
-    (λ e. absurd (no e), λ p. (let one = ap (λ (r : Row). r.serial.0) (one_row (row_at d h) p.0 found.row p.1 (row_held seen may_leave store d is h found there)) in absurd (new (omega (arith, one, p.3)))))
+    → map.get store.index.held h ≡ Some found → found.row.serial.0 < serial → (E → ⊥) → E ↔ (row : Row) × (row_at d h ≡ Some row) × (row.version ≡ version) × (serial ≤ row.serial.0)
+serial_there seen may_leave store d is h found version serial there new other =
+    (λ e. absurd (other e), λ p. (let one = ap (λ (r : Row). r.serial.0) (one_row (row_at d h) p.0 found.row p.1 (row_held seen may_leave store d is h found there)) in absurd (omega (arith, one, p.3, new))))
 
 -- a replica of that version is there, so it is found
 pub no_such : {T : Type 0} (o : Row) (d : ServerDisk) (h : ℕ) (version : Version) (fault : StoreFault) → (fault ≡ faults.NoChunk) ⊎ (fault ≡ faults.Version) → (IsErrOf {T = T} (Err fault) faults.NoChunk → row_at d h ≡ None)

@@ -40,12 +40,12 @@ module _ {D : Type 0} (seen : D → List ℕ) (may_leave : D → List ℕ → Ty
 
   -- a replica that was found isn't refused as one that isn't there
   pub chunk_there : {E : Type 0} (h : ℕ) (found : HeldReplica) → map.get store.index.held h ≡ Some found → (E → ⊥) → E ↔ row_at d h ≡ None
-  chunk_there h found there no = (λ e. absurd (no e), λ none. absurd (no_row (row_at d h) found.row none (row_held h found there)))
+  chunk_there h found there other = (λ e. absurd (other e), λ none. absurd (no_row (row_at d h) found.row none (row_held h found there)))
 
   -- nor as one of another version
   pub version_there : {E : Type 0} (h : ℕ) (found : HeldReplica) (version : Version) → map.get store.index.held h ≡ Some found → found.row.version ≡ version → (E → ⊥) → E ↔ (row : Row) × (row_at d h ≡ Some row) × (row.version ≢ version)
-  version_there h found version there wanted no =
-      (λ e. absurd (no e), λ p. absurd (p.2 (ap (λ (r : Row). r.version) (one_row (row_at d h) p.0 found.row p.1 (row_held h found there)) ∙ wanted)))
+  version_there h found version there wanted other =
+      (λ e. absurd (other e), λ p. absurd (p.2 (ap (λ (r : Row). r.version) (one_row (row_at d h) p.0 found.row p.1 (row_held h found there)) ∙ wanted)))
 
   -- what is known of a replica lies within the disk
   pub held_within : (h : ℕ) (found : HeldReplica) → map.get store.index.held h ≡ Some found → (found.slot < store.layout.slots) × (found.row.count ≤ store.layout.chunk)
@@ -66,7 +66,7 @@ module _ {D : Type 0} (seen : D → List ℕ) (may_leave : D → List ℕ → Ty
 
   -- where a slot is free, want of room isn't answered
   pub room_there : {E : Type 0} (h slot : ℕ) → slice_get store.index.free 0 ≡ Some slot → (E → ⊥) → E ↔ (row_at d h ≡ None) × (is_disk_full store.layout.slots d ≡ true)
-  room_there h slot first no = (λ e. absurd (no e), λ p. (let f : [] ≡ slot ∷ drop 1 store.index.free = sym (full_open.1 p.1) ∙ first_free store.index.free slot first in absurd cc))
+  room_there h slot first other = (λ e. absurd (other e), λ p. (let f : [] ≡ slot ∷ drop 1 store.index.free = sym (full_open.1 p.1) ∙ first_free store.index.free slot first in absurd cc))
 
   -- the disk says one thing, with its order
   pub says_open : (e : ServerDisk) → Says store.layout.chunk store.layout.block store.layout.slots store.index (seen store.disk) e → IsOpen seen may_leave store e

@@ -1,5 +1,5 @@
 -- A byte of a replica that rots, on a disk at rest.
-use Rattle.std.proofs.Common.{◌≡◌, ◌⊎◌, inl, inr, ℕ, ◌+◌, ◌-◌, ◌*◌, ◌<◌, ◌≤◌, Bool, true, false, if◌then◌else◌, List, [], ◌∷◌, length, refl, sym, ap, ◌∙◌, subst, arith, Option, None, Some}
+use Rattle.std.proofs.Common.{◌≡◌, ◌⊎◌, inl, inr, ℕ, ◌+◌, ◌-◌, ◌*◌, ◌<◌, ◌≤◌, Bool, true, false, if◌then◌else◌, List, [], ◌∷◌, length, sym, ap, ◌∙◌, subst, arith, Option, Some}
 use Rattle.std.specs.Prelude.{◌==◌}
 use Rattle.std.specs.FinMap as map
 use Rattle.std.specs.Ordering.{nat_cmp}
@@ -13,7 +13,7 @@ use Rattle.redo_area.specs.Changes.{applied}
 use Rattle.redo_area.specs.Moments.{KeepsAt, is_outside}
 use Rattle.redo_area.specs.Redo.{FitsArea, IsBeforeOrAfter, StandsOnly, is_open, stands_for}
 use Rattle.redo_area.specs.declared.range.RedoRange.{RedoRange}
-use Rattle.replica_blocks.specs.Blocks.{chunk_on_disk, written_over}
+use Rattle.replica_blocks.specs.Blocks.{written_over}
 use Rattle.replica_blocks.proofs.Rotten.{chunk_rotten}
 use Rattle.replica_store.specs.Replicas.{Replica, ServerDisk, replica_becomes, rotten_replica, stored_byte}
 use Rattle.slot_index.specs.Index.{IndexState}
@@ -25,7 +25,7 @@ use Rattle.store_format.proofs.Slots.{slot_before, slots_behind}
 use Rattle.store_header.specs.Fields.{header_in}
 use Rattle.store_layout.specs.Places.{blocks_of, data_place, digests_place, disk_size, slot_place, slot_size}
 use Rattle.stored_replicas.specs.Stored.{Holds, IsDiskOf, IsStored}
-use Rattle.stored_replicas.proofs.Lookups.{found_elsewhere, found_here, gone_here, insert_same, kept_elsewhere}
+use Rattle.stored_replicas.proofs.Lookups.{found_elsewhere, insert_same, kept_elsewhere}
 use Rattle.stored_replicas.proofs.Replicas.{its_replica, replica_replaced}
 use Rattle.store_writes.specs.Rotting.{LeavesRotten, disk_rotten}
 use Rattle.store_writes.proofs.Holding.{put_inside, put_keeps_outside}

@@ -1,6 +1,6 @@
 -- How many slots are free.
 use Rattle.std.proofs.Common.{◌≡◌, inl, inr, ℕ, zero, suc, ◌+◌, ◌-◌, ◌<◌, ◌≤◌, Bool, true, false, not, cond, List, [], ◌∷◌, length, refl, sym, ap, ◌∙◌, arith, Option, None, Some}
-use Rattle.std.specs.Prelude.{◌↔◌, filter, is_some, nat_le}
+use Rattle.std.specs.Prelude.{◌↔◌, filter, is_some}
 use Rattle.std.specs.FinMap as map
 use Rattle.std.specs.Cmp.{nat_cmp_total}
 use Rattle.std.specs.FinMap.{nat_cmp-IsAntisymmetric}
@@ -8,13 +8,13 @@ use Rattle.std.specs.List.{range_with_len}
 use Rattle.std.specs.Ordering.{nat_cmp}
 use Rattle.std.proofs.lemmas.Bool.{cases_eq}
 use Rattle.std.proofs.lemmas.Bool.Decides.{nat_tests}
-use Rattle.replica_store.specs.Replicas.{Replica, ServerDisk, is_disk_full, replica_of}
+use Rattle.replica_store.specs.Replicas.{ServerDisk, is_disk_full}
 use Rattle.slot_index.specs.Index.{IndexState}
 use Rattle.slot_index.specs.declared.held.HeldReplica.{HeldReplica}
 use Rattle.stored_replicas.specs.Stored.{IsDiskOf, is_used}
 use Rattle.stored_replicas.proofs.Listed.{count_known}
 use Rattle.stored_replicas.proofs.Lookups.{gone_here, kept_elsewhere}
-use Rattle.stored_replicas.proofs.Replicas.{its_replica, no_replica, used_by}
+use Rattle.stored_replicas.proofs.Replicas.{its_replica, used_by}
 
 abbrev Held : Type 0
 Held = map.FinMap nat_cmp HeldReplica

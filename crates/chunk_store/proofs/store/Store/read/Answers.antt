@@ -1,7 +1,7 @@
 use Rattle.std.proofs.Common.{refl, sym, ◌∙◌}
 use Rattle.chunk_store.specs.Faults.{fault_of}
 use Rattle.chunk_store.specs.declared.fault.StoreFault.TheVariants as faults
-use Rattle.chunk_store.proofs.Answered.{disk_never, handed_on, never, not_corrupt}
+use Rattle.chunk_store.proofs.Answered.{disk_never, handed_on, never, not_corrupt, not_full}
 use Rattle.chunk_store.proofs.StillOpen.{chunk_there, held_within, read_open, version_there}
 use Rattle.chunk_store.proofs.store.Store.read.Goals as goal
 
@@ -58,3 +58,9 @@ returns-in-None-clause-version g c d is = version_there g.D.Disk.seen g.D.Disk.m
 
 pub returns-in-None-clause-corrupt : goal.returns-in-None-clause-corrupt
 returns-in-None-clause-corrupt g c d is e = sym (c.in_ok-read.ensures.read c.args.self.now.index d c.args.handle.0 is.says c.in-Ok.ensures.found.0) ∙ c.in-None.is
+
+pub returns-in-Err-clause-no_room : goal.returns-in-Err-clause-no_room
+returns-in-Err-clause-no_room g c e = absurd (not_full c.in-Err.fault c.in-Err.ensures.no_other e)
+
+pub returns-in_err-read-clause-no_room : goal.returns-in_err-read-clause-no_room
+returns-in_err-read-clause-no_room g c e = absurd (never c.from_residual.result (fault_of c.in_err-read.field-0.0) faults.NoRoom c.from_residual.ensures.1 (disk_never c.in_err-read.field-0.0) refl e)
