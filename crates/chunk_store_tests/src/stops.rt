@@ -1,9 +1,12 @@
 //! A store whose disk stops at each of its calls.
 
+ghost use Rattle.std.specs.Prelude.{◌≡◌, false, IfOk};
+ghost use Rattle.store_format.specs.Formats.{is_head_open};
+
 use crate::calls::{Rows, STEPS, fused, listed, run};
 use disk::{Disk, FuseDisk};
 use gfs_types::torn::Torn;
-use std::alloc::Global;
+use std::alloc::{AllocError, Global};
 use std::test::Fail;
 
 const WAYS: [Torn; 5] = [
@@ -15,20 +18,20 @@ const WAYS: [Torn; 5] = [
 ];
 
 // All steps take fewer calls of the disk, and an opening fewer than that.
-const CALLS: u64 = 110;
+const CALLS: u64 = 160;
 
 const OPENING_CALLS: u64 = 24;
 
 // What is listed after each number of steps.
-fn states(alloc: Global) -> Result<Vec<Rows>, Fail> {
+fn all_states(alloc: Global) -> Result<Vec<Rows>, Fail> {
     let mut states = Vec::new(alloc);
     for steps in 0..STEPS + 2 {
-        let (disk, _done) = run(fused(alloc, 1_000)?, alloc, steps);
+        let (disk, done) = run(fused(alloc, 1_000)?, alloc, steps);
         let (_disk, rows) = listed(disk, alloc);
-        let Some(rows) = rows else {
-            return Err(Fail::from("it opens"));
-        };
-        states.push(rows)?;
+        match rows {
+            Some(rows) if done == steps => states.push(rows)?,
+            _ => return Err(Fail::from("the steps are done, and it opens")),
+        }
     }
     Ok(states)
 }
@@ -55,6 +58,14 @@ fn stopped_twice(
     Ok((done, rows))
 }
 
+// Whether the disk says what it said after so many steps, or one more.
+fn are_after(states: &[Rows], done: usize, rows: Option<Rows>) -> bool {
+    match rows {
+        Some(rows) => is_state(states, done, &rows) || is_state(states, done.saturating_add(1), &rows),
+        None => false,
+    }
+}
+
 // Whether the disk says what it said before the step under way, or after it.
 fn is_kept(
     alloc: Global,
@@ -64,17 +75,13 @@ fn is_kept(
     torn: Torn,
 ) -> Result<(usize, bool), Fail> {
     let (done, rows) = stopped_twice(alloc, calls, more, torn)?;
-    let kept = match rows {
-        Some(rows) => is_state(states, done, &rows) || is_state(states, done.saturating_add(1), &rows),
-        None => false,
-    };
-    Ok((done, kept))
+    Ok((done, are_after(states, done, rows)))
 }
 
 #[test]
 fn each_step_is_done_or_not(rt: HostRuntime) -> Result<(), Fail> {
     let alloc = rt.alloc();
-    let states = states(alloc)?;
+    let states = all_states(alloc)?;
     let mut all = 0;
     for calls in 0..CALLS {
         for torn in WAYS {
@@ -90,12 +97,43 @@ fn each_step_is_done_or_not(rt: HostRuntime) -> Result<(), Fail> {
 #[test]
 fn an_opening_that_stopped_is_done_again(rt: HostRuntime) -> Result<(), Fail> {
     let alloc = rt.alloc();
-    let states = states(alloc)?;
+    let states = all_states(alloc)?;
     for calls in 0..CALLS {
         for more in 0..OPENING_CALLS {
             let (_done, kept) = is_kept(alloc, &states, calls, more, Torn::Byte(1))?;
             assert!(rt; kept);
         }
     }
+    Ok(())
+}
+
+// A new disk. Where memory is refused it is asked for once more.
+fn fused_again(alloc: Global) -> Result<FuseDisk, AllocError>
+    ensures { IfOk result (λ disk. is_head_open disk.disk.bytes ≡ false) }
+{
+    match fused(alloc, 1_000) {
+        Ok(disk) => Ok(disk),
+        Err(_) => fused(alloc, 1_000),
+    }
+}
+
+// `tools/refused` refuses each allocation in turn.
+#[test]
+fn a_refused_allocation_leaves_a_state(rt: HostRuntime) -> Result<(), Fail> {
+    let alloc = rt.alloc();
+    let states = match all_states(alloc) {
+        Ok(states) => states,
+        Err(_) => all_states(alloc)?,
+    };
+    let (disk, done) = run(fused_again(alloc)?, alloc, STEPS + 1);
+    let (disk, first) = listed(disk, alloc);
+    let rows = match first {
+        Some(rows) => Some(rows),
+        None => {
+            let (_disk, second) = listed(disk, alloc);
+            second
+        }
+    };
+    assert!(rt; are_after(&states, done, rows));
     Ok(())
 }

@@ -1,4 +1,4 @@
-use Rattle.std.proofs.Common.{◌≡◌, inl, inr, ℕ, List, refl, sym, ap, ◌∙◌, subst, arith, None, Some, Err}
+use Rattle.std.proofs.Common.{inl, inr, ℕ, List, refl, sym, ap, ◌∙◌, subst, arith, Some, Err}
 use Rattle.std.specs.Prelude.{is_some}
 use Rattle.std.specs.FinMap as map
 use Rattle.std.proofs.lemmas.Result.{on_ok_weaker}
@@ -9,7 +9,6 @@ use Rattle.stored_replicas.proofs.Looked.{no_row, one_row, test_none, test_some}
 use Rattle.chunk_store.specs.Stores.{IsOpen}
 use Rattle.chunk_store.specs.declared.fault.StoreFault.{StoreFault}
 use Rattle.chunk_store.specs.declared.fault.StoreFault.TheVariants as faults
-use Rattle.chunk_store.specs.declared.store.Store.{Store}
 use Rattle.chunk_store.proofs.Answered.{handed_on}
 use Rattle.chunk_store.proofs.Copied.{change_leaves, image_fits, put_copies, read_leaves}
 use Rattle.chunk_store.proofs.StillOpen.{chunk_there, leaves_all, none_held, row_held}
@@ -90,7 +89,7 @@ returns-in-Ok-image-clause-any_moment g c =
     let disk = g.D.Disk in
     change_leaves disk.seen disk.may_leave c.args.self.now c.requires.is_open.0 c.requires.is_open.1 disk.moment disk.left_since c.image.new.self c.image.ensures.reads (Copy c.args.handle c.args.copy c.args.copy_version) c.install.new.self
     (Put c.args.copy c.args.copy_version (record { 0 = 0 }) c.deref.result.now) c.image.ensures.unchanged
-    (λ e open. put_copies e c.args.handle c.args.copy c.args.copy_version c.deref.result.now (ap (λ (l : List ℕ). Some l) c.deref.ensures ∙ c.in-Ok-image.ensures.ok e open)) c.install.ensures.any_moment
+    (λ e opened. put_copies e c.args.handle c.args.copy c.args.copy_version c.deref.result.now (ap (λ (l : List ℕ). Some l) c.deref.ensures ∙ c.in-Ok-image.ensures.ok e opened)) c.install.ensures.any_moment
 
 pub returns-in-Err-image-clause-no_chunk : goal.returns-in-Err-image-clause-no_chunk
 returns-in-Err-image-clause-no_chunk g c d is =

@@ -1,4 +1,4 @@
-use Rattle.std.proofs.Common.{◌≡◌, ℕ, List, drop, length, refl, sym, ap, ◌∙◌, subst, true, None}
+use Rattle.std.proofs.Common.{ℕ, List, drop, length, refl, sym, ap, ◌∙◌, subst}
 use Rattle.std.specs.Prelude.{is_some}
 use Rattle.std.specs.FinMap as map
 use Rattle.replica_store.specs.declared.change.StoreChange.TheVariants.{Put}
