@@ -72,7 +72,8 @@ fn stopped_twice(
 // Whether the disk says what it said after so many steps, or one more.
 fn are_after(states: &[Rows], done: usize, rows: Option<Rows>) -> bool {
     match rows {
-        Some(rows) => is_state(states, done, &rows) || is_state(states, done.saturating_add(1), &rows),
+        Some(rows) => is_state(states, done, &rows)
+            || is_state(states, done.saturating_add(1), &rows),
         None => false,
     }
 }
