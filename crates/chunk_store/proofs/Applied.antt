@@ -1,32 +1,29 @@
 -- A mutation of a store.
-use Rattle.std.proofs.Common.{◌≡◌, ◌⊎◌, inl, inr, ℕ, ◌≤◌, List, length, refl, sym, ap, ◌∙◌, subst, None, Some, Err}
-use Rattle.std.specs.Prelude.{IsErrOf, ◌≢◌}
+use Rattle.std.proofs.Common.{◌≡◌, ◌⊎◌, inl, inr, ℕ, ◌<◌, ◌≤◌, List, length, sym, ap, ◌∙◌, subst, arith, None, Some, Err}
+use Rattle.std.specs.Prelude.{◌↔◌, ◌≢◌, IsErrOf}
+use Rattle.std.specs.FinMap as map
 use Rattle.gfs_types.specs.declared.ids.Handle.{Handle}
 use Rattle.gfs_types.specs.declared.ids.Serial.{Serial}
 use Rattle.gfs_types.specs.declared.ids.Version.{Version}
 use Rattle.gfs_types.specs.declared.mutation.Mutation.{Mutation}
-use Rattle.gfs_types.specs.declared.mutation.Mutation.TheVariants as mutations
 use Rattle.redo_area.specs.Redo.{IsAtRest, StandsOnly}
 use Rattle.replica_store.specs.declared.change.StoreChange.TheVariants.{Write}
 use Rattle.replica_store.specs.declared.row.Row.{Row}
 use Rattle.replica_store.specs.Replicas.{ServerDisk, disk_changed, replica_of, row_at, written_replica}
 use Rattle.slot_index.specs.Index.{IndexState}
+use Rattle.slot_index.specs.declared.held.HeldReplica.{HeldReplica}
 use Rattle.store_changes.specs.Areas.{area_of}
 use Rattle.store_changes.specs.Changing.{Says}
-use Rattle.store_layout.specs.Places.{disk_size}
+use Rattle.store_changes.proofs.Mutated.{change_same}
 use Rattle.store_writes.specs.Writing.{LeavesWritten}
 use Rattle.stored_replicas.specs.Stored.{IsStored}
-use Rattle.chunk_store.specs.Mutations.{bytes_of, change_of, place_of}
+use Rattle.store_changes.specs.Mutations.{bytes_of, change_of, place_of}
 use Rattle.chunk_store.specs.Stores.{IsOpen}
 use Rattle.chunk_store.specs.declared.fault.StoreFault.{StoreFault}
 use Rattle.chunk_store.specs.declared.fault.StoreFault.TheVariants as faults
 use Rattle.chunk_store.specs.declared.store.Store.{Store}
-use Rattle.chunk_store.proofs.StillOpen.{no_row, one_row, order_of, order_stays}
-
-change_same : (chunk : ℕ) (h : Handle) (s : Serial) (m : Mutation) (d : ServerDisk) → disk_changed d (Write h s (place_of m) (bytes_of chunk m)) ≡ disk_changed d (change_of chunk h s m)
-change_same chunk h s (mutations.Write offset bytes) d = refl
-change_same chunk h s (mutations.Append offset bytes) d = refl
-change_same chunk h s (mutations.Pad offset) d = refl
+use Rattle.stored_replicas.proofs.Looked.{no_row, one_row, order_of, order_stays}
+use Rattle.chunk_store.proofs.StillOpen.{row_held, still_open}
 
 module _ {D : Type 0} (seen : D → List ℕ) (may_leave : D → List ℕ → Type 0) (moment : D → ℕ) (left_since : D → ℕ → List ℕ → Type 0) (store : Store D) (disk : D) (index : IndexState) where
   -- what the store knows, with another disk and index
@@ -37,13 +34,8 @@ module _ {D : Type 0} (seen : D → List ℕ) (may_leave : D → List ℕ → Ty
   pub refused_open : (d : ServerDisk) → IsOpen seen may_leave store d → index ≡ store.index → seen disk ≡ seen store.disk → IsAtRest seen may_leave (area_of store.layout.chunk store.layout.block) disk → IsOpen seen may_leave then_store d
   refused_open d is same read rest =
       let l = store.layout in
-      record {
-        says = subst (λ (x : IndexState). Says l.chunk l.block l.slots x (seen disk) d) (sym same) (subst (λ (bytes : List ℕ). Says l.chunk l.block l.slots store.index bytes d) (sym read) is.says);
-        order = is.order;
-        large = subst (λ (bytes : List ℕ). disk_size l.chunk l.block l.slots ≤ length bytes) (sym read) is.large;
-        whole = is.whole;
-        rest = rest;
-      }
+      still_open seen may_leave store d is disk index store.order d (ap length read) is.order rest
+      (subst (λ (x : IndexState). Says l.chunk l.block l.slots x (seen disk) d) (sym same) (subst (λ (bytes : List ℕ). Says l.chunk l.block l.slots store.index bytes d) (sym read) is.says))
 
   module _ (h : Handle) (s : Serial) (m : Mutation) (place : ℕ) (bytes : List ℕ) (at : place ≡ place_of m) (is_bytes : bytes ≡ bytes_of store.layout.chunk m) where
     same : (d : ServerDisk) → disk_changed d (Write h s place bytes) ≡ disk_changed d (change_of store.layout.chunk h s m)
@@ -56,19 +48,20 @@ module _ {D : Type 0} (seen : D → List ℕ) (may_leave : D → List ℕ → Ty
         → Says store.layout.chunk store.layout.block store.layout.slots index (seen disk) (disk_changed d (Write h s place bytes)) → IsOpen seen may_leave then_store (disk_changed d (change_of store.layout.chunk h s m))
     applied_open d is size rest says =
         let l = store.layout in
-        record {
-          says = subst (λ (e : ServerDisk). Says l.chunk l.block l.slots index (seen disk) e) (same d) says;
-          order = is.order ∙ order_stays (λ r. written_replica r s.0 place bytes) d h.0 (replica_of d h.0) ∙ ap order_of (same d);
-          large = subst (λ (n : ℕ). disk_size l.chunk l.block l.slots ≤ n) (sym size) is.large;
-          whole = is.whole;
-          rest = rest;
-        }
+        still_open seen may_leave store d is disk index store.order (disk_changed d (change_of l.chunk h s m)) size (is.order ∙ order_stays (λ r. written_replica r s.0 place bytes) d h.0 (replica_of d h.0) ∙ ap order_of (same d)) rest
+        (subst (λ (e : ServerDisk). Says l.chunk l.block l.slots index (seen disk) e) (same d) says)
 
     pub leaves_same : LeavesWritten seen moment left_since store.layout.chunk store.layout.block store.layout.slots store.disk disk store.index h.0 (Write h s place bytes)
         → LeavesWritten seen moment left_since store.layout.chunk store.layout.block store.layout.slots store.disk disk store.index h.0 (change_of store.layout.chunk h s m)
     leaves_same written d says noticed =
         let l = store.layout in
         subst (λ (e : ServerDisk). StandsOnly seen moment left_since (area_of l.chunk l.block) store.disk disk (λ bs. IsStored l.chunk l.block l.slots bs d ⊎ IsStored l.chunk l.block l.slots bs e)) (same d) (written d says noticed)
+
+-- the serial is a new one
+pub serial_there : {D : Type 0} (seen : D → List ℕ) (may_leave : D → List ℕ → Type 0) (store : Store D) (d : ServerDisk) → IsOpen seen may_leave store d → {E : Type 0} (h : ℕ) (found : HeldReplica) (version : Version) (serial : ℕ)
+    → map.get store.index.held h ≡ Some found → found.row.serial.0 < serial → (E → ⊥) → E ↔ (row : Row) × (row_at d h ≡ Some row) × (row.version ≡ version) × (serial ≤ row.serial.0)
+serial_there seen may_leave store d is h found version serial there new other =
+    (λ e. absurd (other e), λ p. (let one = ap (λ (r : Row). r.serial.0) (one_row (row_at d h) p.0 found.row p.1 (row_held seen may_leave store d is h found there)) in absurd (omega (arith, one, p.3, new))))
 
 -- a replica of that version is there, so it is found
 pub no_such : {T : Type 0} (o : Row) (d : ServerDisk) (h : ℕ) (version : Version) (fault : StoreFault) → (fault ≡ faults.NoChunk) ⊎ (fault ≡ faults.Version) → (IsErrOf {T = T} (Err fault) faults.NoChunk → row_at d h ≡ None)

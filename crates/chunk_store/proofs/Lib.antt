@@ -1,4 +1,4 @@
 pub mod Answered
 pub mod Applied
-pub mod Imaged
+pub mod Copied
 pub mod StillOpen

@@ -1,5 +1,5 @@
 -- A disk's fault, as the store's; and when one is answered.
-use Rattle.std.specs.Prelude.{ℕ, ◌<◌, ◌≤◌, Result, IsErrOf}
+use Rattle.std.specs.Prelude.{◌≡◌, ℕ, ◌<◌, ◌≤◌, Bool, true, false, Result, IsErrAnd, IsErrOf}
 use Rattle.disk.specs.declared.device.DiskFault.{DiskFault}
 use Rattle.disk.specs.declared.device.DiskFault.TheVariants as disk
 use Rattle.chunk_store.specs.declared.fault.StoreFault.{StoreFault}
@@ -13,3 +13,16 @@ fault_of disk.NoMemory = store.NoMemory
 pub record MayFail {T : Type 0} (before now : ℕ) (result : Result T StoreFault) : Type 0 where
   pub later : before ≤ now
   pub failed : IsErrOf result store.Device → before < now
+
+-- what a call refuses, and neither a disk that failed nor want of memory
+abbrev pub is_refusal : StoreFault → Bool
+is_refusal store.NoChunk = true
+is_refusal store.Version = true
+is_refusal store.OldSerial = true
+is_refusal store.Corrupt = true
+is_refusal store.NoRoom = true
+is_refusal store.Device = false
+is_refusal store.NoMemory = false
+
+abbrev pub IsRefused : {T : Type 0} → Result T StoreFault → Type 0
+IsRefused result = IsErrAnd result (λ fault. is_refusal fault ≡ true)

@@ -1,4 +1,2 @@
 pub mod Faults
-pub mod Images
-pub mod Mutations
 pub mod Stores

@@ -4,45 +4,19 @@ ghost use Rattle.std.specs.Prelude.{◌≡◌, ◌≢◌, ◌≤◌, ◌+◌, �
 ghost use Rattle.replica_store.specs.declared.row.Row.{Row};
 ghost use Rattle.replica_store.specs.Replicas.{ServerDisk, disk_changed, is_writable_at, row_at};
 ghost use Rattle.store_writes.specs.Writing.{IsNoticedAt, LeavesWritten};
-ghost use Rattle.chunk_store.specs.Faults.{MayFail};
-ghost use Rattle.chunk_store.specs.Mutations.{bytes_of as bytes_value, change_of, place_of as place_value};
+ghost use Rattle.chunk_store.specs.Faults.{IsRefused, MayFail};
+ghost use Rattle.store_changes.specs.Mutations.{bytes_of as bytes_value, change_of, place_of as place_value};
 ghost use Rattle.chunk_store.specs.Stores.{IsOpen};
 ghost use Rattle.chunk_store.specs.declared.fault.StoreFault.TheVariants as faults;
 
 use crate::fault::StoreFault;
 use crate::store::Store;
-use bytes::Bytes;
 use disk::Disk;
 use gfs_types::ids::{Handle, Serial, Version};
 use gfs_types::mutation::Mutation;
-use std::alloc::{AllocError, Global};
+use std::alloc::Global;
+use store_changes::{bytes_of, place_of};
 use store_writes::write;
-
-// Where the bytes of a mutation go.
-fn place_of(mutation: &Mutation) -> u64
-    ensures { result ≡ place_value mutation.now }
-{
-    match mutation {
-        Mutation::Write(offset, _) => *offset,
-        Mutation::Append(offset, _) => *offset,
-        Mutation::Pad(offset) => *offset,
-    }
-}
-
-// The bytes that a mutation puts there: a pad has zeros up to the chunk's end.
-fn bytes_of(alloc: Global, chunk: u32, mutation: &Mutation) -> Result<Bytes, AllocError>
-    requires { place_value mutation.now ≤ chunk }
-    ensures { IfOk result (λ bytes. bytes ≡ bytes_value chunk mutation.now) }
-{
-    match mutation {
-        Mutation::Write(_, bytes) => Ok(bytes.clone()?),
-        Mutation::Append(_, bytes) => Ok(bytes.clone()?),
-        Mutation::Pad(offset) => {
-            let zeros = vec![in alloc; 0; (chunk as u64 - *offset) as usize]?;
-            Ok(Bytes::from_vec(zeros)?)
-        }
-    }
-}
 
 impl<D: Disk> Store<D> {
     /// Applies a mutation to a replica of exactly this version, where its serial is greater than the last one. Before part of a block is written over, the first and the last block of the range are checked.
@@ -65,9 +39,9 @@ impl<D: Disk> Store<D> {
             → (IsErrOf result faults.OldSerial ↔ (row : Row) × (row_at d handle.0 ≡ Some row) × (row.version ≡ version) × (serial.0 ≤ row.serial.0)) }
         ensures corrupt { (d : ServerDisk) → IsOpen D.seen D.may_leave self.old d → IsErrOf result faults.Corrupt
             → is_writable_at d handle.0 (place_value mutation.now) (place_value mutation.now + length (bytes_value self.old.layout.chunk mutation.now)) ≡ false }
-        // A block that doesn't match changes nothing, and the store stays open.
-        ensures refused { (d : ServerDisk) → IsOpen D.seen D.may_leave self.old d → IsErrOf result faults.Corrupt → IsOpen D.seen D.may_leave self.new d }
+        ensures refused { (d : ServerDisk) → IsOpen D.seen D.may_leave self.old d → IsRefused result → IsOpen D.seen D.may_leave self.new d }
         ensures any_moment { LeavesWritten D.seen D.moment D.left_since self.old.layout.chunk self.old.layout.block self.old.layout.slots self.old.disk self.new.disk self.old.index handle.0 (change_of self.old.layout.chunk handle serial mutation.now) }
+        ensures layout { self.new.layout ≡ self.old.layout }
         ensures cause { MayFail (D.failed self.old.disk) (D.failed self.new.disk) result }
     {
         let found = match self.find(handle, version) {

@@ -4,7 +4,7 @@ ghost use Rattle.std.specs.Prelude.{◌≡◌, ◌≢◌, ◌↔◌, OnOk, IsErr
 ghost use Rattle.replica_store.specs.declared.change.StoreChange.TheVariants.{Raise, Remove, SetOrder};
 ghost use Rattle.replica_store.specs.declared.row.Row.{Row};
 ghost use Rattle.replica_store.specs.Replicas.{ServerDisk, disk_changed, row_at};
-ghost use Rattle.chunk_store.specs.Faults.{MayFail};
+ghost use Rattle.chunk_store.specs.Faults.{IsRefused, MayFail};
 ghost use Rattle.chunk_store.specs.Stores.{IsOpen, LeavesChange};
 ghost use Rattle.chunk_store.specs.declared.fault.StoreFault.TheVariants as faults;
 
@@ -21,6 +21,7 @@ impl<D: Disk> Store<D> {
         requires is_open { (d : ServerDisk) × IsOpen D.seen D.may_leave self.old d }
         ensures ok { (d : ServerDisk) → IsOpen D.seen D.may_leave self.old d → OnOk result (IsOpen D.seen D.may_leave self.new (disk_changed d (SetOrder order))) }
         ensures any_moment { LeavesChange D.seen D.moment D.left_since self.old self.new (SetOrder order) }
+        ensures layout { self.new.layout ≡ self.old.layout }
         ensures cause { MayFail (D.failed self.old.disk) (D.failed self.new.disk) result }
     {
         set_order(alloc, &mut self.disk, self.layout, order)?;
@@ -40,8 +41,9 @@ impl<D: Disk> Store<D> {
         ensures ok { (d : ServerDisk) → IsOpen D.seen D.may_leave self.old d → OnOk result (IsOpen D.seen D.may_leave self.new (disk_changed d (Raise handle version))) }
         ensures no_chunk { (d : ServerDisk) → IsOpen D.seen D.may_leave self.old d → (IsErrOf result faults.NoChunk ↔ row_at d handle.0 ≡ None) }
         ensures version { (d : ServerDisk) → IsOpen D.seen D.may_leave self.old d → (IsErrOf result faults.Version ↔ (row : Row) × (row_at d handle.0 ≡ Some row) × (row.version ≢ base)) }
-        ensures unchanged { IsErrOf result faults.Version → self.new ≡ self.old }
+        ensures refused { (d : ServerDisk) → IsOpen D.seen D.may_leave self.old d → IsRefused result → IsOpen D.seen D.may_leave self.new d }
         ensures any_moment { LeavesChange D.seen D.moment D.left_since self.old self.new (Raise handle version) }
+        ensures layout { self.new.layout ≡ self.old.layout }
         ensures cause { MayFail (D.failed self.old.disk) (D.failed self.new.disk) result }
     {
         let found = match self.find(handle, base) {
@@ -65,7 +67,9 @@ impl<D: Disk> Store<D> {
         requires is_open { (d : ServerDisk) × IsOpen D.seen D.may_leave self.old d }
         ensures ok { (d : ServerDisk) → IsOpen D.seen D.may_leave self.old d → OnOk result (IsOpen D.seen D.may_leave self.new (disk_changed d (Remove handle))) }
         ensures no_chunk { (d : ServerDisk) → IsOpen D.seen D.may_leave self.old d → (IsErrOf result faults.NoChunk ↔ row_at d handle.0 ≡ None) }
+        ensures refused { (d : ServerDisk) → IsOpen D.seen D.may_leave self.old d → IsRefused result → IsOpen D.seen D.may_leave self.new d }
         ensures any_moment { LeavesChange D.seen D.moment D.left_since self.old self.new (Remove handle) }
+        ensures layout { self.new.layout ≡ self.old.layout }
         ensures cause { MayFail (D.failed self.old.disk) (D.failed self.new.disk) result }
     {
         let Some(found) = self.index.get(handle) else {

@@ -1,10 +1,10 @@
 //! New replicas.
 
-ghost use Rattle.std.specs.Prelude.{◌≡◌, ◌≤◌, ◌↔◌, [], length, OnOk, IsErrOf, Some};
+ghost use Rattle.std.specs.Prelude.{◌≡◌, ◌≤◌, ◌↔◌, true, [], length, OnOk, IsErrOf, None, Some};
 ghost use Rattle.replica_store.specs.declared.change.StoreChange.TheVariants.{Put};
 ghost use Rattle.replica_store.specs.declared.row.Row.{Row};
-ghost use Rattle.replica_store.specs.Replicas.{ServerDisk, disk_changed, row_at};
-ghost use Rattle.chunk_store.specs.Faults.{MayFail};
+ghost use Rattle.replica_store.specs.Replicas.{ServerDisk, disk_changed, is_disk_full, row_at};
+ghost use Rattle.chunk_store.specs.Faults.{IsRefused, MayFail};
 ghost use Rattle.chunk_store.specs.Stores.{IsOpen, LeavesChange};
 ghost use Rattle.chunk_store.specs.declared.fault.StoreFault.TheVariants as faults;
 
@@ -30,9 +30,13 @@ impl<D: Disk> Store<D> {
         requires within { length bytes.now ≤ self.old.layout.chunk }
         ensures ok { (d : ServerDisk) → IsOpen D.seen D.may_leave self.old d → OnOk result (IsOpen D.seen D.may_leave self.new (disk_changed d (Put handle version serial bytes.now))) }
         ensures version { (d : ServerDisk) → IsOpen D.seen D.may_leave self.old d → (IsErrOf result faults.Version ↔ (row : Row) × (row_at d handle.0 ≡ Some row)) }
-        ensures no_room { IsErrOf result faults.NoRoom → self.old.index.free ≡ [] }
+        ensures no_room { (d : ServerDisk) → IsOpen D.seen D.may_leave self.old d
+            → (IsErrOf result faults.NoRoom ↔ (row_at d handle.0 ≡ None) × (is_disk_full self.old.layout.slots d ≡ true)) }
         ensures no_chunk { IsErrOf result faults.NoChunk → ⊥ }
+        ensures intact { IsErrOf result faults.Corrupt → ⊥ }
+        ensures refused { (d : ServerDisk) → IsOpen D.seen D.may_leave self.old d → IsRefused result → IsOpen D.seen D.may_leave self.new d }
         ensures any_moment { LeavesChange D.seen D.moment D.left_since self.old self.new (Put handle version serial bytes.now) }
+        ensures layout { self.new.layout ≡ self.old.layout }
         ensures cause { MayFail (D.failed self.old.disk) (D.failed self.new.disk) result }
     {
         if self.index.get(handle).is_some() {
@@ -60,8 +64,11 @@ impl<D: Disk> Store<D> {
         requires is_open { (d : ServerDisk) × IsOpen D.seen D.may_leave self.old d }
         ensures ok { (d : ServerDisk) → IsOpen D.seen D.may_leave self.old d → OnOk result (IsOpen D.seen D.may_leave self.new (disk_changed d (Put handle version (record { 0 = 0 }) []))) }
         ensures version { (d : ServerDisk) → IsOpen D.seen D.may_leave self.old d → (IsErrOf result faults.Version ↔ (row : Row) × (row_at d handle.0 ≡ Some row)) }
-        ensures no_room { IsErrOf result faults.NoRoom → self.old.index.free ≡ [] }
+        ensures no_room { (d : ServerDisk) → IsOpen D.seen D.may_leave self.old d
+            → (IsErrOf result faults.NoRoom ↔ (row_at d handle.0 ≡ None) × (is_disk_full self.old.layout.slots d ≡ true)) }
+        ensures refused { (d : ServerDisk) → IsOpen D.seen D.may_leave self.old d → IsRefused result → IsOpen D.seen D.may_leave self.new d }
         ensures any_moment { LeavesChange D.seen D.moment D.left_since self.old self.new (Put handle version (record { 0 = 0 }) []) }
+        ensures layout { self.new.layout ≡ self.old.layout }
         ensures cause { MayFail (D.failed self.old.disk) (D.failed self.new.disk) result }
     {
         self.install(alloc, handle, version, Serial(0), &[])

@@ -3,11 +3,13 @@
 
 mod applying;
 mod changing;
+mod copying;
 mod creating;
 mod fault;
 mod looking;
 mod opening;
 mod reading;
+mod rotting;
 mod store;
 
 pub use fault::StoreFault;

@@ -5,6 +5,7 @@ ghost use Rattle.std.specs.FinMap as map;
 ghost use Rattle.std.specs.Option.{option_map};
 ghost use Rattle.replica_store.specs.declared.row.Row.{Row};
 ghost use Rattle.replica_store.specs.Replicas.{ServerDisk, row_at};
+ghost use Rattle.stored_replicas.specs.Rows.{rows_of};
 ghost use Rattle.chunk_store.specs.declared.fault.StoreFault.TheVariants as faults;
 ghost use Rattle.chunk_store.specs.Stores.{IsOpen};
 
@@ -14,6 +15,7 @@ use disk::Disk;
 use gfs_types::ids::{Handle, OrderNo, Version};
 use replica_store::row::Row;
 use slot_index::HeldReplica;
+use std::alloc::{AllocError, Global};
 
 impl<D: Disk> Store<D> {
     // Where a replica of exactly this version lies.
@@ -51,6 +53,13 @@ impl<D: Disk> Store<D> {
     {
         let row = self.row(handle)?;
         Some(row.count)
+    }
+
+    /// Each replica's handle, with its version, its last serial and how many bytes it has, in rising handle. At an error memory was refused.
+    pub fn list(&self, alloc: Global) -> Result<Vec<(Handle, Row)>, AllocError>
+        ensures { (d : ServerDisk) → IsOpen D.seen D.may_leave self.now d → IfOk result (λ rows. rows.items ≡ rows_of d) }
+    {
+        self.index.list(alloc)
     }
 
     /// The number of the last order that was taken.

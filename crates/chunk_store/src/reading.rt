@@ -5,7 +5,7 @@ ghost use Rattle.gated_disk.specs.Moments.{OnlyReads};
 ghost use Rattle.replica_store.specs.declared.row.Row.{Row};
 ghost use Rattle.replica_store.specs.Replicas.{ServerDisk, read_at, row_at};
 ghost use Rattle.chunk_store.specs.Faults.{MayFail};
-ghost use Rattle.chunk_store.specs.Images.{image_at};
+ghost use Rattle.store_reads.specs.Images.{image_at};
 ghost use Rattle.chunk_store.specs.Stores.{IsOpen};
 ghost use Rattle.chunk_store.specs.declared.fault.StoreFault.TheVariants as faults;
 
@@ -33,6 +33,8 @@ impl<D: Disk> Store<D> {
         ensures no_chunk { (d : ServerDisk) → IsOpen D.seen D.may_leave self.old d → (IsErrOf result faults.NoChunk ↔ row_at d handle.0 ≡ None) }
         ensures version { (d : ServerDisk) → IsOpen D.seen D.may_leave self.old d → (IsErrOf result faults.Version ↔ (row : Row) × (row_at d handle.0 ≡ Some row) × (row.version ≢ version)) }
         ensures corrupt { (d : ServerDisk) → IsOpen D.seen D.may_leave self.old d → IsErrOf result faults.Corrupt → read_at d handle.0 offset count ≡ None }
+        ensures no_room { IsErrOf result faults.NoRoom → ⊥ }
+        ensures unchanged { self.new ≡ record self.old { disk = self.new.disk } }
         ensures reads { OnlyReads D.seen D.may_leave D.moment D.left_since self.old.disk self.new.disk }
         ensures cause { MayFail (D.failed self.old.disk) (D.failed self.new.disk) result }
     {
@@ -60,6 +62,8 @@ impl<D: Disk> Store<D> {
         ensures no_chunk { (d : ServerDisk) → IsOpen D.seen D.may_leave self.old d → (IsErrOf result faults.NoChunk ↔ row_at d handle.0 ≡ None) }
         ensures version { (d : ServerDisk) → IsOpen D.seen D.may_leave self.old d → (IsErrOf result faults.Version ↔ (row : Row) × (row_at d handle.0 ≡ Some row) × (row.version ≢ version)) }
         ensures corrupt { (d : ServerDisk) → IsOpen D.seen D.may_leave self.old d → IsErrOf result faults.Corrupt → image_at d handle.0 ≡ None }
+        ensures no_room { IsErrOf result faults.NoRoom → ⊥ }
+        ensures unchanged { self.new ≡ record self.old { disk = self.new.disk } }
         ensures reads { OnlyReads D.seen D.may_leave D.moment D.left_since self.old.disk self.new.disk }
         ensures cause { MayFail (D.failed self.old.disk) (D.failed self.new.disk) result }
     {

@@ -1,6 +1,9 @@
 //! The store over its disk.
 
 ghost use Rattle.std.specs.Prelude.{◌≡◌};
+ghost use Rattle.gated_disk.specs.Moments.{OnlyReads};
+ghost use Rattle.replica_store.specs.Replicas.{ServerDisk};
+ghost use Rattle.chunk_store.specs.Stores.{IsOpen};
 
 use disk::Disk;
 use gfs_types::ids::OrderNo;
@@ -22,5 +25,15 @@ impl<D: Disk> Store<D> {
         ensures { result ≡ self.disk }
     {
         self.disk
+    }
+
+    /// Lets that many calls of the disk pass and fails each later one, where the disk can be told to fail. The store stays as it is.
+    pub fn arm(&mut self, calls: u64)
+        ensures still_open { (d : ServerDisk) → IsOpen D.seen D.may_leave self.old d → IsOpen D.seen D.may_leave self.new d }
+        ensures unchanged { self.new ≡ record self.old { disk = self.new.disk } }
+        ensures reads { OnlyReads D.seen D.may_leave D.moment D.left_since self.old.disk self.new.disk }
+        ensures failed { D.failed self.new.disk ≡ D.failed self.old.disk }
+    {
+        self.disk.arm(calls);
     }
 }

@@ -3,6 +3,7 @@ use Rattle.std.specs.Prelude.{ℕ, List, [], ◌∷◌, Option, None, Some}
 use Rattle.std.specs.BTreeSet.{insert_key}
 use Rattle.std.specs.FinMap as map
 use Rattle.std.specs.Ordering.{nat_cmp}
+use Rattle.gfs_types.specs.declared.ids.Handle.{Handle}
 use Rattle.replica_store.specs.declared.row.Row.{Row}
 use Rattle.slot_index.specs.declared.held.HeldReplica.{HeldReplica}
 
@@ -20,3 +21,7 @@ index_with x handle row (slot ∷ rest) = record { held = map.insert x.held hand
 abbrev pub index_without : IndexState → ℕ → Option HeldReplica → IndexState
 index_without x handle None = x
 index_without x handle (Some found) = record { held = map.remove x.held handle; free = insert_key nat_cmp x.free found.slot }
+
+-- a replica that is listed
+abbrev pub row_in : ℕ × HeldReplica → Handle × Row
+row_in e = (record { 0 = e.0 }, e.1.row)

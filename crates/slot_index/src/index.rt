@@ -1,17 +1,17 @@
 //! The replicas of a disk, by handle.
 
-ghost use Rattle.std.specs.Prelude.{◌≡◌, slice_get, IfOk, OnErr, OnOk};
+ghost use Rattle.std.specs.Prelude.{◌≡◌, ◌≢◌, [], map as mapped, slice_get, IfOk, OnErr, OnOk};
 ghost use Rattle.std.specs.BTreeMap.{is_at};
 ghost use Rattle.std.specs.FinMap as map;
 ghost use Rattle.std.specs.List.{range_with_len};
 ghost use Rattle.std.specs.Ordering.{nat_cmp};
 ghost use Rattle.std.specs.Set.{remove_key};
-ghost use Rattle.slot_index.specs.Index.{index_with, index_without};
+ghost use Rattle.slot_index.specs.Index.{index_with, index_without, row_in};
 
 use crate::free_slots::FreeSlots;
 use crate::held::HeldReplica;
 use gfs_types::ids::Handle;
-use number_map::NumberMap;
+use ordered_map::OrderedMap;
 use replica_store::row::Row;
 use std::alloc::{AllocError, Global};
 use std::marker::Model;
@@ -19,7 +19,7 @@ use std::marker::Model;
 /// What is known of each replica, by handle, and the slots that none lies in. Each call takes O(log n).
 #[derive(Drop)]
 pub struct SlotIndex {
-    held: NumberMap<HeldReplica>,
+    held: OrderedMap<HeldReplica>,
     free: FreeSlots,
 }
 
@@ -41,7 +41,7 @@ impl SlotIndex {
         ensures { IfOk result (λ x. x ≡ record { held = map.empty; free = range_with_len 0 slots }) }
     {
         Ok(SlotIndex {
-            held: NumberMap::new(alloc),
+            held: OrderedMap::new(alloc),
             free: FreeSlots::all(alloc, slots)?,
         })
     }
@@ -53,11 +53,23 @@ impl SlotIndex {
         self.held.get(handle.0).copied()
     }
 
-    /// A new replica, in the lowest free slot, which is told; `None` where no slot is free.
+    /// What is known of each replica, in rising handle.
+    pub fn list(&self, alloc: Global) -> Result<Vec<(Handle, Row)>, AllocError>
+        ensures { IfOk result (λ rows. rows.items ≡ mapped row_in (map.entries self.now.held)) }
+    {
+        let mut rows = Vec::new(alloc);
+        for (handle, found) in self.held.iter() {
+            rows.push((Handle(*handle), found.row))?;
+        }
+        Ok(rows)
+    }
+
+    /// A new replica, in the lowest free slot, which is told; `None` where no slot is free. Memory is needed only where one is.
     pub fn add(&mut self, handle: Handle, row: Row) -> Result<Option<u32>, AllocError>
         ensures slot { IfOk result (λ slot. slot ≡ slice_get self.old.free 0) }
         ensures ok { OnOk result (self.new ≡ index_with self.old handle.0 row self.old.free) }
         ensures err { OnErr result (self.new ≡ self.old) }
+        ensures room { OnErr result (self.old.free ≢ []) }
     {
         let Some(slot) = self.free.lowest() else {
             return Ok(None);

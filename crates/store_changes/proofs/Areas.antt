@@ -1,14 +1,11 @@
 -- The redo area of a chunkserver's disk.
-use Rattle.std.proofs.Common.{◌≡◌, ℕ, ◌+◌, ◌*◌, ◌<◌, ◌≤◌, ◌^◌, Bool, true, false, ◌&&◌, List, [], ◌∷◌, ◌++◌, length, sym, ap, ◌∙◌, if◌then◌else◌, arith, length-append}
-use Rattle.std.specs.Prelude.{nat_le}
+use Rattle.std.proofs.Common.{◌≡◌, ℕ, ◌+◌, ◌*◌, ◌≤◌, false, List, [], ◌∷◌, ◌++◌, length, ap, ◌∙◌, if◌then◌else◌, arith}
 use Rattle.std.proofs.lemmas.List.{append-nil}
 use Rattle.std.proofs.lemmas.Bool.Decides.{nat_tests}
 use Rattle.redo_area.proofs.Applied.{length_blanked}
 use Rattle.redo_area.specs.Redo.{FitsArea, IsAreaOf, blanked, is_open, redo_in, redone, stands_for}
 use Rattle.redo_area.specs.declared.range.RedoArea.{RedoArea}
-use Rattle.redo_area.specs.declared.range.RedoRange.{RedoRange}
 use Rattle.store_changes.specs.Areas.{area_of}
-use Rattle.store_format.proofs.Slots.{slots_behind}
 use Rattle.store_layout.specs.Places.{blocks_of, disk_size, redo_size, slot_place}
 
 -- what a disk at rest stands for has its size

@@ -2,3 +2,4 @@ pub mod Areas
 pub mod Made
 pub mod Slots
 pub mod Puts
+pub mod Mutated

@@ -1,5 +1,5 @@
 -- What a change leaves.
-use Rattle.std.proofs.Common.{◌≡◌, ◌⊎◌, inl, inr, ℕ, ◌+◌, ◌≤◌, List, length, sym, ap, ◌∙◌, subst}
+use Rattle.std.proofs.Common.{◌≡◌, ◌⊎◌, inl, inr, ℕ, List, sym, subst}
 use Rattle.disk.specs.Device.{Only}
 use Rattle.gated_disk.proofs.Moments.{started}
 use Rattle.redo_area.proofs.Whole.{stands_as}

@@ -1,5 +1,5 @@
 -- A new replica, on a disk at rest.
-use Rattle.std.proofs.Common.{◌≡◌, ℕ, ◌+◌, ◌*◌, ◌/◌, ◌<◌, ◌≤◌, Bool, false, List, [], ◌∷◌, length, refl, sym, ap, ◌∙◌, subst, arith, None, Some}
+use Rattle.std.proofs.Common.{◌≡◌, ℕ, ◌<◌, ◌≤◌, false, List, [], ◌∷◌, length, sym, subst, arith, None}
 use Rattle.std.specs.FinMap as map
 use Rattle.redo_area.specs.Redo.{FitsArea, is_open, stands_for}
 use Rattle.redo_area.specs.Changes.{applied}
@@ -13,7 +13,7 @@ use Rattle.store_changes.specs.Changing.{Says}
 use Rattle.store_changes.proofs.Areas.{rest_size}
 use Rattle.store_changes.proofs.Slots.{slot_range_fits}
 use Rattle.store_header.specs.Fields.{FitsHeader}
-use Rattle.store_layout.specs.Places.{disk_size, slot_place, slot_size}
+use Rattle.store_layout.specs.Places.{disk_size, slot_place}
 use Rattle.stored_replicas.specs.Stored.{IsDiskOf, header_of, slot_bytes}
 use Rattle.stored_replicas.proofs.Puts.{length_slot}
 use Rattle.stored_replicas.proofs.Stores.{put_stored}

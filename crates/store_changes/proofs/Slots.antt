@@ -1,5 +1,5 @@
 -- A change of one slot, on a disk at rest.
-use Rattle.std.proofs.Common.{◌≡◌, ℕ, ◌+◌, ◌*◌, ◌<◌, ◌≤◌, Bool, false, List, [], ◌∷◌, length, sym, ap, ◌∙◌, subst, arith, None, Some}
+use Rattle.std.proofs.Common.{◌≡◌, ℕ, ◌<◌, ◌≤◌, false, List, [], ◌∷◌, length, sym, subst, arith, Some}
 use Rattle.std.specs.FinMap as map
 use Rattle.redo_area.specs.Redo.{FitsArea, is_open, stands_for}
 use Rattle.redo_area.specs.Changes.{applied}
@@ -10,10 +10,10 @@ use Rattle.slot_index.specs.Index.{IndexState, index_without}
 use Rattle.slot_index.specs.declared.held.HeldReplica.{HeldReplica}
 use Rattle.store_changes.specs.Areas.{area_of}
 use Rattle.store_changes.specs.Changing.{Says}
-use Rattle.store_changes.proofs.Areas.{length_at_rest, one_fits, rest_size}
+use Rattle.store_changes.proofs.Areas.{one_fits, rest_size}
 use Rattle.store_format.proofs.Slots.{slot_before}
 use Rattle.store_header.specs.Fields.{FitsHeader, header_bytes}
-use Rattle.store_layout.specs.Places.{blocks_of, disk_size, slot_place, slot_size}
+use Rattle.store_layout.specs.Places.{disk_size, slot_place, slot_size}
 use Rattle.stored_replicas.specs.Stored.{IsDiskOf, header_of, raised_row}
 use Rattle.stored_replicas.proofs.Stores.{raise_stored, remove_stored, slot_fits}
 

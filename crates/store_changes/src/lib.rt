@@ -2,12 +2,14 @@
 #![tactic(auto)]
 
 mod making;
+mod mutations;
 mod orders;
 mod putting;
 mod raising;
 mod removing;
 
 pub use making::{change, one_range};
+pub use mutations::{bytes_of, place_of};
 pub use orders::set_order;
 pub use putting::put_in_slot;
 pub use raising::raise;

@@ -1,11 +1,11 @@
 -- The places of some blocks of a slot.
-use Rattle.std.proofs.Common.{◌≡◌, ℕ, suc, ◌+◌, ◌-◌, ◌*◌, ◌/◌, ◌%◌, ◌<◌, ◌≤◌, inl, inr, ap, ◌∙◌, arith}
+use Rattle.std.proofs.Common.{◌≡◌, ℕ, suc, ◌+◌, ◌-◌, ◌*◌, ◌/◌, ◌%◌, ◌<◌, ◌≤◌, inl, inr, ap, arith}
 use native.Mathlib.Nat.{add-mul, suc-mul}
 use Rattle.std.proofs.Math.Nat.{div-mul-le_self, lt-div-mul-add}
 use Rattle.std.proofs.lemmas.Bool.{cases_lt}
 use Rattle.std.proofs.lemmas.Nat.{div-add-mod', mul-le}
 use Rattle.store_format.proofs.Slots.{slot_before}
-use Rattle.store_layout.specs.Places.{blocks_of, data_place, digests_place, disk_size, slot_place, slot_size}
+use Rattle.store_layout.specs.Places.{blocks_of, data_place, digests_place, disk_size}
 
 module _ (chunk block slots slot first count : ℕ) (there : slot < slots) (within : first + count ≤ blocks_of chunk block) where
   pub run_parts : first * block + count * block ≤ chunk

@@ -1,22 +1,16 @@
 -- Blocks that are read with their digests.
-use Rattle.std.proofs.Common.{◌≡◌, ◌↔◌, inl, inr, ℕ, suc, ◌+◌, ◌-◌, ◌*◌, ◌/◌, ◌%◌, ◌<◌, ◌≤◌, Bool, true, false, if◌then◌else◌, ◌||◌, List, [], ◌++◌, length, take, drop, refl, sym, ap, ◌∙◌, subst, arith, Option, None, Some, length-append}
-use Rattle.std.specs.Prelude.{nat_le}
-use Rattle.std.specs.FinMap as map
+use Rattle.std.proofs.Common.{◌≡◌, ◌↔◌, ℕ, suc, ◌+◌, ◌-◌, ◌*◌, ◌/◌, ◌≤◌, Bool, true, false, if◌then◌else◌, List, ◌++◌, length, take, drop, refl, sym, ap, ◌∙◌, arith, None, Some}
 use native.Mathlib.Nat.{add-mul, suc-mul}
-use Rattle.std.proofs.Math.Nat.{div-mul-le_self, lt-div-mul-add}
-use Rattle.std.proofs.lemmas.Bool.Decides.{nat_tests}
-use Rattle.std.proofs.lemmas.List.{drop-append-le, drop-drop, drop_at, take_at}
+use Rattle.std.proofs.Math.Nat.{div-mul-le_self}
+use Rattle.std.proofs.lemmas.List.{drop_at, take_at}
 use Rattle.std.proofs.lemmas.Nat.{div-mul-add, mul-le}
 use Rattle.block_digests.specs.Digests.{digests_of}
 use Rattle.disk.specs.Bytes.{range_at}
 use Rattle.gated_disk.proofs.Ranges.{range_range}
-use Rattle.replica_blocks.specs.Blocks.{RunMatches, chunk_on_disk}
+use Rattle.replica_blocks.specs.Blocks.{chunk_on_disk}
 use Rattle.replica_blocks.proofs.Digests.{digests_front, digests_split, length_digests}
-use Rattle.replica_blocks.proofs.Others.{length_others}
-use Rattle.replica_blocks.proofs.Puts.{length_filled}
-use Rattle.replica_blocks.proofs.ReadBytes.{read_is, read_none}
 use Rattle.replica_blocks.proofs.Runs.{run_is, touched_is}
-use Rattle.replica_store.specs.Replicas.{Replica, block_matches, blocks_match, filled_to, is_readable, read_bytes, read_end, read_from}
+use Rattle.replica_store.specs.Replicas.{Replica, blocks_match, filled_to}
 use Rattle.store_layout.specs.Places.{blocks_of, data_place, digests_place, slot_place, slot_size}
 use Rattle.store_reads.specs.Reading.{checked_part}
 use Rattle.stored_replicas.specs.Stored.{Holds}

@@ -2,3 +2,4 @@ pub mod Bounds
 pub mod Checked
 pub mod Ranges
 pub mod Rested
+pub mod Imaged

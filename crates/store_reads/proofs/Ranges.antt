@@ -1,19 +1,19 @@
 -- A range of the bytes of its blocks.
-use Rattle.std.proofs.Common.{◌≡◌, ℕ, suc, ◌+◌, ◌-◌, ◌*◌, ◌/◌, ◌%◌, ◌<◌, ◌≤◌, Bool, true, false, if◌then◌else◌, not, ◌&&◌, ◌||◌, List, [], length, take, drop, refl, sym, ap, ◌∙◌, arith, Option, None, Some}
+use Rattle.std.proofs.Common.{◌≡◌, ℕ, suc, ◌+◌, ◌-◌, ◌*◌, ◌/◌, ◌%◌, ◌<◌, ◌≤◌, Bool, true, false, if◌then◌else◌, not, ◌&&◌, ◌||◌, List, [], length, refl, sym, ap, ◌∙◌, arith, Option, None, Some}
 use Rattle.std.specs.Prelude.{nat_le}
 use Rattle.std.specs.FinMap as map
 use Rattle.std.specs.List.{list_any}
 use Rattle.std.proofs.lemmas.Bool.Decides.{nat_tests}
 use Rattle.std.proofs.lemmas.Nat.{div-add-mod', div-mul-add, mul-le}
 use native.Mathlib.Nat.{suc-mul}
-use Rattle.std.proofs.Math.Nat.{div-mul-le_self, lt-div-mul-add}
+use Rattle.std.proofs.Math.Nat.{div-mul-le_self}
 use Rattle.disk.specs.Bytes.{range_at}
 use Rattle.gated_disk.proofs.Ranges.{range_range}
 use Rattle.replica_blocks.specs.Blocks.{chunk_on_disk}
 use Rattle.replica_blocks.proofs.Others.{length_others}
 use Rattle.replica_blocks.proofs.Puts.{length_filled}
 use Rattle.replica_blocks.proofs.ReadBytes.{read_is, read_none}
-use Rattle.replica_store.specs.Replicas.{Replica, ServerDisk, block_matches, blocks_match, filled_to, is_readable, read_at, read_bytes, read_end, read_from, replica_of}
+use Rattle.replica_store.specs.Replicas.{Replica, ServerDisk, block_matches, blocks_match, filled_to, read_at, read_bytes, read_end, read_from, replica_of}
 use Rattle.store_reads.specs.Reading.{checked_part}
 use Rattle.store_reads.proofs.Bounds.{first_last, range_within, run_bytes, run_within}
 

@@ -1,5 +1,5 @@
 -- A slot of a disk at rest.
-use Rattle.std.proofs.Common.{◌≡◌, ℕ, ◌+◌, ◌<◌, ◌≤◌, Bool, false, if◌then◌else◌, List, length, replicate, sym, ap, subst, arith}
+use Rattle.std.proofs.Common.{◌≡◌, ℕ, ◌<◌, ◌≤◌, false, if◌then◌else◌, List, length, replicate, sym, ap, subst, arith}
 use Rattle.std.proofs.lemmas.List.{length-replicate}
 use Rattle.disk.specs.Bytes.{put_at}
 use Rattle.redo_area.specs.Moments.{KeepsAt, is_outside}
@@ -9,7 +9,7 @@ use Rattle.replica_store.specs.Replicas.{Replica}
 use Rattle.store_changes.specs.Areas.{area_of}
 use Rattle.store_changes.proofs.Areas.{rest_size}
 use Rattle.store_format.proofs.Slots.{slot_before}
-use Rattle.store_layout.specs.Places.{disk_size, redo_size, slot_place, slot_size}
+use Rattle.store_layout.specs.Places.{disk_size, redo_size}
 use Rattle.stored_replicas.specs.Stored.{Holds}
 use Rattle.stored_replicas.proofs.Slots.{KeepsSlot, holds_same}
 

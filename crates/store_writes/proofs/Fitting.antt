@@ -18,7 +18,7 @@ use Rattle.store_format.proofs.Slots.{slot_before}
 use Rattle.store_header.specs.Fields.{header_bytes}
 use Rattle.store_layout.specs.Places.{blocks_of, data_place, digests_place, disk_size, redo_size, slot_place, slot_size}
 use Rattle.store_reads.proofs.Bounds.{run_within}
-use Rattle.store_writes.specs.Edging.{edges_around}
+use Rattle.store_edges.specs.Edging.{edges_around}
 use Rattle.store_writes.specs.Writing.{header_range_of, ranges_of, touched, written_ranges}
 use Rattle.stored_replicas.specs.Stored.{header_of}
 

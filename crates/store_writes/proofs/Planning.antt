@@ -13,11 +13,11 @@ use Rattle.replica_blocks.proofs.Puts.{length_filled}
 use Rattle.replica_store.specs.Replicas.{Replica, ServerDisk, block_matches, filled_to, is_writable, is_writable_at, replica_of, writable_in}
 use Rattle.replica_store.specs.declared.row.Row.{Row}
 use Rattle.store_reads.proofs.Bounds.{first_last}
-use Rattle.store_writes.specs.Edging.{block_at, checked_edges, edges_around}
+use Rattle.store_edges.specs.Edging.{block_at, checked_edges, edges_around}
 use Rattle.store_writes.specs.Writing.{checked_ranges, header_range_of, ranges_of, written_ranges}
-use Rattle.store_writes.specs.declared.edges.Edges.{Edges}
-use Rattle.store_writes.proofs.Ends.{to_within}
-use Rattle.store_writes.proofs.Pairs.{mod_less}
+use Rattle.store_edges.specs.declared.edges.Edges.{Edges}
+use Rattle.store_edges.proofs.Ends.{to_within}
+use Rattle.store_edges.proofs.Pairs.{mod_less}
 
 -- tests of what may be there
 module _ {A : Type 0} (x : A) where

@@ -23,9 +23,9 @@ use Rattle.store_header.specs.Fields.{FitsHeader, header_bytes}
 use Rattle.store_layout.specs.Places.{blocks_of, disk_size, slot_place, slot_size}
 use Rattle.stored_replicas.specs.Stored.{Holds, IsDiskOf, IsKnown, header_of}
 use Rattle.stored_replicas.proofs.Replicas.{replica_replaced}
-use Rattle.store_writes.specs.Edging.{edges_around}
+use Rattle.store_edges.specs.Edging.{edges_around}
 use Rattle.store_writes.specs.Writing.{header_range_of, ranges_of, touched, written_ranges, written_row}
-use Rattle.store_writes.proofs.Ends.{new_digests, run_end, run_within, to_within}
+use Rattle.store_edges.proofs.Ends.{new_digests, run_end, run_within, to_within}
 use Rattle.store_writes.proofs.Holding.{longer_holds, longer_keeps, written_holds, written_keeps}
 
 module _ (chunk block slots : ℕ) (index : IndexState) (disk : List ℕ) (d : ServerDisk) (size : disk_size chunk block slots ≤ length disk) (is : IsDiskOf chunk block slots index disk d)

@@ -1,2 +1,2 @@
-pub mod Edging
 pub mod Writing
+pub mod Rotting

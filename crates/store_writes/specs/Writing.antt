@@ -12,8 +12,8 @@ use Rattle.store_changes.specs.Areas.{area_of}
 use Rattle.store_changes.specs.Changing.{Says}
 use Rattle.store_header.specs.Fields.{header_bytes}
 use Rattle.store_layout.specs.Places.{data_place, digests_place, slot_place}
-use Rattle.store_writes.specs.Edging.{edges_around}
-use Rattle.store_writes.specs.declared.edges.Edges.{Edges}
+use Rattle.store_edges.specs.Edging.{edges_around}
+use Rattle.store_edges.specs.declared.edges.Edges.{Edges}
 use Rattle.stored_replicas.specs.Stored.{IsStored, header_of}
 
 -- No byte of the replica has changed unnoticed.

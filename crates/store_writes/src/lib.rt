@@ -1,9 +1,9 @@
-//! Writing over a part of a replica on a disk: what stays of the first and the last block is checked before they get new digests.
+//! Writing over a part of a replica on a disk, and a byte of one that rots.
 #![tactic(auto)]
 
-mod edges;
 mod ranges;
+mod rotting;
 mod writing;
 
-pub use edges::{Edges, read_edges};
+pub use rotting::rot;
 pub use writing::write;

@@ -7,7 +7,6 @@ ghost use Rattle.store_layout.specs.Places.{blocks_of};
 ghost use Rattle.store_writes.specs.Writing.{header_range_of, written_ranges};
 ghost use Rattle.stored_replicas.specs.Stored.{header_of as header_value};
 
-use crate::edges::Edges;
 use block_digests::digests_of_blocks;
 use bytes::Bytes;
 use gfs_types::ids::Handle;
@@ -15,6 +14,7 @@ use redo_area::RedoRange;
 use replica_store::row::Row;
 use std::alloc::{AllocError, Global};
 use store_changes::one_range;
+use store_edges::Edges;
 use store_header::{SlotHeader, write_header};
 use store_layout::Layout;
 

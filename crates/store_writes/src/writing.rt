@@ -14,7 +14,6 @@ ghost use Rattle.store_layout.specs.Places.{disk_size};
 ghost use Rattle.store_writes.specs.Writing.{IsNoticedAt, LeavesWritten, checked_ranges as checked_value};
 ghost use Rattle.stored_replicas.specs.Stored.{Holds, header_of};
 
-use crate::edges::read_edges;
 use crate::ranges::{header_range, write_ranges};
 use bytes::Bytes;
 use disk::{Disk, DiskFault};
@@ -24,6 +23,7 @@ use replica_store::row::Row;
 use slot_index::{HeldReplica, SlotIndex};
 use std::alloc::Global;
 use store_changes::change;
+use store_edges::read_edges;
 use store_layout::Layout;
 
 // What is known of a replica after a mutation of this serial that ends there.

@@ -8,3 +8,6 @@ pub mod Puts
 pub mod Stores
 pub mod Keeping
 pub mod Blank
+pub mod Listed
+pub mod Counted
+pub mod Looked

@@ -1,5 +1,6 @@
 -- What stands in a map after one change.
-use Rattle.std.proofs.Common.{◌≡◌, ℕ, Bool, true, false, cond, refl, ap, ◌∙◌, Some, None, Ordering}
+use Rattle.std.proofs.Common.{◌≡◌, inl, inr, ℕ, Bool, true, false, cond, refl, sym, ap, ◌∙◌, Some, None, Ordering}
+use Rattle.std.proofs.lemmas.Bool.{cases_eq}
 use Rattle.std.specs.declared.cmp.Ordering.TheVariants.{Less, Equal, Greater}
 use Rattle.std.specs.FinMap as map
 use Rattle.std.specs.Ordering.{nat_cmp, eq_by_cmp, is_eq}
@@ -33,3 +34,10 @@ module _ {X : Type 0} (m : map.FinMap nat_cmp X) (k : ℕ) where
 
   pub kept_elsewhere : (q : ℕ) → (q ≡ k → ⊥) → map.get (map.remove m k) q ≡ map.get m q
   kept_elsewhere q not_same = map.get-remove nat_cmp_total m k q ∙ ap (λ b. cond b None (map.get m q)) (apart q k not_same)
+
+  -- what stands there already
+  pub insert_same : (v : X) → map.get m k ≡ Some v → map.insert m k v ≡ m
+  insert_same v there = map.same_map nat_cmp_total nat_cmp-IsAntisymmetric (map.insert m k v) m (λ q. elim (cases_eq q k) [
+    | inl same ↦ ap (λ (j : ℕ). map.get (map.insert m k v) j) same ∙ found_here v ∙ sym there ∙ sym (ap (λ (j : ℕ). map.get m j) same)
+    | inr other ↦ found_elsewhere v q other
+  ])

@@ -1,16 +1,13 @@
-use Rattle.std.proofs.Common.{◌≡◌, ℕ, ◌+◌, ◌≤◌, List, [], ◌∷◌, length, sym, ap, ◌∙◌, subst, arith}
+use Rattle.std.proofs.Common.{List, sym, ◌∙◌, subst}
 use Rattle.std.proofs.lemmas.Result.{on_ok_weaker}
 use Rattle.redo_area.specs.Changes.{applied}
 use Rattle.redo_area.specs.Redo.{stands_for}
 use Rattle.redo_area.specs.declared.range.RedoRange.{RedoRange}
 use Rattle.replica_store.specs.declared.change.StoreChange.TheVariants.{SetOrder}
-use Rattle.replica_store.specs.Replicas.{ServerDisk, disk_changed}
-use Rattle.slot_index.specs.Index.{IndexState}
+use Rattle.replica_store.specs.Replicas.{disk_changed}
 use Rattle.store_changes.specs.Areas.{area_of}
-use Rattle.store_changes.specs.Changing.{IsChanged, Says}
 use Rattle.store_changes.proofs.Areas.{rest_size}
 use Rattle.store_changes.proofs.Made.{change_made, nothing_made, says_so}
-use Rattle.store_header.specs.Fields.{order_bytes}
 use Rattle.stored_replicas.specs.Stored.{IsDiskOf}
 use Rattle.stored_replicas.proofs.Keeping.{order_stored}
 use Rattle.store_changes.proofs.orders.set_order.Goals as goal

@@ -1,4 +1,4 @@
-use Rattle.std.proofs.Common.{◌≡◌, ◌<◌, ◌≤◌, ℕ, List, [], ◌∷◌, length, sym, ap, ◌∙◌, subst, arith}
+use Rattle.std.proofs.Common.{List, length, sym, ◌∙◌, subst, arith}
 use Rattle.std.specs.FinMap as map
 use Rattle.std.proofs.lemmas.Result.{on_ok_weaker}
 use Rattle.redo_area.specs.Redo.{FitsArea}
@@ -10,7 +10,6 @@ use Rattle.store_changes.specs.Changing.{IsChanged}
 use Rattle.store_changes.proofs.Made.{change_made, nothing_made, says_so}
 use Rattle.store_changes.proofs.Slots.{raised, slot_range_fits, slot_there}
 use Rattle.store_header.specs.Fields.{header_bytes}
-use Rattle.store_layout.specs.Places.{slot_place, slot_size}
 use Rattle.stored_replicas.specs.Stored.{header_of, raised_row}
 use Rattle.store_changes.proofs.raising.raise.Goals as goal
 

@@ -1,4 +1,4 @@
-use Rattle.std.proofs.Common.{◌≡◌, ◌<◌, ◌≤◌, ℕ, List, [], ◌∷◌, length, sym, ap, ◌∙◌, subst, arith, Some}
+use Rattle.std.proofs.Common.{List, [], ◌∷◌, length, sym, ap, ◌∙◌, subst, arith, Some}
 use Rattle.std.proofs.lemmas.Result.{on_ok_weaker}
 use Rattle.redo_area.specs.Redo.{FitsArea}
 use Rattle.redo_area.specs.declared.range.RedoRange.{RedoRange}
@@ -8,7 +8,6 @@ use Rattle.store_changes.specs.Areas.{area_of}
 use Rattle.store_changes.specs.Changing.{IsChanged}
 use Rattle.store_changes.proofs.Made.{change_made, nothing_made, says_so}
 use Rattle.store_changes.proofs.Slots.{removed, slot_range_fits, slot_there}
-use Rattle.store_layout.specs.Places.{slot_place, slot_size}
 use Rattle.store_changes.proofs.removing.remove.Goals as goal
 
 pub remove_ranges-requires : goal.remove_ranges-requires

@@ -1,6 +1,6 @@
 use Rattle.std.proofs.Common.{ℕ, ◌+◌, List, sym, ap, ◌∙◌, arith, Some}
 use Rattle.redo_area.specs.declared.range.RedoRange.{RedoRange}
-use Rattle.store_writes.specs.Edging.{checked_edges}
+use Rattle.store_edges.specs.Edging.{checked_edges}
 use Rattle.store_writes.proofs.Planning.{after_long, before_long, empty_ranges, no_ranges, some_ranges}
 use Rattle.store_writes.proofs.writing.checked_ranges.Goals as goal
 

@@ -1,14 +1,11 @@
 use Rattle.std.proofs.Common.{ℕ, ◌+◌, List, length, refl, sym, ap, ◌∙◌, arith}
-use Rattle.redo_area.specs.Redo.{stands_for}
 use Rattle.replica_store.specs.Replicas.{is_writable_at}
-use Rattle.store_changes.specs.Areas.{area_of}
-use Rattle.store_changes.proofs.Made.{nothing_made}
 use Rattle.chunk_store.specs.Faults.{fault_of}
-use Rattle.chunk_store.specs.Mutations.{bytes_of, change_of}
+use Rattle.store_changes.specs.Mutations.{bytes_of, change_of}
 use Rattle.chunk_store.specs.declared.fault.StoreFault.TheVariants as faults
-use Rattle.chunk_store.proofs.Answered.{disk_no_chunk, disk_no_version, disk_not_corrupt, disk_not_old, handed_on, memory_no_chunk, memory_no_version, memory_not_corrupt, memory_not_old, never, not_corrupt, not_old}
-use Rattle.chunk_store.proofs.Applied.{applied_open, leaves_same, no_such}
-use Rattle.chunk_store.proofs.StillOpen.{no_row, one_row, row_held}
+use Rattle.chunk_store.proofs.Answered.{disk_never, handed_on, never, not_corrupt, not_old, not_refused}
+use Rattle.chunk_store.proofs.Applied.{applied_open, leaves_same, no_such, serial_there}
+use Rattle.chunk_store.proofs.StillOpen.{chunk_there, leaves_all, row_held, version_there}
 use Rattle.chunk_store.proofs.store.Store.apply.Goals as goal
 
 pub returns-in-Err-clause-version : goal.returns-in-Err-clause-version
@@ -23,83 +20,51 @@ returns-in-Err-clause-old_serial g c d is = (
 )
 
 pub returns-in-Err-clause-corrupt : goal.returns-in-Err-clause-corrupt
-returns-in-Err-clause-corrupt g c d is e =
-    absurd (not_corrupt c.in-Err.fault c.in-Err.ensures.no_other e)
+returns-in-Err-clause-corrupt g c d is e = absurd (not_corrupt c.in-Err.fault c.in-Err.ensures.no_other e)
 
 pub returns-in-Err-clause-any_moment : goal.returns-in-Err-clause-any_moment
 returns-in-Err-clause-any_moment g c d says noticed =
     let disk = g.D.Disk in
-    let store = c.args.self.now in
-    let l = store.layout in
-    nothing_made disk.seen disk.may_leave disk.moment disk.left_since l.chunk l.block l.slots store.index (change_of l.chunk c.args.handle c.args.serial c.args.mutation.now) store.disk c.requires.is_open.1.rest.durable (g.met.D.Disk.only_now store.disk) d says
+    leaves_all disk.seen disk.may_leave c.args.self.now c.requires.is_open.0 c.requires.is_open.1 disk.moment disk.left_since (g.met.D.Disk.only_now c.args.self.now.disk) (change_of c.args.self.now.layout.chunk c.args.handle c.args.serial c.args.mutation.now) d says
 
 pub returns-then-new-last-clause-no_chunk : goal.returns-then-new-last-clause-no_chunk
-returns-then-new-last-clause-no_chunk g c d is =
-    let store = c.args.self.now in
-    let l = store.layout in
-    let row = row_held l.chunk l.block l.slots store.index (stands_for (area_of l.chunk l.block) (g.D.Disk.seen store.disk)) d is.says c.args.handle.0 c.in-Ok.found c.in-Ok.ensures.found.0 in
-    (λ e. absurd cc, λ none. absurd (no_row _ c.in-Ok.found.row none row))
+returns-then-new-last-clause-no_chunk g c d is = chunk_there g.D.Disk.seen g.D.Disk.may_leave c.args.self.now d is c.args.handle.0 c.in-Ok.found c.in-Ok.ensures.found.0 (λ e. absurd cc)
 
 pub returns-then-new-last-clause-version : goal.returns-then-new-last-clause-version
-returns-then-new-last-clause-version g c d is =
-    let store = c.args.self.now in
-    let l = store.layout in
-    let row = row_held l.chunk l.block l.slots store.index (stands_for (area_of l.chunk l.block) (g.D.Disk.seen store.disk)) d is.says c.args.handle.0 c.in-Ok.found c.in-Ok.ensures.found.0 in
-    (λ e. absurd cc, λ p. absurd (p.2 (ap (λ r. r.version) (one_row _ p.0 c.in-Ok.found.row p.1 row) ∙ c.in-Ok.ensures.found.1)))
+returns-then-new-last-clause-version g c d is = version_there g.D.Disk.seen g.D.Disk.may_leave c.args.self.now d is c.args.handle.0 c.in-Ok.found c.args.version c.in-Ok.ensures.found.0 c.in-Ok.ensures.found.1 (λ e. absurd cc)
 
 pub returns-then-new-last-clause-old_serial : goal.returns-then-new-last-clause-old_serial
 returns-then-new-last-clause-old_serial g c d is =
-    let store = c.args.self.now in
-    let l = store.layout in
-    let row = row_held l.chunk l.block l.slots store.index (stands_for (area_of l.chunk l.block) (g.D.Disk.seen store.disk)) d is.says c.args.handle.0 c.in-Ok.found c.in-Ok.ensures.found.0 in
+    let row = row_held g.D.Disk.seen g.D.Disk.may_leave c.args.self.now d is c.args.handle.0 c.in-Ok.found c.in-Ok.ensures.found.0 in
     (λ e. (c.in-Ok.found.row, row, c.in-Ok.ensures.found.1, c.if-new-last.true), λ p. refl)
 
 pub returns-then-new-last-clause-any_moment : goal.returns-then-new-last-clause-any_moment
 returns-then-new-last-clause-any_moment g c d says noticed =
     let disk = g.D.Disk in
-    let store = c.args.self.now in
-    let l = store.layout in
-    nothing_made disk.seen disk.may_leave disk.moment disk.left_since l.chunk l.block l.slots store.index (change_of l.chunk c.args.handle c.args.serial c.args.mutation.now) store.disk c.requires.is_open.1.rest.durable (g.met.D.Disk.only_now store.disk) d says
+    leaves_all disk.seen disk.may_leave c.args.self.now c.requires.is_open.0 c.requires.is_open.1 disk.moment disk.left_since (g.met.D.Disk.only_now c.args.self.now.disk) (change_of c.args.self.now.layout.chunk c.args.handle c.args.serial c.args.mutation.now) d says
 
 pub returns-in_err-bytes-clause-no_chunk : goal.returns-in_err-bytes-clause-no_chunk
-returns-in_err-bytes-clause-no_chunk g c d is =
-    let store = c.args.self.now in
-    let l = store.layout in
-    let row = row_held l.chunk l.block l.slots store.index (stands_for (area_of l.chunk l.block) (g.D.Disk.seen store.disk)) d is.says c.args.handle.0 c.in-Ok.found c.in-Ok.ensures.found.0 in
-    (λ e. absurd (never c.from_residual.result faults.NoMemory faults.NoChunk c.from_residual.ensures.1 memory_no_chunk e), λ none. absurd (no_row _ c.in-Ok.found.row none row))
+returns-in_err-bytes-clause-no_chunk g c d is = chunk_there g.D.Disk.seen g.D.Disk.may_leave c.args.self.now d is c.args.handle.0 c.in-Ok.found c.in-Ok.ensures.found.0 (λ e. never c.from_residual.result faults.NoMemory faults.NoChunk c.from_residual.ensures.1 refl refl e)
 
 pub returns-in_err-bytes-clause-version : goal.returns-in_err-bytes-clause-version
-returns-in_err-bytes-clause-version g c d is =
-    let store = c.args.self.now in
-    let l = store.layout in
-    let row = row_held l.chunk l.block l.slots store.index (stands_for (area_of l.chunk l.block) (g.D.Disk.seen store.disk)) d is.says c.args.handle.0 c.in-Ok.found c.in-Ok.ensures.found.0 in
-    (λ e. absurd (never c.from_residual.result faults.NoMemory faults.Version c.from_residual.ensures.1 memory_no_version e), λ p. absurd (p.2 (ap (λ r. r.version) (one_row _ p.0 c.in-Ok.found.row p.1 row) ∙ c.in-Ok.ensures.found.1)))
+returns-in_err-bytes-clause-version g c d is = version_there g.D.Disk.seen g.D.Disk.may_leave c.args.self.now d is c.args.handle.0 c.in-Ok.found c.args.version c.in-Ok.ensures.found.0 c.in-Ok.ensures.found.1 (λ e. never c.from_residual.result faults.NoMemory faults.Version c.from_residual.ensures.1 refl refl e)
 
 pub returns-in_err-bytes-clause-old_serial : goal.returns-in_err-bytes-clause-old_serial
-returns-in_err-bytes-clause-old_serial g c d is =
-    let store = c.args.self.now in
-    let l = store.layout in
-    let row = row_held l.chunk l.block l.slots store.index (stands_for (area_of l.chunk l.block) (g.D.Disk.seen store.disk)) d is.says c.args.handle.0 c.in-Ok.found c.in-Ok.ensures.found.0 in
-    (λ e. absurd (never c.from_residual.result faults.NoMemory faults.OldSerial c.from_residual.ensures.1 memory_not_old e), λ p. (let one = ap (λ r. r.serial.0) (one_row _ p.0 c.in-Ok.found.row p.1 row) in absurd (omega (arith, one, p.3, c.if-new-last.false))))
+returns-in_err-bytes-clause-old_serial g c d is = serial_there g.D.Disk.seen g.D.Disk.may_leave c.args.self.now d is c.args.handle.0 c.in-Ok.found c.args.version c.args.serial.0 c.in-Ok.ensures.found.0 c.if-new-last.false (λ e. never c.from_residual.result faults.NoMemory faults.OldSerial c.from_residual.ensures.1 refl refl e)
 
 pub returns-in_err-bytes-clause-corrupt : goal.returns-in_err-bytes-clause-corrupt
-returns-in_err-bytes-clause-corrupt g c d is e =
-    absurd (never c.from_residual.result faults.NoMemory faults.Corrupt c.from_residual.ensures.1 memory_not_corrupt e)
+returns-in_err-bytes-clause-corrupt g c d is e = absurd (never c.from_residual.result faults.NoMemory faults.Corrupt c.from_residual.ensures.1 refl refl e)
 
 pub returns-in_err-bytes-clause-refused : goal.returns-in_err-bytes-clause-refused
-returns-in_err-bytes-clause-refused g c d is e =
-    absurd (never c.from_residual.result faults.NoMemory faults.Corrupt c.from_residual.ensures.1 memory_not_corrupt e)
+returns-in_err-bytes-clause-refused g c d is e = absurd (not_refused c.from_residual.result faults.NoMemory c.from_residual.ensures.1 refl e)
 
 pub returns-in_err-bytes-clause-any_moment : goal.returns-in_err-bytes-clause-any_moment
 returns-in_err-bytes-clause-any_moment g c d says noticed =
     let disk = g.D.Disk in
-    let store = c.args.self.now in
-    let l = store.layout in
-    nothing_made disk.seen disk.may_leave disk.moment disk.left_since l.chunk l.block l.slots store.index (change_of l.chunk c.args.handle c.args.serial c.args.mutation.now) store.disk c.requires.is_open.1.rest.durable (g.met.D.Disk.only_now store.disk) d says
+    leaves_all disk.seen disk.may_leave c.args.self.now c.requires.is_open.0 c.requires.is_open.1 disk.moment disk.left_since (g.met.D.Disk.only_now c.args.self.now.disk) (change_of c.args.self.now.layout.chunk c.args.handle c.args.serial c.args.mutation.now) d says
 
 pub write-requires-clause-stored : goal.write-requires-clause-stored
-write-requires-clause-stored g c =
-    (c.requires.is_open.0, c.requires.is_open.1.says)
+write-requires-clause-stored g c = (c.requires.is_open.0, c.requires.is_open.1.says)
 
 pub write-requires-clause-within : goal.write-requires-clause-within
 write-requires-clause-within g c =
@@ -107,93 +72,58 @@ write-requires-clause-within g c =
     omega (arith, c.requires.within, bytes, c.place_of-place.ensures)
 
 pub returns-in_err-written-clause-no_chunk : goal.returns-in_err-written-clause-no_chunk
-returns-in_err-written-clause-no_chunk g c d is =
-    let store = c.args.self.now in
-    let l = store.layout in
-    let row = row_held l.chunk l.block l.slots store.index (stands_for (area_of l.chunk l.block) (g.D.Disk.seen store.disk)) d is.says c.args.handle.0 c.in-Ok.found c.in-Ok.ensures.found.0 in
-    (λ e. absurd (never c.from_residual-in_err-written.result (fault_of c.in_err-written.field-0.0) faults.NoChunk c.from_residual-in_err-written.ensures.1 (disk_no_chunk c.in_err-written.field-0.0) e), λ none. absurd (no_row _ c.in-Ok.found.row none row))
+returns-in_err-written-clause-no_chunk g c d is = chunk_there g.D.Disk.seen g.D.Disk.may_leave c.args.self.now d is c.args.handle.0 c.in-Ok.found c.in-Ok.ensures.found.0 (λ e. never c.from_residual-in_err-written.result (fault_of c.in_err-written.field-0.0) faults.NoChunk c.from_residual-in_err-written.ensures.1 (disk_never c.in_err-written.field-0.0) refl e)
 
 pub returns-in_err-written-clause-version : goal.returns-in_err-written-clause-version
-returns-in_err-written-clause-version g c d is =
-    let store = c.args.self.now in
-    let l = store.layout in
-    let row = row_held l.chunk l.block l.slots store.index (stands_for (area_of l.chunk l.block) (g.D.Disk.seen store.disk)) d is.says c.args.handle.0 c.in-Ok.found c.in-Ok.ensures.found.0 in
-    (λ e. absurd (never c.from_residual-in_err-written.result (fault_of c.in_err-written.field-0.0) faults.Version c.from_residual-in_err-written.ensures.1 (disk_no_version c.in_err-written.field-0.0) e), λ p. absurd (p.2 (ap (λ r. r.version) (one_row _ p.0 c.in-Ok.found.row p.1 row) ∙ c.in-Ok.ensures.found.1)))
+returns-in_err-written-clause-version g c d is = version_there g.D.Disk.seen g.D.Disk.may_leave c.args.self.now d is c.args.handle.0 c.in-Ok.found c.args.version c.in-Ok.ensures.found.0 c.in-Ok.ensures.found.1 (λ e. never c.from_residual-in_err-written.result (fault_of c.in_err-written.field-0.0) faults.Version c.from_residual-in_err-written.ensures.1 (disk_never c.in_err-written.field-0.0) refl e)
 
 pub returns-in_err-written-clause-old_serial : goal.returns-in_err-written-clause-old_serial
-returns-in_err-written-clause-old_serial g c d is =
-    let store = c.args.self.now in
-    let l = store.layout in
-    let row = row_held l.chunk l.block l.slots store.index (stands_for (area_of l.chunk l.block) (g.D.Disk.seen store.disk)) d is.says c.args.handle.0 c.in-Ok.found c.in-Ok.ensures.found.0 in
-    (λ e. absurd (never c.from_residual-in_err-written.result (fault_of c.in_err-written.field-0.0) faults.OldSerial c.from_residual-in_err-written.ensures.1 (disk_not_old c.in_err-written.field-0.0) e), λ p. (let one = ap (λ r. r.serial.0) (one_row _ p.0 c.in-Ok.found.row p.1 row) in absurd (omega (arith, one, p.3, c.if-new-last.false))))
+returns-in_err-written-clause-old_serial g c d is = serial_there g.D.Disk.seen g.D.Disk.may_leave c.args.self.now d is c.args.handle.0 c.in-Ok.found c.args.version c.args.serial.0 c.in-Ok.ensures.found.0 c.if-new-last.false (λ e. never c.from_residual-in_err-written.result (fault_of c.in_err-written.field-0.0) faults.OldSerial c.from_residual-in_err-written.ensures.1 (disk_never c.in_err-written.field-0.0) refl e)
 
 pub returns-in_err-written-clause-corrupt : goal.returns-in_err-written-clause-corrupt
-returns-in_err-written-clause-corrupt g c d is e =
-    absurd (never c.from_residual-in_err-written.result (fault_of c.in_err-written.field-0.0) faults.Corrupt c.from_residual-in_err-written.ensures.1 (disk_not_corrupt c.in_err-written.field-0.0) e)
+returns-in_err-written-clause-corrupt g c d is e = absurd (never c.from_residual-in_err-written.result (fault_of c.in_err-written.field-0.0) faults.Corrupt c.from_residual-in_err-written.ensures.1 (disk_never c.in_err-written.field-0.0) refl e)
 
 pub returns-in_err-written-clause-refused : goal.returns-in_err-written-clause-refused
-returns-in_err-written-clause-refused g c d is e =
-    absurd (never c.from_residual-in_err-written.result (fault_of c.in_err-written.field-0.0) faults.Corrupt c.from_residual-in_err-written.ensures.1 (disk_not_corrupt c.in_err-written.field-0.0) e)
+returns-in_err-written-clause-refused g c d is e = absurd (not_refused c.from_residual-in_err-written.result (fault_of c.in_err-written.field-0.0) c.from_residual-in_err-written.ensures.1 (disk_never c.in_err-written.field-0.0) e)
 
 pub returns-in_err-written-clause-any_moment : goal.returns-in_err-written-clause-any_moment
 returns-in_err-written-clause-any_moment g c =
     let disk = g.D.Disk in
-    let store = c.args.self.now in
-    leaves_same disk.seen disk.may_leave disk.moment disk.left_since store c.write.new.disk c.write.new.index c.args.handle c.args.serial c.args.mutation.now c.place_of-place.result c.in_ok-bytes.bytes c.place_of-place.ensures c.in_ok-bytes.ensures c.write.ensures.any_moment
+    leaves_same disk.seen disk.may_leave disk.moment disk.left_since c.args.self.now c.write.new.disk c.write.new.index c.args.handle c.args.serial c.args.mutation.now c.place_of-place.result c.in_ok-bytes.bytes c.place_of-place.ensures c.in_ok-bytes.ensures c.write.ensures.any_moment
 
 pub returns-then-written-clause-ok : goal.returns-then-written-clause-ok
 returns-then-written-clause-ok g c d is noticed =
     let disk = g.D.Disk in
-    let store = c.args.self.now in
-    applied_open disk.seen disk.may_leave disk.moment disk.left_since store c.write.new.disk c.write.new.index c.args.handle c.args.serial c.args.mutation.now c.place_of-place.result c.in_ok-bytes.bytes c.place_of-place.ensures c.in_ok-bytes.ensures d is c.write.ensures.size c.in_ok-written.ensures.rest
+    applied_open disk.seen disk.may_leave disk.moment disk.left_since c.args.self.now c.write.new.disk c.write.new.index c.args.handle c.args.serial c.args.mutation.now c.place_of-place.result c.in_ok-bytes.bytes c.place_of-place.ensures c.in_ok-bytes.ensures d is c.write.ensures.size c.in_ok-written.ensures.rest
     (c.in_ok-written.ensures.made c.if-written.true d is.says noticed)
 
 pub returns-then-written-clause-no_chunk : goal.returns-then-written-clause-no_chunk
-returns-then-written-clause-no_chunk g c d is =
-    let store = c.args.self.now in
-    let l = store.layout in
-    let row = row_held l.chunk l.block l.slots store.index (stands_for (area_of l.chunk l.block) (g.D.Disk.seen store.disk)) d is.says c.args.handle.0 c.in-Ok.found c.in-Ok.ensures.found.0 in
-    (λ e. absurd cc, λ none. absurd (no_row _ c.in-Ok.found.row none row))
+returns-then-written-clause-no_chunk g c d is = chunk_there g.D.Disk.seen g.D.Disk.may_leave c.args.self.now d is c.args.handle.0 c.in-Ok.found c.in-Ok.ensures.found.0 (λ e. absurd cc)
 
 pub returns-then-written-clause-version : goal.returns-then-written-clause-version
-returns-then-written-clause-version g c d is =
-    let store = c.args.self.now in
-    let l = store.layout in
-    let row = row_held l.chunk l.block l.slots store.index (stands_for (area_of l.chunk l.block) (g.D.Disk.seen store.disk)) d is.says c.args.handle.0 c.in-Ok.found c.in-Ok.ensures.found.0 in
-    (λ e. absurd cc, λ p. absurd (p.2 (ap (λ r. r.version) (one_row _ p.0 c.in-Ok.found.row p.1 row) ∙ c.in-Ok.ensures.found.1)))
+returns-then-written-clause-version g c d is = version_there g.D.Disk.seen g.D.Disk.may_leave c.args.self.now d is c.args.handle.0 c.in-Ok.found c.args.version c.in-Ok.ensures.found.0 c.in-Ok.ensures.found.1 (λ e. absurd cc)
 
 pub returns-then-written-clause-old_serial : goal.returns-then-written-clause-old_serial
-returns-then-written-clause-old_serial g c d is =
-    let store = c.args.self.now in
-    let l = store.layout in
-    let row = row_held l.chunk l.block l.slots store.index (stands_for (area_of l.chunk l.block) (g.D.Disk.seen store.disk)) d is.says c.args.handle.0 c.in-Ok.found c.in-Ok.ensures.found.0 in
-    (λ e. absurd cc, λ p. (let one = ap (λ r. r.serial.0) (one_row _ p.0 c.in-Ok.found.row p.1 row) in absurd (omega (arith, one, p.3, c.if-new-last.false))))
+returns-then-written-clause-old_serial g c d is = serial_there g.D.Disk.seen g.D.Disk.may_leave c.args.self.now d is c.args.handle.0 c.in-Ok.found c.args.version c.args.serial.0 c.in-Ok.ensures.found.0 c.if-new-last.false (λ e. absurd cc)
 
 pub returns-then-written-clause-any_moment : goal.returns-then-written-clause-any_moment
 returns-then-written-clause-any_moment g c =
     let disk = g.D.Disk in
-    let store = c.args.self.now in
-    leaves_same disk.seen disk.may_leave disk.moment disk.left_since store c.write.new.disk c.write.new.index c.args.handle c.args.serial c.args.mutation.now c.place_of-place.result c.in_ok-bytes.bytes c.place_of-place.ensures c.in_ok-bytes.ensures c.write.ensures.any_moment
+    leaves_same disk.seen disk.may_leave disk.moment disk.left_since c.args.self.now c.write.new.disk c.write.new.index c.args.handle c.args.serial c.args.mutation.now c.place_of-place.result c.in_ok-bytes.bytes c.place_of-place.ensures c.in_ok-bytes.ensures c.write.ensures.any_moment
+
+pub returns-clause-no_chunk : goal.returns-clause-no_chunk
+returns-clause-no_chunk g c d is = chunk_there g.D.Disk.seen g.D.Disk.may_leave c.args.self.now d is c.args.handle.0 c.in-Ok.found c.in-Ok.ensures.found.0 (λ e. absurd cc)
 
 pub returns-clause-version : goal.returns-clause-version
-returns-clause-version g c d is =
-    let store = c.args.self.now in
-    let l = store.layout in
-    let row = row_held l.chunk l.block l.slots store.index (stands_for (area_of l.chunk l.block) (g.D.Disk.seen store.disk)) d is.says c.args.handle.0 c.in-Ok.found c.in-Ok.ensures.found.0 in
-    (λ e. absurd cc, λ p. absurd (p.2 (ap (λ r. r.version) (one_row _ p.0 c.in-Ok.found.row p.1 row) ∙ c.in-Ok.ensures.found.1)))
+returns-clause-version g c d is = version_there g.D.Disk.seen g.D.Disk.may_leave c.args.self.now d is c.args.handle.0 c.in-Ok.found c.args.version c.in-Ok.ensures.found.0 c.in-Ok.ensures.found.1 (λ e. absurd cc)
 
 pub returns-clause-old_serial : goal.returns-clause-old_serial
-returns-clause-old_serial g c d is =
-    let store = c.args.self.now in
-    let l = store.layout in
-    let row = row_held l.chunk l.block l.slots store.index (stands_for (area_of l.chunk l.block) (g.D.Disk.seen store.disk)) d is.says c.args.handle.0 c.in-Ok.found c.in-Ok.ensures.found.0 in
-    (λ e. absurd cc, λ p. (let one = ap (λ r. r.serial.0) (one_row _ p.0 c.in-Ok.found.row p.1 row) in absurd (omega (arith, one, p.3, c.if-new-last.false))))
+returns-clause-old_serial g c d is = serial_there g.D.Disk.seen g.D.Disk.may_leave c.args.self.now d is c.args.handle.0 c.in-Ok.found c.args.version c.args.serial.0 c.in-Ok.ensures.found.0 c.if-new-last.false (λ e. absurd cc)
 
 pub returns-clause-any_moment : goal.returns-clause-any_moment
 returns-clause-any_moment g c =
     let disk = g.D.Disk in
-    let store = c.args.self.now in
-    leaves_same disk.seen disk.may_leave disk.moment disk.left_since store c.write.new.disk c.write.new.index c.args.handle c.args.serial c.args.mutation.now c.place_of-place.result c.in_ok-bytes.bytes c.place_of-place.ensures c.in_ok-bytes.ensures c.write.ensures.any_moment
+    leaves_same disk.seen disk.may_leave disk.moment disk.left_since c.args.self.now c.write.new.disk c.write.new.index c.args.handle c.args.serial c.args.mutation.now c.place_of-place.result c.in_ok-bytes.bytes c.place_of-place.ensures c.in_ok-bytes.ensures c.write.ensures.any_moment
 
 pub returns-clause-corrupt : goal.returns-clause-corrupt
 returns-clause-corrupt g c d is e =

@@ -1,5 +1,6 @@
 use Rattle.std.proofs.Common.{refl}
 use Rattle.replica_store.specs.declared.change.StoreChange.TheVariants.{SetOrder}
+use Rattle.replica_store.specs.Replicas.{disk_changed}
 use Rattle.chunk_store.proofs.StillOpen.{still_open}
 use Rattle.chunk_store.proofs.store.Store.set_order.Goals as goal
 
@@ -9,8 +10,7 @@ returns-in_err-set_order-clause-any_moment g c d says = c.set_order.ensures.any_
 pub returns-clause-ok : goal.returns-clause-ok
 returns-clause-ok g c d is =
     let store = c.args.self.now in
-    still_open g.D.Disk.seen g.D.Disk.may_leave store (record { disk = c.set_order.new.disk; layout = store.layout; order = c.args.order; index = store.index }) d (SetOrder c.args.order) is refl c.set_order.ensures.size refl
-    c.in_ok-set_order.ensures.rest (c.in_ok-set_order.ensures.made store.index)
+    still_open g.D.Disk.seen g.D.Disk.may_leave store d is c.set_order.new.disk store.index c.args.order (disk_changed d (SetOrder c.args.order)) c.set_order.ensures.size refl c.in_ok-set_order.ensures.rest (c.in_ok-set_order.ensures.made store.index d is.says)
 
 pub returns-clause-any_moment : goal.returns-clause-any_moment
 returns-clause-any_moment g c d says = c.set_order.ensures.any_moment c.args.self.now.index d says

@@ -1,0 +1,39 @@
+use Rattle.std.proofs.Common.{refl, sym, ◌∙◌}
+use Rattle.replica_store.specs.Replicas.{replica_of, rotten_replica}
+use Rattle.store_writes.specs.Rotting.{disk_rotten}
+use Rattle.store_writes.proofs.Rotten.{nothing_rots}
+use Rattle.stored_replicas.proofs.Looked.{order_stays}
+use Rattle.chunk_store.specs.Faults.{fault_of}
+use Rattle.chunk_store.proofs.Answered.{disk_never, not_refused}
+use Rattle.chunk_store.proofs.StillOpen.{chunk_there, none_held, still_open}
+use Rattle.chunk_store.proofs.store.Store.rot.Goals as goal
+
+pub returns-in_default-clause-no_chunk : goal.returns-in_default-clause-no_chunk
+returns-in_default-clause-no_chunk g c d is =
+    let none = none_held g.D.Disk.seen g.D.Disk.may_leave c.args.self.now d is c.args.handle.0 (sym c.get.ensures ∙ c.in_default.is) in
+    (λ e. none, λ e. refl)
+
+pub returns-in_default-clause-any_moment : goal.returns-in_default-clause-any_moment
+returns-in_default-clause-any_moment g c =
+    let disk = g.D.Disk in
+    let store = c.args.self.now in
+    let l = store.layout in
+    nothing_rots disk.seen disk.may_leave disk.moment disk.left_since l.chunk l.block l.slots store.index c.args.handle.0 c.args.place c.args.byte store.disk store.disk c.requires.is_open.1.rest.durable (g.met.D.Disk.only_now store.disk)
+
+pub rot-requires-clause-found : goal.rot-requires-clause-found
+rot-requires-clause-found g c = sym c.get.ensures ∙ c.in-Some.is
+
+pub rot-requires-clause-stored : goal.rot-requires-clause-stored
+rot-requires-clause-stored g c = (c.requires.is_open.0, c.requires.is_open.1.says)
+
+pub returns-clause-ok : goal.returns-clause-ok
+returns-clause-ok g c d is =
+    let store = c.args.self.now in
+    still_open g.D.Disk.seen g.D.Disk.may_leave store d is c.rot.new.disk store.index store.order (disk_rotten d c.args.handle.0 c.args.place c.args.byte) c.rot.ensures.size
+    (is.order ∙ order_stays (λ r. rotten_replica r c.args.place c.args.byte) d c.args.handle.0 (replica_of d c.args.handle.0)) c.in_ok-rot.ensures.rest (c.in_ok-rot.ensures.made d is.says)
+
+pub returns-clause-no_chunk : goal.returns-clause-no_chunk
+returns-clause-no_chunk g c d is = chunk_there g.D.Disk.seen g.D.Disk.may_leave c.args.self.now d is c.args.handle.0 c.in-Some.found (sym c.get.ensures ∙ c.in-Some.is) (λ e. absurd cc)
+
+pub returns-in_err-rot-clause-refused : goal.returns-in_err-rot-clause-refused
+returns-in_err-rot-clause-refused g c d is e = absurd (not_refused c.from_residual.result (fault_of c.in_err-rot.field-0.0) c.from_residual.ensures.1 (disk_never c.in_err-rot.field-0.0) e)

@@ -1,0 +1,118 @@
+//! Calls of a store, with two slots, for chunks of 64 bytes in blocks of 16.
+
+ghost use Rattle.std.specs.Prelude.{◌≡◌, ◌%◌, false, IfOk, OnOk};
+ghost use Rattle.store_format.specs.Formats.{is_head_open};
+ghost use Rattle.chunk_store_tests.specs.Usable.{IsUsable};
+
+use bytes::Bytes;
+use chunk_store::{Store, StoreFault, open};
+use disk::{Disk, FuseDisk, MemDisk};
+use gfs_types::ids::{Handle, OrderNo, Serial, Version};
+use gfs_types::mutation::Mutation;
+use replica_store::row::Row;
+use std::alloc::{AllocError, Global};
+use store_layout::Layout;
+
+pub(crate) const SIZE: usize = 960;
+
+/// How many steps there are before the mutation.
+pub(crate) const STEPS: usize = 7;
+
+pub(crate) type Rows = Vec<(Handle, Row)>;
+
+pub(crate) fn layout() -> Layout
+    ensures chunk { result.chunk ≡ 64 }
+    ensures whole { result.chunk % result.block ≡ 0 }
+{
+    Layout::new(64, 16, 2)
+}
+
+/// A new disk that stops after so many calls.
+pub(crate) fn fused(alloc: Global, calls: u64) -> Result<FuseDisk, AllocError>
+    ensures { IfOk result (λ disk. is_head_open disk.disk.bytes ≡ false) }
+{
+    let mut disk = FuseDisk::new(MemDisk::new(alloc, SIZE)?);
+    disk.arm(calls);
+    Ok(disk)
+}
+
+/// Opens a store on a new disk.
+pub(crate) fn open_new<D: Disk>(disk: D, alloc: Global) -> Result<Store<D>, D>
+    requires { is_head_open (D.seen disk) ≡ false }
+    ensures { IfOk result (λ store. IsUsable D.seen D.may_leave store) }
+{
+    match open(disk, alloc, layout()) {
+        Ok(store) => Ok(store),
+        Err((disk, _fault)) => Err(disk),
+    }
+}
+
+// One of the steps.
+fn step<D: Disk>(store: &mut Store<D>, alloc: Global, number: usize) -> Result<(), StoreFault>
+    requires { IsUsable D.seen D.may_leave store.old }
+    ensures { OnOk result (IsUsable D.seen D.may_leave store.new) }
+{
+    match number {
+        0 => store.install(alloc, Handle(5), Version(2), Serial(9), b"abc"),
+        1 => store.create(alloc, Handle(6), Version(1)),
+        2 => store.set_version(alloc, Handle(5), Version(4), Version(2)),
+        3 => store.drop_replica(alloc, Handle(6)),
+        4 => store.copy_local(alloc, Handle(5), Version(4), Handle(7), Version(8)),
+        5 => store.rot(alloc, Handle(7), 1, 120),
+        _ => store.set_order(alloc, OrderNo { epoch: 2, count: 3 }),
+    }
+}
+
+// A mutation that is the last call.
+fn mutate<D: Disk>(store: &mut Store<D>, alloc: Global) -> Result<(), StoreFault>
+    requires { IsUsable D.seen D.may_leave store.old }
+{
+    let bytes = Bytes::copy_from_slice(alloc, b"0123456789")?;
+    let mutation = Mutation::Write(20, bytes);
+    store.apply(alloc, Handle(5), Version(4), Serial(1), &mutation)
+}
+
+// Does so many steps, and tells how many were done.
+fn go<D: Disk>(store: &mut Store<D>, alloc: Global, steps: usize) -> usize
+    requires { IsUsable D.seen D.may_leave store.old }
+{
+    for number in 0..STEPS {
+        if number >= steps {
+            return number;
+        }
+        match step(store, alloc, number) {
+            Ok(()) => {}
+            Err(_) => return number,
+        }
+    }
+    if steps > STEPS && mutate(store, alloc).is_ok() {
+        STEPS + 1
+    } else {
+        STEPS
+    }
+}
+
+/// Opens a store on a new disk, does so many steps, and tells how many were done.
+pub(crate) fn run<D: Disk + Drop>(disk: D, alloc: Global, steps: usize) -> (D, usize)
+    requires { is_head_open (D.seen disk) ≡ false }
+{
+    match open_new(disk, alloc) {
+        Ok(store) => {
+            let mut store = store;
+            let done = go(&mut store, alloc, steps);
+            (store.into_disk(), done)
+        }
+        Err(disk) => (disk, 0),
+    }
+}
+
+/// Opens a store, and lists its replicas.
+pub(crate) fn listed<D: Disk + Drop>(disk: D, alloc: Global) -> (D, Option<Rows>) {
+    match open(disk, alloc, layout()) {
+        Ok(store) => {
+            let rows = store.list(alloc).ok();
+            (store.into_disk(), rows)
+        }
+        Err((disk, _fault)) => (disk, None),
+    }
+}
