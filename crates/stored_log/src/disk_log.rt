@@ -1,8 +1,8 @@
 //! The log over its disk.
 
-ghost use Rattle.std.specs.Prelude.{◌≡◌, ◌<◌, ◌≤◌, ◌+◌, ◌*◌, ◌^◌, ◌×◌, ◌++◌, ◌∷◌, [], ℕ, List, length, is_some, nat_le, slice_get, IfErr, IfOk, IfSome, OnOk};
+ghost use Rattle.std.specs.Prelude.{◌≡◌, ◌<◌, ◌≤◌, ◌+◌, ◌*◌, ◌^◌, ◌++◌, ◌∷◌, [], ℕ, List, length, is_some, nat_le, slice_get, IfErr, IfOk, IfSome, OnOk};
 ghost use Rattle.std.specs.List.{sum_by};
-ghost use Rattle.disk.specs.Device.{Only};
+ghost use Rattle.disk.specs.Device.{Follows, Only};
 ghost use Rattle.log_area.specs.Areas.{AreaState};
 ghost use Rattle.log_records.specs.declared.record.Record.{Record};
 ghost use Rattle.log_disk.specs.Disks.{HasLog};
@@ -13,9 +13,9 @@ ghost use Rattle.protocol.specs.Logged.{new_log};
 ghost use Rattle.protocol.specs.LogSizes.{checkpoint_fits, checkpoint_size, payload_size, used_size};
 ghost use Rattle.operation_log.specs.Logs.{IsDecided};
 ghost use Rattle.operation_log.specs.declared.fault.LogFault.TheVariants as faults;
-ghost use Rattle.stored_log.specs.Kept.{IsDiskSize, Takes};
+ghost use Rattle.stored_log.specs.Kept.{closed, IsAmong, IsDiskSize, IsReopened, Takes};
 
-use crate::found::{entry_at, has_log, has_one_more};
+use crate::places::entry_at;
 use crate::standing::Standing;
 use crate::stoppable::{StoppableDisk, StoppableLog};
 use disk::DiskFault;
@@ -42,7 +42,7 @@ const AROUND_RECORD: u64 = 5;
 // A length before an item.
 const AROUND_ITEM: u64 = 4;
 
-/// The operation log on a disk. Its items and records are kept in memory too, so that what stood before a call that failed is known.
+/// The operation log on a disk. Its items and records are kept in memory too.
 #[derive(Drop)]
 pub struct DiskLog<D: StoppableDisk> {
     alloc: Global,
@@ -59,14 +59,13 @@ pub struct DiskLog<D: StoppableDisk> {
 }
 
 impl<D: StoppableDisk> Model for DiskLog<D> {
-    ghost use Rattle.std.specs.Prelude.{◌×◌};
     ghost use Rattle.stored_log.specs.Kept.{changes_of, DiskLogState, IsDiskSize, IsKept, IsWritten, Takes};
 
     ghost Value = { DiskLogState };
 
     ghost view = { λ l. record {
       disk = record { items = l.items.items; records = l.records.items };
-      under_way = changes_of l.standing l.writing.items;
+      under_way = changes_of l.standing;
       writing = l.writing.items;
       log_bytes = l.log_bytes;
     } };
@@ -89,6 +88,16 @@ fn fault_of_disk(fault: DiskFault) -> LogFault {
     match fault {
         DiskFault::Device => LogFault::Device,
         DiskFault::NoMemory => LogFault::NoMemory,
+    }
+}
+
+// An open log has to be read anew; what is under way stays so.
+fn closed(standing: Standing) -> Standing
+    ensures { result ≡ closed standing }
+{
+    match standing {
+        Standing::Open => Standing::Unread,
+        other => other,
     }
 }
 
@@ -115,18 +124,25 @@ fn used_by(log_bytes: u64, items: &[Record], records: &[Record]) -> Option<u64>
     used_with_all(log_bytes, used, AROUND_RECORD, records)
 }
 
-// What stands on the disk once it has begun again.
+// What stands on the disk once it has begun again. It is the log of one of the disks that a stop might have left.
 fn find<D: StoppableDisk>(disk: &mut D, alloc: Global, log_bytes: u64) -> Result<Found, LogFault>
     requires { IsDiskSize log_bytes }
+    ensures among { IfOk result (λ x. IsAmong (D.may_leave disk.old) log_bytes x.items.items x.records.items) }
     ensures found { IfOk result (λ x. IsFound x (D.seen disk.new)) }
     ensures size { OnOk result (length (D.seen disk.new) ≡ log_bytes) }
     ensures durable { OnOk result (Only (D.seen disk.new) (D.may_leave disk.new)) }
+    ensures stops { Follows IsReopened (D.may_leave disk.old) (D.may_leave disk.new) }
 {
-    disk.restart().map_err(fault_of_disk)?;
+    if let Err(fault) = disk.restart() {
+        return Err(fault_of_disk(fault));
+    }
     if disk.size() as u64 != log_bytes {
         return Err(LogFault::Damaged);
     }
-    open_disk(disk, alloc).map_err(fault_of)
+    match open_disk(disk, alloc) {
+        Ok(found) => Ok(found),
+        Err(fault) => Err(fault_of(fault)),
+    }
 }
 
 // The log is open with what was found on its disk.
@@ -199,33 +215,6 @@ impl<D: StoppableDisk> DiskLog<D> {
     {
         used_with(self.log_bytes, self.written, AROUND_ITEM, item)
     }
-
-    // The bytes that the found log takes, where it is this one with the change under way or without it.
-    fn used_if_decided(&self, found: &Found) -> Option<u64>
-        ensures decided { IfSome result (λ n. IsDecided self.now.disk self.now.under_way (record { items = found.now.items.items; records = found.now.records.items })) }
-        ensures takes { IfSome result (λ n. Takes n found.now.items.items found.now.records.items) }
-    {
-        if has_log(found, &self.items, &self.records) {
-            return Some(self.used);
-        }
-        match &self.standing {
-            Standing::Open | Standing::Unread => None,
-            Standing::Appending(entry, used) => {
-                if has_one_more(found, &self.items, &self.records, entry) {
-                    Some(*used)
-                } else {
-                    None
-                }
-            }
-            Standing::Checkpointing => {
-                if has_log(found, &self.writing, &[]) {
-                    Some(self.written)
-                } else {
-                    None
-                }
-            }
-        }
-    }
 }
 
 impl<D: StoppableDisk> OperationLog for DiskLog<D> {
@@ -264,12 +253,12 @@ impl<D: StoppableDisk> OperationLog for DiskLog<D> {
             Ok(()) => {}
             Err(oplog::LogFault::NoMemory) => return Err(LogFault::NoMemory),
             Err(_) => {
-                self.standing = Standing::Appending(record, used);
+                self.standing = Standing::Appending(record);
                 return Err(LogFault::Device);
             }
         }
         if let Err(refused) = self.records.push(record) {
-            self.standing = Standing::Appending(refused.value, used);
+            self.standing = Standing::Appending(refused.value);
             return Err(LogFault::NoMemory);
         }
         self.used = used;
@@ -303,29 +292,29 @@ impl<D: StoppableDisk> OperationLog for DiskLog<D> {
         let Standing::Open = self.standing else {
             return Err(LogFault::Device);
         };
-        match checkpoint(&mut self.log, self.alloc, &self.writing) {
-            Ok(()) => {}
-            Err(oplog::LogFault::NoMemory) => return Err(LogFault::NoMemory),
-            Err(oplog::LogFault::Full) => return Err(LogFault::Full),
+        let writing = mem::replace(&mut self.writing, Vec::new(self.alloc));
+        let written = mem::replace(&mut self.written, HEAD);
+        match checkpoint(&mut self.log, self.alloc, &writing) {
+            Ok(()) => {
+                self.items = writing;
+                self.records.clear();
+                self.used = written;
+                Ok(())
+            }
+            Err(oplog::LogFault::NoMemory) => Err(LogFault::NoMemory),
+            Err(oplog::LogFault::Full) => Err(LogFault::Full),
             Err(_) => {
-                self.standing = Standing::Checkpointing;
-                return Err(LogFault::Device);
+                self.standing = Standing::Checkpointing(writing);
+                Err(LogFault::Device)
             }
         }
-        self.items = mem::replace(&mut self.writing, Vec::new(self.alloc));
-        self.records.clear();
-        self.used = self.written;
-        self.written = HEAD;
-        Ok(())
     }
 
-    // The disk is read, and what it says compared with what stood before the change and with what stands after it.
+    // The disk begins again and is read. It says what it said before the change that was under way, or after it.
     fn reopen(&mut self) -> Result<(), LogFault> {
-        if let Standing::Open = self.standing {
-            self.standing = Standing::Unread;
-        }
+        self.standing = closed(mem::replace(&mut self.standing, Standing::Unread));
         let found = find(&mut self.log.disk, self.alloc, self.log_bytes)?;
-        let Some(used) = self.used_if_decided(&found) else {
+        let Some(used) = used_by(self.log_bytes, &found.items, &found.records) else {
             return Err(LogFault::Damaged);
         };
         place(&mut self.log, &found);

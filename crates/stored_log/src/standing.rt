@@ -9,8 +9,8 @@ pub enum Standing {
     Open,
     /// The disk has to be read anew. No change is under way.
     Unread,
-    /// An append of this record failed on its way. With it the log takes so many bytes of an area.
-    Appending(Record, u64),
-    /// A checkpoint of the items that were written failed on its way.
-    Checkpointing,
+    /// An append of this record failed on its way.
+    Appending(Record),
+    /// A checkpoint of these items failed on its way.
+    Checkpointing(Vec<Record>),
 }

@@ -6,6 +6,7 @@ ghost use Rattle.disk.specs.Device.{NoMore, Only};
 use disk::{Disk, DiskFault};
 use gfs_types::torn::Torn;
 use operation_log::log::OperationLog;
+use operation_log::memory::MemoryLog;
 
 /// A disk that can be told to stop, and that begins again when its node does.
 pub trait StoppableDisk: Disk {
@@ -44,4 +45,11 @@ pub trait StoppableLog: OperationLog {
         ensures under_way { Self.under_way self.new ≡ Self.under_way self.old }
         ensures writing { Self.writing self.new ≡ Self.writing self.old }
         ensures size { Self.log_bytes self.new ≡ Self.log_bytes self.old };
+}
+
+/// A log in memory has no disk that could stop.
+impl StoppableLog for MemoryLog {
+    fn stop_after(&mut self, _calls: u64, _torn: Torn) {}
+
+    fn stop_after_restart(&mut self, _calls: u64, _torn: Torn) {}
 }
