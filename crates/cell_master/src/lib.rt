@@ -10,7 +10,6 @@ use cell_world::master::CellMaster;
 use gfs_types::config::Config;
 use gfs_types::ids::{FileId, Handle, Moment};
 use gfs_types::path::Path;
-use gfs_types::torn::Torn;
 use master::fault::MasterFault;
 use master::master::Master;
 use messages::event::StepOut;
@@ -21,7 +20,6 @@ use operation_log::log::OperationLog;
 use shown_files::ShownFiles;
 use std::alloc::{Allocator, Global};
 use step_outcome::Outcome;
-use stored_log::stoppable::StoppableLog;
 
 /// A master over a log, and what is shown of its files. Its names lie in `A`.
 #[derive(Drop)]
@@ -54,7 +52,7 @@ impl<L: OperationLog + Drop, A: Allocator + Clone> SeatedMaster<L, A> {
     }
 }
 
-impl<L: StoppableLog, A: Allocator + Clone> CellMaster for SeatedMaster<L, A> {
+impl<L: OperationLog, A: Allocator + Clone> CellMaster for SeatedMaster<L, A> {
     ghost state = { λ m. m.master };
 
     ghost files = { λ m. m.files };
@@ -90,10 +88,6 @@ impl<L: StoppableLog, A: Allocator + Clone> CellMaster for SeatedMaster<L, A> {
 
     fn stop(&mut self) {
         self.master.stop();
-    }
-
-    fn fuse(&mut self, calls: u64, torn: Torn) {
-        self.master.fuse(calls, torn);
     }
 
     #[tactic(auto, using(crate::proofs::Files::on_input))]

@@ -18,7 +18,6 @@ use crate::started::{first_plan, opens};
 use gfs_types::config::Config;
 use gfs_types::ids::Moment;
 use gfs_types::lists::Sequence;
-use gfs_types::torn::Torn;
 use log_records::record::Record;
 use master_plan::plan::Plan;
 use master_state::state::State;
@@ -29,7 +28,6 @@ use shown_files::{ShownFiles, shown_of};
 use std::alloc::{Allocator, Global};
 use std::marker::Model;
 use step_outcome::{Outcome, gives_nothing, goes_down};
-use stored_log::stoppable::StoppableLog;
 
 /// The master over a log. While it is up, nothing is under way on the log's disk. Its names lie in `A`.
 #[derive(Drop)]
@@ -212,19 +210,5 @@ impl<L: OperationLog, A: Allocator + Clone> Master<L, A> {
         self.up = true;
         *shown = files;
         gives_nothing(alloc)
-    }
-}
-
-impl<L: StoppableLog, A: Allocator> Master<L, A> {
-    /// Its log's disk lets so many calls pass and fails each later one until the next restart, which finds what was under way as `torn`
-    /// says. That of a master that is down does so once the next restart has begun.
-    pub fn fuse(&mut self, calls: u64, torn: Torn)
-        ensures { self.new ≡ self.old }
-    {
-        if self.up {
-            self.log.stop_after(calls, torn);
-        } else {
-            self.log.stop_after_restart(calls, torn);
-        }
     }
 }

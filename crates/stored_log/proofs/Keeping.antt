@@ -16,7 +16,7 @@ use Rattle.oplog_areas.specs.Writing.{area_with}
 use Rattle.oplog_checkpoint.specs.Checkpoints.{IsOldOrNew}
 use Rattle.stored_log.specs.declared.standing.Standing.{Standing}
 use Rattle.stored_log.specs.declared.standing.Standing.TheVariants.{Open, Unread, Appending, Checkpointing}
-use Rattle.stored_log.specs.Kept.{closed, HasKept, IsKept, IsWritten, Leaves, Takes}
+use Rattle.stored_log.specs.Kept.{closed, IsKept, IsWritten, Leaves, Takes}
 
 pub same_taken : (used : ℕ) (items records items_after records_after : List Record) → items_after ≡ items → records_after ≡ records → Takes used items records → Takes used items_after records_after
 same_taken used items records items_after records_after items_are records_are takes =

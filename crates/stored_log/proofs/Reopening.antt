@@ -1,5 +1,5 @@
 -- A log that is opened again has what one of the disks has that a stop may leave.
-use Rattle.std.proofs.Common.{◌≡◌, ◌⊎◌, ℕ, ◌≤◌, true, false, List, [], ◌∷◌, ◌++◌, length, inl, inr, ⊎_elim, refl, sym, ap, subst, ◌∙◌, arith}
+use Rattle.std.proofs.Common.{◌≡◌, ℕ, ◌≤◌, true, false, List, [], ◌∷◌, ◌++◌, length, inl, inr, ⊎_elim, refl, sym, ap, subst, ◌∙◌, arith}
 use Rattle.disk.specs.Device.{Follows, NoMore, Only}
 use Rattle.gated_disk.specs.Moments.{LeavesOnly}
 use Rattle.log_area.specs.Areas.{AreaState, AreaSays}

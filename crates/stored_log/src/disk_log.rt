@@ -171,7 +171,11 @@ impl<D: StoppableDisk> DiskLog<D> {
     {
         let log_bytes = disk.size() as u64;
         let opened = open(disk, alloc).map_err(|(disk, fault)| (disk, fault_of(fault)))?;
-        let Opened { log, items, records } = opened;
+        let Opened {
+            log,
+            items,
+            records,
+        } = opened;
         let Some(used) = used_by(log_bytes, &items, &records) else {
             return Err((log.into_disk(), LogFault::Damaged));
         };

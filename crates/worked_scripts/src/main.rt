@@ -3,7 +3,7 @@
 
 mod row;
 
-use crate::row::{example_outcome, row_outcome, stopped_outcome};
+use crate::row::{example_outcome, row_outcome};
 use anyhow::{Context, Result};
 use std::fs;
 
@@ -79,12 +79,6 @@ const EXAMPLES: [&str; 15] = [
     "undelete",
 ];
 
-/// How many calls the master's disk passes at most before it fails. A record takes four.
-const MOST_CALLS: u64 = 8;
-
-/// What a restart may find of what was under way on a disk.
-const WAYS: [&str; 5] = ["old", "new", "0", "1", "7"];
-
 fn text_of(rt: &HostRuntime, name: &str) -> Result<String> {
     fs::read_to_string(rt, name).context(format_args!("reading {name}"))
 }
@@ -94,12 +88,6 @@ fn main(rt: HostRuntime) -> Result<()> {
     for name in ROWS {
         let row = text_of(&rt, name)?;
         println!(rt; "{name}: {}", row_outcome(alloc, row.as_str())?)?;
-    }
-    for calls in 0..=MOST_CALLS {
-        for way in WAYS {
-            let outcome = stopped_outcome(alloc, calls, way)?;
-            println!(rt; "fuse master {calls} {way}: {outcome}")?;
-        }
     }
     for name in EXAMPLES {
         let script = text_of(&rt, format!(in alloc; "examples/{name}.gfs")?.as_str())?;

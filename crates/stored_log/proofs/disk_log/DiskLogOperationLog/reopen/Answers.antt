@@ -12,7 +12,7 @@ invariant_of-self g c =
     let log = record was.log { disk = c.find.new.disk } in
     let is : c.closed.result ≡ closed was.standing = search rules in
     let left = reopened_leaves disk.may_leave was.log.disk c.find.new.disk was.items.items was.records.items (closed was.standing) c.find.ensures.stops
-      (closed_leaves disk.seen disk.may_leave was.log was.items.items was.records.items was.standing c.self.invariant.0) in (
+    (closed_leaves disk.seen disk.may_leave was.log was.items.items was.records.items was.standing c.self.invariant.0) in (
       subst (IsKept disk.seen disk.may_leave log was.items.items was.records.items) (sym is) (closed_kept disk.seen disk.may_leave log was.items.items was.records.items was.standing left),
       c.self.invariant.1,
       c.self.invariant.2,
@@ -26,7 +26,7 @@ invariant_of-self-in_default g c =
     let log = record was.log { disk = c.find.new.disk } in
     let is : c.closed.result ≡ closed was.standing = search rules in
     let left = reopened_leaves disk.may_leave was.log.disk c.find.new.disk was.items.items was.records.items (closed was.standing) c.find.ensures.stops
-      (closed_leaves disk.seen disk.may_leave was.log was.items.items was.records.items was.standing c.self.invariant.0) in (
+    (closed_leaves disk.seen disk.may_leave was.log was.items.items was.records.items was.standing c.self.invariant.0) in (
       subst (IsKept disk.seen disk.may_leave log was.items.items was.records.items) (sym is) (closed_kept disk.seen disk.may_leave log was.items.items was.records.items was.standing left),
       c.self.invariant.1,
       c.self.invariant.2,
