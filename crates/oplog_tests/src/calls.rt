@@ -4,6 +4,7 @@ use disk::Disk;
 use gfs_types::ids::{ClientId, FileId};
 use gfs_types::lists::Text;
 use gfs_types::no_memory::NoMemory;
+use gfs_types::torn::Torn;
 use log_codec::{is_item, is_writable};
 use log_records::record::Record;
 use oplog::LogFault;
@@ -11,6 +12,15 @@ use oplog_opening::open;
 use std::alloc::Global;
 
 pub(crate) const SIZE: usize = 4_096;
+
+/// What a stop may leave of what was under way.
+pub(crate) const WAYS: [Torn; 5] = [
+    Torn::Old,
+    Torn::New,
+    Torn::Byte(0),
+    Torn::Byte(1),
+    Torn::Byte(7),
+];
 
 /// What a call came to.
 #[derive(Drop)]

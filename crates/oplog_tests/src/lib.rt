@@ -6,4 +6,6 @@ mod bytes;
 #[cfg(test)]
 mod calls;
 #[cfg(test)]
+mod restarts;
+#[cfg(test)]
 mod stops;

@@ -1,19 +1,11 @@
 //! A log whose disk stops at each of its calls.
 
-use crate::calls::{SIZE, append, create, find};
+use crate::calls::{SIZE, WAYS, append, create, find};
 use disk::{Disk, FuseDisk, MemDisk};
 use gfs_types::torn::Torn;
 use log_records::record::Record;
 use std::alloc::Global;
 use std::test::Fail;
-
-const WAYS: [Torn; 5] = [
-    Torn::Old,
-    Torn::New,
-    Torn::Byte(0),
-    Torn::Byte(1),
-    Torn::Byte(7),
-];
 
 // Opening a new disk and appending takes 18 calls of the disk at most, opening again and appending 9.
 const CALLS: u64 = 28;

@@ -1,0 +1,83 @@
+-- A log that is opened again has what one of the disks has that a stop may leave.
+use Rattle.std.proofs.Common.{◌≡◌, ℕ, ◌≤◌, true, false, List, [], ◌∷◌, ◌++◌, length, inl, inr, ⊎_elim, refl, sym, ap, subst, ◌∙◌, arith}
+use Rattle.disk.specs.Device.{Follows, NoMore, Only}
+use Rattle.gated_disk.specs.Moments.{LeavesOnly}
+use Rattle.log_area.specs.Areas.{AreaState, AreaSays}
+use Rattle.log_area.proofs.Areas.{area_unique}
+use Rattle.log_disk.specs.Disks.{area_of, is_formatted, HasLog}
+use Rattle.log_records.specs.declared.record.Record.{Record}
+use Rattle.oplog_format.specs.NewLogs.{IsLogOf}
+use Rattle.oplog_opening.specs.Opening.{IsOpening}
+use Rattle.oplog_opening.proofs.Newest.{current_is, only_area}
+use Rattle.oplog_opening.proofs.Whole.{front_formatted, opened_log}
+use Rattle.operation_log.specs.Logs.{IsDecided}
+use Rattle.protocol.specs.Logged.{LogDisk}
+use Rattle.stored_log.specs.declared.standing.Standing.{Standing}
+use Rattle.stored_log.specs.declared.standing.Standing.TheVariants.{Open, Unread, Appending, Checkpointing}
+use Rattle.stored_log.specs.Kept.{changes_of, closed, HasKept, IsAmong, IsReopened, Leaves}
+
+abbrev pub log_of : List Record → List Record → LogDisk
+log_of items records = record { items = items; records = records }
+
+log_formatted : (items records : List Record) (d : List ℕ) → HasLog items records d → is_formatted d ≡ true
+log_formatted items records d log = sym (front_formatted d) ∙ ap is_formatted log.says.formatted
+
+-- a disk has one log
+logs_unique : (items records other_items other_records : List Record) (d : List ℕ) → 4096 ≤ length d → HasLog items records d → HasLog other_items other_records d → log_of other_items other_records ≡ log_of items records
+logs_unique items records other_items other_records d large log other =
+    let area : AreaState = record { number = log.number; items = items; records = records } in
+    let other_area : AreaState = record { number = other.number; items = other_items; records = other_records } in
+    let newest = current_is (length d) d large refl log.which area log.says in
+    let here : AreaSays other_area (area_of (length d) log.which d) = only_area (length d) d large refl log.which other.which other_area other.says newest in
+    ap (λ (a : AreaState). log_of a.items a.records) (area_unique other_area area (area_of (length d) log.which d) here log.says.says)
+
+kept_formatted : (items records : List Record) (standing : Standing) (d : List ℕ) → HasKept items records standing d → is_formatted d ≡ true
+kept_formatted items records Open d log = log_formatted items records d log
+kept_formatted items records Unread d log = log_formatted items records d log
+kept_formatted items records (Appending entry) d log = ⊎_elim (log_formatted items records d) (log_formatted items (records ++ entry ∷ []) d) log
+kept_formatted items records (Checkpointing written) d log = ⊎_elim (log_formatted items records d) (log_formatted written.items [] d) log
+
+reopened : (items records : List Record) (standing : Standing) (d c : List ℕ) → HasKept items records standing d → IsReopened d c → HasKept items records standing c
+reopened items records standing d c kept (inl same) = subst (HasKept items records standing) (sym same) kept
+reopened items records standing d c kept (inr new) = let both : true ≡ false = sym (kept_formatted items records standing d kept) ∙ new.0 in absurd cc
+
+-- a log that is begun anew has what it had
+pub reopened_leaves : {D : Type 0} (may_leave : D → List ℕ → Type 0) (old new : D) (items records : List Record) (standing : Standing) → Follows IsReopened (may_leave old) (may_leave new)
+    → Leaves may_leave old items records standing → Leaves may_leave new items records standing
+reopened_leaves may_leave old new items records standing follows kept c left =
+    let from = follows c left in
+    reopened items records standing from.0 c (kept from.0 from.1) from.2
+
+-- the log that is found, among two
+log_found : (items records found_items found_records : List Record) (d : List ℕ) → 4096 ≤ length d → IsLogOf found_items found_records d → HasLog items records d → log_of found_items found_records ≡ log_of items records
+log_found items records found_items found_records d large found log =
+    logs_unique items records found_items found_records d large log (opened_log found_items found_records d (log_formatted items records d log) found)
+
+decided : (items records found_items found_records : List Record) (standing : Standing) (d : List ℕ) → 4096 ≤ length d → IsLogOf found_items found_records d → HasKept items records (closed standing) d
+    → IsDecided (log_of items records) (changes_of standing) (log_of found_items found_records)
+decided items records found_items found_records Open d large found log = ([], log_found items records found_items found_records d large found log)
+decided items records found_items found_records Unread d large found log = ([], log_found items records found_items found_records d large found log)
+decided items records found_items found_records (Appending entry) d large found (inl log) = ([], log_found items records found_items found_records d large found log)
+decided items records found_items found_records (Appending entry) d large found (inr log) = (true ∷ [], log_found items (records ++ entry ∷ []) found_items found_records d large found log)
+decided items records found_items found_records (Checkpointing written) d large found (inl log) = ([], log_found items records found_items found_records d large found log)
+decided items records found_items found_records (Checkpointing written) d large found (inr log) = (true ∷ [], log_found written.items [] found_items found_records d large found log)
+
+pub found_decided : {D : Type 0} (may_leave : D → List ℕ → Type 0) (old : D) (size : ℕ) (items records found_items found_records : List Record) (standing : Standing) → 4096 ≤ size
+    → IsAmong (may_leave old) size found_items found_records → Leaves may_leave old items records (closed standing) → IsDecided (log_of items records) (changes_of standing) (log_of found_items found_records)
+found_decided may_leave old size items records found_items found_records standing large found kept =
+    decided items records found_items found_records standing found.disk (omega (arith, large, found.sized)) found.log (kept found.disk found.left)
+
+module _ {D : Type 0} (seen : D → List ℕ) (may_leave : D → List ℕ → Type 0) where
+  -- nothing was begun anew
+  pub not_reopened : (old new : D) → NoMore (may_leave old) (may_leave new) → Follows IsReopened (may_leave old) (may_leave new)
+  not_reopened old new more c left = (c, more c left, inl refl)
+
+  -- it was begun anew, and no more
+  pub only_restarted : (old mid : D) → may_leave old (seen mid) → Only (seen mid) (may_leave mid) → Follows IsReopened (may_leave old) (may_leave mid)
+  only_restarted old mid lawful durable c left = (seen mid, lawful, inl (durable c left))
+
+  module _ (moment : D → ℕ) (left_since : D → ℕ → List ℕ → Type 0) (counts_now : (disk : D) (t : ℕ) (c : List ℕ) → t ≤ moment disk → may_leave disk c → left_since disk t c) where
+    -- it was begun anew, and opened
+    pub restarted_and_opened : (old mid new : D) → may_leave old (seen mid) → Only (seen mid) (may_leave mid) → LeavesOnly moment left_since mid new (IsOpening (seen mid) (may_leave mid)) → Follows IsReopened (may_leave old) (may_leave new)
+    restarted_and_opened old mid new lawful durable run c left =
+        (seen mid, lawful, ⊎_elim (λ here. inl (durable c here)) (λ empty. inr empty) (run.each c (counts_now new (moment mid) c run.later left)))

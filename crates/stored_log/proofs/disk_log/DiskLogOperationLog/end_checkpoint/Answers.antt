@@ -1,0 +1,42 @@
+use Rattle.std.proofs.Common.{◌≡◌, ℕ, [], sym, ap, subst, ◌∙◌, rules}
+use Rattle.std.specs.Prelude.{Err}
+use Rattle.stored_log.specs.Kept.{Takes}
+use Rattle.stored_log.proofs.Keeping.{checkpoint_failed, checkpoint_kept, no_writing, refused_kept, same_taken}
+use Rattle.stored_log.proofs.disk_log.DiskLogOperationLog.end_checkpoint.Goals as goal
+
+pub invariant_of-self : goal.invariant_of-self
+invariant_of-self g c =
+    let was = c.self.inside in
+    let items = c.replace-writing.result.items in
+    let records = c.clear.new.self.items in
+    let moved : items ≡ was.writing.items = search rules in
+    let written : items ≡ c.deref-2.result.now = search rules in
+    let fresh : c.replace-writing.new.dest.items ≡ [] = search rules in (
+      checkpoint_kept g.D.Disk.seen g.D.Disk.may_leave was.log c.checkpoint.new.log was.items.items was.records.items c.deref-2.result.now items records was.standing c.in-Open.is c.self.invariant.0 c.in-Ok.ensures.ok written c.clear.ensures.items,
+      subst (λ (n : ℕ). Takes n items records) (sym c.replace-written.ensures.value) (same_taken was.written was.writing.items [] items records moved c.clear.ensures.items c.self.invariant.2.0),
+      no_writing c.replace-written.new.dest c.replace-writing.new.dest.items c.replace-written.ensures.after fresh,
+      c.self.invariant.3,
+    )
+
+pub invariant_of-self-in-NoMemory-1 : goal.invariant_of-self-in-NoMemory-1
+invariant_of-self-in-NoMemory-1 g c =
+    let was = c.self.inside in
+    let fresh : c.replace-writing.new.dest.items ≡ [] = search rules in
+    let refused = c.in-Err-NoMemory.is ∙ ap Err c.in-Err-NoMemory.field-0-is in (
+      refused_kept g.D.Disk.seen g.D.Disk.may_leave was.log c.checkpoint.new.log was.items.items was.records.items was.standing c.in-Open.is c.self.invariant.0 (λ area open'. c.checkpoint.ensures.still_open area open' refused),
+      c.self.invariant.1,
+      no_writing c.replace-written.new.dest c.replace-writing.new.dest.items c.replace-written.ensures.after fresh,
+      c.self.invariant.3,
+    )
+
+pub invariant_of-self-in-Err : goal.invariant_of-self-in-Err
+invariant_of-self-in-Err g c =
+    let was = c.self.inside in
+    let disk = g.D.Disk in
+    let written : c.replace-writing.result.items ≡ c.deref-2.result.now = search rules in
+    let fresh : c.replace-writing.new.dest.items ≡ [] = search rules in (
+      checkpoint_failed disk.seen disk.may_leave disk.moment disk.left_since g.met.D.Disk.counts_now was.log c.checkpoint.new.log was.items.items was.records.items c.deref-2.result.now c.replace-writing.result was.standing c.in-Open.is c.self.invariant.0 c.checkpoint.ensures.any_moment written,
+      c.self.invariant.1,
+      no_writing c.replace-written.new.dest c.replace-writing.new.dest.items c.replace-written.ensures.after fresh,
+      c.self.invariant.3,
+    )

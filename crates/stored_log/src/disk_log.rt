@@ -1,0 +1,353 @@
+//! The log over its disk.
+
+ghost use Rattle.std.specs.Prelude.{◌≡◌, ◌<◌, ◌≤◌, ◌+◌, ◌*◌, ◌^◌, ◌++◌, ◌∷◌, [], ℕ, List, length, is_some, nat_le, slice_get, IfErr, IfOk, IfSome, OnOk};
+ghost use Rattle.std.specs.List.{sum_by};
+ghost use Rattle.disk.specs.Device.{Follows, Only};
+ghost use Rattle.log_area.specs.Areas.{AreaState};
+ghost use Rattle.log_records.specs.declared.record.Record.{Record};
+ghost use Rattle.log_disk.specs.Disks.{HasLog};
+ghost use Rattle.oplog.specs.Logs.{IsOpen};
+ghost use Rattle.oplog_format.specs.NewLogs.{IsLogOf};
+ghost use Rattle.oplog_opening.specs.Opening.{area_found, IsFound};
+ghost use Rattle.protocol.specs.Logged.{new_log};
+ghost use Rattle.protocol.specs.LogSizes.{checkpoint_fits, checkpoint_size, payload_size, used_size};
+ghost use Rattle.operation_log.specs.Logs.{IsDecided};
+ghost use Rattle.operation_log.specs.declared.fault.LogFault.TheVariants as faults;
+ghost use Rattle.stored_log.specs.Kept.{closed, IsAmong, IsDiskSize, IsReopened, Takes};
+
+use crate::places::entry_at;
+use crate::standing::Standing;
+use crate::stoppable::{StoppableDisk, StoppableLog};
+use disk::DiskFault;
+use gfs_types::torn::Torn;
+use log_area::{area_at, area_size, is_checkpoint};
+use log_codec::{is_item, is_writable};
+use log_records::record::Record;
+use operation_log::fault::LogFault;
+use operation_log::log::OperationLog;
+use operation_log::sizes::used_with;
+use oplog::Log;
+use oplog_checkpoint::checkpoint;
+use oplog_opening::{Found, Opened, open, open_disk};
+use std::alloc::Global;
+use std::marker::Model;
+use std::mem;
+
+// An area's head.
+const HEAD: u64 = 13;
+
+// A gate and a length before a record.
+const AROUND_RECORD: u64 = 5;
+
+// A length before an item.
+const AROUND_ITEM: u64 = 4;
+
+/// The operation log on a disk. Its items and records are kept in memory too.
+#[derive(Drop)]
+pub struct DiskLog<D: StoppableDisk> {
+    alloc: Global,
+    log: Log<D>,
+    log_bytes: u64,
+    items: Vec<Record>,
+    records: Vec<Record>,
+    writing: Vec<Record>,
+    // the bytes of an area that the log takes
+    used: u64,
+    // the bytes of the other area that the checkpoint that is being written takes
+    written: u64,
+    standing: Standing,
+}
+
+impl<D: StoppableDisk> Model for DiskLog<D> {
+    ghost use Rattle.stored_log.specs.Kept.{changes_of, DiskLogState, IsDiskSize, IsKept, IsWritten, Takes};
+
+    ghost Value = { DiskLogState };
+
+    ghost view = { λ l. record {
+      disk = record { items = l.items.items; records = l.records.items };
+      under_way = changes_of l.standing;
+      writing = l.writing.items;
+      log_bytes = l.log_bytes;
+    } };
+
+    ghost invariant = { λ l. IsKept D.seen D.may_leave l.log l.items.items l.records.items l.standing
+        × Takes l.used l.items.items l.records.items
+        × IsWritten l.written l.writing.items
+        × IsDiskSize l.log_bytes };
+}
+
+fn fault_of(fault: oplog::LogFault) -> LogFault {
+    match fault {
+        oplog::LogFault::Full | oplog::LogFault::Damaged => LogFault::Damaged,
+        oplog::LogFault::Device => LogFault::Device,
+        oplog::LogFault::NoMemory => LogFault::NoMemory,
+    }
+}
+
+fn fault_of_disk(fault: DiskFault) -> LogFault {
+    match fault {
+        DiskFault::Device => LogFault::Device,
+        DiskFault::NoMemory => LogFault::NoMemory,
+    }
+}
+
+// An open log has to be read anew; what is under way stays so.
+fn closed(standing: Standing) -> Standing
+    ensures { result ≡ closed standing }
+{
+    match standing {
+        Standing::Open => Standing::Unread,
+        other => other,
+    }
+}
+
+// The bytes of an area once these stand there too, each with so many bytes around it; None where they don't fit.
+fn used_with_all(log_bytes: u64, used: u64, around: u64, all: &[Record]) -> Option<u64>
+    requires small { used < 2 ^ 63 }
+    ensures used { IfSome result (λ n. n ≡ used + sum_by (λ r. around + payload_size r) all.now) }
+    ensures small { IfSome result (λ n. n < 2 ^ 63) }
+{
+    let mut after = used;
+    let mut rest = all;
+    while let Some((first, others)) = rest.split_first() {
+        after = used_with(log_bytes, after, around, first)?;
+        rest = others;
+    }
+    Some(after)
+}
+
+// The bytes of an area that a log takes; None where it doesn't fit.
+fn used_by(log_bytes: u64, items: &[Record], records: &[Record]) -> Option<u64>
+    ensures { IfSome result (λ n. Takes n items.now records.now) }
+{
+    let used = used_with_all(log_bytes, HEAD, AROUND_ITEM, items)?;
+    used_with_all(log_bytes, used, AROUND_RECORD, records)
+}
+
+// What stands on the disk once it has begun again. It is the log of one of the disks that a stop might have left.
+fn find<D: StoppableDisk>(disk: &mut D, alloc: Global, log_bytes: u64) -> Result<Found, LogFault>
+    requires { IsDiskSize log_bytes }
+    ensures among { IfOk result (λ x. IsAmong (D.may_leave disk.old) log_bytes x.items.items x.records.items) }
+    ensures found { IfOk result (λ x. IsFound x (D.seen disk.new)) }
+    ensures size { OnOk result (length (D.seen disk.new) ≡ log_bytes) }
+    ensures durable { OnOk result (Only (D.seen disk.new) (D.may_leave disk.new)) }
+    ensures stops { Follows IsReopened (D.may_leave disk.old) (D.may_leave disk.new) }
+{
+    if let Err(fault) = disk.restart() {
+        return Err(fault_of_disk(fault));
+    }
+    if disk.size() as u64 != log_bytes {
+        return Err(LogFault::Damaged);
+    }
+    match open_disk(disk, alloc) {
+        Ok(found) => Ok(found),
+        Err(fault) => Err(fault_of(fault)),
+    }
+}
+
+// The log is open with what was found on its disk.
+fn place<D: StoppableDisk>(log: &mut Log<D>, found: &Found)
+    requires size { IsDiskSize (length (D.seen log.old.disk)) }
+    requires found { IsFound found.now (D.seen log.old.disk) }
+    requires durable { Only (D.seen log.old.disk) (D.may_leave log.old.disk) }
+    ensures { IsOpen D.seen D.may_leave log.new (area_found found.now) }
+{
+    let size = log.disk.size();
+    log.size = size;
+    log.which = found.which;
+    log.start = area_at(size, found.which);
+    log.room = area_size(size);
+    log.number = found.number;
+    log.end = found.end;
+}
+
+impl<D: StoppableDisk> DiskLog<D> {
+    /// Opens the log that stands on a disk; a disk whose head is closed holds an empty one. An error hands the disk back.
+    pub fn open(disk: D, alloc: Global) -> Result<DiskLog<D>, (D, LogFault)>
+        requires { IsDiskSize (length (D.seen disk)) }
+        ensures opened { IfOk result (λ l. IsLogOf l.disk.items l.disk.records (D.seen disk)) }
+        ensures decided { IfOk result (λ l. l.under_way ≡ []) }
+        ensures size { IfOk result (λ l. l.log_bytes ≡ length (D.seen disk)) }
+    {
+        let log_bytes = disk.size() as u64;
+        let opened = open(disk, alloc).map_err(|(disk, fault)| (disk, fault_of(fault)))?;
+        let Opened {
+            log,
+            items,
+            records,
+        } = opened;
+        let Some(used) = used_by(log_bytes, &items, &records) else {
+            return Err((log.into_disk(), LogFault::Damaged));
+        };
+        Ok(DiskLog {
+            alloc,
+            log,
+            log_bytes,
+            items,
+            records,
+            writing: Vec::new(alloc),
+            used,
+            written: HEAD,
+            standing: Standing::Open,
+        })
+    }
+
+    /// A new log on a disk that holds none, or an empty one. An error hands the disk back.
+    pub fn new(disk: D, alloc: Global) -> Result<DiskLog<D>, (D, LogFault)>
+        requires { IsDiskSize (length (D.seen disk)) }
+        ensures new { IfOk result (λ l. l.disk ≡ new_log) }
+        ensures decided { IfOk result (λ l. l.under_way ≡ []) }
+        ensures size { IfOk result (λ l. l.log_bytes ≡ length (D.seen disk)) }
+    {
+        let opened = DiskLog::open(disk, alloc)?;
+        if !opened.items.is_empty() || !opened.records.is_empty() {
+            return Err((opened.into_disk(), LogFault::Damaged));
+        }
+        Ok(opened)
+    }
+
+    /// The disk as it is.
+    pub fn into_disk(self) -> D {
+        self.log.into_disk()
+    }
+
+    // The bytes of the checkpoint that is being written once an item stands there too; None where they don't fit.
+    fn written_with(&self, item: &Record) -> Option<u64>
+        ensures room { is_some result ≡ checkpoint_fits self.now.log_bytes (self.now.writing ++ item.now ∷ []) }
+        ensures written { IfSome result (λ n. n ≡ 13 + checkpoint_size (self.now.writing ++ item.now ∷ [])) }
+        ensures small { IfSome result (λ n. n < 2 ^ 63) }
+    {
+        used_with(self.log_bytes, self.written, AROUND_ITEM, item)
+    }
+}
+
+impl<D: StoppableDisk> OperationLog for DiskLog<D> {
+    ghost disk = { λ l. l.disk };
+
+    ghost under_way = { λ l. l.under_way };
+
+    ghost writing = { λ l. l.writing };
+
+    ghost log_bytes = { λ l. l.log_bytes };
+
+    fn used(&self) -> u64 {
+        self.used
+    }
+
+    fn fits(&self, entry: &Record) -> bool {
+        used_with(self.log_bytes, self.used, AROUND_RECORD, entry).is_some()
+    }
+
+    // An item is no record: behind an open gate it would leave no log.
+    fn append(&mut self, entry: &Record) -> Result<(), LogFault> {
+        let Some(used) = used_with(self.log_bytes, self.used, AROUND_RECORD, entry) else {
+            return Err(LogFault::Full);
+        };
+        if !is_writable(entry) {
+            return Err(LogFault::Unwritable);
+        }
+        if is_item(entry) {
+            return Err(LogFault::Damaged);
+        }
+        let Standing::Open = self.standing else {
+            return Err(LogFault::Device);
+        };
+        let record = entry.copy(self.alloc)?;
+        match self.log.append(self.alloc, &record) {
+            Ok(()) => {}
+            Err(oplog::LogFault::NoMemory) => return Err(LogFault::NoMemory),
+            Err(_) => {
+                self.standing = Standing::Appending(record);
+                return Err(LogFault::Device);
+            }
+        }
+        if let Err(refused) = self.records.push(record) {
+            self.standing = Standing::Appending(refused.value);
+            return Err(LogFault::NoMemory);
+        }
+        self.used = used;
+        Ok(())
+    }
+
+    fn begin_checkpoint(&mut self) -> Result<(), LogFault> {
+        self.writing.clear();
+        self.written = HEAD;
+        Ok(())
+    }
+
+    fn add_item(&mut self, item: &Record) -> Result<(), LogFault> {
+        let Some(written) = self.written_with(item) else {
+            return Err(LogFault::Full);
+        };
+        if !is_writable(item) {
+            return Err(LogFault::Unwritable);
+        }
+        let record = item.copy(self.alloc)?;
+        self.writing.push(record)?;
+        self.written = written;
+        Ok(())
+    }
+
+    // Items that aren't a checkpoint in its order would leave no log.
+    fn end_checkpoint(&mut self) -> Result<(), LogFault> {
+        if !is_checkpoint(&self.writing) {
+            return Err(LogFault::Damaged);
+        }
+        let Standing::Open = self.standing else {
+            return Err(LogFault::Device);
+        };
+        let writing = mem::replace(&mut self.writing, Vec::new(self.alloc));
+        let written = mem::replace(&mut self.written, HEAD);
+        match checkpoint(&mut self.log, self.alloc, &writing) {
+            Ok(()) => {
+                self.items = writing;
+                self.records.clear();
+                self.used = written;
+                Ok(())
+            }
+            Err(oplog::LogFault::NoMemory) => Err(LogFault::NoMemory),
+            Err(oplog::LogFault::Full) => Err(LogFault::Full),
+            Err(_) => {
+                self.standing = Standing::Checkpointing(writing);
+                Err(LogFault::Device)
+            }
+        }
+    }
+
+    // The disk begins again and is read. It says what it said before the change that was under way, or after it.
+    fn reopen(&mut self) -> Result<(), LogFault> {
+        self.standing = closed(mem::replace(&mut self.standing, Standing::Unread));
+        let found = find(&mut self.log.disk, self.alloc, self.log_bytes)?;
+        let Some(used) = used_by(self.log_bytes, &found.items, &found.records) else {
+            return Err(LogFault::Damaged);
+        };
+        place(&mut self.log, &found);
+        self.items = found.items;
+        self.records = found.records;
+        self.used = used;
+        self.standing = Standing::Open;
+        Ok(())
+    }
+
+    #[tactic(auto, using(operation_log::proofs::Growth::count_within, operation_log::proofs::Growth::count_is))]
+    fn len(&self) -> u64 {
+        self.items.len() as u64 + self.records.len() as u64
+    }
+
+    fn entry(&mut self, place: u64) -> Result<Option<Record>, LogFault> {
+        match entry_at(&self.items, &self.records, place) {
+            Some(record) => Ok(Some(record.copy(self.alloc)?)),
+            None => Ok(None),
+        }
+    }
+}
+
+impl<D: StoppableDisk> StoppableLog for DiskLog<D> {
+    fn stop_after(&mut self, calls: u64, torn: Torn) {
+        self.log.disk.stop_after(calls, torn);
+    }
+
+    fn stop_after_restart(&mut self, calls: u64, torn: Torn) {
+        self.log.disk.stop_after_restart(calls, torn);
+    }
+}
