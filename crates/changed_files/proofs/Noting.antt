@@ -48,9 +48,11 @@ none_noted l files handles handle before none q =
   where
     gone : eq_by_cmp nat_cmp q handle ≡ true → file_under l q ≡ None
     gone e = ap (file_under l) (same_key q handle e) ∙ ap (option_map (λ (c : Copy). c.file)) (sym none)
+
     by_rest : (b : Bool) → file_under l q ≡ None → cond b (file_under l q) None ≡ file_under l q
     by_rest true e = refl
     by_rest false e = sym e
+
     by_key : (b : Bool) → eq_by_cmp nat_cmp q handle ≡ b → noted l handles q ≡ cond (b || list_any (eq_by_cmp nat_cmp q) handles) (file_under l q) None
     by_key true e = by_rest (list_any (eq_by_cmp nat_cmp q) handles) (gone e)
     by_key false e = refl

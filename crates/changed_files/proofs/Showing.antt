@@ -60,6 +60,7 @@ module _ (m : MasterState) (moment : ℕ) (i : Input) (used : List Bool) (first 
       both : (has_number (numbers_from first ((master_goes m moment i used).master.logged.next_file - first)) q ≡ false) × (has_number (files_changed copies (master_goes m moment i used).changes) q ≡ false)
       both = neither (has_number (numbers_from first ((master_goes m moment i used).master.logged.next_file - first)) q) (has_number (files_changed copies (master_goes m moment i used).changes) q)
           (sym (any_both (λ x. x == q) (numbers_from first ((master_goes m moment i used).master.logged.next_file - first)) (files_changed copies (master_goes m moment i used).changes)) ∙ h)
+
       by_test : (b : Bool) → nat_lt q m.logged.next_file ≡ b → file_of (master_goes m moment i used).master.logged.table q ≡ table.get m.logged.table.files q
       by_test true e = files_stay m moment i used copies q noted.copies_are (ltb-true q m.logged.next_file e) both.1
       by_test false e =
