@@ -8,7 +8,7 @@ use Rattle.shown_files.specs.Shown.{shown_in}
 use Rattle.master.specs.Inputs.{input_of}
 use Rattle.master.specs.Standing.{standing}
 use Rattle.master.proofs.Steps.{stays_down, drafted_went, is_up_as, up_is}
-use Rattle.master.proofs.Files.{shown_down, step_shows}
+use Rattle.master.proofs.Files.{shown_down, shown_before, step_shows}
 use Rattle.master.proofs.master.Master.step.Goals as goal
 
 pub returns-then-not-self-clause-steps : goal.returns-then-not-self-clause-steps
@@ -22,6 +22,14 @@ returns-then-not-self-clause-files g c =
     let down : c.args.self.now.up ≡ false =
     up_is c.self.inside.up (g.L.OperationLog.disk c.self.inside.log) (g.L.OperationLog.under_way c.self.inside.log) c.self.inside.config c.self.inside.server_count c.self.inside.plan c.args.self.now (search rules) c.self.view_is in
     shown_down c.args.self.now (shown_in c.args.shown.now) down
+
+pub drafts-requires-clause-shown : goal.drafts-requires-clause-shown
+drafts-requires-clause-shown g c =
+    let disk = g.L.OperationLog.disk c.self.inside.log in
+    let under_way = g.L.OperationLog.under_way c.self.inside.log in
+    let up : c.self.inside.up ≡ true = search rules in
+    shown_before disk under_way c.self.inside.config c.self.inside.server_count c.self.inside.plan c.args.self.now (shown_in c.args.shown.now)
+    (is_up_as c.self.inside.up disk under_way c.self.inside.config c.self.inside.server_count c.self.inside.plan c.args.self.now up c.self.view_is) c.requires.shown
 
 pub returns-clause-files : goal.returns-clause-files
 returns-clause-files g c =
