@@ -7,7 +7,7 @@ use Rattle.master_plan.specs.Changes.{changes_of}
 use Rattle.shown_files.specs.Shown.{shown_in}
 use Rattle.master.specs.Inputs.{input_of}
 use Rattle.master.specs.Standing.{standing}
-use Rattle.master.proofs.Steps.{stays_down, drafted_went, is_up_as, up_is}
+use Rattle.master.proofs.Steps.{stays_down, drafted_went, drafted_rests, is_up_as, up_is}
 use Rattle.master.proofs.Files.{shown_down, shown_before, step_shows}
 use Rattle.master.proofs.master.Master.step.Goals as goal
 
@@ -30,6 +30,15 @@ drafts-requires-clause-shown g c =
     let up : c.self.inside.up ≡ true = search rules in
     shown_before disk under_way c.self.inside.config c.self.inside.server_count c.self.inside.plan c.args.self.now (shown_in c.args.shown.now)
     (is_up_as c.self.inside.up disk under_way c.self.inside.config c.self.inside.server_count c.self.inside.plan c.args.self.now up c.self.view_is) c.requires.shown
+
+pub invariant_of-self-2 : goal.invariant_of-self-2
+invariant_of-self-2 g c =
+    let disk = g.L.OperationLog.disk c.self.inside.log in
+    let under_way = g.L.OperationLog.under_way c.self.inside.log in
+    let up : c.self.inside.up ≡ true = search rules in
+    let rests = drafted_rests disk under_way c.self.inside.config c.self.inside.server_count c.self.inside.plan c.args.now.0 (input_of (option_copied c.args.message)) (c.self.invariant.2 up) (changes_of c.in-Ok.draft.changes) c.drafts.new.plan c.in-Ok.ensures.drafts
+    (g.L.OperationLog.disk c.makes_all.new.log) (g.L.OperationLog.under_way c.makes_all.new.log) c.take_sent-sent.new.self c.take_seen-seen.new.self c.take_sent-sent.ensures.rest c.take_seen-seen.ensures.rest c.if-not-makes_all.ensures.none in
+    (c.self.invariant.0, c.self.invariant.1, λ _. rests)
 
 pub returns-clause-files : goal.returns-clause-files
 returns-clause-files g c =
