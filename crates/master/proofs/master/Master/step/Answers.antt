@@ -1,4 +1,4 @@
-use Rattle.std.proofs.Common.{◌≡◌, true, false, None, subst, sym, ◌∙◌, rules}
+use Rattle.std.proofs.Common.{◌≡◌, true, false, None, subst, ◌∙◌, rules}
 use Rattle.std.specs.Option.{option_copied}
 use Rattle.messages.specs.declared.event.StepOut.{StepOut}
 use Rattle.protocol.specs.Master.{MasterState}
