@@ -2,7 +2,7 @@
 #![tactic(auto)]
 
 ghost use Rattle.std.specs.Prelude.{◌≡◌, ◌≤◌, true, [], IfOk};
-ghost use Rattle.std.specs.Coded.{coded_ℕ, coded_list};
+ghost use Rattle.std.specs.Coded.{→_prop, Coded-set, coded_ℕ, coded_list};
 ghost use Rattle.std.specs.FinMap as table;
 ghost use Rattle.protocol.specs.Logged.{new_log};
 ghost use Rattle.protocol.specs.MasterStep.{new_master};
@@ -27,7 +27,7 @@ use step_outcome::Outcome;
 pub struct SeatedMaster<L: OperationLog, A: Allocator> {
     master: Master<L, A>,
     files: ShownFiles,
-    ghost shown: { master.up ≡ true → shown_in files ≡ master.logged.table.files } by { Prim.hlevel (table.code, coded_list, coded_ℕ) },
+    ghost shown: { master.up ≡ true → shown_in files ≡ master.logged.table.files } by { →_prop (Coded-set (table.code coded_ℕ (coded_list coded_ℕ)) _ _) },
 }
 
 impl<L: OperationLog + Drop, A: Allocator + Clone> SeatedMaster<L, A> {
