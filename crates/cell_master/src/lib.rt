@@ -1,10 +1,12 @@
 //! The master as a cell wants it: with the chunks of all files as they stood when it was last up.
 #![tactic(auto)]
 
-ghost use Rattle.std.specs.Prelude.{◌≡◌, ◌≤◌, [], IfOk};
+ghost use Rattle.std.specs.Prelude.{◌≡◌, ◌≤◌, true, [], IfOk};
+ghost use Rattle.std.specs.Coded.{→_prop, Coded-set, coded_ℕ, coded_list};
 ghost use Rattle.std.specs.FinMap as table;
 ghost use Rattle.protocol.specs.Logged.{new_log};
 ghost use Rattle.protocol.specs.MasterStep.{new_master};
+ghost use Rattle.shown_files.specs.Shown.{shown_in};
 
 use cell_world::master::CellMaster;
 use gfs_types::config::Config;
@@ -15,21 +17,22 @@ use master::master::Master;
 use messages::event::StepOut;
 use messages::message::Message;
 use namespace::name_kind::NameKind;
-use number_map::NumberMap;
 use operation_log::log::OperationLog;
-use shown_files::ShownFiles;
+use shown_files::shown::ShownFiles;
 use std::alloc::{Allocator, Global};
 use step_outcome::Outcome;
 
-/// A master over a log, and what is shown of its files. Its names lie in `A`.
+/// A master over a log, and what is shown of its files: while it is up, these are its files. Its names lie in `A`.
 #[derive(Drop)]
 pub struct SeatedMaster<L: OperationLog, A: Allocator> {
     master: Master<L, A>,
     files: ShownFiles,
+    ghost shown: { master.up ≡ true → shown_in files ≡ master.logged.table.files } by { →_prop (Coded-set (table.code coded_ℕ (coded_list coded_ℕ)) _ _) },
 }
 
 impl<L: OperationLog + Drop, A: Allocator + Clone> SeatedMaster<L, A> {
     /// The master of a new cell, whose log is new: the first epoch is logged. The settings are within their ranges.
+    #[tactic(auto, using(crate::proofs::Files::shown_first))]
     pub fn new(
         alloc: Global,
         config: Config,
@@ -42,12 +45,12 @@ impl<L: OperationLog + Drop, A: Allocator + Clone> SeatedMaster<L, A> {
         requires new { L.disk log ≡ new_log }
         requires decided { L.under_way log ≡ [] }
         ensures master { IfOk result (λ m. m.master ≡ new_master config server_count) }
-        ensures files { IfOk result (λ m. m.files ≡ table.empty) }
+        ensures files { IfOk result (λ m. shown_in m.files ≡ table.empty) }
     {
         let master = Master::new(alloc, config, server_count, log, names)?;
         Ok(SeatedMaster {
             master,
-            files: NumberMap::new(alloc),
+            files: ShownFiles::new(alloc),
         })
     }
 }
@@ -55,7 +58,7 @@ impl<L: OperationLog + Drop, A: Allocator + Clone> SeatedMaster<L, A> {
 impl<L: OperationLog, A: Allocator + Clone> CellMaster for SeatedMaster<L, A> {
     ghost state = { λ m. m.master };
 
-    ghost files = { λ m. m.files };
+    ghost files = { λ m. shown_in m.files };
 
     fn is_up(&self) -> bool {
         self.master.is_up()
@@ -77,7 +80,7 @@ impl<L: OperationLog, A: Allocator + Clone> CellMaster for SeatedMaster<L, A> {
 
     #[tactic(auto, using(crate::proofs::Files::no_file, crate::proofs::Files::no_chunk, crate::proofs::Files::a_chunk))]
     fn handle_at(&self, file: FileId, index: u64) -> Option<Handle> {
-        let Some(handles) = self.files.get(file.0) else {
+        let Some(handles) = self.files.get(file) else {
             return None;
         };
         let Some(handle) = handles.as_slice().get(index as usize) else {
@@ -86,15 +89,17 @@ impl<L: OperationLog, A: Allocator + Clone> CellMaster for SeatedMaster<L, A> {
         Some(Handle(*handle))
     }
 
+    #[tactic(auto, using(crate::proofs::Files::shown_stopped))]
     fn stop(&mut self) {
         self.master.stop();
     }
 
-    #[tactic(auto, using(crate::proofs::Files::on_input))]
+    #[tactic(auto, using(crate::proofs::Files::on_input, crate::proofs::Files::shown_up))]
     fn step(&mut self, now: Moment, message: Option<&Message>) -> Outcome {
         self.master.step(now, message, &mut self.files)
     }
 
+    #[tactic(auto, using(crate::proofs::Files::shown_up))]
     fn restart(&mut self, now: Moment) -> StepOut {
         self.master.restart(now, &mut self.files)
     }

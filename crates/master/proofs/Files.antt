@@ -27,12 +27,18 @@ pub shown_up : (disk : LogDisk) (under_way : List LogChange) (config : Config) (
 shown_up disk under_way config count p logged files before same is = is ∙ ap (λ (l : Logged). l.table.files) same
 
 -- the same, from what the code hands back
-pub step_shows : (disk : LogDisk) (under_way : List LogChange) (config : Config) (count : ℕ) (p q r s : PlanState) (files before : Table (List ℕ)) → q ≡ record p { sent = [] } → r ≡ record q { seen = [] }
-    → s ≡ record r { changes = [] } → files ≡ p.logged.table.files → files ≡ files_seen (standing true disk under_way config count s) before
-step_shows disk under_way config count p q r s files before q_is r_is s_is is =
-    let logged : s.logged ≡ p.logged = ap (λ (x : PlanState). x.logged) s_is ∙ ap (λ (x : PlanState). x.logged) r_is ∙ ap (λ (x : PlanState). x.logged) q_is in
-    shown_up disk under_way config count s p.logged files before (sym logged) is
+pub step_shows : (disk : LogDisk) (under_way : List LogChange) (config : Config) (count : ℕ) (p q r : PlanState) (files before : Table (List ℕ)) → q ≡ record p { sent = [] } → r ≡ record q { seen = [] }
+    → files ≡ p.logged.table.files → files ≡ files_seen (standing true disk under_way config count r) before
+step_shows disk under_way config count p q r files before q_is r_is is =
+    let logged : r.logged ≡ p.logged = ap (λ (x : PlanState). x.logged) r_is ∙ ap (λ (x : PlanState). x.logged) q_is in
+    shown_up disk under_way config count r p.logged files before (sym logged) is
 
 -- down: the files stay
 pub shown_down : (m : MasterState) (files : Table (List ℕ)) → m.up ≡ false → files ≡ files_seen m files
 shown_down m files down = sym (ap (λ (b : Bool). cond b m.logged.table.files files) down)
+
+-- up: what is shown are the files of the plan
+pub shown_before : (disk : LogDisk) (under_way : List LogChange) (config : Config) (count : ℕ) (p : PlanState) (m : MasterState) (files : Table (List ℕ)) → standing true disk under_way config count p ≡ m
+    → (m.up ≡ true → files ≡ m.logged.table.files) → files ≡ p.logged.table.files
+shown_before disk under_way config count p m files view shown =
+    shown (ap (λ (x : MasterState). x.up) (sym view)) ∙ ap (λ (x : MasterState). x.logged.table.files) (sym view)

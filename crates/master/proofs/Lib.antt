@@ -5,3 +5,4 @@ pub mod Limits
 pub mod Openings
 pub mod Committing
 pub mod Files
+pub mod Drafting

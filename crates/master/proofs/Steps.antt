@@ -18,6 +18,7 @@ use Rattle.master_plan.specs.Plans.{PlanState, master_of, known, doing, resting}
 use Rattle.master.specs.Commits.{IsStopped}
 use Rattle.master.specs.Standing.{standing, IsResting}
 use Rattle.master.specs.Ends.{Goes, AllMade, AreMade}
+use Rattle.master.specs.Drafts.{Drafts}
 
 -- nothing was made of a plan
 pub none_made : (disk : LogDisk) (p : PlanState) (under_way : List LogChange) → under_way ≡ [] → AreMade disk p false disk under_way
@@ -121,20 +122,45 @@ module _ (disk : LogDisk) (under_way : List LogChange) (config : Config) (count 
           count_is = ap (λ (s : Config × ℕ). s.1) same ∙ rest.count_is;
         }
 
-    -- the same, from what the code hands back
-    pub went_as : (q r s : PlanState) (sent : List Message) (seen : List Seen) → q ≡ record p1 { sent = [] } → r ≡ record q { seen = [] } → s ≡ record r { changes = [] }
-        → sent ≡ p1.sent → seen ≡ q.seen → AllMade disk r new_disk new_under_way
-        → MasterSteps (standing true disk under_way config count p0) moment i (record { sent = sent; answer = None; down = false }) seen (standing true new_disk new_under_way config count s)
-    went_as q r s sent seen q_is r_is s_is sent_is seen_is made =
-        let r_at : r ≡ record p1 { sent = []; seen = [] } = r_is ∙ ap (λ (x : PlanState). record x { seen = [] }) q_is in
-        let s_at : s ≡ resting p1 = s_is ∙ ap (λ (x : PlanState). record x { changes = [] }) r_at in
-        let m : AllMade disk (record p1 { sent = []; seen = [] }) new_disk new_under_way = subst (λ (x : PlanState). AllMade disk x new_disk new_under_way) r_at made in
-        let seen_at : seen ≡ p1.seen = seen_is ∙ ap (λ (x : PlanState). x.seen) q_is in
+    -- the same, from what the code hands back: the changes are taken out of the plan first
+    cut_off_as : (q : PlanState) (cs : List LogChange) → cs ≡ p1.changes → IsStopped disk cs new_disk new_under_way
+        → MasterSteps (standing true disk under_way config count p0) moment i down_output [] (standing false new_disk new_under_way config count q)
+    cut_off_as q cs same stop = cut_off q (subst (λ (x : List LogChange). IsStopped disk x new_disk new_under_way) same stop)
+
+    resting_as : (p2 q r : PlanState) → p2 ≡ record p1 { changes = [] } → q ≡ record p2 { sent = [] } → r ≡ record q { seen = [] } → r ≡ resting p1
+    resting_as p2 q r p2_is q_is r_is = r_is ∙ ap (λ (x : PlanState). record x { seen = [] }) q_is ∙ ap (λ (x : PlanState). record x { sent = []; seen = [] }) p2_is
+
+    rests_as : (p2 q r : PlanState) → p2 ≡ record p1 { changes = [] } → q ≡ record p2 { sent = [] } → r ≡ record q { seen = [] } → new_under_way ≡ [] → IsResting new_under_way config count r
+    rests_as p2 q r p2_is q_is r_is none = subst (λ (x : PlanState). IsResting new_under_way config count x) (sym (resting_as p2 q r p2_is q_is r_is)) (rests none)
+
+    went_as : (p2 q r : PlanState) (cs : List LogChange) (sent : List Message) (seen : List Seen) → cs ≡ p1.changes → p2 ≡ record p1 { changes = [] } → q ≡ record p2 { sent = [] } → r ≡ record q { seen = [] }
+        → sent ≡ p2.sent → seen ≡ q.seen → AllMade disk (record r { changes = cs }) new_disk new_under_way
+        → MasterSteps (standing true disk under_way config count p0) moment i (record { sent = sent; answer = None; down = false }) seen (standing true new_disk new_under_way config count r)
+    went_as p2 q r cs sent seen cs_is p2_is q_is r_is sent_is seen_is made =
+        let r_at : r ≡ resting p1 = resting_as p2 q r p2_is q_is r_is in
+        let planned : record r { changes = cs } ≡ record p1 { sent = []; seen = [] } =
+        ap (λ (x : PlanState). record x { changes = cs }) r_at ∙ ap (λ (x : List LogChange). record p1 { sent = []; seen = []; changes = x }) cs_is in
+        let m : AllMade disk (record p1 { sent = []; seen = [] }) new_disk new_under_way = subst (λ (x : PlanState). AllMade disk x new_disk new_under_way) planned made in
+        let sent_at : sent ≡ p1.sent = sent_is ∙ ap (λ (x : PlanState). x.sent) p2_is in
+        let seen_at : seen ≡ p1.seen = seen_is ∙ ap (λ (x : PlanState). x.seen) q_is ∙ ap (λ (x : PlanState). x.seen) p2_is in
         let all : AllMade disk p1 new_disk new_under_way = record { within = m.within; disk_is = m.disk_is; none = m.none } in
-        subst (λ (x : PlanState). MasterSteps (standing true disk under_way config count p0) moment i (record { sent = sent; answer = None; down = false }) seen (standing true new_disk new_under_way config count x)) (sym s_at)
+        subst (λ (x : PlanState). MasterSteps (standing true disk under_way config count p0) moment i (record { sent = sent; answer = None; down = false }) seen (standing true new_disk new_under_way config count x)) (sym r_at)
         (subst (λ (x : List Seen). MasterSteps (standing true disk under_way config count p0) moment i (record { sent = sent; answer = None; down = false }) x (standing true new_disk new_under_way config count (resting p1))) (sym seen_at)
-        (subst (λ (x : List Message). MasterSteps (standing true disk under_way config count p0) moment i (record { sent = x; answer = None; down = false }) p1.seen (standing true new_disk new_under_way config count (resting p1))) (sym sent_is)
+        (subst (λ (x : List Message). MasterSteps (standing true disk under_way config count p0) moment i (record { sent = x; answer = None; down = false }) p1.seen (standing true new_disk new_under_way config count (resting p1))) (sym sent_at)
         (went all)))
+
+module _ (disk : LogDisk) (under_way : List LogChange) (config : Config) (count : ℕ) (p0 : PlanState) (moment : ℕ) (i : Input) (rest : IsResting under_way config count p0) (cs : List LogChange) (p2 : PlanState) (d : Drafts disk p0 moment i cs p2)
+    (new_disk : LogDisk) (new_under_way : List LogChange) where
+  pub drafted_cut_off : (q : PlanState) → IsStopped disk cs new_disk new_under_way → MasterSteps (standing true disk under_way config count p0) moment i down_output [] (standing false new_disk new_under_way config count q)
+  drafted_cut_off q stop = cut_off_as disk under_way config count p0 moment i rest d.planned d.goes new_disk new_under_way q cs d.changes_are stop
+
+  pub drafted_rests : (q r : PlanState) → q ≡ record p2 { sent = [] } → r ≡ record q { seen = [] } → new_under_way ≡ [] → IsResting new_under_way config count r
+  drafted_rests q r q_is r_is none = rests_as disk under_way config count p0 moment i rest d.planned d.goes new_disk new_under_way p2 q r d.rest q_is r_is none
+
+  pub drafted_went : (q r : PlanState) (sent : List Message) (seen : List Seen) → q ≡ record p2 { sent = [] } → r ≡ record q { seen = [] } → sent ≡ p2.sent → seen ≡ q.seen → AllMade disk (record r { changes = cs }) new_disk new_under_way
+      → MasterSteps (standing true disk under_way config count p0) moment i (record { sent = sent; answer = None; down = false }) seen (standing true new_disk new_under_way config count r)
+  drafted_went q r sent seen q_is r_is sent_is seen_is made =
+      went_as disk under_way config count p0 moment i rest d.planned d.goes new_disk new_under_way p2 q r cs sent seen d.changes_are d.rest q_is r_is sent_is seen_is made
 
 -- a master that is down, as it was made, takes no step
 pub stays_down : (m : MasterState) (moment : ℕ) (i : Input) (out : StepOut) (seen : List Seen) → m.up ≡ false → out ≡ no_output → seen ≡ [] → MasterSteps m moment i out seen m

@@ -4,3 +4,4 @@ pub mod Standing
 pub mod Ends
 pub mod Opens
 pub mod Inputs
+pub mod Drafts

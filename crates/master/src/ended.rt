@@ -3,25 +3,38 @@
 ghost use Rattle.std.specs.Prelude.{◌≡◌, ◌&&◌, nat_le, []};
 ghost use Rattle.protocol.specs.Tables.{counter_limit};
 ghost use Rattle.protocol.specs.MasterStep.{is_within_limits};
+ghost use Rattle.master_plan.specs.Changes.{changes_of};
 ghost use Rattle.master_plan.specs.Plans.{known};
 ghost use Rattle.master.specs.Ends.{AreMade};
 
 use crate::commit::commit;
 use gfs_types::ids::MAX_COUNTER;
+use master_plan::change::ChangeList;
 use master_plan::plan::Plan;
 use operation_log::log::OperationLog;
 use std::alloc::Allocator;
 
 // Makes the changes of a plan on the log. False: a counter is past its limit, or a change failed, and the master is to go down.
-#[tactic(auto, using(crate::proofs::Steps::none_made))]
 pub(crate) fn makes<L: OperationLog, A: Allocator + Clone>(log: &mut L, plan: &mut Plan<A>) -> bool
     requires decided { L.under_way log.old ≡ [] }
     ensures made { AreMade (L.disk log.old) plan.old result (L.disk log.new) (L.under_way log.new) }
     ensures rest { plan.new ≡ record plan.old { changes = [] } }
 {
-    let is_within_limits = is_within_limits(plan);
     let changes = plan.take_changes();
-    is_within_limits && commit(log, changes.as_slice()).is_ok()
+    makes_all(log, plan, &changes)
+}
+
+// The same of changes that were taken out of the plan.
+#[tactic(auto, using(crate::proofs::Steps::none_made))]
+pub(crate) fn makes_all<L: OperationLog, A: Allocator + Clone>(
+    log: &mut L,
+    plan: &Plan<A>,
+    changes: &ChangeList,
+) -> bool
+    requires decided { L.under_way log.old ≡ [] }
+    ensures { AreMade (L.disk log.old) (record plan.now { changes = changes_of changes.now }) result (L.disk log.new) (L.under_way log.new) }
+{
+    is_within_limits(plan) && commit(log, changes.as_slice()).is_ok()
 }
 
 // Whether no counter is past its limit.

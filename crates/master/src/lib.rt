@@ -2,6 +2,7 @@
 #![tactic(auto)]
 
 pub mod commit;
+mod drafted;
 mod ended;
 pub mod fault;
 pub mod master;

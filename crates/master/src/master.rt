@@ -8,12 +8,13 @@ ghost use Rattle.protocol.specs.MasterStep.{new_master};
 ghost use Rattle.protocol.specs.Conforms.{MasterSteps, MasterRestarts};
 ghost use Rattle.protocol.specs.Master.{stopped_master};
 ghost use Rattle.protocol.specs.World.{files_seen};
+ghost use Rattle.shown_files.specs.Shown.{shown_in};
 ghost use Rattle.master.specs.Inputs.{input_of};
 ghost use Rattle.master.specs.Opens.{Opens};
 
-use crate::ended::makes;
+use crate::drafted::drafts;
+use crate::ended::{makes, makes_all};
 use crate::fault::MasterFault;
-use crate::planned::plans;
 use crate::started::{first_plan, opens};
 use gfs_types::config::Config;
 use gfs_types::ids::Moment;
@@ -24,7 +25,7 @@ use master_state::state::State;
 use messages::event::StepOut;
 use messages::message::Message;
 use operation_log::log::OperationLog;
-use shown_files::{ShownFiles, shown_of};
+use shown_files::shown::{ShownFiles, shown_of};
 use std::alloc::{Allocator, Global};
 use std::marker::Model;
 use step_outcome::{Outcome, gives_nothing, goes_down};
@@ -118,37 +119,35 @@ impl<L: OperationLog, A: Allocator + Clone> Master<L, A> {
         self.up = false;
     }
 
-    /// A step on a message, or on a tick. Where the master is up after it, the chunks of its files are put into `shown`, which
-    /// else stays.
-    #[tactic(auto, using(crate::proofs::Steps::stays, crate::proofs::Steps::lost, crate::proofs::Steps::cut_off, crate::proofs::Steps::went, crate::proofs::Steps::rests))]
+    /// A step on a message, or on a tick. While the master is up the chunks of its files are shown. Where it is up after the
+    /// step, those that were changed are shown anew; else all that was shown stays.
+    #[tactic(auto, using(crate::proofs::Steps::stays, crate::proofs::Steps::lost, crate::proofs::Steps::drafted_cut_off, crate::proofs::Steps::drafted_rests))]
     pub fn step(
         &mut self,
         now: Moment,
         message: Option<&Message>,
         shown: &mut ShownFiles,
     ) -> Outcome
-        requires { now.0 ≤ moment_limit }
+        requires moment { now.0 ≤ moment_limit }
+        requires shown { self.old.up ≡ true → shown_in shown.old ≡ self.old.logged.table.files }
         ensures steps { MasterSteps self.old now.0 (input_of (option_copied message.entry)) result.out result.seen self.new }
-        ensures files { shown.new ≡ files_seen self.new shown.old }
+        ensures files { shown_in shown.new ≡ files_seen self.new (shown_in shown.old) }
     {
         let alloc = self.plan.alloc();
         if !self.up {
             return Outcome::nothing(alloc);
         }
         self.up = false;
-        if plans(&self.log, &mut self.plan, now, message).is_err() {
-            return Outcome::down(alloc, Sequence::empty(alloc));
-        }
-        let Ok(files) = shown_of(alloc, self.plan.state().table()) else {
+        let Ok(draft) = drafts(&self.log, &mut self.plan, now, message, shown) else {
             return Outcome::down(alloc, Sequence::empty(alloc));
         };
         let sent = self.plan.take_sent();
         let seen = self.plan.take_seen();
-        if !makes(&mut self.log, &mut self.plan) {
+        if !makes_all(&mut self.log, &self.plan, &draft.changes) {
             return Outcome::down(alloc, Sequence::empty(alloc));
         }
         self.up = true;
-        *shown = files;
+        shown.put(draft.copies);
         let out = StepOut {
             sent,
             answer: None,
@@ -163,7 +162,7 @@ impl<L: OperationLog, A: Allocator + Clone> Master<L, A> {
     pub fn restart(&mut self, now: Moment, shown: &mut ShownFiles) -> StepOut
         requires { now.0 ≤ moment_limit }
         ensures steps { MasterRestarts self.old now.0 result self.new }
-        ensures files { shown.new ≡ files_seen self.new shown.old }
+        ensures files { shown_in shown.new ≡ files_seen self.new (shown_in shown.old) }
     {
         let alloc = self.plan.alloc();
         self.up = false;
@@ -180,7 +179,7 @@ impl<L: OperationLog, A: Allocator + Clone> Master<L, A> {
         requires down { self.old.up ≡ false }
         requires decided { self.old.under_way ≡ [] }
         ensures opens { Opens self.old now.0 result self.new }
-        ensures files { shown.new ≡ files_seen self.new shown.old }
+        ensures files { shown_in shown.new ≡ files_seen self.new (shown_in shown.old) }
     {
         self.up = false;
         let Ok(names) = self.names.clone() else {

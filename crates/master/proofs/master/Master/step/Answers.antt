@@ -1,12 +1,14 @@
-use Rattle.std.proofs.Common.{◌≡◌, true, false, None, subst, rules}
+use Rattle.std.proofs.Common.{◌≡◌, true, false, None, subst, ◌∙◌, rules}
 use Rattle.std.specs.Option.{option_copied}
 use Rattle.messages.specs.declared.event.StepOut.{StepOut}
 use Rattle.protocol.specs.Master.{MasterState}
 use Rattle.protocol.specs.Conforms.{MasterSteps}
+use Rattle.master_plan.specs.Changes.{changes_of}
+use Rattle.shown_files.specs.Shown.{shown_in}
 use Rattle.master.specs.Inputs.{input_of}
 use Rattle.master.specs.Standing.{standing}
-use Rattle.master.proofs.Steps.{stays_down, went_as, is_up_as, up_is}
-use Rattle.master.proofs.Files.{shown_down, step_shows}
+use Rattle.master.proofs.Steps.{stays_down, drafted_went, drafted_rests, is_up_as, up_is}
+use Rattle.master.proofs.Files.{shown_down, shown_before, step_shows}
 use Rattle.master.proofs.master.Master.step.Goals as goal
 
 pub returns-then-not-self-clause-steps : goal.returns-then-not-self-clause-steps
@@ -19,13 +21,30 @@ pub returns-then-not-self-clause-files : goal.returns-then-not-self-clause-files
 returns-then-not-self-clause-files g c =
     let down : c.args.self.now.up ≡ false =
     up_is c.self.inside.up (g.L.OperationLog.disk c.self.inside.log) (g.L.OperationLog.under_way c.self.inside.log) c.self.inside.config c.self.inside.server_count c.self.inside.plan c.args.self.now (search rules) c.self.view_is in
-    shown_down c.args.self.now c.args.shown.now down
+    shown_down c.args.self.now (shown_in c.args.shown.now) down
+
+pub drafts-requires-clause-shown : goal.drafts-requires-clause-shown
+drafts-requires-clause-shown g c =
+    let disk = g.L.OperationLog.disk c.self.inside.log in
+    let under_way = g.L.OperationLog.under_way c.self.inside.log in
+    let up : c.self.inside.up ≡ true = search rules in
+    shown_before disk under_way c.self.inside.config c.self.inside.server_count c.self.inside.plan c.args.self.now (shown_in c.args.shown.now)
+    (is_up_as c.self.inside.up disk under_way c.self.inside.config c.self.inside.server_count c.self.inside.plan c.args.self.now up c.self.view_is) c.requires.shown
+
+pub invariant_of-self-2 : goal.invariant_of-self-2
+invariant_of-self-2 g c =
+    let disk = g.L.OperationLog.disk c.self.inside.log in
+    let under_way = g.L.OperationLog.under_way c.self.inside.log in
+    let up : c.self.inside.up ≡ true = search rules in
+    let rests = drafted_rests disk under_way c.self.inside.config c.self.inside.server_count c.self.inside.plan c.args.now.0 (input_of (option_copied c.args.message)) (c.self.invariant.2 up) (changes_of c.in-Ok.draft.changes) c.drafts.new.plan c.in-Ok.ensures.drafts
+    (g.L.OperationLog.disk c.makes_all.new.log) (g.L.OperationLog.under_way c.makes_all.new.log) c.take_sent-sent.new.self c.take_seen-seen.new.self c.take_sent-sent.ensures.rest c.take_seen-seen.ensures.rest c.if-not-makes_all.ensures.none in
+    (c.self.invariant.0, c.self.invariant.1, λ _. rests)
 
 pub returns-clause-files : goal.returns-clause-files
 returns-clause-files g c =
-    step_shows (g.L.OperationLog.disk c.makes.new.log) (g.L.OperationLog.under_way c.makes.new.log) c.self.inside.config c.self.inside.server_count
-    c.plans.new.plan c.take_sent-sent.new.self c.take_seen-seen.new.self c.makes.new.plan c.in-Ok.files c.args.shown.now
-    c.take_sent-sent.ensures.rest c.take_seen-seen.ensures.rest c.if-not-makes.ensures.rest (search rules)
+    step_shows (g.L.OperationLog.disk c.makes_all.new.log) (g.L.OperationLog.under_way c.makes_all.new.log) c.self.inside.config c.self.inside.server_count
+    c.drafts.new.plan c.take_sent-sent.new.self c.take_seen-seen.new.self (shown_in c.put.new.self) (shown_in c.args.shown.now)
+    c.take_sent-sent.ensures.rest c.take_seen-seen.ensures.rest (c.put.ensures ∙ c.in-Ok.ensures.copies)
 
 pub returns-clause-steps : goal.returns-clause-steps
 returns-clause-steps g c =
@@ -35,8 +54,8 @@ returns-clause-steps g c =
     let up : c.self.inside.up ≡ true = search rules in
     let old = is_up_as c.self.inside.up disk under_way c.self.inside.config c.self.inside.server_count c.self.inside.plan c.args.self.now up c.self.view_is in
     let out : StepOut = record { sent = c.take_sent-sent.result; answer = None; down = false } in
-    let new_disk = g.L.OperationLog.disk c.makes.new.log in
-    let new_under_way = g.L.OperationLog.under_way c.makes.new.log in
-    subst (λ (m : MasterState). MasterSteps m c.args.now.0 i out c.take_seen-seen.result (standing true new_disk new_under_way c.self.inside.config c.self.inside.server_count c.makes.new.plan)) old
-    (went_as disk under_way c.self.inside.config c.self.inside.server_count c.self.inside.plan c.args.now.0 i (search rules) c.plans.new.plan (search rules) new_disk new_under_way c.take_sent-sent.new.self c.take_seen-seen.new.self c.makes.new.plan
-    c.take_sent-sent.result c.take_seen-seen.result c.take_sent-sent.ensures.rest c.take_seen-seen.ensures.rest c.if-not-makes.ensures.rest c.take_sent-sent.ensures.sent c.take_seen-seen.ensures.seen c.if-not-makes.ensures.made)
+    let new_disk = g.L.OperationLog.disk c.makes_all.new.log in
+    let new_under_way = g.L.OperationLog.under_way c.makes_all.new.log in
+    subst (λ (m : MasterState). MasterSteps m c.args.now.0 i out c.take_seen-seen.result (standing true new_disk new_under_way c.self.inside.config c.self.inside.server_count c.take_seen-seen.new.self)) old
+    (drafted_went disk under_way c.self.inside.config c.self.inside.server_count c.self.inside.plan c.args.now.0 i (search rules) (changes_of c.in-Ok.draft.changes) c.drafts.new.plan c.in-Ok.ensures.drafts new_disk new_under_way
+    c.take_sent-sent.new.self c.take_seen-seen.new.self c.take_sent-sent.result c.take_seen-seen.result c.take_sent-sent.ensures.rest c.take_seen-seen.ensures.rest c.take_sent-sent.ensures.sent c.take_seen-seen.ensures.seen c.if-not-makes_all.ensures)
