@@ -12,7 +12,7 @@ same_test x y e = grind (arith, nat_tests)
 other_test : (x y : ℕ) → x ≢ y → (x == y) ≡ false
 other_test x y d = grind (arith, nat_tests)
 
-same_byte : (x y : ℕ) → (x == y) ≡ true → x ≡ y
+pub same_byte : (x y : ℕ) → (x == y) ≡ true → x ≡ y
 same_byte x y e = grind (arith, nat_tests)
 
 -- one name

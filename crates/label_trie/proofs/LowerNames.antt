@@ -1,12 +1,11 @@
 -- What lies below a directory, by the names behind its front.
-use Rattle.std.proofs.Common.{◌≡◌, ◌≢◌, ℕ, Bool, true, false, not, cond, ◌==◌, ◌&&◌, ◌||◌, nat_eq, List, [], ◌∷◌, ◌++◌, Option, Some, None, is_some, T, refl, sym, ap, subst, ◌∙◌, arith}
+use Rattle.std.proofs.Common.{◌≡◌, ◌≢◌, ℕ, Bool, true, false, not, cond, ◌==◌, ◌&&◌, ◌||◌, nat_eq, List, [], ◌∷◌, ◌++◌, Option, Some, None, is_some, T, refl, sym, ap, subst, ◌∙◌}
 use mathlib.Core.Bool.{false≢true}
 use Rattle.std.specs.Ordering.{nat_cmp, eq_by_cmp}
 use Rattle.std.specs.Cmp.Lexicographic.{slice_cmp}
 use Rattle.std.specs.FinMap.{entries, get}
 use Rattle.std.specs.List.{list_any, starts_with}
 use Rattle.std.specs.Str.{bytes_eq}
-use Rattle.std.proofs.lemmas.Bool.Decides.{nat_tests}
 use Rattle.std.proofs.lemmas.Map.Text.{is_eq-slice_cmp}
 use Rattle.std.proofs.lemmas.Slice.Eq.{bytes_eq-Decides}
 use Rattle.gfs_types.specs.Paths.{root, is_below}
@@ -15,10 +14,8 @@ use Rattle.path_trie.specs.Below.{has_below, has_at_or_below}
 use Rattle.label_tree.specs.Entries.{find_path, is_nothing}
 use Rattle.label_trie.specs.Behind.{rest_of, with_rest, behind, is_longer, has_more}
 use Rattle.label_trie.specs.Counts.{IsCounted}
+use Rattle.label_trie.proofs.Behind.{same_byte}
 use Rattle.label_trie.proofs.Maps.{names_of, entries_names, get_names}
-
-same_byte : (x y : ℕ) → (x == y) ≡ true → x ≡ y
-same_byte x y e = grind (arith, nat_tests)
 
 -- to begin with a front
 and_if : (t : Bool) (o : Option (List ℕ)) → (t && is_some o) ≡ is_some (cond t o None)
