@@ -183,11 +183,14 @@ module _ (config : Config) (servers clients : ℕ) (w : WorldState) (r : IsReach
         rots = λ e index q s y place byte at y_there up later.
             record {
               each = λ other u there _ handle x found ps h. (
-                (h.0.0, elim (h.0.1) [
-                  | inl copied ↦ inl copied
-                  | inr has ↦ inr (rounds_at w.servers w.observer.orders index (record s { disk = with_replica s.disk q (rotten_replica y place byte) }) other handle x.version ps
-                      (λ here p held same. has s (ap (λ (n : ℕ). element_at w.servers n) here ∙ at) p held same) (λ _ v v_there p held same. has v v_there p held same))
-                ]),
+                (
+                  h.0.0,
+                  elim (h.0.1) [
+                    | inl copied ↦ inl copied
+                    | inr has ↦ inr (rounds_at w.servers w.observer.orders index (record s { disk = with_replica s.disk q (rotten_replica y place byte) }) other handle x.version ps
+                        (λ here p held same. has s (ap (λ (n : ℕ). element_at w.servers n) here ∙ at) p held same) (λ _ v v_there p held same. has v v_there p held same))
+                  ],
+                ),
                 h.1,
               );
               said = λ m there handle version serial bytes is ps h. tt;
