@@ -1,5 +1,5 @@
 -- What is carried along of the entries that replicas have applied, and of those that Images show: one induction over reached worlds with kept clocks and disks, for whatever each event keeps.
-use Rattle.std.proofs.Common.{◌≡◌, ℕ, suc, Bool, true, false, List, [], ◌∷◌, ◌++◌, length, Option, Some, None, refl, sym, ap, subst, ◌∙◌, inl, inr}
+use Rattle.std.proofs.Common.{◌≡◌, ℕ, suc, ◌+◌, ◌≤◌, Bool, true, false, List, [], ◌∷◌, ◌++◌, length, Option, Some, None, refl, sym, ap, subst, ◌∙◌, inl, inr}
 use Rattle.std.specs.Prelude.{◌&&◌, nat_le, not, IsTrue}
 use Rattle.std.specs.Option.{option_to_list}
 use Rattle.std.specs.FinMap as table
@@ -204,7 +204,7 @@ kept_both false b x y = absurd (true≢false (sym x))
 
 module _ (J : ShownBy) (K : AppliedBy) (config : Config) (servers clients : ℕ) where
   abbrev Later : WorldState → Type 0
-  Later v = IsLater config servers clients v
+  Later = IsLater config servers clients
 
   abbrev KeepsOn : WorldState → Type 0
   KeepsOn w = Keeps J K config servers clients w Later

@@ -81,11 +81,11 @@ none_held s moment choice (Stops made) handle = table.get-empty nat_cmp handle
 same_suc : (a b : ℕ) → suc a ≡ suc b → a ≡ b
 same_suc a b same = omega (arith, same)
 
-module _ (config : Config) (servers clients : ℕ) (w : WorldState) (r : IsReached config servers clients w) (kept : IsTrue (is_kept w)) (idle : (index : ℕ) (s : ServerState) → element_at w.servers index ≡ Some s → IsTrue s.up → s.under_way ≡ []) where
+module _ (config : Config) (servers clients : ℕ) (w : WorldState) (r : IsReached config servers clients w) (idle : (index : ℕ) (s : ServerState) → element_at w.servers index ≡ Some s → IsTrue s.up → s.under_way ≡ []) where
   abbrev k : ℕ
   k = suc (length w.sent)
 
-  trace_at : ℕ → List Visible
+  abbrev trace_at : ℕ → List Visible
   trace_at moment = (observed_moment w.config.skew_ms w.observer moment).trace
 
   -- what was carried in this world is carried on, where more was sent, of other servers and orders
@@ -198,7 +198,7 @@ module _ (config : Config) (servers clients : ℕ) (w : WorldState) (r : IsReach
       }
 
 pub joint_kept : (config : Config) (servers clients : ℕ) (w : WorldState) (r : IsReached config servers clients w) → IsTrue (is_kept w) → AreApplied Nothing Joint w → Keeps Nothing Joint config servers clients w (IsLater config servers clients)
-joint_kept config servers clients w r kept h = joint_keeps config servers clients w r kept (λ index s at up. (h.each index s at).idle up)
+joint_kept config servers clients w r kept h = joint_keeps config servers clients w r (λ index s at up. (h.each index s at).idle up)
 
 pub joint_reached : (config : Config) (servers clients : ℕ) (w : WorldState) → IsReached config servers clients w → IsTrue (is_kept w) → AreApplied Nothing Joint w
 joint_reached config servers clients = applied_reached Nothing Joint config servers clients (joint_kept config servers clients)

@@ -50,14 +50,14 @@ entry_numbered : (round : ℕ) (order : List Placed) (n serial : ℕ) → elemen
 entry_numbered round [] n serial at = none_some serial at
 entry_numbered round (p ∷ order) n serial at =
     on_cond (λ (ps : List Placed). element_at (map (λ q. q.serial) ps) n ≡ Some serial → IsThere round (p ∷ order) serial) (p.entry.round == round) (p ∷ filter (λ q. q.entry.round == round) order) (filter (λ q. q.entry.round == round) order)
-    (λ is. first n (eqb-true p.entry.round round is)) (λ _ g. behind (entry_numbered round order n serial g)) at
+    (λ is. first (λ k g. entry_numbered round order k serial g) n (eqb-true p.entry.round round is)) (λ _ g. behind (entry_numbered round order n serial g)) at
   where
     behind : IsThere round order serial → IsThere round (p ∷ order) serial
     behind e = (suc e.0, e.1, e.2, e.3, e.4)
 
-    first : (k : ℕ) → p.entry.round ≡ round → element_at (p.serial ∷ serials_of round order) k ≡ Some serial → IsThere round (p ∷ order) serial
-    first zero is g = (zero, p, refl, is, same_some p.serial serial g)
-    first (suc k) is g = behind (entry_numbered round order k serial g)
+    first : ((k : ℕ) → element_at (serials_of round order) k ≡ Some serial → IsThere round order serial) → (k : ℕ) → p.entry.round ≡ round → element_at (p.serial ∷ serials_of round order) k ≡ Some serial → IsThere round (p ∷ order) serial
+    first rest zero is g = (zero, p, refl, is, same_some p.serial serial g)
+    first rest (suc k) is g = behind (rest k g)
 
 number_there : (count x : ℕ) → 1 ≤ x → x ≤ count → (n : ℕ) × (element_at (first_numbers count) n ≡ Some x)
 number_there zero x some low = absurd (omega (arith, some, low))
