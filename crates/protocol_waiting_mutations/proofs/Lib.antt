@@ -1,0 +1,4 @@
+pub mod AckedWords
+pub mod Acknowledging
+pub mod WaitingMembers
+pub mod WaitingWalk
