@@ -1,0 +1,3 @@
+pub mod UpTo
+pub mod StillOrders
+pub mod SkippedRounds

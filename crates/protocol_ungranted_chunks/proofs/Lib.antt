@@ -1,0 +1,4 @@
+pub mod BegunRows
+pub mod BegunSteps
+pub mod CopiesStarted
+pub mod Ungranted
