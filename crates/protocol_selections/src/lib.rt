@@ -1,0 +1,4 @@
+//! Laws of the whole protocol on what replicas leave out, which mention no state of the machine.
+#![tactic(auto)]
+
+pub mod laws;
