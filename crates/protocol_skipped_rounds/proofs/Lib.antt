@@ -1,3 +1,0 @@
-pub mod UpTo
-pub mod StillOrders
-pub mod SkippedRounds

@@ -1,4 +1,0 @@
-pub mod BegunRows
-pub mod BegunSteps
-pub mod CopiesStarted
-pub mod Ungranted
