@@ -3,3 +3,15 @@ pub mod AppliedReached
 pub mod HeldEntries
 pub mod JointRounds
 pub mod SettledMembers
+pub mod BegunRows
+pub mod BegunSteps
+pub mod CopiesStarted
+pub mod Ungranted
+pub mod UpTo
+pub mod StillOrders
+pub mod SkippedRounds
+pub mod SettledNow
+pub mod OrderedEntries
+pub mod Chosen
+pub mod Selections
+pub mod SettledEnds

@@ -1,1 +1,4 @@
 pub mod Laws
+pub mod UngrantedChunks
+pub mod SkippedRounds
+pub mod Selections

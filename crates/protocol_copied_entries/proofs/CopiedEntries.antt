@@ -18,7 +18,7 @@ use Rattle.chunk_table.specs.ChunkTable.{ChunkRow, chunk_of}
 use Rattle.protocol.specs.Tables.{Table, element_at}
 use Rattle.protocol.specs.Sending.{handle_of, order_number}
 use Rattle.protocol.specs.Choice.{Choice, decided_changes}
-use Rattle.protocol.specs.Logged.{log_changed_by_all}
+use Rattle.protocol.specs.Logged.{Copy, log_changed_by_all}
 use Rattle.protocol.specs.declared.seen.Seen.{Seen}
 use Rattle.protocol.specs.declared.seen.Seen.TheVariants.{Numbered, BecameSettled, CopyStarted}
 use Rattle.protocol.specs.Observer.{Placed, observed_moment, placed_in, order_of, settled_as, new_entry, orders_after, orders_after_all}
@@ -31,6 +31,8 @@ use Rattle.protocol.specs.World.{WorldState, new_world, stamped, after_master, a
 use Rattle.protocol_laws.proofs.Steps.{none_some, same_some, same_or_not, put_there, put_other}
 use Rattle.protocol_laws.proofs.Entries.{AllOf}
 use Rattle.protocol_laws.proofs.OrderNumbers.{state_of, AllFound}
+use Rattle.protocol_laws.proofs.Owners.{chunks_at, times_at_least, placed_stands}
+use Rattle.protocol_laws.proofs.CountsLogged.{IsCountedLog, apart_here}
 use Rattle.protocol_laws.proofs.MembersRecorded.{all_at}
 use Rattle.protocol_laws.proofs.MessagesSent.{IsSent, sent_cases, none_sent, numbered_sent}
 use Rattle.protocol_laws.proofs.ClientMoves.{HasNoOrder, quiet_orders, client_quiet, call_quiet}
@@ -59,7 +61,7 @@ use Rattle.protocol_rising_rounds.proofs.OrderedOrders.{settled_same}
 use Rattle.protocol_rising_rounds.proofs.RisingRounds.{restart_silent, IsUnderLease, under_lease}
 use Rattle.protocol_copied_entries.specs.Laws.{Follows, IsUpTo, RaisesGoAboveTheirBase, CopiesGoAboveTheirSource, CopiesHaveTheirSourcesEntries}
 use Rattle.protocol_copied_entries.proofs.OrdersGrow.{IsAny, same_follows, follows_both, any_follows, HaveGrown, orders_grow}
-use Rattle.protocol_copied_entries.proofs.AskedOrders.{IsHigher, step_higher}
+use Rattle.protocol_copied_entries.proofs.AskedOrders.{AreOwn, IsHigher, step_higher}
 
 -- what is seen puts no entry up to a version in a chunk's order
 
@@ -180,8 +182,28 @@ module _ (config : Config) (servers clients : ℕ) (w : WorldState) (r : IsReach
 
   -- the master
 
+  -- no chunk of a file is a copy under way
+  own_chunks : IsTrue w.master.up → AreOwn w.master
+  own_chunks up file index handle at = by_copy (table.get w.master.logged.copies handle) refl
+    where
+      tied : IsCountedLog w.master.logged (state_of w.master.disk)
+      tied = ((waiting.base.logged.up up).tied).base
+
+      by_copy : (o : Option Copy) → table.get w.master.logged.copies handle ≡ o → o ≡ None
+      by_copy None is = refl
+      by_copy (Some c) is =
+          let none = apart_here w.master.logged (state_of w.master.disk) tied handle c is in
+          let one = placed_stands (chunks_at w.master.logged.table.files file) index handle at in
+          let least = times_at_least w.master.logged.table.files file handle in
+          absurd (omega (arith, none, one, least))
+
+  -- what a step of the master orders of versions
+  pub says_higher : (moment : ℕ) (i : Input) (choice : Choice) → IsTrue w.master.up → AllOf (λ x. IsHigher (master_at w.master moment) (master_step w.master moment i choice).seen x.body) (master_step w.master moment i choice).out.sent
+  says_higher moment i choice up =
+      step_higher w.master (λ handle server version held. (held_found up handle server version held).1) (own_chunks up) (granted_is_at_most_issued config servers clients w r) moment i choice
+
   higher_brought : (moment : ℕ) (i : Input) (choice : Choice) → IsTrue w.master.up → (b : Body) → IsHigher (master_at w.master moment) (master_step w.master moment i choice).seen b → IsBrought w (after_master w moment (master_step w.master moment i choice)).world b
-  higher_brought moment i choice up (body.SetVersion order handle version base) h = h
+  higher_brought moment i choice up (body.SetVersion order handle version base) h = h.0
   higher_brought moment i choice up (body.CopyLocal order handle version copy copy_version) h = (
     h.below,
     λ clocks. source_shut up clocks handle.0 h.server version.0 h.held h.row h.there h.shared,
@@ -196,7 +218,7 @@ module _ (config : Config) (servers clients : ℕ) (w : WorldState) (r : IsReach
       let v : WorldState = (after_master w moment (master_step w.master moment i choice)).world in
       new_brought w v (suc (length w.sent)) (master_step w.master moment i choice).out.sent
       (all_as (λ x. IsHigher (master_at w.master moment) (master_step w.master moment i choice).seen x.body) (λ x. IsBrought w v x.body) (λ x h. higher_brought moment i choice up x.body h) (master_step w.master moment i choice).out.sent
-      (step_higher w.master (λ handle server version held. (held_found up handle server version held).1) (granted_is_at_most_issued config servers clients w r) moment i choice))
+      (says_higher moment i choice up))
 
   master_shrinks : (moment : ℕ) (i : Input) (choice : Choice) → HaveShrunk w (after_master w moment (master_step w.master moment i choice)).world
   master_shrinks moment i choice clocks before handle version shut =
