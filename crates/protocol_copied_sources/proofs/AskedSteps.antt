@@ -1,11 +1,10 @@
--- A step of the master that takes an Ask: it grants nothing, issues no number of a chunk that is being copied, begins a copy of a shared chunk alone, and tells with a primary what stands at the place that is asked for.
+-- A step of the master that takes an Ask: it grants nothing, issues no number of a chunk that is being copied, begins a copy of a shared chunk alone, and of a chunk that was granted tells what stands at the place that is asked for.
 use Rattle.std.proofs.Common.{◌≡◌, ◌⊎◌, ℕ, zero, suc, ◌≤◌, ◌<◌, Bool, true, false, true≢false, cond, List, [], ◌∷◌, ◌++◌, length, map, Option, Some, None, is_some, refl, sym, ap, subst, ◌∙◌, inl, inr, arith}
-use Rattle.std.specs.Prelude.{◌+◌, ◌==◌, ◌&&◌, nat_lt, nat_le, not, max, filter, unwrap_or}
+use Rattle.std.specs.Prelude.{◌+◌, ◌==◌, nat_lt, nat_le, filter, unwrap_or}
 use Rattle.std.specs.Ordering.{nat_cmp, eq_by_cmp}
-use Rattle.std.specs.Cmp.{unsigned_tied}
 use Rattle.std.specs.FinMap as table
 use Rattle.std.specs.FinMap.Entries.{find}
-use Rattle.std.proofs.lemmas.Bool.{and_parts, eqb-true, leb-true, ltb-true}
+use Rattle.std.proofs.lemmas.Bool.{leb-true, ltb-true}
 use Rattle.std.proofs.Math.Nat.{le-max_left}
 use Rattle.gfs_types.specs.declared.ids.Node.{Node}
 use Rattle.gfs_types.specs.declared.ids.Node.TheVariants as node
@@ -15,7 +14,6 @@ use Rattle.messages.specs.declared.message.Body.{Body}
 use Rattle.messages.specs.declared.message.Body.TheVariants as body
 use Rattle.messages.specs.declared.message.Message.{Message}
 use Rattle.messages.specs.declared.message.Holder.{Holder}
-use Rattle.messages.specs.declared.message.Group.{Group}
 use Rattle.messages.specs.declared.message.Location.{Location}
 use Rattle.messages.specs.declared.message.Wanted.{Wanted}
 use Rattle.messages.specs.declared.message.Wanted.TheVariants as wanted
@@ -25,10 +23,10 @@ use Rattle.chunk_table.specs.ChunkTable.{ChunkRow, new_row, chunk_of, file_of}
 use Rattle.leases.specs.LeaseEnds.{has_ended}
 use Rattle.protocol.specs.Tables.{element_at, first_of_list, removed_all}
 use Rattle.protocol.specs.LogSizes.{checkpoint_fits}
-use Rattle.protocol.specs.Sending.{message, server_id, file_id, handle_of, version_of, the_server}
+use Rattle.protocol.specs.Sending.{message, file_id, handle_of, version_of, the_server}
 use Rattle.protocol.specs.declared.seen.Seen.TheVariants.{CopyStarted}
 use Rattle.protocol.specs.Logged.{Logged, Copy, LogChange, AppendRecord, WriteCheckpoint, after_record, copies_given_up, checkpoint_of}
-use Rattle.protocol.specs.Master.{MasterState, MasterDoing, VersionAttempt, HeldAt, tells, orders, logs, logs_after_checkpoint, appends, fits, writes_checkpoint, is_of_copy, with_attempt, gives_up_copy, holders_where, current_holders, has_lease}
+use Rattle.protocol.specs.Master.{MasterDoing, VersionAttempt, HeldAt, tells, orders, logs, logs_after_checkpoint, appends, fits, writes_checkpoint, is_of_copy, with_attempt, gives_up_copy, holders_where, current_holders, has_lease}
 use Rattle.protocol.specs.MasterSnapshots.{revokes_row, revokes, waits_for}
 use Rattle.protocol.specs.MasterVersions.{Asker, VersionTarget, holder_line, group_of, tells_location, tells_holders, tells_none, tells_to_wait, version_order, sends_versions, new_attempt, sends_issued, issues_to, targets_by, recorded_holders, issues_own, is_attempted, copy_order, sends_copies, copy_targets, sends_copy_started, copies_to, begins_copy, copy_for, is_copied, wants_own, wants_own_of, issues_copy, wants_copy, wants_by, wants_primary, holder_target}
 use Rattle.protocol.specs.MasterAsks.{looks_at_row, looks_at, mutates_row, mutates_at, adds_chunk, with_index, asks_to_write, asks_to_append, asks_for_last, asks_for, asks_of, takes_ask}
@@ -56,12 +54,12 @@ pub record IsToldOf (l : Logged) (file : ℕ) (told : Location) : Type 0 where
   pub at : chunk_of l.table told.handle.0 ≡ Some row
   pub granted : row.granted ≡ told.round.0
 
--- a message tells no primary, or answers this ask with what stands at its place
+-- a message tells no location, one of a chunk that was never granted, or answers this ask with what stands at its place
 abbrev pub IsSaid : Logged → Node → ℕ → ℕ → Message → Type 0
-IsSaid l asker asked file m = (number : ℕ) (told : Location) (g : Group) → m.body ≡ body.Told number (Some told) → told.group ≡ Some g → (number ≡ asked) × (m.receiver ≡ asker) × IsToldOf l file told
+IsSaid l asker asked file m = (number : ℕ) (told : Location) → m.body ≡ body.Told number (Some told) → 1 ≤ told.round.0 → (number ≡ asked) × (m.receiver ≡ asker) × IsToldOf l file told
 
 pub plain_said : (l : Logged) (asker : Node) (asked file : ℕ) (receiver : Node) (b : Body) → is_location b ≡ false → IsSaid l asker asked file (message node.Master receiver b)
-plain_said l asker asked file receiver b none number told g is group = absurd (true≢false (sym (ap is_location is) ∙ none))
+plain_said l asker asked file receiver b none number told is granted = absurd (true≢false (sym (ap is_location is) ∙ none))
 
 -- a change of the log that grants nothing
 abbrev pub IsNoGrant : LogChange → Type 0
@@ -101,21 +99,6 @@ IsNoSource l handle = (copy : ℕ) (c : Copy) → table.get l.copies copy ≡ So
 uncopied : (l : Logged) (handle : ℕ) → is_copied l handle ≡ false → IsNoSource l handle
 uncopied l handle none copy c is source =
     none_listed (λ x. x.source == handle) (table.entries l.copies) copy c (not_some (first_of_list (map (λ e. e.0) (filter (λ e. e.1.source == handle) (table.entries l.copies)))) none) (sym (table.get-entries l.copies copy) ∙ is) (same_test c.source handle source)
-
--- a lease that has ended has no primary
-no_group : (m : MasterState) (row : ChunkRow) → has_ended row m.now ≡ true → (g : Group) → group_of m row ≡ Some g → ⊥
-no_group m row ended g is = none_some g (sym (ap (λ (b : Bool). cond b (Some (record { primary = server_id row.primary; members = row.members })) None) (and_not (nat_lt 0 row.granted) (has_ended row m.now) ended)) ∙ is)
-  where
-    and_not : (a b : Bool) → b ≡ true → a && not b ≡ false
-    and_not true b e = ap not e
-    and_not false b e = refl
-
-granted_group : (m : MasterState) (row : ChunkRow) (g : Group) → group_of m row ≡ Some g → 1 ≤ row.granted
-granted_group m row g is = by_lease (has_lease m row) refl is
-  where
-    by_lease : (b : Bool) → has_lease m row ≡ b → cond b (Some (record { primary = server_id row.primary; members = row.members })) None ≡ Some g → 1 ≤ row.granted
-    by_lease true has h = ltb-true 0 row.granted (and_parts (nat_lt 0 row.granted) (not (has_ended row m.now)) has).0
-    by_lease false has h = none_some g h
 
 module _ (l : Logged) (tried : Attempts) (now : ℕ) (asker : Node) (asked file : ℕ) (below : (q : ℕ) (row : ChunkRow) → chunk_of l.table q ≡ Some row → q < l.next_handle)
     (apart : (copy other : ℕ) (c d : Copy) → table.get l.copies copy ≡ Some c → table.get l.copies other ≡ Some d → c.source ≡ other → ⊥) (used : (copy : ℕ) (c : Copy) → table.get l.copies copy ≡ Some c → c.source < l.next_handle)
@@ -293,9 +276,8 @@ module _ (l : Logged) (tried : Attempts) (now : ℕ) (asker : Node) (asked file 
   abbrev IsStood : ℕ → ℕ → Type 0
   IsStood index handle = StandsAt l.table.files file index handle ⊎ (l.next_handle ≤ handle)
 
-  location_fine : (d : MasterDoing) (a : Asker) (handle : ℕ) (row : ChunkRow) (holders : List Holder) → IsOwn a → ((g : Group) → group_of d.master row ≡ Some g → StandsAt l.table.files file a.index handle × ((old : ChunkRow) × (chunk_of l.table handle ≡ Some old) × (old.granted ≡ row.granted)))
-      → Fine d → Fine (tells_location d a handle row holders)
-  location_fine d a handle row holders own right h = (all_joined (IsSaid l asker asked file) d.sent (message node.Master a.client (body.Told a.number (Some this)) ∷ []) h.0 (one, tt), h.1)
+  location_fine : (d : MasterDoing) (a : Asker) (handle : ℕ) (row : ChunkRow) (holders : List Holder) → IsOwn a → IsStood a.index handle → IsOldRow handle row ⊎ IsNewRow handle row → Fine d → Fine (tells_location d a handle row holders)
+  location_fine d a handle row holders own stood was h = (all_joined (IsSaid l asker asked file) d.sent (message node.Master a.client (body.Told a.number (Some this)) ∷ []) h.0 (one, tt), h.1)
     where
       this : Location
       this = record { index = a.index; handle = handle_of handle; round = version_of row.granted; holders = holders; group = group_of d.master row }
@@ -308,28 +290,17 @@ module _ (l : Logged) (tried : Attempts) (now : ℕ) (asker : Node) (asked file 
       location_in (body.Told number o) = o
       location_in other = None
 
-      told_of : (g : Group) → group_of d.master row ≡ Some g → IsToldOf l file this
-      told_of g is = let facts = right g is in record { stood = facts.0; row = facts.1.0; at = facts.1.1; granted = facts.1.2 }
-
-      one : IsSaid l asker asked file (message node.Master a.client (body.Told a.number (Some this)))
-      one number told g is group =
-          let same : this ≡ told = same_some this told (ap location_in is) in
-          (sym (ap number_in is) ∙ own.1, own.0, subst (λ (x : Location). IsToldOf l file x) same (told_of g (ap (λ (x : Location). x.group) same ∙ group)))
-
-  -- with a primary, where the row is as it was
-  holders_fine : (d : MasterDoing) (a : Asker) (handle : ℕ) (row : ChunkRow) → IsOwn a → IsStood a.index handle → IsOldRow handle row ⊎ IsNewRow handle row → Fine d → Fine (tells_holders d a handle row)
-  holders_fine d a handle row own stood was h = location_fine d a handle row (map holder_line (current_holders d.master handle row)) own right h
-    where
-      right : (g : Group) → group_of d.master row ≡ Some g → StandsAt l.table.files file a.index handle × ((old : ChunkRow) × (chunk_of l.table handle ≡ Some old) × (old.granted ≡ row.granted))
-      right g is =
+      told_of : 1 ≤ row.granted → IsToldOf l file this
+      told_of some =
           elim (was) [
-            | inl old ↦ (elim (stood) [ inl there ↦ there | inr new ↦ absurd (let low = below handle old.0 old.1 in omega (arith, low, new)) ], (old.0, old.1, old.3))
-            | inr fresh ↦ absurd (let some = granted_group d.master row g is in let none = fresh.2 in omega (arith, some, none))
+            | inl old ↦ record { stood = elim (stood) [ inl there ↦ there | inr new ↦ absurd (let low = below handle old.0 old.1 in omega (arith, low, new)) ]; row = old.0; at = old.1; granted = old.3 }
+            | inr fresh ↦ absurd (let none = fresh.2 in omega (arith, some, none))
           ]
 
-  -- without one
-  ended_fine : (d : MasterDoing) (a : Asker) (handle : ℕ) (row : ChunkRow) (holders : List Holder) → IsOwn a → has_ended row d.master.now ≡ true → Fine d → Fine (tells_location d a handle row holders)
-  ended_fine d a handle row holders own ended h = location_fine d a handle row holders own (λ g is. absurd (no_group d.master row ended g is)) h
+      one : IsSaid l asker asked file (message node.Master a.client (body.Told a.number (Some this)))
+      one number told is granted =
+          let same : this ≡ told = same_some this told (ap location_in is) in
+          (sym (ap number_in is) ∙ own.1, own.0, subst (λ (x : Location). IsToldOf l file x) same (told_of (subst (λ (x : Location). 1 ≤ x.round.0) (sym same) granted)))
 
   wait_post : (d : MasterDoing) (a : Asker) → Post d → Post (tells_to_wait d a)
   wait_post d a h = (h.0, said d a.client (body.Wait a.number) refl h.1)
@@ -352,10 +323,10 @@ module _ (l : Logged) (tried : Attempts) (now : ℕ) (asker : Node) (asked file 
   copies_post d handle copy version (t ∷ rest) h =
       copies_post (orders d t.server (copy_order handle copy version t.base)) handle copy version rest (h.0, ordered d t.server (copy_order handle copy version t.base) (copy_plain handle copy version t.base) h.1)
 
-  issues_post : (d : MasterDoing) (a : Asker) (own : ℕ) (own_row : ChunkRow) (handle : ℕ) (row : ChunkRow) (targets : List VersionTarget) → IsOwn a → has_ended own_row d.master.now ≡ true → IsNoSource d.master.logged handle → Here d
+  issues_post : (d : MasterDoing) (a : Asker) (own : ℕ) (own_row : ChunkRow) (handle : ℕ) (row : ChunkRow) (targets : List VersionTarget) → IsOwn a → IsStood a.index own → chunk_of d.master.logged.table own ≡ Some own_row → IsNoSource d.master.logged handle → Here d
       → Post (issues_to d a own own_row handle row targets)
-  issues_post d a own own_row handle row [] asks ended none h = here_post (tells_location d a own own_row []) (h.0, ended_fine d a own own_row [] asks ended h.1)
-  issues_post d a own own_row handle row (t ∷ rest) asks ended none h =
+  issues_post d a own own_row handle row [] asks stood at none h = here_post (tells_location d a own own_row []) (h.0, location_fine d a own own_row [] asks stood ((h.0).rows own own_row at) h.1)
+  issues_post d a own own_row handle row (t ∷ rest) asks stood at none h =
       let version : ℕ = suc row.issued in
       logs_post d (log.Issue (handle_of handle) (version_of version)) (λ e. sends_issued e a handle version (t ∷ rest)) tt
       (λ b here less fine.
@@ -365,14 +336,14 @@ module _ (l : Logged) (tried : Attempts) (now : ℕ) (asker : Node) (asked file 
       (versions_post held handle version (t ∷ rest)
       (issued_done b.master.logged b.master.attempts b.master.now handle version (new_attempt e.master version (t ∷ rest)) (λ copy c is. none copy c (less.0 copy c is)) here.0, fine))) h
 
-  own_post : (d : MasterDoing) (a : Asker) (handle : ℕ) (row : ChunkRow) (b : Bool) → IsOwn a → has_ended row d.master.now ≡ true → IsNoSource d.master.logged handle → Here d → Post (issues_own d a handle row b)
-  own_post d a handle row true asks ended none h = wait_post d a (here_post d h)
-  own_post d a handle row false asks ended none h = issues_post d a handle row handle row (targets_by d.master handle row (recorded_holders d.master handle row)) asks ended none h
+  own_post : (d : MasterDoing) (a : Asker) (handle : ℕ) (row : ChunkRow) (b : Bool) → IsOwn a → IsStood a.index handle → chunk_of d.master.logged.table handle ≡ Some row → IsNoSource d.master.logged handle → Here d → Post (issues_own d a handle row b)
+  own_post d a handle row true asks stood at none h = wait_post d a (here_post d h)
+  own_post d a handle row false asks stood at none h = issues_post d a handle row handle row (targets_by d.master handle row (recorded_holders d.master handle row)) asks stood at none h
 
-  copies_to_post : (d : MasterDoing) (a : Asker) (handle : ℕ) (row : ChunkRow) (targets : List VersionTarget) → IsOwn a → has_ended row d.master.now ≡ true → chunk_of d.master.logged.table handle ≡ Some row → 2 ≤ row.references → Here d
+  copies_to_post : (d : MasterDoing) (a : Asker) (handle : ℕ) (row : ChunkRow) (targets : List VersionTarget) → IsOwn a → IsStood a.index handle → has_ended row d.master.now ≡ true → chunk_of d.master.logged.table handle ≡ Some row → 2 ≤ row.references → Here d
       → Post (copies_to d a handle row targets)
-  copies_to_post d a handle row [] asks ended at owners h = here_post (tells_location d a handle row []) (h.0, ended_fine d a handle row [] asks ended h.1)
-  copies_to_post d a handle row (t ∷ rest) asks ended at owners h =
+  copies_to_post d a handle row [] asks stood ended at owners h = here_post (tells_location d a handle row []) (h.0, location_fine d a handle row [] asks stood ((h.0).rows handle row at) h.1)
+  copies_to_post d a handle row (t ∷ rest) asks stood ended at owners h =
       let copy : ℕ = d.master.logged.next_handle in
       let version : ℕ = suc row.issued in
       let r : Record = log.CopyStart (file_id a.file) a.index (handle_of handle) (handle_of copy) (version_of version) in
@@ -395,44 +366,44 @@ module _ (l : Logged) (tried : Attempts) (now : ℕ) (asker : Node) (asked file 
           let time = h.0.now_is in
           omega (arith, same, low, time)
 
-  wants_post : (d : MasterDoing) (a : Asker) (handle : ℕ) (row : ChunkRow) → IsOwn a → has_ended row d.master.now ≡ true → chunk_of d.master.logged.table handle ≡ Some row → Here d → Post (wants_own d a handle row)
-  wants_post d a handle row asks ended at h =
-      on_cond Post (nat_lt 1 row.references) (begins_copy d a handle row) _ (λ many. copies_to_post d a handle row (copy_targets d.master handle row) asks ended at (ltb-true 1 row.references many) h)
+  wants_post : (d : MasterDoing) (a : Asker) (handle : ℕ) (row : ChunkRow) → IsOwn a → IsStood a.index handle → has_ended row d.master.now ≡ true → chunk_of d.master.logged.table handle ≡ Some row → Here d → Post (wants_own d a handle row)
+  wants_post d a handle row asks stood ended at h =
+      on_cond Post (nat_lt 1 row.references) (begins_copy d a handle row) _ (λ many. copies_to_post d a handle row (copy_targets d.master handle row) asks stood ended at (ltb-true 1 row.references many) h)
       (λ _. on_cond Post (is_copied d.master.logged handle) (tells_to_wait d a) (issues_own d a handle row (is_attempted d.master handle)) (λ _. wait_post d a (here_post d h))
-      (λ none. own_post d a handle row (is_attempted d.master handle) asks ended (uncopied d.master.logged handle none) h))
+      (λ none. own_post d a handle row (is_attempted d.master handle) asks stood at (uncopied d.master.logged handle none) h))
 
   -- each row of the chunk has ended
   abbrev IsEnded : MasterDoing → ℕ → Type 0
   IsEnded d handle = (row : ChunkRow) → chunk_of d.master.logged.table handle ≡ Some row → has_ended row d.master.now ≡ true
 
-  wants_of_post : (d : MasterDoing) (a : Asker) (handle : ℕ) (o : Option ChunkRow) → IsOwn a → chunk_of d.master.logged.table handle ≡ o → IsEnded d handle → Here d → Post (wants_own_of d a handle o)
-  wants_of_post d a handle None asks at ended h = here_post d h
-  wants_of_post d a handle (Some row) asks at ended h = wants_post d a handle row asks (ended row at) at h
+  wants_of_post : (d : MasterDoing) (a : Asker) (handle : ℕ) (o : Option ChunkRow) → IsOwn a → IsStood a.index handle → chunk_of d.master.logged.table handle ≡ o → IsEnded d handle → Here d → Post (wants_own_of d a handle o)
+  wants_of_post d a handle None asks stood at ended h = here_post d h
+  wants_of_post d a handle (Some row) asks stood at ended h = wants_post d a handle row asks stood (ended row at) at h
 
-  issues_copy_post : (d : MasterDoing) (a : Asker) (handle : ℕ) (row : ChunkRow) (copy : ℕ) (copy_row : ChunkRow) (holders : List HeldAt) → IsOwn a → chunk_of d.master.logged.table handle ≡ Some row → IsEnded d handle → IsFoundCopy d.master.logged a.file a.index copy → Here d
+  issues_copy_post : (d : MasterDoing) (a : Asker) (handle : ℕ) (row : ChunkRow) (copy : ℕ) (copy_row : ChunkRow) (holders : List HeldAt) → IsOwn a → IsStood a.index handle → chunk_of d.master.logged.table handle ≡ Some row → IsEnded d handle → IsFoundCopy d.master.logged a.file a.index copy → Here d
       → Post (issues_copy d a handle row copy copy_row holders)
-  issues_copy_post d a handle row copy copy_row [] asks at ended found h =
+  issues_copy_post d a handle row copy copy_row [] asks stood at ended found h =
       let less : MasterDoing = gives_up_copy d copy in
-      wants_of_post less a handle (chunk_of less.master.logged.table handle) asks refl (λ other is. ended other (removed_cases (rows_of d.master.logged) (copy ∷ []) handle other is))
+      wants_of_post less a handle (chunk_of less.master.logged.table handle) asks stood refl (λ other is. ended other (removed_cases (rows_of d.master.logged) (copy ∷ []) handle other is))
       (less_kept d.master.logged d.master.attempts d.master.now (copy ∷ []) h.0, h.1)
-  issues_copy_post d a handle row copy copy_row (x ∷ rest) asks at ended found h =
-      issues_post d a handle row copy copy_row (map holder_target (x ∷ rest)) asks (ended row at) (λ other c is. apart other copy c found.copy (h.0.copies other c is) (h.0.copies copy found.copy found.at)) h
+  issues_copy_post d a handle row copy copy_row (x ∷ rest) asks stood at ended found h =
+      issues_post d a handle row copy copy_row (map holder_target (x ∷ rest)) asks stood at (λ other c is. apart other copy c found.copy (h.0.copies other c is) (h.0.copies copy found.copy found.at)) h
 
-  wants_copy_post : (d : MasterDoing) (a : Asker) (handle : ℕ) (row : ChunkRow) (copy : ℕ) (o : Option ChunkRow) → IsOwn a → chunk_of d.master.logged.table handle ≡ Some row → IsEnded d handle → IsFoundCopy d.master.logged a.file a.index copy → Here d
+  wants_copy_post : (d : MasterDoing) (a : Asker) (handle : ℕ) (row : ChunkRow) (copy : ℕ) (o : Option ChunkRow) → IsOwn a → IsStood a.index handle → chunk_of d.master.logged.table handle ≡ Some row → IsEnded d handle → IsFoundCopy d.master.logged a.file a.index copy → Here d
       → Post (wants_copy d a handle row copy o)
-  wants_copy_post d a handle row copy None asks at ended found h = wants_post d a handle row asks (ended row at) at h
-  wants_copy_post d a handle row copy (Some copy_row) asks at ended found h =
+  wants_copy_post d a handle row copy None asks stood at ended found h = wants_post d a handle row asks stood (ended row at) at h
+  wants_copy_post d a handle row copy (Some copy_row) asks stood at ended found h =
       on_cond Post (is_attempted d.master copy) (tells_to_wait d a) (issues_copy d a handle row copy copy_row (holders_where d.master copy (λ v. v == copy_row.issued))) (λ _. wait_post d a (here_post d h))
-      (λ _. issues_copy_post d a handle row copy copy_row (holders_where d.master copy (λ v. v == copy_row.issued)) asks at ended found h)
+      (λ _. issues_copy_post d a handle row copy copy_row (holders_where d.master copy (λ v. v == copy_row.issued)) asks stood at ended found h)
 
-  by_post : (d : MasterDoing) (a : Asker) (handle : ℕ) (row : ChunkRow) (o : Option ℕ) → IsOwn a → copy_for d.master.logged a.file a.index ≡ o → chunk_of d.master.logged.table handle ≡ Some row → IsEnded d handle → Here d → Post (wants_by d a handle row o)
-  by_post d a handle row None asks found at ended h = wants_post d a handle row asks (ended row at) at h
-  by_post d a handle row (Some copy) asks found at ended h = wants_copy_post d a handle row copy (chunk_of d.master.logged.table copy) asks at ended (found_for d.master.logged a.file a.index copy found) h
+  by_post : (d : MasterDoing) (a : Asker) (handle : ℕ) (row : ChunkRow) (o : Option ℕ) → IsOwn a → IsStood a.index handle → copy_for d.master.logged a.file a.index ≡ o → chunk_of d.master.logged.table handle ≡ Some row → IsEnded d handle → Here d → Post (wants_by d a handle row o)
+  by_post d a handle row None asks stood found at ended h = wants_post d a handle row asks stood (ended row at) at h
+  by_post d a handle row (Some copy) asks stood found at ended h = wants_copy_post d a handle row copy (chunk_of d.master.logged.table copy) asks stood at ended (found_for d.master.logged a.file a.index copy found) h
 
-  primary_post : (d : MasterDoing) (a : Asker) (handle : ℕ) (row : ChunkRow) → IsOwn a → chunk_of d.master.logged.table handle ≡ Some row → IsEnded d handle → Here d → Post (wants_primary d a handle row)
-  primary_post d a handle row asks at ended h =
+  primary_post : (d : MasterDoing) (a : Asker) (handle : ℕ) (row : ChunkRow) → IsOwn a → IsStood a.index handle → chunk_of d.master.logged.table handle ≡ Some row → IsEnded d handle → Here d → Post (wants_primary d a handle row)
+  primary_post d a handle row asks stood at ended h =
       on_cond Post (waits_for d.master handle) (tells_to_wait d a) (wants_by d a handle row (copy_for d.master.logged a.file a.index)) (λ _. wait_post d a (here_post d h))
-      (λ _. by_post d a handle row (copy_for d.master.logged a.file a.index) asks refl at ended h)
+      (λ _. by_post d a handle row (copy_for d.master.logged a.file a.index) asks stood refl at ended h)
 
   revoked_here : (d : MasterDoing) (handle : ℕ) (o : Option ChunkRow) → Here d → Here (revokes_row d handle o)
   revoked_here d handle None h = h
@@ -441,13 +412,13 @@ module _ (l : Logged) (tried : Attempts) (now : ℕ) (asker : Node) (asked file 
       (λ _. (h.0, ordered d row.primary (λ order. body.Revoke order (handle_of handle) (version_of row.granted)) (λ o. refl) h.1)) (λ _. h)
 
   told_post : (d : MasterDoing) (a : Asker) (handle : ℕ) (row : ChunkRow) → IsOwn a → IsStood a.index handle → IsOldRow handle row ⊎ IsNewRow handle row → Here d → Post (tells_holders d a handle row)
-  told_post d a handle row asks stood was h = here_post (tells_holders d a handle row) (h.0, holders_fine d a handle row asks stood was h.1)
+  told_post d a handle row asks stood was h = here_post (tells_holders d a handle row) (h.0, location_fine d a handle row (map holder_line (current_holders d.master handle row)) asks stood was h.1)
 
   row_post : (d : MasterDoing) (a : Asker) (lost : Bool) (handle : ℕ) (o : Option ChunkRow) → IsOwn a → IsStood a.index handle → chunk_of d.master.logged.table handle ≡ o → Here d → Post (mutates_row d a lost handle o)
   row_post d a lost handle None asks stood at h = here_post d h
   row_post d a lost handle (Some row) asks stood at h =
       on_cond Post (has_ended row d.master.now) (wants_primary d a handle row) (tells_holders (cond lost (revokes d handle) d) a handle row)
-      (λ ended. primary_post d a handle row asks at (λ other is. ap (λ (x : ChunkRow). has_ended x d.master.now) (same_some other row (sym is ∙ at)) ∙ ended) h)
+      (λ ended. primary_post d a handle row asks stood at (λ other is. ap (λ (x : ChunkRow). has_ended x d.master.now) (same_some other row (sym is ∙ at)) ∙ ended) h)
       (λ _. told_post (cond lost (revokes d handle) d) a handle row asks stood (h.0.rows handle row at)
       (on_cond Here lost (revokes d handle) d (λ _. revoked_here d handle (chunk_of d.master.logged.table handle) h) (λ _. h)))
 

@@ -21,13 +21,12 @@ use Rattle.chunk_table.specs.ChunkTable.{ChunkRow, chunk_of}
 use Rattle.protocol.specs.Choice.{Choice, Ending, Goes, Lost, Stops}
 use Rattle.protocol.specs.Seen.{Taken, no_step}
 use Rattle.protocol.specs.Logged.{Logged, Copy, LogDisk, LogChange, AppendRecord, WriteCheckpoint}
-use Rattle.protocol.specs.Master.{MasterState, MasterDoing, VersionAttempt, stopped_master, master_begins}
+use Rattle.protocol.specs.Master.{MasterState, MasterDoing, stopped_master, master_begins}
 use Rattle.protocol.specs.MasterStep.{master_does, master_takes, master_at, master_goes, master_ends, master_bounded, master_step, may_end, is_within_limits, found_log, started_master, opening, has_opened, opens_as, master_restart}
 use Rattle.protocol.specs.Tables.{removed_all}
-use Rattle.protocol.specs.World.{WorldState, Happened, new_world, after_master, happens, after_events, IsReached}
+use Rattle.protocol.specs.World.{WorldState, Happened, new_world, happens, after_events, IsReached}
 use Rattle.protocol_laws.specs.Laws.{times_in}
 use Rattle.protocol_laws.proofs.Steps.{on_cond, none_some, removed_cases}
-use Rattle.protocol_laws.proofs.Entries.{AllOf}
 use Rattle.protocol_laws.proofs.CopiesUnderWay.{no_copies}
 use Rattle.protocol_laws.proofs.ChunkRows.{rows_of}
 use Rattle.protocol_laws.proofs.CountsLogged.{apart_here}
@@ -36,7 +35,7 @@ use Rattle.protocol_laws.proofs.GrantsOnce.{row_below}
 use Rattle.protocol_laws.proofs.LeasesEnded.{HasEnded}
 use Rattle.protocol_laws.proofs.LeasesTimely.{IsOfTimes, times_kept}
 use Rattle.protocol_laws.proofs.LoggedParts.{Parts}
-use Rattle.protocol_laws.proofs.MasterMoves.{IsNoGrantRecord, logs_alone}
+use Rattle.protocol_laws.proofs.MasterMoves.{logs_alone}
 use Rattle.protocol_laws.proofs.NamesReached.{IsUpToLog, logged_here}
 use Rattle.protocol_laws.proofs.OrderNumbers.{state_of}
 use Rattle.protocol_laws.proofs.Owners.{chunks_at, placed_stands, times_at_least, chunk_row}

@@ -1,8 +1,8 @@
 -- What is kept by a step of the master that takes no Ask, with its version attempts and its records: it issues no number, begins no copy and tells no location.
-use Rattle.std.proofs.Common.{◌≡◌, ℕ, ◌<◌, Bool, true, false, cond, List, [], ◌∷◌, ◌++◌, Option, Some, None, refl, sym, ap, ◌∙◌}
+use Rattle.std.proofs.Common.{◌≡◌, ℕ, ◌<◌, Bool, true, false, List, [], ◌∷◌, ◌++◌, Option, Some, None, refl, sym, ◌∙◌}
 use Rattle.std.specs.Prelude.{◌+◌, ◌==◌, ◌&&◌, not, nat_lt, nat_le}
 use Rattle.std.specs.FinMap as table
-use Rattle.std.proofs.lemmas.Bool.{ltb-true, leb-false}
+use Rattle.std.proofs.lemmas.Bool.{leb-false}
 use Rattle.gfs_types.specs.declared.ids.Node.{Node}
 use Rattle.gfs_types.specs.declared.ids.OrderNo.{OrderNo}
 use Rattle.gfs_types.specs.declared.call.Call.{Call}
@@ -26,7 +26,7 @@ use Rattle.protocol.specs.LogSizes.{checkpoint_fits}
 use Rattle.protocol.specs.Sending.{client_id, file_id, server_id, handle_of, version_of, moment_of, the_server, the_client, client_number, server_number}
 use Rattle.protocol.specs.Logged.{KeptCall, checkpoint_of}
 use Rattle.protocol.specs.Master.{MasterDoing, PendingSnapshot, VersionAttempt, tells, orders, logs, logs_after_checkpoint, appends, fits, writes_checkpoint, is_of_copy, ends_at, with_attempt, without_attempts, gives_up_copies, has_lease}
-use Rattle.protocol.specs.MasterSnapshots.{revokes_row, revokes, revokes_all, takes_locks, begins_snapshot, snapshot_handles, snapshot_files, copies_for_files, reply_of, answers_name, settles_name, refuses_name, changes_names, first_is_true, all_but_first, lets_go, is_same_snapshot, takes_snapshot, takes_ready, is_ready, waits_for}
+use Rattle.protocol.specs.MasterSnapshots.{revokes_row, revokes, revokes_all, takes_locks, begins_snapshot, snapshot_handles, snapshot_files, copies_for_files, reply_of, answers_name, settles_name, refuses_name, changes_names, first_is_true, all_but_first, lets_go, takes_snapshot, takes_ready, is_ready, waits_for}
 use Rattle.protocol.specs.MasterNames.{master_refusal, reply_by, performs, names_by, is_waiting_call, names_anew, names_kept}
 use Rattle.protocol.specs.MasterVersions.{sends_grant, grants_to, is_complete, with_recorded, learns_attempt, learns}
 use Rattle.protocol.specs.MasterReports.{holds_now, revoked_row, is_useless, drops_useless, learns_all, may_extend, extends_row, extends_all, hears, takes_report}

@@ -1,6 +1,6 @@
 -- A chunk's place in a file over a step of the master: it stays, or the file goes, or a copy that was under way takes it.
 use Rattle.std.proofs.Common.{◌≡◌, ◌⊎◌, ℕ, zero, suc, ◌<◌, true, false, true≢false, List, [], ◌∷◌, ◌++◌, take, drop, Option, Some, None, is_some, refl, sym, ap, subst, ◌∙◌, inl, inr, arith}
-use Rattle.std.specs.Prelude.{◌+◌, ◌&&◌, max, unwrap_or, IsTrue}
+use Rattle.std.specs.Prelude.{◌+◌, ◌&&◌, unwrap_or, IsTrue}
 use Rattle.std.specs.FinMap as table
 use Rattle.std.proofs.Math.Nat.{le-max_left}
 use Rattle.gfs_types.specs.declared.config.Config.{Config}
@@ -15,7 +15,7 @@ use Rattle.protocol.specs.Tables.{element_at, with_at}
 use Rattle.protocol.specs.Choice.{Choice, Ending, Goes, Lost, Stops}
 use Rattle.protocol.specs.Seen.{Taken, no_step}
 use Rattle.protocol.specs.Logged.{Logged, Copy, LogDisk, LogChange, AppendRecord, WriteCheckpoint, log_changed, log_changed_by_all, after_record, checkpoint_of, copies_for_file, swapped_in, with_copied_node, with_copied_nodes}
-use Rattle.protocol.specs.Master.{MasterState, MasterDoing, VersionAttempt, stopped_master, master_begins, writes_checkpoint}
+use Rattle.protocol.specs.Master.{MasterState, MasterDoing, stopped_master, master_begins, writes_checkpoint}
 use Rattle.protocol.specs.MasterStep.{master_goes, master_ends, master_bounded, master_step, is_within_limits, may_end, found_log, started_master, opening, has_opened, opens_as, master_restart}
 use Rattle.protocol_laws.proofs.Steps.{on_cond, none_some, same_some, same_or_not, put_there, put_other, gone_there, gone_other, kept_cases, removed_cases}
 use Rattle.protocol_laws.proofs.Entries.{AllOf}
@@ -116,14 +116,16 @@ module _ (file index handle : ℕ) where
       let low = h.0 in
       let high = ids_rise l.next_file (copied_entries l.names from to) in
       (omega (arith, low, high), copied_other l.table l.next_file (copied_entries l.names from to) low h.1)
-  place_after l (log.Expired gone) due plain h =
-      (h.0, elim (same_or_not file gone.0) [
-        | inl same ↦ inr (gone_there l.table.files gone.0 file same)
-        | inr other ↦ elim (h.1) [
-          | inl stands ↦ inl (ap (λ (o : Option (List ℕ)). element_at (unwrap_or o []) index) (gone_other l.table.files gone.0 file other) ∙ stands)
-          | inr none ↦ inr (gone_other l.table.files gone.0 file other ∙ none)
-        ]
-      ])
+  place_after l (log.Expired gone) due plain h = (
+    h.0,
+    elim (same_or_not file gone.0) [
+      | inl same ↦ inr (gone_there l.table.files gone.0 file same)
+      | inr other ↦ elim (h.1) [
+        | inl stands ↦ inl (ap (λ (o : Option (List ℕ)). element_at (unwrap_or o []) index) (gone_other l.table.files gone.0 file other) ∙ stands)
+        | inr none ↦ inr (gone_other l.table.files gone.0 file other ∙ none)
+      ]
+    ],
+  )
   place_after l (log.AddChunk of_file new) due plain h = (h.0, place_put l.table.files of_file.0 (handles_of l.table of_file.0 ++ new.0 ∷ []) stays h.1)
     where
       stays : file ≡ of_file.0 → Place l.table.files → element_at (handles_of l.table of_file.0 ++ new.0 ∷ []) index ≡ Some handle
@@ -158,8 +160,11 @@ module _ (file index handle : ℕ) where
               | inr none ↦ absurd (none_there c here none (placed c is))
               | inl stands ↦ elim (same_or_not index c.index) [
                 | inl same ↦ inr (q, c, is, same_some c.source handle (sym (placed c is) ∙ (ap (λ (n : ℕ). element_at (chunks_at l.table.files n) c.index) here ∙ (ap (λ (n : ℕ). element_at (chunks_at l.table.files file) n) (sym same) ∙ stands))))
-                | inr apart ↦ inl (h.0, place_put l.table.files c.file (with_at (handles_of l.table c.file) c.index q)
-                    (λ at _. other_place (handles_of l.table c.file) c.index index q apart ∙ (ap (λ (n : ℕ). element_at (chunks_at l.table.files n) index) here ∙ stands)) h.1)
+                | inr apart ↦ inl (
+                  h.0,
+                  place_put l.table.files c.file (with_at (handles_of l.table c.file) c.index q)
+                      (λ at _. other_place (handles_of l.table c.file) c.index index q apart ∙ (ap (λ (n : ℕ). element_at (chunks_at l.table.files n) index) here ∙ stands)) h.1,
+                )
               ]
             ]
           ]

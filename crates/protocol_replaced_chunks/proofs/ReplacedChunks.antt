@@ -1,5 +1,5 @@
--- In each reached world whose clocks were kept, a chunk that was told with a primary stands at its place still, or its file is gone, or the lease of the told round is over.
-use Rattle.std.proofs.Common.{◌≡◌, ◌⊎◌, ℕ, suc, ◌≤◌, ◌<◌, Bool, true, false, true≢false, List, [], ◌∷◌, ◌++◌, length, Option, Some, None, is_some, refl, sym, ap, subst, ◌∙◌, inl, inr, arith}
+-- In each reached world whose clocks were kept, a chunk that was told with a granted round stands at its place still, or its file is gone, or the lease of the told round is over.
+use Rattle.std.proofs.Common.{◌≡◌, ◌⊎◌, ℕ, suc, ◌≤◌, ◌<◌, Bool, true, false, List, [], ◌∷◌, ◌++◌, length, Option, Some, None, is_some, refl, sym, ap, subst, ◌∙◌, inl, inr, arith}
 use Rattle.std.specs.Prelude.{◌==◌, ◌&&◌, nat_lt, unwrap_or, IsTrue}
 use Rattle.std.specs.FinMap as table
 use Rattle.std.proofs.lemmas.Bool.{and_parts, eqb-true, ltb-true, ltb-false}
@@ -14,19 +14,17 @@ use Rattle.chunk_table.specs.ChunkTable.{ChunkRow}
 use Rattle.protocol.specs.Tables.{element_at}
 use Rattle.protocol.specs.Sending.{order_number}
 use Rattle.protocol.specs.Choice.{Choice}
-use Rattle.protocol.specs.Logged.{Logged, Copy, LogDisk, LogChange}
-use Rattle.protocol.specs.Master.{MasterState}
+use Rattle.protocol.specs.Logged.{Logged, Copy, LogChange}
 use Rattle.protocol.specs.MasterStep.{master_goes, master_step, master_restart}
 use Rattle.protocol.specs.ServerStep.{server_step, server_restart}
 use Rattle.protocol.specs.ClientStep.{client_step, client_call}
-use Rattle.protocol.specs.World.{WorldState, Happened, new_world, stamped, after_master, happens, after_events, IsReached}
+use Rattle.protocol.specs.World.{WorldState, Happened, new_world, stamped, happens, after_events, IsReached}
 use Rattle.protocol_laws.specs.Laws.{is_grant, grants_of}
 use Rattle.protocol_laws.proofs.Steps.{none_some, same_some, tally, count-cons}
 use Rattle.protocol_laws.proofs.Entries.{AllOf}
 use Rattle.protocol_laws.proofs.FilesNamed.{Files}
 use Rattle.protocol_laws.proofs.Owners.{chunks_at}
 use Rattle.protocol_laws.proofs.CountsLogged.{files_below}
-use Rattle.protocol_laws.proofs.ChunkRows.{rows_of}
 use Rattle.protocol_laws.proofs.LoggedParts.{Parts}
 use Rattle.protocol_laws.proofs.GrantsOnce.{row_below}
 use Rattle.protocol_laws.proofs.MembersRecorded.{place_below}
@@ -44,10 +42,10 @@ use Rattle.protocol_acts.proofs.IssuedNumbers.{IsPassed, IsLogPassed, passed_sam
 use Rattle.protocol_closed_versions.proofs.ClosedVersions.{clocks_before}
 use Rattle.protocol_words.proofs.Histories.{IsGrown, steps_grown, SentIn, sent_in, stood_before, after_both}
 use Rattle.protocol_extended_leases.proofs.ExtendLaws.{restart_silent}
-use Rattle.protocol_new_handles.proofs.GrantsFollow.{GrantsAbove, IsTriedAbove, HasPassed, step_passed, restart_passed}
+use Rattle.protocol_new_handles.proofs.GrantsFollow.{GrantsAbove, HasPassed, step_passed, restart_passed}
 use Rattle.protocol_copied_sources.proofs.AskedSteps.{StandsAt, IsToldOf, IsNoGrant}
 use Rattle.protocol_copied_sources.proofs.CopiedSources.{IsNoStart, asked_or_not, unasked_step, asked_step, free_reached, copied_chunks_have_no_lease}
-use Rattle.protocol_replaced_chunks.specs.Laws.{IsToldAt, StandsOrIsGone, ToldChunksStandOrAreOver, ReplacedChunksHaveNoLease}
+use Rattle.protocol_replaced_chunks.specs.Laws.{IsToldAt, ToldChunksStandOrAreOver, ReplacedChunksHaveNoLease}
 use Rattle.protocol_replaced_chunks.proofs.PlacesKept.{IsSourceOf, IsPlaceKept, IsLogKept, place_same, ArePlacesKept, step_places, restart_places}
 use Rattle.protocol_replaced_chunks.proofs.ToldAnswers.{WasToldIn, told_now, was_told_in}
 
@@ -242,56 +240,73 @@ told_chunks_stand_or_are_over config servers clients w r clocks client file l pl
       | inr places ↦ inr ((places.found []).1, λ up. (places.up up).1)
     ]
 
+-- Two locations of one place in a file, in worlds that lead to this one: from the world on that the second was told in, the first one's lease is over.
+module _ (config : Config) (servers clients : ℕ) (w : WorldState) (r : IsReached config servers clients w) (clocks : IsTrue w.observer.are_clocks_kept) (client other file : ℕ) (l k : Location) (place later : ℕ) (first : IsToldAt w.sent client file l place)
+    (second : IsToldAt w.sent other file k later) (earlier : place < later) (same_index : l.index ≡ k.index) (apart : l.handle.0 ≡ k.handle.0 → ⊥) where
+  pub replaced_from : (v : WorldState) → IsReached config servers clients v → (more : List (Event × Choice)) → after_events v more ≡ w → element_at v.sent later ≡ Some second.told
+      → (steps rest : List (Event × Choice)) → after_events (after_events v steps) rest ≡ w → IsLeaseOver (after_events v steps) l.handle.0 l.round.0
+  replaced_from v there more to at steps rest ends = by_place (nat_lt place (length u.sent)) refl
+    where
+      start : WorldState
+      start = new_world config servers clients
+
+      h : SentIn start there.0 later second.told
+      h = sent_in start there.0 later second.told (omega arith) (ap (λ (x : WorldState). element_at x.sent later) there.1 ∙ at)
+
+      u : WorldState
+      u = after_events start h.before
+
+      next : WorldState
+      next = (happens u h.step.0 h.step.1).world
+
+      reached : IsReached config servers clients u
+      reached = (h.before, refl)
+
+      path : after_events u (h.step ∷ h.after) ≡ v
+      path = sym (ap (λ (xs : List (Event × Choice)). after_events start xs) h.steps_are ∙ after_both start h.before (h.step ∷ h.after)) ∙ there.1
+
+      path_on : after_events u (h.step ∷ (h.after ++ more)) ≡ w
+      path_on = after_both u (h.step ∷ h.after) more ∙ (ap (λ (x : WorldState). after_events x more) path ∙ to)
+
+      path_to : after_events u (h.step ∷ (h.after ++ steps)) ≡ after_events v steps
+      path_to = after_both u (h.step ∷ h.after) steps ∙ ap (λ (x : WorldState). after_events x steps) path
+
+      clocks_then : IsTrue u.observer.are_clocks_kept
+      clocks_then = kept_before w clocks u (h.step ∷ (h.after ++ more)) path_on
+
+      clocks_there : IsTrue (after_events v steps).observer.are_clocks_kept
+      clocks_there = kept_before w clocks (after_events v steps) rest ends
+
+      now : IsTrue u.master.up × IsToldOf u.master.logged file k
+      now = told_now config servers clients w r u reached clocks_then h.step (h.after ++ more) path_on other file k later second h.unsent h.sent_is
+
+      -- both can't stand at one place
+      not_both : StandsAt u.master.logged.table.files file l.index l.handle.0 → ⊥
+      not_both stands = apart (same_some l.handle.0 k.handle.0 (sym stands ∙ (ap (λ (n : ℕ). element_at (chunks_at u.master.logged.table.files file) n) same_index ∙ (now.1).stood)))
+
+      not_gone : table.get u.master.logged.table.files file ≡ None → ⊥
+      not_gone none = none_some k.handle.0 (sym (ap (λ (o : Option (List ℕ)). element_at (unwrap_or o []) k.index) none) ∙ (now.1).stood)
+
+      grown : IsGrown u.sent w.sent
+      grown = subst (λ (x : WorldState). IsGrown u.sent x.sent) path_on (steps_grown u (h.step ∷ (h.after ++ more)))
+
+      by_place : (b : Bool) → nat_lt place (length u.sent) ≡ b → IsLeaseOver (after_events v steps) l.handle.0 l.round.0
+      by_place false late =
+          let stands : element_at next.sent place ≡ Some first.told =
+          stood_before next.sent w.sent place first.told (subst (λ (x : WorldState). IsGrown next.sent x.sent) path_on (steps_grown next (h.after ++ more))) (let below = place_below next.sent later second.told h.sent_is in omega (arith, earlier, below)) first.sent_is in
+          absurd (not_both ((told_now config servers clients w r u reached clocks_then h.step (h.after ++ more) path_on client file l place first (ltb-false place (length u.sent) late) stands).1).stood)
+      by_place true early =
+          let stands : element_at u.sent place ≡ Some first.told = stood_before u.sent w.sent place first.told grown (ltb-true place (length u.sent) early) first.sent_is in
+          let tracked = tracked_of config servers clients w r clocks u reached (h.step ∷ (h.after ++ more)) path_on client file l place first stands in
+          let few = (tracked_on file l.index l.handle.0 l.round.0 config servers clients u reached (h.step ∷ (h.after ++ steps)) tracked).1 in
+          let over : IsLeaseOver u l.handle.0 l.round.0 =
+          elim (tracked.kept clocks_then) [
+            | inl done ↦ done
+            | inr places ↦ absurd (elim ((places.up now.0).1) [ inl stays ↦ not_both stays | inr none ↦ not_gone none ])
+          ] in
+          subst (λ (x : WorldState). IsLeaseOver x l.handle.0 l.round.0) path_to
+          (over_later config servers clients u reached l.handle.0 l.round.0 over (h.step ∷ (h.after ++ steps)) (subst (λ (x : WorldState). IsTrue x.observer.are_clocks_kept) (sym path_to) clocks_there) few)
+
 pub replaced_chunks_have_no_lease : ReplacedChunksHaveNoLease
-replaced_chunks_have_no_lease config servers clients w r clocks client other file l k place later first second before same_index apart = by_place (nat_lt place (length u.sent)) refl
-  where
-    start : WorldState
-    start = new_world config servers clients
-
-    h : SentIn start r.0 later (second.told)
-    h = sent_in start r.0 later second.told (omega arith) (ap (λ (v : WorldState). element_at v.sent later) r.1 ∙ second.sent_is)
-
-    u : WorldState
-    u = after_events start h.before
-
-    next : WorldState
-    next = (happens u h.step.0 h.step.1).world
-
-    reached : IsReached config servers clients u
-    reached = (h.before, refl)
-
-    path : after_events u (h.step ∷ h.after) ≡ w
-    path = sym (ap (λ (steps : List (Event × Choice)). after_events start steps) h.steps_are ∙ after_both start h.before (h.step ∷ h.after)) ∙ r.1
-
-    clocks_then : IsTrue u.observer.are_clocks_kept
-    clocks_then = kept_before w clocks u (h.step ∷ h.after) path
-
-    now : IsTrue u.master.up × IsToldOf u.master.logged file k
-    now = told_now config servers clients w r u reached clocks_then h.step h.after path other file k later second h.unsent h.sent_is
-
-    -- both can't stand at one place
-    not_both : StandsAt u.master.logged.table.files file l.index l.handle.0 → ⊥
-    not_both stands = apart (same_some l.handle.0 k.handle.0 (sym stands ∙ (ap (λ (n : ℕ). element_at (chunks_at u.master.logged.table.files file) n) same_index ∙ (now.1).stood)))
-
-    not_gone : table.get u.master.logged.table.files file ≡ None → ⊥
-    not_gone none = none_some k.handle.0 (sym (ap (λ (o : Option (List ℕ)). element_at (unwrap_or o []) k.index) none) ∙ (now.1).stood)
-
-    grown : IsGrown u.sent w.sent
-    grown = subst (λ (v : WorldState). IsGrown u.sent v.sent) path (steps_grown u (h.step ∷ h.after))
-
-    by_place : (b : Bool) → nat_lt place (length u.sent) ≡ b → IsLeaseOver w l.handle.0 l.round.0
-    by_place false late =
-        let there : element_at next.sent place ≡ Some first.told =
-        stood_before next.sent w.sent place first.told (subst (λ (v : WorldState). IsGrown next.sent v.sent) path (steps_grown next h.after)) (let below = place_below next.sent later second.told h.sent_is in omega (arith, before, below)) first.sent_is in
-        absurd (not_both ((told_now config servers clients w r u reached clocks_then h.step h.after path client file l place first (ltb-false place (length u.sent) late) there).1).stood)
-    by_place true early =
-        let there : element_at u.sent place ≡ Some first.told = stood_before u.sent w.sent place first.told grown (ltb-true place (length u.sent) early) first.sent_is in
-        let tracked = tracked_of config servers clients w r clocks u reached (h.step ∷ h.after) path client file l place first there in
-        let few = (tracked_on file l.index l.handle.0 l.round.0 config servers clients u reached (h.step ∷ h.after) tracked).1 in
-        let over : IsLeaseOver u l.handle.0 l.round.0 =
-        elim (tracked.kept clocks_then) [
-          | inl done ↦ done
-          | inr places ↦ absurd (elim ((places.up now.0).1) [ inl stands ↦ not_both stands | inr none ↦ not_gone none ])
-        ] in
-        subst (λ (v : WorldState). IsLeaseOver v l.handle.0 l.round.0) path
-        (over_later config servers clients u reached l.handle.0 l.round.0 over (h.step ∷ h.after) (subst (λ (v : WorldState). IsTrue v.observer.are_clocks_kept) (sym path) clocks) few)
+replaced_chunks_have_no_lease config servers clients w r clocks client other file l k place later first second earlier same_index apart =
+    replaced_from config servers clients w r clocks client other file l k place later first second earlier same_index (λ same. absurd (apart same)) w r [] refl second.sent_is [] [] refl

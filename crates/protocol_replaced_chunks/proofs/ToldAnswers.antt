@@ -1,6 +1,6 @@
--- Each location that was told with a primary was told in one step of a master that was up, in answer to an Ask, of the chunk that stood at the place that was asked for.
-use Rattle.std.proofs.Common.{◌≡◌, ◌⊎◌, ℕ, suc, ◌≤◌, ◌<◌, Bool, true, false, true≢false, List, [], ◌∷◌, ◌++◌, length, Option, Some, None, refl, sym, ap, subst, ◌∙◌, inl, inr, arith}
-use Rattle.std.specs.Prelude.{◌==◌, ◌&&◌, IsTrue}
+-- Each location that was told with a granted round was told in one step of a master that was up, in answer to an Ask, of the chunk that stood at the place that was asked for.
+use Rattle.std.proofs.Common.{◌≡◌, ◌⊎◌, ℕ, suc, ◌≤◌, Bool, true, false, true≢false, List, [], ◌∷◌, ◌++◌, length, Option, Some, None, refl, sym, ap, subst, ◌∙◌, inl, inr, arith}
+use Rattle.std.specs.Prelude.{◌&&◌, IsTrue}
 use Rattle.std.specs.Option.{option_to_list}
 use Rattle.gfs_types.specs.declared.config.Config.{Config}
 use Rattle.gfs_types.specs.declared.ids.FileId.{FileId}
@@ -10,11 +10,9 @@ use Rattle.gfs_types.specs.declared.ids.Node.TheVariants as node
 use Rattle.gfs_types.specs.declared.ids.DataId.{DataId}
 use Rattle.messages.specs.declared.event.Event.{Event}
 use Rattle.messages.specs.declared.event.Input.{Input}
-use Rattle.messages.specs.declared.event.Input.TheVariants as input
 use Rattle.messages.specs.declared.message.Message.{Message}
 use Rattle.messages.specs.declared.message.Body.{Body}
 use Rattle.messages.specs.declared.message.Body.TheVariants as body
-use Rattle.messages.specs.declared.message.Group.{Group}
 use Rattle.messages.specs.declared.message.Location.{Location}
 use Rattle.messages.specs.declared.message.Wanted.{Wanted}
 use Rattle.protocol.specs.Tables.{element_at}
@@ -28,7 +26,7 @@ use Rattle.protocol.specs.ServerStep.{server_at, server_step, server_restarts, s
 use Rattle.protocol.specs.Master.{MasterState, MasterDoing}
 use Rattle.protocol.specs.MasterStep.{master_goes, master_ends, master_bounded, master_step, may_end, master_restart}
 use Rattle.protocol.specs.World.{WorldState, new_world, stamped, happens, after_events, IsReached}
-use Rattle.protocol_laws.proofs.Steps.{on_cond, none_some}
+use Rattle.protocol_laws.proofs.Steps.{on_cond}
 use Rattle.protocol_laws.proofs.Entries.{AllOf, same_number}
 use Rattle.protocol_laws.proofs.MembersRecorded.{all_at, all_in_order}
 use Rattle.protocol_laws.proofs.MessagesSent.{IsSent, sent_before}
@@ -37,8 +35,6 @@ use Rattle.protocol_attempts.proofs.Events.{IsGiven, HoldsAfter, holds_after}
 use Rattle.protocol_attempts.proofs.ClientNumbers.{IsSaid as IsClientsWord, IsStepOf, of_step, of_call}
 use Rattle.protocol_attempts.proofs.RequestsOnce.{AreNumbered, numbered_reached, requests_are_numbered_once}
 use Rattle.protocol_deadlines.proofs.Deadlines.{same_counted}
-use Rattle.protocol_reads.specs.Laws.{HasAsked}
-use Rattle.protocol_versions.proofs.LeasesStayOver.{reached_later}
 use Rattle.protocol_words.proofs.ServerTalks.{is_quiet, Talks, step_said}
 use Rattle.protocol_words.proofs.Histories.{IsGrown, steps_grown, SentIn, sent_in, after_both}
 use Rattle.protocol_extended_leases.proofs.ExtendLaws.{restart_silent, new_one, none_before, came_in}
@@ -87,7 +83,7 @@ client_tells : (s : ClientState) (d : ClientDoing) (o : Option Message) → IsSt
 client_tells s d None step is = tt
 client_tells s d (Some m) step is = (client_word s d.client m.body (step.says m is).1, tt)
 
--- a message of a step that tells a location with a primary
+-- a message of a step that tells a location with a granted round
 
 pub record IsAnswer (u : WorldState) (m : Message) (number : ℕ) (l : Location) : Type 0 where
   pub up : IsTrue u.master.up
@@ -102,7 +98,7 @@ pub record IsAnswer (u : WorldState) (m : Message) (number : ℕ) (l : Location)
   pub told : IsToldOf u.master.logged file.0 l
 
 abbrev AreAnswers : WorldState → WorldState → Type 0
-AreAnswers u v = (place : ℕ) (m : Message) → length u.sent ≤ place → element_at v.sent place ≡ Some m → (number : ℕ) (l : Location) (g : Group) → m.body ≡ body.Told number (Some l) → l.group ≡ Some g → IsAnswer u m number l
+AreAnswers u v = (place : ℕ) (m : Message) → length u.sent ≤ place → element_at v.sent place ≡ Some m → (number : ℕ) (l : Location) → m.body ≡ body.Told number (Some l) → 1 ≤ l.round.0 → IsAnswer u m number l
 
 none_new : {A : Type 0} (sent ms : List Message) (k place : ℕ) (m : Message) → AllOf (λ x. TellsNone x.body) ms → length sent ≤ place → element_at (sent ++ stamped k ms) place ≡ Some m → (number : ℕ) (l : Location) → m.body ≡ body.Told number (Some l) → A
 none_new sent ms k place m none from at number l is =
@@ -123,16 +119,16 @@ step_sent W m moment i choice h =
 each_answered : (config : Config) (servers clients : ℕ) (u : WorldState) → IsReached config servers clients u → IsTrue u.observer.are_clocks_kept → HoldsAfter u (λ e x. AreAnswers u x.world)
 each_answered config servers clients u r clocks =
     record {
-      nothing = λ e place m from at number l g is group. none_before u.sent place m from at;
-      masters = λ e moment i choice given up place m from at number l g is group. by_input e moment i choice given up place m from at number l g is group (asked_or_not i);
-      opens = λ e moment choice place m from at number l g is group. none_new u.sent (master_restart u.master moment choice).out.sent k place m (subst (λ (ms : List Message). AllOf (λ x. TellsNone x.body) ms) (sym (restart_silent u.master moment choice)) tt) from at number l is;
-      serves = λ e index moment s i choice there given up place m from at number l g is group. none_new u.sent (server_step s moment i choice).out.sent k place m (server_tells s moment i choice) from at number l is;
-      restarts = λ e index moment s choice there place m from at number l g is group. none_new u.sent (server_restart s moment choice).out.sent k place m (restart_tells s moment choice choice.ending) from at number l is;
-      steps = λ e index moment s i choice there given up place m from at number l g is group. none_new u.sent (client_step s moment i choice).out.sent k place m
+      nothing = λ e place m from at number l is granted. none_before u.sent place m from at;
+      masters = λ e moment i choice given up place m from at number l is granted. by_input e moment i choice given up place m from at number l is granted (asked_or_not i);
+      opens = λ e moment choice place m from at number l is granted. none_new u.sent (master_restart u.master moment choice).out.sent k place m (subst (λ (ms : List Message). AllOf (λ x. TellsNone x.body) ms) (sym (restart_silent u.master moment choice)) tt) from at number l is;
+      serves = λ e index moment s i choice there given up place m from at number l is granted. none_new u.sent (server_step s moment i choice).out.sent k place m (server_tells s moment i choice) from at number l is;
+      restarts = λ e index moment s choice there place m from at number l is granted. none_new u.sent (server_restart s moment choice).out.sent k place m (restart_tells s moment choice choice.ending) from at number l is;
+      steps = λ e index moment s i choice there given up place m from at number l is granted. none_new u.sent (client_step s moment i choice).out.sent k place m
           (of_step (λ t ms. AllOf (λ x. TellsNone x.body) ms) s moment i choice (numbered.each index s there).named (λ d step. client_tells (client_at s moment) d d.sent step refl) tt tt) from at number l is;
-      calls = λ e index moment s c choice there may place m from at number l g is group. none_new u.sent (client_call s moment c choice).out.sent k place m
+      calls = λ e index moment s c choice there may place m from at number l is granted. none_new u.sent (client_call s moment c choice).out.sent k place m
           (of_call (λ t ms. AllOf (λ x. TellsNone x.body) ms) s moment c choice (numbered.each index s there).named (λ d step. client_tells (client_at s moment) d d.sent step refl) tt) from at number l is;
-      rots = λ e index q s x at_place byte is_kept there held up place m from at number l g is group. none_before u.sent place m from at;
+      rots = λ e index q s x at_place byte is_kept there held up place m from at number l is granted. none_before u.sent place m from at;
     }
   where
     k : ℕ
@@ -142,15 +138,15 @@ each_answered config servers clients u r clocks =
     numbered = numbered_reached config servers clients u r
 
     by_input : (e : Event) (moment : ℕ) (i : Input) (choice : Choice) → IsGiven u e node.Master moment i → IsTrue u.master.up → (place : ℕ) (m : Message) → length u.sent ≤ place
-        → element_at (u.sent ++ stamped (suc (length u.sent)) (master_step u.master moment i choice).out.sent) place ≡ Some m → (number : ℕ) (l : Location) (g : Group) → m.body ≡ body.Told number (Some l) → l.group ≡ Some g
+        → element_at (u.sent ++ stamped (suc (length u.sent)) (master_step u.master moment i choice).out.sent) place ≡ Some m → (number : ℕ) (l : Location) → m.body ≡ body.Told number (Some l) → 1 ≤ l.round.0
         → IsUnasked i ⊎ IsAsk i → IsAnswer u m number l
-    by_input e moment i choice given up place m from at number l g is group (inl none) =
+    by_input e moment i choice given up place m from at number l is granted (inl none) =
         none_new u.sent (master_step u.master moment i choice).out.sent k place m
         (step_sent IsSilent u.master moment i choice (unasked_step config servers clients u r clocks up (free_reached config servers clients u r clocks up) moment i choice.refused none).sent) from at number l is
-    by_input e moment i choice given up place m from at number l g is group (inr ask) =
+    by_input e moment i choice given up place m from at number l is granted (inr ask) =
         let new = new_one u.sent (master_step u.master moment i choice).out.sent k place m from at in
         let all = step_sent (IsSaid u.master.logged (ask.message).sender ask.number (ask.file).0) u.master moment i choice (asked_step config servers clients u r clocks up (free_reached config servers clients u r clocks up) moment i choice.refused ask).sent in
-        let one = all_at (IsSaid u.master.logged (ask.message).sender ask.number (ask.file).0) (master_step u.master moment i choice).out.sent (new.1).0 new.0 all (new.1).1 number l g ((new.2).2 ∙ is) group in
+        let one = all_at (IsSaid u.master.logged (ask.message).sender ask.number (ask.file).0) (master_step u.master moment i choice).out.sent (new.1).0 new.0 all (new.1).1 number l ((new.2).2 ∙ is) granted in
         record {
           up = up;
           ask = ask.message;
@@ -194,7 +190,7 @@ module _ (config : Config) (servers clients : ℕ) (w : WorldState) (r : IsReach
   told_now u reached clocks step more path client file l place t from at = (a.up, subst (λ (n : ℕ). IsToldOf u.master.logged n l) same a.told)
     where
       a : IsAnswer u t.told t.number l
-      a = holds_after u (λ e x. AreAnswers u x.world) (each_answered config servers clients u reached clocks) step.0 step.1 place t.told from at t.number l t.group t.body_is t.group_is
+      a = holds_after u (λ e x. AreAnswers u x.world) (each_answered config servers clients u reached clocks) step.0 step.1 place t.told from at t.number l t.body_is t.granted
 
       grown : IsGrown u.sent w.sent
       grown = subst (λ (v : WorldState). IsGrown u.sent v.sent) path (steps_grown u (step ∷ more))
