@@ -37,17 +37,18 @@ use Rattle.protocol_locations.specs.Laws.{chunk_used, BeganInTime, WasTold, IsTo
 use Rattle.protocol_locations.proofs.LocationsUsed.{locations_are_not_used_too_long}
 use Rattle.protocol_deadlines.proofs.Deadlines.{asks_for, asking, same_counted}
 use Rattle.protocol_full_chunks.proofs.OwnMutates.{IsOwn, mutates_are_own}
+use Rattle.protocol_full_chunks.proofs.UsedNumbers.{Asks}
 use Rattle.protocol_answered_attempts.proofs.AnsweredAttempts.{same_mutate}
-use Rattle.protocol_open_attempts.specs.Laws.{AsksBy}
+use Rattle.protocol_open_attempts.specs.Laws.{IsSentFor, WasSentFor, AsksBy}
 use Rattle.protocol_open_attempts.proofs.OpenStages.{IsOpen, HasData, IsUnderWay, AnyReply, strictly}
 use Rattle.protocol_open_attempts.proofs.LaterCalls.{CallStands}
-use Rattle.protocol_open_attempts.proofs.OpenCalls.{IsStanding, Never, all_since, new_on}
+use Rattle.protocol_open_attempts.proofs.OpenCalls.{IsStanding, SinceFor, Never, NeverFor, all_since, new_on}
 use Rattle.protocol_call_steps.proofs.CallWalk.{StandsAt}
 use Rattle.protocol_leased_answers.specs.Laws.{IsTakenNow, WasTaken}
 use Rattle.protocol_leased_answers.proofs.LeasedAnswers.{answers_are_given_under_leases}
 use Rattle.protocol_replaced_chunks.specs.Laws.{IsToldAt}
 use Rattle.protocol_replaced_chunks.proofs.ReplacedChunks.{replaced_chunks_have_no_lease, replaced_from}
-use Rattle.protocol_passed_attempts.specs.Laws.{IsSentFor, WasSentFor, PassedAttemptsHaveNoLease}
+use Rattle.protocol_passed_attempts.specs.Laws.{PassedAttemptsHaveNoLease}
 
 -- a step of a list
 
@@ -184,13 +185,40 @@ asked_earlier config servers clients steps index file chunk seq x h id handle ve
     w : WorldState
     w = after_events start steps
 
-    standing : IsStanding config index w h.client
-    standing = (all_since config index servers clients start steps Never ([], refl) (new_on config servers clients index)).stands h.client h.client_is
+    standing : IsStanding config index (SinceFor config index start steps NeverFor) w h.client
+    standing = (all_since config index servers clients start steps Never NeverFor ([], refl) (new_on config servers clients index)).stands h.client h.client_is
 
-    stands : StandsAt (IsOpen config w.sent w.observer.greatest (suc index) (h.client).now) (λ o c told number. HasData config w.sent w.observer.greatest (suc index) o c told number) (IsUnderWay config w.sent w.observer.greatest (suc index) (h.client).now) AnyReply None h.current (SentData chunk h.primary seq)
+    stands : StandsAt (IsOpen (SinceFor config index start steps NeverFor) config w.sent w.observer.greatest (suc index) (h.client).now) (λ o c told number. HasData config w.sent w.observer.greatest (suc index) o c told number) (IsUnderWay (SinceFor config index start steps NeverFor) config w.sent w.observer.greatest (suc index) (h.client).now) AnyReply None h.current (SentData chunk h.primary seq)
     stands =
-        subst (λ (st : Stage). StandsAt (IsOpen config w.sent w.observer.greatest (suc index) (h.client).now) (λ o c told number. HasData config w.sent w.observer.greatest (suc index) o c told number) (IsUnderWay config w.sent w.observer.greatest (suc index) (h.client).now) AnyReply None h.current st) h.stage_is
-        (subst (λ (o : Option CurrentCall). CallStands config w.sent w.observer.greatest (suc index) (h.client).now None o) h.current_is (standing.call h.is_up))
+        subst (λ (st : Stage). StandsAt (IsOpen (SinceFor config index start steps NeverFor) config w.sent w.observer.greatest (suc index) (h.client).now) (λ o c told number. HasData config w.sent w.observer.greatest (suc index) o c told number) (IsUnderWay (SinceFor config index start steps NeverFor) config w.sent w.observer.greatest (suc index) (h.client).now) AnyReply None h.current st) h.stage_is
+        (subst (λ (o : Option CurrentCall). CallStands (SinceFor config index start steps NeverFor) config w.sent w.observer.greatest (suc index) (h.client).now None o) h.current_is (standing.call h.is_up))
+
+-- the Mutate that was sent
+pub sent_asks : (index : ℕ) (start : WorldState) (steps : List (Event × Choice)) (file : ℕ) (chunk : ToldChunk) (seq : ℕ) → WasSentFor index start steps file chunk seq → Asks (after_events start steps).sent (data_id (suc index) seq) chunk.handle chunk.round
+sent_asks index start steps file chunk seq sent =
+    record {
+      asked = (b.now).asked;
+      aim = (b.now).aim;
+      deadline = (b.now).deadline;
+      sent_is = ((b.now).place, subst (λ (ms : List Message). element_at ms (b.now).place ≡ Some (b.now).asked) (sym grown.1) (kept_place next.sent grown.0 (b.now).place (b.now).asked (b.now).sent_is));
+      sender_is = (b.now).sender_is;
+      body_is = (b.now).body_is;
+    }
+  where
+    b : IsStepOf start steps (λ v x. IsSentFor index v x file chunk seq)
+    b = sent_step index start steps file chunk seq sent
+
+    v : WorldState
+    v = after_events start b.before
+
+    next : WorldState
+    next = (happens v (b.step).0 (b.step).1).world
+
+    path : after_events v (b.step ∷ b.after) ≡ after_events start steps
+    path = sym (ap (λ (xs : List (Event × Choice)). after_events start xs) b.steps_are ∙ after_both start b.before (b.step ∷ b.after))
+
+    grown : IsGrown next.sent (after_events start steps).sent
+    grown = subst (λ (x : WorldState). IsGrown next.sent x.sent) path (steps_grown next b.after)
 
 abbrev location_in : Body → Option Location
 location_in (body.Told number o) = o

@@ -1,9 +1,8 @@
 -- No lease is granted of a chunk's version 0.
-use Rattle.std.proofs.Common.{◌≡◌, ℕ, ◌≤◌, ◌<◌, true, false, List, [], ◌∷◌, ◌++◌, Some, None, refl, sym, ap, subst, ◌∙◌, inl, inr, arith}
-use Rattle.std.specs.Prelude.{◌==◌, ◌&&◌, IsTrue}
+use Rattle.std.proofs.Common.{◌≡◌, ℕ, ◌≤◌, ◌<◌, true, false, List, [], ◌∷◌, ◌++◌, refl, sym, subst, ◌∙◌, inl, inr, arith}
+use Rattle.std.specs.Prelude.{◌==◌, ◌&&◌}
 use Rattle.std.proofs.lemmas.Bool.{and_parts, and_from, eqb-true}
 use Rattle.gfs_types.specs.declared.config.Config.{Config}
-use Rattle.gfs_types.specs.declared.ids.OrderNo.{OrderNo}
 use Rattle.messages.specs.declared.event.Input.{Input}
 use Rattle.messages.specs.declared.message.Body.{Body}
 use Rattle.messages.specs.declared.message.Body.TheVariants as body
@@ -11,15 +10,15 @@ use Rattle.messages.specs.declared.message.Message.{Message}
 use Rattle.protocol.specs.Choice.{Choice, Ending, Goes, Lost, Stops}
 use Rattle.protocol.specs.Seen.{Taken, no_step}
 use Rattle.protocol.specs.Logged.{LogDisk}
-use Rattle.protocol.specs.Master.{MasterState, MasterDoing, master_begins}
-use Rattle.protocol.specs.MasterStep.{master_at, master_goes, master_ends, master_bounded, master_step, may_end, master_restart}
+use Rattle.protocol.specs.Master.{MasterState, MasterDoing}
+use Rattle.protocol.specs.MasterStep.{master_goes, master_ends, master_bounded, master_step, may_end, master_restart}
 use Rattle.protocol.specs.ServerStep.{server_step, server_restart}
 use Rattle.protocol.specs.World.{WorldState, IsReached, stamped}
 use Rattle.protocol_laws.specs.Laws.{is_grant, grants_of}
 use Rattle.protocol_laws.proofs.Steps.{on_cond}
 use Rattle.protocol_laws.proofs.Entries.{AllOf, all_joined, same_number}
 use Rattle.protocol_laws.proofs.Words.{is_of_lease, true_false}
-use Rattle.protocol_laws.proofs.MasterMoves.{Core, core_of, IsPlainOrder, Nothing, NoneEnded, Keeps}
+use Rattle.protocol_laws.proofs.MasterMoves.{Core, IsPlainOrder, Nothing, NoneEnded, Keeps}
 use Rattle.protocol_laws.proofs.MasterSteps.{no_input, goes_named}
 use Rattle.protocol_laws.proofs.MembersRecorded.{all_at, all_in_order}
 use Rattle.protocol_laws.proofs.MessagesSent.{IsSent, sent_cases, none_sent, numbered_sent}
@@ -60,6 +59,9 @@ untold_all (m ∷ ms) none = (untold_one m.body none.0, untold_all ms none.1)
 
 -- a step of the master
 
+above_zero : (low version : ℕ) → low < version → 1 ≤ version
+above_zero low version less = omega (arith, less)
+
 said : (c : Core) (m : Message) → IsFromOne m.body → AreFromOne c.sent → AreFromOne (c.sent ++ m ∷ [])
 said c m fits h = all_joined (λ (x : Message). IsFromOne x.body) c.sent (m ∷ []) h (fits, tt)
 
@@ -71,7 +73,7 @@ one_keeps start =
       tells = λ c receiver b quiet h. (base.tells c receiver b quiet h.0, said c _ (quiet_one b quiet) h.1);
       orders = λ c server b is plain h. (base.orders c server b is plain h.0, said c _ (plain_one (b _) (plain _)) h.1);
       revokes = λ c handle row is h. (base.revokes c handle row is h.0, said c _ tt h.1);
-      grants = λ c handle version until primary members told due names from idle h. (base.grants c handle version until primary members told due names from idle h.0, said c _ (let above = due.2 tt in omega (arith, above)) h.1);
+      grants = λ c handle version until primary members told due names from idle h. (base.grants c handle version until primary members told due names from idle h.0, said c _ (above_zero (due.0).granted version (due.2 tt)) h.1);
       appends = λ c r due plain names h. (base.appends c r due plain names h.0, h.1);
       checkpoint = λ c tree h. (base.checkpoint c tree h.0, h.1);
       less = λ c handles copied h. (base.less c handles copied h.0, h.1);
