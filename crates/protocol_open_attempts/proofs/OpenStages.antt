@@ -193,7 +193,7 @@ module _ (G : ℕ → ToldChunk → ℕ → Type 0) (config : Config) (sent : Li
   same_open c e asked file live deadline h =
       record {
         each = λ id handle version until own a. subst (λ (f : FileId). Ended id version until ⊎ AnyLive (Counted f.0 id.seq version until) e.live) (sym file)
-              (subst (λ (ls : List LiveAttempt). Ended id version until ⊎ AnyLive (Counted c.file.0 id.seq version until) ls) (sym live) (h.each id handle version until own a));
+            (subst (λ (ls : List LiveAttempt). Ended id version until ⊎ AnyLive (Counted c.file.0 id.seq version until) ls) (sym live) (h.each id handle version until own a));
         timely = record {
           early = let low = h.timely.early in let same = ap (λ (m : Moment). m.0) deadline in omega (arith, low, same);
           lives = subst (λ (ls : List LiveAttempt). AllOf (λ l. l.until.0 ≤ e.deadline.0 + config.skew_ms) ls) (sym live) (subst (λ (m : Moment). AllOf (λ l. l.until.0 ≤ m.0 + config.skew_ms) c.live) (sym deadline) h.timely.lives);
@@ -205,7 +205,7 @@ module _ (G : ℕ → ToldChunk → ℕ → Type 0) (config : Config) (sent : Li
   begins_open c e same deadline h =
       record {
         each = λ id handle version until own a. subst (λ (f : FileId). Ended id version until ⊎ AnyLive (Counted f.0 id.seq version until) e.live) (sym same.1)
-              (subst (λ (ls : List LiveAttempt). Ended id version until ⊎ AnyLive (Counted c.file.0 id.seq version until) ls) (sym same.3) (h.each id handle version until own a));
+            (subst (λ (ls : List LiveAttempt). Ended id version until ⊎ AnyLive (Counted c.file.0 id.seq version until) ls) (sym same.3) (h.each id handle version until own a));
         timely = record {
           early = omega (arith, begun, attempt_is);
           lives = subst (λ (ls : List LiveAttempt). AllOf (λ l. l.until.0 ≤ e.deadline.0 + config.skew_ms) ls) (sym same.3)

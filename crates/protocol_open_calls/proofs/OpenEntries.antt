@@ -232,13 +232,12 @@ asked_longer index w [] more made part n h = absurd h
 asked_longer index w (step ∷ rest) more made part n h = elim (h) [ inl now ↦ inl now | inr later ↦ inr (asked_longer index (happens w step.0 step.1).world rest more made part n later) ]
 
 pub entries_were_asked_for_in_their_call : EntriesWereAskedForInTheirCall
-entries_were_asked_for_in_their_call config servers clients steps kept handle place p at index client =
-    (
-      is_open.part,
-      subst (λ (xs : List (Event × Choice)). WasAsked index start xs p.entry.call.number is_open.part p.seq) (sym was.steps_are)
-          (asked_longer index start was.before (was.step ∷ was.after) p.entry.call.number is_open.part p.seq
-          (subst (λ (n : ℕ). WasAsked index start was.before p.entry.call.number is_open.part n) (sym seq_is) (subst (λ (n : ℕ). WasAsked index start was.before n is_open.part (now.id).seq) (sym number_is) is_open.asked))),
-    )
+entries_were_asked_for_in_their_call config servers clients steps kept handle place p at index client = (
+  is_open.part,
+  subst (λ (xs : List (Event × Choice)). WasAsked index start xs p.entry.call.number is_open.part p.seq) (sym was.steps_are)
+      (asked_longer index start was.before (was.step ∷ was.after) p.entry.call.number is_open.part p.seq
+      (subst (λ (n : ℕ). WasAsked index start was.before p.entry.call.number is_open.part n) (sym seq_is) (subst (λ (n : ℕ). WasAsked index start was.before n is_open.part (now.id).seq) (sym number_is) is_open.asked))),
+)
   where
     start : WorldState
     start = new_world config servers clients
