@@ -1,28 +1,20 @@
 -- In each world that is reached, what a server answered of an attempt, or keeps of one, is of an attempt that a server took under a lease.
-use Rattle.std.proofs.Common.{IsTrue, ◌≡◌, ◌⊎◌, ℕ, zero, suc, List, [], ◌∷◌, ◌++◌, length, map, Option, Some, None, refl, sym, ap, subst, ◌∙◌, inl, inr}
+use Rattle.std.proofs.Common.{◌≡◌, ◌⊎◌, ℕ, zero, suc, List, [], ◌∷◌, ◌++◌, length, map, Option, Some, None, refl, sym, subst, ◌∙◌, inl, inr}
 use Rattle.std.specs.Option.{option_to_list}
-use Rattle.std.specs.FinMap as table
 use Rattle.gfs_types.specs.declared.config.Config.{Config}
 use Rattle.gfs_types.specs.declared.ids.Node.{Node}
 use Rattle.gfs_types.specs.declared.ids.DataId.{DataId}
-use Rattle.gfs_types.specs.declared.ids.Handle.{Handle}
-use Rattle.gfs_types.specs.declared.ids.Version.{Version}
-use Rattle.gfs_types.specs.declared.ids.Moment.{Moment}
 use Rattle.messages.specs.declared.event.Event.{Event}
-use Rattle.messages.specs.declared.event.Input.{Input}
-use Rattle.messages.specs.declared.event.Input.TheVariants as input
 use Rattle.messages.specs.declared.message.Body.{Body}
 use Rattle.messages.specs.declared.message.Body.TheVariants as body
 use Rattle.messages.specs.declared.message.Message.{Message}
-use Rattle.messages.specs.declared.message.Target.{Target}
 use Rattle.replica_store.specs.Replicas.{new_server_disk, with_replica, rotten_replica}
-use Rattle.primary_order.specs.declared.order.SerialOrder.{SerialOrder}
 use Rattle.protocol.specs.Tables.{element_at, with_at, first_numbers}
-use Rattle.protocol.specs.Sending.{data_id, the_server, the_client}
+use Rattle.protocol.specs.Sending.{the_server, the_client}
 use Rattle.protocol.specs.Choice.{Choice}
 use Rattle.protocol.specs.Client.{ClientState, ClientDoing}
 use Rattle.protocol.specs.ClientStep.{client_at, client_step, client_call}
-use Rattle.protocol.specs.Server.{ServerState, started_server, primary_of}
+use Rattle.protocol.specs.Server.{ServerState, started_server}
 use Rattle.protocol.specs.ServerStep.{server_at, server_step, server_restart}
 use Rattle.protocol.specs.MasterStep.{master_step, master_restart}
 use Rattle.protocol.specs.World.{WorldState, Happened, new_world, nothing_happens, stamped, after_master, after_server, after_client, happens, after_events, IsReached}
@@ -32,10 +24,9 @@ use Rattle.protocol_laws.proofs.RisingOrders.{set_cases}
 use Rattle.protocol_laws.proofs.MembersRecorded.{kept_place, all_at}
 use Rattle.protocol_attempts.proofs.Events.{with_call, with_rot, HoldsAfter, holds_after}
 use Rattle.protocol_attempts.proofs.ClientNumbers.{IsStepOf, of_step, of_call}
-use Rattle.protocol_attempts.proofs.RequestsOnce.{AreNumbered, each_event, numbered_reached, later_cases}
+use Rattle.protocol_attempts.proofs.RequestsOnce.{AreNumbered, numbered_reached, later_cases}
 use Rattle.protocol_versions.proofs.LeasesStayOver.{reached_later}
 use Rattle.protocol_words.proofs.MasterTalks.{MasterTalks, master_said, restart_said}
-use Rattle.protocol_entries.specs.Laws.{IsAmong, IsPushed}
 use Rattle.protocol_entries.proofs.Stemming.{came_in}
 use Rattle.protocol_answered_attempts.specs.Laws.{IsAnswerTo}
 use Rattle.protocol_answered_attempts.proofs.UsedOrders.{IsCaused, Causes, right_on, caused_on}
