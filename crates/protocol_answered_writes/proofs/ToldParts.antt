@@ -304,7 +304,7 @@ module _ (sent : List Message) (size : ℕ) (A : Call) (s : ClientState) (same_s
       record {
         same = λ c e same h. told_at c e same.0 same.2 h;
         begins = λ c e same deadline h. told_at c e same.0 same.2 h;
-        goes_on = λ c e plain asked live deadline h. plain_between c e plain asked h;
+        goes_on = λ c e plain asked file live deadline h. plain_between c e plain asked h;
         replies = λ asked reply plain is. none_at_all sent s.id size asked (plain_none size asked plain);
         refuses = λ asked refusal is. absurd (let both : answer.Refused refusal ≡ answer.Done = is in cc);
         pushes = λ d c chunk g first r mutates h. pushes_data d c chunk g first r h;
@@ -312,9 +312,9 @@ module _ (sent : List Message) (size : ℕ) (A : Call) (s : ClientState) (same_s
         stays = λ c chunk number h. (h.0, more_told sent s.id size A (h.1).0 s.number c.index (below c chunk number h) (h.1).1);
         denied = λ c chunk number refusal h came is. (h.0, more_told sent s.id size A (h.1).0 s.number c.index (below c chunk number h) (h.1).1);
         done = λ c chunk number id place h came own is. done_placed c chunk number id place h came own is;
-        passes = λ c e append asked live deadline h. append_between c e append asked h;
+        passes = λ c e append asked file live deadline h. append_between c e append asked h;
         appended = λ c chunk place append h. ((h.0, h.1), λ is. absurd (let both : answer.At (place_in_file s.config.chunk chunk.index place) ≡ answer.Done = is in cc));
-        next = λ c e chunk place write more asked index live deadline h. (asked ∙ h.0, subst (λ (n : ℕ). AreTold sent s.id size s.number A n) (sym index) h.2);
+        next = λ c e chunk place write more asked file index live deadline h. (asked ∙ h.0, subst (λ (n : ℕ). AreTold sent s.id size s.number A n) (sym index) h.2);
         last = λ c chunk place write none h. ((h.0, h.1), λ is. subst (λ (x : Call). AllTold sent s.id size x) (sym h.0) (all_placed c h.0 none (h.1).begun h.2));
       }
     where

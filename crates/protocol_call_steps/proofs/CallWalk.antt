@@ -74,7 +74,7 @@ pub record KeepsCall (s : ClientState) (Came : Body → Type 0) (H : CurrentCall
   -- an attempt begins
   pub begins : (c e : CurrentCall) → IsSamePart c e → e.deadline ≡ attempt_end s → H c → H e
   -- the next part of a call that changes nothing, and its answers
-  pub goes_on : (c e : CurrentCall) → is_mutation c.asked ≡ false → e.asked ≡ c.asked → e.live ≡ c.live → e.deadline ≡ c.deadline → H c → H e
+  pub goes_on : (c e : CurrentCall) → is_mutation c.asked ≡ false → e.asked ≡ c.asked → e.file ≡ c.file → e.live ≡ c.live → e.deadline ≡ c.deadline → H c → H e
   pub replies : (asked : Call) (reply : Answer) → is_mutation asked ≡ false → F asked reply
   pub refuses : (asked : Call) (refusal : Refusal) → F asked (answer.Refused refusal)
   pub pushes : (d : ClientDoing) (c : CurrentCall) (chunk : ToldChunk) (g : Group) (first : ServerId) → IsReady s d → is_mutation c.asked ≡ true → H c
@@ -85,10 +85,10 @@ pub record KeepsCall (s : ClientState) (Came : Body → Type 0) (H : CurrentCall
   pub denied : (c : CurrentCall) (chunk : ToldChunk) (number : ℕ) (refusal : Refusal) → M c chunk number → Came (body.Refused number refusal) → IsDenial refusal → H (less_live c chunk)
   pub done : (c : CurrentCall) (chunk : ToldChunk) (number : ℕ) (id : DataId) (place : ℕ) → M c chunk number → Came (body.Done id place) → id.client.0 ≡ s.id → id.seq ≡ number → K (less_live c chunk) chunk place
   -- an append past a full chunk
-  pub passes : (c e : CurrentCall) → is_append c.asked ≡ true → e.asked ≡ c.asked → e.live ≡ c.live → e.deadline ≡ c.deadline → H c → H e
+  pub passes : (c e : CurrentCall) → is_append c.asked ≡ true → e.asked ≡ c.asked → e.file ≡ c.file → e.live ≡ c.live → e.deadline ≡ c.deadline → H c → H e
   -- what a success comes to
   pub appended : (c : CurrentCall) (chunk : ToldChunk) (place : ℕ) → is_append c.asked ≡ true → K c chunk place → H c × F c.asked (answer.At (place_in_file s.config.chunk chunk.index place))
-  pub next : (c e : CurrentCall) (chunk : ToldChunk) (place : ℕ) → is_append c.asked ≡ false → has_next_part s.config.chunk c.index c.asked ≡ true → e.asked ≡ c.asked → e.index ≡ suc c.index → e.live ≡ c.live → e.deadline ≡ c.deadline → K c chunk place → H e
+  pub next : (c e : CurrentCall) (chunk : ToldChunk) (place : ℕ) → is_append c.asked ≡ false → has_next_part s.config.chunk c.index c.asked ≡ true → e.asked ≡ c.asked → e.file ≡ c.file → e.index ≡ suc c.index → e.live ≡ c.live → e.deadline ≡ c.deadline → K c chunk place → H e
   pub last : (c : CurrentCall) (chunk : ToldChunk) (place : ℕ) → is_append c.asked ≡ false → has_next_part s.config.chunk c.index c.asked ≡ false → K c chunk place → H c × F c.asked answer.Done
 
 and_second : (a b : Bool) → a && b ≡ false → a ≡ true → b ≡ false
@@ -132,6 +132,7 @@ module _ (s : ClientState) (H : CurrentCall → Type 0) (D : Option Message → 
     pub primary : ServerId
     pub number : ℕ
     pub current_is : s.current ≡ Some current
+    pub stage_is : current.stage ≡ SentData chunk primary number
     pub mutates : is_mutation current.asked ≡ true
     pub over : H current
     pub pushed : D None current chunk number
@@ -230,7 +231,7 @@ module _ (s : ClientState) (Came : Body → Type 0) (H : CurrentCall → Type 0)
 
   next_calm : (d : ClientDoing) (c : CurrentCall) → IsReady s d → is_mutation c.asked ≡ false → H c → Calm (begins_next_part d c)
   next_calm d c r plain h =
-      let next : CurrentCall = record c { index = suc c.index; left = d.client.config.attempts; lost_lease = false } in attempts_calm d next r (k.goes_on c next plain refl refl refl h)
+      let next : CurrentCall = record c { index = suc c.index; left = d.client.config.attempts; lost_lease = false } in attempts_calm d next r (k.goes_on c next plain refl refl refl refl h)
 
   -- messages
 
@@ -298,7 +299,7 @@ module _ (s : ClientState) (Came : Body → Type 0) (H : CurrentCall → Type 0)
   full_calm : (d : ClientDoing) (c : CurrentCall) (chunk : ToldChunk) → IsReady s d → H c → Calm (finds_full d c chunk)
   full_calm d c chunk r h =
       let past : CurrentCall = record c { stage = IsOver; index = suc chunk.index } in
-      on_cond Calm (is_append c.asked) (with_current d past) (ends_refused d c) (λ append. waits d past r (k.passes c past append refl refl refl h)) (λ _. refused_calm d c r h)
+      on_cond Calm (is_append c.asked) (with_current d past) (ends_refused d c) (λ append. waits d past r (k.passes c past append refl refl refl refl h)) (λ _. refused_calm d c r h)
 
   abbrev d0 : ClientDoing
   d0 = client_begins s
@@ -328,7 +329,7 @@ module _ (s : ClientState) (Came : Body → Type 0) (H : CurrentCall → Type 0)
       on_cond Calm (is_append c.asked) (completes (noted d0 c.file.0 (Some chunk.index)) c reply) (cond (has_next_part s.config.chunk c.index c.asked) (begins_next_part d0 c) (completes d0 c answer.Done))
       (λ append. completes_calm (noted d0 c.file.0 (Some chunk.index)) c reply ready (k.appended c chunk place append settled).0 (k.appended c chunk place append settled).1)
       (λ write. on_cond Calm (has_next_part s.config.chunk c.index c.asked) (begins_next_part d0 c) (completes d0 c answer.Done)
-      (λ more. attempts_calm d0 next ready (k.next c next chunk place write more refl refl refl refl settled)) (λ none. completes_calm d0 c answer.Done ready (k.last c chunk place write none settled).0 (k.last c chunk place write none settled).1))
+      (λ more. attempts_calm d0 next ready (k.next c next chunk place write more refl refl refl refl refl settled)) (λ none. completes_calm d0 c answer.Done ready (k.last c chunk place write none settled).0 (k.last c chunk place write none settled).1))
 
   takes_done_calm : (c : CurrentCall) (st : Stage) (id : DataId) (place : ℕ) → At None c st → Came (body.Done id place) → Calm d0 → Calm (takes_done (client_begins s) c st id place)
   takes_done_calm c (SentMutate chunk number) id place h came p =
@@ -340,18 +341,18 @@ module _ (s : ClientState) (Came : Body → Type 0) (H : CurrentCall → Type 0)
   abbrev Left : ClientDoing → Type 0
   Left d = IsCalm s H D M F E Z d ⊎ IsAsking s H D M F E Z d
 
-  takes_pushed_calm : (c : CurrentCall) (st : Stage) (id : DataId) → s.current ≡ Some c → At None c st → Calm d0 → Left (takes_pushed (client_begins s) c st id)
-  takes_pushed_calm c (SentData chunk primary number) id now h p =
+  takes_pushed_calm : (c : CurrentCall) (st : Stage) (id : DataId) → c.stage ≡ st → s.current ≡ Some c → At None c st → Calm d0 → Left (takes_pushed (client_begins s) c st id)
+  takes_pushed_calm c (SentData chunk primary number) id staged now h p =
       on_cond Left (is_own_data d0 id number) (committed d0 c (mutate_planned s c chunk primary number)) d0
-      (λ _. inr (record { current = c; chunk = chunk; primary = primary; number = number; current_is = now; mutates = h.0; over = h.1; pushed = h.2; is = refl })) (λ _. inl p)
-  takes_pushed_calm c other id now h p = inl p
+      (λ _. inr (record { current = c; chunk = chunk; primary = primary; number = number; current_is = now; stage_is = staged; mutates = h.0; over = h.1; pushed = h.2; is = refl })) (λ _. inl p)
+  takes_pushed_calm c other id staged now h p = inl p
 
   takes_calm : (c : CurrentCall) (b : Body) → s.current ≡ Some c → Came b → At None c c.stage → Calm d0 → Left (client_takes (client_begins s) c b)
   takes_calm c (body.Named number reply) now came h p = inl (takes_named_calm d0 c c.stage number reply ready h p)
   takes_calm c (body.Told number location) now came h p = inl (takes_told_calm d0 c c.stage number location ready h p)
   takes_calm c (body.Wait number) now came h p = inl (takes_wait_calm d0 c c.stage number ready h p)
   takes_calm c (body.Refused number refusal) now came h p = inl (takes_refused_calm c c.stage number refusal h came p)
-  takes_calm c (body.Pushed id) now came h p = takes_pushed_calm c c.stage id now h p
+  takes_calm c (body.Pushed id) now came h p = takes_pushed_calm c c.stage id refl now h p
   takes_calm c (body.Done id place) now came h p = inl (takes_done_calm c c.stage id place h came p)
   takes_calm c (body.Bytes number bytes) now came h p = inl (takes_bytes_calm d0 c c.stage number bytes ready h p)
   takes_calm c (body.LenIs number count) now came h p = inl (takes_length_calm d0 c c.stage number count ready h p)

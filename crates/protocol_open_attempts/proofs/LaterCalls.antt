@@ -13,6 +13,7 @@ use Rattle.gfs_types.specs.declared.refusal.Refusal.TheVariants.{NoLease, NoChun
 use Rattle.messages.specs.declared.message.Body.{Body}
 use Rattle.messages.specs.declared.message.Message.{Message}
 use Rattle.client_state.specs.declared.call.CurrentCall.{CurrentCall}
+use Rattle.client_state.specs.declared.call.LiveAttempt.{LiveAttempt}
 use Rattle.client_state.specs.declared.call.ToldChunk.{ToldChunk}
 use Rattle.client_state.specs.declared.call.Stage.{Stage}
 use Rattle.client_state.specs.declared.call.Stage.TheVariants.{AskedNames, AskedWhere, MustAskAgain, SentData, SentMutate, SentRead, IsOver as IsOverStage, HasAnswer}
@@ -33,7 +34,7 @@ use Rattle.protocol_few_attempts.proofs.Budget.{IsNoMutate}
 use Rattle.protocol_answered_attempts.specs.Laws.{IsFinal}
 use Rattle.protocol_call_steps.proofs.CallWalk.{IsDenial, StandsAt, StandsNow}
 use Rattle.protocol_open_attempts.specs.Laws.{AsksBy, WasAnswered, IsOver}
-use Rattle.protocol_open_attempts.proofs.OpenStages.{HasPushed, IsTimely, IsOpen, HasData, IsUnderWay, AllOver, AnyReply}
+use Rattle.protocol_open_attempts.proofs.OpenStages.{AnyLive, map_any, HasPushed, IsTimely, IsCounted, IsOpen, HasData, IsUnderWay, AllOver, AnyReply}
 
 -- while messages are added
 
@@ -50,48 +51,58 @@ module _ (sent more : List Message) where
   pub pushed_later : (id : DataId) (bytes : List ℕ) → IsPushed sent id bytes → IsPushed (sent ++ more) id bytes
   pushed_later id bytes h = record { push = h.push; rest = h.rest; sent_is = among_later h.push h.sent_is; sender_is = h.sender_is; body_is = h.body_is }
 
-  pub over_later : (skew greatest later : ℕ) → greatest ≤ later → (id : DataId) (version : Version) (deadline : Moment) → IsOver sent skew greatest id version deadline → IsOver (sent ++ more) skew later id version deadline
-  over_later skew greatest later grows id version deadline h =
-      elim (h) [
-        | inl past ↦ inl (omega (arith, past, grows))
-        | inr rest ↦ elim (rest) [
-          | inl answered ↦ inr (inl (answered_later id answered))
-          | inr passed ↦ inr (inr (record {
-            later = passed.later;
-            handle = passed.handle;
-            higher = passed.higher;
-            end = passed.end;
-            asks = asks_later passed.later passed.handle passed.higher passed.end passed.asks;
-            answered = answered_later passed.later passed.answered;
-            pushed = ((passed.pushed).0, pushed_later passed.later (passed.pushed).0 (passed.pushed).1);
-            same_client = passed.same_client;
-            is_later = passed.is_later;
-            not_lower = passed.not_lower;
-            not_earlier = passed.not_earlier;
-          }))
+  -- and of attempts that were sent more are known
+  module _ (G V : ℕ → ToldChunk → ℕ → Type 0) (go : (file : ℕ) (chunk : ToldChunk) (seq : ℕ) → G file chunk seq → V file chunk seq) where
+    pub over_later : (skew greatest later : ℕ) → greatest ≤ later → (id : DataId) (version : Version) (deadline : Moment) → IsOver G sent skew greatest id version deadline → IsOver V (sent ++ more) skew later id version deadline
+    over_later skew greatest later grows id version deadline h =
+        elim (h) [
+          | inl past ↦ inl (omega (arith, past, grows))
+          | inr rest ↦ elim (rest) [
+            | inl answered ↦ inr (inl (answered_later id answered))
+            | inr passed ↦ inr (inr (record {
+              later = passed.later;
+              handle = passed.handle;
+              higher = passed.higher;
+              end = passed.end;
+              asks = asks_later passed.later passed.handle passed.higher passed.end passed.asks;
+              answered = answered_later passed.later passed.answered;
+              pushed = ((passed.pushed).0, pushed_later passed.later (passed.pushed).0 (passed.pushed).1);
+              same_client = passed.same_client;
+              is_later = passed.is_later;
+              beside = record { file = passed.beside.file; chunk = passed.beside.chunk; other = passed.beside.other; first_is = go passed.beside.file passed.beside.chunk id.seq passed.beside.first_is; later_is = go passed.beside.file passed.beside.other passed.later.seq passed.beside.later_is; same_index = passed.beside.same_index };
+              not_lower = passed.not_lower;
+              not_earlier = passed.not_earlier;
+            }))
+          ]
         ]
-      ]
 
 -- what stands of a call, with what is sent as it comes to stand so
-abbrev pub CallStands : Config → List Message → ℕ → ℕ → ℕ → Option Message → Option CurrentCall → Type 0
-CallStands config sent greatest client now o None = AllOver config sent greatest client
-CallStands config sent greatest client now o (Some c) =
-    StandsAt (IsOpen config sent greatest client now) (λ o c chunk number. HasData config sent greatest client o c chunk number) (IsUnderWay config sent greatest client now) AnyReply o c c.stage
+abbrev pub CallStands : (ℕ → ToldChunk → ℕ → Type 0) → Config → List Message → ℕ → ℕ → ℕ → Option Message → Option CurrentCall → Type 0
+CallStands G config sent greatest client now o None = AllOver G config sent greatest client
+CallStands G config sent greatest client now o (Some c) =
+    StandsAt (IsOpen G config sent greatest client now) (λ o c chunk number. HasData config sent greatest client o c chunk number) (IsUnderWay G config sent greatest client now) AnyReply o c c.stage
+
+-- what is counted stays so
+pub counted_later : (G V : ℕ → ToldChunk → ℕ → Type 0) → ((file : ℕ) (chunk : ToldChunk) (seq : ℕ) → G file chunk seq → V file chunk seq) → (config : Config) (sent all : List Message) (greatest later client file seq : ℕ) (version : Version) (deadline : Moment) (ls : List LiveAttempt)
+    → AnyLive (IsCounted G config sent greatest client file seq version deadline) ls → AnyLive (IsCounted V config all later client file seq version deadline) ls
+counted_later G V go config sent all greatest later client file seq version deadline ls h =
+    map_any (IsCounted G config sent greatest client file seq version deadline) (IsCounted V config all later client file seq version deadline)
+    (λ l counted. (counted.0, counted.1, ((counted.2).0, go file (counted.2).0 seq (counted.2).1, (counted.2).2))) ls h
 
 -- no attempt of the client is new
 abbrev pub NoNew : List Message → List Message → ℕ → Type 0
 NoNew sent all client = (id : DataId) (handle : Handle) (version : Version) (deadline : Moment) → id.client.0 ≡ client → AsksBy all id handle version deadline → AsksBy sent id handle version deadline
 
-module _ (config : Config) (sent more : List Message) (client greatest later : ℕ) (grows : greatest ≤ later) (none : NoNew sent (sent ++ more) client) where
+module _ (G V : ℕ → ToldChunk → ℕ → Type 0) (go : (file : ℕ) (chunk : ToldChunk) (seq : ℕ) → G file chunk seq → V file chunk seq) (config : Config) (sent more : List Message) (client greatest later : ℕ) (grows : greatest ≤ later) (none : NoNew sent (sent ++ more) client) where
   pub timely_later : (now then_ : ℕ) → now ≤ then_ → (c : CurrentCall) → IsTimely config sent greatest client now c → IsTimely config (sent ++ more) later client then_ c
   timely_later now then_ rises c h = record { early = let low = h.early in omega (arith, low, rises); lives = h.lives; plain = h.plain }
 
-  pub open_later : (now then_ : ℕ) → now ≤ then_ → (c : CurrentCall) → IsOpen config sent greatest client now c → IsOpen config (sent ++ more) later client then_ c
+  pub open_later : (now then_ : ℕ) → now ≤ then_ → (c : CurrentCall) → IsOpen G config sent greatest client now c → IsOpen V config (sent ++ more) later client then_ c
   open_later now then_ rises c h =
       record {
         each = λ id handle version deadline own a. elim (h.each id handle version deadline own (none id handle version deadline own a)) [
-          | inl over ↦ inl (over_later sent more config.skew_ms greatest later grows id version deadline over)
-          | inr live ↦ inr live
+          | inl over ↦ inl (over_later sent more G V go config.skew_ms greatest later grows id version deadline over)
+          | inr live ↦ inr (counted_later G V go config sent (sent ++ more) greatest later client c.file.0 id.seq version deadline c.live live)
         ];
         timely = timely_later now then_ rises c h.timely;
       }
@@ -99,16 +110,17 @@ module _ (config : Config) (sent more : List Message) (client greatest later : �
   pub pushes_later : (number : ℕ) → HasPushed sent client number → HasPushed (sent ++ more) client number
   pushes_later number h = (h.0, pushed_later sent more (data_id client number) h.0 h.1)
 
-  pub way_later : (now then_ : ℕ) → now ≤ then_ → (c : CurrentCall) (chunk : ToldChunk) (number : ℕ) → IsUnderWay config sent greatest client now c chunk number → IsUnderWay config (sent ++ more) later client then_ c chunk number
+  pub way_later : (now then_ : ℕ) → now ≤ then_ → (c : CurrentCall) (chunk : ToldChunk) (number : ℕ) → IsUnderWay G config sent greatest client now c chunk number → IsUnderWay V config (sent ++ more) later client then_ c chunk number
   way_later now then_ rises c chunk number h =
       record {
         each = λ id handle version deadline own a. elim (h.each id handle version deadline own (none id handle version deadline own a)) [
-          | inl over ↦ inl (over_later sent more config.skew_ms greatest later grows id version deadline over)
-          | inr rest ↦ inr rest
+          | inl over ↦ inl (over_later sent more G V go config.skew_ms greatest later grows id version deadline over)
+          | inr rest ↦ elim (rest) [ inl live ↦ inr (inl (counted_later G V go config sent (sent ++ more) greatest later client c.file.0 id.seq version deadline c.live live)) | inr this ↦ inr (inr this) ]
         ];
         timely = timely_later now then_ rises c h.timely;
         last = λ id handle version deadline own a. h.last id handle version deadline own (none id handle version deadline own a);
         asks = asks_later sent more (data_id client number) chunk.handle chunk.round c.deadline h.asks;
+        placed = go c.file.0 chunk number h.placed;
         pushed = pushes_later number h.pushed;
         mutates = h.mutates;
       }
@@ -125,17 +137,17 @@ module _ (config : Config) (sent more : List Message) (client greatest later : �
     ],
   )
 
-  pub over_all_later : AllOver config sent greatest client → AllOver config (sent ++ more) later client
-  over_all_later h id handle version deadline own a = over_later sent more config.skew_ms greatest later grows id version deadline (h id handle version deadline own (none id handle version deadline own a))
+  pub over_all_later : AllOver G config sent greatest client → AllOver V config (sent ++ more) later client
+  over_all_later h id handle version deadline own a = over_later sent more G V go config.skew_ms greatest later grows id version deadline (h id handle version deadline own (none id handle version deadline own a))
 
   pub stands_later : (o : Option Message) → ((m : Message) → o ≡ Some m → (x : Message) × IsAmong (sent ++ more) x × (x.sender ≡ m.sender) × (x.body ≡ m.body)) → (now then_ : ℕ) → now ≤ then_ → (call : Option CurrentCall)
-      → CallStands config sent greatest client now o call → CallStands config (sent ++ more) later client then_ None call
+      → CallStands G config sent greatest client now o call → CallStands V config (sent ++ more) later client then_ None call
   stands_later o there now then_ rises None h = over_all_later h
   stands_later o there now then_ rises (Some c) h = by_stage c.stage h
     where
       by_stage : (st : Stage)
-          → StandsAt (IsOpen config sent greatest client now) (λ o c chunk number. HasData config sent greatest client o c chunk number) (IsUnderWay config sent greatest client now) AnyReply o c st
-          → StandsAt (IsOpen config (sent ++ more) later client then_) (λ o c chunk number. HasData config (sent ++ more) later client o c chunk number) (IsUnderWay config (sent ++ more) later client then_) AnyReply None c st
+          → StandsAt (IsOpen G config sent greatest client now) (λ o c chunk number. HasData config sent greatest client o c chunk number) (IsUnderWay G config sent greatest client now) AnyReply o c st
+          → StandsAt (IsOpen V config (sent ++ more) later client then_) (λ o c chunk number. HasData config (sent ++ more) later client o c chunk number) (IsUnderWay V config (sent ++ more) later client then_) AnyReply None c st
       by_stage AskedNames g = (g.0, open_later now then_ rises c g.1)
       by_stage (AskedWhere number) g = open_later now then_ rises c g
       by_stage MustAskAgain g = open_later now then_ rises c g
@@ -230,15 +242,15 @@ denial_final NoChunk is = absurd is
 denial_final other is = tt
 
 -- what a step leaves of a call: nothing is answered, or all attempts are over
-module _ (config : Config) (sent : List Message) (greatest client now : ℕ) (s : ClientState) where
+module _ (G : ℕ → ToldChunk → ℕ → Type 0) (config : Config) (sent : List Message) (greatest client now : ℕ) (s : ClientState) where
   pub split_now : (o : Option Message) (a : Option Answer) (c : Option CurrentCall)
-      → StandsNow s (IsOpen config sent greatest client now) (λ o c chunk number. HasData config sent greatest client o c chunk number) (IsUnderWay config sent greatest client now) AnyReply (λ reply. AllOver config sent greatest client) (AllOver config sent greatest client) o a c
-      → ((a ≡ None) × CallStands config sent greatest client now o c) ⊎ ((c ≡ None) × AllOver config sent greatest client)
+      → StandsNow s (IsOpen G config sent greatest client now) (λ o c chunk number. HasData config sent greatest client o c chunk number) (IsUnderWay G config sent greatest client now) AnyReply (λ reply. AllOver G config sent greatest client) (AllOver G config sent greatest client) o a c
+      → ((a ≡ None) × CallStands G config sent greatest client now o c) ⊎ ((c ≡ None) × AllOver G config sent greatest client)
   split_now o None None h = inl (refl, h)
   split_now o (Some reply) None h = inr (refl, h)
   split_now o a (Some c) h = inl (h.0, h.1)
 
-  pub to_now : (c : Option CurrentCall) → CallStands config sent greatest client now None c
-      → StandsNow s (IsOpen config sent greatest client now) (λ o c chunk number. HasData config sent greatest client o c chunk number) (IsUnderWay config sent greatest client now) AnyReply (λ reply. AllOver config sent greatest client) (AllOver config sent greatest client) None None c
+  pub to_now : (c : Option CurrentCall) → CallStands G config sent greatest client now None c
+      → StandsNow s (IsOpen G config sent greatest client now) (λ o c chunk number. HasData config sent greatest client o c chunk number) (IsUnderWay G config sent greatest client now) AnyReply (λ reply. AllOver G config sent greatest client) (AllOver G config sent greatest client) None None c
   to_now None h = h
   to_now (Some c) h = (refl, h)

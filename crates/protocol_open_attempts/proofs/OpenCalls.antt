@@ -23,7 +23,7 @@ use Rattle.messages.specs.declared.message.Body.TheVariants as body
 use Rattle.messages.specs.declared.message.Message.{Message}
 use Rattle.client_state.specs.declared.call.CurrentCall.{CurrentCall}
 use Rattle.client_state.specs.declared.call.ToldChunk.{ToldChunk}
-use Rattle.client_state.specs.declared.call.Stage.TheVariants.{SentMutate}
+use Rattle.client_state.specs.declared.call.Stage.TheVariants.{SentData, SentMutate}
 use Rattle.relaxed_file.specs.NotRuns.{waits}
 use Rattle.relaxed_file.specs.Run.{Visible, Called}
 use Rattle.protocol.specs.Tables.{element_at, with_at, first_numbers}
@@ -52,11 +52,11 @@ use Rattle.protocol_few_attempts.specs.Laws.{part_of, IsAskedNow, WasAsked}
 use Rattle.protocol_versions.proofs.LeasesStayOver.{reached_later}
 use Rattle.protocol_call_steps.proofs.CallWalk.{IsCalm, IsAsking}
 use Rattle.protocol_call_steps.proofs.Answerers.{came_to, attempts_are_answered_by_servers}
-use Rattle.protocol_open_attempts.specs.Laws.{AsksBy, WasAnswered, IsOver, AttemptsAreOverOrOpen}
+use Rattle.protocol_open_attempts.specs.Laws.{AsksBy, WasAnswered, IsOver, IsSentFor, WasSentFor, AttemptsAreOverOrOpen}
 use Rattle.protocol_open_attempts.proofs.OpenStages.{EachOwn, IsOpen, HasData, IsUnderWay, AllOver, CameAs, AnyReply, step_leaves, call_leaves, refusal_leaves}
-use Rattle.protocol_open_attempts.proofs.LaterCalls.{over_all_later, pushed_later, over_later, CallStands, NoNew, stands_later, from_others, one_message, from_silent, last_at, sent_there, append-[], waits_joined, waits_passed, waits_others, calls_joined, calls_passed, calls_answered, greatest_answered, put_at, denial_final, split_now, to_now}
+use Rattle.protocol_open_attempts.proofs.LaterCalls.{over_all_later, pushed_later, over_later, counted_later, CallStands, NoNew, stands_later, from_others, one_message, from_silent, last_at, sent_there, append-[], waits_joined, waits_passed, waits_others, calls_joined, calls_passed, calls_answered, greatest_answered, put_at, denial_final, split_now, to_now}
 
--- one client; T: the numbers under which it asked so far, for each call and part
+-- one client; T: the numbers under which it asked so far, for each call and part; G: for each chunk of a file
 module _ (config : Config) (index : ℕ) where
   abbrev K : WorldState → ℕ
   K w = calls_made w.observer.trace (suc index)
@@ -67,44 +67,52 @@ module _ (config : Config) (index : ℕ) where
   abbrev pub InCall : (ℕ → Option ℕ → ℕ → Type 0) → WorldState → ℕ → Type 0
   InCall T w seq = ((part : Option ℕ) × T (calls_made w.observer.trace (suc index)) part seq) × (waits (suc index) false w.observer.trace ≡ true)
 
-  abbrev pub AreAsked : (ℕ → Option ℕ → ℕ → Type 0) → WorldState → Type 0
-  AreAsked T w = EachOwn config w.sent w.observer.greatest (suc index) (λ id handle version deadline. IsOver w.sent config.skew_ms w.observer.greatest id version deadline ⊎ InCall T w id.seq)
+  abbrev pub AreAsked : (ℕ → Option ℕ → ℕ → Type 0) → (ℕ → ToldChunk → ℕ → Type 0) → WorldState → Type 0
+  AreAsked T G w = EachOwn config w.sent w.observer.greatest (suc index) (λ id handle version deadline. IsOver G w.sent config.skew_ms w.observer.greatest id version deadline ⊎ InCall T w id.seq)
 
-  pub record IsStanding (w : WorldState) (s : ClientState) : Type 0 where
+  pub record IsStanding (G : ℕ → ToldChunk → ℕ → Type 0) (w : WorldState) (s : ClientState) : Type 0 where
     pub config_is : s.config ≡ config
     pub known : s.now ≤ w.observer.greatest
-    pub call : IsTrue s.up → CallStands config w.sent w.observer.greatest (suc index) s.now None s.current
+    pub call : IsTrue s.up → CallStands G config w.sent w.observer.greatest (suc index) s.now None s.current
     pub is_open : IsTrue s.up → is_some s.current ≡ true → waits (suc index) false w.observer.trace ≡ true
 
-  pub record IsOn (T : ℕ → Option ℕ → ℕ → Type 0) (w : WorldState) : Type 0 where
-    pub asked : AreAsked T w
-    pub stands : (s : ClientState) → element_at w.clients index ≡ Some s → IsStanding w s
+  pub record IsOn (T : ℕ → Option ℕ → ℕ → Type 0) (G : ℕ → ToldChunk → ℕ → Type 0) (w : WorldState) : Type 0 where
+    pub asked : AreAsked T G w
+    pub stands : (s : ClientState) → element_at w.clients index ≡ Some s → IsStanding G w s
 
-  on_more : (T V : ℕ → Option ℕ → ℕ → Type 0) → ((made : ℕ) (part : Option ℕ) (n : ℕ) → T made part n → V made part n) → (w : WorldState) → IsOn T w → IsOn V w
-  on_more T V go w h =
+  on_more : (T V : ℕ → Option ℕ → ℕ → Type 0) → ((made : ℕ) (part : Option ℕ) (n : ℕ) → T made part n → V made part n)
+      → (G J : ℕ → ToldChunk → ℕ → Type 0) → ((file : ℕ) (chunk : ToldChunk) (seq : ℕ) → G file chunk seq → J file chunk seq) → (w : WorldState) → IsOn T G w → IsOn V J w
+  on_more T V go G J gone w h =
       record {
         asked = λ id handle version deadline own a. elim (h.asked id handle version deadline own a) [
-          | inl over ↦ inl over
+          | inl over ↦ inl (subst (λ (ms : List Message). IsOver J ms config.skew_ms w.observer.greatest id version deadline) (append-[] w.sent) (over_later w.sent [] G J gone config.skew_ms w.observer.greatest w.observer.greatest (omega arith) id version deadline over))
           | inr is_open ↦ inr (((is_open.0).0, go (K w) (is_open.0).0 id.seq (is_open.0).1), is_open.1)
         ];
-        stands = h.stands;
+        stands = λ s at. let old = h.stands s at in record {
+          config_is = old.config_is;
+          known = old.known;
+          call = λ up. subst (λ (ms : List Message). CallStands J config ms w.observer.greatest (suc index) s.now None s.current) (append-[] w.sent)
+              (stands_later G J gone config w.sent [] (suc index) w.observer.greatest w.observer.greatest (omega arith) (λ id handle version deadline own a. subst (λ (ms : List Message). AsksBy ms id handle version deadline) (append-[] w.sent) a)
+              None (λ m is. none_some m is) s.now s.now (omega arith) s.current (old.call up));
+          is_open = old.is_open;
+        };
       }
 
   -- an event that asks for nothing and leaves the client as it was
-  others_on : (T : ℕ → Option ℕ → ℕ → Type 0) (w : WorldState) → IsOn T w → (u : WorldState) (more : List Message) → u.sent ≡ w.sent ++ more → NoNew w.sent (w.sent ++ more) (suc index) → K u ≡ K w → Waits u ≡ Waits w
-      → w.observer.greatest ≤ u.observer.greatest → ((s : ClientState) → element_at u.clients index ≡ Some s → element_at w.clients index ≡ Some s) → IsOn T u
-  others_on T w h u more sent none calls waiting grows there =
+  others_on : (T : ℕ → Option ℕ → ℕ → Type 0) (G : ℕ → ToldChunk → ℕ → Type 0) (w : WorldState) → IsOn T G w → (u : WorldState) (more : List Message) → u.sent ≡ w.sent ++ more → NoNew w.sent (w.sent ++ more) (suc index) → K u ≡ K w → Waits u ≡ Waits w
+      → w.observer.greatest ≤ u.observer.greatest → ((s : ClientState) → element_at u.clients index ≡ Some s → element_at w.clients index ≡ Some s) → IsOn T G u
+  others_on T G w h u more sent none calls waiting grows there =
       record {
         asked = λ id handle version deadline own a.
             elim (h.asked id handle version deadline own (none id handle version deadline own (subst (λ (ms : List Message). AsksBy ms id handle version deadline) sent a))) [
-              | inl over ↦ inl (subst (λ (ms : List Message). IsOver ms config.skew_ms u.observer.greatest id version deadline) (sym sent) (over_later w.sent more config.skew_ms w.observer.greatest u.observer.greatest grows id version deadline over))
+              | inl over ↦ inl (subst (λ (ms : List Message). IsOver G ms config.skew_ms u.observer.greatest id version deadline) (sym sent) (over_later w.sent more G G (λ file chunk seq i. i) config.skew_ms w.observer.greatest u.observer.greatest grows id version deadline over))
               | inr is_open ↦ inr (((is_open.0).0, subst (λ (k : ℕ). T k (is_open.0).0 id.seq) (sym calls) (is_open.0).1), waiting ∙ is_open.1)
             ];
         stands = λ s at. let old = h.stands s (there s at) in record {
           config_is = old.config_is;
           known = let low = old.known in omega (arith, low, grows);
-          call = λ up. subst (λ (ms : List Message). CallStands config ms u.observer.greatest (suc index) s.now None s.current) (sym sent)
-              (stands_later config w.sent more (suc index) w.observer.greatest u.observer.greatest grows none None (λ m is. none_some m is) s.now s.now (omega arith) s.current (old.call up));
+          call = λ up. subst (λ (ms : List Message). CallStands G config ms u.observer.greatest (suc index) s.now None s.current) (sym sent)
+              (stands_later G G (λ file chunk seq i. i) config w.sent more (suc index) w.observer.greatest u.observer.greatest grows none None (λ m is. none_some m is) s.now s.now (omega arith) s.current (old.call up));
           is_open = λ up some. waiting ∙ old.is_open up some;
         };
       }
@@ -112,8 +120,11 @@ module _ (config : Config) (index : ℕ) where
   abbrev Next : WorldState → Happened → (ℕ → Option ℕ → ℕ → Type 0) → ℕ → Option ℕ → ℕ → Type 0
   Next w x T made part n = T made part n ⊎ IsAskedNow index w x made part n
 
+  abbrev NextFor : WorldState → Happened → (ℕ → ToldChunk → ℕ → Type 0) → ℕ → ToldChunk → ℕ → Type 0
+  NextFor w x G file chunk seq = G file chunk seq ⊎ IsSentFor index w x file chunk seq
+
   -- the client itself
-  module _ (T : ℕ → Option ℕ → ℕ → Type 0) (servers clients : ℕ) (w : WorldState) (r : IsReached config servers clients w) (numbered : AreNumbered w.sent w.clients) (h : IsOn T w) (moment : ℕ) (s : ClientState) (at : element_at w.clients index ≡ Some s)
+  module _ (T : ℕ → Option ℕ → ℕ → Type 0) (G : ℕ → ToldChunk → ℕ → Type 0) (servers clients : ℕ) (w : WorldState) (r : IsReached config servers clients w) (numbered : AreNumbered w.sent w.clients) (h : IsOn T G w) (moment : ℕ) (s : ClientState) (at : element_at w.clients index ≡ Some s)
       (up : IsTrue s.up) where
     abbrev Top : ℕ
     Top = max w.observer.greatest moment
@@ -144,16 +155,16 @@ module _ (config : Config) (index : ℕ) where
     none_yet id handle version deadline own a = subst (λ (ms : List Message). AsksBy ms id handle version deadline) (append-[] w.sent) a
 
     -- what stands as the step begins
-    begun : CallStands config w.sent (max w.observer.greatest moment) s.id (client_at s moment).now None s.current
+    begun : CallStands G config w.sent (max w.observer.greatest moment) s.id (client_at s moment).now None s.current
     begun =
-        subst (λ (n : ℕ). CallStands config w.sent (max w.observer.greatest moment) n (client_at s moment).now None s.current) (sym id_is)
-        (subst (λ (ms : List Message). CallStands config ms (max w.observer.greatest moment) (suc index) (client_at s moment).now None s.current) (append-[] w.sent)
-        (stands_later config w.sent [] (suc index) w.observer.greatest (max w.observer.greatest moment) grows none_yet None (λ m is. none_some m is) s.now (client_at s moment).now (le-max_left s.now moment) s.current ((h.stands s at).call up)))
+        subst (λ (n : ℕ). CallStands G config w.sent (max w.observer.greatest moment) n (client_at s moment).now None s.current) (sym id_is)
+        (subst (λ (ms : List Message). CallStands G config ms (max w.observer.greatest moment) (suc index) (client_at s moment).now None s.current) (append-[] w.sent)
+        (stands_later G G (λ file chunk seq i. i) config w.sent [] (suc index) w.observer.greatest (max w.observer.greatest moment) grows none_yet None (λ m is. none_some m is) s.now (client_at s moment).now (le-max_left s.now moment) s.current ((h.stands s at).call up)))
 
     abbrev Calm : ClientDoing → Type 0
     Calm d =
-        IsCalm (client_at s moment) (IsOpen config w.sent (max w.observer.greatest moment) s.id (client_at s moment).now) (λ o c chunk number. HasData config w.sent (max w.observer.greatest moment) s.id o c chunk number)
-        (IsUnderWay config w.sent (max w.observer.greatest moment) s.id (client_at s moment).now) AnyReply (λ reply. AllOver config w.sent (max w.observer.greatest moment) s.id) (AllOver config w.sent (max w.observer.greatest moment) s.id) d
+        IsCalm (client_at s moment) (IsOpen G config w.sent (max w.observer.greatest moment) s.id (client_at s moment).now) (λ o c chunk number. HasData config w.sent (max w.observer.greatest moment) s.id o c chunk number)
+        (IsUnderWay G config w.sent (max w.observer.greatest moment) s.id (client_at s moment).now) AnyReply (λ reply. AllOver G config w.sent (max w.observer.greatest moment) s.id) (AllOver G config w.sent (max w.observer.greatest moment) s.id) d
 
     -- what a calm step leaves, in a world where the calls made and who waits are these
     module _ (d : ClientDoing) (calm : Calm d) where
@@ -164,27 +175,36 @@ module _ (config : Config) (index : ℕ) where
       none_new = from_silent w.sent (suc (length w.sent)) (suc index) d.sent calm.silent
 
       abbrev IsSplit : Type 0
-      IsSplit = ((d.answer ≡ None) × CallStands config w.sent (max w.observer.greatest moment) (suc index) (client_at s moment).now d.sent d.client.current) ⊎ ((d.client.current ≡ None) × AllOver config w.sent (max w.observer.greatest moment) (suc index))
+      IsSplit = ((d.answer ≡ None) × CallStands G config w.sent (max w.observer.greatest moment) (suc index) (client_at s moment).now d.sent d.client.current) ⊎ ((d.client.current ≡ None) × AllOver G config w.sent (max w.observer.greatest moment) (suc index))
 
       split : IsSplit
       split =
-          subst (λ (n : ℕ). ((d.answer ≡ None) × CallStands config w.sent (max w.observer.greatest moment) n (client_at s moment).now d.sent d.client.current) ⊎ ((d.client.current ≡ None) × AllOver config w.sent (max w.observer.greatest moment) n)) id_is
-          (split_now config w.sent (max w.observer.greatest moment) s.id (client_at s moment).now (client_at s moment) d.sent d.answer d.client.current calm.stands)
+          subst (λ (n : ℕ). ((d.answer ≡ None) × CallStands G config w.sent (max w.observer.greatest moment) n (client_at s moment).now d.sent d.client.current) ⊎ ((d.client.current ≡ None) × AllOver G config w.sent (max w.observer.greatest moment) n)) id_is
+          (split_now G config w.sent (max w.observer.greatest moment) s.id (client_at s moment).now (client_at s moment) d.sent d.answer d.client.current calm.stands)
 
-      over_then : AllOver config w.sent (max w.observer.greatest moment) (suc index) → AllOver config After (max w.observer.greatest moment) (suc index)
-      over_then all = over_all_later config w.sent (stamped (suc (length w.sent)) (option_to_list d.sent)) (suc index) (max w.observer.greatest moment) (max w.observer.greatest moment) (omega arith) none_new all
+      over_then : AllOver G config w.sent (max w.observer.greatest moment) (suc index) → AllOver G config After (max w.observer.greatest moment) (suc index)
+      over_then all = over_all_later G G (λ file chunk seq i. i) config w.sent (stamped (suc (length w.sent)) (option_to_list d.sent)) (suc index) (max w.observer.greatest moment) (max w.observer.greatest moment) (omega arith) none_new all
 
-      call_then : CallStands config After (max w.observer.greatest moment) (suc index) d.client.now None d.client.current
+      call_then : CallStands G config After (max w.observer.greatest moment) (suc index) d.client.now None d.client.current
       call_then =
-          subst (λ (n : ℕ). CallStands config After (max w.observer.greatest moment) (suc index) n None d.client.current) (sym (calm.kept).1)
+          subst (λ (n : ℕ). CallStands G config After (max w.observer.greatest moment) (suc index) n None d.client.current) (sym (calm.kept).1)
           (elim (split) [
-            | inl goes ↦ stands_later config w.sent (stamped (suc (length w.sent)) (option_to_list d.sent)) (suc index) (max w.observer.greatest moment) (max w.observer.greatest moment) (omega arith) none_new d.sent
+            | inl goes ↦ stands_later G G (λ file chunk seq i. i) config w.sent (stamped (suc (length w.sent)) (option_to_list d.sent)) (suc index) (max w.observer.greatest moment) (max w.observer.greatest moment) (omega arith) none_new d.sent
                 (λ m is. sent_there w.sent (suc (length w.sent)) d.sent m is) (client_at s moment).now (client_at s moment).now (omega arith) d.client.current goes.1
-            | inr ended ↦ subst (λ (o : Option CurrentCall). CallStands config After (max w.observer.greatest moment) (suc index) (client_at s moment).now None o) (sym ended.0) (over_then ended.1)
+            | inr ended ↦ subst (λ (o : Option CurrentCall). CallStands G config After (max w.observer.greatest moment) (suc index) (client_at s moment).now None o) (sym ended.0) (over_then ended.1)
           ])
 
     abbrev Left : Taken ClientState → Type 0
-    Left t = IsOn (Next w (after_client w index moment t) T) (after_client w index moment t).world
+    Left t = IsOn (Next w (after_client w index moment t) T) (NextFor w (after_client w index moment t) G) (after_client w index moment t).world
+
+    -- where no primary is asked
+    abbrev Quiet : Taken ClientState → Type 0
+    Quiet t = IsOn (Next w (after_client w index moment t) T) G (after_client w index moment t).world
+
+    quiet_left : (t : Taken ClientState) → Quiet t → Left t
+    quiet_left t g =
+        let x : Happened = after_client w index moment t in
+        on_more (Next w x T) (Next w x T) (λ made part n asked. asked) G (NextFor w x G) (λ file chunk seq i. inl i) x.world g
 
     same_waits : (d : ClientDoing) → d.answer ≡ None → waits (suc index) false (observed_answer (observed_moment w.config.skew_ms w.observer moment) (suc index) d.answer).trace ≡ waits (suc index) false w.observer.trace
     same_waits d none = ap (λ (a : Option Answer). waits (suc index) false (observed_answer (observed_moment w.config.skew_ms w.observer moment) (suc index) a).trace) none ∙ waits_passed w.config.skew_ms w.observer moment (suc index)
@@ -195,21 +215,21 @@ module _ (config : Config) (index : ℕ) where
     top_is : (a : Option Answer) → (observed_answer (observed_moment w.config.skew_ms w.observer moment) (suc index) a).greatest ≡ max w.observer.greatest moment
     top_is a = greatest_answered (observed_moment w.config.skew_ms w.observer moment) (suc index) a
 
-    calm_left : (d : ClientDoing) → Calm d → (is_some d.client.current ≡ true → is_some s.current ≡ true) → Left (client_ends s d Goes)
+    calm_left : (d : ClientDoing) → Calm d → (is_some d.client.current ≡ true → is_some s.current ≡ true) → Quiet (client_ends s d Goes)
     calm_left d calm was =
         record {
-          asked = λ id handle version deadline own a. subst (λ (n : ℕ). IsOver (After d calm) config.skew_ms n id version deadline ⊎ InCall (Next w x T) x.world id.seq) (sym (top_is d.answer))
+          asked = λ id handle version deadline own a. subst (λ (n : ℕ). IsOver G (After d calm) config.skew_ms n id version deadline ⊎ InCall (Next w x T) x.world id.seq) (sym (top_is d.answer))
               (elim (h.asked id handle version deadline own (none_new d calm id handle version deadline own a)) [
-                | inl over ↦ inl (over_later w.sent more config.skew_ms w.observer.greatest (max w.observer.greatest moment) grows id version deadline over)
+                | inl over ↦ inl (over_later w.sent more G G (λ file chunk seq i. i) config.skew_ms w.observer.greatest (max w.observer.greatest moment) grows id version deadline over)
                 | inr is_open ↦ elim (split d calm) [
                   | inl goes ↦ inr (((is_open.0).0, subst (λ (n : ℕ). Next w x T n (is_open.0).0 id.seq) (sym (same_calls d.answer)) (inl (is_open.0).1)), same_waits d goes.0 ∙ is_open.1)
                   | inr ended ↦ inl (over_then d calm ended.1 id handle version deadline own a)
                 ]
               ]);
-          stands = λ v there. subst (λ (y : ClientState). IsStanding x.world y) (sym (put_at d.client w.clients index v there)) (record {
+          stands = λ v there. subst (λ (y : ClientState). IsStanding G x.world y) (sym (put_at d.client w.clients index v there)) (record {
             config_is = (calm.kept).0 ∙ config_then;
             known = let same = (calm.kept).1 in let top = top_is d.answer in let low = known_then in omega (arith, same, top, low);
-            call = λ up_then. subst (λ (n : ℕ). CallStands config (After d calm) n (suc index) d.client.now None d.client.current) (sym (top_is d.answer)) (call_then d calm);
+            call = λ up_then. subst (λ (n : ℕ). CallStands G config (After d calm) n (suc index) d.client.now None d.client.current) (sym (top_is d.answer)) (call_then d calm);
             is_open = λ up_then some. elim (split d calm) [
               | inl goes ↦ same_waits d goes.0 ∙ (h.stands s at).is_open up (was some)
               | inr ended ↦ absurd (true≢false (sym some ∙ ap is_some ended.0))
@@ -227,12 +247,12 @@ module _ (config : Config) (index : ℕ) where
 
     abbrev Asking : ClientDoing → Type 0
     Asking d =
-        IsAsking (client_at s moment) (IsOpen config w.sent (max w.observer.greatest moment) s.id (client_at s moment).now) (λ o c chunk number. HasData config w.sent (max w.observer.greatest moment) s.id o c chunk number)
-        (IsUnderWay config w.sent (max w.observer.greatest moment) s.id (client_at s moment).now) AnyReply (λ reply. AllOver config w.sent (max w.observer.greatest moment) s.id) (AllOver config w.sent (max w.observer.greatest moment) s.id) d
+        IsAsking (client_at s moment) (IsOpen G config w.sent (max w.observer.greatest moment) s.id (client_at s moment).now) (λ o c chunk number. HasData config w.sent (max w.observer.greatest moment) s.id o c chunk number)
+        (IsUnderWay G config w.sent (max w.observer.greatest moment) s.id (client_at s moment).now) AnyReply (λ reply. AllOver G config w.sent (max w.observer.greatest moment) s.id) (AllOver G config w.sent (max w.observer.greatest moment) s.id) d
 
     -- the Mutate that is sent
-    module _ (c : CurrentCall) (chunk : ToldChunk) (primary : ServerId) (number : ℕ) (current_is : s.current ≡ Some c) (mutates : is_mutation c.asked ≡ true)
-        (over : IsOpen config w.sent (max w.observer.greatest moment) (suc index) (client_at s moment).now c) (pushed : HasData config w.sent (max w.observer.greatest moment) (suc index) None c chunk number) where
+    module _ (c : CurrentCall) (chunk : ToldChunk) (primary : ServerId) (number : ℕ) (current_is : s.current ≡ Some c) (stage_is : c.stage ≡ SentData chunk primary number) (mutates : is_mutation c.asked ≡ true)
+        (over : IsOpen G config w.sent (max w.observer.greatest moment) (suc index) (client_at s moment).now c) (pushed : HasData config w.sent (max w.observer.greatest moment) (suc index) None c chunk number) where
       abbrev Doing : ClientDoing
       Doing = committed (client_begins (client_at s moment)) c (mutate_planned (client_at s moment) c chunk primary number)
 
@@ -286,19 +306,41 @@ module _ (config : Config) (index : ℕ) where
             number_is = refl;
           }
 
+      -- and this chunk of the file
+      sent_now : IsSentFor index w Then_ c.file.0 chunk number
+      sent_now =
+          record {
+            client = s;
+            current = c;
+            primary = primary;
+            client_is = at;
+            current_is = current_is;
+            stage_is = stage_is;
+            file_is = refl;
+            is_up = up;
+            place = length w.sent;
+            asked = record Word { number = suc (length w.sent) };
+            aim = target_of (file_chunk s c.file.0) c.index c.asked;
+            deadline = c.deadline;
+            unsent = omega arith;
+            sent_is = last_at w.sent (record Word { number = suc (length w.sent) });
+            sender_is = ap (λ (n : ℕ). the_client n) id_is;
+            body_is = ap (λ (x : DataId). body.Mutate x chunk.handle chunk.round (target_of (file_chunk s c.file.0) c.index c.asked) c.deadline) data_is;
+          }
+
       open_now : waits (suc index) false (observed_answer (observed_moment w.config.skew_ms w.observer moment) (suc index) None).trace ≡ true
       open_now = waits_passed w.config.skew_ms w.observer moment (suc index) ∙ (h.stands s at).is_open up (ap is_some current_is)
 
       calls_now : calls_made (observed_answer (observed_moment w.config.skew_ms w.observer moment) (suc index) None).trace (suc index) ≡ calls_made w.observer.trace (suc index)
       calls_now = same_calls None
 
-      way : IsUnderWay config (w.sent ++ stamped (suc (length w.sent)) (Word ∷ [])) (max w.observer.greatest moment) (suc index) (client_at s moment).now (record c { stage = SentMutate chunk number }) chunk number
+      way : IsUnderWay (NextFor w Then_ G) config (w.sent ++ stamped (suc (length w.sent)) (Word ∷ [])) (max w.observer.greatest moment) (suc index) (client_at s moment).now (record c { stage = SentMutate chunk number }) chunk number
       way =
           record {
             each = λ id handle version deadline own a. elim (which id handle version deadline a) [
               | inl before ↦ elim (over.each id handle version deadline own before) [
-                | inl done ↦ inl (over_later w.sent Later config.skew_ms (max w.observer.greatest moment) (max w.observer.greatest moment) (omega arith) id version deadline done)
-                | inr live ↦ inr (inl live)
+                | inl done ↦ inl (over_later w.sent Later G (NextFor w Then_ G) (λ file told seq i. inl i) config.skew_ms (max w.observer.greatest moment) (max w.observer.greatest moment) (omega arith) id version deadline done)
+                | inr live ↦ inr (inl (counted_later G (NextFor w Then_ G) (λ file told seq i. inl i) config w.sent Sent (max w.observer.greatest moment) (max w.observer.greatest moment) (suc index) c.file.0 id.seq version deadline c.live live))
               ]
               | inr this ↦ inr (inr (sym this))
             ];
@@ -314,6 +356,7 @@ module _ (config : Config) (index : ℕ) where
               sender_is = ap (λ (n : ℕ). the_client n) id_is;
               body_is = ap (λ (x : DataId). body.Mutate x chunk.handle chunk.round (target_of (file_chunk s c.file.0) c.index c.asked) c.deadline) data_is;
             };
+            placed = inr sent_now;
             pushed = elim (pushed.1) [ inl before ↦ (before.0, pushed_later w.sent Later (data_id (suc index) number) before.0 before.1) | inr now ↦ none_some now.0 now.1 ];
             mutates = mutates;
           }
@@ -323,12 +366,12 @@ module _ (config : Config) (index : ℕ) where
           record {
             asked = λ id handle version deadline own a. elim (which id handle version deadline a) [
               | inl before ↦ elim (h.asked id handle version deadline own before) [
-                | inl done ↦ inl (over_later w.sent Later config.skew_ms w.observer.greatest (max w.observer.greatest moment) grows id version deadline done)
+                | inl done ↦ inl (over_later w.sent Later G (NextFor w Then_ G) (λ file told seq i. inl i) config.skew_ms w.observer.greatest (max w.observer.greatest moment) grows id version deadline done)
                 | inr is_open ↦ inr (((is_open.0).0, subst (λ (n : ℕ). Next w Then_ T n (is_open.0).0 id.seq) (sym calls_now) (inl (is_open.0).1)), open_now)
               ]
               | inr this ↦ inr ((part_of c.asked c.index, subst (λ (n : ℕ). Next w Then_ T (K Then_.world) (part_of c.asked c.index) n) this (subst (λ (n : ℕ). Next w Then_ T n (part_of c.asked c.index) number) (sym calls_now) (inr now_asked))), open_now)
             ];
-            stands = λ v there. subst (λ (y : ClientState). IsStanding Then_.world y) (sym (put_at Doing.client w.clients index v there)) (record {
+            stands = λ v there. subst (λ (y : ClientState). IsStanding (NextFor w Then_ G) Then_.world y) (sym (put_at Doing.client w.clients index v there)) (record {
               config_is = config_then;
               known = known_then;
               call = λ up_then. (mutates, way);
@@ -338,18 +381,18 @@ module _ (config : Config) (index : ℕ) where
 
     -- a client that stops
 
-    stopped_left : (t : Taken ClientState) → t.out.sent ≡ [] → t.out.answer ≡ None → t.state.up ≡ false → t.state.config ≡ config → t.state.now ≡ 0 → Left t
+    stopped_left : (t : Taken ClientState) → t.out.sent ≡ [] → t.out.answer ≡ None → t.state.up ≡ false → t.state.config ≡ config → t.state.now ≡ 0 → Quiet t
     stopped_left t sent none down same zero_ =
         record {
           asked = λ id handle version deadline own a.
               elim (h.asked id handle version deadline own (subst (λ (ms : List Message). AsksBy ms id handle version deadline) (append-[] w.sent) (subst (λ (ms : List Message). AsksBy (w.sent ++ stamped (suc (length w.sent)) ms) id handle version deadline) sent a))) [
-                | inl over ↦ inl (over_later w.sent (stamped (suc (length w.sent)) t.out.sent) config.skew_ms w.observer.greatest x.world.observer.greatest (let top = top_is t.out.answer in let low = grows in omega (arith, top, low)) id version deadline over)
+                | inl over ↦ inl (over_later w.sent (stamped (suc (length w.sent)) t.out.sent) G G (λ file chunk seq i. i) config.skew_ms w.observer.greatest x.world.observer.greatest (let top = top_is t.out.answer in let low = grows in omega (arith, top, low)) id version deadline over)
                 | inr is_open ↦ inr (
                   ((is_open.0).0, subst (λ (n : ℕ). Next w x T n (is_open.0).0 id.seq) (sym (same_calls t.out.answer)) (inl (is_open.0).1)),
                   ap (λ (a : Option Answer). waits (suc index) false (observed_answer (observed_moment w.config.skew_ms w.observer moment) (suc index) a).trace) none ∙ waits_passed w.config.skew_ms w.observer moment (suc index) ∙ is_open.1,
                 )
               ];
-          stands = λ v there. subst (λ (y : ClientState). IsStanding x.world y) (sym (put_at t.state w.clients index v there)) (record {
+          stands = λ v there. subst (λ (y : ClientState). IsStanding G x.world y) (sym (put_at t.state w.clients index v there)) (record {
             config_is = same;
             known = omega (arith, zero_);
             call = λ up_then. absurd (true≢false (sym up_then ∙ down));
@@ -362,20 +405,20 @@ module _ (config : Config) (index : ℕ) where
 
     down_left : (d : ClientDoing) → (e : Ending) → Left (client_ends s d Goes) → Left (client_ends s d e)
     down_left d Goes left = left
-    down_left d Lost left = stopped_left (client_ends s d Lost) refl refl refl config_then refl
-    down_left d (Stops made) left = stopped_left (client_ends s d (Stops made)) refl refl refl config_then refl
+    down_left d Lost left = quiet_left (client_ends s d Lost) (stopped_left (client_ends s d Lost) refl refl refl config_then refl)
+    down_left d (Stops made) left = quiet_left (client_ends s d (Stops made)) (stopped_left (client_ends s d (Stops made)) refl refl refl config_then refl)
 
-    same_left : Left (no_step s)
+    same_left : Quiet (no_step s)
     same_left =
         record {
           asked = λ id handle version deadline own a. elim (h.asked id handle version deadline own (none_yet id handle version deadline own a)) [
-            | inl over ↦ inl (over_later w.sent [] config.skew_ms w.observer.greatest (max w.observer.greatest moment) grows id version deadline over)
+            | inl over ↦ inl (over_later w.sent [] G G (λ file chunk seq i. i) config.skew_ms w.observer.greatest (max w.observer.greatest moment) grows id version deadline over)
             | inr is_open ↦ inr (((is_open.0).0, subst (λ (n : ℕ). Next w x T n (is_open.0).0 id.seq) (sym (same_calls None)) (inl (is_open.0).1)), waits_passed w.config.skew_ms w.observer moment (suc index) ∙ is_open.1)
           ];
-          stands = λ v there. subst (λ (y : ClientState). IsStanding x.world y) (sym (put_at s w.clients index v there)) (record {
+          stands = λ v there. subst (λ (y : ClientState). IsStanding G x.world y) (sym (put_at s w.clients index v there)) (record {
             config_is = config_then;
             known = let low = (h.stands s at).known in let top = grows in omega (arith, low, top);
-            call = λ up_then. stands_later config w.sent [] (suc index) w.observer.greatest (max w.observer.greatest moment) grows none_yet None (λ m is. none_some m is) s.now s.now (omega arith) s.current ((h.stands s at).call up_then);
+            call = λ up_then. stands_later G G (λ file chunk seq i. i) config w.sent [] (suc index) w.observer.greatest (max w.observer.greatest moment) grows none_yet None (λ m is. none_some m is) s.now s.now (omega arith) s.current ((h.stands s at).call up_then);
             is_open = λ up_then some. waits_passed w.config.skew_ms w.observer moment (suc index) ∙ (h.stands s at).is_open up_then some;
           });
         }
@@ -411,12 +454,12 @@ module _ (config : Config) (index : ℕ) where
 
     goes_left : (i : Input) → IsCameIn (CameAs w.sent s.id) i → Left (client_ends s (client_goes s moment i) Goes)
     goes_left i came =
-        elim (step_leaves config w.sent (max w.observer.greatest moment) (client_at s moment) config_then known_then once used i came
-        (to_now config w.sent (max w.observer.greatest moment) s.id (client_at s moment).now (client_at s moment) s.current begun)) [
-          | inl calm ↦ calm_left (client_goes s moment i) calm (λ some. by_current s.current refl some)
+        elim (step_leaves G config w.sent (max w.observer.greatest moment) (client_at s moment) config_then known_then once used i came
+        (to_now G config w.sent (max w.observer.greatest moment) s.id (client_at s moment).now (client_at s moment) s.current begun)) [
+          | inl calm ↦ quiet_left (client_ends s (client_goes s moment i) Goes) (calm_left (client_goes s moment i) calm (λ some. by_current s.current refl some))
           | inr asking ↦ subst (λ (d : ClientDoing). Left (client_ends s d Goes)) (sym asking.is)
-              (asking_left asking.current asking.chunk asking.primary asking.number asking.current_is asking.mutates
-              (subst (λ (n : ℕ). IsOpen config w.sent (max w.observer.greatest moment) n (client_at s moment).now asking.current) id_is asking.over)
+              (asking_left asking.current asking.chunk asking.primary asking.number asking.current_is asking.stage_is asking.mutates
+              (subst (λ (n : ℕ). IsOpen G config w.sent (max w.observer.greatest moment) n (client_at s moment).now asking.current) id_is asking.over)
               (subst (λ (n : ℕ). HasData config w.sent (max w.observer.greatest moment) n None asking.current asking.chunk asking.number) id_is asking.pushed))
         ]
       where
@@ -426,19 +469,19 @@ module _ (config : Config) (index : ℕ) where
 
     step_left : (e : Event) (i : Input) (choice : Choice) → IsGiven w e (the_client (suc index)) moment i → Left (client_step s moment i choice)
     step_left e i choice is =
-        on_cond Left (may_step s) (client_ends s (client_goes s moment i) choice.ending) (no_step s) (λ _. down_left (client_goes s moment i) choice.ending (goes_left i (came_as e i is))) (λ _. same_left)
+        on_cond Left (may_step s) (client_ends s (client_goes s moment i) choice.ending) (no_step s) (λ _. down_left (client_goes s moment i) choice.ending (goes_left i (came_as e i is))) (λ _. quiet_left (no_step s) same_left)
 
     -- a call of the client, which had none open
 
     module _ (c : Call) (none_open : s.current ≡ None) where
       abbrev Called_ : Taken ClientState → Type 0
-      Called_ t = IsOn (Next w (after_client (with_call w index moment c) index moment t) T) (after_client (with_call w index moment c) index moment t).world
+      Called_ t = IsOn (Next w (after_client (with_call w index moment c) index moment t) T) G (after_client (with_call w index moment c) index moment t).world
 
-      all_over : AllOver config w.sent (max w.observer.greatest moment) (suc index)
-      all_over = subst (λ (n : ℕ). AllOver config w.sent (max w.observer.greatest moment) n) id_is (subst (λ (o : Option CurrentCall). CallStands config w.sent (max w.observer.greatest moment) s.id (client_at s moment).now None o) none_open begun)
+      all_over : AllOver G config w.sent (max w.observer.greatest moment) (suc index)
+      all_over = subst (λ (n : ℕ). AllOver G config w.sent (max w.observer.greatest moment) n) id_is (subst (λ (o : Option CurrentCall). CallStands G config w.sent (max w.observer.greatest moment) s.id (client_at s moment).now None o) none_open begun)
 
-      own_over : AllOver config w.sent (max w.observer.greatest moment) s.id
-      own_over = subst (λ (n : ℕ). AllOver config w.sent (max w.observer.greatest moment) n) (sym id_is) all_over
+      own_over : AllOver G config w.sent (max w.observer.greatest moment) s.id
+      own_over = subst (λ (n : ℕ). AllOver G config w.sent (max w.observer.greatest moment) n) (sym id_is) all_over
 
       top_called : (a : Option Answer) → (observed_answer (observed_moment w.config.skew_ms (with_call w index moment c).observer moment) (suc index) a).greatest ≡ max (max w.observer.greatest moment) moment
       top_called a = greatest_answered (observed_moment w.config.skew_ms (with_call w index moment c).observer moment) (suc index) a
@@ -454,12 +497,12 @@ module _ (config : Config) (index : ℕ) where
       called_left : (d : ClientDoing) → Calm d → Called_ (client_ends s d Goes)
       called_left d calm =
           record {
-            asked = λ id handle version deadline own a. inl (subst (λ (n : ℕ). IsOver (After d calm) config.skew_ms n id version deadline) (sym (top_called d.answer))
-                (over_later w.sent more config.skew_ms (max w.observer.greatest moment) (max (max w.observer.greatest moment) moment) twice id version deadline (all_over id handle version deadline own (none_new d calm id handle version deadline own a))));
-            stands = λ v there. subst (λ (y : ClientState). IsStanding x.world y) (sym (put_at d.client w.clients index v there)) (record {
+            asked = λ id handle version deadline own a. inl (subst (λ (n : ℕ). IsOver G (After d calm) config.skew_ms n id version deadline) (sym (top_called d.answer))
+                (over_later w.sent more G G (λ file chunk seq i. i) config.skew_ms (max w.observer.greatest moment) (max (max w.observer.greatest moment) moment) twice id version deadline (all_over id handle version deadline own (none_new d calm id handle version deadline own a))));
+            stands = λ v there. subst (λ (y : ClientState). IsStanding G x.world y) (sym (put_at d.client w.clients index v there)) (record {
               config_is = (calm.kept).0 ∙ config_then;
               known = let same = (calm.kept).1 in let top = top_called d.answer in let low = known_then in let high = twice in omega (arith, same, top, low, high);
-              call = λ up_then. subst (λ (n : ℕ). CallStands config (After d calm) n (suc index) d.client.now None d.client.current) (sym (top_called d.answer)) (later_call (call_then d calm));
+              call = λ up_then. subst (λ (n : ℕ). CallStands G config (After d calm) n (suc index) d.client.now None d.client.current) (sym (top_called d.answer)) (later_call (call_then d calm));
               is_open = λ up_then some. elim (split d calm) [
                 | inl goes ↦ ap (λ (a : Option Answer). waits (suc index) false (observed_answer (observed_moment w.config.skew_ms (with_call w index moment c).observer moment) (suc index) a).trace) goes.0 ∙ waits_called
                 | inr ended ↦ absurd (true≢false (sym some ∙ ap is_some ended.0))
@@ -473,18 +516,18 @@ module _ (config : Config) (index : ℕ) where
           more : List Message
           more = stamped (suc (length w.sent)) (option_to_list d.sent)
 
-          later_call : CallStands config (After d calm) (max w.observer.greatest moment) (suc index) d.client.now None d.client.current → CallStands config (After d calm) (max (max w.observer.greatest moment) moment) (suc index) d.client.now None d.client.current
-          later_call stands = subst (λ (ms : List Message). CallStands config ms (max (max w.observer.greatest moment) moment) (suc index) d.client.now None d.client.current) (append-[] (After d calm))
-              (stands_later config (After d calm) [] (suc index) (max w.observer.greatest moment) (max (max w.observer.greatest moment) moment) twice
+          later_call : CallStands G config (After d calm) (max w.observer.greatest moment) (suc index) d.client.now None d.client.current → CallStands G config (After d calm) (max (max w.observer.greatest moment) moment) (suc index) d.client.now None d.client.current
+          later_call stands = subst (λ (ms : List Message). CallStands G config ms (max (max w.observer.greatest moment) moment) (suc index) d.client.now None d.client.current) (append-[] (After d calm))
+              (stands_later G G (λ file chunk seq i. i) config (After d calm) [] (suc index) (max w.observer.greatest moment) (max (max w.observer.greatest moment) moment) twice
               (λ id handle version deadline own a. subst (λ (ms : List Message). AsksBy ms id handle version deadline) (append-[] (After d calm)) a) None (λ m is. none_some m is) d.client.now d.client.now (omega arith) d.client.current stands)
 
       called_down : (t : Taken ClientState) → t.out.sent ≡ [] → t.state.up ≡ false → t.state.config ≡ config → t.state.now ≡ 0 → Called_ t
       called_down t sent down same zero_ =
           record {
-            asked = λ id handle version deadline own a. inl (subst (λ (n : ℕ). IsOver (w.sent ++ stamped (suc (length w.sent)) t.out.sent) config.skew_ms n id version deadline) (sym (top_called t.out.answer))
-                (over_later w.sent (stamped (suc (length w.sent)) t.out.sent) config.skew_ms (max w.observer.greatest moment) (max (max w.observer.greatest moment) moment) twice id version deadline
+            asked = λ id handle version deadline own a. inl (subst (λ (n : ℕ). IsOver G (w.sent ++ stamped (suc (length w.sent)) t.out.sent) config.skew_ms n id version deadline) (sym (top_called t.out.answer))
+                (over_later w.sent (stamped (suc (length w.sent)) t.out.sent) G G (λ file chunk seq i. i) config.skew_ms (max w.observer.greatest moment) (max (max w.observer.greatest moment) moment) twice id version deadline
                 (all_over id handle version deadline own (subst (λ (ms : List Message). AsksBy ms id handle version deadline) (append-[] w.sent) (subst (λ (ms : List Message). AsksBy (w.sent ++ stamped (suc (length w.sent)) ms) id handle version deadline) sent a)))));
-            stands = λ v there. subst (λ (y : ClientState). IsStanding x.world y) (sym (put_at t.state w.clients index v there)) (record {
+            stands = λ v there. subst (λ (y : ClientState). IsStanding G x.world y) (sym (put_at t.state w.clients index v there)) (record {
               config_is = same;
               known = omega (arith, zero_);
               call = λ up_then. absurd (true≢false (sym up_then ∙ down));
@@ -504,10 +547,10 @@ module _ (config : Config) (index : ℕ) where
       call_left choice =
           let refused : ClientDoing = answers (client_begins (client_at s moment)) (answer.Refused NoMemory) in
           on_cond Called_ (first_is_true choice.refused) (client_ends s refused choice.ending) (client_ends s (client_call_goes s moment c) choice.ending)
-          (λ _. called_ends refused (refusal_leaves config w.sent (max w.observer.greatest moment) (client_at s moment) config_then known_then once used own_over (answer.Refused NoMemory)) choice.ending)
+          (λ _. called_ends refused (refusal_leaves G config w.sent (max w.observer.greatest moment) (client_at s moment) config_then known_then once used own_over (answer.Refused NoMemory)) choice.ending)
           (λ _. called_ends (client_call_goes s moment c)
-          (call_leaves config w.sent (max w.observer.greatest moment) (client_at s moment) config_then known_then once used own_over c
-          (to_now config w.sent (max w.observer.greatest moment) s.id (client_at s moment).now (client_at s moment) s.current begun)) choice.ending)
+          (call_leaves G config w.sent (max w.observer.greatest moment) (client_at s moment) config_then known_then once used own_over c
+          (to_now G config w.sent (max w.observer.greatest moment) s.id (client_at s moment).now (client_at s moment) s.current begun)) choice.ending)
 
   -- other clients
 
@@ -528,7 +571,7 @@ module _ (config : Config) (index : ℕ) where
       by_test false e = e
       by_test true e = absurd (apart (less (eqb-true (suc other) (suc index) e)))
 
-  module _ (T : ℕ → Option ℕ → ℕ → Type 0) (w : WorldState) (numbered : AreNumbered w.sent w.clients) (h : IsOn T w) (other moment : ℕ) (apart : other ≡ index → ⊥) (s : ClientState) (at : element_at w.clients other ≡ Some s) (up : IsTrue s.up) where
+  module _ (T : ℕ → Option ℕ → ℕ → Type 0) (G : ℕ → ToldChunk → ℕ → Type 0) (w : WorldState) (numbered : AreNumbered w.sent w.clients) (h : IsOn T G w) (other moment : ℕ) (apart : other ≡ index → ⊥) (s : ClientState) (at : element_at w.clients other ≡ Some s) (up : IsTrue s.up) where
     abbrev Foreign : ClientState → List Message → Type 0
     Foreign t ms = AllOf (λ m. is_from_client (suc index) m.sender ≡ false) ms
 
@@ -539,22 +582,22 @@ module _ (config : Config) (index : ℕ) where
     there_before : (t u : ClientState) → element_at (with_at w.clients other t) index ≡ Some u → element_at w.clients index ≡ Some u
     there_before t u is = elim (set_cases w.clients other t index u is) [ inl both ↦ absurd (apart (sym both.0)) | inr there ↦ there ]
 
-    other_steps : (i : Input) (choice : Choice) → IsOn T (after_client w other moment (client_step s moment i choice)).world
+    other_steps : (i : Input) (choice : Choice) → IsOn T G (after_client w other moment (client_step s moment i choice)).world
     other_steps i choice =
         let t : Taken ClientState = client_step s moment i choice in
         let o : Observer = observed_moment w.config.skew_ms w.observer moment in
-        others_on T w h (after_client w other moment t).world (stamped (suc (length w.sent)) t.out.sent) refl
+        others_on T G w h (after_client w other moment t).world (stamped (suc (length w.sent)) t.out.sent) refl
         (from_others w.sent (suc (length w.sent)) (suc index) t.out.sent (of_step Foreign s moment i choice (numbered.each other s at).named goes_foreign tt tt))
         (calls_answered o (suc other) (suc index) t.out.answer ∙ calls_passed w.config.skew_ms w.observer moment (suc index)) (waits_others o (suc other) (suc index) t.out.answer (differ other apart) ∙ waits_passed w.config.skew_ms w.observer moment (suc index))
         (let top = greatest_answered o (suc other) t.out.answer in let low = le-max_left w.observer.greatest moment in omega (arith, top, low)) (there_before t.state)
 
-    other_calls : (c : Call) (choice : Choice) → IsOn T (after_client (with_call w other moment c) other moment (client_call s moment c choice)).world
+    other_calls : (c : Call) (choice : Choice) → IsOn T G (after_client (with_call w other moment c) other moment (client_call s moment c choice)).world
     other_calls c choice =
         let v : WorldState = with_call w other moment c in
         let t : Taken ClientState = client_call s moment c choice in
         let o : Observer = observed_moment w.config.skew_ms v.observer moment in
         let trace : List Visible = (observed_moment w.config.skew_ms w.observer moment).trace in
-        others_on T w h (after_client v other moment t).world (stamped (suc (length w.sent)) t.out.sent) refl
+        others_on T G w h (after_client v other moment t).world (stamped (suc (length w.sent)) t.out.sent) refl
         (from_others w.sent (suc (length w.sent)) (suc index) t.out.sent (of_call Foreign s moment c choice (numbered.each other s at).named goes_foreign tt))
         (calls_answered o (suc other) (suc index) t.out.answer ∙ calls_passed w.config.skew_ms v.observer moment (suc index) ∙ calls_joined (suc index) trace (Called (suc other) c) (differs other apart) ∙ calls_passed w.config.skew_ms w.observer moment (suc index))
         (waits_others o (suc other) (suc index) t.out.answer (differ other apart) ∙ waits_passed w.config.skew_ms v.observer moment (suc index)
@@ -563,22 +606,22 @@ module _ (config : Config) (index : ℕ) where
 
   -- each event
 
-  module _ (T : ℕ → Option ℕ → ℕ → Type 0) (servers clients : ℕ) (w : WorldState) (r : IsReached config servers clients w) (h : IsOn T w) where
+  module _ (T : ℕ → Option ℕ → ℕ → Type 0) (G : ℕ → ToldChunk → ℕ → Type 0) (servers clients : ℕ) (w : WorldState) (r : IsReached config servers clients w) (h : IsOn T G w) where
     abbrev After_ : Happened → Type 0
-    After_ x = IsOn (Next w x T) x.world
+    After_ x = IsOn (Next w x T) (NextFor w x G) x.world
 
     numbered : AreNumbered w.sent w.clients
     numbered = numbered_reached config servers clients w r
 
-    all_more : (x : Happened) → IsOn T x.world → After_ x
-    all_more x g = on_more T (Next w x T) (λ made part n t. inl t) x.world g
+    all_more : (x : Happened) → IsOn T G x.world → After_ x
+    all_more x g = on_more T (Next w x T) (λ made part n t. inl t) G (NextFor w x G) (λ file chunk seq i. inl i) x.world g
 
     on_steps : (e : Event) (other moment : ℕ) (s : ClientState) (i : Input) (choice : Choice) → element_at w.clients other ≡ Some s → IsGiven w e (the_client (suc other)) moment i → IsTrue s.up → After_ (after_client w other moment (client_step s moment i choice))
     on_steps e other moment s i choice at is up =
         elim (same_or_not index other) [
           | inl same ↦ subst (λ (n : ℕ). After_ (after_client w n moment (client_step s moment i choice))) same
-              (step_left T servers clients w r numbered h moment s (subst (λ (n : ℕ). element_at w.clients n ≡ Some s) (sym same) at) up e i choice (subst (λ (n : ℕ). IsGiven w e (the_client (suc n)) moment i) (sym same) is))
-          | inr apart ↦ all_more (after_client w other moment (client_step s moment i choice)) (other_steps T w numbered h other moment (λ e. apart (sym e)) s at up i choice)
+              (step_left T G servers clients w r numbered h moment s (subst (λ (n : ℕ). element_at w.clients n ≡ Some s) (sym same) at) up e i choice (subst (λ (n : ℕ). IsGiven w e (the_client (suc n)) moment i) (sym same) is))
+          | inr apart ↦ all_more (after_client w other moment (client_step s moment i choice)) (other_steps T G w numbered h other moment (λ e. apart (sym e)) s at up i choice)
         ]
 
     no_call : (o : Option CurrentCall) → is_none o ≡ true → o ≡ None
@@ -591,11 +634,13 @@ module _ (config : Config) (index : ℕ) where
         let none : is_none s.current ≡ true = first_and (is_none s.current) (has_room_to_count s) (and_parts s.up (is_none s.current && has_room_to_count s) may).1 in
         elim (same_or_not index other) [
           | inl same ↦ subst (λ (n : ℕ). After_ (after_client (with_call w n moment c) n moment (client_call s moment c choice))) same
-              (call_left T servers clients w r numbered h moment s (subst (λ (n : ℕ). element_at w.clients n ≡ Some s) (sym same) at) up c (no_call s.current none) choice)
-          | inr apart ↦ all_more (after_client (with_call w other moment c) other moment (client_call s moment c choice)) (other_calls T w numbered h other moment (λ e. apart (sym e)) s at up c choice)
+              (let x : Happened = after_client (with_call w index moment c) index moment (client_call s moment c choice) in
+              on_more (Next w x T) (Next w x T) (λ made part n asked. asked) G (NextFor w x G) (λ file chunk seq i. inl i) x.world
+              (call_left T G servers clients w r numbered h moment s (subst (λ (n : ℕ). element_at w.clients n ≡ Some s) (sym same) at) up c (no_call s.current none) choice))
+          | inr apart ↦ all_more (after_client (with_call w other moment c) other moment (client_call s moment c choice)) (other_calls T G w numbered h other moment (λ e. apart (sym e)) s at up c choice)
         ]
 
-    each_on : HoldsAfter w (λ e x. IsOn (Next w x T) x.world)
+    each_on : HoldsAfter w (λ e x. IsOn (Next w x T) (NextFor w x G) x.world)
     each_on =
         let k : ℕ = suc (length w.sent) in
         record {
@@ -603,22 +648,22 @@ module _ (config : Config) (index : ℕ) where
           masters = λ e moment i choice is up.
               let ms : List Message = (master_step w.master moment i choice).out.sent in
               let x : Happened = after_master w moment (master_step w.master moment i choice) in
-              all_more x (others_on T w h x.world (stamped k ms) refl (from_others w.sent k (suc index) ms (one_client (suc index) ms (master_sends w.master moment i choice))) (calls_passed w.config.skew_ms w.observer moment (suc index))
+              all_more x (others_on T G w h x.world (stamped k ms) refl (from_others w.sent k (suc index) ms (one_client (suc index) ms (master_sends w.master moment i choice))) (calls_passed w.config.skew_ms w.observer moment (suc index))
               (waits_passed w.config.skew_ms w.observer moment (suc index)) (le-max_left w.observer.greatest moment) (λ s at. at));
           opens = λ e moment choice.
               let ms : List Message = (master_restart w.master moment choice).out.sent in
               let x : Happened = after_master w moment (master_restart w.master moment choice) in
-              all_more x (others_on T w h x.world (stamped k ms) refl (from_others w.sent k (suc index) ms (one_client (suc index) ms (master_restart_sends w.master moment choice))) (calls_passed w.config.skew_ms w.observer moment (suc index))
+              all_more x (others_on T G w h x.world (stamped k ms) refl (from_others w.sent k (suc index) ms (one_client (suc index) ms (master_restart_sends w.master moment choice))) (calls_passed w.config.skew_ms w.observer moment (suc index))
               (waits_passed w.config.skew_ms w.observer moment (suc index)) (le-max_left w.observer.greatest moment) (λ s at. at));
           serves = λ e other moment s i choice at is up.
               let ms : List Message = (server_step s moment i choice).out.sent in
               let x : Happened = after_server w other moment (server_step s moment i choice) in
-              all_more x (others_on T w h x.world (stamped k ms) refl (from_others w.sent k (suc index) ms (one_client (suc index) ms (server_sends s moment i choice))) (calls_passed w.config.skew_ms w.observer moment (suc index))
+              all_more x (others_on T G w h x.world (stamped k ms) refl (from_others w.sent k (suc index) ms (one_client (suc index) ms (server_sends s moment i choice))) (calls_passed w.config.skew_ms w.observer moment (suc index))
               (waits_passed w.config.skew_ms w.observer moment (suc index)) (le-max_left w.observer.greatest moment) (λ s at. at));
           restarts = λ e other moment s choice at.
               let ms : List Message = (server_restart s moment choice).out.sent in
               let x : Happened = after_server w other moment (server_restart s moment choice) in
-              all_more x (others_on T w h x.world (stamped k ms) refl (from_others w.sent k (suc index) ms (one_client (suc index) ms (server_restart_sends s moment choice))) (calls_passed w.config.skew_ms w.observer moment (suc index))
+              all_more x (others_on T G w h x.world (stamped k ms) refl (from_others w.sent k (suc index) ms (one_client (suc index) ms (server_restart_sends s moment choice))) (calls_passed w.config.skew_ms w.observer moment (suc index))
               (waits_passed w.config.skew_ms w.observer moment (suc index)) (le-max_left w.observer.greatest moment) (λ s at. at));
           steps = λ e other moment s i choice at is up. on_steps e other moment s i choice at is up;
           calls = λ e other moment s c choice at may. on_calls other moment s c choice at may;
@@ -630,16 +675,23 @@ module _ (config : Config) (index : ℕ) where
   abbrev pub Since : WorldState → List (Event × Choice) → (ℕ → Option ℕ → ℕ → Type 0) → ℕ → Option ℕ → ℕ → Type 0
   Since w steps T made part n = T made part n ⊎ WasAsked index w steps made part n
 
-  pub all_since : (servers clients : ℕ) (w : WorldState) (steps : List (Event × Choice)) (T : ℕ → Option ℕ → ℕ → Type 0) → IsReached config servers clients w → IsOn T w → IsOn (Since w steps T) (after_events w steps)
-  all_since servers clients w [] T r h = on_more T (Since w [] T) (λ made part n t. inl t) w h
-  all_since servers clients w (step ∷ rest) T r h =
+  abbrev pub SinceFor : WorldState → List (Event × Choice) → (ℕ → ToldChunk → ℕ → Type 0) → ℕ → ToldChunk → ℕ → Type 0
+  SinceFor w steps G file chunk seq = G file chunk seq ⊎ WasSentFor index w steps file chunk seq
+
+  pub all_since : (servers clients : ℕ) (w : WorldState) (steps : List (Event × Choice)) (T : ℕ → Option ℕ → ℕ → Type 0) (G : ℕ → ToldChunk → ℕ → Type 0) → IsReached config servers clients w → IsOn T G w → IsOn (Since w steps T) (SinceFor w steps G) (after_events w steps)
+  all_since servers clients w [] T G r h = on_more T (Since w [] T) (λ made part n t. inl t) G (SinceFor w [] G) (λ file chunk seq i. inl i) w h
+  all_since servers clients w (step ∷ rest) T G r h =
       let x : Happened = happens w step.0 step.1 in
       on_more (Since x.world rest (Next w x T)) (Since w (step ∷ rest) T)
       (λ made part n since. elim (since) [
         | inl old ↦ elim (old) [ inl before ↦ inl before | inr now ↦ inr (inl now) ]
         | inr later ↦ inr (inr later)
+      ]) (SinceFor x.world rest (NextFor w x G)) (SinceFor w (step ∷ rest) G)
+      (λ file chunk seq since. elim (since) [
+        | inl old ↦ elim (old) [ inl before ↦ inl before | inr now ↦ inr (inl now) ]
+        | inr later ↦ inr (inr later)
       ]) (after_events x.world rest)
-      (all_since servers clients x.world rest (Next w x T) (reached_later config servers clients w (step ∷ []) r) (holds_after w (λ e y. IsOn (Next w y T) y.world) (each_on T servers clients w r h) step.0 step.1))
+      (all_since servers clients x.world rest (Next w x T) (NextFor w x G) (reached_later config servers clients w (step ∷ []) r) (holds_after w (λ e y. IsOn (Next w y T) (NextFor w y G) y.world) (each_on T G servers clients w r h) step.0 step.1))
 
 -- a new world
 
@@ -652,21 +704,31 @@ new_clients config (n ∷ ns) (suc index) s is = new_clients config ns index s i
 abbrev pub Never : ℕ → Option ℕ → ℕ → Type 0
 Never made part n = ⊥
 
-pub new_on : (config : Config) (servers clients index : ℕ) → IsOn config index Never (new_world config servers clients)
+abbrev pub NeverFor : ℕ → ToldChunk → ℕ → Type 0
+NeverFor file chunk seq = ⊥
+
+pub new_on : (config : Config) (servers clients index : ℕ) → IsOn config index Never NeverFor (new_world config servers clients)
 new_on config servers clients index =
     record {
       asked = λ id handle version deadline own a. none_some a.asked (a.sent_is).1;
       stands = λ s at. let there = new_clients config (first_numbers clients) index s at in record {
         config_is = there.0;
         known = let zero_ = there.2 in omega (arith, zero_);
-        call = λ up. subst (λ (o : Option CurrentCall). CallStands config [] 0 (suc index) s.now None o) (sym there.1) (λ id handle version deadline own a. none_some a.asked (a.sent_is).1);
+        call = λ up. subst (λ (o : Option CurrentCall). CallStands NeverFor config [] 0 (suc index) s.now None o) (sym there.1) (λ id handle version deadline own a. none_some a.asked (a.sent_is).1);
         is_open = λ up some. absurd (true≢false (sym some ∙ ap is_some there.1));
       };
     }
 
 pub attempts_are_over_or_open : AttemptsAreOverOrOpen
 attempts_are_over_or_open config servers clients steps index id handle version deadline own a =
-    elim ((all_since config index servers clients (new_world config servers clients) steps Never ([], refl) (new_on config servers clients index)).asked id handle version deadline own a) [
-      | inl over ↦ inl over
+    elim ((all_since config index servers clients start steps Never NeverFor ([], refl) (new_on config servers clients index)).asked id handle version deadline own a) [
+      | inl over ↦ inl (subst (λ (ms : List Message). IsOver (WasSentFor index start steps) ms config.skew_ms w.observer.greatest id version deadline) (append-[] w.sent)
+          (over_later w.sent [] (SinceFor config index start steps NeverFor) (WasSentFor index start steps) (λ file chunk seq since. elim (since) [ inl never ↦ absurd never | inr was ↦ was ]) config.skew_ms w.observer.greatest w.observer.greatest (omega arith) id version deadline over))
       | inr open_one ↦ inr (record { part = (open_one.0).0; asked = elim ((open_one.0).1) [ inl never ↦ absurd never | inr was ↦ was ]; is_open = open_one.1 })
     ]
+  where
+    start : WorldState
+    start = new_world config servers clients
+
+    w : WorldState
+    w = after_events start steps

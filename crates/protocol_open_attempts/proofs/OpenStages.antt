@@ -1,10 +1,11 @@
 -- Of each attempt of a client that is up: it is over, or its call counts it as live or waits for it. A step of the client keeps this.
 use Rattle.std.proofs.Common.{◌≡◌, ◌⊎◌, ℕ, suc, ◌+◌, ◌≤◌, ◌<◌, Bool, true, false, true≢false, List, [], ◌∷◌, ◌++◌, Option, Some, None, refl, sym, ap, subst, ◌∙◌, inl, inr, arith}
-use Rattle.std.specs.Prelude.{filter, nat_lt, nat_le, ◌==◌, ◌&&◌, ◌||◌, not}
+use Rattle.std.specs.Prelude.{filter, nat_lt, nat_le, ◌==◌, ◌&&◌, ◌||◌, not, IsTrue}
 use Rattle.std.specs.List.{list_any}
-use Rattle.std.proofs.lemmas.Bool.{and_parts, ltb-true, ltb-false, leb-true}
+use Rattle.std.proofs.lemmas.Bool.{and_parts, eqb-true, ltb-true, ltb-false, leb-true}
 use Rattle.gfs_types.specs.declared.config.Config.{Config}
 use Rattle.gfs_types.specs.declared.ids.DataId.{DataId}
+use Rattle.gfs_types.specs.declared.ids.FileId.{FileId}
 use Rattle.gfs_types.specs.declared.ids.Handle.{Handle}
 use Rattle.gfs_types.specs.declared.ids.Version.{Version}
 use Rattle.gfs_types.specs.declared.ids.Moment.{Moment}
@@ -80,7 +81,7 @@ module _ (P : LiveAttempt → Type 0) where
   all_kept t (x ∷ xs) h = on_cond (λ (ys : List LiveAttempt). AllOf P ys) (t x) (x ∷ filter t xs) (filter t xs) (λ _. (h.0, all_kept t xs h.1)) (λ _. all_kept t xs h.1)
 
 module _ (P Q : LiveAttempt → Type 0) where
-  map_any : ((l : LiveAttempt) → P l → Q l) → (xs : List LiveAttempt) → AnyLive P xs → AnyLive Q xs
+  pub map_any : ((l : LiveAttempt) → P l → Q l) → (xs : List LiveAttempt) → AnyLive P xs → AnyLive Q xs
   map_any go [] h = absurd h
   map_any go (x ∷ xs) h = elim (h) [ inl now ↦ inl (go x now) | inr later ↦ inr (map_any go xs later) ]
 
@@ -118,38 +119,45 @@ module _ (config : Config) (sent : List Message) (greatest client : ℕ) where
   abbrev pub EachOwn : (DataId → Handle → Version → Moment → Type 0) → Type 0
   EachOwn P = (id : DataId) (handle : Handle) (version : Version) (deadline : Moment) → id.client.0 ≡ client → AsksBy sent id handle version deadline → P id handle version deadline
 
-  abbrev pub Over : DataId → Version → Moment → Type 0
-  Over id version deadline = IsOver sent config.skew_ms greatest id version deadline
-
-  -- it counts as live until its deadline and the clock bound
-  abbrev pub IsCounted : Version → Moment → LiveAttempt → Type 0
-  IsCounted version deadline l = (l.version ≡ version) × (l.until.0 ≡ deadline.0 + config.skew_ms)
-
   -- deadlines rise from attempt to attempt, and only a call that changes something has live ones
   pub record IsTimely (now : ℕ) (c : CurrentCall) : Type 0 where
     pub early : c.deadline.0 ≤ now + config.attempt_ms
     pub lives : AllOf (λ l. l.until.0 ≤ c.deadline.0 + config.skew_ms) c.live
     pub plain : is_mutation c.asked ≡ false → c.live ≡ []
 
-  -- each attempt is over, or counted as live
-  pub record IsOpen (now : ℕ) (c : CurrentCall) : Type 0 where
-    pub each : EachOwn (λ id handle version deadline. Over id version deadline ⊎ AnyLive (IsCounted version deadline) c.live)
-    pub timely : IsTimely now c
-
   abbrev pub HasData : Option Message → CurrentCall → ToldChunk → ℕ → Type 0
   HasData o c chunk number = EachOwn (λ id handle version deadline. id.seq < number) × (HasPushed sent client number ⊎ IsPushing client number o)
 
+-- this attempt was sent for the place in a file at which the live one stands
+abbrev pub IsPlaced : (ℕ → ToldChunk → ℕ → Type 0) → ℕ → ℕ → LiveAttempt → Type 0
+IsPlaced G file seq l = (chunk : ToldChunk) × G file chunk seq × (chunk.index ≡ l.index)
+
+-- G: of the attempts that were sent for chunks of files
+module _ (G : ℕ → ToldChunk → ℕ → Type 0) (config : Config) (sent : List Message) (greatest client : ℕ) where
+  abbrev pub Over : DataId → Version → Moment → Type 0
+  Over id version deadline = IsOver G sent config.skew_ms greatest id version deadline
+
+  -- it counts as live until its deadline and the clock bound
+  abbrev pub IsCounted : ℕ → ℕ → Version → Moment → LiveAttempt → Type 0
+  IsCounted file seq version deadline l = (l.version ≡ version) × (l.until.0 ≡ deadline.0 + config.skew_ms) × IsPlaced G file seq l
+
+  -- each attempt is over, or counted as live
+  pub record IsOpen (now : ℕ) (c : CurrentCall) : Type 0 where
+    pub each : EachOwn config sent greatest client (λ id handle version deadline. Over id version deadline ⊎ AnyLive (IsCounted c.file.0 id.seq version deadline) c.live)
+    pub timely : IsTimely config sent greatest client now c
+
   -- so is each but the one that is under way, which is the last one
   pub record IsUnderWay (now : ℕ) (c : CurrentCall) (chunk : ToldChunk) (number : ℕ) : Type 0 where
-    pub each : EachOwn (λ id handle version deadline. Over id version deadline ⊎ (AnyLive (IsCounted version deadline) c.live ⊎ (id.seq ≡ number)))
-    pub timely : IsTimely now c
-    pub last : EachOwn (λ id handle version deadline. id.seq ≤ number)
+    pub each : EachOwn config sent greatest client (λ id handle version deadline. Over id version deadline ⊎ (AnyLive (IsCounted c.file.0 id.seq version deadline) c.live ⊎ (id.seq ≡ number)))
+    pub timely : IsTimely config sent greatest client now c
+    pub last : EachOwn config sent greatest client (λ id handle version deadline. id.seq ≤ number)
     pub asks : AsksBy sent (data_id client number) chunk.handle chunk.round c.deadline
+    pub placed : G c.file.0 chunk number
     pub pushed : HasPushed sent client number
     pub mutates : is_mutation c.asked ≡ true
 
   abbrev pub AllOver : Type 0
-  AllOver = EachOwn (λ id handle version deadline. Over id version deadline)
+  AllOver = EachOwn config sent greatest client (λ id handle version deadline. Over id version deadline)
 
 -- what comes in, where it answers an attempt whose data were pushed
 abbrev pub CameAs : List Message → ℕ → Body → Type 0
@@ -161,19 +169,19 @@ abbrev pub AnyReply : Call → Answer → Type 0
 AnyReply asked reply = Unit {0}
 
 -- a step of the client, in which the greatest moment comes to be this
-module _ (config : Config) (sent : List Message) (greatest : ℕ) (s : ClientState) (same_config : s.config ≡ config) (known : s.now ≤ greatest) (once : (client n : ℕ) → mutates_under client n sent ≤ 1)
+module _ (G : ℕ → ToldChunk → ℕ → Type 0) (config : Config) (sent : List Message) (greatest : ℕ) (s : ClientState) (same_config : s.config ≡ config) (known : s.now ≤ greatest) (once : (client n : ℕ) → mutates_under client n sent ≤ 1)
     (used : EachOwn config sent greatest s.id (λ id handle version deadline. id.seq ≤ s.number)) where
   abbrev Open : CurrentCall → Type 0
-  Open c = IsOpen config sent greatest s.id s.now c
+  Open c = IsOpen G config sent greatest s.id s.now c
 
   abbrev UnderWay : CurrentCall → ToldChunk → ℕ → Type 0
-  UnderWay c chunk number = IsUnderWay config sent greatest s.id s.now c chunk number
+  UnderWay c chunk number = IsUnderWay G config sent greatest s.id s.now c chunk number
 
   abbrev Ended : DataId → Version → Moment → Type 0
-  Ended id version deadline = IsOver sent config.skew_ms greatest id version deadline
+  Ended id version deadline = IsOver G sent config.skew_ms greatest id version deadline
 
-  abbrev Counted : Version → Moment → LiveAttempt → Type 0
-  Counted version deadline l = (l.version ≡ version) × (l.until.0 ≡ deadline.0 + config.skew_ms)
+  abbrev Counted : ℕ → ℕ → Version → Moment → LiveAttempt → Type 0
+  Counted file seq version deadline l = (l.version ≡ version) × (l.until.0 ≡ deadline.0 + config.skew_ms) × IsPlaced G file seq l
 
   skew_is : s.config.skew_ms ≡ config.skew_ms
   skew_is = ap (λ (g : Config). g.skew_ms) same_config
@@ -181,10 +189,11 @@ module _ (config : Config) (sent : List Message) (greatest : ℕ) (s : ClientSta
   attempt_is : s.config.attempt_ms ≡ config.attempt_ms
   attempt_is = ap (λ (g : Config). g.attempt_ms) same_config
 
-  same_open : (c e : CurrentCall) → e.asked ≡ c.asked → e.live ≡ c.live → e.deadline ≡ c.deadline → Open c → Open e
-  same_open c e asked live deadline h =
+  same_open : (c e : CurrentCall) → e.asked ≡ c.asked → e.file ≡ c.file → e.live ≡ c.live → e.deadline ≡ c.deadline → Open c → Open e
+  same_open c e asked file live deadline h =
       record {
-        each = λ id handle version until own a. subst (λ (ls : List LiveAttempt). Ended id version until ⊎ AnyLive (Counted version until) ls) (sym live) (h.each id handle version until own a);
+        each = λ id handle version until own a. subst (λ (f : FileId). Ended id version until ⊎ AnyLive (Counted f.0 id.seq version until) e.live) (sym file)
+            (subst (λ (ls : List LiveAttempt). Ended id version until ⊎ AnyLive (Counted c.file.0 id.seq version until) ls) (sym live) (h.each id handle version until own a));
         timely = record {
           early = let low = h.timely.early in let same = ap (λ (m : Moment). m.0) deadline in omega (arith, low, same);
           lives = subst (λ (ls : List LiveAttempt). AllOf (λ l. l.until.0 ≤ e.deadline.0 + config.skew_ms) ls) (sym live) (subst (λ (m : Moment). AllOf (λ l. l.until.0 ≤ m.0 + config.skew_ms) c.live) (sym deadline) h.timely.lives);
@@ -195,7 +204,8 @@ module _ (config : Config) (sent : List Message) (greatest : ℕ) (s : ClientSta
   begins_open : (c e : CurrentCall) → IsSamePart c e → e.deadline ≡ attempt_end s → Open c → Open e
   begins_open c e same deadline h =
       record {
-        each = λ id handle version until own a. subst (λ (ls : List LiveAttempt). Ended id version until ⊎ AnyLive (Counted version until) ls) (sym same.3) (h.each id handle version until own a);
+        each = λ id handle version until own a. subst (λ (f : FileId). Ended id version until ⊎ AnyLive (Counted f.0 id.seq version until) e.live) (sym same.1)
+            (subst (λ (ls : List LiveAttempt). Ended id version until ⊎ AnyLive (Counted c.file.0 id.seq version until) ls) (sym same.3) (h.each id handle version until own a));
         timely = record {
           early = omega (arith, begun, attempt_is);
           lives = subst (λ (ls : List LiveAttempt). AllOf (λ l. l.until.0 ≤ e.deadline.0 + config.skew_ms) ls) (sym same.3)
@@ -253,10 +263,10 @@ module _ (config : Config) (sent : List Message) (greatest : ℕ) (s : ClientSta
           each = λ id handle version deadline own a. elim (h.each id handle version deadline own a) [
             | inl over ↦ inl over
             | inr rest ↦ elim (rest) [
-              | inl live ↦ inr (before_any (Counted version deadline) c.live (last ∷ []) live)
+              | inl live ↦ inr (before_any (Counted c.file.0 id.seq version deadline) c.live (last ∷ []) live)
               | inr is ↦ let same = same_attempt id handle version deadline own a is in
                   let end = ap (λ (m : Moment). m.0) same.2 in
-                  inr (last_any (Counted version deadline) c.live last (sym same.1, omega (arith, end, skew_is)))
+                  inr (last_any (Counted c.file.0 id.seq version deadline) c.live last (sym same.1, omega (arith, end, skew_is), (chunk, subst (λ (n : ℕ). G c.file.0 chunk n) (sym is) h.placed, refl)))
             ]
           ];
           timely = record {
@@ -270,7 +280,7 @@ module _ (config : Config) (sent : List Message) (greatest : ℕ) (s : ClientSta
         last = record { index = chunk.index; version = chunk.round; until = moment_of (c.deadline.0 + s.config.skew_ms) }
 
     -- what the answer leaves out
-    left_out : (id : DataId) (handle : Handle) (version : Version) (deadline : Moment) → id.client.0 ≡ s.id → AsksBy sent id handle version deadline → (l : LiveAttempt) → Counted version deadline l → l.until.0 ≤ c.deadline.0 + config.skew_ms
+    left_out : (id : DataId) (handle : Handle) (version : Version) (deadline : Moment) → id.client.0 ≡ s.id → AsksBy sent id handle version deadline → (l : LiveAttempt) → Counted c.file.0 id.seq version deadline l → l.until.0 ≤ c.deadline.0 + config.skew_ms
         → is_kept_beside chunk l ≡ false → WasAnswered sent (data_id s.id number) → Ended id version deadline
     left_out id handle version deadline own a l counted low dropped answered =
         elim (same_or_not id.seq number) [
@@ -285,6 +295,14 @@ module _ (config : Config) (sent : List Message) (greatest : ℕ) (s : ClientSta
             pushed = h.pushed;
             same_client = ap (λ (n : ℕ). (data_id n number).client) (sym own);
             is_later = strictly id.seq number (h.last id handle version deadline own a) apart;
+            beside = record {
+              file = c.file.0;
+              chunk = (counted.2).0;
+              other = chunk;
+              first_is = (counted.2).1;
+              later_is = h.placed;
+              same_index = (counted.2).2 ∙ same_place;
+            };
             not_lower = let same = ap (λ (v : Version). v.0) counted.0 in omega (arith, same, not_above);
             not_earlier = let until = counted.1 in omega (arith, until, low);
           }))
@@ -294,8 +312,14 @@ module _ (config : Config) (sent : List Message) (greatest : ℕ) (s : ClientSta
         was_tested true g = refl
         was_tested false g = absurd (true≢false g)
 
+        tested : (IsTrue (l.index == chunk.index)) × IsTrue (nat_le l.version.0 chunk.round.0)
+        tested = and_parts (l.index == chunk.index) (nat_le l.version.0 chunk.round.0) (was_tested ((l.index == chunk.index) && nat_le l.version.0 chunk.round.0) dropped)
+
         not_above : l.version.0 ≤ chunk.round.0
-        not_above = leb-true l.version.0 chunk.round.0 (and_parts (l.index == chunk.index) (nat_le l.version.0 chunk.round.0) (was_tested ((l.index == chunk.index) && nat_le l.version.0 chunk.round.0) dropped)).1
+        not_above = leb-true l.version.0 chunk.round.0 tested.1
+
+        same_place : l.index ≡ chunk.index
+        same_place = eqb-true l.index chunk.index tested.0
 
     denied_open : WasAnswered sent (data_id s.id number) → Open (less_live c chunk)
     denied_open answered =
@@ -303,9 +327,9 @@ module _ (config : Config) (sent : List Message) (greatest : ℕ) (s : ClientSta
           each = λ id handle version deadline own a. elim (h.each id handle version deadline own a) [
             | inl over ↦ inl over
             | inr rest ↦ elim (rest) [
-              | inl live ↦ elim (kept_any (λ l. Counted version deadline l × (l.until.0 ≤ c.deadline.0 + config.skew_ms)) (is_kept_beside chunk) c.live
-                  (both_any (Counted version deadline) (λ l. l.until.0 ≤ c.deadline.0 + config.skew_ms) c.live h.timely.lives live)) [
-                    | inl kept ↦ inr (map_any (λ l. Counted version deadline l × (l.until.0 ≤ c.deadline.0 + config.skew_ms)) (Counted version deadline) (λ l both. both.0) (filter (is_kept_beside chunk) c.live) kept)
+              | inl live ↦ elim (kept_any (λ l. Counted c.file.0 id.seq version deadline l × (l.until.0 ≤ c.deadline.0 + config.skew_ms)) (is_kept_beside chunk) c.live
+                  (both_any (Counted c.file.0 id.seq version deadline) (λ l. l.until.0 ≤ c.deadline.0 + config.skew_ms) c.live h.timely.lives live)) [
+                    | inl kept ↦ inr (map_any (λ l. Counted c.file.0 id.seq version deadline l × (l.until.0 ≤ c.deadline.0 + config.skew_ms)) (Counted c.file.0 id.seq version deadline) (λ l both. both.0) (filter (is_kept_beside chunk) c.live) kept)
                     | inr out ↦ inl (left_out id handle version deadline own a out.0 (out.1).0 (out.1).1 out.2 answered)
                   ]
               | inr is ↦ inl (inr (inl (subst (λ (x : DataId). WasAnswered sent x) (data_is id own is) answered)))
@@ -321,9 +345,9 @@ module _ (config : Config) (sent : List Message) (greatest : ℕ) (s : ClientSta
   open_keeps : KeepsCall s (CameAs sent s.id) Open (λ o c chunk number. HasData config sent greatest s.id o c chunk number) UnderWay (λ c chunk place. Open c) AnyReply
   open_keeps =
       record {
-        same = λ c e same h. same_open c e same.0 same.3 same.4 h;
+        same = λ c e same h. same_open c e same.0 same.1 same.3 same.4 h;
         begins = λ c e same deadline h. begins_open c e same deadline h;
-        goes_on = λ c e plain asked live deadline h. same_open c e asked live deadline h;
+        goes_on = λ c e plain asked file live deadline h. same_open c e asked file live deadline h;
         replies = λ asked reply plain. tt;
         refuses = λ asked refusal. tt;
         pushes = λ d c chunk g first r mutates h. pushes_data d c chunk g first r;
@@ -331,9 +355,9 @@ module _ (config : Config) (sent : List Message) (greatest : ℕ) (s : ClientSta
         stays = λ c chunk number h. stays_open c chunk number h;
         denied = λ c chunk number refusal h came is. denied_open c chunk number h (came is h.pushed);
         done = λ c chunk number id place h came own is. denied_open c chunk number h (came number own is h.pushed);
-        passes = λ c e append asked live deadline h. same_open c e asked live deadline h;
+        passes = λ c e append asked file live deadline h. same_open c e asked file live deadline h;
         appended = λ c chunk place append h. (h, tt);
-        next = λ c e chunk place write more asked index live deadline h. same_open c e asked live deadline h;
+        next = λ c e chunk place write more asked file index live deadline h. same_open c e asked file live deadline h;
         last = λ c chunk place write none h. (h, tt);
       }
     where
@@ -354,34 +378,34 @@ module _ (config : Config) (sent : List Message) (greatest : ℕ) (s : ClientSta
       )
 
   -- a call that is answered has no attempt that isn't over
-  open_ends : (c : CurrentCall) (reply : Answer) → Open c → AnyReply c.asked reply → (is_mutation c.asked ≡ true → list_any (is_live_at s.now) c.live ≡ false) → AllOver config sent greatest s.id
+  open_ends : (c : CurrentCall) (reply : Answer) → Open c → AnyReply c.asked reply → (is_mutation c.asked ≡ true → list_any (is_live_at s.now) c.live ≡ false) → AllOver G config sent greatest s.id
   open_ends c reply h any none id handle version deadline own a =
       elim (h.each id handle version deadline own a) [
         | inl over ↦ over
         | inr live ↦ by_kind (is_mutation c.asked) refl live
       ]
     where
-      by_kind : (b : Bool) → is_mutation c.asked ≡ b → AnyLive (Counted version deadline) c.live → Ended id version deadline
-      by_kind false is live = absurd (subst (λ (ls : List LiveAttempt). AnyLive (Counted version deadline) ls) (h.timely.plain is) live)
+      by_kind : (b : Bool) → is_mutation c.asked ≡ b → AnyLive (Counted c.file.0 id.seq version deadline) c.live → Ended id version deadline
+      by_kind false is live = absurd (subst (λ (ls : List LiveAttempt). AnyLive (Counted c.file.0 id.seq version deadline) ls) (h.timely.plain is) live)
       by_kind true is live =
-          let out = none_any (Counted version deadline) (is_live_at s.now) c.live (none is) live in
+          let out = none_any (Counted c.file.0 id.seq version deadline) (is_live_at s.now) c.live (none is) live in
           let end = ltb-false s.now (out.0).until.0 out.2 in
           let until = (out.1).1 in
           inl (omega (arith, end, until, known))
 
   abbrev pub Leaving : ClientDoing → Type 0
-  Leaving d = Leaves s Open (λ o c chunk number. HasData config sent greatest s.id o c chunk number) UnderWay AnyReply (λ reply. AllOver config sent greatest s.id) (AllOver config sent greatest s.id) d
+  Leaving d = Leaves s Open (λ o c chunk number. HasData config sent greatest s.id o c chunk number) UnderWay AnyReply (λ reply. AllOver G config sent greatest s.id) (AllOver G config sent greatest s.id) d
 
   abbrev pub Standing : Option Message → Option Answer → Option CurrentCall → Type 0
-  Standing o a c = StandsNow s Open (λ o c chunk number. HasData config sent greatest s.id o c chunk number) UnderWay AnyReply (λ reply. AllOver config sent greatest s.id) (AllOver config sent greatest s.id) o a c
+  Standing o a c = StandsNow s Open (λ o c chunk number. HasData config sent greatest s.id o c chunk number) UnderWay AnyReply (λ reply. AllOver G config sent greatest s.id) (AllOver G config sent greatest s.id) o a c
 
   pub step_leaves : (i : Input) → IsCameIn (CameAs sent s.id) i → Standing None None s.current → Leaving (client_does (client_begins s) i s.current)
   step_leaves i came h =
-      does_leave s (CameAs sent s.id) Open (λ o c chunk number. HasData config sent greatest s.id o c chunk number) UnderWay (λ c chunk place. Open c) AnyReply (λ reply. AllOver config sent greatest s.id) (AllOver config sent greatest s.id) open_keeps open_ends i s.current refl came h
-      (begun_calm s (CameAs sent s.id) Open (λ o c chunk number. HasData config sent greatest s.id o c chunk number) UnderWay (λ c chunk place. Open c) AnyReply (λ reply. AllOver config sent greatest s.id) (AllOver config sent greatest s.id) open_keeps open_ends h)
+      does_leave s (CameAs sent s.id) Open (λ o c chunk number. HasData config sent greatest s.id o c chunk number) UnderWay (λ c chunk place. Open c) AnyReply (λ reply. AllOver G config sent greatest s.id) (AllOver G config sent greatest s.id) open_keeps open_ends i s.current refl came h
+      (begun_calm s (CameAs sent s.id) Open (λ o c chunk number. HasData config sent greatest s.id o c chunk number) UnderWay (λ c chunk place. Open c) AnyReply (λ reply. AllOver G config sent greatest s.id) (AllOver G config sent greatest s.id) open_keeps open_ends h)
 
   -- a call that is made where all attempts are over
-  module _ (all : AllOver config sent greatest s.id) where
+  module _ (all : AllOver G config sent greatest s.id) where
     new_open : (attempts number : ℕ) (c : Call) (file index : ℕ) (last : Option ℕ) → Open (new_call attempts number c file index last)
     new_open attempts number c file index last =
         record {
@@ -389,13 +413,13 @@ module _ (config : Config) (sent : List Message) (greatest : ℕ) (s : ClientSta
           timely = record { early = omega arith; lives = tt; plain = λ is. refl };
         }
 
-    pub call_leaves : (c : Call) → Standing None None s.current → IsCalm s Open (λ o c chunk number. HasData config sent greatest s.id o c chunk number) UnderWay AnyReply (λ reply. AllOver config sent greatest s.id) (AllOver config sent greatest s.id) (calls (client_begins s) c)
+    pub call_leaves : (c : Call) → Standing None None s.current → IsCalm s Open (λ o c chunk number. HasData config sent greatest s.id o c chunk number) UnderWay AnyReply (λ reply. AllOver G config sent greatest s.id) (AllOver G config sent greatest s.id) (calls (client_begins s) c)
     call_leaves c h =
-        call_calm s (CameAs sent s.id) Open (λ o c chunk number. HasData config sent greatest s.id o c chunk number) UnderWay (λ c chunk place. Open c) AnyReply (λ reply. AllOver config sent greatest s.id) (AllOver config sent greatest s.id) open_keeps open_ends
+        call_calm s (CameAs sent s.id) Open (λ o c chunk number. HasData config sent greatest s.id o c chunk number) UnderWay (λ c chunk place. Open c) AnyReply (λ reply. AllOver G config sent greatest s.id) (AllOver G config sent greatest s.id) open_keeps open_ends
         (λ c. Unit {0}) (λ c file index last asks first. new_open s.config.attempts 0 c file index last) (λ c name asks. new_open s.config.attempts (suc s.call_count) c 0 0 None) (λ reply. all) c tt
-        (begun_calm s (CameAs sent s.id) Open (λ o c chunk number. HasData config sent greatest s.id o c chunk number) UnderWay (λ c chunk place. Open c) AnyReply (λ reply. AllOver config sent greatest s.id) (AllOver config sent greatest s.id) open_keeps open_ends h)
+        (begun_calm s (CameAs sent s.id) Open (λ o c chunk number. HasData config sent greatest s.id o c chunk number) UnderWay (λ c chunk place. Open c) AnyReply (λ reply. AllOver G config sent greatest s.id) (AllOver G config sent greatest s.id) open_keeps open_ends h)
 
-    pub refusal_leaves : (reply : Answer) → IsCalm s Open (λ o c chunk number. HasData config sent greatest s.id o c chunk number) UnderWay AnyReply (λ reply. AllOver config sent greatest s.id) (AllOver config sent greatest s.id) (answers (client_begins s) reply)
+    pub refusal_leaves : (reply : Answer) → IsCalm s Open (λ o c chunk number. HasData config sent greatest s.id o c chunk number) UnderWay AnyReply (λ reply. AllOver G config sent greatest s.id) (AllOver G config sent greatest s.id) (answers (client_begins s) reply)
     refusal_leaves reply =
-        at_once_calm s (CameAs sent s.id) Open (λ o c chunk number. HasData config sent greatest s.id o c chunk number) UnderWay (λ c chunk place. Open c) AnyReply (λ reply. AllOver config sent greatest s.id) (AllOver config sent greatest s.id) open_keeps open_ends
+        at_once_calm s (CameAs sent s.id) Open (λ o c chunk number. HasData config sent greatest s.id o c chunk number) UnderWay (λ c chunk place. Open c) AnyReply (λ reply. AllOver G config sent greatest s.id) (AllOver G config sent greatest s.id) open_keeps open_ends
         (λ c. Unit {0}) (λ c file index last asks first. new_open s.config.attempts 0 c file index last) (λ c name asks. new_open s.config.attempts (suc s.call_count) c 0 0 None) (λ reply. all) reply

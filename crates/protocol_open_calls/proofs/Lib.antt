@@ -1,1 +1,2 @@
+pub mod GrantedRounds
 pub mod OpenEntries

@@ -1,4 +1,4 @@
--- A mutation that is numbered is of its client's open call, or its client left it behind; and so is each entry of an order.
+-- A mutation that is numbered is of its client's open call; and so is each entry of an order.
 use Rattle.std.proofs.Common.{◌≡◌, ℕ, suc, ◌≤◌, ◌<◌, List, [], ◌∷◌, ◌++◌, Option, Some, refl, sym, ap, subst, ◌∙◌, inl, inr, arith}
 use Rattle.std.specs.Prelude.{◌+◌, nat_le, max, IsTrue}
 use Rattle.std.specs.FinMap as table
@@ -14,8 +14,9 @@ use Rattle.messages.specs.declared.event.Event.{Event}
 use Rattle.messages.specs.declared.event.Input.{Input}
 use Rattle.messages.specs.declared.event.Input.TheVariants as input
 use Rattle.messages.specs.declared.message.Message.{Message}
+use Rattle.client_state.specs.declared.call.ToldChunk.{ToldChunk}
 use Rattle.primary_order.specs.declared.order.SerialOrder.{SerialOrder}
-use Rattle.protocol.specs.Sending.{data_id, handle_of, version_of}
+use Rattle.protocol.specs.Sending.{data_id, handle_of}
 use Rattle.protocol.specs.Choice.{Choice}
 use Rattle.protocol.specs.Observer.{Placed, calls_made, observed_moment}
 use Rattle.protocol.specs.Server.{ServerState}
@@ -26,27 +27,30 @@ use Rattle.protocol_laws.proofs.Steps.{none_some, same_or_not}
 use Rattle.protocol_laws.proofs.LeasesTold.{granting}
 use Rattle.protocol_attempts.proofs.Events.{holds_on}
 use Rattle.protocol_attempts.proofs.RequestsOnce.{requests_are_numbered_once}
-use Rattle.protocol_words.proofs.Histories.{IsGrown, steps_grown, after_both}
+use Rattle.protocol_words.proofs.Histories.{after_both}
 use Rattle.protocol_versions.specs.Laws.{IsLeaseOver}
 use Rattle.protocol_versions.proofs.EndedLeases.{over_leases_number_nothing}
 use Rattle.protocol_closed_versions.proofs.ClosedVersions.{clocks_before}
 use Rattle.protocol_rising_rounds.proofs.RisingRounds.{lower_leases_are_over, leased_granted}
 use Rattle.protocol_rising_rounds.proofs.SentGrants.{counted_one}
 use Rattle.protocol_few_attempts.specs.Laws.{WasAsked}
+use Rattle.protocol_entries.specs.Laws.{IsPushed}
 use Rattle.protocol_deadlines.specs.Laws.{Numbers, IsInTime}
 use Rattle.protocol_deadlines.proofs.Deadlines.{asks_for, asking, same_counted, attempts_are_placed_before_their_deadline, over_attempts_are_placed_no_more}
 use Rattle.protocol_numbered_once.proofs.KnownNumbers.{primary_there}
 use Rattle.protocol_chunk_orders.specs.Laws.{IsNumberedNow, WasNumbered}
 use Rattle.protocol_chunk_orders.proofs.Numbering.{entries_were_numbered}
-use Rattle.protocol_full_chunks.proofs.UsedNumbers.{Knows, known_not_new, one_target}
+use Rattle.protocol_full_chunks.proofs.UsedNumbers.{Asks, Knows, known_not_new, one_target}
+use Rattle.protocol_answered_attempts.specs.Laws.{IsAnswerTo}
 use Rattle.protocol_answered_attempts.proofs.LateAttempts.{Always}
 use Rattle.protocol_answered_attempts.proofs.AnsweredAttempts.{same_mutate, IsSpentUp, Asked, asked_law, not_both, answers_known, answered_attempts_are_placed_no_more}
 use Rattle.protocol_serials_once.proofs.SpentVersions.{IsSpent}
-use Rattle.protocol_open_calls.specs.Laws.{IsLeftBehind, EntriesAreOfOpenCalls, EntriesWereAskedForInTheirCall}
-use Rattle.protocol_open_attempts.specs.Laws.{AsksBy, WasPassed, IsOver}
+use Rattle.protocol_open_calls.specs.Laws.{EntriesAreOfOpenCalls, EntriesWereAskedForInTheirCall}
+use Rattle.protocol_open_attempts.specs.Laws.{AsksBy, WasPassed, IsOver, WasSentFor, IsOfOpenCall}
 use Rattle.protocol_open_attempts.proofs.OpenStages.{strictly}
-use Rattle.protocol_open_attempts.proofs.LaterCalls.{asks_later, answered_later}
 use Rattle.protocol_open_attempts.proofs.OpenCalls.{attempts_are_over_or_open}
+use Rattle.protocol_passed_attempts.proofs.PassedAttempts.{sent_asks, passed_attempts_have_no_lease}
+use Rattle.protocol_open_calls.proofs.GrantedRounds.{granted_from_one}
 
 -- settings stay
 pub config_stays : (config : Config) (w : WorldState) (steps : List (Event × Choice)) → w.config ≡ config → (after_events w steps).config ≡ config
@@ -138,45 +142,51 @@ module _ (config : Config) (servers clients : ℕ) (w : WorldState) (r : IsReach
           | inr apart ↦ not_over (lower_leases_are_over config servers clients w r clocks handle.0 version.0 higher.0 granted (higher_granted spent) (strictly version.0 higher.0 low apart))
         ]
 
-  by_passed : WasPassed w.sent id version timely.deadline → IsLeftBehind w.sent id handle version
-  by_passed p =
-      elim (same_or_not p.handle.0 handle.0) [
-        | inl same ↦ absurd (elim (answers_known config servers clients w r (p.answered.sent_is).0 p.answered.server p.answered.answer (p.answered.sent_is).1 p.answered.sender_is p.later p.answered.answers) [
-          | inl spent ↦ passed_not_numbered p.later p.higher p.end (subst (λ (h : Handle). AsksBy w.sent p.later h p.higher p.end) (ap (λ (n : ℕ). handle_of n) same) p.asks) p.same_client p.is_later p.not_lower p.not_earlier spent
-          | inr reads ↦ not_both config servers clients w r p.later (p.pushed).0 (p.pushed).1 reads
-        ])
-        | inr apart ↦ record {
-          later = p.later;
-          other = p.handle;
-          higher = p.higher;
-          deadline = p.end;
-          asks = p.asks;
-          answered = p.answered;
-          same_client = p.same_client;
-          is_later = p.is_later;
-          elsewhere = apart;
-          not_lower = p.not_lower;
-        }
+  -- what was passed at the same chunk
+  passed_here : {G : ℕ → ToldChunk → ℕ → Type 0} → (p : WasPassed G w.sent id version timely.deadline) → p.handle.0 ≡ handle.0 → ⊥
+  passed_here {G} p same =
+      elim (answers_known config servers clients w r (p.answered.sent_is).0 p.answered.server p.answered.answer (p.answered.sent_is).1 p.answered.sender_is p.later p.answered.answers) [
+        | inl spent ↦ passed_not_numbered p.later p.higher p.end (subst (λ (h : Handle). AsksBy w.sent p.later h p.higher p.end) (ap (λ (n : ℕ). handle_of n) same) p.asks) p.same_client p.is_later p.not_lower p.not_earlier spent
+        | inr reads ↦ not_both config servers clients w r p.later (p.pushed).0 (p.pushed).1 reads
       ]
 
-  -- what is over isn't numbered, unless it was left behind
-  by_over : IsOver w.sent config.skew_ms w.observer.greatest id version timely.deadline → IsLeftBehind w.sent id handle version
-  by_over over =
-      elim (over) [
-        | inl past ↦ absurd (over_attempts_are_placed_no_more config servers clients w r id
-            (record { asked = asks.asked; handle = handle; version = version; aim = asks.aim; deadline = timely.deadline; sent_is = asks.sent_is; sender_is = asks.sender_is; body_is = asks.body_is; past = past }) [] server moment kept s i choice handle version numbers)
-        | inr rest ↦ elim (rest) [
-          | inl answered ↦ absurd (answered_attempts_are_placed_no_more config servers clients w r (answered.sent_is).0 answered.server answered.answer (answered.sent_is).1 answered.sender_is id answered.answers [] server moment s i choice handle version numbers)
-          | inr passed ↦ by_passed passed
-        ]
-      ]
+-- or at another one, whose location was told after this one's
+module _ (config : Config) (servers clients : ℕ) (steps : List (Event × Choice)) (index : ℕ) (id : DataId) (handle : Handle) (version : Version) (deadline : Moment) (own : id.client.0 ≡ suc index)
+    (by : AsksBy (after_events (new_world config servers clients) steps).sent id handle version deadline) (kept : IsTrue (after_events (new_world config servers clients) steps).observer.are_clocks_kept)
+    (low : 1 ≤ version.0) (p : WasPassed (WasSentFor index (new_world config servers clients) steps) (after_events (new_world config servers clients) steps).sent id version deadline) where
+  same_data : data_id (suc index) id.seq ≡ id
+  same_data = ap (λ (n : ℕ). data_id n id.seq) (sym own)
+
+  same_later : data_id (suc index) p.later.seq ≡ p.later
+  same_later = ap (λ (n : ℕ). data_id n p.later.seq) (sym (ap (λ (c : ClientId). c.0) p.same_client ∙ own))
+
+  mine : (p.beside.chunk.handle ≡ handle) × (p.beside.chunk.round ≡ version)
+  mine =
+      one_target config servers clients (after_events (new_world config servers clients) steps) (steps, refl) id p.beside.chunk.handle handle p.beside.chunk.round version
+      (subst (λ (x : DataId). Asks (after_events (new_world config servers clients) steps).sent x p.beside.chunk.handle p.beside.chunk.round) same_data (sent_asks index (new_world config servers clients) steps p.beside.file p.beside.chunk id.seq p.beside.first_is))
+      (record { asked = by.asked; aim = by.aim; deadline = deadline; sent_is = by.sent_is; sender_is = by.sender_is; body_is = by.body_is })
+
+  theirs : (p.beside.other.handle ≡ p.handle) × (p.beside.other.round ≡ p.higher)
+  theirs =
+      one_target config servers clients (after_events (new_world config servers clients) steps) (steps, refl) p.later p.beside.other.handle p.handle p.beside.other.round p.higher
+      (subst (λ (x : DataId). Asks (after_events (new_world config servers clients) steps).sent x p.beside.other.handle p.beside.other.round) same_later (sent_asks index (new_world config servers clients) steps p.beside.file p.beside.other p.later.seq p.beside.later_is))
+      (record { asked = p.asks.asked; aim = p.asks.aim; deadline = p.end; sent_is = p.asks.sent_is; sender_is = p.asks.sender_is; body_is = p.asks.body_is })
+
+  passed_there : (p.handle.0 ≡ handle.0 → ⊥) → IsLeaseOver (after_events (new_world config servers clients) steps) handle.0 version.0
+  passed_there apart =
+      subst (λ (h : Handle). IsLeaseOver (after_events (new_world config servers clients) steps) h.0 version.0) mine.0
+      (subst (λ (v : Version). IsLeaseOver (after_events (new_world config servers clients) steps) p.beside.chunk.handle.0 v.0) mine.1
+      (passed_attempts_have_no_lease config servers clients steps kept index p.beside.file p.beside.chunk p.beside.other id.seq p.later.seq p.beside.first_is p.beside.later_is p.is_later p.beside.same_index
+      (λ same. apart (sym (ap (λ (h : Handle). h.0) theirs.0) ∙ (sym same ∙ ap (λ (h : Handle). h.0) mine.0)))
+      (subst (λ (v : Version). 1 ≤ v.0) (sym mine.1) low) (subst (λ (v : Version). 1 ≤ v.0) (sym theirs.1) (let higher = p.not_lower in omega (arith, low, higher)))
+      (p.answered.sent_is).0 p.answered.server p.answered.answer (p.answered.sent_is).1 p.answered.sender_is (subst (λ (x : DataId). IsAnswerTo x p.answered.answer) (sym same_later) p.answered.answers)
+      (p.pushed).0 (subst (λ (x : DataId). IsPushed (after_events (new_world config servers clients) steps).sent x (p.pushed).0) (sym same_later) (p.pushed).1)))
 
 pub entries_are_of_open_calls : EntriesAreOfOpenCalls
 entries_are_of_open_calls config servers clients steps server moment s i choice handle version id numbers kept index own =
-    elim (attempts_are_over_or_open config servers clients steps index id handle version (timely config servers clients w r settings server moment s i choice handle version id numbers kept).deadline own
-    (asks config servers clients w r settings server moment s i choice handle version id numbers kept)) [
-      | inl over ↦ inr (by_over config servers clients w r settings server moment s i choice handle version id numbers kept over)
-      | inr is_open ↦ inl is_open
+    elim (attempts_are_over_or_open config servers clients steps index id handle version until own by) [
+      | inl over ↦ absurd (by_over over)
+      | inr is_open ↦ is_open
     ]
   where
     w : WorldState
@@ -188,43 +198,46 @@ entries_are_of_open_calls config servers clients steps server moment s i choice 
     settings : w.config ≡ config
     settings = config_stays config (new_world config servers clients) steps refl
 
+    until : Moment
+    until = (timely config servers clients w r settings server moment s i choice handle version id numbers kept).deadline
+
+    by : AsksBy w.sent id handle version until
+    by = asks config servers clients w r settings server moment s i choice handle version id numbers kept
+
+    by_passed : WasPassed (WasSentFor index (new_world config servers clients) steps) w.sent id version until → ⊥
+    by_passed p =
+        elim (same_or_not p.handle.0 handle.0) [
+          | inl same ↦ passed_here config servers clients w r settings server moment s i choice handle version id numbers kept p same
+          | inr apart ↦ not_over config servers clients w r settings server moment s i choice handle version id numbers kept
+              (passed_there config servers clients steps index id handle version until own by (clocks config servers clients w r settings server moment s i choice handle version id numbers kept)
+              (granted_from_one config servers clients w r handle.0 version.0 (granted config servers clients w r settings server moment s i choice handle version id numbers kept)) p apart)
+        ]
+
+    -- what is over isn't numbered
+    by_over : IsOver (WasSentFor index (new_world config servers clients) steps) w.sent config.skew_ms w.observer.greatest id version until → ⊥
+    by_over over =
+        elim (over) [
+          | inl past ↦ over_attempts_are_placed_no_more config servers clients w r id
+              (record { asked = by.asked; handle = handle; version = version; aim = by.aim; deadline = until; sent_is = by.sent_is; sender_is = by.sender_is; body_is = by.body_is; past = past }) [] server moment kept s i choice handle version numbers
+          | inr rest ↦ elim (rest) [
+            | inl answered ↦ answered_attempts_are_placed_no_more config servers clients w r (answered.sent_is).0 answered.server answered.answer (answered.sent_is).1 answered.sender_is id answered.answers [] server moment s i choice handle version numbers
+            | inr passed ↦ by_passed passed
+          ]
+        ]
+
 -- entries
 
 asked_longer : (index : ℕ) (w : WorldState) (before more : List (Event × Choice)) (made : ℕ) (part : Option ℕ) (n : ℕ) → WasAsked index w before made part n → WasAsked index w (before ++ more) made part n
 asked_longer index w [] more made part n h = absurd h
 asked_longer index w (step ∷ rest) more made part n h = elim (h) [ inl now ↦ inl now | inr later ↦ inr (asked_longer index (happens w step.0 step.1).world rest more made part n later) ]
 
-left_later : (sent more : List Message) (id : DataId) (handle : Handle) (version : Version) → IsLeftBehind sent id handle version → IsLeftBehind (sent ++ more) id handle version
-left_later sent more id handle version h =
-    record {
-      later = h.later;
-      other = h.other;
-      higher = h.higher;
-      deadline = h.deadline;
-      asks = asks_later sent more h.later h.other h.higher h.deadline h.asks;
-      answered = answered_later sent more h.later h.answered;
-      same_client = h.same_client;
-      is_later = h.is_later;
-      elsewhere = h.elsewhere;
-      not_lower = h.not_lower;
-    }
-
 pub entries_were_asked_for_in_their_call : EntriesWereAskedForInTheirCall
-entries_were_asked_for_in_their_call config servers clients steps kept handle place p at index client =
-    elim (entries_are_of_open_calls config servers clients was.before now.index now.moment now.server now.input now.choice now.named now.version now.id now.numbers kept_now index own) [
-      | inl is_open ↦ inl (
-        is_open.part,
-        subst (λ (xs : List (Event × Choice)). WasAsked index start xs p.entry.call.number is_open.part p.seq) (sym was.steps_are)
-            (asked_longer index start was.before (was.step ∷ was.after) p.entry.call.number is_open.part p.seq
-            (subst (λ (n : ℕ). WasAsked index start was.before p.entry.call.number is_open.part n) (sym seq_is) (subst (λ (n : ℕ). WasAsked index start was.before n is_open.part (now.id).seq) (sym number_is) is_open.asked))),
-      )
-      | inr left ↦ inr (
-        now.named,
-        subst (λ (ms : List Message). IsLeftBehind ms (data_id (suc index) p.seq) now.named (version_of p.entry.round)) (sym grown.1)
-            (left_later v.sent grown.0 (data_id (suc index) p.seq) now.named (version_of p.entry.round)
-            (subst (λ (n : ℕ). IsLeftBehind v.sent (data_id (suc index) p.seq) now.named (version_of n)) (sym round_is) (subst (λ (x : DataId). IsLeftBehind v.sent x now.named now.version) data_is left))),
-      )
-    ]
+entries_were_asked_for_in_their_call config servers clients steps kept handle place p at index client = (
+  is_open.part,
+  subst (λ (xs : List (Event × Choice)). WasAsked index start xs p.entry.call.number is_open.part p.seq) (sym was.steps_are)
+      (asked_longer index start was.before (was.step ∷ was.after) p.entry.call.number is_open.part p.seq
+      (subst (λ (n : ℕ). WasAsked index start was.before p.entry.call.number is_open.part n) (sym seq_is) (subst (λ (n : ℕ). WasAsked index start was.before n is_open.part (now.id).seq) (sym number_is) is_open.asked))),
+)
   where
     start : WorldState
     start = new_world config servers clients
@@ -244,9 +257,6 @@ entries_were_asked_for_in_their_call config servers clients steps kept handle pl
     path : after_events start steps ≡ after_events v (was.step ∷ was.after)
     path = ap (λ (xs : List (Event × Choice)). after_events start xs) was.steps_are ∙ after_both start was.before (was.step ∷ was.after)
 
-    grown : IsGrown v.sent (after_events start steps).sent
-    grown = subst (λ (x : WorldState). IsGrown v.sent x.sent) (sym path) (steps_grown v (was.step ∷ was.after))
-
     kept_then : IsTrue (happens v (was.step).0 (was.step).1).world.observer.are_clocks_kept
     kept_then = clocks_before (happens v (was.step).0 (was.step).1).world was.after (subst (λ (x : WorldState). IsTrue x.observer.are_clocks_kept) path kept)
 
@@ -256,14 +266,11 @@ entries_were_asked_for_in_their_call config servers clients steps kept handle pl
     own : (now.id).client.0 ≡ suc index
     own = sym (ap (λ (q : Placed). q.entry.call.client) now.entry_is) ∙ client
 
+    is_open : IsOfOpenCall start was.before index (now.id).seq
+    is_open = entries_are_of_open_calls config servers clients was.before now.index now.moment now.server now.input now.choice now.named now.version now.id now.numbers kept_now index own
+
     number_is : p.entry.call.number ≡ calls_made v.observer.trace (suc index)
     number_is = ap (λ (q : Placed). q.entry.call.number) now.entry_is ∙ ap (λ (n : ℕ). calls_made v.observer.trace n) own
 
     seq_is : p.seq ≡ (now.id).seq
     seq_is = ap (λ (q : Placed). q.seq) now.entry_is
-
-    round_is : p.entry.round ≡ (now.version).0
-    round_is = ap (λ (q : Placed). q.entry.round) now.entry_is
-
-    data_is : now.id ≡ data_id (suc index) p.seq
-    data_is = ap (λ (n : ℕ). data_id n (now.id).seq) own ∙ ap (λ (n : ℕ). data_id (suc index) n) (sym seq_is)

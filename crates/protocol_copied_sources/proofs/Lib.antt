@@ -1,0 +1,4 @@
+pub mod UnaskedSteps
+pub mod FreeSources
+pub mod AskedSteps
+pub mod CopiedSources

@@ -1,0 +1,3 @@
+pub mod PlacesKept
+pub mod ToldAnswers
+pub mod ReplacedChunks
