@@ -1,6 +1,6 @@
 -- A mutation of a store.
-use Rattle.std.proofs.Common.{◌≡◌, ◌⊎◌, inl, inr, ℕ, ◌<◌, ◌≤◌, List, length, sym, ap, ◌∙◌, subst, arith, None, Some, Err}
-use Rattle.std.specs.Prelude.{◌↔◌, ◌≢◌, IsErrOf}
+use Rattle.std.proofs.Common.{◌≡◌, ◌⊎◌, ℕ, ◌<◌, ◌≤◌, List, length, sym, ap, ◌∙◌, subst, arith, Some}
+use Rattle.std.specs.Prelude.{◌↔◌}
 use Rattle.std.specs.FinMap as map
 use Rattle.gfs_types.specs.declared.ids.Handle.{Handle}
 use Rattle.gfs_types.specs.declared.ids.Serial.{Serial}
@@ -19,10 +19,8 @@ use Rattle.store_writes.specs.Writing.{LeavesWritten}
 use Rattle.stored_replicas.specs.Stored.{IsStored}
 use Rattle.store_changes.specs.Mutations.{bytes_of, change_of, place_of}
 use Rattle.chunk_store.specs.Stores.{IsOpen}
-use Rattle.chunk_store.specs.declared.fault.StoreFault.{StoreFault}
-use Rattle.chunk_store.specs.declared.fault.StoreFault.TheVariants as faults
 use Rattle.chunk_store.specs.declared.store.Store.{Store}
-use Rattle.stored_replicas.proofs.Looked.{no_row, one_row, order_of, order_stays}
+use Rattle.stored_replicas.proofs.Looked.{one_row, order_of, order_stays}
 use Rattle.chunk_store.proofs.StillOpen.{row_held, still_open}
 
 module _ {D : Type 0} (seen : D → List ℕ) (may_leave : D → List ℕ → Type 0) (moment : D → ℕ) (left_since : D → ℕ → List ℕ → Type 0) (store : Store D) (disk : D) (index : IndexState) where
@@ -62,9 +60,3 @@ pub serial_there : {D : Type 0} (seen : D → List ℕ) (may_leave : D → List 
     → map.get store.index.held h ≡ Some found → found.row.serial.0 < serial → (E → ⊥) → E ↔ (row : Row) × (row_at d h ≡ Some row) × (row.version ≡ version) × (serial ≤ row.serial.0)
 serial_there seen may_leave store d is h found version serial there new other =
     (λ e. absurd (other e), λ p. (let one = ap (λ (r : Row). r.serial.0) (one_row (row_at d h) p.0 found.row p.1 (row_held seen may_leave store d is h found there)) in absurd (omega (arith, one, p.3, new))))
-
--- a replica of that version is there, so it is found
-pub no_such : {T : Type 0} (o : Row) (d : ServerDisk) (h : ℕ) (version : Version) (fault : StoreFault) → (fault ≡ faults.NoChunk) ⊎ (fault ≡ faults.Version) → (IsErrOf {T = T} (Err fault) faults.NoChunk → row_at d h ≡ None)
-    → (IsErrOf {T = T} (Err fault) faults.Version → (row : Row) × (row_at d h ≡ Some row) × (row.version ≢ version)) → row_at d h ≡ Some o → o.version ≡ version → ⊥
-no_such o d h version fault (inl none) chunk other at is = no_row (row_at d h) o (chunk (ap (λ (x : StoreFault). Err x) none)) at
-no_such o d h version fault (inr wrong) chunk other at is = let p = other (ap (λ (x : StoreFault). Err x) wrong) in p.2 (ap (λ (r : Row). r.version) (one_row (row_at d h) p.0 o p.1 at) ∙ is)

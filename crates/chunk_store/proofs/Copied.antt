@@ -1,43 +1,28 @@
 -- A copy of a replica: its bytes are read, and stored under another handle.
-use Rattle.std.proofs.Common.{◌≡◌, ◌⊎◌, inl, inr, ℕ, ◌≤◌, List, length, sym, ap, ◌∙◌, subst, arith, Option, Some}
+use Rattle.std.proofs.Common.{◌≡◌, ◌⊎◌, inl, inr, ℕ, ◌≤◌, List, length, sym, subst, arith, Some}
 use Rattle.std.specs.FinMap as map
 use Rattle.gated_disk.specs.Moments.{OnlyReads}
 use Rattle.gated_disk.proofs.Moments.{joined, weaker}
-use Rattle.gfs_types.specs.declared.ids.Handle.{Handle}
-use Rattle.gfs_types.specs.declared.ids.Version.{Version}
 use Rattle.redo_area.specs.Redo.{StandsOnly, stands_for}
 use Rattle.redo_area.specs.declared.range.RedoArea.{RedoArea}
-use Rattle.replica_blocks.proofs.Others.{length_others}
 use Rattle.replica_store.specs.declared.change.StoreChange.{StoreChange}
-use Rattle.replica_store.specs.declared.change.StoreChange.TheVariants.{Copy, Put}
-use Rattle.replica_store.specs.Replicas.{Replica, ServerDisk, bytes_on_disk, disk_changed, replica_becomes, replica_of, row_of, stored_replica}
+use Rattle.replica_store.specs.Replicas.{ServerDisk, disk_changed, replica_of}
 use Rattle.slot_index.specs.declared.held.HeldReplica.{HeldReplica}
 use Rattle.store_changes.specs.Areas.{area_of}
 use Rattle.store_changes.specs.Changing.{Says}
 use Rattle.stored_replicas.specs.Stored.{IsDiskOf, IsStored}
 use Rattle.store_reads.specs.Images.{image_at}
-use Rattle.store_reads.proofs.Imaged.{image_bytes}
+use Rattle.store_reads.proofs.Imaged.{image_length}
 use Rattle.chunk_store.specs.Stores.{IsOpen, LeavesChange}
 use Rattle.chunk_store.specs.declared.store.Store.{Store}
 use Rattle.chunk_store.proofs.StillOpen.{held_within, row_held, says_open}
 
--- Putting the bytes that were read under the other handle is the copy.
-pub put_copies : (d : ServerDisk) (h copy : Handle) (version : Version) (bytes : List ℕ) → Some bytes ≡ image_at d h.0 → disk_changed d (Put copy version (record { 0 = 0 }) bytes) ≡ disk_changed d (Copy h copy version)
-put_copies d h copy version bytes read =
-    let its = image_bytes d.block (replica_of d h.0) bytes read in
-    ap (λ (l : List ℕ). disk_changed d (Put copy version (record { 0 = 0 }) l)) its.2
-    ∙ sym (ap (λ (o : Option Replica). replica_becomes (λ r. stored_replica version.0 0 (bytes_on_disk r)) d copy.0 o) its.1)
-
 module _ {D : Type 0} (seen : D → List ℕ) (may_leave : D → List ℕ → Type 0) (store : Store D) (d : ServerDisk) (is : IsOpen seen may_leave store d) where
-  -- they fit a chunk
+  -- the bytes that were read fit a chunk
   pub image_fits : (h : ℕ) (found : HeldReplica) → map.get store.index.held h ≡ Some found → (bytes : List ℕ) → Some bytes ≡ image_at d h → length bytes ≤ store.layout.chunk
   image_fits h found there bytes read =
-      let its = image_bytes d.block (replica_of d h) bytes read in
-      let r = its.0 in
-      let long : length bytes ≡ length r.bytes = ap length its.2 ∙ length_others (map.entries r.changed) r.bytes in
-      let row : row_of (Some r) ≡ Some found.row = sym (ap row_of its.1) ∙ row_held seen may_leave store d is h found there in
-      let count : length r.bytes ≡ found.row.count = cc in
-      omega (arith, long, count, (held_within seen may_leave store d is h found there).1)
+      let long = image_length d.block (replica_of d h) bytes found.row read (row_held seen may_leave store d is h found there) in
+      omega (arith, long, (held_within seen may_leave store d is h found there).1)
 
   module _ (moment : D → ℕ) (left_since : D → ℕ → List ℕ → Type 0) (mid : Store D) (reads : OnlyReads seen may_leave moment left_since store.disk mid.disk) (change : StoreChange) where
     abbrev Either : StoreChange → ServerDisk → List ℕ → Type 0

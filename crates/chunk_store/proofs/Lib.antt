@@ -1,4 +1,3 @@
-pub mod Answered
 pub mod Applied
 pub mod Copied
 pub mod StillOpen

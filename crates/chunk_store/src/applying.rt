@@ -4,18 +4,17 @@ ghost use Rattle.std.specs.Prelude.{◌≡◌, ◌≢◌, ◌≤◌, ◌+◌, �
 ghost use Rattle.replica_store.specs.declared.row.Row.{Row};
 ghost use Rattle.replica_store.specs.Replicas.{ServerDisk, disk_changed, is_writable_at, row_at};
 ghost use Rattle.store_writes.specs.Writing.{IsNoticedAt, LeavesWritten};
-ghost use Rattle.chunk_store.specs.Faults.{IsRefused, MayFail};
+ghost use Rattle.store_changes.specs.Faults.{IsRefused, MayFail};
 ghost use Rattle.store_changes.specs.Mutations.{bytes_of as bytes_value, change_of, place_of as place_value};
 ghost use Rattle.chunk_store.specs.Stores.{IsOpen};
-ghost use Rattle.chunk_store.specs.declared.fault.StoreFault.TheVariants as faults;
+ghost use Rattle.store_changes.specs.declared.fault.StoreFault.TheVariants as faults;
 
-use crate::fault::StoreFault;
 use crate::store::Store;
 use disk::Disk;
 use gfs_types::ids::{Handle, Serial, Version};
 use gfs_types::mutation::Mutation;
 use std::alloc::Global;
-use store_changes::{bytes_of, place_of};
+use store_changes::{StoreFault, bytes_of, place_of};
 use store_writes::write;
 
 impl<D: Disk> Store<D> {

@@ -4,16 +4,15 @@ ghost use Rattle.std.specs.Prelude.{◌≡◌, ◌≢◌, ◌↔◌, OnOk, IsErr
 ghost use Rattle.replica_store.specs.declared.change.StoreChange.TheVariants.{Raise, Remove, SetOrder};
 ghost use Rattle.replica_store.specs.declared.row.Row.{Row};
 ghost use Rattle.replica_store.specs.Replicas.{ServerDisk, disk_changed, row_at};
-ghost use Rattle.chunk_store.specs.Faults.{IsRefused, MayFail};
+ghost use Rattle.store_changes.specs.Faults.{IsRefused, MayFail};
 ghost use Rattle.chunk_store.specs.Stores.{IsOpen, LeavesChange};
-ghost use Rattle.chunk_store.specs.declared.fault.StoreFault.TheVariants as faults;
+ghost use Rattle.store_changes.specs.declared.fault.StoreFault.TheVariants as faults;
 
-use crate::fault::StoreFault;
 use crate::store::Store;
 use disk::Disk;
 use gfs_types::ids::{Handle, OrderNo, Version};
 use std::alloc::Global;
-use store_changes::{raise, remove, set_order};
+use store_changes::{StoreFault, raise, remove, set_order};
 
 impl<D: Disk> Store<D> {
     /// Keeps the number of the last order that was taken.

@@ -4,16 +4,16 @@ ghost use Rattle.std.specs.Prelude.{◌≡◌, ◌≢◌, ◌⊎◌, ◌↔◌, 
 ghost use Rattle.replica_store.specs.declared.change.StoreChange.TheVariants.{Copy};
 ghost use Rattle.replica_store.specs.declared.row.Row.{Row};
 ghost use Rattle.replica_store.specs.Replicas.{ServerDisk, disk_changed, is_disk_full, row_at};
-ghost use Rattle.chunk_store.specs.Faults.{IsRefused, MayFail};
+ghost use Rattle.store_changes.specs.Faults.{IsRefused, MayFail};
 ghost use Rattle.store_reads.specs.Images.{image_at};
 ghost use Rattle.chunk_store.specs.Stores.{IsOpen, LeavesChange};
-ghost use Rattle.chunk_store.specs.declared.fault.StoreFault.TheVariants as faults;
+ghost use Rattle.store_changes.specs.declared.fault.StoreFault.TheVariants as faults;
 
-use crate::fault::StoreFault;
 use crate::store::Store;
 use disk::Disk;
 use gfs_types::ids::{Handle, Serial, Version};
 use std::alloc::Global;
+use store_changes::StoreFault;
 
 impl<D: Disk> Store<D> {
     /// Stores a new replica with all bytes of one of exactly this version, in the lowest free slot. Nothing is copied where one of its blocks doesn't match its digest.

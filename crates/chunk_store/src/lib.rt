@@ -5,13 +5,12 @@ mod applying;
 mod changing;
 mod copying;
 mod creating;
-mod fault;
 mod looking;
 mod opening;
 mod reading;
 mod rotting;
 mod store;
 
-pub use fault::StoreFault;
 pub use opening::open;
 pub use store::Store;
+pub use store_changes::StoreFault;

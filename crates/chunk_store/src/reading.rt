@@ -4,17 +4,17 @@ ghost use Rattle.std.specs.Prelude.{◌≡◌, ◌≢◌, ◌↔◌, IfOk, IsErr
 ghost use Rattle.gated_disk.specs.Moments.{OnlyReads};
 ghost use Rattle.replica_store.specs.declared.row.Row.{Row};
 ghost use Rattle.replica_store.specs.Replicas.{ServerDisk, read_at, row_at};
-ghost use Rattle.chunk_store.specs.Faults.{MayFail};
+ghost use Rattle.store_changes.specs.Faults.{MayFail};
 ghost use Rattle.store_reads.specs.Images.{image_at};
 ghost use Rattle.chunk_store.specs.Stores.{IsOpen};
-ghost use Rattle.chunk_store.specs.declared.fault.StoreFault.TheVariants as faults;
+ghost use Rattle.store_changes.specs.declared.fault.StoreFault.TheVariants as faults;
 
-use crate::fault::StoreFault;
 use crate::store::Store;
 use bytes::Bytes;
 use disk::Disk;
 use gfs_types::ids::{Handle, Version};
 use std::alloc::Global;
+use store_changes::StoreFault;
 use store_reads::read_replica;
 
 impl<D: Disk> Store<D> {

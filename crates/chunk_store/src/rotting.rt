@@ -3,15 +3,15 @@
 ghost use Rattle.std.specs.Prelude.{◌≡◌, ◌<◌, ◌↔◌, OnOk, IsErrOf, None};
 ghost use Rattle.replica_store.specs.Replicas.{ServerDisk, row_at};
 ghost use Rattle.store_writes.specs.Rotting.{LeavesRotten, disk_rotten};
-ghost use Rattle.chunk_store.specs.Faults.{IsRefused, MayFail};
+ghost use Rattle.store_changes.specs.Faults.{IsRefused, MayFail};
 ghost use Rattle.chunk_store.specs.Stores.{IsOpen};
-ghost use Rattle.chunk_store.specs.declared.fault.StoreFault.TheVariants as faults;
+ghost use Rattle.store_changes.specs.declared.fault.StoreFault.TheVariants as faults;
 
-use crate::fault::StoreFault;
 use crate::store::Store;
 use disk::Disk;
 use gfs_types::ids::Handle;
 use std::alloc::Global;
+use store_changes::StoreFault;
 use store_writes::rot;
 
 impl<D: Disk> Store<D> {

@@ -18,7 +18,13 @@ pub(crate) const SIZE: usize = 960;
 /// How many steps there are before the mutation.
 pub(crate) const STEPS: usize = 7;
 
-pub(crate) type Rows = Vec<(Handle, Row)>;
+/// How many replicas are listed, and the first two of them.
+#[derive(Clone, Copy, PartialEq, Eq)]
+pub(crate) struct Listing {
+    count: usize,
+    first: Option<(Handle, Row)>,
+    second: Option<(Handle, Row)>,
+}
 
 pub(crate) fn layout() -> Layout
     ensures chunk { result.chunk ≡ 64 }
@@ -106,12 +112,23 @@ pub(crate) fn run<D: Disk + Drop>(disk: D, alloc: Global, steps: usize) -> (D, u
     }
 }
 
+fn list_replicas<D: Disk>(store: &Store<D>, alloc: Global) -> Option<Listing> {
+    match store.list(alloc) {
+        Ok(rows) => Some(Listing {
+            count: rows.len(),
+            first: rows.first().copied(),
+            second: rows.get(1).copied(),
+        }),
+        Err(_) => None,
+    }
+}
+
 /// Opens a store, and lists its replicas.
-pub(crate) fn listed<D: Disk + Drop>(disk: D, alloc: Global) -> (D, Option<Rows>) {
+pub(crate) fn listed<D: Disk + Drop>(disk: D, alloc: Global) -> (D, Option<Listing>) {
     match open(disk, alloc, layout()) {
         Ok(store) => {
-            let rows = store.list(alloc).ok();
-            (store.into_disk(), rows)
+            let found = list_replicas(&store, alloc);
+            (store.into_disk(), found)
         }
         Err((disk, _fault)) => (disk, None),
     }

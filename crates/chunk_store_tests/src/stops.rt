@@ -3,7 +3,7 @@
 ghost use Rattle.std.specs.Prelude.{◌≡◌, false, IfOk};
 ghost use Rattle.store_format.specs.Formats.{is_head_open};
 
-use crate::calls::{Rows, STEPS, fused, listed, run};
+use crate::calls::{Listing, STEPS, fused, listed, run};
 use disk::{Disk, FuseDisk};
 use gfs_types::torn::Torn;
 use std::alloc::{AllocError, Global};
@@ -22,83 +22,62 @@ const CALLS: u64 = 160;
 
 const OPENING_CALLS: u64 = 24;
 
-// What is listed after each number of steps; none where memory was refused.
-fn all_states(alloc: Global) -> Option<Vec<Rows>> {
-    let mut states = Vec::new(alloc);
-    for steps in 0..STEPS + 2 {
-        let (disk, done) = run(fused(alloc, 1_000).ok()?, alloc, steps);
-        let (_disk, rows) = listed(disk, alloc);
-        if done != steps {
-            return None;
-        }
-        states.push(rows?).ok()?;
-    }
-    Some(states)
-}
+// One for each number of steps, with the mutation and without.
+const STATES: usize = 9;
 
-fn states_again(alloc: Global) -> Result<Vec<Rows>, Fail> {
-    let states = match all_states(alloc) {
-        Some(states) => Some(states),
-        None => all_states(alloc),
+type States = [Option<Listing>; STATES];
+
+// What is listed after so many steps; none where memory was refused.
+fn state_after(alloc: Global, steps: usize) -> Option<Listing> {
+    let Ok(disk) = fused(alloc, 1_000) else {
+        return None;
     };
-    match states {
-        Some(states) => Ok(states),
-        None => Err(Fail::from("the steps are done, and it opens")),
-    }
+    let (disk, done) = run(disk, alloc, steps);
+    let (_disk, found) = listed(disk, alloc);
+    if done == steps { found } else { None }
 }
 
-fn is_state(states: &[Rows], number: usize, rows: &Rows) -> bool {
-    match states.get(number) {
-        Some(state) => state == rows,
-        None => false,
+// What is listed after each number of steps. Where memory is refused it is tried once more.
+fn all_states(alloc: Global) -> States {
+    let mut states = [None; STATES];
+    for (steps, state) in states.iter_mut().enumerate() {
+        *state = state_after(alloc, steps);
+        if state.is_none() {
+            *state = state_after(alloc, steps);
+        }
     }
-}
-
-// The steps, a stop, an opening that stops, and what is listed then; and how many steps were done.
-fn stopped_twice(
-    alloc: Global,
-    calls: u64,
-    more: u64,
-    torn: Torn,
-) -> Result<(usize, Option<Rows>), Fail> {
-    let (disk, done) = run(fused(alloc, calls)?, alloc, STEPS + 1);
-    let mut second = FuseDisk::new(disk.stop(torn));
-    second.arm(more);
-    let (stopped, _rows) = listed(second, alloc);
-    let (_disk, rows) = listed(stopped.stop(torn), alloc);
-    Ok((done, rows))
+    states
 }
 
 // Whether the disk says what it said after so many steps, or one more.
-fn are_after(states: &[Rows], done: usize, rows: Option<Rows>) -> bool {
-    match rows {
-        Some(rows) => is_state(states, done, &rows)
-            || is_state(states, done.saturating_add(1), &rows),
-        None => false,
+fn are_after(states: &States, done: usize, found: Option<Listing>) -> bool {
+    if found.is_none() || done >= STATES - 1 {
+        return found.is_some() && found == states[STATES - 1];
     }
+    found == states[done] || found == states[done + 1]
 }
 
-// Whether the disk says what it said before the step under way, or after it.
-fn is_kept(
-    alloc: Global,
-    states: &[Rows],
-    calls: u64,
-    more: u64,
-    torn: Torn,
-) -> Result<(usize, bool), Fail> {
-    let (done, rows) = stopped_twice(alloc, calls, more, torn)?;
-    Ok((done, are_after(states, done, rows)))
+// The steps on a disk that stops, an opening that stops, and what is listed then; and how many steps were done.
+fn stopped_twice(disk: FuseDisk, alloc: Global, more: u64, torn: Torn) -> (usize, Option<Listing>)
+    requires { is_head_open disk.disk.bytes ≡ false }
+{
+    let (disk, done) = run(disk, alloc, STEPS + 1);
+    let mut second = FuseDisk::new(disk.stop(torn));
+    second.arm(more);
+    let (stopped, _found) = listed(second, alloc);
+    let (_disk, found) = listed(stopped.stop(torn), alloc);
+    (done, found)
 }
 
 #[test]
 fn each_step_is_done_or_not(rt: HostRuntime) -> Result<(), Fail> {
     let alloc = rt.alloc();
-    let states = states_again(alloc)?;
+    let states = all_states(alloc);
     let mut all = 0;
     for calls in 0..CALLS {
         for torn in WAYS {
-            let (done, kept) = is_kept(alloc, &states, calls, 1_000, torn)?;
-            assert!(rt; kept);
+            let (done, found) = stopped_twice(fused(alloc, calls)?, alloc, 1_000, torn);
+            assert!(rt; are_after(&states, done, found));
             all = done;
         }
     }
@@ -109,11 +88,11 @@ fn each_step_is_done_or_not(rt: HostRuntime) -> Result<(), Fail> {
 #[test]
 fn an_opening_that_stopped_is_done_again(rt: HostRuntime) -> Result<(), Fail> {
     let alloc = rt.alloc();
-    let states = states_again(alloc)?;
+    let states = all_states(alloc);
     for calls in 0..CALLS {
         for more in 0..OPENING_CALLS {
-            let (_done, kept) = is_kept(alloc, &states, calls, more, Torn::Byte(1))?;
-            assert!(rt; kept);
+            let (done, found) = stopped_twice(fused(alloc, calls)?, alloc, more, Torn::Byte(1));
+            assert!(rt; are_after(&states, done, found));
         }
     }
     Ok(())
@@ -129,20 +108,23 @@ fn fused_again(alloc: Global) -> Result<FuseDisk, AllocError>
     }
 }
 
+// What is listed. Where memory is refused it is asked for once more.
+fn listed_again(disk: FuseDisk, alloc: Global) -> Option<Listing> {
+    let (disk, first) = listed(disk, alloc);
+    if first.is_some() {
+        return first;
+    }
+    let (_disk, second) = listed(disk, alloc);
+    second
+}
+
 // `tools/refused` refuses each allocation in turn.
 #[test]
 fn a_refused_allocation_leaves_a_state(rt: HostRuntime) -> Result<(), Fail> {
     let alloc = rt.alloc();
-    let states = states_again(alloc)?;
+    let states = all_states(alloc);
     let (disk, done) = run(fused_again(alloc)?, alloc, STEPS + 1);
-    let (disk, first) = listed(disk, alloc);
-    let rows = match first {
-        Some(rows) => Some(rows),
-        None => {
-            let (_disk, second) = listed(disk, alloc);
-            second
-        }
-    };
-    assert!(rt; are_after(&states, done, rows));
+    let found = listed_again(disk, alloc);
+    assert!(rt; are_after(&states, done, found));
     Ok(())
 }

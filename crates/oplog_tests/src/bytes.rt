@@ -1,7 +1,7 @@
 //! The bytes of a log's disk.
 
-use crate::calls::{SIZE, append, create, find};
-use disk::{Disk, DiskFault, MemDisk};
+use crate::calls::{SIZE, append, create};
+use disk::{Disk, MemDisk};
 use log_disk::read_range;
 use log_records::record::Record;
 use oplog::LogFault;
@@ -24,51 +24,59 @@ const CREATE: [u8; 34] = [
 ];
 
 // Whether these bytes stand on the disk at this place.
-fn holds(
-    disk: &mut MemDisk,
-    alloc: Global,
-    place: usize,
-    wanted: &[u8],
-) -> Result<bool, DiskFault> {
+fn holds<D: Disk>(disk: &mut D, alloc: Global, place: usize, wanted: &[u8]) -> bool {
     let size = disk.size();
     if place > size || wanted.len() > size - place {
-        return Ok(false);
+        return false;
     }
-    let bytes = read_range(disk, alloc, place, wanted.len())?;
-    Ok(bytes.as_slice() == wanted)
+    match read_range(disk, alloc, place, wanted.len()) {
+        Ok(bytes) => bytes.as_slice() == wanted,
+        Err(_) => false,
+    }
+}
+
+// Whether Epoch 1 and the Create stand there, with the closed gate after them, and nothing in the second area.
+fn are_in_place<D: Disk>(disk: &mut D, alloc: Global) -> bool {
+    holds(disk, alloc, 0, &HEAD)
+        && holds(disk, alloc, 16, &AREA)
+        && holds(disk, alloc, 29, &EPOCH)
+        && holds(disk, alloc, 43, &CREATE)
+        && holds(disk, alloc, 77, &[0])
+        && holds(disk, alloc, 2_048, &[0])
+}
+
+// Whether a new disk has both records in their places, once each was appended.
+fn are_appended(alloc: Global, record: &Record) -> bool {
+    let Ok(disk) = MemDisk::new(alloc, SIZE) else {
+        return false;
+    };
+    let (disk, first) = append(disk, alloc, &Record::Epoch { epoch: 1 });
+    let (mut disk, second) = append(disk, alloc, record);
+    first.found == 0 && second.found == 1 && are_in_place(&mut disk, alloc)
+}
+
+// How many records there are once an append is Full; None where another fault comes, or none in a hundred appends.
+fn filled(alloc: Global, record: &Record) -> Option<usize> {
+    let Ok(new) = MemDisk::new(alloc, SIZE) else {
+        return None;
+    };
+    let mut disk = new;
+    for _ in 0..100 {
+        let (next, ran) = append(disk, alloc, record);
+        match ran.fault {
+            None => disk = next,
+            Some(LogFault::Full) => return Some(ran.found),
+            Some(_) => return None,
+        }
+    }
+    None
 }
 
 #[test]
-fn each_part_has_its_place(rt: HostRuntime) -> Result<(), Fail> {
-    let alloc = rt.alloc();
-    let epoch = Record::Epoch { epoch: 1 };
-    let first = append(MemDisk::new(alloc, SIZE)?, alloc, &epoch);
-    let second = append(first.disk, alloc, &create(alloc)?);
-    assert_eq!(rt; second.found, 1);
-    let mut disk = second.disk;
-    assert!(rt; holds(&mut disk, alloc, 0, &HEAD)?);
-    assert!(rt; holds(&mut disk, alloc, 16, &AREA)?);
-    assert!(rt; holds(&mut disk, alloc, 29, &EPOCH)?);
-    assert!(rt; holds(&mut disk, alloc, 43, &CREATE)?);
-    // The closed gate after the last record, and nothing in the second area.
-    assert!(rt; holds(&mut disk, alloc, 77, &[0])?);
-    assert!(rt; holds(&mut disk, alloc, 2_048, &[0])?);
-    Ok(())
-}
-
-#[test]
-fn fifty_nine_creates_fit(rt: HostRuntime) -> Result<(), Fail> {
+fn records_lie_in_their_places(rt: HostRuntime) -> Result<(), Fail> {
     let alloc = rt.alloc();
     let record = create(alloc)?;
-    let mut disk = MemDisk::new(alloc, SIZE)?;
-    for count in 0..59 {
-        let ran = append(disk, alloc, &record);
-        assert_eq!(rt; ran.found, count);
-        assert!(rt; ran.fault.is_none());
-        disk = ran.disk;
-    }
-    let full = append(disk, alloc, &record);
-    assert!(rt; full.fault == Some(LogFault::Full));
-    assert_eq!(rt; find(full.disk, alloc).found, 59);
+    assert!(rt; are_appended(alloc, &record));
+    assert!(rt; filled(alloc, &record) == Some(59), "so many Creates fit");
     Ok(())
 }

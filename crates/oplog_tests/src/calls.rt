@@ -1,5 +1,7 @@
 //! Calls of a log on a disk of 4,096 bytes, each of which opens it.
 
+ghost use Rattle.std.specs.Prelude.{◌≡◌};
+
 use disk::Disk;
 use gfs_types::ids::{ClientId, FileId};
 use gfs_types::lists::Text;
@@ -7,8 +9,8 @@ use gfs_types::no_memory::NoMemory;
 use gfs_types::torn::Torn;
 use log_codec::{is_item, is_writable};
 use log_records::record::Record;
-use oplog::LogFault;
-use oplog_opening::open;
+use oplog::{Log, LogFault};
+use oplog_opening::{Opened, open};
 use std::alloc::Global;
 
 pub(crate) const SIZE: usize = 4_096;
@@ -22,11 +24,9 @@ pub(crate) const WAYS: [Torn; 5] = [
     Torn::Byte(7),
 ];
 
-/// What a call came to.
-#[derive(Drop)]
-pub(crate) struct Ran<D: Disk> {
-    pub(crate) disk: D,
-    /// How many items and records the log had when it was opened.
+/// What a call came to: how many items and records the log had when it was opened, and the fault.
+#[derive(Clone, Copy, PartialEq, Eq)]
+pub(crate) struct Ran {
     pub(crate) found: usize,
     pub(crate) fault: Option<LogFault>,
 }
@@ -41,44 +41,46 @@ pub(crate) fn create(alloc: Global) -> Result<Record, NoMemory> {
     })
 }
 
-fn failed<D: Disk>(disk: D, fault: LogFault) -> Ran<D> {
+fn failed(fault: LogFault) -> Ran {
     Ran {
-        disk,
         found: 0,
         fault: Some(fault),
     }
 }
 
+// The log, and how many items and records it has.
+fn counted<D: Disk>(opened: Opened<D>) -> (Log<D>, usize)
+    ensures { result.0 ≡ opened.log }
+{
+    let count = opened.items.len().saturating_add(opened.records.len());
+    (opened.log, count)
+}
+
 /// Opens the log.
-pub(crate) fn find<D: Disk + Drop>(disk: D, alloc: Global) -> Ran<D> {
+pub(crate) fn find<D: Disk + Drop>(disk: D, alloc: Global) -> (D, Ran) {
     if disk.size() != SIZE {
-        return failed(disk, LogFault::Damaged);
+        return (disk, failed(LogFault::Damaged));
     }
     match open(disk, alloc) {
-        Ok(opened) => Ran {
-            disk: opened.log.into_disk(),
-            found: opened.items.len().saturating_add(opened.records.len()),
-            fault: None,
-        },
-        Err((disk, fault)) => failed(disk, fault),
+        Ok(opened) => {
+            let (log, found) = counted(opened);
+            (log.into_disk(), Ran { found, fault: None })
+        }
+        Err((disk, fault)) => (disk, failed(fault)),
     }
 }
 
 /// Opens the log, and appends a record.
-pub(crate) fn append<D: Disk + Drop>(disk: D, alloc: Global, record: &Record) -> Ran<D> {
+pub(crate) fn append<D: Disk + Drop>(disk: D, alloc: Global, record: &Record) -> (D, Ran) {
     if disk.size() != SIZE || !is_writable(record) || is_item(record) {
-        return failed(disk, LogFault::Damaged);
+        return (disk, failed(LogFault::Damaged));
     }
     match open(disk, alloc) {
         Ok(opened) => {
-            let mut log = opened.log;
+            let (mut log, found) = counted(opened);
             let fault = log.append(alloc, record).err();
-            Ran {
-                disk: log.into_disk(),
-                found: opened.items.len().saturating_add(opened.records.len()),
-                fault,
-            }
+            (log.into_disk(), Ran { found, fault })
         }
-        Err((disk, fault)) => failed(disk, fault),
+        Err((disk, fault)) => (disk, failed(fault)),
     }
 }

@@ -1,10 +1,11 @@
 //! The master's log, whose disk stops and begins again.
 
-ghost use Rattle.std.specs.Prelude.{◌≡◌, [], IfOk, OnOk};
+ghost use Rattle.std.specs.Prelude.{◌≡◌, [], IfOk, IfSome};
 
 use crate::calls::{SIZE, WAYS, create};
 use disk::Disk;
-use operation_log::log::OperationLog;
+use gfs_types::torn::Torn;
+use log_records::record::Record;
 use std::alloc::Global;
 use std::test::Fail;
 use stored_log::disk_log::DiskLog;
@@ -14,46 +15,61 @@ use stored_log::stoppable::StoppableLog;
 // An append takes 4 calls of the disk, and an opening 5.
 const CALLS: u64 = 6;
 
-fn new_log(alloc: Global) -> Result<DiskLog<NodeDisk>, Fail>
-    ensures decided { IfOk result (λ l. l.under_way ≡ []) }
+// An append that stops, once more, and a stop within the opening after it. Whether each record is there or not, as the appends answered.
+fn is_kept<L: StoppableLog>(log: &mut L, record: &Record, calls: u64, torn: Torn) -> bool
+    requires { L.under_way log.old ≡ [] }
 {
-    let disk = NodeDisk::new(alloc, SIZE)?;
-    if disk.size() != SIZE {
-        return Err(Fail::from("it has this size"));
+    log.stop_after(calls, torn);
+    let done = log.append(record).is_ok();
+    if log.reopen().is_err() {
+        return false;
     }
-    match DiskLog::new(disk, alloc) {
-        Ok(log) => Ok(log),
-        Err(_) => Err(Fail::from("it is made")),
+    let found = log.len();
+    if found > 1 || (found == 0 && done) || log.append(record).is_err() {
+        return false;
+    }
+    log.stop_after_restart(calls, torn);
+    let _ = log.reopen();
+    log.reopen().is_ok() && log.len() == found.saturating_add(1)
+}
+
+fn new_log(alloc: Global) -> Option<DiskLog<NodeDisk>>
+    ensures decided { IfSome result (λ l. l.under_way ≡ []) }
+{
+    let Ok(disk) = NodeDisk::new(alloc, SIZE) else {
+        return None;
+    };
+    if disk.size() != SIZE {
+        return None;
+    }
+    DiskLog::new(disk, alloc).ok()
+}
+
+fn is_kept_in_new_log(alloc: Global, record: &Record, calls: u64, torn: Torn) -> bool {
+    match new_log(alloc) {
+        Some(log) => {
+            let mut log = log;
+            is_kept(&mut log, record, calls, torn)
+        }
+        None => false,
     }
 }
 
-// How many records there are once the log was opened again.
-fn opened(log: &mut DiskLog<NodeDisk>) -> Result<u64, Fail>
-    ensures decided { OnOk result (log.new.under_way ≡ []) }
-{
-    if log.reopen().is_err() {
-        return Err(Fail::from("it opens"));
+fn are_all_kept(alloc: Global, record: &Record) -> bool {
+    for calls in 0..CALLS {
+        for torn in WAYS {
+            if !is_kept_in_new_log(alloc, record, calls, torn) {
+                return false;
+            }
+        }
     }
-    Ok(log.len())
+    true
 }
 
 #[test]
 fn a_stopped_append_is_there_or_it_is_not(rt: HostRuntime) -> Result<(), Fail> {
     let alloc = rt.alloc();
     let record = create(alloc)?;
-    for calls in 0..CALLS {
-        for torn in WAYS {
-            let mut log = new_log(alloc)?;
-            log.stop_after(calls, torn);
-            let done = log.append(&record).is_ok();
-            let found = opened(&mut log)?;
-            assert!(rt; found == 1 || (found == 0 && !done));
-            // Once more, and a stop within the opening after it.
-            assert!(rt; log.append(&record).is_ok());
-            log.stop_after_restart(calls, torn);
-            let _ = log.reopen();
-            assert_eq!(rt; opened(&mut log)?, found.saturating_add(1));
-        }
-    }
+    assert!(rt; are_all_kept(alloc, &record));
     Ok(())
 }

@@ -1,3 +1,4 @@
 pub mod Areas
 pub mod Changing
+pub mod Faults
 pub mod Mutations

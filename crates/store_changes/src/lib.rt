@@ -1,6 +1,7 @@
 //! Changes of a chunkserver's disk, each made as a whole or not at all.
 #![tactic(auto)]
 
+mod fault;
 mod making;
 mod mutations;
 mod orders;
@@ -8,6 +9,7 @@ mod putting;
 mod raising;
 mod removing;
 
+pub use fault::StoreFault;
 pub use making::{change, one_range};
 pub use mutations::{bytes_of, place_of};
 pub use orders::set_order;

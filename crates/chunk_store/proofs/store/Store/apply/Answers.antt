@@ -1,17 +1,15 @@
 use Rattle.std.proofs.Common.{ℕ, ◌+◌, List, length, refl, sym, ap, ◌∙◌, arith}
 use Rattle.replica_store.specs.Replicas.{is_writable_at}
-use Rattle.chunk_store.specs.Faults.{fault_of}
+use Rattle.store_changes.specs.Faults.{fault_of}
 use Rattle.store_changes.specs.Mutations.{bytes_of, change_of}
-use Rattle.chunk_store.specs.declared.fault.StoreFault.TheVariants as faults
-use Rattle.chunk_store.proofs.Answered.{disk_never, handed_on, never, not_corrupt, not_old, not_refused}
-use Rattle.chunk_store.proofs.Applied.{applied_open, leaves_same, no_such, serial_there}
+use Rattle.store_changes.specs.declared.fault.StoreFault.TheVariants as faults
+use Rattle.store_changes.proofs.Answered.{disk_never, handed_over, never, no_such, not_corrupt, not_old, not_refused}
+use Rattle.chunk_store.proofs.Applied.{applied_open, leaves_same, serial_there}
 use Rattle.chunk_store.proofs.StillOpen.{chunk_there, leaves_all, row_held, version_there}
 use Rattle.chunk_store.proofs.store.Store.apply.Goals as goal
 
 pub returns-in-Err-clause-version : goal.returns-in-Err-clause-version
-returns-in-Err-clause-version g c d is =
-    let known = c.in-Err.ensures.version d is in
-    (λ e. known.0 (handed_on c.in-Err.fault faults.Version e), λ p. handed_on c.in-Err.fault faults.Version (known.1 p))
+returns-in-Err-clause-version g c d is = handed_over c.in-Err.fault faults.Version (c.in-Err.ensures.version d is)
 
 pub returns-in-Err-clause-old_serial : goal.returns-in-Err-clause-old_serial
 returns-in-Err-clause-old_serial g c d is = (

@@ -7,10 +7,11 @@ use Rattle.replica_store.specs.declared.row.Row.{Row}
 use Rattle.replica_store.specs.Replicas.{ServerDisk, is_disk_full, row_at}
 use Rattle.stored_replicas.proofs.Looked.{no_row, one_row, test_none, test_some}
 use Rattle.chunk_store.specs.Stores.{IsOpen}
-use Rattle.chunk_store.specs.declared.fault.StoreFault.{StoreFault}
-use Rattle.chunk_store.specs.declared.fault.StoreFault.TheVariants as faults
-use Rattle.chunk_store.proofs.Answered.{handed_on}
-use Rattle.chunk_store.proofs.Copied.{change_leaves, image_fits, put_copies, read_leaves}
+use Rattle.store_changes.specs.declared.fault.StoreFault.{StoreFault}
+use Rattle.store_changes.specs.declared.fault.StoreFault.TheVariants as faults
+use Rattle.store_changes.proofs.Answered.{handed_on, handed_over}
+use Rattle.store_reads.proofs.Imaged.{put_copies}
+use Rattle.chunk_store.proofs.Copied.{change_leaves, image_fits, read_leaves}
 use Rattle.chunk_store.proofs.StillOpen.{chunk_there, leaves_all, none_held, row_held}
 use Rattle.chunk_store.proofs.store.Store.copy_local.Goals as goal
 
@@ -92,9 +93,7 @@ returns-in-Ok-image-clause-any_moment g c =
     (λ e opened. put_copies e c.args.handle c.args.copy c.args.copy_version c.deref.result.now (ap (λ (l : List ℕ). Some l) c.deref.ensures ∙ c.in-Ok-image.ensures.ok e opened)) c.install.ensures.any_moment
 
 pub returns-in-Err-image-clause-no_chunk : goal.returns-in-Err-image-clause-no_chunk
-returns-in-Err-image-clause-no_chunk g c d is =
-    let known = c.in-Err-image.ensures.no_chunk d is in
-    (λ e. known.0 (handed_on c.in-Err-image.fault faults.NoChunk e), λ none. handed_on c.in-Err-image.fault faults.NoChunk (known.1 none))
+returns-in-Err-image-clause-no_chunk g c d is = handed_over c.in-Err-image.fault faults.NoChunk (c.in-Err-image.ensures.no_chunk d is)
 
 pub returns-in-Err-image-clause-version : goal.returns-in-Err-image-clause-version
 returns-in-Err-image-clause-version g c d is =

@@ -1,8 +1,8 @@
 use Rattle.std.proofs.Common.{refl, sym, ◌∙◌}
 use Rattle.replica_store.specs.declared.change.StoreChange.TheVariants.{Remove}
 use Rattle.replica_store.specs.Replicas.{disk_changed}
-use Rattle.chunk_store.specs.Faults.{fault_of}
-use Rattle.chunk_store.proofs.Answered.{disk_never, not_refused}
+use Rattle.store_changes.specs.Faults.{fault_of}
+use Rattle.store_changes.proofs.Answered.{disk_never, not_refused}
 use Rattle.chunk_store.proofs.StillOpen.{chunk_there, leaves_all, none_held, still_open}
 use Rattle.chunk_store.proofs.store.Store.drop_replica.Goals as goal
 

@@ -1,14 +1,12 @@
 use Rattle.std.proofs.Common.{refl, sym, ◌∙◌}
-use Rattle.chunk_store.specs.Faults.{fault_of}
-use Rattle.chunk_store.specs.declared.fault.StoreFault.TheVariants as faults
-use Rattle.chunk_store.proofs.Answered.{disk_never, handed_on, never, not_corrupt, not_full}
+use Rattle.store_changes.specs.Faults.{fault_of}
+use Rattle.store_changes.specs.declared.fault.StoreFault.TheVariants as faults
+use Rattle.store_changes.proofs.Answered.{disk_never, handed_over, never, not_corrupt, not_full}
 use Rattle.chunk_store.proofs.StillOpen.{chunk_there, held_within, read_open, version_there}
 use Rattle.chunk_store.proofs.store.Store.read.Goals as goal
 
 pub returns-in-Err-clause-version : goal.returns-in-Err-clause-version
-returns-in-Err-clause-version g c d is =
-    let known = c.in-Err.ensures.version d is in
-    (λ e. known.0 (handed_on c.in-Err.fault faults.Version e), λ p. handed_on c.in-Err.fault faults.Version (known.1 p))
+returns-in-Err-clause-version g c d is = handed_over c.in-Err.fault faults.Version (c.in-Err.ensures.version d is)
 
 pub returns-in-Err-clause-corrupt : goal.returns-in-Err-clause-corrupt
 returns-in-Err-clause-corrupt g c d is e = absurd (not_corrupt c.in-Err.fault c.in-Err.ensures.no_other e)

@@ -3,8 +3,8 @@ use Rattle.replica_store.specs.Replicas.{replica_of, rotten_replica}
 use Rattle.store_writes.specs.Rotting.{disk_rotten}
 use Rattle.store_writes.proofs.Rotten.{nothing_rots}
 use Rattle.stored_replicas.proofs.Looked.{order_stays}
-use Rattle.chunk_store.specs.Faults.{fault_of}
-use Rattle.chunk_store.proofs.Answered.{disk_never, not_refused}
+use Rattle.store_changes.specs.Faults.{fault_of}
+use Rattle.store_changes.proofs.Answered.{disk_never, not_refused}
 use Rattle.chunk_store.proofs.StillOpen.{chunk_there, none_held, still_open}
 use Rattle.chunk_store.proofs.store.Store.rot.Goals as goal
 

@@ -1,17 +1,15 @@
 use Rattle.std.proofs.Common.{refl, ◌∙◌}
 use Rattle.replica_store.specs.declared.change.StoreChange.TheVariants.{Raise}
 use Rattle.replica_store.specs.Replicas.{disk_changed, raised_replica, replica_of}
-use Rattle.chunk_store.specs.declared.fault.StoreFault.TheVariants as faults
-use Rattle.chunk_store.specs.Faults.{fault_of}
-use Rattle.chunk_store.proofs.Answered.{disk_never, handed_on, never, not_refused}
+use Rattle.store_changes.specs.declared.fault.StoreFault.TheVariants as faults
+use Rattle.store_changes.specs.Faults.{fault_of}
+use Rattle.store_changes.proofs.Answered.{disk_never, handed_over, never, not_refused}
 use Rattle.stored_replicas.proofs.Looked.{order_stays}
 use Rattle.chunk_store.proofs.StillOpen.{chunk_there, leaves_all, still_open, version_there}
 use Rattle.chunk_store.proofs.store.Store.set_version.Goals as goal
 
 pub returns-in-Err-clause-version : goal.returns-in-Err-clause-version
-returns-in-Err-clause-version g c d is =
-    let known = c.in-Err.ensures.version d is in
-    (λ e. known.0 (handed_on c.in-Err.fault faults.Version e), λ p. handed_on c.in-Err.fault faults.Version (known.1 p))
+returns-in-Err-clause-version g c d is = handed_over c.in-Err.fault faults.Version (c.in-Err.ensures.version d is)
 
 pub returns-in-Err-clause-any_moment : goal.returns-in-Err-clause-any_moment
 returns-in-Err-clause-any_moment g c =

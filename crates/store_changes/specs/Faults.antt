@@ -2,8 +2,8 @@
 use Rattle.std.specs.Prelude.{◌≡◌, ℕ, ◌<◌, ◌≤◌, Bool, true, false, Result, IsErrAnd, IsErrOf}
 use Rattle.disk.specs.declared.device.DiskFault.{DiskFault}
 use Rattle.disk.specs.declared.device.DiskFault.TheVariants as disk
-use Rattle.chunk_store.specs.declared.fault.StoreFault.{StoreFault}
-use Rattle.chunk_store.specs.declared.fault.StoreFault.TheVariants as store
+use Rattle.store_changes.specs.declared.fault.StoreFault.{StoreFault}
+use Rattle.store_changes.specs.declared.fault.StoreFault.TheVariants as store
 
 abbrev pub fault_of : DiskFault → StoreFault
 fault_of disk.Device = store.Device

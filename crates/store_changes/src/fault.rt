@@ -1,8 +1,8 @@
 //! Why a call of the store failed.
 
 ghost use Rattle.std.specs.Prelude.{◌≡◌};
-ghost use Rattle.chunk_store.specs.Faults.{fault_of};
-ghost use Rattle.chunk_store.specs.declared.fault.StoreFault.TheVariants.{NoMemory as OutOfMemory};
+ghost use Rattle.store_changes.specs.Faults.{fault_of};
+ghost use Rattle.store_changes.specs.declared.fault.StoreFault.TheVariants.{NoMemory as OutOfMemory};
 
 use disk::DiskFault;
 use std::alloc::AllocError;
