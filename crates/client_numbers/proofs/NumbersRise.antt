@@ -22,12 +22,12 @@ use Rattle.protocol_laws.proofs.Entries.{AllOf}
 use Rattle.protocol_laws.proofs.RisingOrders.{set_cases}
 use Rattle.protocol_laws.proofs.MembersRecorded.{place_below, place_cases, all_at}
 use Rattle.protocol_laws.proofs.MessagesSent.{numbered_sent}
-use Rattle.protocol_attempts.specs.Laws.{is_from_client, waited_data}
+use Rattle.protocol_step_laws.specs.Attempts.{is_from_client, waited_data}
 use Rattle.client_numbers.specs.Laws.{IsLaterRequest, ClientNumbersRise, LaterRequestsHaveLaterNumbers}
-use Rattle.protocol_attempts.proofs.Events.{HoldsAfter, holds_on}
-use Rattle.protocol_attempts.proofs.ClientNumbers.{IsSaid, IsStepOf, of_step, of_call}
-use Rattle.protocol_attempts.proofs.Senders.{AreNotClients, one_client, server_sends, server_restart_sends, master_sends, master_restart_sends}
-use Rattle.protocol_attempts.proofs.RequestsOnce.{IsNumbered, AreNumbered, not_other, from_itself, own_sender, first_and, at_numbered, each_event, numbered_reached}
+use Rattle.protocol_step_laws.proofs.Events.{HoldsAfter, holds_on}
+use Rattle.protocol_step_laws.proofs.ClientNumbers.{IsSaid, IsStepOf, of_step, of_call}
+use Rattle.protocol_step_laws.proofs.Senders.{AreNotClients, one_client, server_sends, server_restart_sends, master_sends, master_restart_sends}
+use Rattle.protocol_step_laws.proofs.RequestsOnce.{IsNumbered, AreNumbered, not_other, from_itself, own_sender, first_and, at_numbered, each_event, numbered_reached}
 
 -- a client's state is one that comes after another
 abbrev pub IsAfter : ClientState → ClientState → Type 0

@@ -10,7 +10,7 @@ use Rattle.protocol.specs.Sending.{the_client}
 use Rattle.protocol.specs.Choice.{Choice}
 use Rattle.protocol.specs.Client.{ClientState}
 use Rattle.protocol.specs.World.{WorldState, after_events, IsReached}
-use Rattle.protocol_attempts.specs.Laws.{waited_data}
+use Rattle.protocol_step_laws.specs.Attempts.{waited_data}
 
 -- The numbers of a client and its clock never fall while it is up (section 3.1).
 abbrev pub ClientNumbersRise : Type 0

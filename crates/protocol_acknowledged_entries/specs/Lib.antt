@@ -1,4 +1,0 @@
-pub mod Laws
-pub mod UngrantedChunks
-pub mod SkippedRounds
-pub mod Selections

@@ -1,4 +1,0 @@
-pub mod Replies
-pub mod AnsweredAppends
-pub mod Sendings
-pub mod AppendedBytes

@@ -1,4 +1,0 @@
-pub mod UsedOrders
-pub mod UsedAnswers
-pub mod LateAttempts
-pub mod AnsweredAttempts

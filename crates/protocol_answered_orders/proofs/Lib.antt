@@ -1,3 +1,0 @@
-pub mod ServerCauses
-pub mod SaidByServers
-pub mod AnsweredOrders

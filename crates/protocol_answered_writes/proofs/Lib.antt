@@ -1,2 +1,0 @@
-pub mod ToldParts
-pub mod AnsweredWrites

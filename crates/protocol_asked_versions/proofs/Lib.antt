@@ -1,3 +1,0 @@
-pub mod AskedOrders
-pub mod LeasesBelow
-pub mod EntriesBelow

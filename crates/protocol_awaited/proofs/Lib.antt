@@ -1,3 +1,0 @@
-pub mod ApartPaths
-pub mod Awaited
-pub mod AwaitedRecords

@@ -1,4 +1,0 @@
-pub mod Beside
-pub mod Clients
-pub mod Calls
-pub mod Followed

@@ -1,0 +1,11 @@
+pub mod CallWalk
+pub mod MasterRefusals
+pub mod Answerers
+pub mod OpenStages
+pub mod LaterCalls
+pub mod OpenCalls
+pub mod PassedAttempts
+pub mod GrantedRounds
+pub mod OpenEntries
+pub mod ToldParts
+pub mod AnsweredWrites

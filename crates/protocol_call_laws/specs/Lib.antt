@@ -1,0 +1,5 @@
+pub mod CallSteps
+pub mod OpenAttempts
+pub mod PassedAttempts
+pub mod OpenCalls
+pub mod AnsweredWrites

@@ -1,0 +1,8 @@
+//! Laws of clients' calls on files: which attempts may still place an entry, and what was answered.
+#![tactic(auto)]
+
+pub mod answered_writes;
+pub mod call_steps;
+pub mod open_attempts;
+pub mod open_calls;
+pub mod passed_attempts;

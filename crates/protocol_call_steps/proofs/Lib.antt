@@ -1,3 +1,0 @@
-pub mod CallWalk
-pub mod MasterRefusals
-pub mod Answerers

@@ -1,2 +1,0 @@
-pub mod ServerCauses
-pub mod Forwards

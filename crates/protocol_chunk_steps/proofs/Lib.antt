@@ -1,3 +1,0 @@
-pub mod ChunkRecords
-pub mod ChunkWalk
-pub mod Beside

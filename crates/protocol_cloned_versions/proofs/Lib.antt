@@ -1,3 +1,0 @@
-pub mod CloneOrders
-pub mod ClonedVersions
-pub mod CopySources

@@ -1,3 +1,0 @@
-pub mod AskedOrders
-pub mod OrdersGrow
-pub mod CopiedEntries

@@ -1,4 +1,0 @@
-pub mod UnaskedSteps
-pub mod FreeSources
-pub mod AskedSteps
-pub mod CopiedSources

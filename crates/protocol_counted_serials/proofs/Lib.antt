@@ -1,3 +1,0 @@
-pub mod LeaseSerials
-pub mod RoundSerials
-pub mod CountedRounds

@@ -1,4 +1,0 @@
-//! Laws of every lawful list of events on the serials of a chunk's entries, which speak of no state of the relaxed-file machine.
-#![tactic(auto)]
-
-pub mod laws;

@@ -1,5 +1,0 @@
-use Rattle.protocol_deadlines.proofs.Deadlines.{over_attempts_are_placed_no_more}
-use Rattle.protocol_deadlines.proofs.laws.over_attempts_are_placed_no_more.Goals as goal
-
-pub returns : goal.returns
-returns c = over_attempts_are_placed_no_more

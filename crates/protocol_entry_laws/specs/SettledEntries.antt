@@ -1,0 +1,41 @@
+-- The laws of every lawful list of events on successes and entries of chunks' orders, that public functions of this crate state.
+use Rattle.std.specs.Prelude.{◌≡◌, ℕ, suc, true, List, Some}
+use Rattle.gfs_types.specs.declared.config.Config.{Config}
+use Rattle.gfs_types.specs.declared.ids.DataId.{DataId}
+use Rattle.messages.specs.declared.event.Event.{Event}
+use Rattle.messages.specs.declared.message.Body.TheVariants as body
+use Rattle.messages.specs.declared.message.Message.{Message}
+use Rattle.client_state.specs.declared.call.ToldChunk.{ToldChunk}
+use Rattle.primary_order.specs.PrimaryOrder.{place_of}
+use Rattle.protocol.specs.Tables.{element_at}
+use Rattle.protocol.specs.Choice.{Choice}
+use Rattle.protocol.specs.Observer.{Placed, Observer, order_of}
+use Rattle.protocol.specs.Client.{ClientState}
+use Rattle.protocol.specs.World.{WorldState, new_world, after_events, IsReached}
+use Rattle.protocol_entry_laws.specs.WaitedRounds.{waited}
+
+-- In this chunk's order stands an entry of these data, which were placed there under this round, and it is settled.
+pub record HasSettledEntry (o : Observer) (handle round : ℕ) (id : DataId) (offset : ℕ) : Type 0 where
+  pub place : ℕ
+  pub placed : Placed
+  pub is : element_at (order_of o handle) place ≡ Some placed
+  pub client_is : placed.entry.call.client ≡ id.client.0
+  pub seq_is : placed.seq ≡ id.seq
+  pub round_is : placed.entry.round ≡ round
+  pub place_is : place_of placed.entry.mutation ≡ Some offset
+  pub settled : placed.entry.settled ≡ true
+
+-- Each success that was told has a settled entry (section 3.1).
+abbrev pub SuccessesHaveEntries : Type 0
+SuccessesHaveEntries =
+    (config : Config) (servers clients : ℕ) (w : WorldState) → IsReached config servers clients w
+    → (place : ℕ) (m : Message) → element_at w.sent place ≡ Some m → (id : DataId) (offset : ℕ) → m.body ≡ body.Done id offset
+    → (handle : ℕ) × (round : ℕ) × HasSettledEntry w.observer handle round id offset
+
+-- Each success of the data for which a client waits has a settled entry in the chunk and of the round that it noted.
+abbrev pub NotedSuccessesHaveEntries : Type 0
+NotedSuccessesHaveEntries =
+    (config : Config) (servers clients : ℕ) (steps : List (Event × Choice)) (index : ℕ) (s : ClientState) → element_at (after_events (new_world config servers clients) steps).clients index ≡ Some s
+    → (chunk : ToldChunk) (number : ℕ) → waited s.current ≡ Some (chunk, number)
+    → (place : ℕ) (m : Message) → element_at (after_events (new_world config servers clients) steps).sent place ≡ Some m → (id : DataId) (offset : ℕ) → m.body ≡ body.Done id offset → id.client.0 ≡ suc index → id.seq ≡ number
+    → HasSettledEntry (after_events (new_world config servers clients) steps).observer chunk.handle.0 chunk.round.0 id offset

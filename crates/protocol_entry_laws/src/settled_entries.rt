@@ -1,0 +1,13 @@
+//! Laws of every lawful list of events from a new cell: calls, deliveries, losses, repeats, ticks, restarts, stops in a step, refused memory and rot.
+
+ghost use Rattle.protocol_entry_laws.specs.SettledEntries.{SuccessesHaveEntries, NotedSuccessesHaveEntries};
+
+/// Of each Done that was sent a chunk's order has an entry of these data, at the place that is told, and it is settled.
+pub fn successes_have_entries()
+    ensures { SuccessesHaveEntries }
+{}
+
+/// Of a Done of the data for which a client waits the order of the chunk that it noted has such an entry, of the round that it noted.
+pub fn noted_successes_have_entries()
+    ensures { NotedSuccessesHaveEntries }
+{}

@@ -1,3 +1,0 @@
-pub mod Masters
-pub mod Worlds
-pub mod Explained

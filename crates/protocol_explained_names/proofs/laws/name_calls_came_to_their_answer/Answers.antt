@@ -1,5 +1,0 @@
-use Rattle.protocol_explained_names.proofs.Explained.{name_calls_came_to_their_answer}
-use Rattle.protocol_explained_names.proofs.laws.name_calls_came_to_their_answer.Goals as goal
-
-pub returns : goal.returns
-returns c = name_calls_came_to_their_answer

@@ -1,2 +1,0 @@
-pub mod MasterCauses
-pub mod ExtendLaws

@@ -1,2 +1,0 @@
-pub mod FileSteps
-pub mod NameSteps

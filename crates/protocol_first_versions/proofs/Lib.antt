@@ -1,2 +1,0 @@
-pub mod AttemptsAbove
-pub mod FirstVersions

@@ -1,4 +1,0 @@
-pub mod Following
-pub mod Walk
-pub mod Reached
-pub mod Openings

@@ -1,5 +1,0 @@
-use Rattle.protocol_given_versions.proofs.GivenVersions.{attempts_are_given_to_their_servers}
-use Rattle.protocol_given_versions.proofs.laws.attempts_are_given_to_their_servers.Goals as goal
-
-pub returns : goal.returns
-returns c = attempts_are_given_to_their_servers

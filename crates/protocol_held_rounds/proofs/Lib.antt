@@ -1,3 +1,0 @@
-pub mod HadLeases
-pub mod HeldRounds
-pub mod Rising

@@ -1,4 +1,0 @@
-//! What the master keeps of name calls was asked for.
-#![tactic(auto)]
-
-pub mod laws;

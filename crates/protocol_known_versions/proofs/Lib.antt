@@ -1,3 +1,0 @@
-pub mod ClonedWords
-pub mod SaidVersions
-pub mod KnownVersions

@@ -1,2 +1,0 @@
-pub mod LeaseWords
-pub mod LeaseLaws

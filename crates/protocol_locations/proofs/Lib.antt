@@ -1,3 +1,0 @@
-pub mod KeptLocations
-pub mod LocationsUsed
-pub mod OpenFiles

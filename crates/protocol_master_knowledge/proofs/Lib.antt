@@ -1,3 +1,0 @@
-pub mod RecordedServers
-pub mod RowMembers
-pub mod GrantMembers

@@ -1,4 +1,0 @@
-//! How clients answer name calls.
-#![tactic(auto)]
-
-pub mod laws;

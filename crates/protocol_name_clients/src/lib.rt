@@ -1,4 +1,0 @@
-//! What clients do in name calls, beside a master and a machine that have the same names.
-#![tactic(auto)]
-
-pub mod laws;

@@ -1,4 +1,0 @@
-pub mod Moves
-pub mod Requests
-pub mod NameWalk
-pub mod Beside

@@ -1,4 +1,0 @@
-pub mod OpenCalls
-pub mod FilesThere
-pub mod NameSteps
-pub mod LocksAndFiles

@@ -1,4 +1,0 @@
-pub mod Reaching
-pub mod ServerSilence
-pub mod WaitingRequests
-pub mod NameWords

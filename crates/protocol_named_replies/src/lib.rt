@@ -1,4 +1,0 @@
-//! To whom the master answers name calls.
-#![tactic(auto)]
-
-pub mod laws;

@@ -1,4 +1,0 @@
-pub mod HiddenMoment
-pub mod HiddenRight
-pub mod Expiring
-pub mod Unrefused

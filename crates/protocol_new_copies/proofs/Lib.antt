@@ -1,2 +1,0 @@
-pub mod NewCopies
-pub mod Unleased

@@ -1,4 +1,0 @@
-pub mod GrantsFollow
-pub mod ShownAlone
-pub mod CopiesBegun
-pub mod RoundsPassed

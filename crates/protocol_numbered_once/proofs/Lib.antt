@@ -1,2 +1,0 @@
-pub mod KnownNumbers
-pub mod NumberedOnce

@@ -1,3 +1,0 @@
-pub mod OnceShown
-pub mod UniqueOrders
-pub mod OneEntry

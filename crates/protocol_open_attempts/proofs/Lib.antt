@@ -1,3 +1,0 @@
-pub mod OpenStages
-pub mod LaterCalls
-pub mod OpenCalls

@@ -1,2 +1,0 @@
-pub mod GrantedRounds
-pub mod OpenEntries

@@ -1,3 +1,0 @@
-pub mod DropWords
-pub mod OutdatedVersions
-pub mod DropLaws

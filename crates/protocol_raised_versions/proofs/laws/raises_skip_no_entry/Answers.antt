@@ -1,5 +1,0 @@
-use Rattle.protocol_raised_versions.proofs.RaisedVersions.{raises_skip_no_entry}
-use Rattle.protocol_raised_versions.proofs.laws.raises_skip_no_entry.Goals as goal
-
-pub returns : goal.returns
-returns c = raises_skip_no_entry

@@ -1,4 +1,0 @@
-pub mod Caches
-pub mod ClientReads
-pub mod Known
-pub mod ReadAnswers

@@ -1,3 +1,0 @@
-pub mod PlacesKept
-pub mod ToldAnswers
-pub mod ReplacedChunks

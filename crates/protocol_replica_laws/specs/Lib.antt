@@ -1,0 +1,9 @@
+pub mod StoredChanges
+pub mod HeldRounds
+pub mod CopiedEntries
+pub mod ReplicaImages
+pub mod WaitingMutations
+pub mod AcknowledgedEntries
+pub mod UngrantedChunks
+pub mod SkippedRounds
+pub mod Selections

@@ -1,4 +1,0 @@
-pub mod SentGrants
-pub mod OrderedOrders
-pub mod RisingRounds
-pub mod CopiesBegin

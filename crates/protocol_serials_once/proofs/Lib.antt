@@ -1,3 +1,0 @@
-pub mod OrderWalk
-pub mod SpentVersions
-pub mod SerialsOnce

@@ -1,4 +1,0 @@
-pub mod SettledSerials
-pub mod SettledOrders
-pub mod KnownEntries
-pub mod SettledEntries

@@ -1,2 +1,0 @@
-pub mod SharedSteps
-pub mod SharedChunks

@@ -1,0 +1,12 @@
+pub mod Attempts
+pub mod Given
+pub mod Versions
+pub mod NewCopies
+pub mod Words
+pub mod Replicas
+pub mod ReplicaChanges
+pub mod FewAttempts
+pub mod Reads
+pub mod Locations
+pub mod FileCalls
+pub mod NameCalls

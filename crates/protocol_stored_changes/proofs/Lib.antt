@@ -1,4 +1,0 @@
-pub mod StoreCauses
-pub mod ExactEvents
-pub mod SoundBlocks
-pub mod KeptDisks

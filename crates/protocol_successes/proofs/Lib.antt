@@ -1,3 +1,0 @@
-pub mod RightLeases
-pub mod LeaseAnswers
-pub mod Successes

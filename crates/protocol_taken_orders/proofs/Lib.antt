@@ -1,2 +1,0 @@
-pub mod TakenOrders
-pub mod ToldOrders

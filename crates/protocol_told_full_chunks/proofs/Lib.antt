@@ -1,2 +1,0 @@
-pub mod FullPlaces
-pub mod ToldFull

@@ -1,4 +1,0 @@
-//! The machine follows what the master does on the names unasked.
-#![tactic(auto)]
-
-pub mod laws;

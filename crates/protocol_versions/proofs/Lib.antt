@@ -1,3 +1,0 @@
-pub mod EndedLeases
-pub mod ScenesGoOn
-pub mod LeasesStayOver

@@ -1,2 +1,0 @@
-pub mod WaitedMutates
-pub mod NotedRounds

@@ -1,4 +1,0 @@
-pub mod AckedWords
-pub mod Acknowledging
-pub mod WaitingMembers
-pub mod WaitingWalk

@@ -1,4 +1,0 @@
-pub mod Histories
-pub mod ServerTalks
-pub mod MasterTalks
-pub mod Locations
