@@ -1,5 +1,6 @@
 """The simulator's script language, over a cell that runs by the definitions."""
 from cell import Cell, REFUSALS
+from fuse import LogDisk
 
 KINDS = set((
     'Name Look Ask Named Told Wait Refused Push Pushed Mutate Done Forward Acked Nacked Read Len Bytes LenIs Create '
@@ -170,7 +171,7 @@ class Simulator:
             return
         action = getattr(self, 'line_' + head, None)
         counts = {'start': None, 'finish': 0, 'wait': 1, 'hold': 2, 'free': 0, 'twice': 2, 'cut': 1, 'join': 1,
-                  'restart': 1, 'rot': 5, 'regions': 2, 'replicas': 2}
+                  'restart': 1, 'fuse': 3, 'rot': 5, 'regions': 2, 'replicas': 2}
         if action is None or counts[head] not in (None, len(words) - 1):
             raise BadLine()
         action(*words[1:])
@@ -212,6 +213,16 @@ class Simulator:
         self.cell.restart(node, self.clock)
         self.collect()
         self.deliver()
+
+    def line_fuse(self, word, calls, torn):
+        node = self.node(word)
+        count = number(calls)
+        if torn not in (b'old', b'new') and number(torn) > 255:
+            raise BadLine()
+        if node == 'master':
+            if not isinstance(self.cell.choose, LogDisk):
+                self.cell.choose = LogDisk(self.cell, self.cell.choose)
+            self.cell.choose.stop(self.cell, count, torn if torn in (b'old', b'new') else b'%d' % number(torn))
 
     def line_rot(self, word, path, index, place, byte):
         server = self.node(word)

@@ -12,6 +12,7 @@ use cell_world::master::CellMaster;
 use gfs_types::config::Config;
 use gfs_types::ids::{FileId, Handle, Moment};
 use gfs_types::path::Path;
+use gfs_types::torn::Torn;
 use master::fault::MasterFault;
 use master::master::Master;
 use messages::event::StepOut;
@@ -21,6 +22,7 @@ use operation_log::log::OperationLog;
 use shown_files::shown::ShownFiles;
 use std::alloc::{Allocator, Global};
 use step_outcome::Outcome;
+use stored_log::stoppable::StoppableLog;
 
 /// A master over a log, and what is shown of its files: while it is up, these are its files. Its names lie in `A`.
 #[derive(Drop)]
@@ -55,7 +57,7 @@ impl<L: OperationLog + Drop, A: Allocator + Clone> SeatedMaster<L, A> {
     }
 }
 
-impl<L: OperationLog, A: Allocator + Clone> CellMaster for SeatedMaster<L, A> {
+impl<L: StoppableLog, A: Allocator + Clone> CellMaster for SeatedMaster<L, A> {
     ghost state = { λ m. m.master };
 
     ghost files = { λ m. shown_in m.files };
@@ -92,6 +94,10 @@ impl<L: OperationLog, A: Allocator + Clone> CellMaster for SeatedMaster<L, A> {
     #[tactic(auto, using(crate::proofs::Files::shown_stopped))]
     fn stop(&mut self) {
         self.master.stop();
+    }
+
+    fn fuse(&mut self, calls: u64, torn: Torn) {
+        self.master.fuse(calls, torn);
     }
 
     #[tactic(auto, using(crate::proofs::Files::on_input, crate::proofs::Files::shown_up))]

@@ -84,6 +84,13 @@ client_lost s moment i = by (may_step s) refl
         let same : client_step s moment i lost_choice ≡ t = ap (λ (b : Bool). if b then client_ends s (client_goes s moment i) Lost else no_step s) e in
         record { choice = lost_choice; gives = record { out_is = ap (λ (x : Taken ClientState). x.out) same; state_is = ap (λ (x : Taken ClientState). x.state) same }; seen_is = ap (λ (x : Taken ClientState). x.seen) same }
 
+-- the same, of what says whether a step was taken
+pub client_gave_up : (s t : ClientState) (moment : ℕ) (i : Input) (is_taken : Bool) (out : StepOut) → is_taken ≡ may_step s → out ≡ (if is_taken then down_output else no_output)
+    → t ≡ (if may_step s then stopped_client s else s) → ClientSteps s moment i out t
+client_gave_up s t moment i is_taken out taken out_is is =
+    subst (λ (x : StepOut). ClientSteps s moment i x t) (sym (out_is ∙ ap (λ (b : Bool). if b then down_output else no_output) taken))
+    (subst (λ (x : ClientState). ClientSteps s moment i (lost_out s) x) (sym is) (client_lost s moment i))
+
 pub call_lost : (s : ClientState) (moment : ℕ) (c : Call) → ClientCalls s moment c down_output (stopped_client s)
 call_lost s moment c = record { choice = lost_choice; gives = record { out_is = refl; state_is = refl }; seen_is = refl }
 

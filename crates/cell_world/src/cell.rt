@@ -21,6 +21,7 @@ use gfs_types::call::Call;
 use gfs_types::config::Config;
 use gfs_types::ids::{ClientId, Handle, MAX_MOMENT, Moment, Node, ServerId};
 use gfs_types::no_memory::NoMemory;
+use gfs_types::torn::Torn;
 use messages::event::Event;
 use server_store::store::ReplicaStore;
 use std::marker::Model;
@@ -98,7 +99,10 @@ impl<M: CellMaster, S: ReplicaStore> Cell<M, S> {
                 self.rots(server, handle, place, byte)?;
                 Ok(None)
             }
-            Event::Fuse { .. } => Ok(None),
+            Event::Fuse { node, calls, torn } => {
+                self.fuses(node, calls, torn);
+                Ok(None)
+            }
         }
     }
 
@@ -198,6 +202,15 @@ impl<M: CellMaster, S: ReplicaStore> Cell<M, S> {
         };
         let _ = server_restarts(&mut self.servers, place, now);
         None
+    }
+
+    /// A node's disk is told to stop. The servers' stores lie in memory and have none.
+    fn fuses(&mut self, node: Node, calls: u64, torn: Torn)
+        ensures { self.new ≡ self.old }
+    {
+        if let Node::Master = node {
+            self.master.fuse(calls, torn);
+        }
     }
 
     /// A byte rots. An error: the server's store found no memory for it.

@@ -5,6 +5,8 @@ ghost use Rattle.std.specs.Option.{option_copied};
 ghost use Rattle.chunkserver.specs.Inputs.{input_of};
 ghost use Rattle.protocol.specs.Client.{stopped_client};
 ghost use Rattle.protocol.specs.ClientStep.{may_call, may_step};
+ghost use Rattle.protocol.specs.Conforms.{ClientSteps};
+ghost use Rattle.protocol.specs.Seen.{down_output, no_output};
 ghost use Rattle.cell_record.specs.Batches.{message_named};
 ghost use Rattle.cell_world.specs.Steps.{StepsAt, ClientStepsSo, ClientCallsSo, IsUpAt};
 
@@ -20,6 +22,7 @@ use messages::event::{Input, StepOut};
 use messages::message::Message;
 use protocol::seen::SeenList;
 use std::alloc::Global;
+use step_outcome::{gives_nothing, goes_down};
 
 /// The place of a client's number.
 pub(crate) fn client_place(clients: &Vec<Client>, id: ClientId) -> Option<usize>
@@ -55,15 +58,15 @@ pub(crate) fn client_steps(
     ensures { StepsAt (λ s out seen t. ClientStepsSo s now.0 (input_of (message_named kept.old.network.messages given)) out seen t) clients.old.items place kept.old result clients.new.items kept.new }
 {
     let alloc = clients[place].alloc();
-    let Ok(input) = copied(alloc, kept.network.named(given)) else {
-        give_up(&mut clients[place]);
-        return None;
-    };
     if kept.reserve().is_err() {
         give_up(&mut clients[place]);
         return None;
     }
-    let StepOut { sent, answer, .. } = step(&mut clients[place], now, &input);
+    let StepOut { sent, answer, .. } = steps_on(
+        &mut clients[place],
+        now,
+        kept.network.named(given),
+    );
     kept.takes(sent, SeenList::empty(alloc));
     answer
 }
@@ -90,12 +93,37 @@ pub(crate) fn client_calls(
     answer
 }
 
-// A step is lost for want of memory, where one is taken.
-fn give_up(client: &mut Client)
-    ensures { client.new ≡ (if may_step client.old then stopped_client client.old else client.old) }
+// A step on a message, or on a tick. It is lost where a copy of the message finds no memory.
+fn steps_on(client: &mut Client, now: Moment, message: Option<&Message>) -> StepOut
+    ensures { ClientSteps client.old now.0 (input_of (option_copied message.entry)) result client.new }
 {
-    if client.may_step() {
+    let alloc = client.alloc();
+    let Ok(input) = copied(alloc, message) else {
+        return lost(alloc, give_up(client));
+    };
+    step(client, now, &input)
+}
+
+// A step is lost for want of memory, where one is taken. Whether one was.
+fn give_up(client: &mut Client) -> bool
+    ensures down { result ≡ may_step client.old }
+    ensures client { client.new ≡ (if may_step client.old then stopped_client client.old else client.old) }
+{
+    let is_taken = client.may_step();
+    if is_taken {
         stop(client);
+    }
+    is_taken
+}
+
+// What a step gives that was lost, or that was none.
+fn lost(alloc: Global, is_taken: bool) -> StepOut
+    ensures { result ≡ (if is_taken then down_output else no_output) }
+{
+    if is_taken {
+        goes_down(alloc)
+    } else {
+        gives_nothing(alloc)
     }
 }
 

@@ -13,6 +13,7 @@ ghost use Rattle.cell_world.specs.FileNames.{file_in};
 
 use gfs_types::ids::{FileId, Handle, Moment};
 use gfs_types::path::Path;
+use gfs_types::torn::Torn;
 use messages::event::StepOut;
 use messages::message::Message;
 use step_outcome::Outcome;
@@ -39,6 +40,12 @@ pub trait CellMaster {
     fn stop(&mut self)
         requires { (state self.old).up ≡ true }
         ensures state { state self.new ≡ stopped_master (state self.old) (state self.old).disk [] }
+        ensures files { files self.new ≡ files self.old };
+
+    /// Its disk lets so many calls pass and fails each later one until its restart, which finds what was under way as `torn` says.
+    /// That of a master that is down does so once its restart has begun.
+    fn fuse(&mut self, calls: u64, torn: Torn)
+        ensures state { state self.new ≡ state self.old }
         ensures files { files self.new ≡ files self.old };
 
     /// A step on a message, or on a tick.

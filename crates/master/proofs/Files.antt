@@ -27,10 +27,10 @@ pub shown_up : (disk : LogDisk) (under_way : List LogChange) (config : Config) (
 shown_up disk under_way config count p logged files before same is = is ∙ ap (λ (l : Logged). l.table.files) same
 
 -- the same, from what the code hands back
-pub step_shows : (disk : LogDisk) (under_way : List LogChange) (config : Config) (count : ℕ) (p q r : PlanState) (files before : Table (List ℕ)) → q ≡ record p { sent = [] } → r ≡ record q { seen = [] }
+pub step_shows : (disk : LogDisk) (under_way : List LogChange) (config : Config) (count : ℕ) (p r : PlanState) (files before : Table (List ℕ)) → r ≡ record p { sent = []; seen = [] }
     → files ≡ p.logged.table.files → files ≡ files_seen (standing true disk under_way config count r) before
-step_shows disk under_way config count p q r files before q_is r_is is =
-    let logged : r.logged ≡ p.logged = ap (λ (x : PlanState). x.logged) r_is ∙ ap (λ (x : PlanState). x.logged) q_is in
+step_shows disk under_way config count p r files before r_is is =
+    let logged : r.logged ≡ p.logged = ap (λ (x : PlanState). x.logged) r_is in
     shown_up disk under_way config count r p.logged files before (sym logged) is
 
 -- down: the files stay

@@ -1,10 +1,9 @@
 -- What the master's code does is a step of the definitions.
 use Rattle.std.proofs.Common.{◌≡◌, ℕ, Bool, true, false, List, [], refl, sym, ap, ◌∙◌, subst, inl, inr}
-use Rattle.std.specs.Prelude.{if◌then◌else◌, ◌⊎◌, None}
+use Rattle.std.specs.Prelude.{if◌then◌else◌, ◌⊎◌}
 use Rattle.gfs_types.specs.declared.config.Config.{Config}
 use Rattle.messages.specs.declared.event.Input.{Input}
 use Rattle.messages.specs.declared.event.StepOut.{StepOut}
-use Rattle.messages.specs.declared.message.Message.{Message}
 use Rattle.protocol.specs.Choice.{Choice, Ending, Goes as Ends, Lost, Stops, made_changes, change_under_way}
 use Rattle.protocol.specs.declared.seen.Seen.{Seen}
 use Rattle.protocol.specs.Seen.{Taken, no_output, down_output, no_step}
@@ -17,7 +16,7 @@ use Rattle.master_laws.proofs.Settings.{settings_stay}
 use Rattle.master_plan.specs.Plans.{PlanState, master_of, known, doing, resting}
 use Rattle.master.specs.Commits.{IsStopped}
 use Rattle.master.specs.Standing.{standing, IsResting}
-use Rattle.master.specs.Ends.{Goes, AllMade, AreMade}
+use Rattle.master.specs.Ends.{Goes, AllMade, AreMade, step_out}
 use Rattle.master.specs.Drafts.{Drafts}
 
 -- nothing was made of a plan
@@ -97,11 +96,11 @@ module _ (disk : LogDisk) (under_way : List LogChange) (config : Config) (count 
 
     -- all went through
     pub went : AllMade disk p1 new_disk new_under_way
-        → MasterSteps (standing true disk under_way config count p0) moment i (record { sent = p1.sent; answer = None; down = false }) p1.seen (standing true new_disk new_under_way config count (resting p1))
+        → MasterSteps (standing true disk under_way config count p0) moment i (step_out p1) p1.seen (standing true new_disk new_under_way config count (resting p1))
     went made =
         let choice : Choice = with_ending Ends goes.used in
         let m : MasterState = standing true disk [] config count p0 in
-        let out : StepOut = record { sent = p1.sent; answer = None; down = false } in
+        let out : StepOut = step_out p1 in
         from_old out p1.seen (standing true new_disk new_under_way config count (resting p1))
         (record {
           choice = choice;
@@ -127,26 +126,25 @@ module _ (disk : LogDisk) (under_way : List LogChange) (config : Config) (count 
         → MasterSteps (standing true disk under_way config count p0) moment i down_output [] (standing false new_disk new_under_way config count q)
     cut_off_as q cs same stop = cut_off q (subst (λ (x : List LogChange). IsStopped disk x new_disk new_under_way) same stop)
 
-    resting_as : (p2 q r : PlanState) → p2 ≡ record p1 { changes = [] } → q ≡ record p2 { sent = [] } → r ≡ record q { seen = [] } → r ≡ resting p1
-    resting_as p2 q r p2_is q_is r_is = r_is ∙ ap (λ (x : PlanState). record x { seen = [] }) q_is ∙ ap (λ (x : PlanState). record x { sent = []; seen = [] }) p2_is
+    resting_as : (p2 r : PlanState) → p2 ≡ record p1 { changes = [] } → r ≡ record p2 { sent = []; seen = [] } → r ≡ resting p1
+    resting_as p2 r p2_is r_is = r_is ∙ ap (λ (x : PlanState). record x { sent = []; seen = [] }) p2_is
 
-    rests_as : (p2 q r : PlanState) → p2 ≡ record p1 { changes = [] } → q ≡ record p2 { sent = [] } → r ≡ record q { seen = [] } → new_under_way ≡ [] → IsResting new_under_way config count r
-    rests_as p2 q r p2_is q_is r_is none = subst (λ (x : PlanState). IsResting new_under_way config count x) (sym (resting_as p2 q r p2_is q_is r_is)) (rests none)
+    rests_as : (p2 r : PlanState) → p2 ≡ record p1 { changes = [] } → r ≡ record p2 { sent = []; seen = [] } → new_under_way ≡ [] → IsResting new_under_way config count r
+    rests_as p2 r p2_is r_is none = subst (λ (x : PlanState). IsResting new_under_way config count x) (sym (resting_as p2 r p2_is r_is)) (rests none)
 
-    went_as : (p2 q r : PlanState) (cs : List LogChange) (sent : List Message) (seen : List Seen) → cs ≡ p1.changes → p2 ≡ record p1 { changes = [] } → q ≡ record p2 { sent = [] } → r ≡ record q { seen = [] }
-        → sent ≡ p2.sent → seen ≡ q.seen → AllMade disk (record r { changes = cs }) new_disk new_under_way
-        → MasterSteps (standing true disk under_way config count p0) moment i (record { sent = sent; answer = None; down = false }) seen (standing true new_disk new_under_way config count r)
-    went_as p2 q r cs sent seen cs_is p2_is q_is r_is sent_is seen_is made =
-        let r_at : r ≡ resting p1 = resting_as p2 q r p2_is q_is r_is in
-        let planned : record r { changes = cs } ≡ record p1 { sent = []; seen = [] } =
-        ap (λ (x : PlanState). record x { changes = cs }) r_at ∙ ap (λ (x : List LogChange). record p1 { sent = []; seen = []; changes = x }) cs_is in
-        let m : AllMade disk (record p1 { sent = []; seen = [] }) new_disk new_under_way = subst (λ (x : PlanState). AllMade disk x new_disk new_under_way) planned made in
-        let sent_at : sent ≡ p1.sent = sent_is ∙ ap (λ (x : PlanState). x.sent) p2_is in
-        let seen_at : seen ≡ p1.seen = seen_is ∙ ap (λ (x : PlanState). x.seen) q_is ∙ ap (λ (x : PlanState). x.seen) p2_is in
+    went_as : (p2 r : PlanState) (cs : List LogChange) (out : StepOut) (seen : List Seen) → cs ≡ p1.changes → p2 ≡ record p1 { changes = [] } → r ≡ record p2 { sent = []; seen = [] }
+        → out ≡ step_out p2 → seen ≡ p2.seen → AllMade disk (record p2 { changes = cs }) new_disk new_under_way
+        → MasterSteps (standing true disk under_way config count p0) moment i out seen (standing true new_disk new_under_way config count r)
+    went_as p2 r cs out seen cs_is p2_is r_is out_is seen_is made =
+        let planned : record p2 { changes = cs } ≡ record p1 { changes = p1.changes } =
+        ap (λ (x : PlanState). record x { changes = cs }) p2_is ∙ ap (λ (x : List LogChange). record p1 { changes = x }) cs_is in
+        let m : AllMade disk (record p1 { changes = p1.changes }) new_disk new_under_way = subst (λ (x : PlanState). AllMade disk x new_disk new_under_way) planned made in
+        let out_at : out ≡ step_out p1 = out_is ∙ ap step_out p2_is in
+        let seen_at : seen ≡ p1.seen = seen_is ∙ ap (λ (x : PlanState). x.seen) p2_is in
         let all : AllMade disk p1 new_disk new_under_way = record { within = m.within; disk_is = m.disk_is; none = m.none } in
-        subst (λ (x : PlanState). MasterSteps (standing true disk under_way config count p0) moment i (record { sent = sent; answer = None; down = false }) seen (standing true new_disk new_under_way config count x)) (sym r_at)
-        (subst (λ (x : List Seen). MasterSteps (standing true disk under_way config count p0) moment i (record { sent = sent; answer = None; down = false }) x (standing true new_disk new_under_way config count (resting p1))) (sym seen_at)
-        (subst (λ (x : List Message). MasterSteps (standing true disk under_way config count p0) moment i (record { sent = x; answer = None; down = false }) p1.seen (standing true new_disk new_under_way config count (resting p1))) (sym sent_at)
+        subst (λ (x : PlanState). MasterSteps (standing true disk under_way config count p0) moment i out seen (standing true new_disk new_under_way config count x)) (sym (resting_as p2 r p2_is r_is))
+        (subst (λ (x : List Seen). MasterSteps (standing true disk under_way config count p0) moment i out x (standing true new_disk new_under_way config count (resting p1))) (sym seen_at)
+        (subst (λ (x : StepOut). MasterSteps (standing true disk under_way config count p0) moment i x p1.seen (standing true new_disk new_under_way config count (resting p1))) (sym out_at)
         (went all)))
 
 module _ (disk : LogDisk) (under_way : List LogChange) (config : Config) (count : ℕ) (p0 : PlanState) (moment : ℕ) (i : Input) (rest : IsResting under_way config count p0) (cs : List LogChange) (p2 : PlanState) (d : Drafts disk p0 moment i cs p2)
@@ -154,13 +152,13 @@ module _ (disk : LogDisk) (under_way : List LogChange) (config : Config) (count 
   pub drafted_cut_off : (q : PlanState) → IsStopped disk cs new_disk new_under_way → MasterSteps (standing true disk under_way config count p0) moment i down_output [] (standing false new_disk new_under_way config count q)
   drafted_cut_off q stop = cut_off_as disk under_way config count p0 moment i rest d.planned d.goes new_disk new_under_way q cs d.changes_are stop
 
-  pub drafted_rests : (q r : PlanState) → q ≡ record p2 { sent = [] } → r ≡ record q { seen = [] } → new_under_way ≡ [] → IsResting new_under_way config count r
-  drafted_rests q r q_is r_is none = rests_as disk under_way config count p0 moment i rest d.planned d.goes new_disk new_under_way p2 q r d.rest q_is r_is none
+  pub drafted_rests : (r : PlanState) → r ≡ record p2 { sent = []; seen = [] } → new_under_way ≡ [] → IsResting new_under_way config count r
+  drafted_rests r r_is none = rests_as disk under_way config count p0 moment i rest d.planned d.goes new_disk new_under_way p2 r d.rest r_is none
 
-  pub drafted_went : (q r : PlanState) (sent : List Message) (seen : List Seen) → q ≡ record p2 { sent = [] } → r ≡ record q { seen = [] } → sent ≡ p2.sent → seen ≡ q.seen → AllMade disk (record r { changes = cs }) new_disk new_under_way
-      → MasterSteps (standing true disk under_way config count p0) moment i (record { sent = sent; answer = None; down = false }) seen (standing true new_disk new_under_way config count r)
-  drafted_went q r sent seen q_is r_is sent_is seen_is made =
-      went_as disk under_way config count p0 moment i rest d.planned d.goes new_disk new_under_way p2 q r cs sent seen d.changes_are d.rest q_is r_is sent_is seen_is made
+  pub drafted_went : (r : PlanState) (out : StepOut) (seen : List Seen) → r ≡ record p2 { sent = []; seen = [] } → out ≡ step_out p2 → seen ≡ p2.seen → AllMade disk (record p2 { changes = cs }) new_disk new_under_way
+      → MasterSteps (standing true disk under_way config count p0) moment i out seen (standing true new_disk new_under_way config count r)
+  drafted_went r out seen r_is out_is seen_is made =
+      went_as disk under_way config count p0 moment i rest d.planned d.goes new_disk new_under_way p2 r cs out seen d.changes_are d.rest r_is out_is seen_is made
 
 -- a master that is down, as it was made, takes no step
 pub stays_down : (m : MasterState) (moment : ℕ) (i : Input) (out : StepOut) (seen : List Seen) → m.up ≡ false → out ≡ no_output → seen ≡ [] → MasterSteps m moment i out seen m

@@ -5,14 +5,16 @@ ghost use Rattle.protocol.specs.Tables.{counter_limit};
 ghost use Rattle.protocol.specs.MasterStep.{is_within_limits};
 ghost use Rattle.master_plan.specs.Changes.{changes_of};
 ghost use Rattle.master_plan.specs.Plans.{known};
-ghost use Rattle.master.specs.Ends.{AreMade};
+ghost use Rattle.master.specs.Ends.{AreMade, step_out};
 
 use crate::commit::commit;
 use gfs_types::ids::MAX_COUNTER;
 use master_plan::change::ChangeList;
 use master_plan::plan::Plan;
+use messages::event::StepOut;
 use operation_log::log::OperationLog;
 use std::alloc::Allocator;
+use step_outcome::Outcome;
 
 // Makes the changes of a plan on the log. False: a counter is past its limit, or a change failed, and the master is to go down.
 pub(crate) fn makes<L: OperationLog, A: Allocator + Clone>(log: &mut L, plan: &mut Plan<A>) -> bool
@@ -35,6 +37,24 @@ pub(crate) fn makes_all<L: OperationLog, A: Allocator + Clone>(
     ensures { AreMade (L.disk log.old) (record plan.now { changes = changes_of changes.now }) result (L.disk log.new) (L.under_way log.new) }
 {
     is_within_limits(plan) && commit(log, changes.as_slice()).is_ok()
+}
+
+// What a step gives that went through, and what is seen of it, taken out of its plan.
+pub(crate) fn outcome_of<A: Allocator + Clone>(plan: &mut Plan<A>) -> Outcome
+    ensures out { result.out ≡ step_out plan.old }
+    ensures seen { result.seen ≡ plan.old.seen }
+    ensures rest { plan.new ≡ record plan.old { sent = []; seen = [] } }
+{
+    let sent = plan.take_sent();
+    let out = StepOut {
+        sent,
+        answer: None,
+        down: false,
+    };
+    Outcome {
+        out,
+        seen: plan.take_seen(),
+    }
 }
 
 // Whether no counter is past its limit.

@@ -13,12 +13,13 @@ ghost use Rattle.master.specs.Inputs.{input_of};
 ghost use Rattle.master.specs.Opens.{Opens};
 
 use crate::drafted::drafts;
-use crate::ended::{makes, makes_all};
+use crate::ended::{makes, makes_all, outcome_of};
 use crate::fault::MasterFault;
 use crate::started::{first_plan, opens};
 use gfs_types::config::Config;
 use gfs_types::ids::Moment;
 use gfs_types::lists::Sequence;
+use gfs_types::torn::Torn;
 use log_records::record::Record;
 use master_plan::plan::Plan;
 use master_state::state::State;
@@ -29,6 +30,7 @@ use shown_files::shown::{ShownFiles, shown_of};
 use std::alloc::{Allocator, Global};
 use std::marker::Model;
 use step_outcome::{Outcome, gives_nothing, goes_down};
+use stored_log::stoppable::StoppableLog;
 
 /// The master over a log. While it is up, nothing is under way on the log's disk. Its names lie in `A`.
 #[derive(Drop)]
@@ -141,19 +143,12 @@ impl<L: OperationLog, A: Allocator + Clone> Master<L, A> {
         let Ok(draft) = drafts(&self.log, &mut self.plan, now, message, shown) else {
             return Outcome::down(alloc, Sequence::empty(alloc));
         };
-        let sent = self.plan.take_sent();
-        let seen = self.plan.take_seen();
         if !makes_all(&mut self.log, &self.plan, &draft.changes) {
             return Outcome::down(alloc, Sequence::empty(alloc));
         }
         self.up = true;
         shown.put(draft.copies);
-        let out = StepOut {
-            sent,
-            answer: None,
-            down: false,
-        };
-        Outcome { out, seen }
+        outcome_of(&mut self.plan)
     }
 
     /// It begins again, whether it was up or down: it reads its log, and logs a new epoch. Where the master is up after it, the
@@ -209,5 +204,19 @@ impl<L: OperationLog, A: Allocator + Clone> Master<L, A> {
         self.up = true;
         *shown = files;
         gives_nothing(alloc)
+    }
+}
+
+impl<L: StoppableLog, A: Allocator> Master<L, A> {
+    /// Its log's disk lets so many calls pass and fails each later one until the next restart, which finds what was under way as `torn`
+    /// says. That of a master that is down does so once the next restart has begun.
+    pub fn fuse(&mut self, calls: u64, torn: Torn)
+        ensures { self.new ≡ self.old }
+    {
+        if self.up {
+            self.log.stop_after(calls, torn);
+        } else {
+            self.log.stop_after_restart(calls, torn);
+        }
     }
 }

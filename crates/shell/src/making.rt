@@ -1,10 +1,12 @@
 //! New cells.
 
-ghost use Rattle.std.specs.Prelude.{◌≡◌, ◌≤◌, Err, IfOk, IfErr, IsTrue, IsFalse, is_none};
+ghost use Rattle.std.specs.Prelude.{◌≡◌, ◌≤◌, [], Err, IfOk, IfErr, IsTrue, IsFalse, is_none};
 ghost use Rattle.std.specs.FinMap as table;
 ghost use Rattle.gfs_types.specs.Settings.{first_out_of_range};
+ghost use Rattle.protocol.specs.Logged.{new_log};
 ghost use Rattle.protocol.specs.MasterStep.{new_master};
 ghost use Rattle.shell.specs.Cells.{IsNew, IsOfStart, are_in_range, is_count};
+ghost use Rattle.stored_log.specs.Kept.{IsDiskSize};
 
 use cell_master::SeatedMaster;
 use cell_world::master::CellMaster;
@@ -12,16 +14,21 @@ use cell_world::world::World;
 use gfs_types::config::Config;
 use master::fault::MasterFault;
 use memory_store::MemoryStore;
-use operation_log::memory::MemoryLog;
+use operation_log::fault::LogFault;
 use script::options::Options;
 use script::script_fault::ScriptFault;
 use simulated_world::world::SimulatedWorld;
 use std::alloc::Global;
+use stored_log::disk_log::DiskLog;
+use stored_log::node_disk::NodeDisk;
 
-/// A master over a log in memory.
-pub type ScriptMaster = SeatedMaster<MemoryLog, Global>;
+/// A master's log on a disk.
+pub type ScriptLog = DiskLog<NodeDisk>;
 
-/// A cell over a log and stores in memory.
+/// A master over a log on a disk.
+pub type ScriptMaster = SeatedMaster<ScriptLog, Global>;
+
+/// A cell over a log on a disk, and stores in memory.
 pub type ScriptCell = SimulatedWorld<ScriptMaster, MemoryStore>;
 
 /// The servers that a cell may have, and the clients.
@@ -42,18 +49,38 @@ fn are_fitting(config: &Config) -> bool
     ensures block { IsTrue result → 1 ≤ config.now.block }
     ensures least { IsTrue result → 64 ≤ config.now.chunk }
     ensures most { IsTrue result → config.now.chunk ≤ 67108864 }
+    ensures log { IsTrue result → IsDiskSize config.now.log_bytes }
 {
     config.check().is_ok()
 }
 
-fn new_master(alloc: Global, config: Config, servers: u16) -> Result<ScriptMaster, ScriptFault>
-    requires lease { config.lease_ms ≤ 3600000 }
-    requires skew { config.skew_ms ≤ 60000 }
-    ensures state { IfOk result (λ m. ⟦<SeatedMaster<MemoryLog, Global> as CellMaster>⟧.state m ≡ new_master config servers) }
-    ensures files { IfOk result (λ m. ⟦<SeatedMaster<MemoryLog, Global> as CellMaster>⟧.files m ≡ table.empty) }
+// A log on a new disk of so many bytes.
+#[tactic(auto, using(crate::proofs::Settings::disk_size))]
+fn new_log(alloc: Global, log_bytes: u64) -> Result<ScriptLog, ScriptFault>
+    requires { IsDiskSize log_bytes }
+    ensures new { IfOk result (λ l. l.disk ≡ new_log) }
+    ensures decided { IfOk result (λ l. l.under_way ≡ []) }
     ensures fault { IfErr result IsOfStart }
 {
-    let log = MemoryLog::new(alloc, config.log_bytes);
+    let Ok(disk) = NodeDisk::new(alloc, log_bytes as usize) else {
+        return Err(ScriptFault::NoMemory);
+    };
+    match DiskLog::new(disk, alloc) {
+        Ok(log) => Ok(log),
+        Err((_, LogFault::NoMemory)) => Err(ScriptFault::NoMemory),
+        Err(_) => Err(ScriptFault::Start),
+    }
+}
+
+fn new_master(alloc: Global, config: Config, servers: u16) -> Result<ScriptMaster, ScriptFault>
+    requires log { IsDiskSize config.log_bytes }
+    requires lease { config.lease_ms ≤ 3600000 }
+    requires skew { config.skew_ms ≤ 60000 }
+    ensures state { IfOk result (λ m. ⟦<ScriptMaster as CellMaster>⟧.state m ≡ new_master config servers) }
+    ensures files { IfOk result (λ m. ⟦<ScriptMaster as CellMaster>⟧.files m ≡ table.empty) }
+    ensures fault { IfErr result IsOfStart }
+{
+    let log = new_log(alloc, config.log_bytes)?;
     match SeatedMaster::new(alloc, config, servers, log, alloc) {
         Ok(master) => Ok(master),
         Err(MasterFault::NoMemory) => Err(ScriptFault::NoMemory),

@@ -67,3 +67,11 @@ pub fn row_outcome(alloc: Global, row: &str) -> Result<String> {
 pub fn example_outcome(alloc: Global, script: &str, expected: &str) -> Result<String> {
     outcome(alloc, &options_of(alloc, &[], script)?, script, expected)
 }
+
+/// The outcome of a file that is made while a line `fuse master K T` stops the master's disk: once the master begins again it is made, once.
+pub fn stopped_outcome(alloc: Global, fuse: &str) -> Result<String> {
+    let row = format!(in alloc;
+        "# --log-bytes 4096\n{fuse}\nstart c1 create /f\nrestart master\nfinish\nc1 create /f{RULE}c1 done\nc1 refused 3 Exists\n"
+    )?;
+    row_outcome(alloc, row.as_str())
+}

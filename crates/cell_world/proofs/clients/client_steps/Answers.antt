@@ -1,5 +1,6 @@
-use Rattle.std.proofs.Common.{[], ◌++◌, refl, sym, subst, ap, ◌∙◌}
+use Rattle.std.proofs.Common.{List, [], ◌++◌, Option, refl, sym, subst, ap, ◌∙◌}
 use Rattle.messages.specs.declared.event.Input.{Input}
+use Rattle.messages.specs.declared.message.Message.{Message}
 use Rattle.chunkserver.specs.Inputs.{input_of}
 use Rattle.protocol.specs.Client.{ClientState}
 use Rattle.protocol.specs.Conforms.{ClientSteps}
@@ -7,8 +8,8 @@ use Rattle.cell_record.specs.Batches.{message_named}
 use Rattle.cell_world.proofs.Lost.{at, unrecorded, recorded_so, client_lost, lost_out, lost_quietly}
 use Rattle.cell_world.proofs.clients.client_steps.Goals as goal
 
-pub returns-in_default : goal.returns-in_default
-returns-in_default c =
+pub returns-then-is_err : goal.returns-then-is_err
+returns-then-is_err c =
     let s : ClientState = c.index_mut.result.now in
     let i : Input = input_of (message_named c.args.kept.now.network.messages c.args.given) in
     record {
@@ -17,22 +18,7 @@ returns-in_default c =
       out = lost_out s;
       seen = [];
       is_there = at c.args.clients.now.items c.args.place s c.requires.place c.index_mut.ensures.value;
-      steps = record { steps = subst (λ (t : ClientState). ClientSteps s c.args.now.0 i (lost_out s) t) (sym c.give_up.ensures) (client_lost s c.args.now.0 i); unseen = refl };
-      nodes_are = refl;
-      recorded = unrecorded c.args.kept.now c.args.kept.now (lost_out s) (lost_quietly s).0 (lost_quietly s).1 refl refl;
-    }
-
-pub returns-then-is_err : goal.returns-then-is_err
-returns-then-is_err c =
-    let s : ClientState = c.index_mut-then-is_err.result.now in
-    let i : Input = input_of (message_named c.args.kept.now.network.messages c.args.given) in
-    record {
-      old = s;
-      new = c.give_up-then-is_err.new.client;
-      out = lost_out s;
-      seen = [];
-      is_there = at c.args.clients.now.items c.args.place s c.requires.place c.index_mut-then-is_err.ensures.value;
-      steps = record { steps = subst (λ (t : ClientState). ClientSteps s c.args.now.0 i (lost_out s) t) (sym c.give_up-then-is_err.ensures) (client_lost s c.args.now.0 i); unseen = refl };
+      steps = record { steps = subst (λ (t : ClientState). ClientSteps s c.args.now.0 i (lost_out s) t) (sym c.give_up.ensures.client) (client_lost s c.args.now.0 i); unseen = refl };
       nodes_are = refl;
       recorded = unrecorded c.args.kept.now c.reserve.new.self (lost_out s) (lost_quietly s).0 (lost_quietly s).1 c.reserve.ensures.sent c.reserve.ensures.seen;
     }
@@ -42,15 +28,16 @@ returns c =
     let s : ClientState = c.index_mut-2.result.now in
     record {
       old = s;
-      new = c.step-sent.new.client;
-      out = c.step-sent.result;
+      new = c.steps_on-sent.new.client;
+      out = c.steps_on-sent.result;
       seen = [];
       is_there = at c.args.clients.now.items c.args.place s c.requires.place c.index_mut-2.ensures.value;
       steps = record {
-        steps = subst (λ (i : Input). ClientSteps s c.args.now.0 i c.step-sent.result c.step-sent.new.client) (c.in-Ok.ensures ∙ ap input_of c.named.ensures) c.step-sent.ensures;
+        steps = subst (λ (o : Option Message). ClientSteps s c.args.now.0 (input_of o) c.steps_on-sent.result c.steps_on-sent.new.client)
+            (c.named.ensures ∙ ap (λ (ms : List Message). message_named ms c.args.given) c.reserve.ensures.sent) c.steps_on-sent.ensures;
         unseen = refl;
       };
       nodes_are = refl;
-      recorded = recorded_so c.args.kept.now c.reserve.new.self c.takes.new.self c.step-sent.result [] c.reserve.ensures.sent c.reserve.ensures.seen c.takes.ensures.sent
+      recorded = recorded_so c.args.kept.now c.reserve.new.self c.takes.new.self c.steps_on-sent.result [] c.reserve.ensures.sent c.reserve.ensures.seen c.takes.ensures.sent
           (c.takes.ensures.seen ∙ ap (λ xs. c.reserve.new.self.sights.seen ++ xs) c.empty.ensures);
     }

@@ -6,3 +6,6 @@ returns-clause-lease c = λ t. (bounds_ok c.args.config.now c.check.result c.is_
 
 pub returns-clause-skew : goal.returns-clause-skew
 returns-clause-skew c = λ t. (bounds_ok c.args.config.now c.check.result c.is_ok.result c.check.ensures c.is_ok.ensures.value t).skew
+
+pub returns-clause-log : goal.returns-clause-log
+returns-clause-log c = λ t. (bounds_ok c.args.config.now c.check.result c.is_ok.result c.check.ensures c.is_ok.ensures.value t).log

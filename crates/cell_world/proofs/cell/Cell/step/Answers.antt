@@ -1,3 +1,6 @@
+use Rattle.std.proofs.Common.{None, sym, subst}
+use Rattle.protocol.specs.World.{happens}
+use Rattle.cell_world.specs.Held.{HasEffect, HeldCell}
 use Rattle.cell_world.proofs.Happened.{event_at, late_call, late_message, late_tick, late_restart, called, brought, ticked, restarted, fuses}
 use Rattle.cell_world.proofs.cell.Cell.step.Goals as goal
 
@@ -29,4 +32,6 @@ pub returns-in_ok-rots-in-Rot-clause-ok : goal.returns-in_ok-rots-in-Rot-clause-
 returns-in_ok-rots-in-Rot-clause-ok g c = event_at _ _ _ _ _ c.in-Rot.is c.in_ok-rots-in-Rot.ensures.ok
 
 pub returns-in-Fuse-clause-ok : goal.returns-in-Fuse-clause-ok
-returns-in-Fuse-clause-ok g c = fuses c.args.self.now c.args.event (c.in-Fuse.node, c.in-Fuse.calls, c.in-Fuse.torn, c.in-Fuse.is)
+returns-in-Fuse-clause-ok g c =
+    subst (λ (new : HeldCell). HasEffect c.args.self.now (λ w choice. happens w c.args.event choice) None new) (sym c.fuses.ensures)
+    (fuses c.args.self.now c.args.event (c.in-Fuse.node, c.in-Fuse.calls, c.in-Fuse.torn, c.in-Fuse.is))

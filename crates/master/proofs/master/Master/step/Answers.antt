@@ -1,6 +1,5 @@
-use Rattle.std.proofs.Common.{◌≡◌, true, false, None, subst, ◌∙◌, rules}
+use Rattle.std.proofs.Common.{◌≡◌, true, false, subst, ◌∙◌, rules}
 use Rattle.std.specs.Option.{option_copied}
-use Rattle.messages.specs.declared.event.StepOut.{StepOut}
 use Rattle.protocol.specs.Master.{MasterState}
 use Rattle.protocol.specs.Conforms.{MasterSteps}
 use Rattle.master_plan.specs.Changes.{changes_of}
@@ -37,14 +36,13 @@ invariant_of-self-2 g c =
     let under_way = g.L.OperationLog.under_way c.self.inside.log in
     let up : c.self.inside.up ≡ true = search rules in
     let rests = drafted_rests disk under_way c.self.inside.config c.self.inside.server_count c.self.inside.plan c.args.now.0 (input_of (option_copied c.args.message)) (c.self.invariant.2 up) (changes_of c.in-Ok.draft.changes) c.drafts.new.plan c.in-Ok.ensures.drafts
-    (g.L.OperationLog.disk c.makes_all.new.log) (g.L.OperationLog.under_way c.makes_all.new.log) c.take_sent-sent.new.self c.take_seen-seen.new.self c.take_sent-sent.ensures.rest c.take_seen-seen.ensures.rest c.if-not-makes_all.ensures.none in
+    (g.L.OperationLog.disk c.makes_all.new.log) (g.L.OperationLog.under_way c.makes_all.new.log) c.outcome_of.new.plan c.outcome_of.ensures.rest c.if-not-makes_all.ensures.none in
     (c.self.invariant.0, c.self.invariant.1, λ _. rests)
 
 pub returns-clause-files : goal.returns-clause-files
 returns-clause-files g c =
     step_shows (g.L.OperationLog.disk c.makes_all.new.log) (g.L.OperationLog.under_way c.makes_all.new.log) c.self.inside.config c.self.inside.server_count
-    c.drafts.new.plan c.take_sent-sent.new.self c.take_seen-seen.new.self (shown_in c.put.new.self) (shown_in c.args.shown.now)
-    c.take_sent-sent.ensures.rest c.take_seen-seen.ensures.rest (c.put.ensures ∙ c.in-Ok.ensures.copies)
+    c.drafts.new.plan c.outcome_of.new.plan (shown_in c.put.new.self) (shown_in c.args.shown.now) c.outcome_of.ensures.rest (c.put.ensures ∙ c.in-Ok.ensures.copies)
 
 pub returns-clause-steps : goal.returns-clause-steps
 returns-clause-steps g c =
@@ -53,9 +51,8 @@ returns-clause-steps g c =
     let i = input_of (option_copied c.args.message) in
     let up : c.self.inside.up ≡ true = search rules in
     let old = is_up_as c.self.inside.up disk under_way c.self.inside.config c.self.inside.server_count c.self.inside.plan c.args.self.now up c.self.view_is in
-    let out : StepOut = record { sent = c.take_sent-sent.result; answer = None; down = false } in
     let new_disk = g.L.OperationLog.disk c.makes_all.new.log in
     let new_under_way = g.L.OperationLog.under_way c.makes_all.new.log in
-    subst (λ (m : MasterState). MasterSteps m c.args.now.0 i out c.take_seen-seen.result (standing true new_disk new_under_way c.self.inside.config c.self.inside.server_count c.take_seen-seen.new.self)) old
+    subst (λ (m : MasterState). MasterSteps m c.args.now.0 i c.outcome_of.result.out c.outcome_of.result.seen (standing true new_disk new_under_way c.self.inside.config c.self.inside.server_count c.outcome_of.new.plan)) old
     (drafted_went disk under_way c.self.inside.config c.self.inside.server_count c.self.inside.plan c.args.now.0 i (search rules) (changes_of c.in-Ok.draft.changes) c.drafts.new.plan c.in-Ok.ensures.drafts new_disk new_under_way
-    c.take_sent-sent.new.self c.take_seen-seen.new.self c.take_sent-sent.result c.take_seen-seen.result c.take_sent-sent.ensures.rest c.take_seen-seen.ensures.rest c.take_sent-sent.ensures.sent c.take_seen-seen.ensures.seen c.if-not-makes_all.ensures)
+    c.outcome_of.new.plan c.outcome_of.result.out c.outcome_of.result.seen c.outcome_of.ensures.rest c.outcome_of.ensures.out c.outcome_of.ensures.seen c.if-not-makes_all.ensures)
