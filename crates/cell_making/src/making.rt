@@ -3,10 +3,7 @@
 ghost use Rattle.std.specs.Prelude.{◌≡◌, ◌≤◌, ◌<◌, ◌+◌, IfOk, IfErr, OnOk, OnErr, IsTrue, is_none};
 ghost use Rattle.gfs_types.specs.declared.ids.Node.TheVariants as node;
 ghost use Rattle.gfs_types.specs.Settings.{first_out_of_range};
-ghost use Rattle.protocol.specs.Client.{new_client};
 ghost use Rattle.protocol.specs.MasterStep.{new_master};
-ghost use Rattle.protocol.specs.Server.{started_server};
-ghost use Rattle.replica_store.specs.Replicas.{new_server_disk};
 ghost use Rattle.cell_making.specs.declared.fault.StartFault.TheVariants.{NoMemory as OutOfMemory};
 ghost use Rattle.cell_dealer.specs.Dealing.{IsDealt};
 ghost use Rattle.cell_making.specs.Making.{IsFitting, IsSame, IsNewNode, IsNewClient, IsOfMaster};
@@ -15,35 +12,26 @@ use crate::fault::StartFault;
 use cell_dealer::dealer::Dealer;
 use cell_desk::desk::Desk;
 use cell_master::SeatedMaster;
-use cell_nodes::client::ClientNode;
-use cell_nodes::master::MasterNode;
-use cell_nodes::server::ServerNode;
 use cell_slot::slot::Slot;
 use cell_world::master::CellMaster;
-use chunkserver::server::Chunkserver;
-use client_node::client::Client;
 use gfs_types::config::Config;
-use gfs_types::ids::{ClientId, Moment, Node, ServerId};
+use gfs_types::ids::{ClientId, Node, ServerId};
 use gfs_types::no_memory::NoMemory;
 use master::fault::MasterFault;
-use memory_store::MemoryStore;
 use operation_log::memory::MemoryLog;
+use running_client::RunningClient;
+use running_master::RunningMaster;
+use running_server::RunningServer;
 use std::alloc::Global;
 
-/// The master of a running cell.
-pub type RunMaster = MasterNode<SeatedMaster<MemoryLog, Global>>;
-
-/// A server of a running cell.
-pub type RunServer = ServerNode<MemoryStore>;
-
 /// What the master's lock guards.
-pub type MasterSlot = Slot<RunMaster>;
+pub type MasterSlot = Slot<RunningMaster>;
 
 /// What a server's lock guards.
-pub type ServerSlot = Slot<RunServer>;
+pub type ServerSlot = Slot<RunningServer>;
 
 /// What a client keeps.
-pub type ClientSlot = Slot<ClientNode>;
+pub type ClientSlot = Slot<RunningClient>;
 
 /// Whether the settings are in their ranges, and so in the bounds that nodes ask for.
 pub fn are_fitting(config: &Config) -> bool
@@ -53,14 +41,13 @@ pub fn are_fitting(config: &Config) -> bool
     config.check().is_ok()
 }
 
-fn new_master(alloc: Global, config: Config, servers: u16) -> Result<RunMaster, StartFault>
+fn new_master(alloc: Global, config: Config, servers: u16) -> Result<RunningMaster, StartFault>
     requires { IsFitting config }
     ensures fault { IfErr result IsOfMaster }
-    ensures new { IfOk result (λ m. ⟦<SeatedMaster<MemoryLog, Global> as CellMaster>⟧.state m.master ≡ new_master config servers) }
+    ensures new { IfOk result (λ m. ⟦<SeatedMaster<MemoryLog, Global> as CellMaster>⟧.state m.node.master ≡ new_master config servers) }
 {
-    let log = MemoryLog::new(alloc, config.log_bytes);
-    match SeatedMaster::new(alloc, config, servers, log, alloc) {
-        Ok(master) => Ok(MasterNode { master }),
+    match RunningMaster::new(alloc, config, servers) {
+        Ok(master) => Ok(master),
         Err(MasterFault::NoMemory) => Err(StartFault::NoMemory),
         Err(MasterFault::Log(_)) => Err(StartFault::Log),
     }
@@ -81,16 +68,6 @@ pub fn master_slot(alloc: Global, dealer: &mut Dealer) -> Result<MasterSlot, Sta
     Ok(Slot::new(alloc, desk, master))
 }
 
-fn new_server(alloc: Global, config: Config, id: ServerId) -> RunServer
-    requires { IsFitting config }
-    ensures { result.server ≡ started_server config id.0 (new_server_disk config.block) 0 }
-{
-    let store = MemoryStore::new(alloc, config.block);
-    ServerNode {
-        server: Chunkserver::new(alloc, config, id, store, Moment(0)),
-    }
-}
-
 /// A server at its place.
 pub fn server_slot(
     alloc: Global,
@@ -105,18 +82,9 @@ pub fn server_slot(
     ensures fault { IfErr result (λ f. f ≡ OutOfMemory) }
     ensures slot { IfOk result (λ s. IsNewNode (node.Server id) dealer.old.place.me.0 s.node s.place) }
 {
-    let server = new_server(alloc, dealer.config, id);
+    let server = RunningServer::new(alloc, dealer.config, id);
     let desk = dealer.next(Node::Server(id))?;
     Ok(Slot::new(alloc, desk, server))
-}
-
-fn new_client(alloc: Global, config: Config, id: ClientId) -> Result<ClientNode, StartFault>
-    requires { 64 ≤ config.chunk }
-    ensures fault { IfErr result (λ f. f ≡ OutOfMemory) }
-    ensures new { IfOk result (λ c. c.client ≡ new_client config id.0) }
-{
-    let client = Client::new(alloc, config, id)?;
-    Ok(ClientNode { client })
 }
 
 fn client_desk(dealer: &mut Dealer, id: ClientId) -> Result<Desk, NoMemory>
@@ -144,7 +112,7 @@ pub fn client_slot(
     ensures fault { IfErr result (λ f. f ≡ OutOfMemory) }
     ensures slot { IfOk result (λ s. IsNewClient id dealer.old.place.me.0 s.node s.place) }
 {
-    let client = new_client(alloc, dealer.config, id)?;
+    let client = RunningClient::new(alloc, dealer.config, id)?;
     let desk = client_desk(dealer, id)?;
     Ok(Slot::new(alloc, desk, client))
 }
