@@ -12,7 +12,6 @@ use cell_desk::hall::{Hall, MOST_CLIENTS};
 use cell_desk::post::{Input, Letter, Mailboxes, Policy, Post};
 use cell_making::fault::StartFault;
 use cell_making::making::{are_fitting, client_slot, master_slot, server_slot};
-use cell_nodes::client::ClientNode;
 use cell_seat::journal::Journal;
 use cell_seat::seat::Seat;
 use cell_slot::gate::Gate;
@@ -24,6 +23,7 @@ use gfs_types::ids::{ClientId, Node, ServerId};
 use journal_calls::open;
 use journal_pages::pages::Pages;
 use journal_steps::Sight;
+use running_client::RunningClient;
 use std::alloc::Global;
 use std::marker::Model;
 use std::sync::atomic::{AtomicU64, Ordering};
@@ -33,7 +33,7 @@ use std::thread::{JoinHandle, Threads};
 use std::time::{Clock, Duration};
 
 /// A client of a running cell.
-pub type ClientSeat = Seat<ClientNode>;
+pub type ClientSeat = Seat<RunningClient>;
 
 /// How many servers a cell may have.
 pub const MOST_SERVERS: u16 = 64;
@@ -41,7 +41,6 @@ pub const MOST_SERVERS: u16 = 64;
 type Thread = JoinHandle<()>;
 
 /// A cell whose nodes run on threads. One that is dropped and not closed goes on.
-#[derive(Drop)]
 pub struct Cell {
     alloc: Global,
     dealer: Dealer,
@@ -51,6 +50,20 @@ pub struct Cell {
     made: u64,
     ticker: Thread,
     nodes: Vec<Thread>,
+}
+
+// Stands here, once, so that no crate above proves the drops of all that a cell owns.
+impl Drop for Cell {
+    fn drop(self) {
+        let Self {
+            alloc: _,
+            dealer: _dealer,
+            inboxes: _inboxes,
+            made: _,
+            ticker: _ticker,
+            nodes: _nodes,
+        } = self;
+    }
 }
 
 impl Model for Cell {
@@ -142,11 +155,13 @@ impl Cell {
     pub fn close<R: Threads + Wait + Clock>(self, rt: &R) -> Journal
         ensures { result.cell ≡ self }
     {
-        let Cell {
+        let Self {
+            alloc: _,
             dealer,
+            inboxes: _inboxes,
+            made: _,
             ticker,
             nodes,
-            ..
         } = self;
         end_all(rt, &dealer.hall, dealer.servers, ticker, nodes);
         dealer.close(rt)
