@@ -8,16 +8,18 @@ use Rattle.clap.specs.Faults.{fault_of, is_simple_and_free}
 use Rattle.clap.specs.Values.{kind_of}
 use Rattle.clap.specs.declared.error.Error.{Error}
 use Rattle.clap.specs.declared.parser.matches.ArgMatches.{ArgMatches}
+use Rattle.clap.specs.declared.parser.matches.ArgMatches.TheViews.{out-ArgMatches}
+use Rattle.clap.specs.Matches.{subcommand_name_of}
 use Rattle.clap.specs.declared.error.kind.ErrorKind.{ErrorKind}
 use Rattle.clap.proofs.OnLiterals.{clap_on_literals}
 use Rattle.command_line.specs.Program.{option_names, program}
 use Rattle.command_line.proofs.FaultLemmas.{are_alike, faults_are_alike, first_tells}
-use Rattle.command_line.specs.Asking.{asked_by, to_be_shown, nothing, Answers, Becomes, all_numbered, faults, is_shown, options_of, run_asked, run_of}
+use Rattle.command_line.specs.Asking.{asked, asked_by, to_run, to_be_shown, nothing, Answers, Becomes, Runs, all_numbered, faults, is_live, is_shown, options_of, run_asked, run_by, run_of}
 use Rattle.script.specs.declared.options.Options.{Options}
 use Rattle.command_line.specs.declared.command.CommandFault.{CommandFault}
 use Rattle.command_line.specs.declared.command.CommandFault.TheVariants.{Bad, NoMemory}
 use Rattle.command_line.specs.declared.command.Request.{Request}
-use Rattle.command_line.specs.declared.command.Request.TheVariants.{Sim, Show}
+use Rattle.command_line.specs.declared.command.Request.TheVariants.{Sim, Live, Show}
 
 is_simple_program : is_simple program ≡ true
 unfolding clap_on_literals
@@ -33,15 +35,33 @@ no_fault a words is clean = ap (λ (a : App). fault_of a words) (sym is) ∙ cle
 pub a_fault : (a : App) (words : List Text) (e : Error) → a ≡ program → (is_simple_and_free a ≡ true → HasKind (fault_of a words) e) → HasKind (faults words) e
 a_fault a words e is has = subst (λ (a : App). HasKind (fault_of a words) e) is (has (ap is_simple_and_free is ∙ is_free_program))
 
-run_by_rows : (o : Option (Text × List Row)) (rows : List Row) → Some rows ≡ option_map (λ p. p.1) o → option_and_then (λ sub. run_of sub.1) o ≡ run_of rows
-run_by_rows None rows e = ap (option_and_then run_of) (sym e)
-run_by_rows (Some sub) rows e = ap (option_and_then run_of) (sym e)
+run_by_rows : (o : Option (Text × List Row)) (name : Text) (rows : List Row) → Some name ≡ option_map (λ p. p.0) o → Some rows ≡ option_map (λ p. p.1) o → option_and_then run_by o ≡ run_by (name, rows)
+run_by_rows None name rows n e = absurd (let none : Some name ≡ None = n in cc)
+run_by_rows (Some sub) name rows n e =
+    let name_is : sub.0 ≡ name = (let same : Some name ≡ Some sub.0 = n in cc) in
+    let rows_are : sub.1 ≡ rows = (let same : Some rows ≡ Some sub.1 = e in cc) in
+    ap₂ (λ (m : Text) (rs : List Row). run_by (m, rs)) name_is rows_are
 
-pub run_found : (a : App) (words : List Text) (m : ArgMatches) (rows : List Row) → a ≡ program → HasMatchesOf a words m
-    → Some rows ≡ option_map (λ p. p.1) (subcommand_rows_of m) → run_asked words ≡ run_of rows
-run_found a words m rows is has e =
+names_are : (m : ArgMatches) → subcommand_name_of m ≡ option_map (λ p. p.0) (subcommand_rows_of m)
+names_are m = go _ _ (out-ArgMatches m).subcommand
+  where
+    go : {B : Type 0} (name : B → Text) (rows : B → List Row) (o : Option B) → option_map name o ≡ option_map (λ (p : Text × List Row). p.0) (option_map (λ b. (name b, rows b)) o)
+    go name rows None = refl
+    go name rows (Some b) = refl
+
+pub run_found : (a : App) (words : List Text) (m : ArgMatches) (name : Text) (rows : List Row) → a ≡ program → HasMatchesOf a words m → Some name ≡ subcommand_name_of m
+    → Some rows ≡ option_map (λ p. p.1) (subcommand_rows_of m) → run_asked words ≡ run_by (name, rows)
+run_found a words m name rows is has n e =
     let sub : subcommand_rows_of m ≡ subcommand_of program words = (has (ap is_simple is ∙ is_simple_program)).1 ∙ ap (λ (a : App). subcommand_of a words) is in
-    run_by_rows (subcommand_of program words) rows (e ∙ ap (option_map (λ (p : Text × List Row). p.1)) sub)
+    run_by_rows (subcommand_of program words) name rows (n ∙ names_are m ∙ ap (option_map (λ (p : Text × List Row). p.0)) sub) (e ∙ ap (option_map (λ (p : Text × List Row). p.1)) sub)
+
+-- where the rows give nothing to run
+pub run_none : (name : Text) (rows : List Row) → run_of rows ≡ None → run_by (name, rows) ≡ None
+run_none name rows none = ap (option_map (λ (run : Text × Options). (is_live name, run))) none
+
+-- where they do
+pub run_some : (name : Text) (rows : List Row) (live : Bool) (file : Text) (options : Options) → is_live name ≡ live → run_of rows ≡ Some (file, options) → run_by (name, rows) ≡ Some (live, (file, options))
+run_some name rows live file options is run = ap₂ (λ (b : Bool) (o : Option (Text × Options)). option_map (λ (r : Text × Options). (b, r)) o) is run
 
 pub run_is : (rows : List Row) (file : Text) → true ≡ all_numbered rows option_names → Some file ≡ first_of (codes "FILE") rows → run_of rows ≡ Some (file, options_of rows)
 run_is rows file all is =
@@ -57,13 +77,14 @@ no_file rows is = ap (λ o. cond (all_numbered rows option_names) (option_map (�
 pub no_number : (rows : List Row) → false ≡ all_numbered rows option_names → run_of rows ≡ None
 no_number rows all = ap (λ b. cond b (option_map (λ (f : Text). (f, options_of rows)) (first_of (codes "FILE") rows)) None) (sym all)
 
-by_fault : (kinds : Kinds) (run : Option (Text × Options)) (k : ErrorKind) (b : Bool) → are_alike kinds ≡ true → IsAmong k kinds → is_shown k ≡ b
+by_fault : (kinds : Kinds) (run : Option (Bool × (Text × Options))) (k : ErrorKind) (b : Bool) → are_alike kinds ≡ true → IsAmong k kinds → is_shown k ≡ b
     → asked_by kinds run ≡ cond b to_be_shown nothing
 by_fault [] run k b alike among is = absurd among
 by_fault (first ∷ rest) run k b alike among is = ap (λ b. cond b to_be_shown nothing) (sym (first_tells k first rest alike among) ∙ is)
 
 pub of_fault : (words : List Text) (e : Error) (r : Result Request CommandFault) → HasKind (faults words) e → Becomes (kind_of e) r → Answers words r
 of_fault words e (Ok (Sim file options)) h b = absurd b
+of_fault words e (Ok (Live file options)) h b = absurd b
 of_fault words e (Ok (Show text)) (inl is) b = absurd (true≢false (sym b ∙ ap is_shown is))
 of_fault words e (Ok (Show text)) (inr among) b = by_fault (faults words) (run_asked words) (kind_of e) true (faults_are_alike words) among b
 of_fault words e (Err Bad) (inl is) b = absurd (b.1 is)
@@ -82,3 +103,10 @@ pub of_bad : (words : List Text) (r : Result Request CommandFault) (fault : Comm
     → run_asked words ≡ None → Answers words r
 of_bad words (Ok x) fault is bad none run = absurd is
 of_bad words (Err e) fault is bad none run = subst (λ e. Answers words (Err e)) (sym (is ∙ bad)) (ap₂ asked_by none run)
+
+pub of_run : (words : List Text) (live : Bool) (file : Text) (options : Options) (r : Request) → asked words ≡ to_run live file options → Runs live file options r → Answers words (Ok r)
+of_run words live file options (Sim f o) is runs =
+    is ∙ ap (λ (b : Bool). to_run b file options) runs.0 ∙ ap₂ (λ (g : Text) (p : Options). to_run false g p) (sym runs.1) (sym runs.2)
+of_run words live file options (Live f o) is runs =
+    is ∙ ap (λ (b : Bool). to_run b file options) runs.0 ∙ ap₂ (λ (g : Text) (p : Options). to_run true g p) (sym runs.1) (sym runs.2)
+of_run words live file options (Show text) is runs = absurd runs

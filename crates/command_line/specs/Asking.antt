@@ -2,6 +2,7 @@
 use Rattle.std.specs.Prelude.{◌≡◌, ◌⊎◌, ⊤, ℕ, ◌-◌, ◌^◌, min, Bool, true, false, List, [], ◌∷◌, Option, Some, None, is_some, option_map, option_and_then, unwrap_or, if◌then◌else◌, codes, Result, Ok, Err}
 use Rattle.std.specs.List.{list_all}
 use Rattle.std.specs.Option.{option_map_or}
+use Rattle.std.specs.Str.{bytes_eq}
 use Rattle.clap.specs.Walk.{Row, Text, first_of}
 use Rattle.clap.specs.Simple.{subcommand_of}
 use Rattle.clap.specs.Kinds.{Kinds}
@@ -16,7 +17,7 @@ use Rattle.script.specs.declared.options.Options.{Options}
 use Rattle.command_line.specs.declared.command.CommandFault.{CommandFault}
 use Rattle.command_line.specs.declared.command.CommandFault.TheVariants.{Bad, NoMemory}
 use Rattle.command_line.specs.declared.command.Request.{Request}
-use Rattle.command_line.specs.declared.command.Request.TheVariants.{Sim, Show}
+use Rattle.command_line.specs.declared.command.Request.TheVariants.{Sim, Live, Show}
 
 -- ---- the options; rows are what the words gave to each name
 
@@ -63,13 +64,21 @@ all_numbered rows names = list_all (is_numbered rows) names
 
 -- ---- the command line
 
--- the file and the options that the rows of `sim` give
+-- the file and the options that the rows of a subcommand give
 abbrev pub run_of : List Row → Option (Text × Options)
 run_of rows = if all_numbered rows option_names then option_map (λ file. (file, options_of rows)) (first_of (codes "FILE") rows) else None
 
+-- the subcommand runs the script on threads; the other one runs it by the simulator
+abbrev pub is_live : Text → Bool
+is_live name = bytes_eq name (codes "live")
+
+-- whether on threads, the file, and the options
+abbrev pub run_by : Text × List Row → Option (Bool × (Text × Options))
+run_by sub = option_map (λ run. (is_live sub.0, run)) (run_of sub.1)
+
 -- what the words would run, where they have no fault
-abbrev pub run_asked : List Text → Option (Text × Options)
-run_asked words = option_and_then (λ sub. run_of sub.1) (subcommand_of program words)
+abbrev pub run_asked : List Text → Option (Bool × (Text × Options))
+run_asked words = option_and_then run_by (subcommand_of program words)
 
 -- the faults that a parse of the words may name: the first step that fails has one kind, or a few that may come
 abbrev pub faults : List Text → Kinds
@@ -81,15 +90,15 @@ is_shown DisplayHelp = true
 is_shown DisplayVersion = true
 is_shown _ = false
 
--- to run a script's file with options, to be shown the help or the version, or nothing
+-- to run a script's file with options, on threads or by the simulator, to be shown the help or the version, or nothing
 pub data Asked : Type 0 where
-  to_run : Text → Options → Asked
+  to_run : Bool → Text → Options → Asked
   to_be_shown : Asked
   nothing : Asked
 
 -- faults come first; of the kinds that the first fault may have, all are to be shown or none is
-abbrev pub asked_by : Kinds → Option (Text × Options) → Asked
-asked_by [] (Some run) = to_run run.0 run.1
+abbrev pub asked_by : Kinds → Option (Bool × (Text × Options)) → Asked
+asked_by [] (Some run) = to_run run.0 run.1.0 run.1.1
 asked_by [] None = nothing
 asked_by (kind ∷ kinds) run = if is_shown kind then to_be_shown else nothing
 
@@ -98,7 +107,8 @@ asked words = asked_by (faults words) (run_asked words)
 
 -- the answer says what the words ask for, or memory ran out
 abbrev pub Answers : List Text → Result Request CommandFault → Type 0
-Answers words (Ok (Sim file options)) = asked words ≡ to_run file.now options
+Answers words (Ok (Sim file options)) = asked words ≡ to_run false file.now options
+Answers words (Ok (Live file options)) = asked words ≡ to_run true file.now options
 Answers words (Ok (Show text)) = asked words ≡ to_be_shown
 Answers words (Err Bad) = asked words ≡ nothing
 Answers words (Err NoMemory) = ⊤
@@ -106,6 +116,13 @@ Answers words (Err NoMemory) = ⊤
 -- what a fault of a parse becomes; a text to be shown may take memory
 abbrev pub Becomes : ErrorKind → Result Request CommandFault → Type 0
 Becomes kind (Ok (Sim file options)) = ⊥
+Becomes kind (Ok (Live file options)) = ⊥
 Becomes kind (Ok (Show text)) = is_shown kind ≡ true
 Becomes kind (Err Bad) = (is_shown kind ≡ false) × (kind ≡ OutOfMemory → ⊥)
 Becomes kind (Err NoMemory) = (is_shown kind ≡ true) ⊎ (kind ≡ OutOfMemory)
+
+-- to run a script on threads or by the simulator
+abbrev pub Runs : Bool → Text → Options → Request → Type 0
+Runs live file options (Sim f o) = (live ≡ false) × (f.now ≡ file) × (o ≡ options)
+Runs live file options (Live f o) = (live ≡ true) × (f.now ≡ file) × (o ≡ options)
+Runs live file options (Show text) = ⊥

@@ -29,8 +29,9 @@ names = map (λ option. option.0.now)
 abbrev pub file : Rule
 file = record (new_rule (codes "FILE")) { required = true }
 
-abbrev pub sim : Shape
-sim = record (new_shape (codes "sim")) { rules = file ∷ map option_named option_names }
+-- a subcommand of this name, which runs a script
+abbrev pub runner : Text → Shape
+runner name = record (new_shape name) { rules = file ∷ map option_named option_names }
 
 abbrev pub gfscell : Shape
 gfscell = record (new_shape (codes "gfscell")) {
@@ -41,4 +42,4 @@ gfscell = record (new_shape (codes "gfscell")) {
 }
 
 abbrev pub program : App
-program = record { top = gfscell; subs = sim ∷ [] }
+program = record { top = gfscell; subs = runner (codes "sim") ∷ runner (codes "live") ∷ [] }

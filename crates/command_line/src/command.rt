@@ -2,8 +2,8 @@
 
 ghost use Rattle.std.specs.Prelude.{◌≡◌, Some, IfOk, IfErr, is_ok, map, string_bytes, false};
 ghost use Rattle.clap.specs.Words.{app_of, shape_of, found_of, kind_of, rows_of, rule_of};
-ghost use Rattle.command_line.specs.Program.{names, option_named, option_names, program, setting_names, sim, with_options};
-ghost use Rattle.command_line.specs.Asking.{Answers, Becomes, all_numbered, config_of, is_numbered, narrow_for, number_for, options_of};
+ghost use Rattle.command_line.specs.Program.{names, option_named, option_names, program, runner, setting_names, with_options};
+ghost use Rattle.command_line.specs.Asking.{Answers, Becomes, Runs, all_numbered, config_of, is_live, is_numbered, narrow_for, number_for, options_of};
 ghost use Rattle.command_line.specs.Faults.{fault_text};
 ghost use Rattle.command_line.specs.declared.command.CommandFault.TheVariants.{Bad, NoMemory};
 
@@ -20,8 +20,10 @@ use std::fmt;
 /// What a command line asks for.
 #[derive(Debug, Drop)]
 pub enum Request<'a> {
-    /// To run the script of a file, where `-` is standard input.
+    /// To run the script of a file by the simulator, where `-` is standard input.
     Sim { file: &'a str, options: Options },
+    /// To run it on a cell with threads.
+    Live { file: &'a str, options: Options },
     /// To print this text: the help or the version.
     Show(String),
 }
@@ -123,15 +125,14 @@ fn with_options<'a>(
     Ok(command)
 }
 
-fn sim_command<'a>(alloc: Global) -> Result<Command<'a>, AllocError>
-    ensures { IfOk result (λ command. shape_of command ≡ sim) }
+/// A subcommand that runs a script.
+fn runner<'a>(alloc: Global, name: &'a str, about: &'a str) -> Result<Command<'a>, AllocError>
+    ensures { IfOk result (λ command. shape_of command ≡ runner name.entry.now) }
 {
     let file = Arg::new(alloc, "FILE")
         .help("The script, or - for standard input")
         .required(true);
-    let command = Command::new(alloc, "sim")
-        .about("Runs a script on a simulated cell")
-        .arg(file)?;
+    let command = Command::new(alloc, name).about(about).arg(file)?;
     with_options(alloc, command, &OPTIONS)
 }
 
@@ -143,7 +144,8 @@ fn command<'a>(alloc: Global) -> Result<Command<'a>, AllocError>
         .about("A Google File System cell")
         .disable_help_subcommand(true)
         .subcommand_required(true)
-        .subcommand(sim_command(alloc)?)
+        .subcommand(runner(alloc, "sim", "Runs a script on a simulated cell")?)?
+        .subcommand(runner(alloc, "live", "Runs a script on a cell with threads")?)
 }
 
 /// The value of an option, or `default` where it isn't given.
@@ -226,11 +228,21 @@ pub fn parse<'a>(alloc: Global, words: &'a [String]) -> Result<Request<'a>, Comm
         Ok(matches) => matches,
         Err(error) => return shown(alloc, &error),
     };
-    let Some((_, sim)) = matches.subcommand() else {
+    let Some((name, given)) = matches.subcommand() else {
         return Err(CommandFault::Bad);
     };
-    Ok(Request::Sim {
-        file: sim.get_str("FILE").ok_or(CommandFault::Bad)?,
-        options: options(sim)?,
-    })
+    let file = given.get_str("FILE").ok_or(CommandFault::Bad)?;
+    let options = options(given)?;
+    Ok(request_for(name, file, options))
+}
+
+/// What the subcommand of a name asks for.
+fn request_for<'a>(name: &str, file: &'a str, options: Options) -> Request<'a>
+    ensures { Runs (is_live name.now) file.now options result }
+{
+    if name == "live" {
+        Request::Live { file, options }
+    } else {
+        Request::Sim { file, options }
+    }
 }

@@ -113,6 +113,20 @@ fn sets_each_option(rt: HostRuntime) -> Result<(), Fail> {
     Ok(())
 }
 
+#[test]
+fn asks_for_threads(rt: HostRuntime) -> Result<(), Fail> {
+    let alloc = rt.alloc();
+    let words = words(alloc, "gfscell live a.live --servers 5")?;
+    let is_asked = match parse(alloc, words.as_slice()) {
+        Ok(Request::Live { file, options }) => {
+            file == "a.live" && numbers(&options) == changed(&[("servers", 5)])
+        }
+        _ => false,
+    };
+    assert!(rt; is_asked);
+    Ok(())
+}
+
 /// Command lines, and the settings that they change.
 const LINES: [(&str, &[(&str, u64)]); 8] = [
     ("gfscell sim a.gfs", &[]),
@@ -162,7 +176,8 @@ fn refuses_other_words(rt: HostRuntime) -> Result<(), Fail> {
     let lines = [
         "gfscell",
         "gfscell help",
-        "gfscell live -",
+        "gfscell live",
+        "gfscell live a.live b.live",
         "gfscell sim",
         "gfscell a.gfs",
         "gfscell sim a.gfs b.gfs",
@@ -198,7 +213,7 @@ fn shows_help(rt: HostRuntime) -> Result<(), Fail> {
     let alloc = rt.alloc();
     for (line, part) in [
         ("gfscell --help", "sim"),
-        ("gfscell -h", "sim"),
+        ("gfscell -h", "live"),
         ("gfscell sim --help", "--lease-ms"),
         ("gfscell sim a.gfs --help", "--journal"),
         ("gfscell --version", "gfscell 0.1.0"),

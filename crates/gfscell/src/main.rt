@@ -8,6 +8,7 @@ ghost use Rattle.gfscell.specs.Status.{status_of};
 ghost use Rattle.gfscell.specs.declared.ProgramFault.TheVariants as faults;
 
 use command_line::command::{CommandFault, Request, parse};
+use live::run::run_live;
 use script::options::Options;
 use script::script_fault::ScriptFault;
 use shell::run::run_script;
@@ -15,6 +16,9 @@ use std::error::Error;
 use std::fs::File;
 use std::io::{self, BufReader, BufWriter, ErrorKind, Read};
 use std::process::ExitCode;
+use std::sync::Wait;
+use std::thread::Threads;
+use std::time::Clock;
 use std::{env, fmt};
 
 /// Why the program fails.
@@ -66,7 +70,7 @@ impl From<ScriptFault> for ProgramFault {
     }
 }
 
-/// Runs the script that a source gives.
+/// Runs the script that a source gives by the simulator.
 fn simulate<S: Read + Drop>(
     rt: &HostRuntime,
     options: &Options,
@@ -78,6 +82,19 @@ fn simulate<S: Read + Drop>(
     run_script(alloc, options, &mut reader, &mut writer)
 }
 
+/// Runs the script that a source gives on a cell with threads.
+fn play<T: Threads + Wait + Clock + Copy + Send + Sync + 'static, S: Read + Drop>(
+    threads: T,
+    rt: &HostRuntime,
+    options: &Options,
+    source: S,
+) -> Result<(), ScriptFault> {
+    let alloc = rt.alloc();
+    let mut reader = BufReader::new(alloc, source).map_err(|e| ScriptFault::of_read(&e))?;
+    let mut writer = BufWriter::new(alloc, io::writer(rt)).map_err(|e| ScriptFault::of_write(&e))?;
+    run_live(threads, alloc, options, &mut reader, &mut writer)
+}
+
 /// The words of the command line. Words that are no text are a bad command line.
 fn words(rt: &HostRuntime) -> Result<Vec<String>, CommandFault> {
     match env::args(rt) {
@@ -87,7 +104,10 @@ fn words(rt: &HostRuntime) -> Result<Vec<String>, CommandFault> {
     }
 }
 
-fn run(rt: &HostRuntime) -> Result<(), ProgramFault> {
+fn run<T: Threads + Wait + Clock + Copy + Send + Sync + 'static>(
+    threads: T,
+    rt: &HostRuntime,
+) -> Result<(), ProgramFault> {
     let alloc = rt.alloc();
     let words = words(rt)?;
     match parse(alloc, words.as_slice())? {
@@ -99,12 +119,17 @@ fn run(rt: &HostRuntime) -> Result<(), ProgramFault> {
             let script = File::open(rt, file).map_err(|e| ScriptFault::of_read(&e))?;
             simulate(rt, &options, script)?;
         }
+        Request::Live { file: "-", options } => play(threads, rt, &options, rt.reader())?,
+        Request::Live { file, options } => {
+            let script = File::open(rt, file).map_err(|e| ScriptFault::of_read(&e))?;
+            play(threads, rt, &options, script)?;
+        }
     }
     Ok(())
 }
 
 fn main(rt: HostRuntime) -> ExitCode {
-    match run(&rt) {
+    match run(rt, &rt) {
         Ok(()) => ExitCode::SUCCESS,
         Err(fault) => {
             // Nothing can tell of a standard error that can't be written.

@@ -31,7 +31,7 @@ fn options_of(alloc: Global, first: &[&str], script: &str) -> Result<Options> {
     }
     match parse(alloc, words.as_slice())? {
         Request::Sim { options, .. } => Ok(options),
-        Request::Show(_) => Err(anyhow!("the options ask for no script")),
+        Request::Live { .. } | Request::Show(_) => Err(anyhow!("the options ask for no script")),
     }
 }
 
