@@ -44,7 +44,7 @@ fn bad_lines_end_a_script(rt: HostRuntime) {
 }
 
 #[test]
-fn fuses_burn_nothing_yet(rt: HostRuntime) {
+fn scripts_with_fuses_end(rt: HostRuntime) {
     let rows: [Row; 3] = [
         (
             "fuse master 0 old\nstart c1 create /f\nrestart master\nfinish\nc1 create /f\n",
