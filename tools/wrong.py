@@ -18,10 +18,10 @@ def edits_in(folder):
 
 
 def edits_named(names):
-    """The edits of tools/wrong, or those of these names there, in tools/wrong_by_parts or in tools/wrong_by_laws."""
+    """The edits of tools/wrong, or those of these names there or in a folder of wrong definitions beside it."""
     if not names:
         return edits_in('wrong')
-    paths = edits_in('wrong') + edits_in('wrong_by_parts') + edits_in('wrong_by_laws')
+    paths = edits_in('wrong') + edits_in('wrong_by_parts') + edits_in('wrong_by_laws') + edits_in('wrong_above_laws/*')
     found = [path for path in paths if os.path.basename(path)[:-5] in names]
     unknown = set(names) - {os.path.basename(path)[:-5] for path in found}
     if unknown:

@@ -1,9 +1,9 @@
 //! A running cell.
 
-ghost use Rattle.std.specs.Prelude.{◌≡◌, ◌+◌, [], false, IfOk, OnOk};
+ghost use Rattle.std.specs.Prelude.{◌≡◌, ◌+◌, ◌≤◌, ◌<◌, [], IfOk, IfErr, OnOk, OnErr, vec_len};
+ghost use Rattle.journal_list.specs.Log.{listed};
 ghost use Rattle.cell_making.specs.Making.{IsFitting, IsSame};
-ghost use Rattle.cell_seat.specs.Seats.{shown};
-ghost use Rattle.cell_run.specs.Cells.{IsCellOf};
+ghost use Rattle.cell_run.specs.Cells.{IsCellOf, IsNewCell, IsNewSeat, IsWhy, more};
 
 use crate::fault::SeatFault;
 use crate::threads::{CLOSING, ENDED, serve, stop_all, tick, wait_for_clients};
@@ -21,8 +21,9 @@ use crossbeam_channel::Receiver;
 use gfs_types::config::Config;
 use gfs_types::ids::{ClientId, Node, ServerId};
 use journal_calls::open;
+use journal_list::Beginning;
+use journal_pages::entry::Entry;
 use journal_pages::pages::Pages;
-use journal_steps::Sight;
 use running_client::RunningClient;
 use std::alloc::Global;
 use std::marker::Model;
@@ -44,6 +45,8 @@ type Thread = JoinHandle<()>;
 pub struct Cell {
     alloc: Global,
     dealer: Dealer,
+    /// The journal with no step in it, which is what a new client has seen.
+    nothing: Beginning<Entry>,
     /// The mailboxes of the clients from the next one on, the next one's last.
     inboxes: Vec<Receiver<Letter>>,
     /// How many clients were made.
@@ -58,6 +61,7 @@ impl Drop for Cell {
         let Self {
             alloc: _,
             dealer: _dealer,
+            nothing: _nothing,
             inboxes: _inboxes,
             made: _,
             ticker: _ticker,
@@ -67,14 +71,14 @@ impl Drop for Cell {
 }
 
 impl Model for Cell {
-    ghost use Rattle.journal_pages.specs.Identity.{Identity};
-    ghost use Rattle.cell_run.specs.Cells.{HasMade};
+    ghost use Rattle.std.specs.Prelude.{vec_len};
+    ghost use Rattle.cell_run.specs.Cells.{CellState, cell_state, HasMade};
 
-    ghost Value = { Identity };
+    ghost Value = { CellState };
 
-    ghost view = { λ c. c.dealer.place.me.0.of };
+    ghost view = { λ c. cell_state c.dealer.place.me.0.of c.made };
 
-    ghost invariant = { λ c. HasMade c.dealer.config c.dealer.servers c.dealer.dealt c.made };
+    ghost invariant = { λ c. HasMade c.dealer.config c.dealer.servers c.dealer.dealt c.made (vec_len c.inboxes) c.dealer.place.me.0.of.name c.nothing };
 }
 
 impl Cell {
@@ -87,7 +91,7 @@ impl Cell {
         R: Threads + Wait + Clock + Copy + Send + 'static,
         G: Gate + Clone + Send + Drop + 'static,
     >(rt: R, alloc: Global, config: Config, servers: u16, gate: G) -> Result<Cell, StartFault>
-        ensures { IfOk result (λ cell. IsCellOf config servers cell) }
+        ensures { IfOk result (λ cell. IsNewCell config servers cell) }
     {
         if !are_fitting(&config) {
             return Err(StartFault::Config);
@@ -98,41 +102,34 @@ impl Cell {
         let Ok(began) = rt.monotonic() else {
             return Err(StartFault::Clock);
         };
-        let (dealer, boxes) = new_dealer(alloc, config, servers, began)?;
-        let ticker = ticks(rt, &dealer.hall, servers)?;
-        start_with(rt, alloc, dealer, boxes, ticker, gate)
+        let made = new_dealer(alloc, config, servers, began)?;
+        let ticker = ticks(rt, &made.dealer.hall, servers)?;
+        start_with(rt, alloc, made, ticker, gate)
     }
 
-    /// A new client. It has seen the journal as it is now, in which it took no step.
+    /// The next client, which has seen nothing of the journal yet. A fault leaves the cell as it was.
     ///
-    /// - `Many`: as many as there may be were made.
-    /// - `Closed`: the cell closes.
+    /// - `Many`: as many as there may be were made. So it is always then, and never before.
     /// - `NoMemory`: memory was refused.
-    pub fn client(&mut self, rt: &impl Wait) -> Result<ClientSeat, SeatFault>
-        ensures same { self.new ≡ self.old }
-        ensures cell { IfOk result (λ s. s.cell ≡ self.old) }
-        ensures new { IfOk result (λ s. shown s ≡ []) }
-        ensures kept { IfOk result (λ s. s.is_lost ≡ false) }
+    pub fn client(&mut self) -> Result<ClientSeat, SeatFault>
+        ensures ok { OnOk result ((self.old.made < 64) × (self.new ≡ more self.old)) }
+        ensures err { OnErr result (self.new ≡ self.old) }
+        ensures seat { IfOk result (λ s. IsNewSeat self.old s) }
+        ensures fault { IfErr result (IsWhy self.old) }
     {
-        if self.dealer.hall.is_closing() {
-            return Err(SeatFault::Closed);
-        }
         if self.made >= MOST_CLIENTS {
             return Err(SeatFault::Many);
         }
         let id = ClientId(self.made + 1);
         let bit = 1u64 << self.made;
-        let Some(Sight { beginning, count }) = self.dealer.look(rt) else {
-            return Err(SeatFault::Closed);
-        };
         let Ok(slot) = client_slot(self.alloc, &mut self.dealer, id) else {
             return Err(SeatFault::NoMemory);
         };
         self.made += 1;
-        let Some(inbox) = self.inboxes.pop() else {
-            return Err(SeatFault::Many);
-        };
-        Ok(Seat::new(slot, inbox, beginning, count, bit))
+        match self.inboxes.pop() {
+            Some(inbox) => Ok(Seat::new(slot, inbox, self.nothing.again(), 0, bit)),
+            None => unreachable!(),
+        }
     }
 
     /// The network does so from now on.
@@ -153,11 +150,12 @@ impl Cell {
 
     /// Ends the cell: no step is begun any more, each call that waits is refused, and the threads end. No step follows.
     pub fn close<R: Threads + Wait + Clock>(self, rt: &R) -> Journal
-        ensures { result.cell ≡ self }
+        ensures { result.cell ≡ self.of }
     {
         let Self {
             alloc: _,
             dealer,
+            nothing: _nothing,
             inboxes: _inboxes,
             made: _,
             ticker,
@@ -168,23 +166,30 @@ impl Cell {
     }
 }
 
+/// What a cell has before its first node runs.
+#[derive(Drop)]
+struct Parts {
+    dealer: Dealer,
+    nothing: Beginning<Entry>,
+    boxes: Mailboxes,
+}
+
 // A cell whose ticker runs.
 fn start_with<
     R: Threads + Wait + Clock + Copy + Send + 'static,
     G: Gate + Clone + Send + Drop + 'static,
->(
-    rt: R,
-    alloc: Global,
-    dealer: Dealer,
-    boxes: Mailboxes,
-    ticker: Thread,
-    gate: G,
-) -> Result<Cell, StartFault>
-    requires fits { IsFitting dealer.config }
-    requires first { dealer.dealt ≡ 0 }
-    ensures { IfOk result (λ cell. IsCellOf dealer.config dealer.servers cell) }
+>(rt: R, alloc: Global, parts: Parts, ticker: Thread, gate: G) -> Result<Cell, StartFault>
+    requires fits { IsFitting parts.dealer.config }
+    requires first { parts.dealer.dealt ≡ 0 }
+    requires nothing { parts.nothing ≡ listed parts.dealer.place.me.0.of.name [] }
+    requires boxes { vec_len parts.boxes.clients ≡ 64 }
+    ensures { IfOk result (λ cell. IsNewCell parts.dealer.config parts.dealer.servers cell) }
 {
-    let mut dealer = dealer;
+    let Parts {
+        mut dealer,
+        nothing,
+        boxes,
+    } = parts;
     let mut nodes = Vec::new(alloc);
     let Mailboxes {
         master,
@@ -198,6 +203,7 @@ fn start_with<
             Ok(Cell {
                 alloc,
                 dealer,
+                nothing,
                 inboxes,
                 made: 0,
                 ticker,
@@ -266,14 +272,20 @@ fn new_dealer(
     config: Config,
     servers: u16,
     began: Duration,
-) -> Result<(Dealer, Mailboxes), StartFault>
-    ensures { IfOk result (λ made. (made.0.config ≡ config) × (made.0.servers ≡ servers) × (made.0.dealt ≡ 0)) }
+) -> Result<Parts, StartFault>
+    ensures dealer { IfOk result (λ p. (p.dealer.config ≡ config) × (p.dealer.servers ≡ servers) × (p.dealer.dealt ≡ 0)) }
+    ensures nothing { IfOk result (λ p. p.nothing ≡ listed p.dealer.place.me.0.of.name []) }
+    ensures boxes { IfOk result (λ p. vec_len p.boxes.clients ≡ 64) }
 {
     let Some(pages) = Pages::new(alloc, config, u64::from(servers), MOST_CLIENTS) else {
         return Err(StartFault::NoMemory);
     };
+    let nothing = pages.beginning();
     let (table, place) = open(alloc, pages)?;
     let (post, boxes) = Post::new(alloc, servers, MOST_CLIENTS)?;
+    if boxes.clients.len() as u64 != MOST_CLIENTS {
+        return Err(StartFault::NoMemory);
+    }
     let hall = Hall {
         table,
         post,
@@ -282,16 +294,17 @@ fn new_dealer(
         closing: AtomicU64::new(0),
     };
     match Arc::new(alloc, hall) {
-        Ok(hall) => Ok((
-            Dealer {
+        Ok(hall) => Ok(Parts {
+            dealer: Dealer {
                 hall,
                 config,
                 servers,
                 dealt: 0,
                 place,
             },
+            nothing,
             boxes,
-        )),
+        }),
         Err(_) => Err(StartFault::NoMemory),
     }
 }

@@ -5,6 +5,5 @@
 pub enum SeatFault {
     /// As many as there may be were made.
     Many,
-    Closed,
     NoMemory,
 }

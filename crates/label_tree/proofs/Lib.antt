@@ -1,2 +1,4 @@
+pub mod Behind
 pub mod FirstNode
+pub mod Fronts
 pub mod Levels

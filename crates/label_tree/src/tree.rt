@@ -11,7 +11,6 @@ use trie_labels::front::rest_behind;
 
 /// Siblings, by the first byte of their labels. Seen as the list of all their names with what stands there, in the order of the names' bytes.
 #[cycle(trie)]
-#[derive(Drop)]
 pub struct Tree<V, A: Allocator> {
     top: Link<V, A>,
 }
@@ -46,8 +45,35 @@ impl<V, A: Allocator> Model for Tree<V, A> {
     ghost size_decreases = { λ a h. deep_le_bytes A.Allocator a.top h };
 }
 
+// Goes from sibling to sibling by a loop, so that it is no deeper than the longest name.
+impl<V: Drop, A: Allocator> Drop for Tree<V, A> {
+    fn drop(self) {
+        let Tree { mut top } = self;
+        loop {
+            match top {
+                Link::End => return,
+                Link::More(node) => {
+                    let Node { next, .. } = Box::into_inner(node);
+                    top = next.open();
+                }
+            }
+        }
+    }
+}
+
 /// A node on the heap.
 pub type Boxed<V, A> = Box<Node<V, Tree<V, A>>, A>;
+
+impl<V: Drop, A: Allocator> Tree<V, A> {
+    /// The first node.
+    pub fn open(self) -> Link<V, A>
+        ensures says { entries_of result ≡ self }
+        ensures order { IsInOrder result }
+    {
+        let Tree { top } = self;
+        top
+    }
+}
 
 impl<V: Drop, A: Allocator + Clone> Tree<V, A> {
     /// No names.
@@ -55,14 +81,6 @@ impl<V: Drop, A: Allocator + Clone> Tree<V, A> {
         ensures { result ≡ [] }
     {
         Tree { top: Link::End }
-    }
-
-    /// The first node.
-    pub fn open(self) -> Link<V, A>
-        ensures says { entries_of result ≡ self }
-        ensures order { IsInOrder result }
-    {
-        self.top
     }
 
     /// What begins with this node.

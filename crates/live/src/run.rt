@@ -81,7 +81,7 @@ fn play_in<T: Threads + Wait + Clock + Sync>(
     ensures players { IfOk result (λ players. vec_len players ≡ clients) }
     ensures fault { IfErr result IsOfRun }
 {
-    let mut players = new_players(rt, alloc, cell, clients)?;
+    let mut players = new_players(alloc, cell, clients)?;
     play_all(rt, alloc, lines, players.as_mut_slice());
     if players.iter().any(|player| player.lacked_memory) {
         return Err(ScriptFault::NoMemory);
@@ -106,18 +106,13 @@ fn start<T: Threads + Wait + Clock + Copy + Send + 'static>(
     }
 }
 
-fn new_players(
-    rt: &impl Wait,
-    alloc: Global,
-    cell: &mut Cell,
-    clients: u64,
-) -> Result<Vec<Player>, ScriptFault>
+fn new_players(alloc: Global, cell: &mut Cell, clients: u64) -> Result<Vec<Player>, ScriptFault>
     ensures players { IfOk result (λ players. vec_len players ≡ clients) }
     ensures fault { IfErr result IsOfRun }
 {
     let mut all = Vec::new(alloc);
     for before in 0..clients {
-        let Ok(seat) = cell.client(rt) else {
+        let Ok(seat) = cell.client() else {
             return Err(ScriptFault::NoMemory);
         };
         let player = Player {

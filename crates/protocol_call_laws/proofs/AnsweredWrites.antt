@@ -17,6 +17,7 @@ use Rattle.gfs_types.specs.declared.answer.Answer.TheVariants as answer
 use Rattle.gfs_types.specs.declared.refusal.Refusal.TheVariants.{NoMemory}
 use Rattle.gfs_types.specs.declared.mutation.Mutation.{Mutation}
 use Rattle.gfs_types.specs.declared.mutation.Mutation.TheVariants as mutation
+use Rattle.messages.specs.declared.event.Event.{Event}
 use Rattle.messages.specs.declared.event.Input.{Input}
 use Rattle.messages.specs.declared.event.Input.TheVariants as input
 use Rattle.messages.specs.declared.message.Body.{Body}
@@ -41,13 +42,14 @@ use Rattle.protocol.specs.ClientStep.{client_at, client_does, client_goes, clien
 use Rattle.protocol.specs.MasterSnapshots.{first_is_true}
 use Rattle.protocol.specs.MasterStep.{master_step, master_restart}
 use Rattle.protocol.specs.ServerStep.{server_step, server_restart}
-use Rattle.protocol.specs.World.{WorldState, new_world, stamped, IsReached}
+use Rattle.protocol.specs.World.{WorldState, new_world, stamped, happens, after_events, IsReached}
 use Rattle.protocol_laws.proofs.Steps.{on_cond, none_some, same_some}
 use Rattle.protocol_laws.proofs.Entries.{same_number}
 use Rattle.protocol_laws.proofs.ServerMoves.{IsCameIn}
 use Rattle.protocol_laws.proofs.RisingOrders.{set_cases}
 use Rattle.protocol_step_laws.specs.Attempts.{is_from_client, is_request, IsRequestOf}
-use Rattle.protocol_step_laws.proofs.Events.{HoldsAfter, holds_on}
+use Rattle.protocol_step_laws.proofs.Events.{HoldsAfter, holds_after}
+use Rattle.protocol_step_laws.proofs.LeasesStayOver.{reached_later}
 use Rattle.protocol_step_laws.proofs.ClientNumbers.{IsStepOf, goes_numbered, call_numbered}
 use Rattle.protocol_step_laws.proofs.RequestsOnce.{IsNumbered, AreNumbered, from_itself, first_and, each_event, numbered_reached, requests_are_numbered_once}
 use Rattle.protocol_entry_laws.specs.Entries.{IsAmong, IsPlacedFor}
@@ -55,26 +57,27 @@ use Rattle.protocol_entry_laws.proofs.Deadlines.{asks_for, asking, same_counted}
 use Rattle.protocol_entry_laws.specs.ChunkOrders.{HasMutate}
 use Rattle.protocol_entry_laws.proofs.Numbering.{entries_stem_from_mutates}
 use Rattle.protocol_entry_laws.specs.SettledEntries.{HasSettledEntry}
-use Rattle.protocol_entry_laws.proofs.SettledEntries.{successes_have_entries}
-use Rattle.protocol_call_laws.proofs.CallWalk.{StandsAt, StandsNow, IsCalm, IsAsking}
+use Rattle.protocol_entry_laws.proofs.SettledEntries.{successes_are_at_their_chunk}
+use Rattle.protocol_call_laws.proofs.CallWalk.{AnyUsed, StandsAt, StandsNow, IsCalm, IsAsking}
 use Rattle.protocol_call_laws.proofs.Answerers.{came_to}
 use Rattle.protocol_call_laws.proofs.LaterCalls.{pushed_later, sent_there, last_at}
 use Rattle.protocol_call_laws.specs.AnsweredWrites.{IsPartPlaced, AnsweredWritesHaveTheirBytes}
-use Rattle.protocol_call_laws.proofs.ToldParts.{HasAsked, IsPartTold, AllTold, asked_later, told_later, all_later, IsBetween, HasData, IsUnderWay, FineReply, CameAs, Leaving, step_leaves, call_leaves}
+use Rattle.protocol_call_laws.proofs.UsedIndexes.{located_part}
+use Rattle.protocol_call_laws.proofs.ToldParts.{IsLocated, HasAsked, IsPartTold, AllTold, asked_later, located_later, told_later, all_later, file_called, IsBetween, HasData, IsUnderWay, FineReply, CameAs, Leaving, step_leaves, call_leaves}
 
 -- what stands of a call, of a client that used numbers up to this one
-abbrev Stands : List Message → ℕ → ℕ → ℕ → Call → Option Message → CurrentCall → Stage → Type 0
-Stands sent client size most A o c st = StandsAt (IsBetween sent client size A most) (HasData sent client size A) (IsUnderWay sent client size A) (FineReply sent client size A) o c st
+abbrev Stands : List Message → ℕ → ℕ → ℕ → ℕ → Call → Option Message → CurrentCall → Stage → Type 0
+Stands sent client size most file A o c st = StandsAt AnyUsed (IsBetween sent client size file A most) (HasData sent client size file A) (IsUnderWay sent client size file A) (FineReply sent client size file A) o c st
 
-module _ (sent more : List Message) (client size : ℕ) (A : Call) (most later : ℕ) (rises : most ≤ later) where
-  between_later : (c : CurrentCall) → IsBetween sent client size A most c → IsBetween (sent ++ more) client size A later c
-  between_later c h = (h.0, told_later sent more client size A most later c.index rises h.1)
+module _ (sent more : List Message) (client size file : ℕ) (A : Call) (most later : ℕ) (rises : most ≤ later) where
+  between_later : (c : CurrentCall) → IsBetween sent client size file A most c → IsBetween (sent ++ more) client size file A later c
+  between_later c h = (h.0, told_later sent more client size file A most later c.index rises h.1, h.2)
 
   data_later : (o : Option Message) → ((m : Message) → o ≡ Some m → (x : Message) × IsAmong (sent ++ more) x × (x.sender ≡ m.sender) × (x.body ≡ m.body)) → (c : CurrentCall) (chunk : ToldChunk) (number : ℕ)
-      → HasData sent client size A o c chunk number → HasData (sent ++ more) client size A None c chunk number
+      → HasData sent client size file A o c chunk number → HasData (sent ++ more) client size file A None c chunk number
   data_later o there c chunk number h = (
     h.0,
-    told_later sent more client size A h.0 h.0 c.index (omega arith) h.1,
+    told_later sent more client size file A h.0 h.0 c.index (omega arith) h.1,
     h.2,
     elim (h.3) [
       | inl before ↦ inl (pushed_later sent more (data_id client number) (bytes_to_send size c.index A) before)
@@ -82,30 +85,31 @@ module _ (sent more : List Message) (client size : ℕ) (A : Call) (most later :
     ],
   )
 
-  way_later : (c : CurrentCall) (chunk : ToldChunk) (number : ℕ) → IsUnderWay sent client size A c chunk number → IsUnderWay (sent ++ more) client size A c chunk number
+  way_later : (c : CurrentCall) (chunk : ToldChunk) (number : ℕ) → IsUnderWay sent client size file A c chunk number → IsUnderWay (sent ++ more) client size file A c chunk number
   way_later c chunk number h = (
     h.0,
-    ((h.1).0, told_later sent more client size A (h.1).0 (h.1).0 c.index (omega arith) (h.1).1, (h.1).2),
+    ((h.1).0, told_later sent more client size file A (h.1).0 (h.1).0 c.index (omega arith) (h.1).1, (h.1).2),
     pushed_later sent more (data_id client number) (bytes_to_send size c.index A) h.2,
-    asked_later sent more client size A number (target_of size c.index A) h.3,
+    (asked_later sent more client size file A number (target_of size c.index A) (h.3).0, located_later sent more client size file A A c.index ((h.3).0).handle.0 ((h.3).0).version.0 (h.3).1),
+    h.4,
   )
 
-  stands_later : (o : Option Message) → ((m : Message) → o ≡ Some m → (x : Message) × IsAmong (sent ++ more) x × (x.sender ≡ m.sender) × (x.body ≡ m.body)) → (c : CurrentCall) (st : Stage) → Stands sent client size most A o c st → Stands (sent ++ more) client size later A None c st
+  stands_later : (o : Option Message) → ((m : Message) → o ≡ Some m → (x : Message) × IsAmong (sent ++ more) x × (x.sender ≡ m.sender) × (x.body ≡ m.body)) → (c : CurrentCall) (st : Stage) → Stands sent client size most file A o c st → Stands (sent ++ more) client size later file A None c st
   stands_later o there c AskedNames h = (h.0, between_later c h.1)
   stands_later o there c (AskedWhere number) h = between_later c h
   stands_later o there c MustAskAgain h = between_later c h
   stands_later o there c (SentData chunk primary number) h = (h.0, between_later c h.1, data_later o there c chunk number h.2)
   stands_later o there c (SentMutate chunk number) h = (h.0, way_later c chunk number h.1)
-  stands_later o there c (SentRead chunk left number) h = (h.0, between_later c h.1)
+  stands_later o there c (SentRead chunk left number) h = (h.0, between_later c h.1, tt)
   stands_later o there c IsOver h = between_later c h
-  stands_later o there c (HasAnswer reply) h = (between_later c h.0, λ is. all_later sent more client size c.asked (h.1 is))
+  stands_later o there c (HasAnswer reply) h = (between_later c h.0, λ is. all_later sent more client size file c.asked (h.1 is))
 
 -- what holds of a client
 abbrev IsFine : List Message → ℕ → ℕ → ClientState → Type 0
-IsFine sent size client s = (s.config.chunk ≡ size) × ((c : CurrentCall) → s.current ≡ Some c → Stands sent client size s.number c.asked None c c.stage)
+IsFine sent size client s = (s.config.chunk ≡ size) × ((c : CurrentCall) → s.current ≡ Some c → Stands sent client size s.number c.file.0 c.asked None c c.stage)
 
 fine_later : (sent more : List Message) (size client : ℕ) (s : ClientState) → IsFine sent size client s → IsFine (sent ++ more) size client s
-fine_later sent more size client s h = (h.0, λ c is. stands_later sent more client size c.asked s.number s.number (omega arith) None (λ m none. none_some m none) c c.stage (h.1 c is))
+fine_later sent more size client s h = (h.0, λ c is. stands_later sent more client size c.file.0 c.asked s.number s.number (omega arith) None (λ m none. none_some m none) c c.stage (h.1 c is))
 
 module _ (sent : List Message) (size client : ℕ) (s : ClientState) (up : IsTrue s.up) (index : ℕ) (client_is : client ≡ suc index) (numbered : IsNumbered sent index s) (fine : IsFine sent size client s) where
   own : s.id ≡ client
@@ -114,22 +118,23 @@ module _ (sent : List Message) (size client : ℕ) (s : ClientState) (up : IsTru
   used : (number : ℕ) (aim : Target) → HasAsked sent s.id number aim → number ≤ s.number
   used number aim h = (subst (IsRequestOf s) h.body_is (numbered.used up (h.sent_is).0 h.asked (h.sent_is).1 (h.sender_is ∙ ap (λ (n : ℕ). the_client n) numbered.id))).1
 
-  own_stands : (c : CurrentCall) → s.current ≡ Some c → Stands sent s.id size s.number c.asked None c c.stage
-  own_stands c is = subst (λ (n : ℕ). Stands sent n size s.number c.asked None c c.stage) (sym own) (fine.1 c is)
+  own_stands : (c : CurrentCall) → s.current ≡ Some c → Stands sent s.id size s.number c.file.0 c.asked None c c.stage
+  own_stands c is = subst (λ (n : ℕ). Stands sent n size s.number c.file.0 c.asked None c c.stage) (sym own) (fine.1 c is)
 
   abbrev Left : Taken ClientState → Type 0
   Left t = IsFine (sent ++ stamped (suc (length sent)) t.out.sent) size client t.state
 
   -- a calm step in a call
-  module _ (moment : ℕ) (A : Call) (E : Answer → Type 0) (d : ClientDoing) (step : IsStepOf (client_at s moment) d)
-      (calm : IsCalm (client_at s moment) (IsBetween sent s.id size A s.number) (HasData sent s.id size A) (IsUnderWay sent s.id size A) (FineReply sent s.id size A) E (Unit {0}) d) where
-    stage_now : (a : Option Answer) (c : CurrentCall) → StandsNow (client_at s moment) (IsBetween sent s.id size A s.number) (HasData sent s.id size A) (IsUnderWay sent s.id size A) (FineReply sent s.id size A) E (Unit {0}) d.sent a (Some c)
-        → c.asked ≡ A → Stands (sent ++ stamped (suc (length sent)) (option_to_list d.sent)) s.id size d.client.number c.asked None c c.stage
-    stage_now a c h same =
-        subst (λ (x : Call). Stands (sent ++ stamped (suc (length sent)) (option_to_list d.sent)) s.id size d.client.number x None c c.stage) (sym same)
-        (stands_later sent (stamped (suc (length sent)) (option_to_list d.sent)) s.id size A s.number d.client.number step.numbers d.sent (λ m is. sent_there sent (suc (length sent)) d.sent m is) c c.stage h.1)
+  module _ (moment file : ℕ) (A : Call) (E : Answer → Type 0) (d : ClientDoing) (step : IsStepOf (client_at s moment) d)
+      (calm : IsCalm (client_at s moment) AnyUsed (IsBetween sent s.id size file A s.number) (HasData sent s.id size file A) (IsUnderWay sent s.id size file A) (FineReply sent s.id size file A) E (Unit {0}) d) where
+    stage_now : (a : Option Answer) (c : CurrentCall) → StandsNow (client_at s moment) AnyUsed (IsBetween sent s.id size file A s.number) (HasData sent s.id size file A) (IsUnderWay sent s.id size file A) (FineReply sent s.id size file A) E (Unit {0}) d.sent a (Some c)
+        → c.asked ≡ A → c.file.0 ≡ file → Stands (sent ++ stamped (suc (length sent)) (option_to_list d.sent)) s.id size d.client.number c.file.0 c.asked None c c.stage
+    stage_now a c h same on_file =
+        subst (λ (n : ℕ). Stands (sent ++ stamped (suc (length sent)) (option_to_list d.sent)) s.id size d.client.number n c.asked None c c.stage) (sym on_file)
+        (subst (λ (x : Call). Stands (sent ++ stamped (suc (length sent)) (option_to_list d.sent)) s.id size d.client.number file x None c c.stage) (sym same)
+        (stands_later sent (stamped (suc (length sent)) (option_to_list d.sent)) s.id size file A s.number d.client.number step.numbers d.sent (λ m is. sent_there sent (suc (length sent)) d.sent m is) c c.stage h.1))
 
-    asked_of : (o : Option Message) (c : CurrentCall) (st : Stage) → Stands sent s.id size s.number A o c st → c.asked ≡ A
+    asked_of : (o : Option Message) (c : CurrentCall) (st : Stage) → Stands sent s.id size s.number file A o c st → c.asked ≡ A
     asked_of o c AskedNames h = (h.1).0
     asked_of o c (AskedWhere number) h = h.0
     asked_of o c MustAskAgain h = h.0
@@ -139,12 +144,22 @@ module _ (sent : List Message) (size client : ℕ) (s : ClientState) (up : IsTru
     asked_of o c IsOver h = h.0
     asked_of o c (HasAnswer reply) h = (h.0).0
 
+    file_of : (o : Option Message) (c : CurrentCall) (st : Stage) → Stands sent s.id size s.number file A o c st → c.file.0 ≡ file
+    file_of o c AskedNames h = (h.1).2
+    file_of o c (AskedWhere number) h = h.2
+    file_of o c MustAskAgain h = h.2
+    file_of o c (SentData chunk primary number) h = (h.1).2
+    file_of o c (SentMutate chunk number) h = (h.1).4
+    file_of o c (SentRead chunk left number) h = (h.1).2
+    file_of o c IsOver h = h.2
+    file_of o c (HasAnswer reply) h = (h.0).2
+
     calm_fine : IsFine (sent ++ stamped (suc (length sent)) (option_to_list d.sent)) size client d.client
     calm_fine = (
       ap (λ (g : Config). g.chunk) (calm.kept).0 ∙ fine.0,
       λ c is.
-          let now = subst (λ (o : Option CurrentCall). StandsNow (client_at s moment) (IsBetween sent s.id size A s.number) (HasData sent s.id size A) (IsUnderWay sent s.id size A) (FineReply sent s.id size A) E (Unit {0}) d.sent d.answer o) is calm.stands in
-          subst (λ (n : ℕ). Stands (sent ++ stamped (suc (length sent)) (option_to_list d.sent)) n size d.client.number c.asked None c c.stage) own (stage_now d.answer c now (asked_of d.sent c c.stage now.1)),
+          let now = subst (λ (o : Option CurrentCall). StandsNow (client_at s moment) AnyUsed (IsBetween sent s.id size file A s.number) (HasData sent s.id size file A) (IsUnderWay sent s.id size file A) (FineReply sent s.id size file A) E (Unit {0}) d.sent d.answer o) is calm.stands in
+          subst (λ (n : ℕ). Stands (sent ++ stamped (suc (length sent)) (option_to_list d.sent)) n size d.client.number c.file.0 c.asked None c c.stage) own (stage_now d.answer c now (asked_of d.sent c c.stage now.1) (file_of d.sent c c.stage now.1)),
     )
 
   ends_left : (d : ClientDoing) (e : Ending) → IsFine (sent ++ stamped (suc (length sent)) (option_to_list d.sent)) size client d.client → Left (client_ends s d e)
@@ -153,7 +168,7 @@ module _ (sent : List Message) (size client : ℕ) (s : ClientState) (up : IsTru
   ends_left d (Stops made) h = (fine.0, λ c is. none_some c is)
 
   -- a primary is asked
-  module _ (A : Call) (c : CurrentCall) (chunk : ToldChunk) (primary : ServerId) (number : ℕ) (mutates : is_mutation c.asked ≡ true) (over : IsBetween sent s.id size A s.number c) (pushed : HasData sent s.id size A None c chunk number) where
+  module _ (file : ℕ) (A : Call) (c : CurrentCall) (chunk : ToldChunk) (primary : ServerId) (number : ℕ) (located : IsLocated sent s.id file A c.index chunk.handle.0 chunk.round.0) (mutates : is_mutation c.asked ≡ true) (over : IsBetween sent s.id size file A s.number c) (pushed : HasData sent s.id size file A None c chunk number) where
     abbrev Word : Message
     Word = message (the_client s.id) (the_server primary.0) (body.Mutate (data_id s.id number) chunk.handle chunk.round (target_of (file_chunk s c.file.0) c.index c.asked) c.deadline)
 
@@ -166,48 +181,58 @@ module _ (sent : List Message) (size client : ℕ) (s : ClientState) (up : IsTru
     abbrev Next : CurrentCall
     Next = record c { stage = SentMutate chunk number }
 
-    way : IsUnderWay (sent ++ stamped (suc (length sent)) (Word ∷ [])) s.id size A (record c { stage = SentMutate chunk number }) chunk number
+    way : IsUnderWay (sent ++ stamped (suc (length sent)) (Word ∷ [])) s.id size file A (record c { stage = SentMutate chunk number }) chunk number
     way = (
       over.0,
-      (pushed.0, told_later sent Later s.id size A pushed.0 pushed.0 c.index (omega arith) pushed.1, pushed.2),
+      (pushed.0, told_later sent Later s.id size file A pushed.0 pushed.0 c.index (omega arith) pushed.1, pushed.2),
       elim (pushed.3) [ inl before ↦ pushed_later sent Later (data_id s.id number) (bytes_to_send size c.index A) before | inr now ↦ none_some now.0 now.1 ],
-      record {
-        asked = record Word { number = suc (length sent) };
-        handle = chunk.handle;
-        version = chunk.round;
-        deadline = c.deadline;
-        sent_is = (length sent, last_at sent (record Word { number = suc (length sent) }));
-        sender_is = refl;
-        body_is = ap (λ (n : ℕ). body.Mutate (data_id s.id number) chunk.handle chunk.round (target_of n c.index c.asked) c.deadline) fine.0
-            ∙ ap (λ (x : Call). body.Mutate (data_id s.id number) chunk.handle chunk.round (target_of size c.index x) c.deadline) over.0;
-      },
+      (
+        record {
+          asked = record Word { number = suc (length sent) };
+          handle = chunk.handle;
+          version = chunk.round;
+          deadline = c.deadline;
+          sent_is = (length sent, last_at sent (record Word { number = suc (length sent) }));
+          sender_is = refl;
+          body_is = ap (λ (n : ℕ). body.Mutate (data_id s.id number) chunk.handle chunk.round (target_of n c.index c.asked) c.deadline) fine.0
+              ∙ ap (λ (x : Call). body.Mutate (data_id s.id number) chunk.handle chunk.round (target_of size c.index x) c.deadline) over.0;
+        },
+        located_later sent Later s.id size file A A c.index chunk.handle.0 chunk.round.0 located,
+      ),
+      over.2,
     )
 
-    asking_stands : (x : CurrentCall) → Some (record c { stage = SentMutate chunk number }) ≡ Some x → Stands (sent ++ stamped (suc (length sent)) (Word ∷ [])) client size s.number x.asked None x x.stage
+    asking_stands : (x : CurrentCall) → Some (record c { stage = SentMutate chunk number }) ≡ Some x → Stands (sent ++ stamped (suc (length sent)) (Word ∷ [])) client size s.number x.file.0 x.asked None x x.stage
     asking_stands x is =
-        subst (λ (y : CurrentCall). Stands Sent client size s.number y.asked None y y.stage) (same_some (record c { stage = SentMutate chunk number }) x is)
-        (subst (λ (n : ℕ). Stands Sent n size s.number c.asked None Next (SentMutate chunk number)) own
-        (subst (λ (y : Call). Stands Sent s.id size s.number y None Next (SentMutate chunk number)) (sym over.0) (mutates, way)))
+        subst (λ (y : CurrentCall). Stands Sent client size s.number y.file.0 y.asked None y y.stage) (same_some (record c { stage = SentMutate chunk number }) x is)
+        (subst (λ (n : ℕ). Stands Sent n size s.number c.file.0 c.asked None Next (SentMutate chunk number)) own
+        (subst (λ (n : ℕ). Stands Sent s.id size s.number n c.asked None Next (SentMutate chunk number)) (sym over.2)
+        (subst (λ (y : Call). Stands Sent s.id size s.number file y None Next (SentMutate chunk number)) (sym over.0) (mutates, way))))
 
   -- a step
-  module _ (moment : ℕ) (i : Input) (came : (m : Message) → i ≡ input.Deliver m → IsAmong sent m) where
-    came_as : (A : Call) (j : Input) → i ≡ j → IsCameIn (CameAs sent s.id size A) j
-    came_as A (input.Deliver m) is = (m, came m is, refl)
-    came_as A input.Tick is = tt
+  module _ (moment : ℕ) (i : Input) (came : (m : Message) → i ≡ input.Deliver m → IsAmong sent m)
+      (located : (c : CurrentCall) (chunk : ToldChunk) (primary : ServerId) (number : ℕ) → s.current ≡ Some c → c.stage ≡ SentData chunk primary number → IsLocated sent s.id c.file.0 c.asked c.index chunk.handle.0 chunk.round.0) where
+    came_as : (file : ℕ) (A : Call) (j : Input) → i ≡ j → IsCameIn (CameAs sent s.id size file A) j
+    came_as file A (input.Deliver m) is = (m, came m is, refl)
+    came_as file A input.Tick is = tt
 
-    leaving : (c : CurrentCall) → s.current ≡ Some c → Leaving sent size c.asked (client_at s moment) fine.0 used (client_does (client_begins (client_at s moment)) i (Some c))
-    leaving c is = step_leaves sent size c.asked (client_at s moment) fine.0 used i (came_as c.asked i refl) c is (own_stands c is)
+    leaving : (c : CurrentCall) → s.current ≡ Some c → Leaving sent size c.file.0 c.asked (client_at s moment) fine.0 used (client_does (client_begins (client_at s moment)) i (Some c))
+    leaving c is = step_leaves sent size c.file.0 c.asked (client_at s moment) fine.0 used i (came_as c.file.0 c.asked i refl) c is (own_stands c is)
 
     step_of : IsStepOf (client_at s moment) (client_goes s moment i)
     step_of = goes_numbered s moment i numbered.named
 
-    abbrev Asking : Call → ClientDoing → Type 0
-    Asking A d = IsAsking (client_at s moment) (IsBetween sent s.id size A s.number) (HasData sent s.id size A) (IsUnderWay sent s.id size A) (FineReply sent s.id size A) (λ reply. FineReply sent s.id size A A reply) (Unit {0}) d
+    abbrev Asking : ℕ → Call → ClientDoing → Type 0
+    Asking file A d = IsAsking (client_at s moment) AnyUsed (IsBetween sent s.id size file A s.number) (HasData sent s.id size file A) (IsUnderWay sent s.id size file A) (FineReply sent s.id size file A) (λ reply. FineReply sent s.id size file A A reply) (Unit {0}) d
 
-    asking_fine : (A : Call) (d : ClientDoing) → Asking A d → IsFine (sent ++ stamped (suc (length sent)) (option_to_list d.sent)) size client d.client
-    asking_fine A d g =
-        subst (λ (x : ClientDoing). IsFine (sent ++ stamped (suc (length sent)) (option_to_list x.sent)) size client x.client) (sym g.is)
-        (fine.0, λ x is. asking_stands A g.current g.chunk g.primary g.number g.mutates g.over g.pushed x is)
+    asking_fine : (file : ℕ) (A : Call) (d : ClientDoing) → Asking file A d → IsFine (sent ++ stamped (suc (length sent)) (option_to_list d.sent)) size client d.client
+    asking_fine file A d g =
+        subst (λ (x : ClientDoing). IsFine (sent ++ stamped (suc (length sent)) (option_to_list x.sent)) size client x.client) (sym g.is) (
+          fine.0,
+          λ x is. asking_stands file A g.current g.chunk g.primary g.number
+              (subst (λ (n : ℕ). IsLocated sent s.id n A g.current.index g.chunk.handle.0 g.chunk.round.0) (g.over).2
+              (subst (λ (y : Call). IsLocated sent s.id g.current.file.0 y g.current.index g.chunk.handle.0 g.chunk.round.0) (g.over).0 (located g.current g.chunk g.primary g.number g.current_is g.stage_is))) g.mutates g.over g.pushed x is,
+        )
 
     goes_fine : (o : Option CurrentCall) → s.current ≡ o → IsFine (sent ++ stamped (suc (length sent)) (option_to_list (client_goes s moment i).sent)) size client (client_goes s moment i).client
     goes_fine None is =
@@ -216,8 +241,8 @@ module _ (sent : List Message) (size client : ℕ) (s : ClientState) (up : IsTru
     goes_fine (Some c) is =
         subst (λ (o : Option CurrentCall). IsStepOf (client_at s moment) (client_does (client_begins (client_at s moment)) i o) → IsFine (sent ++ stamped (suc (length sent)) (option_to_list (client_does (client_begins (client_at s moment)) i o).sent)) size client (client_does (client_begins (client_at s moment)) i o).client) (sym is)
         (λ step. elim (leaving c is) [
-          | inl calm ↦ calm_fine moment c.asked (λ reply. FineReply sent s.id size c.asked c.asked reply) (client_does (client_begins (client_at s moment)) i (Some c)) step calm
-          | inr asking ↦ asking_fine c.asked (client_does (client_begins (client_at s moment)) i (Some c)) asking
+          | inl calm ↦ calm_fine moment c.file.0 c.asked (λ reply. FineReply sent s.id size c.file.0 c.asked c.asked reply) (client_does (client_begins (client_at s moment)) i (Some c)) step calm
+          | inr asking ↦ asking_fine c.file.0 c.asked (client_does (client_begins (client_at s moment)) i (Some c)) asking
         ]) step_of
 
     step_left : (choice : Choice) → Left (client_step s moment i choice)
@@ -225,22 +250,22 @@ module _ (sent : List Message) (size client : ℕ) (s : ClientState) (up : IsTru
         on_cond Left (may_step s) (client_ends s (client_goes s moment i) choice.ending) (no_step s) (λ _. ends_left (client_goes s moment i) choice.ending (goes_fine s.current refl)) (λ _. fine_later sent [] size client s fine)
 
     -- what is answered
-    answer_fine : (choice : Choice) (c : CurrentCall) → s.current ≡ Some c → (client_step s moment i choice).out.answer ≡ Some answer.Done → AllTold sent s.id size c.asked
+    answer_fine : (choice : Choice) (c : CurrentCall) → s.current ≡ Some c → (client_step s moment i choice).out.answer ≡ Some answer.Done → AllTold sent s.id size c.file.0 c.asked
     answer_fine choice c is =
-        on_cond (λ (t : Taken ClientState). t.out.answer ≡ Some answer.Done → AllTold sent s.id size c.asked) (may_step s) (client_ends s (client_goes s moment i) choice.ending) (no_step s) (λ _. by_ending choice.ending) (λ _ none. none_some answer.Done none)
+        on_cond (λ (t : Taken ClientState). t.out.answer ≡ Some answer.Done → AllTold sent s.id size c.file.0 c.asked) (may_step s) (client_ends s (client_goes s moment i) choice.ending) (no_step s) (λ _. by_ending choice.ending) (λ _ none. none_some answer.Done none)
       where
         by_stands : (a : Option Answer) (x : Option CurrentCall) (o : Option Message)
-            → StandsNow (client_at s moment) (IsBetween sent s.id size c.asked s.number) (HasData sent s.id size c.asked) (IsUnderWay sent s.id size c.asked) (FineReply sent s.id size c.asked) (λ reply. FineReply sent s.id size c.asked c.asked reply) (Unit {0}) o a x
-            → a ≡ Some answer.Done → AllTold sent s.id size c.asked
+            → StandsNow (client_at s moment) AnyUsed (IsBetween sent s.id size c.file.0 c.asked s.number) (HasData sent s.id size c.file.0 c.asked) (IsUnderWay sent s.id size c.file.0 c.asked) (FineReply sent s.id size c.file.0 c.asked) (λ reply. FineReply sent s.id size c.file.0 c.asked c.asked reply) (Unit {0}) o a x
+            → a ≡ Some answer.Done → AllTold sent s.id size c.file.0 c.asked
         by_stands None None o h none = none_some answer.Done none
         by_stands (Some reply) None o h same = h (same_some reply answer.Done same)
         by_stands a (Some x) o h same = none_some answer.Done (sym h.0 ∙ same)
 
-        by_goes : (d : ClientDoing) → Leaving sent size c.asked (client_at s moment) fine.0 used d → d.answer ≡ Some answer.Done → AllTold sent s.id size c.asked
+        by_goes : (d : ClientDoing) → Leaving sent size c.file.0 c.asked (client_at s moment) fine.0 used d → d.answer ≡ Some answer.Done → AllTold sent s.id size c.file.0 c.asked
         by_goes d (inl calm) same = by_stands d.answer d.client.current d.sent calm.stands same
         by_goes d (inr asking) same = none_some answer.Done (sym (ap (λ (x : ClientDoing). x.answer) asking.is) ∙ same)
 
-        by_ending : (e : Ending) → (client_ends s (client_goes s moment i) e).out.answer ≡ Some answer.Done → AllTold sent s.id size c.asked
+        by_ending : (e : Ending) → (client_ends s (client_goes s moment i) e).out.answer ≡ Some answer.Done → AllTold sent s.id size c.file.0 c.asked
         by_ending Goes same = by_goes (client_does (client_begins (client_at s moment)) i (Some c)) (leaving c is) (ap (λ (o : Option CurrentCall). (client_does (client_begins (client_at s moment)) i o).answer) (sym is) ∙ same)
         by_ending Lost same = none_some answer.Done same
         by_ending (Stops made) same = none_some answer.Done same
@@ -251,9 +276,15 @@ module _ (sent : List Message) (size client : ℕ) (s : ClientState) (up : IsTru
       let refused : ClientDoing = answers (client_begins (client_at s moment)) (answer.Refused NoMemory) in
       on_cond Left (first_is_true choice.refused) (client_ends s refused choice.ending) (client_ends s (client_call_goes s moment c) choice.ending) (λ _. ends_left refused choice.ending (fine.0, λ e is. none_some e is))
       (λ _. ends_left (client_call_goes s moment c) choice.ending
-      (calm_fine moment c (λ reply. Unit {0}) (client_call_goes s moment c) (call_numbered s moment c numbered.named) (call_leaves sent size c (client_at s moment) fine.0 used none)))
+      (calm_fine moment (file_called (client_at s moment) c) c (λ reply. Unit {0}) (client_call_goes s moment c) (call_numbered s moment c numbered.named) (call_leaves sent size (file_called (client_at s moment) c) c (client_at s moment) fine.0 used none refl)))
 
 -- worlds
+
+-- which chunk was told for the part in hand
+located_at : (config : Config) (servers clients : ℕ) (w : WorldState) → IsReached config servers clients w → (index : ℕ) (s : ClientState) → element_at w.clients index ≡ Some s → IsNumbered w.sent index s
+    → (c : CurrentCall) (chunk : ToldChunk) (primary : ServerId) (number : ℕ) → s.current ≡ Some c → c.stage ≡ SentData chunk primary number → IsLocated w.sent s.id c.file.0 c.asked c.index chunk.handle.0 chunk.round.0
+located_at config servers clients w r index s at numbered c chunk primary number current staged =
+    subst (λ (n : ℕ). IsLocated w.sent n c.file.0 c.asked c.index chunk.handle.0 chunk.round.0) (sym numbered.id) (located_part config servers clients w r index s at c current chunk primary number staged)
 
 module _ (size : ℕ) where
   abbrev AreFine : List Message → List ClientState → Type 0
@@ -277,8 +308,8 @@ module _ (size : ℕ) where
   no_call None is = refl
   no_call (Some c) is = absurd (true≢false (sym is))
 
-  on_event : (w : WorldState) → IsOn w → HoldsAfter w (λ e x. IsOn x.world)
-  on_event w h =
+  on_event : (config : Config) (servers clients : ℕ) (w : WorldState) → IsReached config servers clients w → IsOn w → HoldsAfter w (λ e x. IsOn x.world)
+  on_event config servers clients w r h =
       let n = each_event w h.numbered in
       let k : ℕ = suc (length w.sent) in
       record {
@@ -290,7 +321,8 @@ module _ (size : ℕ) where
         steps = λ e index moment s i choice at is up. record {
           numbered = n.steps e index moment s i choice at is up;
           fine = one_left w.sent (stamped k (client_step s moment i choice).out.sent) w.clients index (client_step s moment i choice).state
-              (step_left w.sent size (suc index) s up index refl (h.numbered.each index s at) (h.fine index s at) moment i (came_to w e (the_client (suc index)) moment i is) choice) h.fine;
+              (step_left w.sent size (suc index) s up index refl (h.numbered.each index s at) (h.fine index s at) moment i (came_to w e (the_client (suc index)) moment i is)
+              (located_at config servers clients w r index s at (h.numbered.each index s at)) choice) h.fine;
         };
         calls = λ e index moment s c choice at may. record {
           numbered = n.calls e index moment s c choice at may;
@@ -306,10 +338,16 @@ new_clients config [] index s is = none_some s is
 new_clients config (n ∷ ns) zero s is = let same = same_some (new_client config n) s is in (ap (λ (c : ClientState). c.config.chunk) (sym same), ap (λ (c : ClientState). c.current) (sym same))
 new_clients config (n ∷ ns) (suc index) s is = new_clients config ns index s is
 
+on_reached : (config : Config) (servers clients : ℕ) (w : WorldState) (steps : List (Event × Choice)) → IsReached config servers clients w → IsOn config.chunk w → IsOn config.chunk (after_events w steps)
+on_reached config servers clients w [] r h = h
+on_reached config servers clients w (step ∷ rest) r h =
+    on_reached config servers clients (happens w step.0 step.1).world rest (reached_later config servers clients w (step ∷ []) r)
+    (holds_after w (λ e x. IsOn config.chunk x.world) (on_event config.chunk config servers clients w r h) step.0 step.1)
+
 all_on : (config : Config) (servers clients : ℕ) (w : WorldState) → IsReached config servers clients w → IsOn config.chunk w
 all_on config servers clients w r =
     subst (λ (v : WorldState). IsOn config.chunk v) r.1
-    (holds_on (IsOn config.chunk) (on_event config.chunk) (new_world config servers clients) r.0
+    (on_reached config servers clients (new_world config servers clients) r.0 ([], refl)
     (record {
       numbered = numbered_reached config servers clients (new_world config servers clients) ([], refl);
       fine = λ index s at. let new = new_clients config (first_numbers clients) index s at in (new.0, λ c is. none_some c (sym new.1 ∙ is));
@@ -333,15 +371,14 @@ same_aim id handle other version later aim its deadline end g = cc
 same_bytes : (id : DataId) (bytes found rest more : List ℕ) → body.Push id bytes rest ≡ body.Push id found more → bytes ≡ found
 same_bytes id bytes found rest more g = cc
 
-module _ (config : Config) (servers clients : ℕ) (w : WorldState) (r : IsReached config servers clients w) (client offset : ℕ) (bytes : List ℕ) (fd : Fd) (part number : ℕ) (told : IsPartTold w.sent client config.chunk (call.Write fd offset bytes) part number) where
-  found : (handle : ℕ) × (round : ℕ) × HasSettledEntry w.observer handle round (data_id client number) told.place
-  found = successes_have_entries config servers clients w r (told.sent_is).0 told.told (told.sent_is).1 (data_id client number) told.place told.body_is
-
-  entry : HasSettledEntry w.observer found.0 found.1 (data_id client number) told.place
-  entry = found.2
+module _ (config : Config) (servers clients : ℕ) (w : WorldState) (r : IsReached config servers clients w) (client file offset : ℕ) (bytes : List ℕ) (fd : Fd) (part number : ℕ) (told : IsPartTold w.sent client config.chunk file (call.Write fd offset bytes) part number) where
+  entry : HasSettledEntry w.observer told.asked.handle.0 told.asked.version.0 (data_id client number) told.place
+  entry =
+      successes_are_at_their_chunk config servers clients w r (told.sent_is).0 told.told (told.sent_is).1 (data_id client number) told.place told.body_is told.asked.asked told.asked.handle told.asked.version (target.Write (part_start config.chunk offset part)) told.asked.deadline
+      told.asked.sent_is told.asked.sender_is told.asked.body_is
 
   stem : (from : ℕ) × HasMutate w.sent from entry.placed
-  stem = stems config servers clients w r found.0 entry.place entry.placed entry.is
+  stem = stems config servers clients w r told.asked.handle.0 entry.place entry.placed entry.is
 
   mutate : HasMutate w.sent stem.0 entry.placed
   mutate = stem.1
@@ -389,11 +426,12 @@ module _ (config : Config) (servers clients : ℕ) (w : WorldState) (r : IsReach
       written (part_start config.chunk offset part) (part_bytes config.chunk offset bytes part) (entry.placed).entry.mutation
       (subst (λ (t : Target). IsPlacedFor t (part_bytes config.chunk offset bytes part) (entry.placed).entry.mutation) aim_is (subst (λ (x : List ℕ). IsPlacedFor mutate.aim x (entry.placed).entry.mutation) bytes_are mutate.fits))
 
-  part_placed : IsPartPlaced w config.chunk client offset bytes part number
+  part_placed : IsPartPlaced w config.chunk client file offset bytes part number
   part_placed =
       record {
-        handle = found.0;
-        round = found.1;
+        handle = told.asked.handle.0;
+        round = told.asked.version.0;
+        chunk = told.located;
         entry = record {
           place = entry.place;
           placed = entry.placed;
@@ -409,7 +447,7 @@ module _ (config : Config) (servers clients : ℕ) (w : WorldState) (r : IsReach
 
 pub answered_writes_have_their_bytes : AnsweredWritesHaveTheirBytes
 answered_writes_have_their_bytes config servers clients w r index moment s i choice a fd offset bytes asked =
-    (all.numbers, λ part has. part_placed config servers clients w r (suc index) offset bytes fd part (all.numbers part) (all.told part has), λ part later less has also. all.rising part later less has also)
+    (all.numbers, λ part has. part_placed config servers clients w r (suc index) a.current.file.0 offset bytes fd part (all.numbers part) (all.told part has), λ part later less has also. all.rising part later less has also)
   where
     on : IsOn config.chunk w
     on = all_on config servers clients w r
@@ -421,8 +459,8 @@ answered_writes_have_their_bytes config servers clients w r index moment s i cho
     is_up true is = is
     is_up false is = none_some answer.Done (sym (ap (λ (b : Bool). (cond (b && has_room_to_count s) (client_ends s (client_goes s moment i) choice.ending) (no_step s)).out.answer) is) ∙ a.answered)
 
-    told : AllTold w.sent s.id config.chunk a.current.asked
-    told = answer_fine w.sent config.chunk (suc index) s (is_up s.up refl) index refl numbered (on.fine index s a.is) moment i a.came choice a.current a.current_is a.answered
+    told : AllTold w.sent s.id config.chunk a.current.file.0 a.current.asked
+    told = answer_fine w.sent config.chunk (suc index) s (is_up s.up refl) index refl numbered (on.fine index s a.is) moment i a.came (located_at config servers clients w r index s a.is numbered) choice a.current a.current_is a.answered
 
-    all : AllTold w.sent (suc index) config.chunk (call.Write fd offset bytes)
-    all = subst (λ (n : ℕ). AllTold w.sent n config.chunk (call.Write fd offset bytes)) numbered.id (subst (λ (x : Call). AllTold w.sent s.id config.chunk x) asked told)
+    all : AllTold w.sent (suc index) config.chunk a.current.file.0 (call.Write fd offset bytes)
+    all = subst (λ (n : ℕ). AllTold w.sent n config.chunk a.current.file.0 (call.Write fd offset bytes)) numbered.id (subst (λ (x : Call). AllTold w.sent s.id config.chunk a.current.file.0 x) asked told)

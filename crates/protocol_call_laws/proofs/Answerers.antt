@@ -1,4 +1,4 @@
--- In each world that is reached, a Done comes from a server, and so does a refusal, or it refuses an Ask of its receiver under that number.
+-- In each world that is reached, a Done comes from a server, and so does a refusal, or it refuses an Ask of its receiver under that number; and a location answers an Ask of its receiver.
 use Rattle.std.proofs.Common.{◌≡◌, ◌⊎◌, ℕ, suc, ◌-◌, Bool, true, List, [], ◌∷◌, ◌++◌, length, Option, Some, None, refl, sym, ap, subst, ◌∙◌, inl, inr}
 use Rattle.std.specs.Prelude.{◌&&◌}
 use Rattle.std.specs.Option.{option_to_list}
@@ -39,7 +39,10 @@ use Rattle.protocol_entry_laws.proofs.Deadlines.{same_counted}
 use Rattle.protocol_entry_laws.specs.Entries.{IsAmong, IsPushed}
 use Rattle.protocol_entry_laws.proofs.RisingRounds.{restart_silent}
 use Rattle.protocol_call_laws.specs.CallSteps.{IsAnswerUnder, AttemptsAreAnsweredByServers}
-use Rattle.protocol_call_laws.proofs.MasterRefusals.{is_no_answer, master_refuses_asks}
+use Rattle.messages.specs.declared.message.Location.{Location}
+use Rattle.protocol_step_laws.proofs.Locations.{locations_name_current_holders}
+use Rattle.protocol_call_laws.proofs.MasterRefusals.{is_no_answer, IsTakenAsk, master_refuses_asks}
+use Rattle.protocol_call_laws.specs.ToldIndexes.{IsIndexOf, IsAskOf, LocationsAnswerTheirAsk}
 
 -- this client asked under this number
 pub record HasAsk (sent : List Message) (asker : Node) (number : ℕ) : Type 0 where
@@ -52,6 +55,11 @@ pub record HasAsk (sent : List Message) (asker : Node) (number : ℕ) : Type 0 w
   pub sender_is : ask.sender ≡ asker
   pub body_is : ask.body ≡ body.Ask number file what deadline lost
 
+-- and a location of this index answers it
+pub record HasAskOf (sent : List Message) (asker : Node) (number index : ℕ) : Type 0 where
+  pub asked : HasAsk sent asker number
+  pub index_is : IsIndexOf asked.what index
+
 abbrev IsServers : Node → Type 0
 IsServers sender = (server : ℕ) × (sender ≡ the_server server)
 
@@ -59,6 +67,7 @@ IsServers sender = (server : ℕ) × (sender ≡ the_server server)
 abbrev IsAnswered : List Message → Node → Node → Body → Type 0
 IsAnswered sent sender receiver (body.Done id place) = IsServers sender
 IsAnswered sent sender receiver (body.Refused number refusal) = IsServers sender ⊎ HasAsk sent receiver number
+IsAnswered sent sender receiver (body.Told number (Some l)) = IsServers sender ⊎ HasAskOf sent receiver number l.index
 IsAnswered sent sender receiver other = Unit {0}
 
 abbrev Answers : List Message → Message → Type 0
@@ -67,25 +76,29 @@ Answers sent m = IsAnswered sent m.sender m.receiver m.body
 plain_answers : (sent : List Message) (sender receiver : Node) (b : Body) → is_no_answer b ≡ true → IsAnswered sent sender receiver b
 plain_answers sent sender receiver (body.Done id place) is = absurd (cc)
 plain_answers sent sender receiver (body.Refused number refusal) is = absurd (cc)
+plain_answers sent sender receiver (body.Told number (Some l)) is = absurd (cc)
 plain_answers sent sender receiver other is = tt
 
 server_answers : (sent : List Message) (sender receiver : Node) (b : Body) → IsServers sender → IsAnswered sent sender receiver b
 server_answers sent sender receiver (body.Done id place) from = from
 server_answers sent sender receiver (body.Refused number refusal) from = inl from
+server_answers sent sender receiver (body.Told number (Some l)) from = inl from
 server_answers sent sender receiver other from = tt
 
 client_answers : (sent : List Message) (sender receiver : Node) (s t : ClientState) (b : Body) → IsSaid s t b → IsAnswered sent sender receiver b
 client_answers sent sender receiver s t (body.Done id place) said = absurd said
 client_answers sent sender receiver s t (body.Refused number refusal) said = absurd said
+client_answers sent sender receiver s t (body.Told number (Some l)) said = absurd said
 client_answers sent sender receiver s t other said = tt
 
-later_ask : (sent more : List Message) (asker : Node) (number : ℕ) → HasAsk sent asker number → HasAsk (sent ++ more) asker number
+abbrev later_ask : (sent more : List Message) (asker : Node) (number : ℕ) → HasAsk sent asker number → HasAsk (sent ++ more) asker number
 later_ask sent more asker number h =
     record { ask = h.ask; file = h.file; what = h.what; deadline = h.deadline; lost = h.lost; sent_is = ((h.sent_is).0, kept_place sent more (h.sent_is).0 h.ask (h.sent_is).1); sender_is = h.sender_is; body_is = h.body_is }
 
 later_answers : (sent more : List Message) (sender receiver : Node) (b : Body) → IsAnswered sent sender receiver b → IsAnswered (sent ++ more) sender receiver b
 later_answers sent more sender receiver (body.Done id place) h = h
 later_answers sent more sender receiver (body.Refused number refusal) h = elim (h) [ inl from ↦ inl from | inr asked ↦ inr (later_ask sent more receiver number asked) ]
+later_answers sent more sender receiver (body.Told number (Some l)) h = elim (h) [ inl from ↦ inl from | inr asked ↦ inr (record { asked = later_ask sent more receiver number asked.asked; index_is = asked.index_is }) ]
 later_answers sent more sender receiver other h = tt
 
 -- steps
@@ -113,8 +126,8 @@ mastered w moment i choice came =
     master_refuses_asks i (Answers w.sent)
     (record {
       plain = λ receiver b is. plain_answers w.sent node.Master receiver b is;
-      refuses = λ receiver number refusal taken.
-          inr (record { ask = taken.ask; file = taken.file; what = taken.what; deadline = taken.deadline; lost = taken.lost; sent_is = came taken.ask taken.came; sender_is = taken.sender_is; body_is = taken.body_is });
+      refuses = λ receiver number refusal taken. inr (record { ask = taken.ask; file = taken.file; what = taken.what; deadline = taken.deadline; lost = taken.lost; sent_is = came taken.ask taken.came; sender_is = taken.sender_is; body_is = taken.body_is });
+      tells = λ receiver number l taken. inr (record { asked = record { ask = taken.taken.ask; file = taken.taken.file; what = taken.taken.what; deadline = taken.taken.deadline; lost = taken.taken.lost; sent_is = came taken.taken.ask taken.taken.came; sender_is = taken.taken.sender_is; body_is = taken.taken.body_is }; index_is = taken.index_is });
     }) w.master moment choice
 
 -- what comes in was sent
@@ -207,3 +220,17 @@ module _ (config : Config) (servers clients : ℕ) (w : WorldState) (r : IsReach
 
 pub attempts_are_answered_by_servers : AttemptsAreAnsweredByServers
 attempts_are_answered_by_servers config servers clients w r place m at id bytes pushed answer = by_cases config servers clients w r id bytes pushed m (answered_reached config servers clients w r place m at) answer
+
+-- what is told for a read or a write is of the index that was asked for
+pub told_as_asked : (config : Config) (servers clients : ℕ) (w : WorldState) → IsReached config servers clients w → (place number : ℕ) (m : Message) (l : Location) → element_at w.sent place ≡ Some m → m.body ≡ body.Told number (Some l)
+    → HasAskOf w.sent m.receiver number l.index
+told_as_asked config servers clients w r place number m l at is =
+    elim (subst (λ (b : Body). IsAnswered w.sent m.sender m.receiver b) is (answered_reached config servers clients w r place m at)) [
+      | inl from ↦ absurd (let both : node.Master ≡ the_server from.0 = sym (locations_name_current_holders config servers clients w r place number m l at is).0 ∙ from.1 in cc)
+      | inr asked ↦ asked
+    ]
+
+pub locations_answer_their_ask : LocationsAnswerTheirAsk
+locations_answer_their_ask config servers clients w r place number m l at is =
+    let h = told_as_asked config servers clients w r place number m l at is in
+    record { ask = h.asked.ask; file = h.asked.file; what = h.asked.what; deadline = h.asked.deadline; lost = h.asked.lost; sent_is = h.asked.sent_is; sender_is = h.asked.sender_is; body_is = h.asked.body_is; index_is = h.index_is }

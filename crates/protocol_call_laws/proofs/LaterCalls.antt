@@ -32,7 +32,7 @@ use Rattle.protocol_step_laws.proofs.RequestsOnce.{from_itself, later_cases}
 use Rattle.protocol_entry_laws.specs.Entries.{IsAmong, IsPushed}
 use Rattle.protocol_step_laws.proofs.Budget.{IsNoMutate}
 use Rattle.protocol_entry_laws.specs.AnsweredAttempts.{IsFinal}
-use Rattle.protocol_call_laws.proofs.CallWalk.{IsDenial, StandsAt, StandsNow}
+use Rattle.protocol_call_laws.proofs.CallWalk.{AnyUsed, IsDenial, StandsAt, StandsNow}
 use Rattle.protocol_call_laws.specs.OpenAttempts.{AsksBy, WasAnswered, IsOver}
 use Rattle.protocol_call_laws.proofs.OpenStages.{AnyLive, map_any, HasPushed, IsTimely, IsCounted, IsOpen, HasData, IsUnderWay, AllOver, AnyReply}
 
@@ -80,7 +80,7 @@ module _ (sent more : List Message) where
 abbrev pub CallStands : (ℕ → ToldChunk → ℕ → Type 0) → Config → List Message → ℕ → ℕ → ℕ → Option Message → Option CurrentCall → Type 0
 CallStands G config sent greatest client now o None = AllOver G config sent greatest client
 CallStands G config sent greatest client now o (Some c) =
-    StandsAt (IsOpen G config sent greatest client now) (λ o c chunk number. HasData config sent greatest client o c chunk number) (IsUnderWay G config sent greatest client now) AnyReply o c c.stage
+    StandsAt AnyUsed (IsOpen G config sent greatest client now) (λ o c chunk number. HasData config sent greatest client o c chunk number) (IsUnderWay G config sent greatest client now) AnyReply o c c.stage
 
 -- what is counted stays so
 pub counted_later : (G V : ℕ → ToldChunk → ℕ → Type 0) → ((file : ℕ) (chunk : ToldChunk) (seq : ℕ) → G file chunk seq → V file chunk seq) → (config : Config) (sent all : List Message) (greatest later client file seq : ℕ) (version : Version) (deadline : Moment) (ls : List LiveAttempt)
@@ -146,14 +146,14 @@ module _ (G V : ℕ → ToldChunk → ℕ → Type 0) (go : (file : ℕ) (chunk 
   stands_later o there now then_ rises (Some c) h = by_stage c.stage h
     where
       by_stage : (st : Stage)
-          → StandsAt (IsOpen G config sent greatest client now) (λ o c chunk number. HasData config sent greatest client o c chunk number) (IsUnderWay G config sent greatest client now) AnyReply o c st
-          → StandsAt (IsOpen V config (sent ++ more) later client then_) (λ o c chunk number. HasData config (sent ++ more) later client o c chunk number) (IsUnderWay V config (sent ++ more) later client then_) AnyReply None c st
+          → StandsAt AnyUsed (IsOpen G config sent greatest client now) (λ o c chunk number. HasData config sent greatest client o c chunk number) (IsUnderWay G config sent greatest client now) AnyReply o c st
+          → StandsAt AnyUsed (IsOpen V config (sent ++ more) later client then_) (λ o c chunk number. HasData config (sent ++ more) later client o c chunk number) (IsUnderWay V config (sent ++ more) later client then_) AnyReply None c st
       by_stage AskedNames g = (g.0, open_later now then_ rises c g.1)
       by_stage (AskedWhere number) g = open_later now then_ rises c g
       by_stage MustAskAgain g = open_later now then_ rises c g
       by_stage (SentData chunk primary number) g = (g.0, open_later now then_ rises c g.1, data_later o there c chunk number g.2)
       by_stage (SentMutate chunk number) g = (g.0, way_later now then_ rises c chunk number g.1)
-      by_stage (SentRead chunk left number) g = (g.0, open_later now then_ rises c g.1)
+      by_stage (SentRead chunk left number) g = (g.0, open_later now then_ rises c g.1, tt)
       by_stage IsOverStage g = open_later now then_ rises c g
       by_stage (HasAnswer reply) g = (open_later now then_ rises c g.0, tt)
 
@@ -244,13 +244,13 @@ denial_final other is = tt
 -- what a step leaves of a call: nothing is answered, or all attempts are over
 module _ (G : ℕ → ToldChunk → ℕ → Type 0) (config : Config) (sent : List Message) (greatest client now : ℕ) (s : ClientState) where
   pub split_now : (o : Option Message) (a : Option Answer) (c : Option CurrentCall)
-      → StandsNow s (IsOpen G config sent greatest client now) (λ o c chunk number. HasData config sent greatest client o c chunk number) (IsUnderWay G config sent greatest client now) AnyReply (λ reply. AllOver G config sent greatest client) (AllOver G config sent greatest client) o a c
+      → StandsNow s AnyUsed (IsOpen G config sent greatest client now) (λ o c chunk number. HasData config sent greatest client o c chunk number) (IsUnderWay G config sent greatest client now) AnyReply (λ reply. AllOver G config sent greatest client) (AllOver G config sent greatest client) o a c
       → ((a ≡ None) × CallStands G config sent greatest client now o c) ⊎ ((c ≡ None) × AllOver G config sent greatest client)
   split_now o None None h = inl (refl, h)
   split_now o (Some reply) None h = inr (refl, h)
   split_now o a (Some c) h = inl (h.0, h.1)
 
   pub to_now : (c : Option CurrentCall) → CallStands G config sent greatest client now None c
-      → StandsNow s (IsOpen G config sent greatest client now) (λ o c chunk number. HasData config sent greatest client o c chunk number) (IsUnderWay G config sent greatest client now) AnyReply (λ reply. AllOver G config sent greatest client) (AllOver G config sent greatest client) None None c
+      → StandsNow s AnyUsed (IsOpen G config sent greatest client now) (λ o c chunk number. HasData config sent greatest client o c chunk number) (IsUnderWay G config sent greatest client now) AnyReply (λ reply. AllOver G config sent greatest client) (AllOver G config sent greatest client) None None c
   to_now None h = h
   to_now (Some c) h = (refl, h)

@@ -9,3 +9,8 @@ pub mod GrantedRounds
 pub mod OpenEntries
 pub mod ToldParts
 pub mod AnsweredWrites
+pub mod BoundedCalls
+pub mod KeptIndexes
+pub mod AskedIndexes
+pub mod UsedIndexes
+pub mod AskedParts

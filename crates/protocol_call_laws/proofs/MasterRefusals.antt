@@ -1,5 +1,5 @@
--- What the master says in a step: of refusals to clients it says only those of the Ask that it takes, to the one that sent it, under its number.
-use Rattle.std.proofs.Common.{◌≡◌, ℕ, zero, suc, ◌+◌, Bool, true, false, List, [], ◌∷◌, ◌++◌, length, map, Option, Some, None, refl}
+-- What the master says in a step: it refuses, and tells locations for, only the Ask that it takes, to the one that sent it, under its number; and what it tells for a read or a write is of the index that was asked for.
+use Rattle.std.proofs.Common.{◌≡◌, ℕ, zero, suc, ◌+◌, Bool, true, false, List, [], ◌∷◌, ◌++◌, length, map, Option, Some, None, refl, sym, subst}
 use Rattle.std.specs.Prelude.{◌==◌, ◌&&◌, nat_lt, nat_le, cond}
 use Rattle.std.specs.FinMap as table
 use Rattle.gfs_types.specs.declared.ids.Node.{Node}
@@ -46,11 +46,13 @@ use Rattle.protocol.specs.MasterStep.{master_ticks, gives_up_attempts, gives_up_
 use Rattle.protocol_laws.proofs.Steps.{on_cond}
 use Rattle.protocol_laws.proofs.Entries.{AllOf, all_joined}
 use Rattle.protocol_laws.proofs.MembersRecorded.{all_in_order}
+use Rattle.protocol_call_laws.specs.ToldIndexes.{IsIndexOf}
 
--- a word that answers no attempt
+-- a word that answers no attempt and no ask
 abbrev pub is_no_answer : Body → Bool
 is_no_answer (body.Refused number refusal) = false
 is_no_answer (body.Done id place) = false
+is_no_answer (body.Told number (Some location)) = false
 is_no_answer other = true
 
 -- an Ask with this number came in from this node
@@ -64,10 +66,16 @@ pub record IsTakenAsk (i : Input) (sender : Node) (number : ℕ) : Type 0 where
   pub sender_is : ask.sender ≡ sender
   pub body_is : ask.body ≡ body.Ask number file what deadline lost
 
+-- an Ask with this number came in from this node, which this index answers
+pub record IsTakenAskOf (i : Input) (sender : Node) (number index : ℕ) : Type 0 where
+  pub taken : IsTakenAsk i sender number
+  pub index_is : IsIndexOf taken.what index
+
 -- Of what the master says as it takes an input.
 pub record MasterRefuses (i : Input) (W : Message → Type 0) : Type 0 where
   pub plain : (receiver : Node) (b : Body) → is_no_answer b ≡ true → W (message node.Master receiver b)
   pub refuses : (receiver : Node) (number : ℕ) (refusal : Refusal) → IsTakenAsk i receiver number → W (message node.Master receiver (body.Refused number refusal))
+  pub tells : (receiver : Node) (number : ℕ) (l : Location) → IsTakenAskOf i receiver number l.index → W (message node.Master receiver (body.Told number (Some l)))
 
 module _ (i : Input) (W : Message → Type 0) (k : MasterRefuses i W) where
   abbrev pub Fine : MasterDoing → Type 0
@@ -79,6 +87,10 @@ module _ (i : Input) (W : Message → Type 0) (k : MasterRefuses i W) where
   -- it refuses an Ask that it takes
   abbrev IsAsked : Asker → Type 0
   IsAsked a = IsTakenAsk i a.client a.number
+
+  -- and tells a location for one, of this index
+  abbrev IsAskedAt : Asker → Type 0
+  IsAskedAt a = IsTakenAskOf i a.client a.number a.index
 
   denied : (d : MasterDoing) (a : Asker) (refusal : Refusal) → IsAsked a → Fine d → Fine (tells d a.client (body.Refused a.number refusal))
   denied d a refusal asked h = all_joined W d.sent (message node.Master a.client (body.Refused a.number refusal) ∷ []) h (k.refuses a.client a.number refusal asked, tt)
@@ -159,13 +171,13 @@ module _ (i : Input) (W : Message → Type 0) (k : MasterRefuses i W) where
 
   -- chunks
 
-  location_said : (d : MasterDoing) (a : Asker) (handle : ℕ) (row : ChunkRow) (holders : List Holder) → Fine d → Fine (tells_location d a handle row holders)
-  location_said d a handle row holders h =
+  location_said : (d : MasterDoing) (a : Asker) (handle : ℕ) (row : ChunkRow) (holders : List Holder) → IsAskedAt a → Fine d → Fine (tells_location d a handle row holders)
+  location_said d a handle row holders asked h =
       let l : Location = record { index = a.index; handle = handle_of handle; round = version_of row.granted; holders = holders; group = group_of d.master row } in
-      said d a.client (body.Told a.number (Some l)) refl h
+      all_joined W d.sent (message node.Master a.client (body.Told a.number (Some l)) ∷ []) h (k.tells a.client a.number l asked, tt)
 
-  holders_said : (d : MasterDoing) (a : Asker) (handle : ℕ) (row : ChunkRow) → Fine d → Fine (tells_holders d a handle row)
-  holders_said d a handle row h = location_said d a handle row (map holder_line (current_holders d.master handle row)) h
+  holders_said : (d : MasterDoing) (a : Asker) (handle : ℕ) (row : ChunkRow) → IsAskedAt a → Fine d → Fine (tells_holders d a handle row)
+  holders_said d a handle row asked h = location_said d a handle row (map holder_line (current_holders d.master handle row)) asked h
 
   none_said : (d : MasterDoing) (a : Asker) → Fine d → Fine (tells_none d a)
   none_said d a h = said d a.client (body.Told a.number None) refl h
@@ -187,14 +199,14 @@ module _ (i : Input) (W : Message → Type 0) (k : MasterRefuses i W) where
       let held : MasterDoing = with_attempt d handle (new_attempt d.master version targets) in
       wait_said (sends_versions held handle version targets) a (versions_sent held handle version targets h)
 
-  issues_said : (d : MasterDoing) (a : Asker) (own : ℕ) (own_row : ChunkRow) (handle : ℕ) (row : ChunkRow) (targets : List VersionTarget) → Fine d → Fine (issues_to d a own own_row handle row targets)
-  issues_said d a own own_row handle row [] h = location_said d a own own_row [] h
-  issues_said d a own own_row handle row (t ∷ rest) h =
+  issues_said : (d : MasterDoing) (a : Asker) (own : ℕ) (own_row : ChunkRow) (handle : ℕ) (row : ChunkRow) (targets : List VersionTarget) → IsAskedAt a → Fine d → Fine (issues_to d a own own_row handle row targets)
+  issues_said d a own own_row handle row [] asked h = location_said d a own own_row [] asked h
+  issues_said d a own own_row handle row (t ∷ rest) asked h =
       logged d (log.Issue (handle_of handle) (version_of (suc row.issued))) (λ e. sends_issued e a handle (suc row.issued) (t ∷ rest)) (issued_said a handle (suc row.issued) (t ∷ rest)) h
 
-  own_said : (d : MasterDoing) (a : Asker) (handle : ℕ) (row : ChunkRow) (b : Bool) → Fine d → Fine (issues_own d a handle row b)
-  own_said d a handle row true h = wait_said d a h
-  own_said d a handle row false h = issues_said d a handle row handle row (targets_by d.master handle row (recorded_holders d.master handle row)) h
+  own_said : (d : MasterDoing) (a : Asker) (handle : ℕ) (row : ChunkRow) (b : Bool) → IsAskedAt a → Fine d → Fine (issues_own d a handle row b)
+  own_said d a handle row true asked h = wait_said d a h
+  own_said d a handle row false asked h = issues_said d a handle row handle row (targets_by d.master handle row (recorded_holders d.master handle row)) asked h
 
   copy_masters : (handle copy version : ℕ) (held : Option ℕ) (o : OrderNo) → is_no_answer (copy_order handle copy version held o) ≡ true
   copy_masters handle copy version None o = refl
@@ -211,96 +223,100 @@ module _ (i : Input) (W : Message → Type 0) (k : MasterRefuses i W) where
       let held : MasterDoing = with_attempt seen copy (new_attempt d.master version targets) in
       wait_said (sends_copies held handle copy version targets) a (copies_sent held handle copy version targets h)
 
-  copies_said : (d : MasterDoing) (a : Asker) (handle : ℕ) (row : ChunkRow) (targets : List VersionTarget) → Fine d → Fine (copies_to d a handle row targets)
-  copies_said d a handle row [] h = location_said d a handle row [] h
-  copies_said d a handle row (t ∷ rest) h =
+  copies_said : (d : MasterDoing) (a : Asker) (handle : ℕ) (row : ChunkRow) (targets : List VersionTarget) → IsAskedAt a → Fine d → Fine (copies_to d a handle row targets)
+  copies_said d a handle row [] asked h = location_said d a handle row [] asked h
+  copies_said d a handle row (t ∷ rest) asked h =
       let copy : ℕ = d.master.logged.next_handle in
       logged d (log.CopyStart (file_id a.file) a.index (handle_of handle) (handle_of copy) (version_of (suc row.issued))) (λ e. sends_copy_started e a handle copy (suc row.issued) (t ∷ rest))
       (started_said a handle copy (suc row.issued) (t ∷ rest)) h
 
-  wants_said : (d : MasterDoing) (a : Asker) (handle : ℕ) (row : ChunkRow) → Fine d → Fine (wants_own d a handle row)
-  wants_said d a handle row h =
-      on_cond Fine (nat_lt 1 row.references) (begins_copy d a handle row) _ (λ _. copies_said d a handle row (copy_targets d.master handle row) h)
+  wants_said : (d : MasterDoing) (a : Asker) (handle : ℕ) (row : ChunkRow) → IsAskedAt a → Fine d → Fine (wants_own d a handle row)
+  wants_said d a handle row asked h =
+      on_cond Fine (nat_lt 1 row.references) (begins_copy d a handle row) _ (λ _. copies_said d a handle row (copy_targets d.master handle row) asked h)
       (λ _. on_cond Fine (is_copied d.master.logged handle) (tells_to_wait d a) (issues_own d a handle row (is_attempted d.master handle)) (λ _. wait_said d a h)
-      (λ _. own_said d a handle row (is_attempted d.master handle) h))
+      (λ _. own_said d a handle row (is_attempted d.master handle) asked h))
 
-  wants_of_said : (d : MasterDoing) (a : Asker) (handle : ℕ) (o : Option ChunkRow) → Fine d → Fine (wants_own_of d a handle o)
-  wants_of_said d a handle None h = h
-  wants_of_said d a handle (Some row) h = wants_said d a handle row h
+  wants_of_said : (d : MasterDoing) (a : Asker) (handle : ℕ) (o : Option ChunkRow) → IsAskedAt a → Fine d → Fine (wants_own_of d a handle o)
+  wants_of_said d a handle None asked h = h
+  wants_of_said d a handle (Some row) asked h = wants_said d a handle row asked h
 
-  issues_copy_said : (d : MasterDoing) (a : Asker) (handle : ℕ) (row : ChunkRow) (copy : ℕ) (copy_row : ChunkRow) (holders : List HeldAt) → Fine d → Fine (issues_copy d a handle row copy copy_row holders)
-  issues_copy_said d a handle row copy copy_row [] h =
-      let given_up : MasterDoing = gives_up_copy d copy in wants_of_said given_up a handle (chunk_of given_up.master.logged.table handle) h
-  issues_copy_said d a handle row copy copy_row (x ∷ rest) h = issues_said d a handle row copy copy_row (map holder_target (x ∷ rest)) h
+  issues_copy_said : (d : MasterDoing) (a : Asker) (handle : ℕ) (row : ChunkRow) (copy : ℕ) (copy_row : ChunkRow) (holders : List HeldAt) → IsAskedAt a → Fine d → Fine (issues_copy d a handle row copy copy_row holders)
+  issues_copy_said d a handle row copy copy_row [] asked h =
+      let given_up : MasterDoing = gives_up_copy d copy in wants_of_said given_up a handle (chunk_of given_up.master.logged.table handle) asked h
+  issues_copy_said d a handle row copy copy_row (x ∷ rest) asked h = issues_said d a handle row copy copy_row (map holder_target (x ∷ rest)) asked h
 
-  wants_copy_said : (d : MasterDoing) (a : Asker) (handle : ℕ) (row : ChunkRow) (copy : ℕ) (o : Option ChunkRow) → Fine d → Fine (wants_copy d a handle row copy o)
-  wants_copy_said d a handle row copy None h = wants_said d a handle row h
-  wants_copy_said d a handle row copy (Some copy_row) h =
+  wants_copy_said : (d : MasterDoing) (a : Asker) (handle : ℕ) (row : ChunkRow) (copy : ℕ) (o : Option ChunkRow) → IsAskedAt a → Fine d → Fine (wants_copy d a handle row copy o)
+  wants_copy_said d a handle row copy None asked h = wants_said d a handle row asked h
+  wants_copy_said d a handle row copy (Some copy_row) asked h =
       on_cond Fine (is_attempted d.master copy) (tells_to_wait d a) (issues_copy d a handle row copy copy_row (holders_where d.master copy (λ v. v == copy_row.issued))) (λ _. wait_said d a h)
-      (λ _. issues_copy_said d a handle row copy copy_row (holders_where d.master copy (λ v. v == copy_row.issued)) h)
+      (λ _. issues_copy_said d a handle row copy copy_row (holders_where d.master copy (λ v. v == copy_row.issued)) asked h)
 
-  by_said : (d : MasterDoing) (a : Asker) (handle : ℕ) (row : ChunkRow) (o : Option ℕ) → Fine d → Fine (wants_by d a handle row o)
-  by_said d a handle row None h = wants_said d a handle row h
-  by_said d a handle row (Some copy) h = wants_copy_said d a handle row copy (chunk_of d.master.logged.table copy) h
+  by_said : (d : MasterDoing) (a : Asker) (handle : ℕ) (row : ChunkRow) (o : Option ℕ) → IsAskedAt a → Fine d → Fine (wants_by d a handle row o)
+  by_said d a handle row None asked h = wants_said d a handle row asked h
+  by_said d a handle row (Some copy) asked h = wants_copy_said d a handle row copy (chunk_of d.master.logged.table copy) asked h
 
-  primary_said : (d : MasterDoing) (a : Asker) (handle : ℕ) (row : ChunkRow) → Fine d → Fine (wants_primary d a handle row)
-  primary_said d a handle row h =
+  primary_said : (d : MasterDoing) (a : Asker) (handle : ℕ) (row : ChunkRow) → IsAskedAt a → Fine d → Fine (wants_primary d a handle row)
+  primary_said d a handle row asked h =
       on_cond Fine (waits_for d.master handle) (tells_to_wait d a) (wants_by d a handle row (copy_for d.master.logged a.file a.index)) (λ _. wait_said d a h)
-      (λ _. by_said d a handle row (copy_for d.master.logged a.file a.index) h)
+      (λ _. by_said d a handle row (copy_for d.master.logged a.file a.index) asked h)
 
-  looks_said : (d : MasterDoing) (a : Asker) (o : Option ℕ) → Fine d → Fine (looks_at d a o)
-  looks_said d a None h = none_said d a h
-  looks_said d a (Some handle) h = by_row (chunk_of d.master.logged.table handle)
+  looks_said : (d : MasterDoing) (a : Asker) (o : Option ℕ) → IsAskedAt a → Fine d → Fine (looks_at d a o)
+  looks_said d a None asked h = none_said d a h
+  looks_said d a (Some handle) asked h = by_row (chunk_of d.master.logged.table handle)
     where
       by_row : (o : Option ChunkRow) → Fine (looks_at_row d a handle o)
       by_row None = h
-      by_row (Some row) = holders_said d a handle row h
+      by_row (Some row) = holders_said d a handle row asked h
 
-  row_said : (d : MasterDoing) (a : Asker) (lost : Bool) (handle : ℕ) (o : Option ChunkRow) → Fine d → Fine (mutates_row d a lost handle o)
-  row_said d a lost handle None h = h
-  row_said d a lost handle (Some row) h =
-      on_cond Fine (has_ended row d.master.now) (wants_primary d a handle row) (tells_holders (cond lost (revokes d handle) d) a handle row) (λ _. primary_said d a handle row h)
-      (λ _. holders_said (cond lost (revokes d handle) d) a handle row (on_cond Fine lost (revokes d handle) d (λ _. revoked_of d handle (chunk_of d.master.logged.table handle) h) (λ _. h)))
+  row_said : (d : MasterDoing) (a : Asker) (lost : Bool) (handle : ℕ) (o : Option ChunkRow) → IsAskedAt a → Fine d → Fine (mutates_row d a lost handle o)
+  row_said d a lost handle None asked h = h
+  row_said d a lost handle (Some row) asked h =
+      on_cond Fine (has_ended row d.master.now) (wants_primary d a handle row) (tells_holders (cond lost (revokes d handle) d) a handle row) (λ _. primary_said d a handle row asked h)
+      (λ _. holders_said (cond lost (revokes d handle) d) a handle row asked (on_cond Fine lost (revokes d handle) d (λ _. revoked_of d handle (chunk_of d.master.logged.table handle) h) (λ _. h)))
 
-  at_said : (d : MasterDoing) (a : Asker) (lost : Bool) (o : Option ℕ) → Fine d → Fine (mutates_at d a lost o)
-  at_said d a lost None h = h
-  at_said d a lost (Some handle) h = row_said d a lost handle (chunk_of d.master.logged.table handle) h
+  at_said : (d : MasterDoing) (a : Asker) (lost : Bool) (o : Option ℕ) → IsAskedAt a → Fine d → Fine (mutates_at d a lost o)
+  at_said d a lost None asked h = h
+  at_said d a lost (Some handle) asked h = row_said d a lost handle (chunk_of d.master.logged.table handle) asked h
 
-  adds_said : (d : MasterDoing) (a : Asker) (lost : Bool) → Fine d → Fine (adds_chunk d a lost)
-  adds_said d a lost h =
+  adds_said : (d : MasterDoing) (a : Asker) (lost : Bool) → IsAskedAt a → Fine d → Fine (adds_chunk d a lost)
+  adds_said d a lost asked h =
       let handle : ℕ = d.master.logged.next_handle in
-      logged d (log.AddChunk (file_id a.file) (handle_of handle)) (λ e. mutates_at e a lost (Some handle)) (λ e g. at_said e a lost (Some handle) g) h
+      logged d (log.AddChunk (file_id a.file) (handle_of handle)) (λ e. mutates_at e a lost (Some handle)) (λ e g. at_said e a lost (Some handle) asked g) h
 
-  write_said : (d : MasterDoing) (a : Asker) (lost : Bool) (handles : List ℕ) (index : ℕ) → IsAsked a → Fine d → Fine (asks_to_write d a lost handles index)
-  write_said d a lost handles index asked h =
+  write_said : (d : MasterDoing) (a : Asker) (lost : Bool) (handles : List ℕ) (index : ℕ) → IsAsked a → IsAskedAt (with_index a index) → Fine d → Fine (asks_to_write d a lost handles index)
+  write_said d a lost handles index asked there h =
       on_cond Fine (nat_lt (length handles) index) (tells d a.client (body.Refused a.number TooLong)) _ (λ _. denied d a TooLong asked h)
-      (λ _. on_cond Fine (index == length handles) (adds_chunk d (with_index a index) lost) (mutates_at d (with_index a index) lost (element_at handles index)) (λ _. adds_said d (with_index a index) lost h)
-      (λ _. at_said d (with_index a index) lost (element_at handles index) h))
+      (λ _. on_cond Fine (index == length handles) (adds_chunk d (with_index a index) lost) (mutates_at d (with_index a index) lost (element_at handles index)) (λ _. adds_said d (with_index a index) lost there h)
+      (λ _. at_said d (with_index a index) lost (element_at handles index) there h))
 
-  append_said : (d : MasterDoing) (a : Asker) (lost : Bool) (handles : List ℕ) (after count : ℕ) → Fine d → Fine (asks_to_append d a lost handles after count)
-  append_said d a lost handles after zero h = adds_said d (with_index a 0) lost h
-  append_said d a lost handles after (suc last) h =
-      on_cond Fine (nat_lt last after) (adds_chunk d (with_index a (suc last)) lost) (mutates_at d (with_index a last) lost (element_at handles last)) (λ _. adds_said d (with_index a (suc last)) lost h)
-      (λ _. at_said d (with_index a last) lost (element_at handles last) h)
+  append_said : (d : MasterDoing) (a : Asker) (lost : Bool) (handles : List ℕ) (after count : ℕ) → ((index : ℕ) → IsAskedAt (with_index a index)) → Fine d → Fine (asks_to_append d a lost handles after count)
+  append_said d a lost handles after zero there h = adds_said d (with_index a 0) lost (there 0) h
+  append_said d a lost handles after (suc last) there h =
+      on_cond Fine (nat_lt last after) (adds_chunk d (with_index a (suc last)) lost) (mutates_at d (with_index a last) lost (element_at handles last)) (λ _. adds_said d (with_index a (suc last)) lost (there (suc last)) h)
+      (λ _. at_said d (with_index a last) lost (element_at handles last) (there last) h)
 
-  last_said : (d : MasterDoing) (a : Asker) (handles : List ℕ) (count : ℕ) → Fine d → Fine (asks_for_last d a handles count)
-  last_said d a handles zero h = none_said d a h
-  last_said d a handles (suc last) h = looks_said d (with_index a last) (element_at handles last) h
+  last_said : (d : MasterDoing) (a : Asker) (handles : List ℕ) (count : ℕ) → ((index : ℕ) → IsAskedAt (with_index a index)) → Fine d → Fine (asks_for_last d a handles count)
+  last_said d a handles zero there h = none_said d a h
+  last_said d a handles (suc last) there h = looks_said d (with_index a last) (element_at handles last) (there last) h
 
-  asks_for_said : (d : MasterDoing) (a : Asker) (lost : Bool) (w : Wanted) (handles : List ℕ) → IsAsked a → Fine d → Fine (asks_for d a lost w handles)
-  asks_for_said d a lost (wanted.Read index) handles asked h = looks_said d (with_index a index) (element_at handles index) h
-  asks_for_said d a lost (wanted.Write index) handles asked h = write_said d a lost handles index asked h
-  asks_for_said d a lost (wanted.Append after) handles asked h = append_said d a lost handles after (length handles) h
-  asks_for_said d a lost wanted.Last handles asked h = last_said d a handles (length handles) h
+  -- an index that answers what was asked for
+  at_index : (a : Asker) (asked : IsAsked a) (w : Wanted) → asked.what ≡ w → (index : ℕ) → IsIndexOf w index → IsAskedAt (with_index a index)
+  at_index a asked w same index is = record { taken = asked; index_is = subst (λ (x : Wanted). IsIndexOf x index) (sym same) is }
 
-  asks_of_said : (d : MasterDoing) (a : Asker) (lost : Bool) (w : Wanted) (o : Option (List ℕ)) → IsAsked a → Fine d → Fine (asks_of d a lost w o)
-  asks_of_said d a lost w None asked h = denied d a Collected asked h
-  asks_of_said d a lost w (Some handles) asked h = asks_for_said d a lost w handles asked h
+  asks_for_said : (d : MasterDoing) (a : Asker) (lost : Bool) (w : Wanted) (handles : List ℕ) (asked : IsAsked a) → asked.what ≡ w → Fine d → Fine (asks_for d a lost w handles)
+  asks_for_said d a lost (wanted.Read index) handles asked same h = looks_said d (with_index a index) (element_at handles index) (at_index a asked (wanted.Read index) same index refl) h
+  asks_for_said d a lost (wanted.Write index) handles asked same h = write_said d a lost handles index asked (at_index a asked (wanted.Write index) same index refl) h
+  asks_for_said d a lost (wanted.Append after) handles asked same h = append_said d a lost handles after (length handles) (λ index. at_index a asked (wanted.Append after) same index tt) h
+  asks_for_said d a lost wanted.Last handles asked same h = last_said d a handles (length handles) (λ index. at_index a asked wanted.Last same index tt) h
 
-  ask_said : (d : MasterDoing) (client : Node) (number file : ℕ) (w : Wanted) (deadline : ℕ) (lost : Bool) → IsTakenAsk i client number → Fine d → Fine (takes_ask d client number file w deadline lost)
-  ask_said d client number file w deadline lost asked h =
+  asks_of_said : (d : MasterDoing) (a : Asker) (lost : Bool) (w : Wanted) (o : Option (List ℕ)) (asked : IsAsked a) → asked.what ≡ w → Fine d → Fine (asks_of d a lost w o)
+  asks_of_said d a lost w None asked same h = denied d a Collected asked h
+  asks_of_said d a lost w (Some handles) asked same h = asks_for_said d a lost w handles asked same h
+
+  ask_said : (d : MasterDoing) (client : Node) (number file : ℕ) (w : Wanted) (deadline : ℕ) (lost : Bool) (asked : IsTakenAsk i client number) → asked.what ≡ w → Fine d → Fine (takes_ask d client number file w deadline lost)
+  ask_said d client number file w deadline lost asked same h =
       let a : Asker = record { client = client; number = number; file = file; index = 0 } in
-      on_cond Fine (nat_le deadline d.master.now) d (asks_of d a lost w (file_of d.master.logged.table file)) (λ _. h) (λ _. asks_of_said d a lost w (file_of d.master.logged.table file) asked h)
+      on_cond Fine (nat_le deadline d.master.now) d (asks_of d a lost w (file_of d.master.logged.table file)) (λ _. h) (λ _. asks_of_said d a lost w (file_of d.master.logged.table file) asked same h)
 
   -- versions and leases
 
@@ -380,7 +396,7 @@ module _ (i : Input) (W : Message → Type 0) (k : MasterRefuses i W) where
   takes_said : (d : MasterDoing) (m : Message) (b : Body) → i ≡ input.Deliver m → m.body ≡ b → Fine d → Fine (master_takes d m b)
   takes_said d m (body.Name number deadline c) came is h = kept_said d (client_number m.sender) number deadline.0 c (table.get d.master.logged.kept (client_number m.sender)) h
   takes_said d m (body.Look number c) came is h = said d m.sender (body.Named number (reply_by (outcome_by d.master.logged.names c (master_refusal d.master c)))) refl h
-  takes_said d m (body.Ask number file w deadline lost) came is h = ask_said d m.sender number file.0 w deadline.0 lost (record { ask = m; file = file; what = w; deadline = deadline; lost = lost; came = came; sender_is = refl; body_is = is }) h
+  takes_said d m (body.Ask number file w deadline lost) came is h = ask_said d m.sender number file.0 w deadline.0 lost (record { ask = m; file = file; what = w; deadline = deadline; lost = lost; came = came; sender_is = refl; body_is = is }) refl h
   takes_said d m (body.Recorded handle version) came is h =
       let held : MasterDoing = holds_now d (server_number m.sender) handle.0 version.0 in
       learns_said held (server_number m.sender) handle.0 version.0 (chunk_of held.master.logged.table handle.0) (table.get held.master.attempts handle.0) h

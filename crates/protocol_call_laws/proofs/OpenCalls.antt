@@ -50,7 +50,7 @@ use Rattle.protocol_step_laws.proofs.Senders.{server_sends, server_restart_sends
 use Rattle.protocol_entry_laws.specs.Entries.{IsAmong, IsPushed}
 use Rattle.protocol_step_laws.specs.FewAttempts.{part_of, IsAskedNow, WasAsked}
 use Rattle.protocol_step_laws.proofs.LeasesStayOver.{reached_later}
-use Rattle.protocol_call_laws.proofs.CallWalk.{IsCalm, IsAsking}
+use Rattle.protocol_call_laws.proofs.CallWalk.{AnyUsed, IsCalm, IsAsking}
 use Rattle.protocol_call_laws.proofs.Answerers.{came_to, attempts_are_answered_by_servers}
 use Rattle.protocol_call_laws.specs.OpenAttempts.{AsksBy, WasAnswered, IsOver, IsSentFor, WasSentFor, AttemptsAreOverOrOpen}
 use Rattle.protocol_call_laws.proofs.OpenStages.{EachOwn, IsOpen, HasData, IsUnderWay, AllOver, CameAs, AnyReply, step_leaves, call_leaves, refusal_leaves}
@@ -163,7 +163,7 @@ module _ (config : Config) (index : ℕ) where
 
     abbrev Calm : ClientDoing → Type 0
     Calm d =
-        IsCalm (client_at s moment) (IsOpen G config w.sent (max w.observer.greatest moment) s.id (client_at s moment).now) (λ o c chunk number. HasData config w.sent (max w.observer.greatest moment) s.id o c chunk number)
+        IsCalm (client_at s moment) AnyUsed (IsOpen G config w.sent (max w.observer.greatest moment) s.id (client_at s moment).now) (λ o c chunk number. HasData config w.sent (max w.observer.greatest moment) s.id o c chunk number)
         (IsUnderWay G config w.sent (max w.observer.greatest moment) s.id (client_at s moment).now) AnyReply (λ reply. AllOver G config w.sent (max w.observer.greatest moment) s.id) (AllOver G config w.sent (max w.observer.greatest moment) s.id) d
 
     -- what a calm step leaves, in a world where the calls made and who waits are these
@@ -247,7 +247,7 @@ module _ (config : Config) (index : ℕ) where
 
     abbrev Asking : ClientDoing → Type 0
     Asking d =
-        IsAsking (client_at s moment) (IsOpen G config w.sent (max w.observer.greatest moment) s.id (client_at s moment).now) (λ o c chunk number. HasData config w.sent (max w.observer.greatest moment) s.id o c chunk number)
+        IsAsking (client_at s moment) AnyUsed (IsOpen G config w.sent (max w.observer.greatest moment) s.id (client_at s moment).now) (λ o c chunk number. HasData config w.sent (max w.observer.greatest moment) s.id o c chunk number)
         (IsUnderWay G config w.sent (max w.observer.greatest moment) s.id (client_at s moment).now) AnyReply (λ reply. AllOver G config w.sent (max w.observer.greatest moment) s.id) (AllOver G config w.sent (max w.observer.greatest moment) s.id) d
 
     -- the Mutate that is sent

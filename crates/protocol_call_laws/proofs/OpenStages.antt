@@ -31,11 +31,11 @@ use Rattle.protocol_laws.proofs.Steps.{on_cond, same_or_not}
 use Rattle.protocol_laws.proofs.Entries.{AllOf, all_joined}
 use Rattle.protocol_laws.proofs.ServerMoves.{IsCameIn}
 use Rattle.protocol_step_laws.specs.Attempts.{mutates_under}
-use Rattle.protocol_step_laws.proofs.ClientWalk.{attempt_end}
+use Rattle.protocol_step_laws.proofs.ClientWalk.{attempt_end, heard_at}
 use Rattle.protocol_entry_laws.proofs.Deadlines.{asks_for, asking, same_counted}
 use Rattle.protocol_entry_laws.specs.Entries.{IsPushed}
 use Rattle.protocol_entry_laws.proofs.AnsweredAttempts.{same_mutate}
-use Rattle.protocol_call_laws.proofs.CallWalk.{IsSamePart, IsDenial, IsReady, KeepsCall, StandsNow, IsCalm, Leaves, does_leave, begun_calm, call_calm, at_once_calm}
+use Rattle.protocol_call_laws.proofs.CallWalk.{IsSamePart, IsDenial, AnyKept, AnyUsed, all_any, IsReady, KeepsCall, StandsNow, IsCalm, Leaves, does_leave, begun_calm, call_calm, at_once_calm}
 use Rattle.protocol_call_laws.specs.OpenAttempts.{AsksBy, WasAnswered, IsOver}
 
 -- lists of live attempts
@@ -342,15 +342,20 @@ module _ (G : ℕ → ToldChunk → ℕ → Type 0) (config : Config) (sent : Li
           };
         }
 
-  open_keeps : KeepsCall s (CameAs sent s.id) Open (λ o c chunk number. HasData config sent greatest s.id o c chunk number) UnderWay (λ c chunk place. Open c) AnyReply
+  open_keeps : KeepsCall s (CameAs sent s.id) AnyKept AnyUsed Open (λ o c chunk number. HasData config sent greatest s.id o c chunk number) UnderWay (λ c chunk place. Open c) AnyReply
   open_keeps =
       record {
+        keyed = all_any s.cache.entries;
+        hears = λ d c l h. all_any (heard_at d c l).client.cache.entries;
+        finds = λ t c index e h is part. tt;
+        tells = λ c number l now at came. tt;
+        fits = λ c e chunk asked index h. tt;
         same = λ c e same h. same_open c e same.0 same.1 same.3 same.4 h;
         begins = λ c e same deadline h. begins_open c e same deadline h;
         goes_on = λ c e plain asked file live deadline h. same_open c e asked file live deadline h;
         replies = λ asked reply plain. tt;
         refuses = λ asked refusal. tt;
-        pushes = λ d c chunk g first r mutates h. pushes_data d c chunk g first r;
+        pushes = λ d c chunk g first r mutates x h. pushes_data d c chunk g first r;
         expires = λ c chunk number h late. expires_open c chunk number h late;
         stays = λ c chunk number h. stays_open c chunk number h;
         denied = λ c chunk number refusal h came is. denied_open c chunk number h (came is h.pushed);
@@ -361,7 +366,7 @@ module _ (G : ℕ → ToldChunk → ℕ → Type 0) (config : Config) (sent : Li
         last = λ c chunk place write none h. (h, tt);
       }
     where
-      pushes_data : (d : ClientDoing) (c : CurrentCall) (chunk : ToldChunk) (g : Group) (first : ServerId) → IsReady s d
+      pushes_data : (d : ClientDoing) (c : CurrentCall) (chunk : ToldChunk) (g : Group) (first : ServerId) → IsReady AnyKept s d
           → HasData config sent greatest s.id (push_planned_to d.client c chunk g (Some first)).sent (record c { stage = SentData chunk g.primary (suc d.client.number) }) chunk (suc d.client.number)
       pushes_data d c chunk g first r = (
         λ id handle version deadline own a. let most = used id handle version deadline own a in let same = r.3 in omega (arith, most, same),
@@ -394,15 +399,15 @@ module _ (G : ℕ → ToldChunk → ℕ → Type 0) (config : Config) (sent : Li
           inl (omega (arith, end, until, known))
 
   abbrev pub Leaving : ClientDoing → Type 0
-  Leaving d = Leaves s Open (λ o c chunk number. HasData config sent greatest s.id o c chunk number) UnderWay AnyReply (λ reply. AllOver G config sent greatest s.id) (AllOver G config sent greatest s.id) d
+  Leaving d = Leaves s AnyUsed Open (λ o c chunk number. HasData config sent greatest s.id o c chunk number) UnderWay AnyReply (λ reply. AllOver G config sent greatest s.id) (AllOver G config sent greatest s.id) d
 
   abbrev pub Standing : Option Message → Option Answer → Option CurrentCall → Type 0
-  Standing o a c = StandsNow s Open (λ o c chunk number. HasData config sent greatest s.id o c chunk number) UnderWay AnyReply (λ reply. AllOver G config sent greatest s.id) (AllOver G config sent greatest s.id) o a c
+  Standing o a c = StandsNow s AnyUsed Open (λ o c chunk number. HasData config sent greatest s.id o c chunk number) UnderWay AnyReply (λ reply. AllOver G config sent greatest s.id) (AllOver G config sent greatest s.id) o a c
 
   pub step_leaves : (i : Input) → IsCameIn (CameAs sent s.id) i → Standing None None s.current → Leaving (client_does (client_begins s) i s.current)
   step_leaves i came h =
-      does_leave s (CameAs sent s.id) Open (λ o c chunk number. HasData config sent greatest s.id o c chunk number) UnderWay (λ c chunk place. Open c) AnyReply (λ reply. AllOver G config sent greatest s.id) (AllOver G config sent greatest s.id) open_keeps open_ends i s.current refl came h
-      (begun_calm s (CameAs sent s.id) Open (λ o c chunk number. HasData config sent greatest s.id o c chunk number) UnderWay (λ c chunk place. Open c) AnyReply (λ reply. AllOver G config sent greatest s.id) (AllOver G config sent greatest s.id) open_keeps open_ends h)
+      does_leave s (CameAs sent s.id) AnyKept AnyUsed Open (λ o c chunk number. HasData config sent greatest s.id o c chunk number) UnderWay (λ c chunk place. Open c) AnyReply (λ reply. AllOver G config sent greatest s.id) (AllOver G config sent greatest s.id) open_keeps open_ends i s.current refl came h
+      (begun_calm s (CameAs sent s.id) AnyKept AnyUsed Open (λ o c chunk number. HasData config sent greatest s.id o c chunk number) UnderWay (λ c chunk place. Open c) AnyReply (λ reply. AllOver G config sent greatest s.id) (AllOver G config sent greatest s.id) open_keeps open_ends h)
 
   -- a call that is made where all attempts are over
   module _ (all : AllOver G config sent greatest s.id) where
@@ -413,13 +418,13 @@ module _ (G : ℕ → ToldChunk → ℕ → Type 0) (config : Config) (sent : Li
           timely = record { early = omega arith; lives = tt; plain = λ is. refl };
         }
 
-    pub call_leaves : (c : Call) → Standing None None s.current → IsCalm s Open (λ o c chunk number. HasData config sent greatest s.id o c chunk number) UnderWay AnyReply (λ reply. AllOver G config sent greatest s.id) (AllOver G config sent greatest s.id) (calls (client_begins s) c)
+    pub call_leaves : (c : Call) → Standing None None s.current → IsCalm s AnyUsed Open (λ o c chunk number. HasData config sent greatest s.id o c chunk number) UnderWay AnyReply (λ reply. AllOver G config sent greatest s.id) (AllOver G config sent greatest s.id) (calls (client_begins s) c)
     call_leaves c h =
-        call_calm s (CameAs sent s.id) Open (λ o c chunk number. HasData config sent greatest s.id o c chunk number) UnderWay (λ c chunk place. Open c) AnyReply (λ reply. AllOver G config sent greatest s.id) (AllOver G config sent greatest s.id) open_keeps open_ends
-        (λ c. Unit {0}) (λ c file index last asks first. new_open s.config.attempts 0 c file index last) (λ c name asks. new_open s.config.attempts (suc s.call_count) c 0 0 None) (λ reply. all) c tt
-        (begun_calm s (CameAs sent s.id) Open (λ o c chunk number. HasData config sent greatest s.id o c chunk number) UnderWay (λ c chunk place. Open c) AnyReply (λ reply. AllOver G config sent greatest s.id) (AllOver G config sent greatest s.id) open_keeps open_ends h)
+        call_calm s (CameAs sent s.id) AnyKept AnyUsed Open (λ o c chunk number. HasData config sent greatest s.id o c chunk number) UnderWay (λ c chunk place. Open c) AnyReply (λ reply. AllOver G config sent greatest s.id) (AllOver G config sent greatest s.id) open_keeps open_ends
+        (λ c. Unit {0}) (λ c file index last plain at asks first. new_open s.config.attempts 0 c file index last) (λ c name asks. new_open s.config.attempts (suc s.call_count) c 0 0 None) (λ reply. all) c tt
+        (begun_calm s (CameAs sent s.id) AnyKept AnyUsed Open (λ o c chunk number. HasData config sent greatest s.id o c chunk number) UnderWay (λ c chunk place. Open c) AnyReply (λ reply. AllOver G config sent greatest s.id) (AllOver G config sent greatest s.id) open_keeps open_ends h)
 
-    pub refusal_leaves : (reply : Answer) → IsCalm s Open (λ o c chunk number. HasData config sent greatest s.id o c chunk number) UnderWay AnyReply (λ reply. AllOver G config sent greatest s.id) (AllOver G config sent greatest s.id) (answers (client_begins s) reply)
+    pub refusal_leaves : (reply : Answer) → IsCalm s AnyUsed Open (λ o c chunk number. HasData config sent greatest s.id o c chunk number) UnderWay AnyReply (λ reply. AllOver G config sent greatest s.id) (AllOver G config sent greatest s.id) (answers (client_begins s) reply)
     refusal_leaves reply =
-        at_once_calm s (CameAs sent s.id) Open (λ o c chunk number. HasData config sent greatest s.id o c chunk number) UnderWay (λ c chunk place. Open c) AnyReply (λ reply. AllOver G config sent greatest s.id) (AllOver G config sent greatest s.id) open_keeps open_ends
-        (λ c. Unit {0}) (λ c file index last asks first. new_open s.config.attempts 0 c file index last) (λ c name asks. new_open s.config.attempts (suc s.call_count) c 0 0 None) (λ reply. all) reply
+        at_once_calm s (CameAs sent s.id) AnyKept AnyUsed Open (λ o c chunk number. HasData config sent greatest s.id o c chunk number) UnderWay (λ c chunk place. Open c) AnyReply (λ reply. AllOver G config sent greatest s.id) (AllOver G config sent greatest s.id) open_keeps open_ends
+        (λ c. Unit {0}) (λ c file index last plain at asks first. new_open s.config.attempts 0 c file index last) (λ c name asks. new_open s.config.attempts (suc s.call_count) c 0 0 None) (λ reply. all) reply

@@ -43,7 +43,7 @@ use Rattle.protocol_call_laws.specs.OpenAttempts.{IsSentFor, WasSentFor, AsksBy}
 use Rattle.protocol_call_laws.proofs.OpenStages.{IsOpen, HasData, IsUnderWay, AnyReply, strictly}
 use Rattle.protocol_call_laws.proofs.LaterCalls.{CallStands}
 use Rattle.protocol_call_laws.proofs.OpenCalls.{IsStanding, SinceFor, Never, NeverFor, all_since, new_on}
-use Rattle.protocol_call_laws.proofs.CallWalk.{StandsAt}
+use Rattle.protocol_call_laws.proofs.CallWalk.{AnyUsed, StandsAt}
 use Rattle.protocol_entry_laws.specs.LeasedAnswers.{IsTakenNow, WasTaken}
 use Rattle.protocol_entry_laws.proofs.LeasedAnswers.{answers_are_given_under_leases}
 use Rattle.protocol_version_laws.specs.ReplacedChunks.{IsToldAt}
@@ -188,9 +188,9 @@ asked_earlier config servers clients steps index file chunk seq x h id handle ve
     standing : IsStanding config index (SinceFor config index start steps NeverFor) w h.client
     standing = (all_since config index servers clients start steps Never NeverFor ([], refl) (new_on config servers clients index)).stands h.client h.client_is
 
-    stands : StandsAt (IsOpen (SinceFor config index start steps NeverFor) config w.sent w.observer.greatest (suc index) (h.client).now) (λ o c told number. HasData config w.sent w.observer.greatest (suc index) o c told number) (IsUnderWay (SinceFor config index start steps NeverFor) config w.sent w.observer.greatest (suc index) (h.client).now) AnyReply None h.current (SentData chunk h.primary seq)
+    stands : StandsAt AnyUsed (IsOpen (SinceFor config index start steps NeverFor) config w.sent w.observer.greatest (suc index) (h.client).now) (λ o c told number. HasData config w.sent w.observer.greatest (suc index) o c told number) (IsUnderWay (SinceFor config index start steps NeverFor) config w.sent w.observer.greatest (suc index) (h.client).now) AnyReply None h.current (SentData chunk h.primary seq)
     stands =
-        subst (λ (st : Stage). StandsAt (IsOpen (SinceFor config index start steps NeverFor) config w.sent w.observer.greatest (suc index) (h.client).now) (λ o c told number. HasData config w.sent w.observer.greatest (suc index) o c told number) (IsUnderWay (SinceFor config index start steps NeverFor) config w.sent w.observer.greatest (suc index) (h.client).now) AnyReply None h.current st) h.stage_is
+        subst (λ (st : Stage). StandsAt AnyUsed (IsOpen (SinceFor config index start steps NeverFor) config w.sent w.observer.greatest (suc index) (h.client).now) (λ o c told number. HasData config w.sent w.observer.greatest (suc index) o c told number) (IsUnderWay (SinceFor config index start steps NeverFor) config w.sent w.observer.greatest (suc index) (h.client).now) AnyReply None h.current st) h.stage_is
         (subst (λ (o : Option CurrentCall). CallStands (SinceFor config index start steps NeverFor) config w.sent w.observer.greatest (suc index) (h.client).now None o) h.current_is (standing.call h.is_up))
 
 -- the Mutate that was sent

@@ -1,11 +1,13 @@
 -- Of a write a client was told that each part before the one in hand is placed; once it is answered Done, that each part is. A step of the client keeps this.
 use Rattle.std.proofs.Common.{◌≡◌, ◌⊎◌, ℕ, zero, suc, ◌+◌, ◌-◌, ◌*◌, ◌/◌, ◌≤◌, ◌<◌, Bool, true, false, true≢false, List, ◌++◌, length, Option, Some, None, refl, sym, ap, subst, ◌∙◌, inr, arith}
-use Rattle.std.specs.Prelude.{nat_lt, min, cond}
+use Rattle.std.specs.Prelude.{nat_lt, min, cond, unwrap_or}
+use Rattle.std.specs.FinMap as table
 use Rattle.std.specs.List.{list_any}
 use Rattle.std.proofs.lemmas.Bool.{ltb-true, ltb-false}
 use Rattle.std.proofs.Math.Nat.{div-mul-le_self, lt-div-mul-add, mul-le-mul_right, suc-mul, min-le_left, min-le_right, le-min}
 use Rattle.gfs_types.specs.declared.config.Config.{Config}
 use Rattle.gfs_types.specs.declared.ids.DataId.{DataId}
+use Rattle.gfs_types.specs.declared.ids.FileId.{FileId}
 use Rattle.gfs_types.specs.declared.ids.Handle.{Handle}
 use Rattle.gfs_types.specs.declared.ids.Version.{Version}
 use Rattle.gfs_types.specs.declared.ids.Moment.{Moment}
@@ -30,11 +32,14 @@ use Rattle.protocol.specs.PushBuffer.{hops_after}
 use Rattle.protocol.specs.Client.{file_chunk, place_in_file, ClientState, ClientDoing, client_begins}
 use Rattle.protocol.specs.ClientAttempts.{is_mutation, is_append, bytes_to_send, target_of, has_next_part, is_live_at, push_planned_to}
 use Rattle.protocol.specs.ClientTakes.{less_live}
-use Rattle.protocol.specs.ClientStep.{new_call, calls, client_does}
+use Rattle.protocol.specs.ClientStep.{new_call, fd_of, calls, client_does}
 use Rattle.protocol_laws.proofs.Steps.{on_cond}
 use Rattle.protocol_entry_laws.specs.Entries.{IsAmong, IsPushed}
 use Rattle.protocol_laws.proofs.ServerMoves.{IsCameIn}
-use Rattle.protocol_call_laws.proofs.CallWalk.{IsFirst, IsReady, KeepsCall, StandsAt, StandsNow, IsCalm, Leaves, does_leave, begun_calm, call_calm}
+use Rattle.protocol_step_laws.proofs.ClientReads.{told_later as chunk_told_later}
+use Rattle.protocol_step_laws.proofs.ClientWalk.{heard_at}
+use Rattle.protocol_call_laws.specs.AnsweredWrites.{IsToldChunk}
+use Rattle.protocol_call_laws.proofs.CallWalk.{IsFirst, AnyKept, AnyUsed, all_any, IsReady, KeepsCall, StandsAt, StandsNow, IsCalm, Leaves, does_leave, begun_calm, call_calm}
 use Rattle.protocol_call_laws.proofs.LaterCalls.{among_later, pushed_later}
 
 -- whether a write has a part in this chunk of the file, and its first one
@@ -56,27 +61,33 @@ pub record HasAsked (sent : List Message) (client number : ℕ) (aim : Target) :
   pub sender_is : asked.sender ≡ the_client client
   pub body_is : asked.body ≡ body.Mutate (data_id client number) handle version aim deadline
 
--- A Done was sent of the data of this number, which are the part's, for the part's target.
-pub record IsPartTold (sent : List Message) (client size : ℕ) (A : Call) (part number : ℕ) : Type 0 where
+-- of a write the client was told which chunk stands at this index of the file
+abbrev pub IsLocated : List Message → (client file : ℕ) → Call → (index handle round : ℕ) → Type 0
+IsLocated sent client file (call.Write fd offset bytes) index handle round = IsToldChunk sent client file index handle round
+IsLocated sent client file other index handle round = Unit {0}
+
+-- A Done was sent of the data of this number, which are the part's, for the part's target, in the chunk that was told.
+pub record IsPartTold (sent : List Message) (client size file : ℕ) (A : Call) (part number : ℕ) : Type 0 where
   pub told : Message
   pub place : ℕ
   pub sent_is : IsAmong sent told
   pub body_is : told.body ≡ body.Done (data_id client number) place
   pub asked : HasAsked sent client number (target_of size part A)
+  pub located : IsLocated sent client file A part asked.handle.0 asked.version.0
   pub pushed : IsPushed sent (data_id client number) (bytes_to_send size part A)
 
 -- so it is of each part below this one, under numbers that rise and are at most the limit
-pub record AreTold (sent : List Message) (client size limit : ℕ) (A : Call) (index : ℕ) : Type 0 where
+pub record AreTold (sent : List Message) (client size limit file : ℕ) (A : Call) (index : ℕ) : Type 0 where
   pub numbers : ℕ → ℕ
-  pub told : (part : ℕ) → part < index → has_chunk size A part ≡ true → IsPartTold sent client size A part (numbers part)
+  pub told : (part : ℕ) → part < index → has_chunk size A part ≡ true → IsPartTold sent client size file A part (numbers part)
   pub few : (part : ℕ) → part < index → has_chunk size A part ≡ true → numbers part ≤ limit
   pub rising : (part later : ℕ) → part < later → later < index → has_chunk size A part ≡ true → has_chunk size A later ≡ true → numbers part < numbers later
   pub begun : first_chunk size A ≤ index
 
 -- of each part of the call
-pub record AllTold (sent : List Message) (client size : ℕ) (A : Call) : Type 0 where
+pub record AllTold (sent : List Message) (client size file : ℕ) (A : Call) : Type 0 where
   pub numbers : ℕ → ℕ
-  pub told : (part : ℕ) → has_chunk size A part ≡ true → IsPartTold sent client size A part (numbers part)
+  pub told : (part : ℕ) → has_chunk size A part ≡ true → IsPartTold sent client size file A part (numbers part)
   pub rising : (part later : ℕ) → part < later → has_chunk size A part ≡ true → has_chunk size A later ≡ true → numbers part < numbers later
 
 -- its data are pushed now
@@ -90,11 +101,15 @@ IsPushing client number bytes o = (m : Message) × (o ≡ Some m) × IsPushOf cl
 
 -- while messages are added
 
-module _ (sent more : List Message) (client size : ℕ) (A : Call) where
-  pub asked_later : (number : ℕ) (aim : Target) → HasAsked sent client number aim → HasAsked (sent ++ more) client number aim
+module _ (sent more : List Message) (client size file : ℕ) (A : Call) where
+  abbrev pub asked_later : (number : ℕ) (aim : Target) → HasAsked sent client number aim → HasAsked (sent ++ more) client number aim
   asked_later number aim h = record { asked = h.asked; handle = h.handle; version = h.version; deadline = h.deadline; sent_is = among_later sent more h.asked h.sent_is; sender_is = h.sender_is; body_is = h.body_is }
 
-  part_later : (part number : ℕ) → IsPartTold sent client size A part number → IsPartTold (sent ++ more) client size A part number
+  pub located_later : (B : Call) (index handle round : ℕ) → IsLocated sent client file B index handle round → IsLocated (sent ++ more) client file B index handle round
+  located_later (call.Write fd offset bytes) index handle round h = record { location = h.location; told = chunk_told_later sent more client file h.location h.told; index_is = h.index_is; handle_is = h.handle_is; round_is = h.round_is }
+  located_later other index handle round h = tt
+
+  part_later : (part number : ℕ) → IsPartTold sent client size file A part number → IsPartTold (sent ++ more) client size file A part number
   part_later part number h =
       record {
         told = h.told;
@@ -102,10 +117,11 @@ module _ (sent more : List Message) (client size : ℕ) (A : Call) where
         sent_is = among_later sent more h.told h.sent_is;
         body_is = h.body_is;
         asked = asked_later number (target_of size part A) h.asked;
+        located = located_later A part h.asked.handle.0 h.asked.version.0 h.located;
         pushed = pushed_later sent more (data_id client number) (bytes_to_send size part A) h.pushed;
       }
 
-  pub told_later : (limit most index : ℕ) → limit ≤ most → AreTold sent client size limit A index → AreTold (sent ++ more) client size most A index
+  pub told_later : (limit most index : ℕ) → limit ≤ most → AreTold sent client size limit file A index → AreTold (sent ++ more) client size most file A index
   told_later limit most index low h =
       record {
         numbers = h.numbers;
@@ -115,15 +131,15 @@ module _ (sent more : List Message) (client size : ℕ) (A : Call) where
         begun = h.begun;
       }
 
-  pub all_later : AllTold sent client size A → AllTold (sent ++ more) client size A
+  pub all_later : AllTold sent client size file A → AllTold (sent ++ more) client size file A
   all_later h = record { numbers = h.numbers; told = λ part has. part_later part (h.numbers part) (h.told part has); rising = h.rising }
 
-module _ (sent : List Message) (client size : ℕ) (A : Call) where
-  more_told : (limit most index : ℕ) → limit ≤ most → AreTold sent client size limit A index → AreTold sent client size most A index
+module _ (sent : List Message) (client size file : ℕ) (A : Call) where
+  more_told : (limit most index : ℕ) → limit ≤ most → AreTold sent client size limit file A index → AreTold sent client size most file A index
   more_told limit most index low h = record { numbers = h.numbers; told = h.told; few = λ part less has. let few = h.few part less has in omega (arith, few, low); rising = h.rising; begun = h.begun }
 
   -- where there is no part
-  none_told : (limit index : ℕ) → ((part : ℕ) → has_chunk size A part ≡ false) → first_chunk size A ≤ index → AreTold sent client size limit A index
+  none_told : (limit index : ℕ) → ((part : ℕ) → has_chunk size A part ≡ false) → first_chunk size A ≤ index → AreTold sent client size limit file A index
   none_told limit index none begun =
       record {
         numbers = λ part. 0;
@@ -133,15 +149,15 @@ module _ (sent : List Message) (client size : ℕ) (A : Call) where
         begun = begun;
       }
 
-  none_at_all : ((part : ℕ) → has_chunk size A part ≡ false) → AllTold sent client size A
+  none_at_all : ((part : ℕ) → has_chunk size A part ≡ false) → AllTold sent client size file A
   none_at_all none = record { numbers = λ part. 0; told = λ part has. absurd (true≢false (sym has ∙ none part)); rising = λ part later less has also. absurd (true≢false (sym has ∙ none part)) }
 
   -- one part more
-  next_told : (limit most index number : ℕ) → AreTold sent client size limit A index → limit < number → number ≤ most → IsPartTold sent client size A index number → AreTold sent client size most A (suc index)
+  next_told : (limit most index number : ℕ) → AreTold sent client size limit file A index → limit < number → number ≤ most → IsPartTold sent client size file A index number → AreTold sent client size most file A (suc index)
   next_told limit most index number h less low now =
       record {
         numbers = λ part. cond (nat_lt part index) (h.numbers part) number;
-        told = λ part last has. by_place (λ n. IsPartTold sent client size A part n) part last (λ below. h.told part below has) (λ same. subst (λ (n : ℕ). IsPartTold sent client size A n number) (sym same) now);
+        told = λ part last has. by_place (λ n. IsPartTold sent client size file A part n) part last (λ below. h.told part below has) (λ same. subst (λ (n : ℕ). IsPartTold sent client size file A n number) (sym same) now);
         few = λ part last has. by_place (λ n. n ≤ most) part last (λ below. let few = h.few part below has in omega (arith, few, less, low)) (λ same. low);
         rising = λ part later order last has also.
             by_place (λ n. cond (nat_lt part index) (h.numbers part) number < n) later last
@@ -229,63 +245,74 @@ first_least : (size : ℕ) (A : Call) (index : ℕ) → IsFirst size A index →
 first_least size (call.Write fd offset bytes) index is part has = let low = none_below size offset (length bytes) part has in omega (arith, is, low)
 first_least size other index is part has = absurd (true≢false (sym has))
 
--- A: the call that is open in the step
-module _ (sent : List Message) (client size : ℕ) (A : Call) where
+-- the file of a call that is made
+abbrev pub file_called : ClientState → Call → ℕ
+file_called s c = cond (is_name_call c) 0 (unwrap_or (table.get s.descriptors (fd_of c)) 0)
+
+file_of_call : (s : ClientState) (c : Call) (file : ℕ) → is_name_call c ≡ false → table.get s.descriptors (fd_of c) ≡ Some file → file_called s c ≡ file
+file_of_call s c file plain at = ap (λ (b : Bool). cond b 0 (unwrap_or (table.get s.descriptors (fd_of c)) 0)) plain ∙ ap (λ (o : Option ℕ). unwrap_or o 0) at
+
+no_file_called : (s : ClientState) (c : Call) → is_name_call c ≡ true → file_called s c ≡ 0
+no_file_called s c name = ap (λ (b : Bool). cond b 0 (unwrap_or (table.get s.descriptors (fd_of c)) 0)) name
+
+-- A: the call that is open in the step, on this file
+module _ (sent : List Message) (client size file : ℕ) (A : Call) where
   abbrev pub IsBetween : ℕ → CurrentCall → Type 0
-  IsBetween limit c = (c.asked ≡ A) × AreTold sent client size limit A c.index
+  IsBetween limit c = (c.asked ≡ A) × AreTold sent client size limit file A c.index × (c.file.0 ≡ file)
 
   -- the data of the part in hand are pushed under this number, which is a new one
   abbrev pub HasData : Option Message → CurrentCall → ToldChunk → ℕ → Type 0
-  HasData o c chunk number = (limit : ℕ) × AreTold sent client size limit A c.index × (limit < number) × (IsPushed sent (data_id client number) (bytes_to_send size c.index A) ⊎ IsPushing client number (bytes_to_send size c.index A) o)
+  HasData o c chunk number = (limit : ℕ) × AreTold sent client size limit file A c.index × (limit < number) × (IsPushed sent (data_id client number) (bytes_to_send size c.index A) ⊎ IsPushing client number (bytes_to_send size c.index A) o)
 
   abbrev pub IsUnderWay : CurrentCall → ToldChunk → ℕ → Type 0
   IsUnderWay c chunk number =
-      (c.asked ≡ A) × ((limit : ℕ) × AreTold sent client size limit A c.index × (limit < number)) × IsPushed sent (data_id client number) (bytes_to_send size c.index A) × HasAsked sent client number (target_of size c.index A)
+      (c.asked ≡ A) × ((limit : ℕ) × AreTold sent client size limit file A c.index × (limit < number)) × IsPushed sent (data_id client number) (bytes_to_send size c.index A) × ((a : HasAsked sent client number (target_of size c.index A)) × IsLocated sent client file A c.index a.handle.0 a.version.0) × (c.file.0 ≡ file)
 
   abbrev pub IsPlaced : ℕ → CurrentCall → ToldChunk → ℕ → Type 0
-  IsPlaced most c chunk place = (c.asked ≡ A) × AreTold sent client size most A c.index × AreTold sent client size most A (suc c.index)
+  IsPlaced most c chunk place = (c.asked ≡ A) × AreTold sent client size most file A c.index × AreTold sent client size most file A (suc c.index) × (c.file.0 ≡ file)
 
   abbrev pub FineReply : Call → Answer → Type 0
-  FineReply asked reply = reply ≡ answer.Done → AllTold sent client size asked
+  FineReply asked reply = reply ≡ answer.Done → AllTold sent client size file asked
 
   -- what comes in was sent
   abbrev pub CameAs : Body → Type 0
   CameAs b = (m : Message) × IsAmong sent m × (m.body ≡ b)
 
-module _ (sent : List Message) (size : ℕ) (A : Call) (s : ClientState) (same_size : s.config.chunk ≡ size) (used : (number : ℕ) (aim : Target) → HasAsked sent s.id number aim → number ≤ s.number) where
+module _ (sent : List Message) (size file : ℕ) (A : Call) (s : ClientState) (same_size : s.config.chunk ≡ size) (used : (number : ℕ) (aim : Target) → HasAsked sent s.id number aim → number ≤ s.number) where
   abbrev Between : CurrentCall → Type 0
-  Between c = IsBetween sent s.id size A s.number c
+  Between c = IsBetween sent s.id size file A s.number c
 
-  told_at : (c e : CurrentCall) → e.asked ≡ c.asked → e.index ≡ c.index → Between c → Between e
-  told_at c e asked index h = (asked ∙ h.0, subst (λ (n : ℕ). AreTold sent s.id size s.number A n) (sym index) h.1)
+  told_at : (c e : CurrentCall) → e.asked ≡ c.asked → e.file ≡ c.file → e.index ≡ c.index → Between c → Between e
+  told_at c e asked same index h = (asked ∙ h.0, subst (λ (n : ℕ). AreTold sent s.id size s.number file A n) (sym index) h.1, ap (λ (f : FileId). f.0) same ∙ h.2)
 
-  plain_between : (c e : CurrentCall) → is_mutation c.asked ≡ false → e.asked ≡ c.asked → Between c → Between e
-  plain_between c e plain asked h =
+  plain_between : (c e : CurrentCall) → is_mutation c.asked ≡ false → e.asked ≡ c.asked → e.file ≡ c.file → Between c → Between e
+  plain_between c e plain asked same h =
       let none : is_mutation A ≡ false = sym (ap is_mutation h.0) ∙ plain in
       let first = plain_first size A none in
-      (asked ∙ h.0, none_told sent s.id size A s.number e.index (plain_none size A none) (omega (arith, first)))
+      (asked ∙ h.0, none_told sent s.id size file A s.number e.index (plain_none size A none) (omega (arith, first)), ap (λ (f : FileId). f.0) same ∙ h.2)
 
-  append_between : (c e : CurrentCall) → is_append c.asked ≡ true → e.asked ≡ c.asked → Between c → Between e
-  append_between c e append asked h =
+  append_between : (c e : CurrentCall) → is_append c.asked ≡ true → e.asked ≡ c.asked → e.file ≡ c.file → Between c → Between e
+  append_between c e append asked same h =
       let one : is_append A ≡ true = sym (ap is_append h.0) ∙ append in
       let first = append_first size A one in
-      (asked ∙ h.0, none_told sent s.id size A s.number e.index (append_none size A one) (omega (arith, first)))
+      (asked ∙ h.0, none_told sent s.id size file A s.number e.index (append_none size A one) (omega (arith, first)), ap (λ (f : FileId). f.0) same ∙ h.2)
 
-  done_placed : (c : CurrentCall) (chunk : ToldChunk) (number : ℕ) (id : DataId) (place : ℕ) → IsUnderWay sent s.id size A c chunk number → CameAs sent s.id size A (body.Done id place) → id.client.0 ≡ s.id → id.seq ≡ number → IsPlaced sent s.id size A s.number (less_live c chunk) chunk place
+  done_placed : (c : CurrentCall) (chunk : ToldChunk) (number : ℕ) (id : DataId) (place : ℕ) → IsUnderWay sent s.id size file A c chunk number → CameAs sent s.id size file A (body.Done id place) → id.client.0 ≡ s.id → id.seq ≡ number → IsPlaced sent s.id size file A s.number (less_live c chunk) chunk place
   done_placed c chunk number id place h came own seq = (
     h.0,
-    more_told sent s.id size A (h.1).0 s.number c.index (let less = (h.1).2 in omega (arith, less, low)) (h.1).1,
-    next_told sent s.id size A (h.1).0 s.number c.index number (h.1).1 (h.1).2 low
-        (record { told = came.0; place = place; sent_is = came.1; body_is = came.2 ∙ ap (λ (x : DataId). body.Done x place) same; asked = h.3; pushed = h.2 }),
+    more_told sent s.id size file A (h.1).0 s.number c.index (let less = (h.1).2 in omega (arith, less, low)) (h.1).1,
+    next_told sent s.id size file A (h.1).0 s.number c.index number (h.1).1 (h.1).2 low
+        (record { told = came.0; place = place; sent_is = came.1; body_is = came.2 ∙ ap (λ (x : DataId). body.Done x place) same; asked = (h.3).0; located = (h.3).1; pushed = h.2 }),
+    h.4,
   )
     where
       low : number ≤ s.number
-      low = used number (target_of size c.index A) h.3
+      low = used number (target_of size c.index A) (h.3).0
 
       same : id ≡ data_id s.id number
       same = ap (λ (n : ℕ). data_id n id.seq) own ∙ ap (λ (n : ℕ). data_id s.id n) seq
 
-  all_placed : (c : CurrentCall) → c.asked ≡ A → has_next_part s.config.chunk c.index c.asked ≡ false → first_chunk size A ≤ c.index → AreTold sent s.id size s.number A (suc c.index) → AllTold sent s.id size A
+  all_placed : (c : CurrentCall) → c.asked ≡ A → has_next_part s.config.chunk c.index c.asked ≡ false → first_chunk size A ≤ c.index → AreTold sent s.id size s.number file A (suc c.index) → AllTold sent s.id size file A
   all_placed c asked none begun h =
       record {
         numbers = h.numbers;
@@ -299,30 +326,35 @@ module _ (sent : List Message) (size : ℕ) (A : Call) (s : ClientState) (same_s
       below : (part : ℕ) → has_chunk size A part ≡ true → part < suc c.index
       below part has = write_beyond size c.index A part begun none_next has
 
-  told_keeps : KeepsCall s (CameAs sent s.id size A) (IsBetween sent s.id size A s.number) (HasData sent s.id size A) (IsUnderWay sent s.id size A) (IsPlaced sent s.id size A s.number) (FineReply sent s.id size A)
+  told_keeps : KeepsCall s (CameAs sent s.id size file A) AnyKept AnyUsed (IsBetween sent s.id size file A s.number) (HasData sent s.id size file A) (IsUnderWay sent s.id size file A) (IsPlaced sent s.id size file A s.number) (FineReply sent s.id size file A)
   told_keeps =
       record {
-        same = λ c e same h. told_at c e same.0 same.2 h;
-        begins = λ c e same deadline h. told_at c e same.0 same.2 h;
-        goes_on = λ c e plain asked file live deadline h. plain_between c e plain asked h;
-        replies = λ asked reply plain is. none_at_all sent s.id size asked (plain_none size asked plain);
+        keyed = all_any s.cache.entries;
+        hears = λ d c l h. all_any (heard_at d c l).client.cache.entries;
+        finds = λ t c index e h is part. tt;
+        tells = λ c number l now at came. tt;
+        fits = λ c e chunk asked index h. tt;
+        same = λ c e same h. told_at c e same.0 same.1 same.2 h;
+        begins = λ c e same deadline h. told_at c e same.0 same.1 same.2 h;
+        goes_on = λ c e plain asked same live deadline h. plain_between c e plain asked same h;
+        replies = λ asked reply plain is. none_at_all sent s.id size file asked (plain_none size asked plain);
         refuses = λ asked refusal is. absurd (let both : answer.Refused refusal ≡ answer.Done = is in cc);
-        pushes = λ d c chunk g first r mutates h. pushes_data d c chunk g first r h;
-        expires = λ c chunk number h late. (h.0, more_told sent s.id size A (h.1).0 s.number c.index (below c chunk number h) (h.1).1);
-        stays = λ c chunk number h. (h.0, more_told sent s.id size A (h.1).0 s.number c.index (below c chunk number h) (h.1).1);
-        denied = λ c chunk number refusal h came is. (h.0, more_told sent s.id size A (h.1).0 s.number c.index (below c chunk number h) (h.1).1);
+        pushes = λ d c chunk g first r mutates x h. pushes_data d c chunk g first r h;
+        expires = λ c chunk number h late. (h.0, more_told sent s.id size file A (h.1).0 s.number c.index (below c chunk number h) (h.1).1, h.4);
+        stays = λ c chunk number h. (h.0, more_told sent s.id size file A (h.1).0 s.number c.index (below c chunk number h) (h.1).1, h.4);
+        denied = λ c chunk number refusal h came is. (h.0, more_told sent s.id size file A (h.1).0 s.number c.index (below c chunk number h) (h.1).1, h.4);
         done = λ c chunk number id place h came own is. done_placed c chunk number id place h came own is;
-        passes = λ c e append asked file live deadline h. append_between c e append asked h;
-        appended = λ c chunk place append h. ((h.0, h.1), λ is. absurd (let both : answer.At (place_in_file s.config.chunk chunk.index place) ≡ answer.Done = is in cc));
-        next = λ c e chunk place write more asked file index live deadline h. (asked ∙ h.0, subst (λ (n : ℕ). AreTold sent s.id size s.number A n) (sym index) h.2);
-        last = λ c chunk place write none h. ((h.0, h.1), λ is. subst (λ (x : Call). AllTold sent s.id size x) (sym h.0) (all_placed c h.0 none (h.1).begun h.2));
+        passes = λ c e append asked same live deadline h. append_between c e append asked same h;
+        appended = λ c chunk place append h. ((h.0, h.1, h.3), λ is. absurd (let both : answer.At (place_in_file s.config.chunk chunk.index place) ≡ answer.Done = is in cc));
+        next = λ c e chunk place write more asked same index live deadline h. (asked ∙ h.0, subst (λ (n : ℕ). AreTold sent s.id size s.number file A n) (sym index) h.2, ap (λ (f : FileId). f.0) same ∙ h.3);
+        last = λ c chunk place write none h. ((h.0, h.1, h.3), λ is. subst (λ (x : Call). AllTold sent s.id size file x) (sym h.0) (all_placed c h.0 none (h.1).begun h.2));
       }
     where
-      below : (c : CurrentCall) (chunk : ToldChunk) (number : ℕ) (h : IsUnderWay sent s.id size A c chunk number) → (h.1).0 ≤ s.number
-      below c chunk number h = let low = used number (target_of size c.index A) h.3 in let less = (h.1).2 in omega (arith, low, less)
+      below : (c : CurrentCall) (chunk : ToldChunk) (number : ℕ) (h : IsUnderWay sent s.id size file A c chunk number) → (h.1).0 ≤ s.number
+      below c chunk number h = let low = used number (target_of size c.index A) (h.3).0 in let less = (h.1).2 in omega (arith, low, less)
 
-      pushes_data : (d : ClientDoing) (c : CurrentCall) (chunk : ToldChunk) (g : Group) (first : ServerId) → IsReady s d → IsBetween sent s.id size A s.number c
-          → HasData sent s.id size A (push_planned_to d.client c chunk g (Some first)).sent (record c { stage = SentData chunk g.primary (suc d.client.number) }) chunk (suc d.client.number)
+      pushes_data : (d : ClientDoing) (c : CurrentCall) (chunk : ToldChunk) (g : Group) (first : ServerId) → IsReady AnyKept s d → IsBetween sent s.id size file A s.number c
+          → HasData sent s.id size file A (push_planned_to d.client c chunk g (Some first)).sent (record c { stage = SentData chunk g.primary (suc d.client.number) }) chunk (suc d.client.number)
       pushes_data d c chunk g first r h = (
         s.number,
         h.1,
@@ -340,23 +372,23 @@ module _ (sent : List Message) (size : ℕ) (A : Call) (s : ClientState) (same_s
         ),
       )
 
-  told_ends : (c : CurrentCall) (reply : Answer) → IsBetween sent s.id size A s.number c → FineReply sent s.id size A c.asked reply → (is_mutation c.asked ≡ true → list_any (is_live_at s.now) c.live ≡ false) → FineReply sent s.id size A A reply
-  told_ends c reply h fine none is = subst (λ (x : Call). AllTold sent s.id size x) h.0 (fine is)
+  told_ends : (c : CurrentCall) (reply : Answer) → IsBetween sent s.id size file A s.number c → FineReply sent s.id size file A c.asked reply → (is_mutation c.asked ≡ true → list_any (is_live_at s.now) c.live ≡ false) → FineReply sent s.id size file A A reply
+  told_ends c reply h fine none is = subst (λ (x : Call). AllTold sent s.id size file x) h.0 (fine is)
 
   abbrev pub Leaving : ClientDoing → Type 0
-  Leaving d = Leaves s (IsBetween sent s.id size A s.number) (HasData sent s.id size A) (IsUnderWay sent s.id size A) (FineReply sent s.id size A) (λ reply. FineReply sent s.id size A A reply) (Unit {0}) d
+  Leaving d = Leaves s AnyUsed (IsBetween sent s.id size file A s.number) (HasData sent s.id size file A) (IsUnderWay sent s.id size file A) (FineReply sent s.id size file A) (λ reply. FineReply sent s.id size file A A reply) (Unit {0}) d
 
-  pub step_leaves : (i : Input) → IsCameIn (CameAs sent s.id size A) i → (c : CurrentCall) → s.current ≡ Some c
-      → StandsAt (IsBetween sent s.id size A s.number) (HasData sent s.id size A) (IsUnderWay sent s.id size A) (FineReply sent s.id size A) None c c.stage → Leaving (client_does (client_begins s) i (Some c))
+  pub step_leaves : (i : Input) → IsCameIn (CameAs sent s.id size file A) i → (c : CurrentCall) → s.current ≡ Some c
+      → StandsAt AnyUsed (IsBetween sent s.id size file A s.number) (HasData sent s.id size file A) (IsUnderWay sent s.id size file A) (FineReply sent s.id size file A) None c c.stage → Leaving (client_does (client_begins s) i (Some c))
   step_leaves i came c now h =
-      does_leave s (CameAs sent s.id size A) (IsBetween sent s.id size A s.number) (HasData sent s.id size A) (IsUnderWay sent s.id size A) (IsPlaced sent s.id size A s.number) (FineReply sent s.id size A) (λ reply. FineReply sent s.id size A A reply) (Unit {0}) told_keeps told_ends i
+      does_leave s (CameAs sent s.id size file A) AnyKept AnyUsed (IsBetween sent s.id size file A s.number) (HasData sent s.id size file A) (IsUnderWay sent s.id size file A) (IsPlaced sent s.id size file A s.number) (FineReply sent s.id size file A) (λ reply. FineReply sent s.id size file A A reply) (Unit {0}) told_keeps told_ends i
       (Some c) now came (refl, h)
-      (begun_calm s (CameAs sent s.id size A) (IsBetween sent s.id size A s.number) (HasData sent s.id size A) (IsUnderWay sent s.id size A) (IsPlaced sent s.id size A s.number) (FineReply sent s.id size A) (λ reply. FineReply sent s.id size A A reply) (Unit {0}) told_keeps told_ends
-      (subst (λ (o : Option CurrentCall). StandsNow s (IsBetween sent s.id size A s.number) (HasData sent s.id size A) (IsUnderWay sent s.id size A) (FineReply sent s.id size A) (λ reply. FineReply sent s.id size A A reply) (Unit {0}) None None o) (sym now) (refl, h)))
+      (begun_calm s (CameAs sent s.id size file A) AnyKept AnyUsed (IsBetween sent s.id size file A s.number) (HasData sent s.id size file A) (IsUnderWay sent s.id size file A) (IsPlaced sent s.id size file A s.number) (FineReply sent s.id size file A) (λ reply. FineReply sent s.id size file A A reply) (Unit {0}) told_keeps told_ends
+      (subst (λ (o : Option CurrentCall). StandsNow s AnyUsed (IsBetween sent s.id size file A s.number) (HasData sent s.id size file A) (IsUnderWay sent s.id size file A) (FineReply sent s.id size file A) (λ reply. FineReply sent s.id size file A A reply) (Unit {0}) None None o) (sym now) (refl, h)))
 
   -- a call that is made
-  new_between : (attempts number : ℕ) (c : Call) (file index : ℕ) (last : Option ℕ) → c ≡ A → IsFirst s.config.chunk c index → Between (new_call attempts number c file index last)
-  new_between attempts number c file index last is first = (
+  new_between : (attempts number : ℕ) (c : Call) (its index : ℕ) (last : Option ℕ) → c ≡ A → its ≡ file → IsFirst s.config.chunk c index → Between (new_call attempts number c its index last)
+  new_between attempts number c its index last is same first = (
     is,
     record {
       numbers = λ part. 0;
@@ -365,6 +397,7 @@ module _ (sent : List Message) (size : ℕ) (A : Call) (s : ClientState) (same_s
       rising = λ part later order less has also. absurd (none later less also);
       begun = at_least;
     },
+    same,
   )
     where
       first_size : IsFirst size A index
@@ -376,12 +409,13 @@ module _ (sent : List Message) (size : ℕ) (A : Call) (s : ClientState) (same_s
       none : (part : ℕ) → part < index → has_chunk size A part ≡ true → ⊥
       none part less has = let most = first_least size A index first_size part has in omega (arith, less, most)
 
-  pub call_leaves : s.current ≡ None → IsCalm s (IsBetween sent s.id size A s.number) (HasData sent s.id size A) (IsUnderWay sent s.id size A) (FineReply sent s.id size A) (λ reply. Unit {0}) (Unit {0}) (calls (client_begins s) A)
-  call_leaves none =
-      call_calm s (CameAs sent s.id size A) (IsBetween sent s.id size A s.number) (HasData sent s.id size A) (IsUnderWay sent s.id size A) (IsPlaced sent s.id size A s.number) (FineReply sent s.id size A) (λ reply. Unit {0}) (Unit {0}) told_keeps
-      (λ c reply h fine live. tt) (λ c. c ≡ A) (λ c file index last is first. new_between s.config.attempts 0 c file index last is first) (λ c name is. new_between s.config.attempts (suc s.call_count) c 0 0 None is (named_first c name)) (λ reply. tt) A refl
-      (begun_calm s (CameAs sent s.id size A) (IsBetween sent s.id size A s.number) (HasData sent s.id size A) (IsUnderWay sent s.id size A) (IsPlaced sent s.id size A s.number) (FineReply sent s.id size A) (λ reply. Unit {0}) (Unit {0}) told_keeps (λ c reply h fine live. tt)
-      (subst (λ (o : Option CurrentCall). StandsNow s (IsBetween sent s.id size A s.number) (HasData sent s.id size A) (IsUnderWay sent s.id size A) (FineReply sent s.id size A) (λ reply. Unit {0}) (Unit {0}) None None o) (sym none) tt))
+  pub call_leaves : s.current ≡ None → file ≡ file_called s A → IsCalm s AnyUsed (IsBetween sent s.id size file A s.number) (HasData sent s.id size file A) (IsUnderWay sent s.id size file A) (FineReply sent s.id size file A) (λ reply. Unit {0}) (Unit {0}) (calls (client_begins s) A)
+  call_leaves none called =
+      call_calm s (CameAs sent s.id size file A) AnyKept AnyUsed (IsBetween sent s.id size file A s.number) (HasData sent s.id size file A) (IsUnderWay sent s.id size file A) (IsPlaced sent s.id size file A s.number) (FineReply sent s.id size file A) (λ reply. Unit {0}) (Unit {0}) told_keeps
+      (λ c reply h fine live. tt) (λ c. c ≡ A) (λ c its index last plain at is first. new_between s.config.attempts 0 c its index last is (sym (file_of_call s c its plain at) ∙ (ap (λ (x : Call). file_called s x) is ∙ sym called)) first)
+      (λ c name is. new_between s.config.attempts (suc s.call_count) c 0 0 None is (sym (no_file_called s c name) ∙ (ap (λ (x : Call). file_called s x) is ∙ sym called)) (named_first c name)) (λ reply. tt) A refl
+      (begun_calm s (CameAs sent s.id size file A) AnyKept AnyUsed (IsBetween sent s.id size file A s.number) (HasData sent s.id size file A) (IsUnderWay sent s.id size file A) (IsPlaced sent s.id size file A s.number) (FineReply sent s.id size file A) (λ reply. Unit {0}) (Unit {0}) told_keeps (λ c reply h fine live. tt)
+      (subst (λ (o : Option CurrentCall). StandsNow s AnyUsed (IsBetween sent s.id size file A s.number) (HasData sent s.id size file A) (IsUnderWay sent s.id size file A) (FineReply sent s.id size file A) (λ reply. Unit {0}) (Unit {0}) None None o) (sym none) tt))
     where
       named_first : (c : Call) → is_name_call c ≡ true → IsFirst s.config.chunk c 0
       named_first (call.Write fd offset bytes) name = absurd (true≢false (sym name))

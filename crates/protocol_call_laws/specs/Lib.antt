@@ -3,3 +3,5 @@ pub mod OpenAttempts
 pub mod PassedAttempts
 pub mod OpenCalls
 pub mod AnsweredWrites
+pub mod BoundedCalls
+pub mod ToldIndexes

@@ -2,7 +2,7 @@
 
 ghost use Rattle.protocol_call_laws.specs.AnsweredWrites.{AnsweredWritesHaveTheirBytes};
 
-/// Each part of a write that is answered Done has a settled entry in a chunk's order with the part's bytes at its place, each by an attempt of its own.
+/// Each part of a write that is answered Done has a settled entry with the part's bytes at its place, each by an attempt of its own, in the order of the chunk that the client was told for the part's index of its file.
 pub fn answered_writes_have_their_bytes()
     ensures { AnsweredWritesHaveTheirBytes }
 {}

@@ -2,7 +2,9 @@
 #![tactic(auto)]
 
 pub mod answered_writes;
+pub mod bounded_calls;
 pub mod call_steps;
 pub mod open_attempts;
 pub mod open_calls;
 pub mod passed_attempts;
+pub mod told_indexes;

@@ -62,14 +62,14 @@ use Rattle.protocol_entry_laws.proofs.Placing.{all_placed}
 use Rattle.protocol_entry_laws.proofs.OnceShown.{NumbersNone, NumbersOnce, step_once}
 use Rattle.protocol_entry_laws.specs.WaitedRounds.{IsMutateOf, HasAskedFor}
 use Rattle.protocol_entry_laws.proofs.WaitedMutates.{waited_mutates_were_sent}
-use Rattle.protocol_entry_laws.specs.Successes.{IsSettledAs}
+use Rattle.protocol_entry_laws.specs.Successes.{IsNumberedAs, IsSettledAs}
 use Rattle.protocol_entry_laws.proofs.RightLeases.{IsCaused, right_on, caused_on}
 use Rattle.protocol_entry_laws.proofs.LeaseAnswers.{Since, AreRight, step_leaves, restart_right}
 use Rattle.protocol_entry_laws.proofs.OrderWalk.{KeepsOrders, AreFit}
 use Rattle.protocol_entry_laws.proofs.SpentVersions.{IsSpent, none_fit, places_fit, each_spent, first_spent}
 use Rattle.protocol_entry_laws.proofs.SerialsOnce.{HasGiven, given_keeps, given_spent}
 use Rattle.protocol_entry_laws.proofs.UsedNumbers.{Asks, one_target}
-use Rattle.protocol_entry_laws.specs.SettledEntries.{HasSettledEntry, SuccessesHaveEntries, NotedSuccessesHaveEntries}
+use Rattle.protocol_entry_laws.specs.SettledEntries.{HasSettledEntry, SuccessesHaveEntries, SuccessesAreAtTheirChunk, NotedSuccessesHaveEntries, WaitingMutationsHaveEntries}
 use Rattle.protocol_entry_laws.proofs.SettledSerials.{IsWaiting, IsNewly, IsDue, step_due}
 use Rattle.protocol_entry_laws.proofs.SettledOrders.{IsKept, shown_good, IsNoCopyTo, IsEntryOf, HasEntry, entry_kept, entry_new, IsSettled, AreSettled, GivesNot, settled_kept, settled_new}
 use Rattle.protocol_entry_laws.proofs.KnownEntries.{IsPlacedNow, IsSettledNow, K, known_on, servers_copy}
@@ -374,11 +374,11 @@ new_sound config servers clients =
 
 -- the laws
 
+sound_reached : (config : Config) (servers clients : ℕ) (w : WorldState) → IsReached config servers clients w → IsSound w
+sound_reached config servers clients w r = subst (λ (u : WorldState). IsSound u) r.1 (sound_on config servers clients (new_world config servers clients) r.0 ([], refl) (new_sound config servers clients))
+
 done_settled : (config : Config) (servers clients : ℕ) (w : WorldState) → IsReached config servers clients w → (place : ℕ) (m : Message) → element_at w.sent place ≡ Some m → (id : DataId) (offset : ℕ) → m.body ≡ body.Done id offset → IsSettledAs (K w) id (Some offset)
-done_settled config servers clients w r place m at id offset is = subst (λ (b : Body). IsCaused (K w) b) is (sound.told place m at)
-  where
-    sound : IsSound w
-    sound = subst (λ (u : WorldState). IsSound u) r.1 (sound_on config servers clients (new_world config servers clients) r.0 ([], refl) (new_sound config servers clients))
+done_settled config servers clients w r place m at id offset is = subst (λ (b : Body). IsCaused (K w) b) is ((sound_reached config servers clients w r).told place m at)
 
 entry_of : (w : WorldState) (id : DataId) (offset : ℕ) (h : IsSettledAs (K w) id (Some offset)) → HasSettledEntry w.observer h.handle h.version id offset
 entry_of w id offset h =
@@ -408,6 +408,19 @@ entry_of w id offset h =
 pub successes_have_entries : SuccessesHaveEntries
 successes_have_entries config servers clients w r place m at id offset is =
     let h : IsSettledAs (K w) id (Some offset) = done_settled config servers clients w r place m at id offset is in (h.handle, h.version, entry_of w id offset h)
+
+pub successes_are_at_their_chunk : SuccessesAreAtTheirChunk
+successes_are_at_their_chunk config servers clients w r place m at id offset is asked handle version aim deadline sent sender body_is =
+    subst (λ (n : ℕ). HasSettledEntry w.observer n version.0 id offset) (ap (λ (x : Handle). x.0) same.0) (subst (λ (n : ℕ). HasSettledEntry w.observer h.handle n id offset) (ap (λ (x : Version). x.0) same.1) (entry_of w id offset h))
+  where
+    h : IsSettledAs (K w) id (Some offset)
+    h = done_settled config servers clients w r place m at id offset is
+
+    now : IsPlacedNow w h.handle h.version h.serial id h.numbered.placed
+    now = h.numbered.numbered
+
+    same : (handle_of h.handle ≡ handle) × (version_of h.version ≡ version)
+    same = one_target config servers clients w r id (handle_of h.handle) handle (version_of h.version) version now.asks (record { asked = asked; aim = aim; deadline = deadline; sent_is = sent; sender_is = sender; body_is = body_is })
 
 pub noted_successes_have_entries : NotedSuccessesHaveEntries
 noted_successes_have_entries config servers clients steps index s there chunk number waits place m at id offset is client seq =
@@ -445,3 +458,28 @@ noted_successes_have_entries config servers clients steps index s there chunk nu
 
     same : (handle_of h.handle ≡ chunk.handle) × (version_of h.version ≡ chunk.round)
     same = one_target config servers clients w (steps, refl) id (handle_of h.handle) chunk.handle (version_of h.version) chunk.round now.asks asks
+
+pub waiting_mutations_have_entries : WaitingMutationsHaveEntries
+waiting_mutations_have_entries config servers clients w r index s at handle p there serial a waits =
+    record {
+      place = has.0;
+      placed = has.1;
+      is = has.2;
+      round_is = entry.round;
+      serial_is = entry.serial_is;
+      client_is = entry.client;
+      seq_is = entry.seq;
+      place_is = ap place_of entry.mutation ∙ known.place_is;
+    }
+  where
+    known : IsNumberedAs (K w) handle p.held.version serial (attempt_of a) a.place
+    known = ((sound_reached config servers clients w r).leases index s at handle p there).waits serial a waits
+
+    now : IsPlacedNow w handle p.held.version serial (attempt_of a) known.placed
+    now = known.numbered
+
+    has : HasEntry p.held.version serial (attempt_of a) known.placed (order_of w.observer handle)
+    has = now.has
+
+    entry : IsEntryOf p.held.version serial (attempt_of a) known.placed has.1
+    entry = has.3

@@ -172,4 +172,4 @@ settled_mutations_were_acknowledged config servers clients w r index s at moment
     let one =
     all_at (IsSettledSeen (By w.sent) (suc index) (server_at s moment) (server_step s moment i choice).state.leases) (server_step s moment i choice).seen shown (BecameSettled handle version serial)
     (stepped config servers clients w r (acking_reached config servers clients w r) index s at moment i choice came).1 seen in
-    record { lease = one.lease; counts = one.counts; later = one.later; held = one.held; same = one.same; given = one.given; acked = one.acked }
+    record { lease = one.lease; counts = one.counts; later = one.later; held = one.held; same = one.same; given = one.given; gone = one.gone; acked = one.acked }

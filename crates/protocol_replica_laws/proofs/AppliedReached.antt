@@ -194,11 +194,11 @@ rotten_good M size orders s handle x place byte there up g =
 
 -- what is kept
 
-kept_of : (clocks more disks : Bool) → IsTrue ((clocks && more) && disks) → IsTrue (clocks && disks)
+pub kept_of : (clocks more disks : Bool) → IsTrue ((clocks && more) && disks) → IsTrue (clocks && disks)
 kept_of true more disks is = (and_parts (true && more) disks is).1
 kept_of false more disks is = absurd (true≢false (sym is))
 
-kept_both : (a b : Bool) → IsTrue a → IsTrue b → IsTrue (a && b)
+pub kept_both : (a b : Bool) → IsTrue a → IsTrue b → IsTrue (a && b)
 kept_both true b x y = y
 kept_both false b x y = absurd (true≢false (sym x))
 

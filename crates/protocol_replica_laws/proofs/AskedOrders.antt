@@ -538,7 +538,7 @@ unasked m n seen i none =
     record {
       plain = λ receiver b is. plain_higher n seen b is;
       extends = λ server line until due. tt;
-      grants = λ server order handle version until members told. tt;
+      grants = λ server order handle version until members told has. tt;
       creates = λ server order handle version ask due. absurd (none ask);
       raises = λ server order handle version base ask due. absurd (none ask);
       copies = λ server order handle version copy copy_version ask new. absurd (none ask);

@@ -205,7 +205,7 @@ joint_reached config servers clients = applied_reached Nothing Joint config serv
 
 -- the laws
 
-copied_over : (config : Config) (servers clients : ℕ) (w : WorldState) → IsReached config servers clients w → IsTrue (is_kept w) → (handle version : ℕ) → WasCopied w.sent handle version → IsVersionOver w handle version
+pub copied_over : (config : Config) (servers clients : ℕ) (w : WorldState) → IsReached config servers clients w → IsTrue (is_kept w) → (handle version : ℕ) → WasCopied w.sent handle version → IsVersionOver w handle version
 copied_over config servers clients w r kept handle version copied =
     clones_are_of_closed_versions config servers clients w r (and_parts w.observer.are_clocks_kept w.observer.are_disks_kept kept).0 (copied.1).0 copied.0 (copied.1).1 handle version copied.2
 

@@ -220,7 +220,7 @@ abbrev bytes_pushed : Body → List ℕ
 bytes_pushed (body.Push id bytes rest) = bytes
 bytes_pushed other = []
 
-same_data : (config : Config) (servers clients : ℕ) (w : WorldState) → IsReached config servers clients w → (id other : DataId) (bytes more : List ℕ) → IsPushed w.sent id bytes → IsPushed w.sent other more → other.client.0 ≡ id.client.0 → other.seq ≡ id.seq → more ≡ bytes
+pub same_data : (config : Config) (servers clients : ℕ) (w : WorldState) → IsReached config servers clients w → (id other : DataId) (bytes more : List ℕ) → IsPushed w.sent id bytes → IsPushed w.sent other more → other.client.0 ≡ id.client.0 → other.seq ≡ id.seq → more ≡ bytes
 same_data config servers clients w r id other bytes more one two client seq =
     ap bytes_pushed (sym two.body_is) ∙ ap (λ (m : Message). bytes_pushed m.body) (sym same) ∙ ap bytes_pushed one.body_is
   where
@@ -243,13 +243,21 @@ placed_carried (target.Write at) bytes (mutation.Append offset written) h = absu
 placed_carried (target.Write at) bytes (mutation.Pad offset) h = absurd h
 placed_carried target.Append bytes (mutation.Write offset written) h = absurd h
 
+-- what a Push carries its client pushed
+pub sent_was_pushed : (config : Config) (servers clients : ℕ) (w : WorldState) → IsReached config servers clients w → (m : Message) → IsSent w.sent m → (id : DataId) (bytes rest : List ℕ) → m.body ≡ body.Push id bytes rest → IsPushed w.sent id bytes
+sent_was_pushed config servers clients w r m there id bytes rest is = subst (λ (b : Body). IsStemmed w.sent b) is ((world_reached AreKept each_kept new_kept config servers clients w r).stems m there)
+
+-- what a server keeps its client pushed
+pub kept_was_pushed : (config : Config) (servers clients : ℕ) (w : WorldState) → IsReached config servers clients w → (index : ℕ) (s : ServerState) → element_at w.servers index ≡ Some s → (id : DataId) (bytes : List ℕ) → data_of s.pushed id ≡ Some bytes → IsPushed w.sent id bytes
+kept_was_pushed config servers clients w r index s at id bytes kept = found_data w.sent id bytes s.pushed.entries ((world_reached AreKept each_kept new_kept config servers clients w r).kept index s at) kept
+
 pub kept_is_carried : (config : Config) (servers clients : ℕ) (w : WorldState) → IsReached config servers clients w → (index : ℕ) (s : ServerState) → element_at w.servers index ≡ Some s → (id : DataId) (bytes : List ℕ) → data_of s.pushed id ≡ Some bytes
     → (handle place : ℕ) (p : Placed) → element_at (order_of w.observer handle) place ≡ Some p → p.entry.call.client ≡ id.client.0 → p.seq ≡ id.seq → IsCarried bytes p.entry.mutation
 kept_is_carried config servers clients w r index s at id bytes kept handle place p there client seq =
     subst (λ (x : List ℕ). IsCarried x p.entry.mutation) (same_data config servers clients w r id m.id bytes m.bytes pushed m.pushed (sym m.client_is ∙ client) (sym m.seq_is ∙ seq)) (placed_carried m.aim m.bytes p.entry.mutation m.fits)
   where
     pushed : IsPushed w.sent id bytes
-    pushed = found_data w.sent id bytes s.pushed.entries ((world_reached AreKept each_kept new_kept config servers clients w r).kept index s at) kept
+    pushed = kept_was_pushed config servers clients w r index s at id bytes kept
 
     stem : (from : ℕ) × HasMutate w.sent from p
     stem =

@@ -34,3 +34,14 @@ pub mod OrderedEntries
 pub mod Chosen
 pub mod Selections
 pub mod SettledEnds
+pub mod CopiesBehind
+pub mod CopiesAsked
+pub mod CopiedOrders
+pub mod FullOrders
+pub mod RecordPlaces
+pub mod LawfulPlaces
+pub mod LawfulOrders
+pub mod LastingLeases
+pub mod PushedData
+pub mod NackedWords
+pub mod Unsettled

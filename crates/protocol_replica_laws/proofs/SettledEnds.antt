@@ -28,7 +28,7 @@ use Rattle.protocol_replica_laws.specs.Selections.{HasSettled, RecordsComeBehind
 use Rattle.protocol_replica_laws.proofs.Selections.{replicas_have_settled_entries}
 
 -- as many bytes as are asked for
-length_from : (size : ℕ) (ms : List Mutation) (place count : ℕ) → length (bytes_from size ms place count) ≡ count
+pub length_from : (size : ℕ) (ms : List Mutation) (place count : ℕ) → length (bytes_from size ms place count) ≡ count
 length_from size ms place zero = refl
 length_from size ms place (suc count) = ap (λ (n : ℕ). suc n) (length_from size ms (suc place) count)
 
@@ -44,7 +44,7 @@ reaches_end size (p ∷ ps) (suc n) q at =
     omega (arith, rest, second)
 
 -- what is marked stands in the order
-marked_from : (marks : List Bool) (order : List Placed) (n : ℕ) (q : Placed) → element_at (marked marks order) n ≡ Some q → (place : ℕ) × (p : Placed) × (element_at order place ≡ Some p) × (unsettled p ≡ q)
+pub marked_from : (marks : List Bool) (order : List Placed) (n : ℕ) (q : Placed) → element_at (marked marks order) n ≡ Some q → (place : ℕ) × (p : Placed) × (element_at order place ≡ Some p) × (unsettled p ≡ q)
 marked_from [] order n q at = none_some q at
 marked_from (mark ∷ marks) [] n q at = none_some q at
 marked_from (false ∷ marks) (p ∷ order) n q at = let rest = marked_from marks order n q at in (suc rest.0, rest.1, rest.2, rest.3)
@@ -68,7 +68,7 @@ module _ (config : Config) (servers clients : ℕ) (w : WorldState) (r : IsReach
       omega (arith, far, count, end_is)
 
   -- under a lease that counts no entry is of a later round
-  none_later : IsTrue w.observer.are_clocks_kept → (index moment : ℕ) (s : ServerState) → element_at w.servers index ≡ Some s → IsTrue (observed_moment w.config.skew_ms w.observer moment).are_clocks_kept → (handle version serial : ℕ)
+  pub none_later : IsTrue w.observer.are_clocks_kept → (index moment : ℕ) (s : ServerState) → element_at w.servers index ≡ Some s → IsTrue (observed_moment w.config.skew_ms w.observer moment).are_clocks_kept → (handle version serial : ℕ)
       → IsUnderLease w index moment s handle version serial → (place : ℕ) (e : Placed) → element_at (order_of w.observer handle) place ≡ Some e → e.entry.round ≤ version
   none_later clocks index moment s at then_clocks handle version serial under place e there =
       elim (cases_lt version e.entry.round) [

@@ -43,10 +43,10 @@ use Rattle.protocol_replica_laws.specs.AcknowledgedEntries.{IsAtAllMembers, Sett
 
 -- the entry of a serial that was given
 
-abbrev IsThere : ℕ → List Placed → ℕ → Type 0
+abbrev pub IsThere : ℕ → List Placed → ℕ → Type 0
 IsThere round order serial = (place : ℕ) × (p : Placed) × (element_at order place ≡ Some p) × (p.entry.round ≡ round) × (p.serial ≡ serial)
 
-entry_numbered : (round : ℕ) (order : List Placed) (n serial : ℕ) → element_at (serials_of round order) n ≡ Some serial → IsThere round order serial
+pub entry_numbered : (round : ℕ) (order : List Placed) (n serial : ℕ) → element_at (serials_of round order) n ≡ Some serial → IsThere round order serial
 entry_numbered round [] n serial at = none_some serial at
 entry_numbered round (p ∷ order) n serial at =
     on_cond (λ (ps : List Placed). element_at (map (λ q. q.serial) ps) n ≡ Some serial → IsThere round (p ∷ order) serial) (p.entry.round == round) (p ∷ filter (λ q. q.entry.round == round) order) (filter (λ q. q.entry.round == round) order)
@@ -59,7 +59,7 @@ entry_numbered round (p ∷ order) n serial at =
     first rest zero is g = (zero, p, refl, is, same_some p.serial serial g)
     first rest (suc k) is g = behind (rest k g)
 
-number_there : (count x : ℕ) → 1 ≤ x → x ≤ count → (n : ℕ) × (element_at (first_numbers count) n ≡ Some x)
+pub number_there : (count x : ℕ) → 1 ≤ x → x ≤ count → (n : ℕ) × (element_at (first_numbers count) n ≡ Some x)
 number_there zero x some low = absurd (omega (arith, some, low))
 number_there (suc count) x some low =
     elim (cases_lt x (suc count)) [

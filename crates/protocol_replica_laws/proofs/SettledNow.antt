@@ -27,7 +27,7 @@ last_or_before [] new (suc place) p at = none_some p at
 last_or_before (x ∷ ps) new zero p at = inl at
 last_or_before (x ∷ ps) new (suc place) p at = last_or_before ps new place p at
 
-mapped_from : (f : Placed → Placed) (ps : List Placed) (place : ℕ) (p : Placed) → element_at (map f ps) place ≡ Some p → (q : Placed) × (element_at ps place ≡ Some q) × (f q ≡ p)
+pub mapped_from : (f : Placed → Placed) (ps : List Placed) (place : ℕ) (p : Placed) → element_at (map f ps) place ≡ Some p → (q : Placed) × (element_at ps place ≡ Some q) × (f q ≡ p)
 mapped_from f [] place p at = none_some p at
 mapped_from f (x ∷ ps) zero p at = (x, refl, same_some (f x) p at)
 mapped_from f (x ∷ ps) (suc place) p at = mapped_from f ps place p at

@@ -51,7 +51,7 @@ use Rattle.protocol_replica_laws.proofs.UpTo.{same_element}
 use Rattle.protocol_replica_laws.proofs.StillOrders.{used_still, still_on}
 
 -- a message that counts as a Grant is one
-grant_said : (handle version : ℕ) (b : Body) → is_grant handle version b ≡ true → (order : OrderNo) × (until : Moment) × (members : List ℕ) × (b ≡ body.Grant order (handle_of handle) (version_of version) until members)
+pub grant_said : (handle version : ℕ) (b : Body) → is_grant handle version b ≡ true → (order : OrderNo) × (until : Moment) × (members : List ℕ) × (b ≡ body.Grant order (handle_of handle) (version_of version) until members)
 grant_said handle version (body.Grant order q v until members) granted =
     let parts = and_parts (q.0 == handle) (v.0 == version) granted in (
       order,

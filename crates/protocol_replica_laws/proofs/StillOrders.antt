@@ -59,7 +59,7 @@ module _ (config : Config) (servers clients : ℕ) (w : WorldState) (r : IsReach
 
   module _ (handle version : ℕ) (over : (low : ℕ) → low ≤ version → IsLeaseOver w handle low) where
     -- a server shows nothing of these rounds
-    server_later : (index moment : ℕ) (s : ServerState) (i : Input) (choice : Choice) → element_at w.servers index ≡ Some s → ((m : Message) → i ≡ input.Deliver m → IsAmong w.sent m) → IsTrue (observed_moment w.config.skew_ms w.observer moment).are_clocks_kept
+    pub server_later : (index moment : ℕ) (s : ServerState) (i : Input) (choice : Choice) → element_at w.servers index ≡ Some s → ((m : Message) → i ≡ input.Deliver m → IsAmong w.sent m) → IsTrue (observed_moment w.config.skew_ms w.observer moment).are_clocks_kept
         → AllOf (IsLater version handle) (server_step s moment i choice).seen
     server_later index moment s i choice there came clocks =
         all_placed (IsLater version handle) (server_step s moment i choice).seen (λ place x at. one place x at (all_at IsOfServers (server_step s moment i choice).seen place x (server_shown s moment i choice) at))

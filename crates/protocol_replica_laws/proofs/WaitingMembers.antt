@@ -14,7 +14,7 @@ use Rattle.primary_order.specs.declared.order.SerialOrder.{SerialOrder}
 use Rattle.primary_order.specs.PrimaryOrder.{is_last, without_at, less_member, waiting_by, settled_by}
 use Rattle.primary_order.specs.SerialOrder.{new_order, numbered, acknowledged, refused_by}
 use Rattle.protocol.specs.Tables.{Table, has_number}
-use Rattle.protocol_laws.proofs.Steps.{on_cond, none_some, same_some, put_cases, kept_cases}
+use Rattle.protocol_laws.proofs.Steps.{on_cond, none_some, same_some, put_cases, kept_cases, gone_there}
 use Rattle.protocol_laws.proofs.Entries.{same_number}
 
 -- numbers in a list
@@ -182,3 +182,10 @@ module _ (A : ℕ → ℕ → ℕ → ℕ → Type 0) (me : ℕ) where
           | inr other ↦ other
         ],
       )
+
+  -- and it waits no more
+  pub settled_gone : (p : SerialOrder) (server serial : ℕ) (x : Waiting) → settled_by server (table.get p.waiting serial) ≡ Some x → table.get (acknowledged p server serial).waiting serial ≡ None
+  settled_gone p server serial x settled =
+      let was = was_waiting server (table.get p.waiting serial) x settled in
+      subst (λ (o : Option Waiting). table.get (waiting_by p.waiting serial server o) serial ≡ None) (sym was.0)
+      (on_cond (λ (t : Table Waiting). table.get t serial ≡ None) (is_last server x) (table.remove p.waiting serial) (table.insert p.waiting serial (less_member server x)) (λ _. gone_there p.waiting serial serial refl) (λ more. absurd (true≢false (sym was.1 ∙ more))))

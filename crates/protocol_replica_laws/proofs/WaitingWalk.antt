@@ -56,7 +56,7 @@ use Rattle.protocol.specs.ServerStep.{server_at, asks_no_more, counting_leases, 
 use Rattle.protocol_laws.proofs.Steps.{on_cond, none_some, put_cases, put_there, kept_cases}
 use Rattle.protocol_laws.proofs.Entries.{AllOf, all_joined, mapped_cases, kept_where_cases}
 use Rattle.protocol_entry_laws.proofs.KnownNumbers.{primary_there}
-use Rattle.protocol_replica_laws.proofs.WaitingMembers.{AreAcked, IsCounting, counting_new, counting_refused, counting_extended, counting_numbered, counting_acknowledged, settled_acked}
+use Rattle.protocol_replica_laws.proofs.WaitingMembers.{AreAcked, IsCounting, counting_new, counting_refused, counting_extended, counting_numbered, counting_acknowledged, settled_acked, settled_gone}
 
 -- Who acknowledged is A; the server is me.
 module _ (A : ℕ → ℕ → ℕ → ℕ → Type 0) (me : ℕ) where
@@ -71,6 +71,7 @@ module _ (A : ℕ → ℕ → ℕ → ℕ → Type 0) (me : ℕ) where
     pub held : table.get leases q ≡ Some later
     pub same : later.held ≡ lease.held
     pub given : (1 ≤ n) × (n ≤ later.serial)
+    pub gone : table.get later.waiting n ≡ None
     pub acked : AreAcked A me lease.held.members q v n
 
   abbrev pub IsSettledSeen : ServerState → Table SerialOrder → Seen → Type 0
@@ -179,6 +180,7 @@ module _ (A : ℕ → ℕ → ℕ → ℕ → Type 0) (me : ℕ) where
               held = put_there d.server.leases q (acknowledged p server serial) q refl;
               same = same;
               given = all.0;
+              gone = settled_gone A me p server serial x is;
               acked = subst (λ (held : LeaseHeld). AreAcked A me held.members q p.held.version serial) same all.1;
             }
 

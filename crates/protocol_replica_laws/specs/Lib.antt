@@ -7,3 +7,9 @@ pub mod AcknowledgedEntries
 pub mod UngrantedChunks
 pub mod SkippedRounds
 pub mod Selections
+pub mod CopiedOrders
+pub mod FullOrders
+pub mod LawfulOrders
+pub mod LastingLeases
+pub mod PushedData
+pub mod RefusedMutations

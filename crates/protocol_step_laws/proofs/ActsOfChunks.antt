@@ -1,7 +1,7 @@
 -- What an ask of a client and a word of a server lead to at the master keeps what each act keeps.
 use Rattle.std.proofs.Common.{◌≡◌, ℕ, zero, suc, ◌+◌, ◌-◌, ◌≤◌, ◌<◌, arith, Bool, true, false, cond, List, [], ◌∷◌, ◌++◌, length, map, Option, Some, None, refl, sym, subst, inl, inr, ap, is_some, ◌∙◌}
 use Rattle.std.specs.Prelude.{nat_le, nat_lt, ◌==◌, ◌&&◌, not, unwrap_or}
-use Rattle.std.proofs.lemmas.Bool.{eqb-true, leb-true, leb-false, ltb-true, ltb-false, or_left, or_right}
+use Rattle.std.proofs.lemmas.Bool.{eqb-true, leb-true, leb-false, ltb-true, ltb-false, true≢false, or_left, or_right}
 use Rattle.std.proofs.Math.Nat.{le-max_right}
 use Rattle.std.specs.FinMap as table
 use Rattle.gfs_types.specs.declared.ids.Node.{Node}
@@ -44,7 +44,7 @@ use Rattle.protocol_laws.proofs.Entries.{AllOf, same_number}
 use Rattle.protocol_step_laws.specs.Given.{version_given}
 use Rattle.protocol_step_laws.proofs.MasterActs.{Waits, Acts, Base, Waiting, Here, IsFrom, has_one_name, tells_here, orders_here, gives_here, less_here, ends_here, extends_here, checkpoint_here, logs_here, IsRowing, both_false}
 use Rattle.protocol_step_laws.proofs.Awaited.{Attempts, EachFile, IsUnawaited, unawaited}
-use Rattle.protocol_step_laws.proofs.AwaitedRecords.{waiting_tried, waiting_granted, tried_unawaited}
+use Rattle.protocol_step_laws.proofs.AwaitedRecords.{IsUntried, waiting_tried, waiting_granted, tried_unawaited}
 use Rattle.protocol_step_laws.proofs.ActsOfNames.{revokes_acts}
 use Rattle.gfs_types.specs.declared.ids.FileId.{FileId}
 use Rattle.gfs_types.specs.declared.ids.Handle.{Handle}
@@ -231,6 +231,10 @@ module _ (start : LogDisk) (Ended : ℕ → ℕ → Type 0) (P : Core → Type 0
       let tried : MasterDoing = with_attempt d handle (new_attempt d.master version targets) in
       wait_acts (sends_versions tried handle version targets) a (versions_acts tried handle version (new_attempt d.master version targets) targets (put_there d.master.attempts handle (new_attempt d.master version targets) handle refl) refl (servers_in targets) (attempt_acts d handle version targets from above h))
 
+  -- as a lookup tells
+  untried : (attempts : Attempts) (handle : ℕ) → table.contains_key attempts handle ≡ false → IsUntried attempts handle
+  untried attempts handle none a at = true≢false (sym (ap is_some at) ∙ none)
+
   -- the next number is above what was granted, once it is logged
   next_above : (d : MasterDoing) (handle : ℕ) (row : ChunkRow) → chunk_of d.master.logged.table handle ≡ Some row → IsIdle d handle → Now d → (e : MasterDoing)
       → IsAfter d (log.Issue (handle_of handle) (version_of (suc row.issued))) e → IsAbove e handle (suc row.issued)
@@ -251,15 +255,15 @@ module _ (start : LogDisk) (Ended : ℕ → ℕ → Type 0) (P : Core → Type 0
           )
 
   issues_acts : (d : MasterDoing) (a : Asker) (own : ℕ) (own_row : ChunkRow) (handle : ℕ) (row : ChunkRow) (targets : List VersionTarget)
-      → chunk_of d.master.logged.table handle ≡ Some row → IsIdle d handle → IsAlone d handle → AreTargets targets → Now d → Now (issues_to d a own own_row handle row targets)
-  issues_acts d a own own_row handle row [] is idle alone servers h = location_acts d a own own_row [] h
-  issues_acts d a own own_row handle row (t ∷ rest) is idle alone servers h =
-      logs_here start Ended P keeps rowing Q acts d (log.Issue (handle_of handle) (version_of (suc row.issued))) (λ e. sends_issued e a handle (suc row.issued) (t ∷ rest)) (row, is, refl) tt (λ asks. record { due = tt; after = h.0.2 asks }) alone
+      → chunk_of d.master.logged.table handle ≡ Some row → IsIdle d handle → IsAlone d handle → IsUntried d.master.attempts handle → AreTargets targets → Now d → Now (issues_to d a own own_row handle row targets)
+  issues_acts d a own own_row handle row [] is idle alone free servers h = location_acts d a own own_row [] h
+  issues_acts d a own own_row handle row (t ∷ rest) is idle alone free servers h =
+      logs_here start Ended P keeps rowing Q acts d (log.Issue (handle_of handle) (version_of (suc row.issued))) (λ e. sends_issued e a handle (suc row.issued) (t ∷ rest)) (row, is, refl) tt (λ asks. record { due = tt; after = h.0.2 asks }) (alone.0, alone.1, idle tt, free)
       (λ e after from. issued_acts a handle (suc row.issued) (t ∷ rest) e from (next_above d handle row is idle h e after)) h
 
-  own_acts : (d : MasterDoing) (a : Asker) (handle : ℕ) (row : ChunkRow) (b : Bool) → chunk_of d.master.logged.table handle ≡ Some row → IsIdle d handle → IsAlone d handle → Now d → Now (issues_own d a handle row b)
-  own_acts d a handle row true is idle alone h = wait_acts d a h
-  own_acts d a handle row false is idle alone h = issues_acts d a handle row handle row (targets_by d.master handle row (recorded_holders d.master handle row)) is idle alone (targets_servers d.master handle row) h
+  own_acts : (d : MasterDoing) (a : Asker) (handle : ℕ) (row : ChunkRow) (b : Bool) → is_attempted d.master handle ≡ b → chunk_of d.master.logged.table handle ≡ Some row → IsIdle d handle → IsAlone d handle → Now d → Now (issues_own d a handle row b)
+  own_acts d a handle row true tried is idle alone h = wait_acts d a h
+  own_acts d a handle row false tried is idle alone h = issues_acts d a handle row handle row (targets_by d.master handle row (recorded_holders d.master handle row)) is idle alone (untried d.master.attempts handle tried) (targets_servers d.master handle row) h
 
   sends_copies_acts : (d : MasterDoing) (handle copy version : ℕ) (a : VersionAttempt) (targets : List VersionTarget) → table.get d.master.attempts copy ≡ Some a → a.version ≡ version → AreServersOf a targets → Now d
       → Now (sends_copies d handle copy version targets)
@@ -323,7 +327,7 @@ module _ (start : LogDisk) (Ended : ℕ → ℕ → Type 0) (P : Core → Type 0
   wants_own_acts d a handle row is idle there free none h =
       on_cond Now (nat_lt 1 row.references) (begins_copy d a handle row) _ (λ _. copies_to_acts d a handle row (copy_targets d.master handle row) (copy_servers d.master handle row) there free none h)
       (λ few. on_cond Now (is_copied d.master.logged handle) (tells_to_wait d a) (issues_own d a handle row (is_attempted d.master handle)) (λ _. wait_acts d a h)
-      (λ _. own_acts d a handle row (is_attempted d.master handle) is idle (none, one_owner few) h))
+      (λ _. own_acts d a handle row (is_attempted d.master handle) refl is idle (none, one_owner few) h))
     where
       one_owner : nat_lt 1 row.references ≡ false → times_in d.master.logged.table.files handle ≤ 1
       one_owner few =
@@ -338,15 +342,15 @@ module _ (start : LogDisk) (Ended : ℕ → ℕ → Type 0) (P : Core → Type 0
   wants_own_of_acts d a handle (Some row) is idle there free none h = wants_own_acts d a handle row is idle there free none h
 
   issues_copy_acts : (d : MasterDoing) (a : Asker) (handle : ℕ) (row : ChunkRow) (copy : ℕ) (copy_row : ChunkRow) (holders : List HeldAt)
-      → chunk_of d.master.logged.table copy ≡ Some copy_row → IsIdle d handle → IsIdle d copy → AreTargets (map holder_target holders) → IsPlaced d a handle → IsFoundCopy d.master.logged a.file a.index copy → IsUnawaitedHere d handle → Now d → Now (issues_copy d a handle row copy copy_row holders)
-  issues_copy_acts d a handle row copy copy_row [] is idle copy_idle servers there found none h =
+      → chunk_of d.master.logged.table copy ≡ Some copy_row → IsIdle d handle → IsIdle d copy → IsUntried d.master.attempts copy → AreTargets (map holder_target holders) → IsPlaced d a handle → IsFoundCopy d.master.logged a.file a.index copy → IsUnawaitedHere d handle → Now d → Now (issues_copy d a handle row copy copy_row holders)
+  issues_copy_acts d a handle row copy copy_row [] is idle copy_idle free servers there found none h =
       let given_up : MasterDoing = gives_up_copy d copy in
       wants_own_of_acts given_up a handle (chunk_of given_up.master.logged.table handle) refl (λ asks. ended_removed d.master.now (rows_of d.master.logged) (copy ∷ []) handle (idle asks)) there (λ asks. given_up_free d.master.logged a.file a.index copy found (keeps.sound asks (core_of d) h.0.0)) none
       (less_here start Ended P keeps rowing Q acts d (copy ∷ []) (one_copied d.master.logged a.file a.index copy found) h)
-  issues_copy_acts d a handle row copy copy_row (t ∷ rest) is idle copy_idle servers there found none h =
+  issues_copy_acts d a handle row copy copy_row (t ∷ rest) is idle copy_idle free servers there found none h =
       let n = rowing (core_of d) h.0.0 in
       let nowhere : times_in d.master.logged.table.files copy ≡ 0 = apart_here d.master.logged (state_of d.master.disk) n.tied.base copy found.copy found.at in
-      issues_acts d a handle row copy copy_row (map holder_target (t ∷ rest)) is copy_idle (nowhere_unawaited d copy nowhere, omega (arith, nowhere)) servers h
+      issues_acts d a handle row copy copy_row (map holder_target (t ∷ rest)) is copy_idle (nowhere_unawaited d copy nowhere, omega (arith, nowhere)) free servers h
 
   wants_copy_acts : (d : MasterDoing) (a : Asker) (handle : ℕ) (row : ChunkRow) (copy : ℕ) (o : Option ChunkRow)
       → chunk_of d.master.logged.table handle ≡ Some row → chunk_of d.master.logged.table copy ≡ o → IsIdle d handle → IsPlaced d a handle → IsFoundCopy d.master.logged a.file a.index copy → IsUnawaitedHere d handle → Now d → Now (wants_copy d a handle row copy o)
@@ -354,8 +358,8 @@ module _ (start : LogDisk) (Ended : ℕ → ℕ → Type 0) (P : Core → Type 0
       wants_own_acts d a handle row is idle there (λ asks. let has = (keeps.sound asks (core_of d) h.0.0).rows copy found.copy found.at in none_some has.0 (sym copy_is ∙ has.1)) none h
   wants_copy_acts d a handle row copy (Some copy_row) is copy_is idle there found none h =
       on_cond (Now) (is_attempted d.master copy) (tells_to_wait d a) (issues_copy d a handle row copy copy_row (holders_where d.master copy (λ v. v == copy_row.issued))) (λ _. wait_acts d a h)
-      (λ _. let holders : List HeldAt = holders_where d.master copy (λ v. v == copy_row.issued) in
-      issues_copy_acts d a handle row copy copy_row holders copy_is idle (λ asks. (h.0.3 asks).copied copy found.copy found.at) (holder_targets holders (holders_servers d.master copy (λ v. v == copy_row.issued))) there found none h)
+      (λ none_tried. let holders : List HeldAt = holders_where d.master copy (λ v. v == copy_row.issued) in
+      issues_copy_acts d a handle row copy copy_row holders copy_is idle (λ asks. (h.0.3 asks).copied copy found.copy found.at) (untried d.master.attempts copy none_tried) (holder_targets holders (holders_servers d.master copy (λ v. v == copy_row.issued))) there found none h)
 
   wants_by_acts : (d : MasterDoing) (a : Asker) (handle : ℕ) (row : ChunkRow) (o : Option ℕ) → chunk_of d.master.logged.table handle ≡ Some row → copy_for d.master.logged a.file a.index ≡ o → IsIdle d handle → IsPlaced d a handle
       → IsUnawaitedHere d handle → Now d → Now (wants_by d a handle row o)

@@ -28,14 +28,18 @@ use Rattle.protocol_laws.proofs.OneName.{HasOneName}
 use Rattle.protocol_step_laws.proofs.ApartPaths.{turned, apart_not_below, none_below_both, none_hidden_below, AreLocksApart}
 use Rattle.protocol_step_laws.proofs.Awaited.{Attempts, EachFile, IsQuietFile, IsQuiet, AreWaiting, IsUnawaited, handle_in, file_in, taken_out, copy_passes}
 
--- What is known of a record beside what is due, where these snapshots wait: names that they copy from get no file, a number is issued and a copy begins only for what none waits for; what a Snapshot copies is quiet, and its leases have ended.
+-- no version of the chunk is attempted
+abbrev pub IsUntried : Attempts → ℕ → Type 0
+IsUntried attempts handle = (a : VersionAttempt) → table.get attempts handle ≡ Some a → ⊥
+
+-- What is known of a record beside what is due, where these snapshots wait: names that they copy from get no file, a number is issued and a copy begins only for what none waits for; as a number is issued, its chunk has no attempt and its lease has ended; what a Snapshot copies is quiet, and its leases have ended.
 abbrev pub IsBeside : Logged → Attempts → List PendingSnapshot → ℕ → Record → Type 0
 IsBeside l attempts ss now (log.Create client n file path) = (s : PendingSnapshot) → IsAmong ss s → AreApart path s.from
 IsBeside l attempts ss now (log.Rename client n from to) = (s : PendingSnapshot) → IsAmong ss s → AreApart to s.from
 IsBeside l attempts ss now (log.Snapshot client n from to) =
     IsFree l.names from to × ((s : PendingSnapshot) → IsAmong ss s → AreApart to s.from) × IsQuiet l attempts from
     × EachFile l.names from (λ id. (handle : ℕ) → 1 ≤ stands handle (chunks_at l.table.files id) → HasEnded now (rows_of l) handle)
-IsBeside l attempts ss now (log.Issue handle version) = IsUnawaited l ss handle.0 × (times_in l.table.files handle.0 ≤ 1)
+IsBeside l attempts ss now (log.Issue handle version) = IsUnawaited l ss handle.0 × (times_in l.table.files handle.0 ≤ 1) × HasEnded now (rows_of l) handle.0 × IsUntried attempts handle.0
 IsBeside l attempts ss now (log.CopyStart file index source copy copy_version) = (s : PendingSnapshot) → IsAmong ss s → EachFile l.names s.from (λ id. id ≡ file.0 → ⊥)
 IsBeside l attempts ss now other = Unit {0}
 
@@ -67,7 +71,7 @@ beside_less l attempts ss now handles (log.Create client n file path) h = h
 beside_less l attempts ss now handles (log.Rename client n from to) h = h
 beside_less l attempts ss now handles (log.Snapshot client n from to) h =
     (h.0, h.1, quiet_less l attempts handles from h.2, λ x id at is handle some. ended_removed now (rows_of l) handles handle (h.3 x id at is handle some))
-beside_less l attempts ss now handles (log.Issue handle version) h = h
+beside_less l attempts ss now handles (log.Issue handle version) h = (h.0, h.1, ended_removed now (rows_of l) handles handle.0 h.2, λ a at. h.3 a (removed_cases attempts handles handle.0 a at))
 beside_less l attempts ss now handles (log.CopyStart file index source copy copy_version) h = h
 beside_less l attempts ss now handles other h = tt
 

@@ -96,7 +96,7 @@ same_test n m same = subst (λ (k : ℕ). (n == k) ≡ true) same (same_number n
 abbrev pub IsNoSource : Logged → ℕ → Type 0
 IsNoSource l handle = (copy : ℕ) (c : Copy) → table.get l.copies copy ≡ Some c → c.source ≡ handle → ⊥
 
-uncopied : (l : Logged) (handle : ℕ) → is_copied l handle ≡ false → IsNoSource l handle
+pub uncopied : (l : Logged) (handle : ℕ) → is_copied l handle ≡ false → IsNoSource l handle
 uncopied l handle none copy c is source =
     none_listed (λ x. x.source == handle) (table.entries l.copies) copy c (not_some (first_of_list (map (λ e. e.0) (filter (λ e. e.1.source == handle) (table.entries l.copies)))) none) (sym (table.get-entries l.copies copy) ∙ is) (same_test c.source handle source)
 

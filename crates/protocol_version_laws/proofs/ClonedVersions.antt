@@ -289,7 +289,7 @@ clones_shut config servers clients w r =
 
 -- as the laws say it
 
-copied_sent : (config : Config) (servers clients : ℕ) (w : WorldState) → IsReached config servers clients w → (m : Message) → IsSent w.sent m → (handle version : ℕ) → version_copied m.body ≡ Some (handle, version) → IsCloneSent w.sent handle version
+pub copied_sent : (config : Config) (servers clients : ℕ) (w : WorldState) → IsReached config servers clients w → (m : Message) → IsSent w.sent m → (handle version : ℕ) → version_copied m.body ≡ Some (handle, version) → IsCloneSent w.sent handle version
 copied_sent config servers clients w r m sent handle version is = by_body m.body refl ((told_reached config servers clients w r).words m sent) is
   where
     at_key : (q n : ℕ) → ◌≡◌ {A = Option (ℕ × ℕ)} (Some (q, n)) (Some (handle, version)) → IsCloneSent w.sent q n → IsCloneSent w.sent handle version

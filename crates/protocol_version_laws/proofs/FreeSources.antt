@@ -160,7 +160,7 @@ module _ (W : Message → Type 0) (V : LogChange → Type 0) (plain : (receiver 
           sent = h.sent;
           changes = h.changes;
         };
-        noted = λ d handle a b at h. record { free = free_noted d.master.logged d.master.attempts d.master.now handle a b at h.free; sent = h.sent; changes = h.changes };
+        noted = λ d handle a b at same h. record { free = free_noted d.master.logged d.master.attempts d.master.now handle a b at h.free; sent = h.sent; changes = h.changes };
         granted = λ d handle a primary members at h.
             let r : Record = log.Grant (handle_of handle) (version_of a.version) (server_id primary) members in
             let until : ℕ = d.master.now + d.master.config.lease_ms in

@@ -329,7 +329,7 @@ asked_causes l tried i =
     record {
       plain = λ receiver b none. inl (uncaused_none b none);
       extends = λ server line until due. inl refl;
-      grants = λ server order q v until members told. inl refl;
+      grants = λ server order q v until members told has. inl refl;
       creates = λ server order q v ask due. inr ask;
       raises = λ server order q v base ask due. inr ask;
       copies = λ server order q v copy copy_version ask new. inr ask;

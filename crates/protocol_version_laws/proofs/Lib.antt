@@ -52,3 +52,8 @@ pub mod CopiedSources
 pub mod PlacesKept
 pub mod ToldAnswers
 pub mod ReplacedChunks
+pub mod MasterRows
+pub mod GrantedMembers
+pub mod AttemptedNumbers
+pub mod IssuedSteps
+pub mod IssuedVersions

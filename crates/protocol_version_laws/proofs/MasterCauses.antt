@@ -3,7 +3,7 @@ use Rattle.std.proofs.Common.{◌≡◌, ◌⊎◌, ℕ, zero, suc, ◌+◌, ◌
 use Rattle.std.specs.Prelude.{◌==◌, ◌&&◌, nat_lt, nat_le, cond, unwrap_or, is_some}
 use Rattle.std.specs.Ordering.{nat_cmp, eq_by_cmp}
 use Rattle.std.specs.List.{filter_map, cons_option, list_any}
-use Rattle.std.proofs.lemmas.Bool.{eqb-true, leb-true, ltb-false}
+use Rattle.std.proofs.lemmas.Bool.{eqb-true, leb-true, ltb-false, or_left}
 use Rattle.std.proofs.Math.Nat.{le-max_left}
 use Rattle.std.specs.FinMap as table
 use Rattle.gfs_types.specs.declared.ids.Node.{Node}
@@ -49,7 +49,7 @@ use Rattle.protocol.specs.MasterStep.{master_ticks, gives_up_attempts, gives_up_
 use Rattle.protocol_laws.proofs.Words.{true_false}
 use Rattle.protocol_laws.proofs.MasterMoves.{removed_other}
 use Rattle.protocol_laws.proofs.Steps.{on_cond, none_some, put_cases, removed_cases, now_gone}
-use Rattle.protocol_laws.proofs.Entries.{AllOf, all_joined, all_filtered}
+use Rattle.protocol_laws.proofs.Entries.{AllOf, all_joined, all_filtered, same_number}
 use Rattle.protocol_laws.proofs.MembersRecorded.{all_in_order}
 
 -- words that have a cause here
@@ -106,7 +106,7 @@ IsRaised l tried handle version base =
 pub record Causes (l : Logged) (tried : Attempts) (i : Input) (W : Message → Type 0) : Type 0 where
   pub plain : (receiver : Node) (b : Body) → is_caused b ≡ false → W (message node.Master receiver b)
   pub extends : (server : ℕ) (line : LeaseLine) (until : ℕ) → IsLineTaken i server line → W (message node.Master (the_server server) (body.Extend line.handle line.version (moment_of until)))
-  pub grants : (server : ℕ) (order : OrderNo) (handle version until : ℕ) (members : List ℕ) → IsTold i → W (message node.Master (the_server server) (body.Grant order (handle_of handle) (version_of version) (moment_of until) members))
+  pub grants : (server : ℕ) (order : OrderNo) (handle version until : ℕ) (members : List ℕ) → IsTold i → has_number members server ≡ true → W (message node.Master (the_server server) (body.Grant order (handle_of handle) (version_of version) (moment_of until) members))
   pub creates : (server : ℕ) (order : OrderNo) (handle version : ℕ) → IsAsk i → IsRaised l tried handle version 0 ⊎ (l.next_handle ≤ handle) → W (message node.Master (the_server server) (body.Create order (handle_of handle) (version_of version)))
   pub raises : (server : ℕ) (order : OrderNo) (handle version base : ℕ) → IsAsk i → IsRaised l tried handle version base → W (message node.Master (the_server server) (body.SetVersion order (handle_of handle) (version_of version) (version_of base)))
   pub copies : (server : ℕ) (order : OrderNo) (handle version copy copy_version : ℕ) → IsAsk i → l.next_handle ≤ copy
@@ -484,16 +484,16 @@ module _ (l : Logged) (tried : Attempts) (i : Input) (issued : (handle : ℕ) (r
   -- what a server says it has
 
   module _ (told : IsTold i) where
-    grant_sent : (handle version primary : ℕ) (members : List ℕ) (d : MasterDoing) → Fine d → Fine (sends_grant d handle version primary members)
-    grant_sent handle version primary members d h =
+    grant_sent : (handle version primary : ℕ) (members : List ℕ) → has_number members primary ≡ true → (d : MasterDoing) → Fine d → Fine (sends_grant d handle version primary members)
+    grant_sent handle version primary members has d h =
         let until : ℕ = d.master.now + d.master.config.lease_ms in
         let o : OrderNo = record { epoch = d.master.logged.epoch; count = suc d.master.order_count } in
-        all_joined W d.sent (message node.Master (the_server primary) (body.Grant o (handle_of handle) (version_of version) (moment_of until) members) ∷ []) h (k.grants primary o handle version until members told, tt)
+        all_joined W d.sent (message node.Master (the_server primary) (body.Grant o (handle_of handle) (version_of version) (moment_of until) members) ∷ []) h (k.grants primary o handle version until members told has, tt)
 
     grants_said : (d : MasterDoing) (handle : ℕ) (a : VersionAttempt) (servers : List ℕ) → Fine d → Fine (grants_to d handle a servers)
     grants_said d handle a [] h = h
     grants_said d handle a (primary ∷ rest) h =
-        logged d (log.Grant (handle_of handle) (version_of a.version) (server_id primary) (primary ∷ rest)) (λ e. sends_grant e handle a.version primary (primary ∷ rest)) (grant_sent handle a.version primary (primary ∷ rest)) h
+        logged d (log.Grant (handle_of handle) (version_of a.version) (server_id primary) (primary ∷ rest)) (λ e. sends_grant e handle a.version primary (primary ∷ rest)) (grant_sent handle a.version primary (primary ∷ rest) (or_left (primary == primary) (has_number rest primary) (same_number primary))) h
 
     recorded_said : (d : MasterDoing) (handle : ℕ) (a : VersionAttempt) → Fine d → Fine (with_recorded d handle a)
     recorded_said d handle a h =

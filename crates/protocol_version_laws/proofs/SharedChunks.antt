@@ -52,18 +52,18 @@ use Rattle.protocol_version_laws.specs.SharedChunks.{SharedChunksHaveNoLease, Sh
 use Rattle.protocol_version_laws.proofs.SharedSteps.{IsShared, IsStateDone, IsLogDone, log_done, Stepping, IsDone, IsSharing, state_done, checkpoint_done, epoch_done, sharing_acts}
 
 -- the lease of a version is over at each server of a scene
-abbrev IsOverIn : Scene → ℕ → ℕ → Type 0
+abbrev pub IsOverIn : Scene → ℕ → ℕ → Type 0
 IsOverIn x handle version = AreOverAt handle version 0 x.sent x.greatest x.servers
 
 -- a world with this scene
-abbrev world_of : Scene → WorldState
+abbrev pub world_of : Scene → WorldState
 world_of x = record { config = x.config; master = x.master; servers = x.servers; clients = []; sent = x.sent; observer = record (new_observer table.empty) { greatest = x.greatest; are_clocks_kept = x.are_clocks_kept } }
 
 -- where each end that was told is past, the lease is over
-abbrev ArePastIn : Scene → ℕ → ℕ → Type 0
+abbrev pub ArePastIn : Scene → ℕ → ℕ → Type 0
 ArePastIn x handle version = (until : ℕ) → IsEndTold x.sent handle version until → IsPast x.greatest x.sent handle version until
 
-settled : (x : Scene) → IsOfTimes x → (handle version : ℕ) → ArePastIn x handle version → IsOverIn x handle version
+pub settled : (x : Scene) → IsOfTimes x → (handle version : ℕ) → ArePastIn x handle version → IsOverIn x handle version
 settled x h handle version past = over_to (world_of x) handle version (past_is_over (world_of x) h handle version past)
 
 -- at a master that is up, no version of a shared chunk is attempted
@@ -96,11 +96,11 @@ record IsOfShares (x : Scene) : Type 0 where
 
 -- leases that are over stay over
 
-stay : (x : Scene) → IsOfTimes x → AreSet x → (handle version : ℕ) → IsOverIn x handle version → StayOver handle version (grants_of handle version x.sent) x
+pub stay : (x : Scene) → IsOfTimes x → AreSet x → (handle version : ℕ) → IsOverIn x handle version → StayOver handle version (grants_of handle version x.sent) x
 stay x base set handle version over = record { told = base.base.told; set = set; some = omega arith; over = λ clocks few. over }
 
 -- messages alone are sent, of which none grants it
-sent_over : (x : Scene) (ms : List Message) (handle version : ℕ) → grants_of handle version (x.sent ++ ms) ≤ grants_of handle version x.sent → IsOverIn x handle version → AreOverAt handle version 0 (x.sent ++ ms) x.greatest x.servers
+pub sent_over : (x : Scene) (ms : List Message) (handle version : ℕ) → grants_of handle version (x.sent ++ ms) ≤ grants_of handle version x.sent → IsOverIn x handle version → AreOverAt handle version 0 (x.sent ++ ms) x.greatest x.servers
 sent_over x ms handle version few over index s at = over_sent handle version (grants_of handle version x.sent) x.sent ms x.greatest (suc index) s.disk s.leases (omega arith) few (over index s at)
 
 no_order_grants : (handle version : ℕ) (b : Body) → order_number b ≡ None → is_grant handle version b ≡ false
@@ -115,10 +115,10 @@ none_granted handle version (m ∷ ms) all =
     let rest = none_granted handle version ms all.1 in
     omega (arith, whole, one, rest)
 
-no_more : (sent : List Message) (k : ℕ) (order : List ℕ) (ms : List Message) (handle version : ℕ) → grants_of handle version ms ≡ 0 → grants_of handle version (sent ++ stamped k (in_order order ms)) ≤ grants_of handle version sent
+pub no_more : (sent : List Message) (k : ℕ) (order : List ℕ) (ms : List Message) (handle version : ℕ) → grants_of handle version ms ≡ 0 → grants_of handle version (sent ++ stamped k (in_order order ms)) ≤ grants_of handle version sent
 no_more sent k order ms handle version none = let whole = count-sent (λ b. is_grant handle version b) k sent order ms in omega (arith, whole, none)
 
-quiet_sent : (sent : List Message) (k : ℕ) (ms : List Message) (handle version : ℕ) → HasNoOrder ms → grants_of handle version (sent ++ stamped k ms) ≤ grants_of handle version sent
+pub quiet_sent : (sent : List Message) (k : ℕ) (ms : List Message) (handle version : ℕ) → HasNoOrder ms → grants_of handle version (sent ++ stamped k ms) ≤ grants_of handle version sent
 quiet_sent sent k ms handle version quiet = no_more sent k [] ms handle version (none_granted handle version ms (without_order ms quiet))
 
 -- a step of the master
@@ -128,18 +128,18 @@ word_said : (sent : List Message) (m : Message) (b : Body) → m.body ≡ b → 
 word_said sent m (body.Revoked handle version) same is = (m, is, same)
 word_said sent m other same is = tt
 
-input_said : (sent : List Message) (i : Input) → IsSentTo sent node.Master i → IsInputSaid (WasSaidOver sent) i
+pub input_said : (sent : List Message) (i : Input) → IsSentTo sent node.Master i → IsInputSaid (WasSaidOver sent) i
 input_said sent (input.Deliver m) is = word_said sent m m.body refl (is.0, is.1)
 input_said sent input.Tick is = tt
 
-told_among : (ms less : List Message) → AreAmong less ms → (handle version until : ℕ) → IsEndTold less handle version until → IsEndTold ms handle version until
+pub told_among : (ms less : List Message) → AreAmong less ms → (handle version until : ℕ) → IsEndTold less handle version until → IsEndTold ms handle version until
 told_among ms less among handle version until is = let was = among is.0 is.1 in (was.0, was.1, ap (tells_end handle version until) was.2.2 ∙ is.2)
 
 granted_among : (ms less : List Message) → AreAmong less ms → (handle version : ℕ) → IsVersionGranted less handle version → IsVersionGranted ms handle version
 granted_among ms less among handle version is = let was = among is.0 is.1 in (was.0, was.1, ap (is_grant handle version) was.2.2 ∙ is.2)
 
 -- what was told of leases' ends as a step begins
-begins_telling : (sent : List Message) (greatest lease : ℕ) (m : MasterState) (c : Core) → c.sent ≡ [] → c.changes ≡ [] → c.now ≤ greatest → c.config.lease_ms ≡ lease → AreTimely sent greatest lease m
+pub begins_telling : (sent : List Message) (greatest lease : ℕ) (m : MasterState) (c : Core) → c.sent ≡ [] → c.changes ≡ [] → c.now ≤ greatest → c.config.lease_ms ≡ lease → AreTimely sent greatest lease m
     → AreEnds (HasEnd greatest sent) sent c.logged → AreEnds (HasVersion greatest sent) sent (state_of c.disk) → AreEnds (HasVersion greatest sent) sent (state_of m.disk) → IsTelling sent greatest lease m.disk c
 begins_telling sent greatest lease m c quiet none now long h state disk first =
     let all : List Message = sent ++ c.sent in
@@ -155,26 +155,26 @@ begins_telling sent greatest lease m c quiet none now long h state disk first =
     }
 
 module _ (x : Scene) (base : IsOfTimes x) where
-  abbrev lease : ℕ
+  abbrev pub lease : ℕ
   lease = x.config.lease_ms
 
   abbrev Shares : LogDisk → MasterDoing → Type 0
   Shares start d = IsSharing x.sent x.greatest lease (IsOverIn x) (settled x base) start (core_of d) d.master.attempts d.master.snapshots
 
   -- none of these messages says anything
-  none_sent : (k handle version : ℕ) → IsOverIn x handle version → AreOverAt handle version 0 (x.sent ++ stamped k []) x.greatest x.servers
+  pub none_sent : (k handle version : ℕ) → IsOverIn x handle version → AreOverAt handle version 0 (x.sent ++ stamped k []) x.greatest x.servers
   none_sent k handle version over = sent_over x (stamped k []) handle version (no_more x.sent k [] [] handle version refl) over
 
   -- a lease is past still as the step's messages are sent
-  past_still : (ms : List Message) (handle version until : ℕ) → IsPast x.greatest x.sent handle version until → IsPast x.greatest (x.sent ++ ms) handle version until
+  pub past_still : (ms : List Message) (handle version until : ℕ) → IsPast x.greatest x.sent handle version until → IsPast x.greatest (x.sent ++ ms) handle version until
   past_still ms handle version until (inl early) = inl early
   past_still ms handle version until (inr said) = inr (said.0, sent_before x.sent ms said.0 said.1, said.2)
 
   -- the scene after a step that nothing stopped
-  abbrev gone : ℕ → List ℕ → MasterDoing → Scene
+  abbrev pub gone : ℕ → List ℕ → MasterDoing → Scene
   gone k order d = record x { sent = x.sent ++ stamped k (in_order order d.sent); master = d.master }
 
-  done_over : (k : ℕ) (order : List ℕ) (d : MasterDoing) (handle version end : ℕ) → IsOfTimes (gone k order d) → IsDone x.sent x.greatest lease (IsOverIn x) (settled x base) x.master.disk d.sent d.master.now handle version end
+  pub done_over : (k : ℕ) (order : List ℕ) (d : MasterDoing) (handle version end : ℕ) → IsOfTimes (gone k order d) → IsDone x.sent x.greatest lease (IsOverIn x) (settled x base) x.master.disk d.sent d.master.now handle version end
       → IsOverIn (gone k order d) handle version
   done_over k order d handle version end after (inl over) = sent_over x (stamped k (in_order order d.sent)) handle version (no_more x.sent k order d.sent handle version over.1) over.0
   done_over k order d handle version end after (inr past) =
@@ -224,7 +224,7 @@ module _ (x : Scene) (base : IsOfTimes x) where
 
   -- a master that opens
 
-  same_version : (config : Config) (moment : ℕ) (row : ChunkRow) → (lease_after_restart config moment row).granted ≡ row.granted
+  pub same_version : (config : Config) (moment : ℕ) (row : ChunkRow) → (lease_after_restart config moment row).granted ≡ row.granted
   same_version config moment row = on_cond (λ (r : ChunkRow). r.granted ≡ row.granted) (nat_lt 0 row.granted) (record row { lease_end = moment + config.skew_ms + config.lease_ms }) row (λ _. refl) (λ _. refl)
 
   started_done : (config : Config) (count : ℕ) (found : LogDisk) (moment : ℕ) → IsLogDone (IsOverIn x) found → IsStateDone (IsOverIn x) (started_master config count found moment).logged
@@ -364,7 +364,7 @@ no_value None h = refl
 no_value (Some x) h = absurd (h x refl)
 
 -- the granted version's lease is over, and so is that of each other
-each_over : (w : WorldState) (handle granted : ℕ) → IsOverIn (scene_of w) handle granted → ((version : ℕ) → (version ≡ granted → ⊥) → IsLeaseOver w handle version) → (version : ℕ) → IsLeaseOver w handle version
+pub each_over : (w : WorldState) (handle granted : ℕ) → IsOverIn (scene_of w) handle granted → ((version : ℕ) → (version ≡ granted → ⊥) → IsLeaseOver w handle version) → (version : ℕ) → IsLeaseOver w handle version
 each_over w handle granted over others version =
     elim (same_or_not version granted) [
       | inl same ↦ subst (λ (v : ℕ). IsLeaseOver w handle v) (sym same) (over_of w handle granted over)

@@ -160,21 +160,21 @@ snapshot_shares l from to q named shared =
 
 -- messages
 
-no_order_grants : (handle version : ℕ) (b : Body) → order_number b ≡ None → is_grant handle version b ≡ false
+pub no_order_grants : (handle version : ℕ) (b : Body) → order_number b ≡ None → is_grant handle version b ≡ false
 no_order_grants handle version (body.Grant order h v end_moment members) none = none_some order (sym none)
 no_order_grants handle version other none = refl
 
-plain_grants : (handle version : ℕ) (b : Body) → IsPlainOrder b → is_grant handle version b ≡ false
+pub plain_grants : (handle version : ℕ) (b : Body) → IsPlainOrder b → is_grant handle version b ≡ false
 plain_grants handle version (body.Grant order h v end_moment members) plain = absurd plain
 plain_grants handle version other plain = refl
 
-given_tells : (b : Body) (x : ℕ × ℕ) → version_given b ≡ Some x → (handle version until : ℕ) → tells_end handle version until b ≡ false
+pub given_tells : (b : Body) (x : ℕ × ℕ) → version_given b ≡ Some x → (handle version until : ℕ) → tells_end handle version until b ≡ false
 given_tells (body.Grant order h v end_moment members) x given handle version until = none_some x given
 given_tells (body.Extend h v end_moment) x given handle version until = none_some x given
 given_tells other x given handle version until = refl
 
 -- tests of two numbers that are other
-other_first : (a b : ℕ) (rest : Bool) → (a ≡ b → ⊥) → (a == b) && rest ≡ false
+pub other_first : (a b : ℕ) (rest : Bool) → (a ≡ b → ⊥) → (a == b) && rest ≡ false
 other_first a b rest other = by_test (a == b) refl
   where
     by_test : (t : Bool) → (a == b) ≡ t → t && rest ≡ false
@@ -255,7 +255,7 @@ module _ (before : List Message) (greatest lease : ℕ) (Over : ℕ → ℕ → 
       (old.0, subst (λ (v : ℕ). IsDone c.sent c.now handle v row.lease_end) was.2 (subst (λ (e : ℕ). IsDone c.sent c.now handle (was.0).granted e) was.3 old.1))
 
   -- a message that grants and tells nothing of the lease
-  done_sends : (sent : List Message) (m : Message) (now handle version end : ℕ) → is_grant handle version m.body ≡ false → ((until : ℕ) → tells_end handle version until m.body ≡ false) → IsDone sent now handle version end
+  pub done_sends : (sent : List Message) (m : Message) (now handle version end : ℕ) → is_grant handle version m.body ≡ false → ((until : ℕ) → tells_end handle version until m.body ≡ false) → IsDone sent now handle version end
       → IsDone (sent ++ m ∷ []) now handle version end
   done_sends sent m now handle version end plain silent (inl over) =
       let none = over.1 in

@@ -155,7 +155,7 @@ pub record KeepsReports (P : MasterDoing → Type 0) : Type 0 where
   pub heard : (d : MasterDoing) (server : ℕ) (lines : List ReplicaLine) → P d → P (hears d server lines)
   pub in_time : (d : MasterDoing) → P d → P (gives_up_attempts d)
   -- one more server recorded an attempt
-  pub noted : (d : MasterDoing) (handle : ℕ) (a b : VersionAttempt) → table.get d.master.attempts handle ≡ Some a → P d → P (with_attempt d handle b)
+  pub noted : (d : MasterDoing) (handle : ℕ) (a b : VersionAttempt) → table.get d.master.attempts handle ≡ Some a → b.version ≡ a.version → P d → P (with_attempt d handle b)
   pub granted : (d : MasterDoing) (handle : ℕ) (a : VersionAttempt) (primary : ℕ) (members : List ℕ) → table.get d.master.attempts handle ≡ Some a → P d
       → P (sends_grant (appends d (log.Grant (handle_of handle) (version_of a.version) (server_id primary) members)) handle a.version primary members)
   pub ended : (d : MasterDoing) (handle : ℕ) → P d → P (ends_at d handle 0)
@@ -174,9 +174,9 @@ module _ (P : MasterDoing → Type 0) (k : KeepsNames P) (more : KeepsReports P)
       (λ t. more.granted b handle a primary (primary ∷ rest) (removed_other d.master.attempts (table.keys d.master.logged.copies) handle (sym (table.contains_key-keys d.master.logged.copies handle) ∙ both_false (fits b r) (is_of_copy d.master.logged r) t) ∙ at) (k.checkpointed d h))
       (λ _. k.checkpointed d h)) (λ _. h))
 
-  recorded_kept : (d : MasterDoing) (handle : ℕ) (a b : VersionAttempt) → table.get d.master.attempts handle ≡ Some a → P d → P (with_recorded d handle b)
-  recorded_kept d handle a b at h =
-      let noted : P (with_attempt d handle b) = more.noted d handle a b at h in
+  recorded_kept : (d : MasterDoing) (handle : ℕ) (a b : VersionAttempt) → table.get d.master.attempts handle ≡ Some a → b.version ≡ a.version → P d → P (with_recorded d handle b)
+  recorded_kept d handle a b at same h =
+      let noted : P (with_attempt d handle b) = more.noted d handle a b at same h in
       on_cond P (is_complete d.master b) (grants_to (with_attempt d handle b) handle b (rising b.servers)) (with_attempt d handle b)
       (λ _. grants_kept (with_attempt d handle b) handle b (rising b.servers) (put_there d.master.attempts handle b handle refl) noted) (λ _. noted)
 
@@ -185,7 +185,7 @@ module _ (P : MasterDoing → Type 0) (k : KeepsNames P) (more : KeepsReports P)
   learns_kept d server handle version (Some row) None at h = h
   learns_kept d server handle version (Some row) (Some a) at h =
       let one : VersionAttempt = record a { recorded = with_number a.recorded server } in
-      on_cond P ((a.version == version) && has_number a.servers server) (with_recorded d handle one) d (λ _. recorded_kept d handle a one at h) (λ _. h)
+      on_cond P ((a.version == version) && has_number a.servers server) (with_recorded d handle one) d (λ _. recorded_kept d handle a one at refl h) (λ _. h)
 
   learns_all_kept : (d : MasterDoing) (server : ℕ) (lines : List ReplicaLine) → P d → P (learns_all d server lines)
   learns_all_kept d server [] h = h

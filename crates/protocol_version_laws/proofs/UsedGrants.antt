@@ -56,7 +56,7 @@ module _ (config : Config) (servers clients : ℕ) (w : WorldState) (r : IsReach
   lease_body : (lease.grant).body ≡ body.Grant lease.order (handle_of handle) (version_of version) lease.end_moment p.held.members
   lease_body = lease.is ∙ ap (λ (v : ℕ). body.Grant lease.order (handle_of handle) (version_of v) lease.end_moment p.held.members) same
 
-  lease_used : (steps : List (Event × Choice)) → IsGrantUsed (after_events w steps) index handle version
+  pub lease_used : (steps : List (Event × Choice)) → IsGrantUsed (after_events w steps) index handle version
   lease_used steps =
       record {
         granted = some_grant handle version v.sent lease.place lease.grant still is_its;

@@ -22,3 +22,5 @@ pub mod AskedVersions
 pub mod GivenClones
 pub mod CopiedSources
 pub mod ReplacedChunks
+pub mod MasterRows
+pub mod IssuedVersions

@@ -3,4 +3,4 @@ use Rattle.live.proofs.run.new_players.Given as goal
 
 -- so many players were made
 abbrev pub invariant-loop-before : goal.invariant-loop-before
-invariant-loop-before g l = length l.all.items ≡ l.before
+invariant-loop-before l = length l.all.items ≡ l.before

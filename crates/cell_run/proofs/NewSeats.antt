@@ -1,0 +1,27 @@
+-- A client that made no call yet.
+use Rattle.std.proofs.Common.{◌≡◌, ℕ, List, [], length, None, refl, sym, ap, subst, ◌∙◌}
+use Rattle.gfs_types.specs.declared.ids.ClientId.{ClientId}
+use Rattle.gfs_types.specs.declared.ids.Node.{Node}
+use Rattle.gfs_types.specs.declared.ids.Node.TheVariants.{Client}
+use Rattle.protocol_journal.specs.Journal.{Entry, own}
+use Rattle.journal_list.specs.Log.{Listed, listed}
+use mathlib.Core.List.{IsPrefix}
+use Rattle.cell_journal.specs.Rules.{IsJournalOf}
+use Rattle.cell_journal.specs.declared.view.View.{View}
+use Rattle.cell_journal.proofs.Growing.{begins_lawful}
+use Rattle.cell_making.specs.Making.{IsNewClient}
+use Rattle.cell_seat.specs.Seats.{IsSeat}
+
+-- it has seen nothing of the journal
+pub new_seat : (id : ClientId) (v w : View) (n : Node) (nothing : Listed Entry) → IsNewClient id v n w → nothing ≡ listed v.of.name [] → IsSeat n w nothing 0 None
+new_seat id v w n nothing new is = record {
+  name = ap (λ (l : Listed Entry). l.name) is ∙ ap (λ c. c.name) (sym new.of);
+  count_is = sym (ap length items);
+  begins = subst (λ l. IsPrefix l w.seen) (sym items) (w.seen, refl);
+  lawful = subst (IsJournalOf w.of) (sym items) (begins_lawful w.of);
+  own_is = λ _. ap (own n) items ∙ sym new.mine;
+  refused = tt;
+}
+  where
+    items : nothing.items ≡ []
+    items = ap (λ (l : Listed Entry). l.items) is

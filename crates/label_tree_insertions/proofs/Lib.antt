@@ -1,2 +1,0 @@
-mod Cuts
-mod Outcomes

@@ -1,4 +1,0 @@
-pub mod Maps
-pub mod Behind
-pub mod Fronts
-pub mod LowerNames

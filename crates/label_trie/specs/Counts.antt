@@ -1,9 +1,0 @@
--- Names in the order of their bytes, and their number.
-use Rattle.std.specs.Prelude.{◌≡◌, ℕ, T, List, length}
-use Rattle.std.specs.Ordering.{nat_cmp}
-use Rattle.std.specs.Cmp.Lexicographic.{slice_cmp}
-use Rattle.std.specs.FinMap.{is_sorted}
-
-pub record IsCounted {X : Type 0} (es : List (List ℕ × X)) (count : ℕ) : Type 0 where
-  pub sorted : T (is_sorted (slice_cmp nat_cmp) es)
-  pub counted : count ≡ length es

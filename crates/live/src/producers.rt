@@ -1,0 +1,162 @@
+//! Producers, which append records to one file, and a reader of these.
+
+use bytes::Bytes;
+use cell_run::cell::{Cell, ClientSeat};
+use gfs_types::ids::Fd;
+use gfs_types::lists::Text;
+use gfs_types::refusal::Refusal;
+use std::alloc::Global;
+use std::collections::BTreeMap;
+use std::sync::Wait;
+use std::thread;
+use std::thread::Threads;
+use std::time::Clock;
+
+/// A record and the offset at which it was answered to stand.
+#[derive(Clone, Copy, Debug, PartialEq, Eq)]
+pub struct Stored {
+    pub number: u64,
+    pub offset: u64,
+}
+
+/// A client with the number of its first record, those of its records that were answered, and whether another call of it was refused
+/// for another reason than that nobody could serve.
+#[derive(Drop)]
+pub struct Producer {
+    pub seat: ClientSeat,
+    pub first: u64,
+    pub stored: Vec<Stored>,
+    pub is_strange: bool,
+}
+
+impl Producer {
+    // Appends so many records. One that is not answered is left out.
+    fn produce<R: Wait + Clock>(&mut self, rt: &R, alloc: Global, records: u64) {
+        let Some(fd) = open(rt, alloc, &mut self.seat) else {
+            return;
+        };
+        for before in 0..records {
+            let number = self.first.wrapping_add(before);
+            match append(rt, alloc, &mut self.seat, fd, number) {
+                Ok(stored) => self.is_strange |= self.stored.push(stored).is_err(),
+                Err(Refusal::NoReplica | Refusal::Failed) => {}
+                Err(_) => self.is_strange = true,
+            }
+        }
+    }
+}
+
+fn open<R: Wait + Clock>(rt: &R, alloc: Global, seat: &mut ClientSeat) -> Option<Fd> {
+    let path = Text::from_str("/log", alloc).ok()?;
+    seat.open(rt, path).ok()
+}
+
+fn append<R: Wait + Clock>(
+    rt: &R,
+    alloc: Global,
+    seat: &mut ClientSeat,
+    fd: Fd,
+    number: u64,
+) -> Result<Stored, Refusal> {
+    let Ok(bytes) = Bytes::copy_from_slice(alloc, &number.to_be_bytes()) else {
+        return Err(Refusal::NoMemory);
+    };
+    let offset = seat.append(rt, fd, bytes)?;
+    Ok(Stored { number, offset })
+}
+
+/// Makes the file of which all here is about.
+pub fn make_log<R: Wait + Clock>(rt: &R, alloc: Global, seat: &mut ClientSeat) -> bool {
+    match Text::from_str("/log", alloc) {
+        Ok(path) => seat.create(rt, path).is_ok(),
+        Err(_) => false,
+    }
+}
+
+/// So many producers, with a thousand numbers of records for each.
+pub fn new_producers<R: Wait>(
+    rt: &R,
+    alloc: Global,
+    cell: &mut Cell,
+    count: u64,
+) -> Option<Vec<Producer>> {
+    let mut all = Vec::new(alloc);
+    for number in 0..count {
+        let producer = Producer {
+            seat: cell.client().ok()?,
+            first: number.wrapping_mul(1_000),
+            stored: Vec::new(alloc),
+            is_strange: false,
+        };
+        all.push(producer).ok()?;
+    }
+    Some(all)
+}
+
+/// All producers append at the same time, each on a thread of its own.
+pub fn produce_all<R: Threads + Wait + Clock + Sync>(
+    rt: &R,
+    alloc: Global,
+    producers: &mut [Producer],
+    records: u64,
+) {
+    let threads = producers.len();
+    if threads > 0 {
+        thread::for_each_mut(
+            rt,
+            producers,
+            threads,
+            &|_, producer| producer.produce(rt, alloc, records),
+        );
+    }
+}
+
+/// How many records were answered; none where a call was refused for another reason than that nobody could serve.
+pub fn count_answered(producers: &[Producer]) -> Option<usize> {
+    let mut count: usize = 0;
+    for producer in producers {
+        if producer.is_strange {
+            return None;
+        }
+        count = count.wrapping_add(producer.stored.len());
+    }
+    Some(count)
+}
+
+/// Whether each record that was answered is read back at its offset.
+pub fn are_read_back<R: Wait + Clock>(
+    rt: &R,
+    alloc: Global,
+    reader: &mut ClientSeat,
+    producers: &[Producer],
+) -> bool {
+    let Some(fd) = open(rt, alloc, reader) else {
+        return false;
+    };
+    for producer in producers {
+        for stored in producer.stored.as_slice() {
+            if !is_read_back(rt, reader, fd, *stored) {
+                return false;
+            }
+        }
+    }
+    true
+}
+
+fn is_read_back<R: Wait + Clock>(rt: &R, reader: &mut ClientSeat, fd: Fd, stored: Stored) -> bool {
+    match reader.read(rt, fd, stored.offset, 8) {
+        Ok((bytes, _)) => bytes.as_slice() == stored.number.to_be_bytes().as_slice(),
+        Err(_) => false,
+    }
+}
+
+/// How many different offsets were answered; none where memory is refused.
+pub fn count_offsets(alloc: Global, producers: &[Producer]) -> Option<usize> {
+    let mut offsets = BTreeMap::new(alloc);
+    for producer in producers {
+        for stored in producer.stored.as_slice() {
+            offsets.insert(stored.offset, ()).ok()?;
+        }
+    }
+    Some(offsets.len())
+}

@@ -1,0 +1,4 @@
+pub mod Calls
+pub mod Effects
+pub mod Actions
+pub mod Chunks

@@ -1,0 +1,4 @@
+pub mod Blocks
+pub mod Writes
+pub mod Rot
+pub mod Changes

@@ -1,0 +1,18 @@
+//! Laws of every lawful list of events from a new cell: calls, deliveries, losses, repeats, ticks, restarts, stops in a step, refused memory and rot.
+
+ghost use Rattle.protocol_call_laws.specs.ToldIndexes.{AsksAreForThePartInHand, LocationsAnswerTheirAsk, PartsGoToTheirChunk};
+
+/// What a client waits to be told it asked for, for the part of its open call that is in hand.
+pub fn asks_are_for_the_part_in_hand()
+    ensures { AsksAreForThePartInHand }
+{}
+
+/// Each location that was told answers an ask of its receiver; one for a read or a write is of the index that was asked for.
+pub fn locations_answer_their_ask()
+    ensures { LocationsAnswerTheirAsk }
+{}
+
+/// The chunk by whose location a client reads, or goes with a write, was told to it for the index of the part in hand, of the file of its call.
+pub fn parts_go_to_their_chunk()
+    ensures { PartsGoToTheirChunk }
+{}

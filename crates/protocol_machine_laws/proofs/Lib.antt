@@ -1,0 +1,12 @@
+pub mod Sides
+pub mod Plain
+pub mod Adds
+pub mod OneChunk
+pub mod Grants
+pub mod Orders
+pub mod Rows
+pub mod Collects
+pub mod Closings
+pub mod Snapshots
+pub mod Copies
+pub mod OpenRounds

@@ -1,0 +1,4 @@
+pub mod ChunksAlike
+pub mod ChunkRecords
+pub mod EntrySteps
+pub mod OpenRounds
