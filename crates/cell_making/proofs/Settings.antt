@@ -6,7 +6,7 @@ use Rattle.std.proofs.lemmas.Bool.Decides.{nat_tests}
 use Rattle.gfs_types.specs.declared.config.Config.{Config}
 use Rattle.gfs_types.specs.declared.config.ConfigFault.{ConfigFault}
 use Rattle.gfs_types.specs.declared.config.ConfigFault.TheVariants.{Chunk, Block, Goal, LeaseMs, SkewMs}
-use Rattle.gfs_types.specs.Settings.{first_out_of_range, first_that_fails, ranges, is_within}
+use Rattle.gfs_types.specs.Settings.{first_out_of_range, first_that_fails, ranges, is_within, largest_chunk}
 use Rattle.cell_making.specs.Making.{IsFitting}
 
 on_none : {F : Type 0} (b : Bool) (rest : Option F) (f : F) → cond b rest (Some f) ≡ None → (b ≡ true) × (rest ≡ None)
@@ -27,12 +27,12 @@ within least greatest n h =
 
 pub bounds : (c : Config) → first_out_of_range c ≡ None → IsFitting c
 bounds c h =
-    let chunk = on_none (is_within 64 67108864 c.chunk && c.chunk % 16 == 0) (first_that_fails (drop 1 (ranges c))) Chunk h in
+    let chunk = on_none (is_within 64 largest_chunk c.chunk && c.chunk % 16 == 0) (first_that_fails (drop 1 (ranges c))) Chunk h in
     let block = on_none (is_within 16 65536 c.block && c.chunk % c.block == 0) (first_that_fails (drop 2 (ranges c))) Block chunk.1 in
     let goal' = on_none (is_within 1 8 c.goal) (first_that_fails (drop 3 (ranges c))) Goal block.1 in
     let lease = on_none (is_within 1 3600000 c.lease_ms) (first_that_fails (drop 4 (ranges c))) LeaseMs goal'.1 in
     let skew = on_none (is_within 0 60000 c.skew_ms && nat_lt c.skew_ms c.lease_ms) (first_that_fails (drop 5 (ranges c))) SkewMs lease.1 in
-    let chunk_in = within 64 67108864 c.chunk (and_both (is_within 64 67108864 c.chunk) (c.chunk % 16 == 0) chunk.0).0 in
+    let chunk_in = within 64 largest_chunk c.chunk (and_both (is_within 64 largest_chunk c.chunk) (c.chunk % 16 == 0) chunk.0).0 in
     let block_in = within 16 65536 c.block (and_both (is_within 16 65536 c.block) (c.chunk % c.block == 0) block.0).0 in
     record {
       least = chunk_in.0;

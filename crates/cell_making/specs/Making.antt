@@ -1,5 +1,6 @@
 -- The nodes of a new cell, each at its place.
 use Rattle.std.specs.Prelude.{◌≡◌, ◌≤◌, ◌⊎◌, []}
+use Rattle.gfs_types.specs.Settings.{largest_chunk}
 use Rattle.gfs_types.specs.declared.config.Config.{Config}
 use Rattle.gfs_types.specs.declared.ids.ClientId.{ClientId}
 use Rattle.gfs_types.specs.declared.ids.Node.{Node}
@@ -12,7 +13,7 @@ use Rattle.cell_dealer.specs.declared.dealer.Dealer.{Dealer}
 -- the settings lie in the bounds that nodes ask for
 pub record IsFitting (config : Config) : Type 0 where
   pub least : 64 ≤ config.chunk
-  pub most : config.chunk ≤ 67108864
+  pub most : config.chunk ≤ largest_chunk
   pub block : 1 ≤ config.block
   pub lease : config.lease_ms ≤ 3600000
   pub skew : config.skew_ms ≤ 60000

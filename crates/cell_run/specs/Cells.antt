@@ -36,9 +36,9 @@ abbrev pub IsNewSeat : CellState → SeatState → Type 0
 IsNewSeat c s = s ≡ seat_state (Client (record { 0 = c.made + 1 })) c.of [] false
 
 -- why there is no client more: all were made, or memory was refused before that
-abbrev pub IsWhy : CellState → SeatFault → Type 0
-IsWhy c Many = 64 ≤ c.made
-IsWhy c NoMemory = c.made < 64
+abbrev pub IsSeatFault : CellState → SeatFault → Type 0
+IsSeatFault c Many = 64 ≤ c.made
+IsSeatFault c NoMemory = c.made < 64
 
 -- the master, the servers and so many clients have their places, the other clients their mailboxes
 pub record HasMade (config : Config) (servers dealt made boxes : ℕ) (name : Book) (nothing : Listed Entry) : Type 0 where

@@ -3,7 +3,7 @@
 ghost use Rattle.std.specs.Prelude.{◌≡◌, ◌+◌, ◌≤◌, ◌<◌, [], IfOk, IfErr, OnOk, OnErr, vec_len};
 ghost use Rattle.journal_list.specs.Log.{listed};
 ghost use Rattle.cell_making.specs.Making.{IsFitting, IsSame};
-ghost use Rattle.cell_run.specs.Cells.{IsCellOf, IsNewCell, IsNewSeat, IsWhy, more};
+ghost use Rattle.cell_run.specs.Cells.{IsCellOf, IsNewCell, IsNewSeat, IsSeatFault, more};
 
 use crate::fault::SeatFault;
 use crate::threads::{CLOSING, ENDED, serve, stop_all, tick, wait_for_clients};
@@ -115,7 +115,7 @@ impl Cell {
         ensures ok { OnOk result ((self.old.made < 64) × (self.new ≡ more self.old)) }
         ensures err { OnErr result (self.new ≡ self.old) }
         ensures seat { IfOk result (λ s. IsNewSeat self.old s) }
-        ensures fault { IfErr result (IsWhy self.old) }
+        ensures fault { IfErr result (IsSeatFault self.old) }
     {
         if self.made >= MOST_CLIENTS {
             return Err(SeatFault::Many);

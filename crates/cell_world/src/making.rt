@@ -2,6 +2,7 @@
 
 ghost use Rattle.std.specs.Prelude.{◌≡◌, ◌≤◌, ◌<◌, [], map, IfOk};
 ghost use Rattle.std.specs.FinMap as table;
+ghost use Rattle.gfs_types.specs.Settings.{largest_chunk};
 ghost use Rattle.protocol.specs.Client.{new_client};
 ghost use Rattle.protocol.specs.MasterStep.{new_master};
 ghost use Rattle.protocol.specs.Server.{started_server};
@@ -32,7 +33,7 @@ impl<M: CellMaster + Drop> Cell<M, MemoryStore> {
     ) -> Result<Cell<M, MemoryStore>, NoMemory>
         requires block { 1 ≤ config.block }
         requires least { 64 ≤ config.chunk }
-        requires most { config.chunk ≤ 67108864 }
+        requires most { config.chunk ≤ largest_chunk }
         requires skew { config.skew_ms ≤ 60000 }
         requires master { M.state master ≡ new_master config servers }
         requires files { M.files master ≡ table.empty }
@@ -58,7 +59,7 @@ fn new_servers(
 ) -> Result<Vec<Chunkserver<MemoryStore>>, NoMemory>
     requires block { 1 ≤ config.block }
     requires least { 64 ≤ config.chunk }
-    requires most { config.chunk ≤ 67108864 }
+    requires most { config.chunk ≤ largest_chunk }
     requires skew { config.skew_ms ≤ 60000 }
     ensures { IfOk result (λ all. all.items ≡ map (λ s. started_server config s (new_server_disk config.block) 0) (first_numbers count)) }
 {

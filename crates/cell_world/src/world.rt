@@ -3,6 +3,7 @@
 ghost use Rattle.std.specs.Prelude.{◌≡◌, ◌≤◌, length, map, option_map, IfOk, IfErr, OnErr};
 ghost use Rattle.std.specs.Option.{option_copied};
 ghost use Rattle.std.specs.FinMap as table;
+ghost use Rattle.gfs_types.specs.Settings.{largest_chunk};
 ghost use Rattle.protocol.specs.Lookups.{file_named, regions_at, replicas_at};
 ghost use Rattle.protocol.specs.MasterStep.{new_master};
 ghost use Rattle.protocol.specs.Sending.{file_id};
@@ -64,7 +65,7 @@ impl<M: CellMaster + Drop> World<M, MemoryStore> {
     ) -> Result<World<M, MemoryStore>, NoMemory>
         requires block { 1 ≤ config.block }
         requires least { 64 ≤ config.chunk }
-        requires most { config.chunk ≤ 67108864 }
+        requires most { config.chunk ≤ largest_chunk }
         requires skew { config.skew_ms ≤ 60000 }
         requires master { M.state master ≡ new_master config servers }
         requires files { M.files master ≡ table.empty }

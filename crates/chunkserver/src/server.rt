@@ -2,6 +2,7 @@
 
 ghost use Rattle.std.specs.Prelude.{◌≡◌, ◌≤◌, [], true, OnOk, OnErr};
 ghost use Rattle.std.specs.Option.{option_copied};
+ghost use Rattle.gfs_types.specs.Settings.{largest_chunk};
 ghost use Rattle.protocol.specs.Conforms.{ServerSteps, ServerRestarts};
 ghost use Rattle.protocol.specs.Server.{started_server, stopped_server};
 ghost use Rattle.protocol.specs.Tables.{moment_limit};
@@ -49,7 +50,7 @@ impl<S: ReplicaStore> Chunkserver<S> {
     /// One that starts at a moment on a store, with nothing under way. The settings are within their ranges. Takes no memory.
     pub fn new(alloc: Global, config: Config, id: ServerId, store: S, now: Moment) -> Chunkserver<S>
         requires least { 64 ≤ config.chunk }
-        requires most { config.chunk ≤ 67108864 }
+        requires most { config.chunk ≤ largest_chunk }
         requires skew { config.skew_ms ≤ 60000 }
         requires moment { now.0 ≤ moment_limit }
         requires nothing { S.under_way store ≡ [] }

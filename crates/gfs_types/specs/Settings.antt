@@ -9,10 +9,14 @@ use Rattle.gfs_types.specs.declared.config.ConfigFault.TheVariants.{Chunk, Block
 abbrev pub is_within : ℕ → ℕ → ℕ → Bool
 is_within least greatest n = nat_le least n && nat_le n greatest
 
+-- the bytes of the largest chunk, 64 MB
+abbrev pub largest_chunk : ℕ
+largest_chunk = 67_108_864
+
 -- each setting, with whether it is in its range
 abbrev pub ranges : Config → List (ConfigFault × Bool)
 ranges c =
-    (Chunk, is_within 64 67108864 c.chunk && c.chunk % 16 == 0)
+    (Chunk, is_within 64 largest_chunk c.chunk && c.chunk % 16 == 0)
     ∷ (Block, is_within 16 65536 c.block && c.chunk % c.block == 0)
     ∷ (Goal, is_within 1 8 c.goal)
     ∷ (LeaseMs, is_within 1 3600000 c.lease_ms)

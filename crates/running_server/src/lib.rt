@@ -2,6 +2,7 @@
 #![tactic(auto)]
 
 ghost use Rattle.std.specs.Prelude.{◌≡◌, ◌≤◌};
+ghost use Rattle.gfs_types.specs.Settings.{largest_chunk};
 ghost use Rattle.protocol.specs.Server.{started_server};
 ghost use Rattle.replica_store.specs.Replicas.{new_server_disk};
 
@@ -30,7 +31,7 @@ impl RunningServer {
     /// A server that has no replica. Takes no memory.
     pub fn new(alloc: Global, config: Config, id: ServerId) -> RunningServer
         requires least { 64 ≤ config.chunk }
-        requires most { config.chunk ≤ 67108864 }
+        requires most { config.chunk ≤ largest_chunk }
         requires block { 1 ≤ config.block }
         requires skew { config.skew_ms ≤ 60000 }
         ensures { result.node.server ≡ started_server config id.0 (new_server_disk config.block) 0 }

@@ -1,6 +1,7 @@
 //! How a server begins, makes the changes of its disk, stops, and begins again (section 2.6.2).
 
 ghost use Rattle.std.specs.Prelude.{◌≡◌, ◌≤◌, [], OnOk, OnErr};
+ghost use Rattle.gfs_types.specs.Settings.{largest_chunk};
 ghost use Rattle.replica_store.specs.Replicas.{disk_changed_by_all};
 ghost use Rattle.server_store.specs.Stores.{IsFound, MadePart, disk_rotten};
 ghost use Rattle.protocol.specs.Tables.{moment_limit};
@@ -21,7 +22,7 @@ impl<S: ReplicaStore> Server<S> {
     /// One that starts at a moment on a store, with nothing under way. The settings are within their ranges. Takes no memory.
     pub fn new(alloc: Global, config: Config, id: ServerId, store: S, now: Moment) -> Server<S>
         requires least { 64 ≤ config.chunk }
-        requires most { config.chunk ≤ 67108864 }
+        requires most { config.chunk ≤ largest_chunk }
         requires skew { config.skew_ms ≤ 60000 }
         requires moment { now.0 ≤ moment_limit }
         requires nothing { S.under_way store ≡ [] }

@@ -3,6 +3,7 @@
 ghost use Rattle.std.specs.Prelude.{◌≡◌, ◌≤◌, [], OnOk, IfOk};
 ghost use Rattle.std.specs.Option.{option_copied};
 ghost use Rattle.std.specs.FinMap as map;
+ghost use Rattle.gfs_types.specs.Settings.{largest_chunk};
 ghost use Rattle.data_push.specs.Buffers.{data_of};
 ghost use Rattle.replica_store.specs.Replicas.{row_at, is_writable_at};
 ghost use Rattle.protocol.specs.Tables.{moment_limit};
@@ -65,7 +66,7 @@ impl<S: ReplicaStore> Model for Server<S> {
       clones = s.clones;
     } };
 
-    ghost invariant = { λ s. (64 ≤ s.config.chunk) × (s.config.chunk ≤ 67108864) × (s.config.skew_ms ≤ 60000) × (s.clock ≤ moment_limit) × (s.pushed.limit ≡ max 1 s.config.push_entries) };
+    ghost invariant = { λ s. (64 ≤ s.config.chunk) × (s.config.chunk ≤ largest_chunk) × (s.config.skew_ms ≤ 60000) × (s.clock ≤ moment_limit) × (s.pushed.limit ≡ max 1 s.config.push_entries) };
 }
 
 impl<S: ReplicaStore> Server<S> {
@@ -86,7 +87,7 @@ impl<S: ReplicaStore> Server<S> {
     /// The bytes of a chunk.
     pub fn chunk(&self) -> u64
         ensures size { result ≡ self.now.config.chunk }
-        ensures bound { result ≤ 67108864 }
+        ensures bound { result ≤ largest_chunk }
     {
         u64::from(self.config.chunk)
     }

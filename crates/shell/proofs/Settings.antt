@@ -8,12 +8,12 @@ use Rattle.disk.specs.Writes.{DiskState, new_disk}
 use Rattle.gfs_types.specs.declared.config.Config.{Config}
 use Rattle.gfs_types.specs.declared.config.ConfigFault.{ConfigFault}
 use Rattle.gfs_types.specs.declared.config.ConfigFault.TheVariants.{Chunk, Block, Goal, LeaseMs, SkewMs, AttemptMs, Attempts, CacheEntries, CacheMs, PushEntries, KeepMs, Slots, LogBytes}
-use Rattle.gfs_types.specs.Settings.{first_out_of_range, first_that_fails, ranges, is_within}
+use Rattle.gfs_types.specs.Settings.{first_out_of_range, first_that_fails, ranges, is_within, largest_chunk}
 use Rattle.stored_log.specs.Kept.{IsDiskSize}
 
 pub record Bounds (c : Config) : Type 0 where
   pub least : 64 ≤ c.chunk
-  pub most : c.chunk ≤ 67108864
+  pub most : c.chunk ≤ largest_chunk
   pub block : 1 ≤ c.block
   pub lease : c.lease_ms ≤ 3600000
   pub skew : c.skew_ms ≤ 60000
@@ -37,7 +37,7 @@ within least greatest n h =
 
 pub bounds : (c : Config) → first_out_of_range c ≡ None → Bounds c
 bounds c h =
-    let chunk = on_none (is_within 64 67108864 c.chunk && c.chunk % 16 == 0) (first_that_fails (drop 1 (ranges c))) Chunk h in
+    let chunk = on_none (is_within 64 largest_chunk c.chunk && c.chunk % 16 == 0) (first_that_fails (drop 1 (ranges c))) Chunk h in
     let block = on_none (is_within 16 65536 c.block && c.chunk % c.block == 0) (first_that_fails (drop 2 (ranges c))) Block chunk.1 in
     let goal' = on_none (is_within 1 8 c.goal) (first_that_fails (drop 3 (ranges c))) Goal block.1 in
     let lease = on_none (is_within 1 3600000 c.lease_ms) (first_that_fails (drop 4 (ranges c))) LeaseMs goal'.1 in
@@ -50,7 +50,7 @@ bounds c h =
     let kept = on_none (is_within 1 31536000000 c.keep_ms) (first_that_fails (drop 11 (ranges c))) KeepMs pushed.1 in
     let slots' = on_none (is_within 1 65536 c.slots) (first_that_fails (drop 12 (ranges c))) Slots kept.1 in
     let log = on_none (is_within 4096 1073741824 c.log_bytes) (first_that_fails (drop 13 (ranges c))) LogBytes slots'.1 in
-    let chunk_in = within 64 67108864 c.chunk (and_both (is_within 64 67108864 c.chunk) (c.chunk % 16 == 0) chunk.0).0 in
+    let chunk_in = within 64 largest_chunk c.chunk (and_both (is_within 64 largest_chunk c.chunk) (c.chunk % 16 == 0) chunk.0).0 in
     let block_in = within 16 65536 c.block (and_both (is_within 16 65536 c.block) (c.chunk % c.block == 0) block.0).0 in
     record {
       least = chunk_in.0;

@@ -2,7 +2,7 @@
 
 ghost use Rattle.std.specs.Prelude.{◌≡◌, ◌≤◌, [], Err, IfOk, IfErr, IsTrue, IsFalse, is_none};
 ghost use Rattle.std.specs.FinMap as table;
-ghost use Rattle.gfs_types.specs.Settings.{first_out_of_range};
+ghost use Rattle.gfs_types.specs.Settings.{first_out_of_range, largest_chunk};
 ghost use Rattle.protocol.specs.Logged.{new_log};
 ghost use Rattle.protocol.specs.MasterStep.{new_master};
 ghost use Rattle.shell.specs.Cells.{IsNew, IsOfStart, are_in_range, is_count};
@@ -48,7 +48,7 @@ fn are_fitting(config: &Config) -> bool
     ensures skew { IsTrue result → config.now.skew_ms ≤ 60000 }
     ensures block { IsTrue result → 1 ≤ config.now.block }
     ensures least { IsTrue result → 64 ≤ config.now.chunk }
-    ensures most { IsTrue result → config.now.chunk ≤ 67108864 }
+    ensures most { IsTrue result → config.now.chunk ≤ largest_chunk }
     ensures log { IsTrue result → IsDiskSize config.now.log_bytes }
 {
     config.check().is_ok()

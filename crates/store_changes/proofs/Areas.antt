@@ -2,6 +2,7 @@
 use Rattle.std.proofs.Common.{◌≡◌, ℕ, ◌+◌, ◌*◌, ◌≤◌, false, List, [], ◌∷◌, ◌++◌, length, ap, ◌∙◌, if◌then◌else◌, arith}
 use Rattle.std.proofs.lemmas.List.{append-nil}
 use Rattle.std.proofs.lemmas.Bool.Decides.{nat_tests}
+use Rattle.gfs_types.specs.Settings.{largest_chunk}
 use Rattle.redo_area.proofs.Applied.{length_blanked}
 use Rattle.redo_area.specs.Redo.{FitsArea, IsAreaOf, blanked, is_open, redo_in, redone, stands_for}
 use Rattle.redo_area.specs.declared.range.RedoArea.{RedoArea}
@@ -13,7 +14,7 @@ pub length_at_rest : (area : RedoArea) (c : List ℕ) → area.place + area.size
 length_at_rest area c within closed = ap length (ap (λ b. if b then redone (redo_in area c) (blanked area c) else blanked area c) closed) ∙ length_blanked area c within
 
 module _ (chunk block slots n : ℕ) (fits : disk_size chunk block slots ≤ n) where
-  pub area_fits : chunk ≤ 67108864 → blocks_of chunk block ≤ 4194304 → IsAreaOf (area_of chunk block) n
+  pub area_fits : chunk ≤ largest_chunk → blocks_of chunk block ≤ 4194304 → IsAreaOf (area_of chunk block) n
   area_fits most few = record { least = omega arith; most = omega (arith, most, few); within = omega (arith, fits) }
 
   -- one range in a slot

@@ -1,6 +1,7 @@
 //! The places on a chunkserver's disk.
 
 ghost use Rattle.std.specs.Prelude.{◌≡◌, ◌≤◌};
+ghost use Rattle.gfs_types.specs.Settings.{largest_chunk};
 
 /// The places of the parts of a chunkserver's disk, in bytes from the disk's start. Slots count from 0.
 #[derive(Clone, Copy, Debug, PartialEq, Eq)]
@@ -8,7 +9,7 @@ pub struct Layout {
     pub chunk: u32,
     pub block: u32,
     pub slots: u32,
-    ghost chunk_range: { chunk ≤ 67108864 },
+    ghost chunk_range: { chunk ≤ largest_chunk },
     ghost block_range: { 16 ≤ block },
     ghost slots_range: { slots ≤ 65536 },
 }
@@ -18,7 +19,7 @@ impl Layout {
 
     /// The layout of a disk with so many slots, for chunks of `chunk` bytes in blocks of `block` bytes.
     pub fn new(chunk: u32, block: u32, slots: u32) -> Layout
-        requires chunk_range { chunk ≤ 67108864 }
+        requires chunk_range { chunk ≤ largest_chunk }
         requires block_range { 16 ≤ block }
         requires slots_range { slots ≤ 65536 }
         ensures chunk { result.chunk ≡ chunk }
