@@ -1,5 +1,6 @@
 pub mod Decided
 pub mod EndedRounds
+pub mod StoppedSteps
 pub mod Settlements
 pub mod ServerSteps
 pub mod PassedRounds
