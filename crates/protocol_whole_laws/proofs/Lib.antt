@@ -1,7 +1,11 @@
 pub mod Decided
 pub mod EndedRounds
 pub mod StoppedSteps
+pub mod GrantedSources
 pub mod Settlements
 pub mod ServerSteps
 pub mod PassedRounds
 pub mod ToldRounds
+pub mod ChunksBeside
+pub mod RecordRounds
+pub mod StepCopies

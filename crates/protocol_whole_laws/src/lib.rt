@@ -1,6 +1,8 @@
 //! Laws of the whole machine beside a cell, from each world to the next.
 #![tactic(auto)]
 
+pub mod chunks_beside;
+pub mod record_rounds;
 pub mod rounds;
 pub mod server_steps;
 pub mod told_rounds;
