@@ -15,7 +15,7 @@ use Rattle.protocol.specs.MasterStep.{master_goes}
 use Rattle.protocol.specs.World.{WorldState, happens, IsReached}
 use Rattle.protocol_laws.specs.Laws.{times_in}
 use Rattle.protocol_invariant.specs.Actions.{Spot}
-use Rattle.protocol_machine_laws.specs.ChunksAlike.{ChunkSides, StandsAt, IsRoundOpen, AreChunksAlike}
+use Rattle.protocol_machine_laws.specs.ChunksAlike.{ChunkSides, StandsAt, IsRoundOpen}
 use Rattle.protocol_machine_laws.specs.ChunkRecords.{StandsIn}
 use Rattle.protocol_whole_laws.specs.Rounds.{IsMastersInput, IsEnded, log_on}
 
