@@ -9,3 +9,4 @@ pub mod ToldRounds
 pub mod ChunksBeside
 pub mod RecordRounds
 pub mod StepCopies
+pub mod StepRounds

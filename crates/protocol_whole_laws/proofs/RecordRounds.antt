@@ -137,7 +137,7 @@ granted_files l named version primary members none = ap (λ (o : Option Copy). t
 
 -- a record of a step
 
-made_more : (d : LogDisk) (xs : List LogChange) (made : ℕ) (x : LogChange) → element_at xs made ≡ Some x → log_changed_by_all d (take (suc made) xs) ≡ log_changed (log_changed_by_all d (take made xs)) x
+pub made_more : (d : LogDisk) (xs : List LogChange) (made : ℕ) (x : LogChange) → element_at xs made ≡ Some x → log_changed_by_all d (take (suc made) xs) ≡ log_changed (log_changed_by_all d (take made xs)) x
 made_more d [] made x at = none_some x at
 made_more d (y ∷ ys) zero x at = ap (λ (z : LogChange). log_changed d z) (same_some y x at)
 made_more d (y ∷ ys) (suc made) x at = made_more (log_changed d y) ys made x at
