@@ -123,6 +123,7 @@ other_events_keep_chunks_beside config servers clients w r kept e choice clocks 
     log = subst (λ (m : MasterState). IsLogOf m k.log) (sym (master_left w e choice not)) h.log;
     orders = refl;
     alike = comes.follows.keeps.alike;
+    gone = comes.gone h.gone;
     rounds = other_events_keep_rounds config servers clients w r e choice clocks no_step k j h.rounds none_ended;
     told = told_rounds_go_on config servers clients w r e choice clocks k j h.log h.alike h.rounds none_ended h.told;
   },
@@ -144,7 +145,8 @@ other_events_keep_chunks_beside config servers clients w r kept e choice clocks 
     ]
 
 pub masters_events_keep_chunks_beside : MastersEventsKeepChunksBeside
-masters_events_keep_chunks_beside config servers clients w r e choice clocks k j h settings log orders alike keeps sent = record {
+masters_events_keep_chunks_beside config servers clients w r e choice clocks k j h settings log orders alike gone keeps sent = record {
+  gone = gone;
   settings = settings;
   log = log;
   orders = orders;
@@ -188,6 +190,7 @@ same_files_keep_chunks_beside config w k m h settings files = record {
   log = h.log;
   orders = h.orders;
   alike = still_alike config w k m h files;
+  gone = λ handle s stood. h.gone handle s stood ∙ sym (ap (λ (f : ℕ → FileState). ((f s.file).chunks s.index).order) files);
   rounds = still_rounds config w k m h files;
   told = still_told config w k m h files;
 }
@@ -206,4 +209,5 @@ new_chunks_are_beside config servers clients = record {
   };
   rounds = λ handle version. inl (ungranted_is_over config servers clients (new_world config servers clients) ([], refl) handle version refl);
   told = no_round_is_told_at_first config servers clients _;
+  gone = λ handle s stood. none_some s stood.0;
 }

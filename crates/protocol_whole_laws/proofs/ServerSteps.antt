@@ -1,6 +1,6 @@
 -- What a server numbers and settles in a step, the machine places and settles.
-use Rattle.std.proofs.Common.{◌≡◌, ℕ, zero, suc, ◌+◌, ◌*◌, ◌<◌, ◌≤◌, Bool, true, false, List, [], ◌∷◌, length, Some, refl, sym, ap, subst, ◌∙◌, inl, inr}
-use Rattle.std.specs.Prelude.{IsTrue}
+use Rattle.std.proofs.Common.{◌≡◌, ℕ, zero, suc, ◌+◌, ◌*◌, ◌<◌, ◌≤◌, Bool, true, false, List, [], ◌∷◌, length, Some, refl, sym, ap, subst, ◌∙◌, inl, inr, map, ◌++◌, ◌⊎◌, Option, None}
+use Rattle.std.specs.Prelude.{IsTrue, unwrap_or, option_map}
 use Rattle.std.specs.List.{list_all}
 use Rattle.std.specs.FinMap as table
 use Rattle.std.proofs.lemmas.Bool.{and_parts}
@@ -19,20 +19,20 @@ use Rattle.messages.specs.declared.event.Input.TheVariants as input
 use Rattle.messages.specs.declared.message.Message.{Message}
 use Rattle.primary_order.specs.declared.order.SerialOrder.{SerialOrder}
 use Rattle.relaxed_file.specs.Order.{CallId, Entry}
-use Rattle.relaxed_file.specs.Machine.{Machine, chunk_size, chunk_at}
-use Rattle.relaxed_file.specs.Chunks.{IsPastAll, is_an_end, AsksFor}
+use Rattle.relaxed_file.specs.Machine.{Machine, chunk_size, chunk_at, OpenCall}
+use Rattle.relaxed_file.specs.Chunks.{IsPastAll, is_an_end, AsksFor, with_entry, placed as put_there_by}
 use Rattle.relaxed_file.specs.Run.{Action, Place, Settle, Visible, IsLawful, visible, after, after_all}
 use Rattle.protocol.specs.Choice.{Choice}
 use Rattle.protocol.specs.Tables.{Table, element_at, first_numbers, with_at}
 use Rattle.protocol.specs.declared.seen.Seen.{Seen}
 use Rattle.protocol.specs.declared.seen.Seen.TheVariants.{Numbered, BecameSettled, CopyStarted}
-use Rattle.protocol.specs.Observer.{Placed, placed_in, order_of, observed_moment, orders_after, orders_after_all}
+use Rattle.protocol.specs.Observer.{Placed, placed_in, order_of, observed_moment, orders_after, orders_after_all, new_entry}
 use Rattle.protocol.specs.Server.{ServerState, primary_of}
 use Rattle.protocol.specs.ServerStep.{server_at, server_step, server_restart}
 use Rattle.protocol.specs.MasterStep.{master_restart}
 use Rattle.protocol.specs.ClientStep.{client_step, client_call}
 use Rattle.protocol.specs.World.{WorldState, Happened, after_server, IsReached, is_kept}
-use Rattle.protocol_laws.proofs.Steps.{none_some}
+use Rattle.protocol_laws.proofs.Steps.{none_some, put_other}
 use Rattle.protocol_laws.proofs.Entries.{AllOf}
 use Rattle.protocol_laws.proofs.MembersRecorded.{all_at}
 use Rattle.protocol_step_laws.specs.Versions.{IsLeaseOver}
@@ -57,14 +57,15 @@ use Rattle.protocol_replica_laws.specs.WaitingMutations.{IsAcknowledgedByAll}
 use Rattle.protocol_replica_laws.proofs.Acknowledging.{settled_mutations_were_acknowledged}
 use Rattle.protocol_replica_laws.proofs.LawfulPlaces.{numbered_mutations_may_follow}
 use Rattle.protocol_invariant.specs.Actions.{Spot}
-use Rattle.protocol_machine_laws.specs.ChunksAlike.{ChunkSides, entries_in, IsRoundOpen, AreChunksAlike, NoneEnds, HasRounds, moved, Follows}
+use Rattle.protocol_machine_laws.specs.ChunksAlike.{ChunkSides, entries_in, IsRoundOpen, AreChunksAlike, NoneEnds, HasRounds, moved, Follows, chunk_in}
 use Rattle.protocol_machine_laws.specs.EntrySteps.{StandsNowhereElse, IsWanted, IsOnlyPlace}
 use Rattle.protocol_machine_laws.proofs.Orders.{numbered_mutations_are_placed}
 use Rattle.protocol_machine_laws.proofs.OpenRounds.{counting_rounds_are_open}
 use Rattle.protocol_whole_laws.specs.Rounds.{IsLogOf, IsMastersStep}
-use Rattle.protocol_whole_laws.specs.ServerSteps.{AreDataOf, HasPartLeft, IsForOpenCall, AreForOpenCalls, is_of_entries, ComesToOrders, EntryActionsAreUnseen, OtherEventsAreTaken}
+use Rattle.protocol_whole_laws.specs.ServerSteps.{AreDataOf, HasPartLeft, IsForOpenCall, AreForOpenCalls, is_of_entries, ComesToOrders, EntryActionsAreUnseen, OtherEventsAreTaken, AreGoneOrdersAlike}
 use Rattle.protocol_whole_laws.proofs.EndedRounds.{masters_input, leased_chunks_stand_once}
-use Rattle.protocol_whole_laws.proofs.Settlements.{IsSettlingDue, due_later, takes_nothing, takes_more, settles_all, counted_entry}
+use Rattle.protocol_whole_laws.proofs.Settlements.{IsSettlingDue, due_later, takes_nothing, takes_more, settles_all, counted_entry, gone_kept}
+use Rattle.protocol_machine_laws.proofs.OneChunk.{one_changed}
 
 -- what a call asks for, by what its client has and what the order allows
 
@@ -209,6 +210,19 @@ module _ (config : Config) (servers clients : ℕ) (w : WorldState) (r : IsReach
     placed : Follows NoneEnds k (action ∷ []) (moved k (action ∷ []) k.log k.gone (orders_after trace k.orders (Numbered handle version serial id m)))
     placed = numbered_mutations_are_placed k trace handle version serial id m was_open.0 h was_open.1 (once_under handle.0 version.0 (for_it).lease (for_it).lease_is) wanted
 
+    placed_gone : AreGoneOrdersAlike k → AreGoneOrdersAlike (moved k (action ∷ []) k.log k.gone (orders_after trace k.orders (Numbered handle version serial id m)))
+    placed_gone =
+        gone_kept k (action ∷ []) (orders_after trace k.orders (Numbered handle version serial id m)) handle.0 version.0 was_open.0 h was_open.1 (still_open (placed.keeps.rounds handle.0 version.0 was_open.0 was_open.1))
+        (λ other differs. ap (λ (o : Option (List Placed)). map (λ (p : Placed). p.entry) (unwrap_or o [])) (put_other k.orders handle.0 (placed_in k.orders handle.0 ++ new_entry trace version.0 serial.0 id m ∷ []) other differs))
+        (λ at apart.
+        ap (λ (o : Option OpenCall). chunk_in (unwrap_or (option_map (λ (c : OpenCall). put_there_by k.machine id.client.0 c (was_open.0).file (was_open.0).index m) o) k.machine) at) alike.is_open
+        ∙ (one_changed k.machine was_open.0 (with_entry (chunk_in k.machine was_open.0) (record { client = id.client.0; number = (alike.current).number }) m)).elsewhere at apart)
+      where
+        still_open : ⊥ ⊎ IsRoundOpen (moved k (action ∷ []) k.log k.gone (orders_after trace k.orders (Numbered handle version serial id m))) handle.0 version.0 was_open.0
+            → IsRoundOpen (moved k (action ∷ []) k.log k.gone (orders_after trace k.orders (Numbered handle version serial id m))) handle.0 version.0 was_open.0
+        still_open (inl none) = absurd none
+        still_open (inr still) = still
+
   -- the first thing shown may be a numbering, and each other one is a settlement
   taken : AreForOpenCalls w k → (xs : List Seen) → shown ≡ xs → NumbersOnce xs → AllOf IsOfServers xs → ComesToOrders k (orders_after_all trace k.orders xs)
   taken calls [] is once of = takes_nothing k h
@@ -222,7 +236,7 @@ module _ (config : Config) (servers clients : ℕ) (w : WorldState) (r : IsReach
       let first = placed calls q v n id m 0 (ap (λ (ys : List Seen). element_at ys 0) is) in
       let act : Action = action calls q v n id m 0 (ap (λ (ys : List Seen). element_at ys 0) is) in
       let orders : Table (List Placed) = orders_after trace k.orders (Numbered q v n id m) in
-      takes_more k orders (orders_after_all trace orders xs) act refl first
+      takes_more k orders (orders_after_all trace orders xs) act refl first (placed_gone calls q v n id m 0 (ap (λ (ys : List Seen). element_at ys 0) is))
       (settles_all (moved k (act ∷ []) k.log k.gone orders) trace xs first.keeps.alike
       (due_later k (act ∷ []) orders (orders_after_all trace orders xs) xs first.keeps.rounds
       (subst (λ (ys : List Seen). AllOf (IsSettlingDue k (orders_after_all trace k.orders ys)) xs) is

@@ -1,9 +1,9 @@
 -- What a server settles: each entry has its name, its round and its serial, before and after.
-use Rattle.std.proofs.Common.{◌≡◌, ℕ, zero, suc, ◌≤◌, Bool, true, false, cond, List, [], ◌∷◌, ◌++◌, map, length, Option, Some, refl, sym, ap, subst, ◌∙◌, inl, inr, arith}
+use Rattle.std.proofs.Common.{◌≡◌, ℕ, zero, suc, ◌≤◌, Bool, true, false, cond, List, [], ◌∷◌, ◌++◌, map, length, Option, Some, refl, sym, ap, subst, ◌∙◌, inl, inr, arith, ◌⊎◌, None}
 use Rattle.std.specs.Prelude.{◌==◌, ◌&&◌, filter, unwrap_or}
 use Rattle.std.specs.List.{list_all}
 use Rattle.std.proofs.lemmas.Bool.{eqb-true, cases_lt}
-use Rattle.relaxed_file.specs.Run.{Action, Settle, Visible}
+use Rattle.relaxed_file.specs.Run.{Action, Settle, Visible, after_all}
 use Rattle.protocol.specs.Tables.{Table, element_at, first_numbers}
 use Rattle.protocol.specs.declared.seen.Seen.{Seen}
 use Rattle.protocol.specs.declared.seen.Seen.TheVariants.{Numbered, BecameSettled, CopyStarted}
@@ -13,10 +13,14 @@ use Rattle.protocol_laws.proofs.Entries.{AllOf}
 use Rattle.protocol_laws.proofs.MembersRecorded.{kept_place}
 use Rattle.protocol_entry_laws.specs.CountedSerials.{serials_of}
 use Rattle.protocol_invariant.specs.Actions.{Spot}
-use Rattle.protocol_machine_laws.specs.ChunksAlike.{ChunkSides, IsRoundOpen, AreChunksAlike, NoneEnds, KeepsRounds, moved, Follows}
+use Rattle.protocol_machine_laws.specs.ChunksAlike.{ChunkSides, IsRoundOpen, AreChunksAlike, NoneEnds, KeepsRounds, moved, Follows, StoodAt, chunk_in, entries_in}
 use Rattle.protocol_machine_laws.specs.EntrySteps.{StandsNowhereElse, IsOnlyPlace}
 use Rattle.protocol_machine_laws.proofs.Orders.{settled_entries_are_settled}
-use Rattle.protocol_whole_laws.specs.ServerSteps.{is_of_entries, ComesToOrders}
+use Rattle.protocol_whole_laws.specs.ServerSteps.{is_of_entries, ComesToOrders, AreGoneOrdersAlike}
+use Rattle.protocol_machine_laws.proofs.Sides.{gone_or_there}
+use Rattle.protocol_machine_laws.proofs.OneChunk.{one_changed, HasPlace, one_owner}
+use Rattle.relaxed_file.specs.Machine.{Chunk}
+use Rattle.relaxed_file.specs.Chunks.{settled_at}
 
 -- rounds and serials of two orders, place by place
 abbrev pub AreNamedAlike : List Placed → List Placed → Type 0
@@ -116,12 +120,12 @@ due_later k actions orders end (Numbered q v n id m ∷ xs) keeps all = absurd a
 due_later k actions orders end (CopyStarted q copy ∷ xs) keeps all = absurd all.0
 
 pub takes_nothing : (k : ChunkSides) → AreChunksAlike k → ComesToOrders k k.orders
-takes_nothing k h = record { actions = []; of_entries = refl; follows = record { allowed = tt; keeps = record { alike = h; rounds = λ handle version s was_open. inr was_open } } }
+takes_nothing k h = record { actions = []; of_entries = refl; follows = record { allowed = tt; keeps = record { alike = h; rounds = λ handle version s was_open. inr was_open } }; gone = λ gone. gone }
 
 -- one action, and then the others
 pub takes_more : (k : ChunkSides) (orders end : Table (List Placed)) (action : Action) → is_of_entries action ≡ true → Follows NoneEnds k (action ∷ []) (moved k (action ∷ []) k.log k.gone orders)
-    → ComesToOrders (moved k (action ∷ []) k.log k.gone orders) end → ComesToOrders k end
-takes_more k orders end action is first rest = record {
+    → (AreGoneOrdersAlike k → AreGoneOrdersAlike (moved k (action ∷ []) k.log k.gone orders)) → ComesToOrders (moved k (action ∷ []) k.log k.gone orders) end → ComesToOrders k end
+takes_more k orders end action is first first_gone rest = record {
   actions = action ∷ rest.actions;
   of_entries = ap (λ (b : Bool). b && list_all is_of_entries rest.actions) is ∙ rest.of_entries;
   follows = record {
@@ -134,7 +138,26 @@ takes_more k orders end action is first rest = record {
       ];
     };
   };
+  gone = λ gone. rest.gone (first_gone gone);
 }
+
+-- an entry comes or is settled in an open round: of each other chunk nothing changes
+pub gone_kept : (k : ChunkSides) (actions : List Action) (orders : Table (List Placed)) (handle version : ℕ) (s : Spot) → AreChunksAlike k → IsRoundOpen k handle version s
+    → IsRoundOpen (moved k actions k.log k.gone orders) handle version s → ((other : ℕ) → (other ≡ handle → ⊥) → entries_in orders other ≡ entries_in k.orders other)
+    → ((at : Spot) → (at ≡ s → ⊥) → chunk_in (after_all k.machine actions) at ≡ chunk_in k.machine at) → AreGoneOrdersAlike k → AreGoneOrdersAlike (moved k actions k.log k.gone orders)
+gone_kept k actions orders handle version s h was_open now others elsewhere gone q t stood = elim (same_or_not q handle) [
+  | inl same ↦
+      ap (λ (n : ℕ). entries_in orders n) same
+      ∙ (now.order ∙ ap (λ (at : Spot). (chunk_in (after_all k.machine actions) at).order) (sym (its_spot (subst (λ (n : ℕ). StoodAt k n t) same stood) was_open.place)))
+  | inr differs ↦ others q differs ∙ (gone q t stood ∙ sym (ap (λ (c : Chunk). c.order) (elsewhere t (λ same. differs (owner same)))))
+]
+  where
+    its_spot : StoodAt k handle t → HasPlace k handle s → t ≡ s
+    its_spot there (inl at) = absurd (gone_or_there k h handle s at t there)
+    its_spot there (inr was) = same_some t s (sym there.0 ∙ was.0)
+
+    owner : t ≡ s → q ≡ handle
+    owner same = one_owner k h q handle s (subst (λ (at : Spot). HasPlace k q at) same (inr stood)) was_open.place
 
 -- the machine settles what becomes settled
 pub settles_all : (k : ChunkSides) (trace : List Visible) (xs : List Seen) → AreChunksAlike k → AllOf (IsSettlingDue k (orders_after_all trace k.orders xs)) xs → ComesToOrders k (orders_after_all trace k.orders xs)
@@ -142,7 +165,7 @@ settles_all k trace [] h all = takes_nothing k h
 settles_all k trace (Numbered q v n id m ∷ xs) h all = absurd all.0
 settles_all k trace (CopyStarted q copy ∷ xs) h all = absurd all.0
 settles_all k trace (BecameSettled q v n ∷ xs) h all =
-    takes_more k orders end (Settle s.file s.index place) refl follows
+    takes_more k orders end (Settle s.file s.index place) refl follows keeps_gone
     (settles_all (moved k (Settle s.file s.index place ∷ []) k.log k.gone orders) trace xs follows.keeps.alike (due_later k (Settle s.file s.index place ∷ []) orders end xs follows.keeps.rounds all.1))
   where
     end : Table (List Placed)
@@ -162,6 +185,16 @@ settles_all k trace (BecameSettled q v n ∷ xs) h all =
 
     follows : Follows NoneEnds k (Settle s.file s.index place ∷ []) (moved k (Settle s.file s.index place ∷ []) k.log k.gone orders)
     follows = (settled_entries_are_settled k trace q v n s place h (all.0).1 (all.0).2 (only_of (placed_in end q.0) (placed_in k.orders q.0) v.0 n.0 place names (all.0).4)).1
+
+    keeps_gone : AreGoneOrdersAlike k → AreGoneOrdersAlike (moved k (Settle s.file s.index place ∷ []) k.log k.gone orders)
+    keeps_gone =
+        gone_kept k (Settle s.file s.index place ∷ []) orders q.0 v.0 s h (all.0).1 (still_open (follows.keeps.rounds q.0 v.0 s (all.0).1))
+        (λ other differs. ap (λ (o : Option (List Placed)). map (λ (p : Placed). p.entry) (unwrap_or o [])) (put_other k.orders q.0 (map (settled_as v.0 n.0) (placed_in k.orders q.0)) other differs))
+        (one_changed k.machine s (record (chunk_in k.machine s) { order = settled_at place (chunk_in k.machine s).order })).elsewhere
+      where
+        still_open : ⊥ ⊎ IsRoundOpen (moved k (Settle s.file s.index place ∷ []) k.log k.gone orders) q.0 v.0 s → IsRoundOpen (moved k (Settle s.file s.index place ∷ []) k.log k.gone orders) q.0 v.0 s
+        still_open (inl none) = absurd none
+        still_open (inr still) = still
 
 -- serials that are counted have their entries
 

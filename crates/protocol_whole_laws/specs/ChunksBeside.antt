@@ -12,10 +12,10 @@ use Rattle.protocol.specs.World.{WorldState, new_world, happens, IsReached, is_k
 use Rattle.protocol_step_laws.specs.Versions.{IsLeaseOver}
 use Rattle.protocol_machine_laws.specs.ChunksAlike.{ChunkSides, AreChunksAlike, KeepsRounds, HasRounds, moved}
 use Rattle.protocol_whole_laws.specs.Rounds.{IsLogOf, IsMastersStep, IsEnded, SentGrantsAreOpen}
-use Rattle.protocol_whole_laws.specs.ServerSteps.{is_of_entries, AreForOpenCalls}
+use Rattle.protocol_whole_laws.specs.ServerSteps.{is_of_entries, AreForOpenCalls, AreGoneOrdersAlike}
 use Rattle.protocol_whole_laws.specs.ToldRounds.{AreToldRounds}
 
--- The machine's chunks are those of the master's log, with the orders that are seen; the round of each lease that isn't over is open, and so is each that was told, in the file's chunk of its index.
+-- The machine's chunks are those of the master's log, with the orders that are seen; also of handles that are gone; the round of each lease that isn't over is open, and so is each that was told, in the file's chunk of its index.
 pub record AreChunksBeside (config : Config) (w : WorldState) (k : ChunkSides) : Type 0 where
   pub settings : k.machine.config ≡ config
   pub log : IsLogOf w.master k.log
@@ -23,6 +23,7 @@ pub record AreChunksBeside (config : Config) (w : WorldState) (k : ChunkSides) :
   pub alike : AreChunksAlike k
   pub rounds : HasRounds (IsLeaseOver w) k
   pub told : AreToldRounds w k
+  pub gone : AreGoneOrdersAlike k
 
 -- So it is of a new cell and a new machine.
 abbrev pub NewChunksAreBeside : Type 0
@@ -50,11 +51,11 @@ OtherEventsKeepChunksBeside =
     → (actions : List Action) × IsTrue (list_all is_of_entries actions) × IsLawful k.machine actions
     × AreChunksBeside config (happens w e choice).world (moved k actions k.log k.gone (happens w e choice).world.observer.orders)
 
--- At an event of the master it is so again, where the machine followed the log: chunks are alike, rounds ended only of chunks whose leases are over, and what was granted has its round open.
+-- At an event of the master it is so again, where the machine followed the log: chunks are alike, also of gone handles, rounds ended only of chunks whose leases are over, and what was granted has its round open.
 abbrev pub MastersEventsKeepChunksBeside : Type 0
 MastersEventsKeepChunksBeside =
     (config : Config) (servers clients : ℕ) (w : WorldState) → IsReached config servers clients w → (e : Event) (choice : Choice) → IsTrue (happens w e choice).world.observer.are_clocks_kept
     → (k j : ChunkSides) → AreChunksBeside config w k
-    → j.machine.config ≡ config → IsLogOf (happens w e choice).world.master j.log → j.orders ≡ (happens w e choice).world.observer.orders → AreChunksAlike j
+    → j.machine.config ≡ config → IsLogOf (happens w e choice).world.master j.log → j.orders ≡ (happens w e choice).world.observer.orders → AreChunksAlike j → AreGoneOrdersAlike j
     → KeepsRounds (IsEnded w (happens w e choice).world) k j → SentGrantsAreOpen w (happens w e choice).world j
     → AreChunksBeside config (happens w e choice).world j

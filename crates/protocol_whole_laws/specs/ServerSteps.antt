@@ -26,7 +26,7 @@ use Rattle.protocol_entry_laws.specs.Entries.{IsPushed}
 use Rattle.protocol_entry_laws.specs.Deadlines.{Numbers}
 use Rattle.protocol_step_laws.specs.Versions.{IsLeaseOver}
 use Rattle.protocol_invariant.specs.Actions.{Spot}
-use Rattle.protocol_machine_laws.specs.ChunksAlike.{ChunkSides, IsRoundOpen, AreChunksAlike, NoneEnds, HasRounds, moved, Follows}
+use Rattle.protocol_machine_laws.specs.ChunksAlike.{ChunkSides, IsRoundOpen, AreChunksAlike, NoneEnds, HasRounds, moved, Follows, StoodAt, chunk_in, entries_in}
 use Rattle.protocol_whole_laws.specs.Rounds.{IsLogOf, IsMastersStep}
 
 -- a mutation takes its place in an order, or is settled there
@@ -70,11 +70,16 @@ AreForOpenCalls w k =
     (index moment : ℕ) (s : ServerState) (i : Input) (choice : Choice) (handle : Handle) (version : Version) (id : DataId) (n : Numbers w index moment s i choice handle version id)
     → IsTrue (observed_moment w.config.skew_ms w.observer moment).are_clocks_kept → (at : Spot) → IsRoundOpen k handle.0 version.0 at → IsForOpenCall w k id at n.placed
 
--- The machine may place and settle what makes its orders these; then all is alike again, and each round stays open.
+-- The order of a handle that no file has any more is that of the chunk where it stood.
+abbrev pub AreGoneOrdersAlike : ChunkSides → Type 0
+AreGoneOrdersAlike k = (handle : ℕ) (s : Spot) → StoodAt k handle s → entries_in k.orders handle ≡ (chunk_in k.machine s).order
+
+-- The machine may place and settle what makes its orders these; then all is alike again, also of gone handles, and each round stays open.
 pub record ComesToOrders (k : ChunkSides) (orders : Table (List Placed)) : Type 0 where
   pub actions : List Action
   pub of_entries : IsTrue (list_all is_of_entries actions)
   pub follows : Follows NoneEnds k actions (moved k actions k.log k.gone orders)
+  pub gone : AreGoneOrdersAlike k → AreGoneOrdersAlike (moved k actions k.log k.gone orders)
 
 -- At an event that is no step of the master the machine may come to the orders that are seen after it, also where a server stops: where clocks and disks are kept, the round of each lease that isn't over is open, and the clients' calls are alike.
 abbrev pub OtherEventsAreTaken : Type 0
