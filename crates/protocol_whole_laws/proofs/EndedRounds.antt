@@ -1,0 +1,254 @@
+-- Which rounds may end at an event, and that their leases are over.
+use Rattle.std.proofs.Common.{◌≡◌, ◌⊎◌, ℕ, zero, suc, ◌≤◌, ◌<◌, Bool, true, false, List, [], ◌∷◌, ◌++◌, length, Option, Some, None, is_some, refl, sym, ap, subst, ◌∙◌, inl, inr, arith}
+use Rattle.std.specs.Prelude.{◌==◌, ◌&&◌, IsTrue}
+use Rattle.std.specs.FinMap as table
+use Rattle.std.proofs.lemmas.Bool.{and_parts, eq-eqb, eqb-true, cases_lt}
+use Rattle.gfs_types.specs.declared.config.Config.{Config}
+use Rattle.gfs_types.specs.declared.ids.Handle.{Handle}
+use Rattle.gfs_types.specs.declared.ids.Moment.{Moment}
+use Rattle.gfs_types.specs.declared.ids.Node.TheVariants as node
+use Rattle.gfs_types.specs.declared.ids.OrderNo.{OrderNo}
+use Rattle.gfs_types.specs.declared.ids.Version.{Version}
+use Rattle.messages.specs.declared.event.Event.{Event}
+use Rattle.messages.specs.declared.event.Event.TheVariants as event
+use Rattle.messages.specs.declared.event.Input.{Input}
+use Rattle.messages.specs.declared.event.Input.TheVariants as input
+use Rattle.messages.specs.declared.message.Message.{Message}
+use Rattle.messages.specs.declared.message.Body.{Body}
+use Rattle.messages.specs.declared.message.Body.TheVariants as body
+use Rattle.chunk_table.specs.ChunkTable.{ChunkRow, handles_of, chunk_of}
+use Rattle.protocol.specs.Choice.{Choice}
+use Rattle.protocol.specs.Tables.{element_at}
+use Rattle.protocol.specs.Sending.{handle_of, version_of}
+use Rattle.protocol.specs.Logged.{Logged}
+use Rattle.protocol.specs.ServerStep.{server_step, server_restart}
+use Rattle.protocol.specs.MasterStep.{master_restart}
+use Rattle.protocol.specs.ClientStep.{client_step, client_call}
+use Rattle.protocol.specs.World.{WorldState, stamped, happens, IsReached}
+use Rattle.protocol_laws.specs.Laws.{HasAllReferences, times_in, is_grant, grants_of}
+use Rattle.protocol_laws.proofs.Steps.{none_some, same_some, tally, count-cons}
+use Rattle.protocol_laws.proofs.ClientMoves.{HasNoOrder, quiet_orders, client_quiet, call_quiet}
+use Rattle.protocol_laws.proofs.SentReached.{server_quiet, server_restarts_quiet}
+use Rattle.protocol_laws.proofs.LeasesTold.{leases_are_told}
+use Rattle.protocol_laws.proofs.NamesLogged.{references_are_counted}
+use Rattle.protocol_laws.proofs.Owners.{placed_stands, times_at_least}
+use Rattle.protocol_step_laws.specs.Versions.{IsLeaseOver, AreLeasesOver}
+use Rattle.protocol_step_laws.specs.NewCopies.{HasNoLease}
+use Rattle.protocol_step_laws.proofs.EndedLeases.{attempted_chunks_have_no_lease}
+use Rattle.protocol_step_laws.proofs.Unleased.{new_copies_have_no_lease}
+use Rattle.protocol_step_laws.proofs.LeasesStayOver.{reached_later}
+use Rattle.protocol_step_laws.proofs.Histories.{step_grown, stood_before}
+use Rattle.protocol_step_laws.proofs.Events.{IsGiven, HoldsAfter, holds_after}
+use Rattle.protocol_version_laws.proofs.ClosedVersions.{clocks_before}
+use Rattle.protocol_version_laws.proofs.CopiedSources.{copied_chunks_have_no_lease}
+use Rattle.protocol_version_laws.proofs.ExtendLaws.{restart_silent}
+use Rattle.protocol_version_laws.proofs.SharedChunks.{quiet_sent, shared_chunks_have_no_lease, shared_chunks_in_the_log_have_no_lease}
+use Rattle.protocol_replica_laws.proofs.CopiedOrders.{copies_under_way_are_not_granted}
+use Rattle.protocol_invariant.specs.Actions.{Spot}
+use Rattle.protocol_machine_laws.specs.ChunksAlike.{ChunkSides, StandsAt, StoodAt, IsRoundOpen, AreChunksAlike}
+use Rattle.protocol_machine_laws.specs.EntrySteps.{StandsNowhereElse}
+use Rattle.protocol_machine_laws.specs.OpenRounds.{NewRoundsAreOpen}
+use Rattle.protocol_machine_laws.proofs.Sides.{gone_or_there}
+use Rattle.protocol_machine_laws.proofs.OpenRounds.{rounds_go_with_leases, chunks_of_one_owner_stand_once}
+use Rattle.protocol_whole_laws.specs.Rounds.{log_as, IsLogOf, IsMastersStep, IsTried, IsCopied, IsCopy, IsBegun, IsShared, IsEnded, SentGrantsAreOpen, EachEventKeepsRounds, OtherEventsKeepRounds, SharedChunksInEachLogHaveNoLease, LeasedChunksStandOnce, OpenRoundsHaveOneSpot, EndedRoundsAreOver}
+use Rattle.protocol_whole_laws.proofs.Decided.{IsDecided, decided_world, over_in, counted_in_each}
+
+-- what was never granted is over
+
+some_grant : (handle version : ℕ) (sent : List Message) (place : ℕ) (g : Message) → element_at sent place ≡ Some g → is_grant handle version g.body ≡ true → 1 ≤ grants_of handle version sent
+some_grant handle version [] place g at is = none_some g at
+some_grant handle version (m ∷ sent) zero g at is =
+    let whole = count-cons (λ (x : Message). is_grant handle version x.body) m sent in
+    let one = ap tally (ap (λ (x : Message). is_grant handle version x.body) (same_some m g at) ∙ is) in
+    omega (arith, whole, one)
+some_grant handle version (m ∷ sent) (suc place) g at is =
+    let whole = count-cons (λ (x : Message). is_grant handle version x.body) m sent in
+    let more = some_grant handle version sent place g at is in
+    omega (arith, whole, more)
+
+its_grant : (handle version : ℕ) → (handle == handle) && (version == version) ≡ true
+its_grant handle version = ap (λ (b : Bool). b && (version == version)) (eq-eqb handle handle refl) ∙ eq-eqb version version refl
+
+pub ungranted_is_over : (config : Config) (servers clients : ℕ) (w : WorldState) → IsReached config servers clients w → (handle version : ℕ) → grants_of handle version w.sent ≡ 0 → IsLeaseOver w handle version
+ungranted_is_over config servers clients w r handle version none = record {
+  held = λ index p holds version_is.
+      let told = (leases_are_told config servers clients w r index holds.0 holds.1 handle p holds.2).0 in
+      no_grant told.0 told.1 told.2 (ap (is_grant handle version) told.6 ∙ ap (λ (v : ℕ). (handle == handle) && (v == version)) version_is ∙ its_grant handle version);
+  comes = λ place grant order end_moment members at is. absurd (no_grant place grant at (ap (is_grant handle version) is ∙ its_grant handle version));
+}
+  where
+    no_grant : (place : ℕ) (g : Message) → element_at w.sent place ≡ Some g → is_grant handle version g.body ≡ true → ⊥
+    no_grant place g at is = let some = some_grant handle version w.sent place g at is in omega (arith, some, none)
+
+-- shared chunks, in each log
+
+module _ (config : Config) (servers clients : ℕ) (w : WorldState) (r : IsReached config servers clients w) (clocks : IsTrue w.observer.are_clocks_kept) where
+  shared_over : (l : Logged) → IsLogOf w.master l → (handle : ℕ) (row : ChunkRow) → chunk_of l.table handle ≡ Some row → 2 ≤ row.references → AreLeasesOver w handle
+  shared_over l (inl is) handle row there owned =
+      (shared_chunks_have_no_lease config servers clients w r clocks is.0 handle row (subst (λ (x : Logged). chunk_of x.table handle ≡ Some row) is.1 there) owned).1
+  shared_over l (inr is) handle row there owned =
+      let d = decided_world config servers clients w r clocks is.1 in
+      let here = subst (λ (x : Logged). chunk_of x.table handle ≡ Some row) (is.2 ∙ sym d.log) there in
+      λ version. over_in config servers clients w _ is.1 d handle version (shared_chunks_in_the_log_have_no_lease config servers clients _ d.reached d.clocks handle row here owned version)
+
+  pub references_in : (l : Logged) → IsLogOf w.master l → HasAllReferences l.table
+  references_in l (inl is) = subst (λ (x : Logged). HasAllReferences x.table) (sym is.1) (references_are_counted config servers clients w r is.0).0
+  references_in l (inr is) = subst (λ (x : Logged). HasAllReferences x.table) (sym is.2) (counted_in_each config servers clients w r is.1)
+
+  -- a chunk without a row stands nowhere
+  module _ (k : ChunkSides) (is : IsLogOf w.master k.log) (handle version : ℕ) where
+    no_row : chunk_of k.log.table handle ≡ None → (s : Spot) → StandsAt k.log.table handle s → ⊥
+    no_row none s at =
+        let one = placed_stands (handles_of k.log.table s.file) s.index handle at in
+        let low = times_at_least k.log.table.files s.file handle in
+        let key = (references_in k.log is).1 handle (omega (arith, one, low)) in
+        (let both : is_some (chunk_of k.log.table handle) ≡ true = key in let no = ap is_some none in cc)
+
+    by_row : (o : Option ChunkRow) → chunk_of k.log.table handle ≡ o → IsLeaseOver w handle version ⊎ StandsNowhereElse k handle
+    by_row None none = inr (λ s other at there. absurd (no_row none s at))
+    by_row (Some row) there = elim (cases_lt row.references 2) [
+      | inl few ↦ inr (chunks_of_one_owner_stand_once k handle row (references_in k.log is) there (omega (arith, few)))
+      | inr owned ↦ inl (shared_over k.log is handle row there owned version)
+    ]
+
+pub shared_chunks_in_each_log_have_no_lease : SharedChunksInEachLogHaveNoLease
+shared_chunks_in_each_log_have_no_lease config servers clients w r clocks l is handle row there owned = shared_over config servers clients w r clocks l is handle row there owned
+
+pub leased_chunks_stand_once : LeasedChunksStandOnce
+leased_chunks_stand_once config servers clients w r clocks k is handle version = by_row config servers clients w r clocks k is handle version (chunk_of k.log.table handle) refl
+
+pub open_rounds_have_one_spot : OpenRoundsHaveOneSpot
+open_rounds_have_one_spot k h handle version other s t nowhere first second = by_places first.place second.place
+  where
+    by_places : StandsAt k.log.table handle s ⊎ StoodAt k handle s → StandsAt k.log.table handle t ⊎ StoodAt k handle t → s ≡ t
+    by_places (inl here) (inl there) = nowhere s t here there
+    by_places (inl here) (inr stood) = absurd (gone_or_there k h handle s here t stood)
+    by_places (inr stood) (inl there) = absurd (gone_or_there k h handle t there s stood)
+    by_places (inr stood) (inr too) = same_some s t (sym stood.0 ∙ too.0)
+
+-- an event that is no step of the master
+
+pub masters_input : (w : WorldState) (e : Event) (moment : ℕ) (i : Input) → IsGiven w e node.Master moment i → IsMastersStep w e
+masters_input w (event.Deliver number now) moment (input.Deliver m) given = (m, given.0, given.1)
+masters_input w (event.Deliver number now) moment input.Tick given = absurd given
+masters_input w (event.Tick n now) moment input.Tick given = given.0
+masters_input w (event.Tick n now) moment (input.Deliver m) given = absurd given
+masters_input w (event.Call client c now) moment i given = absurd given
+masters_input w (event.Restart n now) moment i given = absurd given
+masters_input w (event.Rot server q place byte) moment i given = absurd given
+masters_input w (event.Fuse n count torn) moment i given = absurd given
+
+module _ (w : WorldState) (handle version : ℕ) where
+  abbrev GrantsNoMore : WorldState → Type 0
+  GrantsNoMore v = grants_of handle version v.sent ≤ grants_of handle version w.sent
+
+  quiet : (ms : List Message) → HasNoOrder ms → grants_of handle version (w.sent ++ stamped (suc (length w.sent)) ms) ≤ grants_of handle version w.sent
+  quiet ms none = quiet_sent w.sent (suc (length w.sent)) ms handle version none
+
+  none_granted : HoldsAfter w (λ e x. (IsMastersStep w e → ⊥) → GrantsNoMore x.world)
+  none_granted = record {
+    nothing = λ e not. omega arith;
+    masters = λ e moment i choice given up not. absurd (not (masters_input w e moment i given));
+    opens = λ e moment choice not. quiet (master_restart w.master moment choice).out.sent (subst HasNoOrder (sym (restart_silent w.master moment choice)) (λ epoch count. refl));
+    serves = λ e index moment s i choice at given up not. quiet (server_step s moment i choice).out.sent (server_quiet s moment i choice);
+    restarts = λ e index moment s choice at not. quiet (server_restart s moment choice).out.sent (server_restarts_quiet s moment choice choice.ending);
+    steps = λ e index moment s i choice at given up not. quiet (client_step s moment i choice).out.sent (quiet_orders (client_step s moment i choice).out.sent (client_quiet s moment i choice));
+    calls = λ e index moment s c choice at may not. quiet (client_call s moment c choice).out.sent (quiet_orders (client_call s moment c choice).out.sent (call_quiet s moment c choice));
+    rots = λ e index q s x place byte is_kept at there up not. omega arith;
+  }
+
+pub other_events_keep_rounds : OtherEventsKeepRounds
+other_events_keep_rounds config servers clients w r e choice clocks not k j has keeps =
+    rounds_go_with_leases config servers clients w r e choice clocks k j has keeps
+    (λ handle version none some. let few = holds_after w (λ e x. (IsMastersStep w e → ⊥) → GrantsNoMore w handle version x.world) (none_granted w handle version) e choice not in absurd (omega (arith, none, some, few)))
+
+-- chunks whose rounds may end
+
+module _ (config : Config) (servers clients : ℕ) (w : WorldState) (r : IsReached config servers clients w) (clocks : IsTrue w.observer.are_clocks_kept) (handle : ℕ) where
+  tried_over : IsTried w.master handle → AreLeasesOver w handle
+  tried_over is = (attempted_chunks_have_no_lease config servers clients w r clocks is.0 handle is.1 is.2 is.3 is.4).1
+
+  copied_over : IsCopied w.master handle → AreLeasesOver w handle
+  copied_over is = subst (λ (n : ℕ). AreLeasesOver w n) is.4 (copied_chunks_have_no_lease config servers clients w r clocks is.0 is.1 is.2 is.3).1
+
+  copy_over : IsCopy w.master handle → AreLeasesOver w handle
+  copy_over is version = ungranted_is_over config servers clients w r handle version ((copies_under_way_are_not_granted config servers clients w r clocks is.0 handle is.1 is.2).granted version)
+
+  begun_over : IsBegun w.master handle → AreLeasesOver w handle
+  begun_over is version =
+      let none : HasNoLease w (handle_of handle) = new_copies_have_no_lease config servers clients w r is.0 is.1 is.2 is.3 is.4 (handle_of handle) is.5 in
+      record {
+        held = λ index p holds same. none_some p (sym (none.unheld index holds.0 holds.1) ∙ holds.2);
+        comes = λ place grant order end_moment members at says. absurd (none.ungranted place grant at order (version_of version) end_moment members says);
+      }
+
+  is_shared_over : IsShared w.master handle → AreLeasesOver w handle
+  is_shared_over is = shared_over config servers clients w r clocks is.0 is.1 handle is.2 is.3 is.4
+
+pub ended_rounds_are_over : EndedRoundsAreOver
+ended_rounds_are_over config servers clients w r e choice clocks handle may = by_kind may
+  where
+    then_ : WorldState
+    then_ = (happens w e choice).world
+
+    before : IsTrue w.observer.are_clocks_kept
+    before = clocks_before w ((e, choice) ∷ []) clocks
+
+    by_kind : IsTried w.master handle ⊎ IsCopied w.master handle ⊎ IsCopy w.master handle ⊎ IsBegun w.master handle ⊎ IsShared w.master handle ⊎ IsShared then_.master handle → IsEnded w then_ handle
+    by_kind (inl is) = inl (tried_over config servers clients w r before handle is)
+    by_kind (inr (inl is)) = inl (copied_over config servers clients w r before handle is)
+    by_kind (inr (inr (inl is))) = inl (copy_over config servers clients w r before handle is)
+    by_kind (inr (inr (inr (inl is)))) = inl (begun_over config servers clients w r before handle is)
+    by_kind (inr (inr (inr (inr (inl is))))) = inl (is_shared_over config servers clients w r before handle is)
+    by_kind (inr (inr (inr (inr (inr is))))) = inr (is_shared_over config servers clients then_ (reached_later config servers clients w ((e, choice) ∷ []) r) clocks handle is)
+
+-- what an event grants
+
+some_place : (handle version : ℕ) (sent : List Message) → 1 ≤ grants_of handle version sent → (place : ℕ) × (m : Message) × (element_at sent place ≡ Some m) × (is_grant handle version m.body ≡ true)
+some_place handle version [] some = absurd (omega (arith, some))
+some_place handle version (m ∷ sent) some = by_test (is_grant handle version m.body) refl (λ more. let found = some_place handle version sent more in (suc found.0, found.1, found.2, found.3))
+  where
+    by_test : (b : Bool) → is_grant handle version m.body ≡ b → (1 ≤ grants_of handle version sent → (place : ℕ) × (x : Message) × (element_at (m ∷ sent) place ≡ Some x) × (is_grant handle version x.body ≡ true))
+        → (place : ℕ) × (x : Message) × (element_at (m ∷ sent) place ≡ Some x) × (is_grant handle version x.body ≡ true)
+    by_test true is behind = (0, m, refl, is)
+    by_test false is behind =
+        let whole = count-cons (λ (x : Message). is_grant handle version x.body) m sent in
+        let none = ap tally is in
+        behind (omega (arith, some, whole, none))
+
+record IsGrantOf (handle version : ℕ) (b : Body) : Type 0 where
+  order : OrderNo
+  named : Handle
+  number : Version
+  end_moment : Moment
+  members : List ℕ
+  body_is : b ≡ body.Grant order named number end_moment members
+  handle_is : named.0 ≡ handle
+  version_is : number.0 ≡ version
+
+grant_is : (handle version : ℕ) (b : Body) → is_grant handle version b ≡ true → IsGrantOf handle version b
+grant_is handle version (body.Grant order h v end_moment members) is =
+    let parts = and_parts (h.0 == handle) (v.0 == version) is in
+    record { order = order; named = h; number = v; end_moment = end_moment; members = members; body_is = refl; handle_is = eqb-true h.0 handle parts.0; version_is = eqb-true v.0 version parts.1 }
+grant_is handle version other is = absurd (let no : false ≡ true = is in cc)
+
+new_rounds : (w : WorldState) (e : Event) (choice : Choice) (j : ChunkSides) → SentGrantsAreOpen w (happens w e choice).world j → NewRoundsAreOpen w (happens w e choice).world j
+new_rounds w e choice j sent handle version none some =
+    let found = some_place handle version (happens w e choice).world.sent some in
+    elim (cases_lt found.0 (length w.sent)) [
+      | inl early ↦
+          let before = some_grant handle version w.sent found.0 found.1 (stood_before w.sent (happens w e choice).world.sent found.0 found.1 (step_grown w e choice) early found.2) found.3 in
+          absurd (omega (arith, before, none))
+      | inr from ↦
+          let g = grant_is handle version (found.1).body found.3 in
+          subst (λ (n : ℕ). (s : Spot) × IsRoundOpen j n version s) g.handle_is
+          (subst (λ (v : ℕ). (s : Spot) × IsRoundOpen j g.named.0 v s) g.version_is (sent found.0 found.1 g.order g.named g.number g.end_moment g.members from found.2 g.body_is))
+    ]
+
+pub each_event_keeps_rounds : EachEventKeepsRounds
+each_event_keeps_rounds config servers clients w r e choice clocks k j has keeps sent =
+    rounds_go_with_leases config servers clients w r e choice clocks k j has
+    (λ handle version s was_open. elim (keeps handle version s was_open) [
+      | inl may ↦ inl (ended_rounds_are_over config servers clients w r e choice clocks handle may)
+      | inr still ↦ inr still
+    ]) (new_rounds w e choice j sent)

@@ -1,0 +1,208 @@
+-- What a server settles: each entry has its name, its round and its serial, before and after.
+use Rattle.std.proofs.Common.{◌≡◌, ◌⊎◌, ℕ, zero, suc, ◌≤◌, Bool, true, false, cond, List, [], ◌∷◌, ◌++◌, map, length, Option, Some, refl, sym, ap, subst, ◌∙◌, inl, inr, arith}
+use Rattle.std.specs.Prelude.{◌==◌, ◌&&◌, IsTrue, filter, unwrap_or}
+use Rattle.std.specs.List.{list_all}
+use Rattle.std.specs.FinMap as table
+use Rattle.std.proofs.lemmas.Bool.{eqb-true, cases_lt}
+use Rattle.relaxed_file.specs.Run.{Action, Settle, Visible}
+use Rattle.protocol.specs.Tables.{Table, element_at, first_numbers}
+use Rattle.protocol.specs.declared.seen.Seen.{Seen}
+use Rattle.protocol.specs.declared.seen.Seen.TheVariants.{Numbered, BecameSettled, CopyStarted}
+use Rattle.protocol.specs.Observer.{Placed, placed_in, is_placed_as, settled_as, orders_after, orders_after_all}
+use Rattle.protocol_laws.proofs.Steps.{on_cond, none_some, same_some, same_or_not, put_there, put_other}
+use Rattle.protocol_laws.proofs.Entries.{AllOf}
+use Rattle.protocol_laws.proofs.MembersRecorded.{kept_place}
+use Rattle.protocol_entry_laws.specs.CountedSerials.{serials_of}
+use Rattle.protocol_invariant.specs.Actions.{Spot}
+use Rattle.protocol_machine_laws.specs.ChunksAlike.{ChunkSides, IsRoundOpen, AreChunksAlike, NoneEnds, KeepsRounds, moved, Follows}
+use Rattle.protocol_machine_laws.specs.EntrySteps.{StandsNowhereElse, IsOnlyPlace}
+use Rattle.protocol_machine_laws.proofs.Orders.{settled_entries_are_settled}
+use Rattle.protocol_whole_laws.specs.ServerSteps.{is_of_entries, ComesToOrders}
+
+-- rounds and serials of two orders, place by place
+abbrev pub AreNamedAlike : List Placed → List Placed → Type 0
+AreNamedAlike [] [] = Unit {0}
+AreNamedAlike [] (q ∷ qs) = ⊥
+AreNamedAlike (p ∷ ps) [] = ⊥
+AreNamedAlike (p ∷ ps) (q ∷ qs) = (p.entry.round ≡ q.entry.round) × (p.serial ≡ q.serial) × AreNamedAlike ps qs
+
+named_same : (ps : List Placed) → AreNamedAlike ps ps
+named_same [] = tt
+named_same (p ∷ ps) = (refl, refl, named_same ps)
+
+named_on : (ps qs rs : List Placed) → AreNamedAlike ps qs → AreNamedAlike qs rs → AreNamedAlike ps rs
+named_on [] [] [] h g = tt
+named_on [] [] (r ∷ rs) h g = absurd g
+named_on [] (q ∷ qs) rs h g = absurd h
+named_on (p ∷ ps) [] rs h g = absurd h
+named_on (p ∷ ps) (q ∷ qs) [] h g = absurd g
+named_on (p ∷ ps) (q ∷ qs) (r ∷ rs) h g = (h.0 ∙ g.0, h.1 ∙ g.1, named_on ps qs rs h.2 g.2)
+
+named_back : (ps qs : List Placed) → AreNamedAlike ps qs → AreNamedAlike qs ps
+named_back [] [] h = tt
+named_back [] (q ∷ qs) h = absurd h
+named_back (p ∷ ps) [] h = absurd h
+named_back (p ∷ ps) (q ∷ qs) h = (sym h.0, sym h.1, named_back ps qs h.2)
+
+settled_named : (version serial : ℕ) (ps : List Placed) → AreNamedAlike ps (map (settled_as version serial) ps)
+settled_named version serial [] = tt
+settled_named version serial (p ∷ ps) = (
+  on_cond (λ (q : Placed). p.entry.round ≡ q.entry.round) (is_placed_as version serial p) (record p { entry = record p.entry { settled = true } }) p (λ _. refl) (λ _. refl),
+  on_cond (λ (q : Placed). p.serial ≡ q.serial) (is_placed_as version serial p) (record p { entry = record p.entry { settled = true } }) p (λ _. refl) (λ _. refl),
+  settled_named version serial ps,
+)
+
+-- the entry at the same place of the other order
+named_at : (ps qs : List Placed) (place : ℕ) (p : Placed) → AreNamedAlike ps qs → element_at ps place ≡ Some p → (q : Placed) × (element_at qs place ≡ Some q) × (p.entry.round ≡ q.entry.round) × (p.serial ≡ q.serial)
+named_at [] qs place p h at = none_some p at
+named_at (x ∷ ps) [] place p h at = absurd h
+named_at (x ∷ ps) (y ∷ qs) zero p h at = let same = same_some x p at in (y, refl, ap (λ (z : Placed). z.entry.round) (sym same) ∙ h.0, ap (λ (z : Placed). z.serial) (sym same) ∙ h.1)
+named_at (x ∷ ps) (y ∷ qs) (suc place) p h at = named_at ps qs place p h.2 at
+
+pub only_of : (ps qs : List Placed) (version serial place : ℕ) → AreNamedAlike ps qs → IsOnlyPlace ps version serial place → IsOnlyPlace qs version serial place
+only_of ps qs version serial place h only =
+    let it = only.0 in
+    let there = named_at ps qs place it.0 h it.1 in (
+      (there.0, there.1, sym there.2 ∙ it.2, sym there.3 ∙ it.3),
+      λ other q at round serial_is. let old = named_at qs ps other q (named_back ps qs h) at in only.1 other old.0 old.1 (sym old.2 ∙ round) (sym old.3 ∙ serial_is),
+    )
+
+-- what settles alone
+
+abbrev pub IsSettling : Seen → Type 0
+IsSettling (BecameSettled handle version serial) = Unit {0}
+IsSettling other = ⊥
+
+one_named : (trace : List Visible) (orders : Table (List Placed)) (x : Seen) → IsSettling x → (handle : ℕ) → AreNamedAlike (placed_in orders handle) (placed_in (orders_after trace orders x) handle)
+one_named trace orders (Numbered q v n id m) is handle = absurd is
+one_named trace orders (CopyStarted q copy) is handle = absurd is
+one_named trace orders (BecameSettled q v n) is handle = elim (same_or_not handle q.0) [
+  | inl same ↦
+      subst (λ (ps : List Placed). AreNamedAlike ps (placed_in later handle)) (ap (λ (k : ℕ). placed_in orders k) (sym same))
+      (subst (λ (o : Option (List Placed)). AreNamedAlike (placed_in orders q.0) (unwrap_or o [])) (sym (put_there orders q.0 (map (settled_as v.0 n.0) (placed_in orders q.0)) handle same)) (settled_named v.0 n.0 (placed_in orders q.0)))
+  | inr apart ↦ subst (λ (o : Option (List Placed)). AreNamedAlike (placed_in orders handle) (unwrap_or o [])) (sym (put_other orders q.0 (map (settled_as v.0 n.0) (placed_in orders q.0)) handle apart)) (named_same (placed_in orders handle))
+]
+  where
+    later : Table (List Placed)
+    later = orders_after trace orders (BecameSettled q v n)
+
+all_named : (trace : List Visible) (orders : Table (List Placed)) (xs : List Seen) → AllOf IsSettling xs → (handle : ℕ) → AreNamedAlike (placed_in orders handle) (placed_in (orders_after_all trace orders xs) handle)
+all_named trace orders [] all handle = named_same (placed_in orders handle)
+all_named trace orders (x ∷ xs) all handle =
+    named_on (placed_in orders handle) (placed_in (orders_after trace orders x) handle) (placed_in (orders_after_all trace orders (x ∷ xs)) handle) (one_named trace orders x all.0 handle)
+    (all_named trace (orders_after trace orders x) xs all.1 handle)
+
+-- It is settled in a round that is open, and has one entry in the end.
+abbrev pub IsSettlingDue : ChunkSides → Table (List Placed) → Seen → Type 0
+IsSettlingDue k end (BecameSettled handle version serial) =
+    (s : Spot) × IsRoundOpen k handle.0 version.0 s × StandsNowhereElse k handle.0 × (place : ℕ) × IsOnlyPlace (placed_in end handle.0) version.0 serial.0 place
+IsSettlingDue k end other = ⊥
+
+due_settling : (k : ChunkSides) (end : Table (List Placed)) (xs : List Seen) → AllOf (IsSettlingDue k end) xs → AllOf IsSettling xs
+due_settling k end [] all = tt
+due_settling k end (BecameSettled q v n ∷ xs) all = (tt, due_settling k end xs all.1)
+due_settling k end (Numbered q v n id m ∷ xs) all = absurd all.0
+due_settling k end (CopyStarted q copy ∷ xs) all = absurd all.0
+
+-- after actions that keep each round
+pub due_later : (k : ChunkSides) (actions : List Action) (orders end : Table (List Placed)) (xs : List Seen) → KeepsRounds NoneEnds k (moved k actions k.log k.gone orders) → AllOf (IsSettlingDue k end) xs
+    → AllOf (IsSettlingDue (moved k actions k.log k.gone orders) end) xs
+due_later k actions orders end [] keeps all = tt
+due_later k actions orders end (BecameSettled q v n ∷ xs) keeps all =
+    let it = all.0 in (
+      (it.0, elim (keeps q.0 v.0 it.0 it.1) [ | inl none ↦ absurd none | inr still ↦ still ], it.2, it.3, it.4),
+      due_later k actions orders end xs keeps all.1,
+    )
+due_later k actions orders end (Numbered q v n id m ∷ xs) keeps all = absurd all.0
+due_later k actions orders end (CopyStarted q copy ∷ xs) keeps all = absurd all.0
+
+pub takes_nothing : (k : ChunkSides) → AreChunksAlike k → ComesToOrders k k.orders
+takes_nothing k h = record { actions = []; of_entries = refl; follows = record { allowed = tt; keeps = record { alike = h; rounds = λ handle version s was_open. inr was_open } } }
+
+-- one action, and then the others
+pub takes_more : (k : ChunkSides) (orders end : Table (List Placed)) (action : Action) → is_of_entries action ≡ true → Follows NoneEnds k (action ∷ []) (moved k (action ∷ []) k.log k.gone orders)
+    → ComesToOrders (moved k (action ∷ []) k.log k.gone orders) end → ComesToOrders k end
+takes_more k orders end action is first rest = record {
+  actions = action ∷ rest.actions;
+  of_entries = ap (λ (b : Bool). b && list_all is_of_entries rest.actions) is ∙ rest.of_entries;
+  follows = record {
+    allowed = (first.allowed.0, rest.follows.allowed);
+    keeps = record {
+      alike = rest.follows.keeps.alike;
+      rounds = λ handle version s was_open. elim (first.keeps.rounds handle version s was_open) [
+        | inl none ↦ absurd none
+        | inr still ↦ rest.follows.keeps.rounds handle version s still
+      ];
+    };
+  };
+}
+
+-- the machine settles what becomes settled
+pub settles_all : (k : ChunkSides) (trace : List Visible) (xs : List Seen) → AreChunksAlike k → AllOf (IsSettlingDue k (orders_after_all trace k.orders xs)) xs → ComesToOrders k (orders_after_all trace k.orders xs)
+settles_all k trace [] h all = takes_nothing k h
+settles_all k trace (Numbered q v n id m ∷ xs) h all = absurd all.0
+settles_all k trace (CopyStarted q copy ∷ xs) h all = absurd all.0
+settles_all k trace (BecameSettled q v n ∷ xs) h all =
+    takes_more k orders end (Settle s.file s.index place) refl follows
+    (settles_all (moved k (Settle s.file s.index place ∷ []) k.log k.gone orders) trace xs follows.keeps.alike (due_later k (Settle s.file s.index place ∷ []) orders end xs follows.keeps.rounds all.1))
+  where
+    end : Table (List Placed)
+    end = orders_after_all trace k.orders (BecameSettled q v n ∷ xs)
+
+    orders : Table (List Placed)
+    orders = orders_after trace k.orders (BecameSettled q v n)
+
+    s : Spot
+    s = (all.0).0
+
+    place : ℕ
+    place = (all.0).3
+
+    names : AreNamedAlike (placed_in end q.0) (placed_in k.orders q.0)
+    names = named_back (placed_in k.orders q.0) (placed_in end q.0) (all_named trace k.orders (BecameSettled q v n ∷ xs) (tt, due_settling k end xs all.1) q.0)
+
+    follows : Follows NoneEnds k (Settle s.file s.index place ∷ []) (moved k (Settle s.file s.index place ∷ []) k.log k.gone orders)
+    follows = (settled_entries_are_settled k trace q v n s place h (all.0).1 (all.0).2 (only_of (placed_in end q.0) (placed_in k.orders q.0) v.0 n.0 place names (all.0).4)).1
+
+-- serials that are counted have their entries
+
+number_at : (count n : ℕ) → 1 ≤ n → n ≤ count → (i : ℕ) × (element_at (first_numbers count) i ≡ Some n)
+number_at zero n some few = absurd (omega (arith, some, few))
+number_at (suc count) n some few = elim (same_or_not n (suc count)) [
+  | inl same ↦ (length (first_numbers count), last_at (first_numbers count) (suc count) ∙ ap (λ (k : ℕ). Some k) (sym same))
+  | inr other ↦
+      let less : n ≤ count = below n count few other in
+      let before = number_at count n some less in
+      (before.0, kept_place (first_numbers count) (suc count ∷ []) before.0 n before.1)
+]
+  where
+    last_at : (xs : List ℕ) (x : ℕ) → element_at (xs ++ x ∷ []) (length xs) ≡ Some x
+    last_at [] x = refl
+    last_at (y ∷ xs) x = last_at xs x
+
+    below : (a b : ℕ) → a ≤ suc b → (a ≡ suc b → ⊥) → a ≤ b
+    below a b low other = elim (cases_lt b a) [
+      | inl more ↦ absurd (other (omega (arith, low, more)))
+      | inr less ↦ less
+    ]
+
+abbrev HasNamed : List Placed → ℕ → ℕ → Type 0
+HasNamed ps round serial = (place : ℕ) × (p : Placed) × (element_at ps place ≡ Some p) × (p.entry.round ≡ round) × (p.serial ≡ serial)
+
+named_behind : (p : Placed) (ps : List Placed) (round serial : ℕ) → HasNamed ps round serial → HasNamed (p ∷ ps) round serial
+named_behind p ps round serial h = (suc h.0, h.1, h.2, h.3, h.4)
+
+named_entry : (round serial : ℕ) (ps : List Placed) (i : ℕ) → element_at (serials_of round ps) i ≡ Some serial → HasNamed ps round serial
+named_entry round serial [] i at = none_some serial at
+named_entry round serial (p ∷ ps) i at = by_test (p.entry.round == round) refl (λ n there. named_behind p ps round serial (named_entry round serial ps n there)) i at
+  where
+    by_test : (b : Bool) → (p.entry.round == round) ≡ b → ((n : ℕ) → element_at (serials_of round ps) n ≡ Some serial → HasNamed (p ∷ ps) round serial) → (n : ℕ)
+        → element_at (map (λ (q : Placed). q.serial) (cond b (p ∷ filter (λ (q : Placed). q.entry.round == round) ps) (filter (λ (q : Placed). q.entry.round == round) ps))) n ≡ Some serial → HasNamed (p ∷ ps) round serial
+    by_test true is behind zero there = (0, p, refl, eqb-true p.entry.round round is, same_some p.serial serial there)
+    by_test true is behind (suc n) there = behind n there
+    by_test false is behind n there = behind n there
+
+pub counted_entry : (round serial count : ℕ) (ps : List Placed) → serials_of round ps ≡ first_numbers count → 1 ≤ serial → serial ≤ count → HasNamed ps round serial
+counted_entry round serial count ps is some few =
+    let at = number_at count serial some few in
+    named_entry round serial ps at.0 (ap (λ (xs : List ℕ). element_at xs at.0) is ∙ at.1)

@@ -1,0 +1,18 @@
+//! Laws of what clients were told of chunks beside a machine that has the same chunks.
+
+ghost use Rattle.protocol_whole_laws.specs.ToldRounds.{NoRoundIsToldAtFirst, ToldRoundsGoOn, ToldRoundsStayOver};
+
+/// In a new cell nothing was told.
+pub fn no_round_is_told_at_first()
+    ensures { NoRoundIsToldAtFirst }
+{}
+
+/// A told round whose lease is over stays over.
+pub fn told_rounds_stay_over()
+    ensures { ToldRoundsStayOver }
+{}
+
+/// From one world to the next each told round is open in the file's chunk of the told index, or over.
+pub fn told_rounds_go_on()
+    ensures { ToldRoundsGoOn }
+{}
