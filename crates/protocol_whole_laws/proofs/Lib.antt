@@ -1,0 +1,5 @@
+pub mod MasterKept
+pub mod MasterNames
+pub mod MasterSnapshots
+pub mod MasterChunks
+pub mod MasterSteps

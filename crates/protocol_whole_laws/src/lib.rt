@@ -1,0 +1,4 @@
+//! Laws of the whole machine beside a cell, step by step.
+#![tactic(auto)]
+
+pub mod master_steps;
