@@ -1,18 +1,20 @@
 -- What a client was told of its open name call may be its answer.
-use Rattle.std.proofs.Common.{◌≡◌, ℕ, true, refl, sym, subst, inl, inr}
+use Rattle.std.proofs.Common.{◌≡◌, ℕ, suc, Bool, true, false, refl, sym, subst, ap, ◌∙◌, inl, inr}
 use Rattle.std.specs.Prelude.{Contains}
 use Rattle.std.proofs.lemmas.Bool.{true≢false}
+use Rattle.gfs_types.specs.declared.ids.FileId.{FileId}
 use Rattle.gfs_types.specs.declared.call.Call.{Call}
 use Rattle.gfs_types.specs.declared.call.Call.TheVariants as call
 use Rattle.gfs_types.specs.declared.answer.Answer.{Answer}
 use Rattle.gfs_types.specs.declared.answer.Answer.TheVariants as answer
-use Rattle.gfs_types.specs.declared.refusal.Refusal.TheVariants.{Unknown}
+use Rattle.gfs_types.specs.declared.refusal.Refusal.TheVariants.{Unknown, NoMemory}
 use Rattle.messages.specs.declared.message.Body.{Body}
 use Rattle.messages.specs.declared.message.Body.TheVariants as body
 use Rattle.messages.specs.declared.message.NameReply.TheVariants.{Opened, Answered}
 use Rattle.relaxed_file.specs.Machine.{Machine, OpenCall, Replies}
 use Rattle.relaxed_file.specs.NameStep.{is_name_call}
 use Rattle.relaxed_file.specs.Answers.{IsDone, may_give_up, MayReturn}
+use Rattle.protocol_name_laws.specs.Alike.{Requests, IsWaiting}
 use Rattle.protocol_name_laws.specs.Followed.{IsToldTo}
 use Rattle.protocol_name_laws.specs.NameClients.{ToldAnswersAreAllowed, NameCallsMayGiveUp}
 

@@ -1,21 +1,22 @@
 -- A call begins.
-use Rattle.std.proofs.Common.{◌≡◌, ◌⊎◌, ⊎_elim, ℕ, suc, false, List, [], ◌∷◌, Option, Some, None, sym, ap, ◌∙◌, inl, inr}
+use Rattle.std.proofs.Common.{◌≡◌, ◌⊎◌, ⊎_elim, ℕ, suc, false, List, [], ◌∷◌, Option, Some, None, refl, sym, ap, ◌∙◌, inl, inr}
 use Rattle.std.specs.List.{AllByRecursion}
 use Rattle.std.proofs.lemmas.Option.{none-some}
 use Rattle.std.specs.FinMap as table
 use Rattle.gfs_types.specs.declared.call.Call.{Call}
 use Rattle.messages.specs.declared.message.Body.{Body}
 use Rattle.messages.specs.declared.message.Body.TheVariants as body
-use Rattle.relaxed_file.specs.Machine.{Machine, Client, OpenCall, put}
+use Rattle.messages.specs.declared.message.Message.{Message}
+use Rattle.relaxed_file.specs.Machine.{Machine, Client, OpenCall, IsOpen, put}
 use Rattle.relaxed_file.specs.Run.{Invoke, after, asked_now}
 use Rattle.relaxed_file.proofs.Tables.{put_is, put_other, from_some}
 use Rattle.protocol.specs.Sending.{client_number}
-use Rattle.protocol.specs.Logged.{Logged}
+use Rattle.protocol.specs.Logged.{Logged, KeptCall}
 use Rattle.protocol.specs.Master.{PendingSnapshot}
 use Rattle.protocol_name_laws.specs.Alike.{Requests, IsWaiting, HoldsLocks, AreAlike}
 use Rattle.protocol_name_laws.proofs.OpenCalls.{same_or_not}
-use Rattle.protocol_name_laws.specs.Followed.{IsToldTo}
-use Rattle.protocol_name_laws.specs.NameClients.{with_request, IsUnkept, IsOfOther, CallsBegin}
+use Rattle.protocol_name_laws.specs.Followed.{IsTold, IsToldTo}
+use Rattle.protocol_name_laws.specs.NameClients.{with_request, IsUnkept, IsOfOther, StaysTold, CallsBegin}
 
 module _ (m : Machine) (requests : Requests) (client : ℕ) (number : Option ℕ) (c : Call) where
   abbrev n : Machine

@@ -1,5 +1,5 @@
 -- A call is answered, and the clock goes on.
-use Rattle.std.proofs.Common.{◌≡◌, ⊎_elim, ℕ, suc, Bool, true, false, cond, List, [], ◌∷◌, Some, None, refl, sym, ap, subst, ◌∙◌}
+use Rattle.std.proofs.Common.{◌≡◌, ⊎_elim, ℕ, suc, Bool, true, false, cond, List, [], ◌∷◌, Option, Some, None, refl, sym, ap, subst, ◌∙◌}
 use Rattle.std.specs.Prelude.{◌==◌, not, filter}
 use Rattle.std.specs.List.{AllByRecursion}
 use Rattle.std.proofs.lemmas.Option.{none-some}
@@ -7,6 +7,7 @@ use Rattle.std.proofs.lemmas.Bool.{true≢false, eq-eqb}
 use Rattle.gfs_types.specs.declared.answer.Answer.{Answer}
 use Rattle.messages.specs.declared.message.Body.{Body}
 use Rattle.messages.specs.declared.message.Body.TheVariants as body
+use Rattle.messages.specs.declared.message.Message.{Message}
 use Rattle.relaxed_file.specs.Machine.{Machine, Client, FileState, OpenCall, put}
 use Rattle.relaxed_file.specs.Answers.{descriptors_after, returned, returned_fd}
 use Rattle.relaxed_file.specs.Run.{Action, Return, ReturnFd, Pass, Allows, after}
@@ -16,8 +17,8 @@ use Rattle.protocol.specs.Logged.{Logged}
 use Rattle.protocol.specs.Master.{PendingSnapshot}
 use Rattle.protocol_name_laws.specs.Alike.{Requests, is_there, IsWaiting, HoldsLocks, AreAlike}
 use Rattle.protocol_name_laws.proofs.OpenCalls.{same_or_not, waits_still, all_still}
-use Rattle.protocol_name_laws.specs.Followed.{IsToldTo}
-use Rattle.protocol_name_laws.specs.NameClients.{IsAnswerTo, AnswersEndCalls, MomentsPass}
+use Rattle.protocol_name_laws.specs.Followed.{IsTold, IsToldTo}
+use Rattle.protocol_name_laws.specs.NameClients.{IsAnswerTo, StaysTold, AnswersEndCalls, MomentsPass}
 
 -- the client's call is over, and nothing else of names
 record IsOver (m n : Machine) (client : ℕ) : Type 0 where

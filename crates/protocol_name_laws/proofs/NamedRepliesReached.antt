@@ -1,6 +1,6 @@
 -- In each reached world: who asked for what a step of the master answers.
-use Rattle.std.proofs.Common.{◌⊎◌, ℕ, zero, suc, List, [], ◌∷◌, refl, inl, inr, arith}
-use Rattle.std.specs.Prelude.{max, nat_lt, filter, Contains}
+use Rattle.std.proofs.Common.{◌≡◌, ◌⊎◌, ℕ, zero, suc, ◌<◌, Bool, List, [], ◌∷◌, Some, refl, inl, inr, arith}
+use Rattle.std.specs.Prelude.{max, nat_lt, filter, cond, Contains, IsTrue}
 use Rattle.std.specs.List.{AllByRecursion}
 use Rattle.messages.specs.declared.event.Input.{Input}
 use Rattle.messages.specs.declared.event.Input.TheVariants as input

@@ -1,5 +1,5 @@
 -- What became of a Name, by its three cases.
-use Rattle.std.proofs.Common.{◌≡◌, ⊎_elim, ℕ, ◌≤◌, List, [], ◌∷◌, Option, Some, sym, ap, subst, ◌∙◌, inl, inr, arith}
+use Rattle.std.proofs.Common.{◌≡◌, ⊎_elim, ℕ, ◌+◌, ◌-◌, ◌≤◌, ◌<◌, List, [], ◌∷◌, Option, Some, refl, sym, ap, subst, ◌∙◌, inl, inr, arith}
 use Rattle.std.specs.Prelude.{Contains}
 use Rattle.std.specs.FinMap as table
 use Rattle.gfs_types.specs.declared.config.Config.{Config}
@@ -9,7 +9,7 @@ use Rattle.relaxed_file.proofs.Tables.{from_some}
 use Rattle.protocol.specs.Tables.{Table}
 use Rattle.protocol.specs.Logged.{KeptCall}
 use Rattle.protocol_name_laws.specs.Alike.{Requests, IsWaiting}
-use Rattle.protocol_name_laws.specs.Followed.{AreKeptOn}
+use Rattle.protocol_name_laws.specs.Followed.{RunsTo, AreKeptOn}
 use Rattle.unseen_runs.specs.Laws.{IsSameCall, AreLeft}
 use Rattle.unseen_runs.proofs.Unseen.{unseen_runs_leave_clients}
 use Rattle.protocol_name_laws.specs.OpenRequests.{IsOldOrOpen, AreNotLater, OldOrOpenNamesAreRequests, NamesStayOldOrOpen, AnsweredNamesAreKept}

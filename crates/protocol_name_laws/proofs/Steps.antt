@@ -1,8 +1,9 @@
 -- A step of a client whose name call is open, by what comes in.
-use Rattle.std.proofs.Common.{◌≡◌, ◌⊎◌, ℕ, suc, ◌+◌, Bool, true, false, cond, Option, Some, None, refl, sym, ap, subst, ◌∙◌, inl, inr}
+use Rattle.std.proofs.Common.{◌≡◌, ◌⊎◌, ℕ, suc, ◌+◌, ◌≤◌, Bool, true, false, cond, Option, Some, None, refl, sym, ap, subst, ◌∙◌, inl, inr}
 use Rattle.std.specs.Prelude.{◌==◌, nat_lt, max}
 use Rattle.std.proofs.lemmas.Bool.{eqb-true, ltb-false}
 use Rattle.std.specs.FinMap as table
+use Rattle.gfs_types.specs.declared.call.Call.{Call}
 use Rattle.gfs_types.specs.declared.answer.Answer.TheVariants as answer
 use Rattle.gfs_types.specs.declared.refusal.Refusal.TheVariants.{Unknown}
 use Rattle.messages.specs.declared.event.Input.{Input}
@@ -20,8 +21,8 @@ use Rattle.protocol.specs.Sending.{moment_of}
 use Rattle.protocol.specs.Client.{ClientState, ClientDoing, client_begins, answers}
 use Rattle.protocol.specs.ClientAttempts.{attempts_names, ended, is_last_attempt}
 use Rattle.protocol.specs.ClientTakes.{takes_reply, client_takes}
-use Rattle.protocol.specs.ClientStep.{client_at, client_does, takes_at, ticks_at, ticks_names, new_call, calls_names, calls_on, fd_of}
-use Rattle.protocol_name_laws.specs.NameAnswers.{IsWaiting, IsOver, NameCallsBegin, NameCallsAreAnsweredAsTold}
+use Rattle.protocol.specs.ClientStep.{client_at, client_goes, client_call_goes, client_does, takes_at, ticks_at, ticks_names, new_call, calls_names, calls_on, fd_of}
+use Rattle.protocol_name_laws.specs.NameAnswers.{IsWaiting, Tells, IsOver, NameCallsBegin, NameCallsAreAnsweredAsTold}
 
 on_test : {A : Type 0} (P : A → Type 0) (b : Bool) (x y : A) → (b ≡ true → P x) → (b ≡ false → P y) → P (cond b x y)
 on_test P true x y f g = f refl

@@ -1,8 +1,8 @@
 -- A step of the master leaves the snapshots that wait unrefused, in each of its parts.
-use Rattle.std.proofs.Common.{◌≡◌, ℕ, Bool, true, false, cond, max, List, [], ◌∷◌, ◌++◌, Option, Some, None, refl, sym, ap, subst, ◌∙◌, inl, inr}
-use Rattle.std.specs.Prelude.{◌==◌, nat_lt, nat_le, not, filter, map}
-use Rattle.std.specs.List.{AllByRecursion}
-use Rattle.std.proofs.lemmas.Bool.{or_right, and_parts}
+use Rattle.std.proofs.Common.{◌≡◌, ⊎_elim, ℕ, Bool, true, false, cond, max, List, [], ◌∷◌, ◌++◌, Option, Some, None, refl, sym, ap, subst, ◌∙◌, inl, inr}
+use Rattle.std.specs.Prelude.{◌==◌, ◌&&◌, nat_lt, nat_le, not, filter, map}
+use Rattle.std.specs.List.{AllByRecursion, list_any}
+use Rattle.std.proofs.lemmas.Bool.{true≢false, or_right, and_parts}
 use Rattle.std.specs.FinMap as table
 use Rattle.gfs_types.specs.declared.call.Call.{Call}
 use Rattle.gfs_types.specs.declared.call.Call.TheVariants as call
@@ -16,19 +16,20 @@ use Rattle.messages.specs.declared.message.Body.TheVariants as body
 use Rattle.messages.specs.declared.message.Message.{Message}
 use Rattle.log_records.specs.declared.record.Record.{Record}
 use Rattle.log_records.specs.declared.record.Record.TheVariants as log
-use Rattle.relaxed_file.specs.Names.{Names, Node, Dir, File, copied_entries, with_copies}
+use Rattle.relaxed_file.specs.Names.{Names, Node, Dir, File, node_at, copied_entries, with_copies}
 use Rattle.relaxed_file.specs.NameStep.{first_refusal, path_tests, name_tests, needs_room, refusal_of, is_in_trash}
 use Rattle.relaxed_file.proofs.NamesTree.{HasAt, entry_is, passed}
 use Rattle.std.specs.Str.{bytes_eq}
-use Rattle.chunk_table.specs.ChunkTable.{chunk_of}
-use Rattle.protocol.specs.Sending.{client_id, client_number, file_id, moment_of, server_number}
-use Rattle.protocol.specs.Logged.{KeptCall, after_record, without_file}
-use Rattle.protocol.specs.Master.{MasterState, MasterDoing, PendingSnapshot, master_begins, without_attempts, gives_up_copies, appends, writes_checkpoint, logs}
-use Rattle.protocol.specs.MasterNames.{snapshot_call, is_busy, master_refusal, performs, names_by, is_waiting_call, names_anew, names_kept, takes_name}
-use Rattle.protocol.specs.MasterSnapshots.{answers_name, settles_name, refuses_name, first_is_true, all_but_first, changes_names, takes_locks, begins_snapshot, snapshot_handles, snapshot_files, copies_for_files, is_same_snapshot, lets_go, takes_snapshot, takes_ready, is_ready}
-use Rattle.protocol.specs.MasterClones.{best_clone}
+use Rattle.chunk_table.specs.ChunkTable.{ChunkRow, chunk_of}
+use Rattle.protocol.specs.Sending.{client_id, client_number, file_id, handle_of, version_of, moment_of, server_number}
+use Rattle.protocol.specs.LogSizes.{checkpoint_fits}
+use Rattle.protocol.specs.Logged.{Logged, LogDisk, LogChange, KeptCall, Copy, after_record, checkpoint_of, without_file, swapped_in}
+use Rattle.protocol.specs.Master.{MasterState, MasterDoing, PendingSnapshot, master_begins, tells, orders, without_attempts, gives_up_copies, fits, appends, writes_checkpoint, logs, logs_after_checkpoint, is_of_copy, has_lease}
+use Rattle.protocol.specs.MasterNames.{snapshot_call, is_busy, master_refusal, takes_look, performs, names_by, is_waiting_call, names_anew, names_kept, takes_name}
+use Rattle.protocol.specs.MasterSnapshots.{answers_name, settles_name, refuses_name, first_is_true, all_but_first, changes_names, takes_locks, begins_snapshot, snapshot_handles, snapshot_files, copies_for_files, revokes_row, revokes, revokes_all, is_same_snapshot, lets_go, takes_snapshot, takes_ready, is_ready, live_snapshots}
+use Rattle.protocol.specs.MasterClones.{CloneOrder, best_clone, orders_clone, clones_next}
 use Rattle.protocol.specs.MasterReports.{holds_now}
-use Rattle.protocol.specs.MasterStep.{master_takes, master_does, master_at, master_ticks, gives_up_attempts, gives_up_lost_copies, is_old, old_file, before_none, expired_files, expires_all, expires_old}
+use Rattle.protocol.specs.MasterStep.{master_takes, master_does, master_at, master_goes, master_ticks, gives_up_attempts, gives_up_lost_copies, hidden_names, is_old, old_file, before_none, expired_files, expires_all, expires_old}
 use Rattle.snapshot_locks.proofs.Unrefused.{names_done}
 use Rattle.protocol_name_laws.specs.WaitingSnapshots.{PassEachOther, AllPassEachOther, AreUnrefused, HasNoSecondName, StepsLeaveSnapshotsUnrefused}
 use Rattle.protocol_name_laws.proofs.Chunks.{Holds, logs_holds, revokes_all_holds, clone_holds, ask_holds, learns_holds, revoked_holds, report_holds}
