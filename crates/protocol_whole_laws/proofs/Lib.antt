@@ -1,6 +1,11 @@
 pub mod Decided
 pub mod EndedRounds
-pub mod Settlements
-pub mod ServerSteps
+pub mod MasterChunks
+pub mod MasterKept
+pub mod MasterNames
+pub mod MasterSnapshots
+pub mod MasterSteps
 pub mod PassedRounds
+pub mod ServerSteps
+pub mod Settlements
 pub mod ToldRounds

@@ -1,3 +1,4 @@
+pub mod MasterSteps
 pub mod Rounds
 pub mod ServerSteps
 pub mod ToldRounds

@@ -1,6 +1,7 @@
-//! Laws of the whole machine beside a cell, from each world to the next.
+//! Laws of the whole machine beside a cell: its steps, and from each world to the next.
 #![tactic(auto)]
 
+pub mod master_steps;
 pub mod rounds;
 pub mod server_steps;
 pub mod told_rounds;
