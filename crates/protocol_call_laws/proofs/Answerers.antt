@@ -43,17 +43,7 @@ use Rattle.messages.specs.declared.message.Location.{Location}
 use Rattle.protocol_step_laws.proofs.Locations.{locations_name_current_holders}
 use Rattle.protocol_call_laws.proofs.MasterRefusals.{is_no_answer, IsTakenAsk, master_refuses_asks}
 use Rattle.protocol_call_laws.specs.ToldIndexes.{IsIndexOf, IsAskOf, LocationsAnswerTheirAsk}
-
--- this client asked under this number
-pub record HasAsk (sent : List Message) (asker : Node) (number : ℕ) : Type 0 where
-  pub ask : Message
-  pub file : FileId
-  pub what : Wanted
-  pub deadline : Moment
-  pub lost : Bool
-  pub sent_is : IsAmong sent ask
-  pub sender_is : ask.sender ≡ asker
-  pub body_is : ask.body ≡ body.Ask number file what deadline lost
+use Rattle.protocol_call_laws.specs.RefusedAsks.{HasAsk, RefusalsOfTheMasterAnswerAnAsk}
 
 -- and a location of this index answers it
 pub record HasAskOf (sent : List Message) (asker : Node) (number index : ℕ) : Type 0 where
@@ -234,3 +224,10 @@ pub locations_answer_their_ask : LocationsAnswerTheirAsk
 locations_answer_their_ask config servers clients w r place number m l at is =
     let h = told_as_asked config servers clients w r place number m l at is in
     record { ask = h.asked.ask; file = h.asked.file; what = h.asked.what; deadline = h.asked.deadline; lost = h.asked.lost; sent_is = h.asked.sent_is; sender_is = h.asked.sender_is; body_is = h.asked.body_is; index_is = h.index_is }
+
+pub refusals_of_the_master_answer_an_ask : RefusalsOfTheMasterAnswerAnAsk
+refusals_of_the_master_answer_an_ask config servers clients w r place number m refusal at sender is =
+    elim (subst (λ (b : Body). IsAnswered w.sent m.sender m.receiver b) is (answered_reached config servers clients w r place m at)) [
+      | inl from ↦ absurd (let both : the_server from.0 ≡ node.Master = sym from.1 ∙ sender in cc)
+      | inr asked ↦ asked
+    ]

@@ -14,3 +14,5 @@ pub mod KeptIndexes
 pub mod AskedIndexes
 pub mod UsedIndexes
 pub mod AskedParts
+pub mod PastChunks
+pub mod FullBefore

@@ -5,3 +5,6 @@ pub mod OpenCalls
 pub mod AnsweredWrites
 pub mod BoundedCalls
 pub mod ToldIndexes
+pub mod RefusedAsks
+pub mod EarlierParts
+pub mod FullBefore

@@ -50,6 +50,7 @@ pub mod FreeSources
 pub mod AskedSteps
 pub mod CopiedSources
 pub mod PlacesKept
+pub mod PlacesTaken
 pub mod ToldAnswers
 pub mod ReplacedChunks
 pub mod MasterRows
