@@ -1,0 +1,6 @@
+pub mod ClientCaches
+pub mod ReadPieces
+pub mod Parts
+pub mod FileWalk
+pub mod MachineSteps
+pub mod FileSteps

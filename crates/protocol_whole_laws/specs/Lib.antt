@@ -1,0 +1,3 @@
+pub mod FileClients
+pub mod FileCallsBegin
+pub mod FileSteps

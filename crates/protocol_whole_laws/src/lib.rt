@@ -1,0 +1,5 @@
+//! Laws of the whole relaxed-file machine beside a cell.
+#![tactic(auto)]
+
+pub mod file_calls_begin;
+pub mod file_steps;
