@@ -1,11 +1,17 @@
+pub mod ClientCaches
 pub mod Decided
 pub mod EndedRounds
+pub mod FileSteps
+pub mod FileWalk
+pub mod MachineSteps
 pub mod MasterChunks
 pub mod MasterKept
 pub mod MasterNames
 pub mod MasterSnapshots
 pub mod MasterSteps
+pub mod Parts
 pub mod PassedRounds
+pub mod ReadPieces
 pub mod ServerSteps
 pub mod Settlements
 pub mod ToldRounds

@@ -1,3 +1,6 @@
+pub mod FileCallsBegin
+pub mod FileClients
+pub mod FileSteps
 pub mod MasterSteps
 pub mod Rounds
 pub mod ServerSteps

@@ -1,6 +1,8 @@
 //! Laws of the whole machine beside a cell: its steps, and from each world to the next.
 #![tactic(auto)]
 
+pub mod file_calls_begin;
+pub mod file_steps;
 pub mod master_steps;
 pub mod rounds;
 pub mod server_steps;
