@@ -3,3 +3,10 @@ pub mod MasterNames
 pub mod MasterSnapshots
 pub mod MasterChunks
 pub mod MasterSteps
+pub mod SoundLogs
+pub mod RecordTimes
+pub mod RecordDues
+pub mod GrantedRecords
+pub mod WholeSteps
+pub mod WholeStops
+pub mod WholeLogs

@@ -1,1 +1,4 @@
 pub mod MasterSteps
+pub mod RecordDues
+pub mod GrantedRecords
+pub mod WholeSteps

@@ -2,3 +2,5 @@
 #![tactic(auto)]
 
 pub mod master_steps;
+pub mod record_dues;
+pub mod whole_steps;
