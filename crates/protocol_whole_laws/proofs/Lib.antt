@@ -3,6 +3,7 @@ pub mod Decided
 pub mod EndedRounds
 pub mod FileSteps
 pub mod FileWalk
+pub mod GrantedRecords
 pub mod MachineSteps
 pub mod MasterChunks
 pub mod MasterKept
@@ -12,6 +13,12 @@ pub mod MasterSteps
 pub mod Parts
 pub mod PassedRounds
 pub mod ReadPieces
+pub mod RecordDues
+pub mod RecordTimes
 pub mod ServerSteps
 pub mod Settlements
+pub mod SoundLogs
 pub mod ToldRounds
+pub mod WholeLogs
+pub mod WholeSteps
+pub mod WholeStops

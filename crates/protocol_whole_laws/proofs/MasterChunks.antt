@@ -157,7 +157,7 @@ index_found q (x ∷ hs) start found is = by_test (x == q) refl is (λ now. inde
     by_test true e now later = (zero, ap (λ (y : ℕ). Some y) (eqb-true x q e))
     by_test false e now later = let rest = later now in (suc rest.0, rest.1)
 
-all_references : (t : ChunkTable) → AreCounted t → HasAllReferences t
+pub all_references : (t : ChunkTable) → AreCounted t → HasAllReferences t
 all_references t h = (λ q row is. sym (ap references_of is) ∙ h q, λ q some. by_row q some (chunk_of t q) refl)
   where
     by_row : (q : ℕ) → 1 ≤ times_in t.files q → (o : Option ChunkRow) → chunk_of t q ≡ o → is_some (chunk_of t q) ≡ true

@@ -159,7 +159,7 @@ change_taken d (WriteCheckpoint items) k a b is h named change due =
 
 module _ (requests : Requests) (first_names : Machine) (start : LogDisk) (later first : Machine) (orders : Table (List Placed)) where
   all_taken : (changes : List LogChange) (d : LogDisk) (k : ChunkSides) (n : Machine) → LeadsTo first k.machine → k.orders ≡ orders → IsWhole k n → k.log ≡ log_read d → HasNamesOf k.log n → NameTrail requests first_names start d n changes later
-      → AreChangesDue first orders d changes → WholeTrail d k changes later
+      → AreChangesDue first orders d changes → WholeTrail requests first_names start d k changes later
   all_taken [] d k n led same_orders h is named trail due = quiet_runs_are_taken k n later h trail
   all_taken (x ∷ rest) d k n led same_orders h is named trail due =
       let a : Machine = trail.0 in
@@ -172,7 +172,7 @@ module _ (requests : Requests) (first_names : Machine) (start : LogDisk) (later 
       let j : ChunkSides = taken.j in
       let named2 : HasNamesOf j.log b = subst (λ (l : Logged). HasNamesOf l b) (sym taken.is_log) (((trail.4).alike).names, ((trail.4).alike).next) in
       let led2 : LeadsTo first j.machine = leads_then first k1.machine j.machine (taken.comes).actions led1 (taken.comes).lawful (taken.comes).leads in
-      (a, b, quiet.0, j, quiet.1, taken.comes, taken.is_log, taken.same_orders, taken.opened, all_taken rest (log_changed d x) j b led2 (taken.same_orders ∙ same_orders) (taken.comes).whole taken.is_log named2 trail.5 due.1)
+      (j, quiet.0, a, b, record { quiet = quiet.1; comes = taken.comes; log = taken.is_log; orders = taken.same_orders; opened = taken.opened; beside = trail.4 }, all_taken rest (log_changed d x) j b led2 (taken.same_orders ∙ same_orders) (taken.comes).whole taken.is_log named2 trail.5 due.1)
 
 pub changes_are_taken : ChangesAreTaken
 changes_are_taken requests first start d changes k n later h is named trail due = all_taken requests first start later k.machine k.orders changes d k n ([], tt, refl) refl h is named trail due

@@ -1,7 +1,10 @@
 pub mod FileCallsBegin
 pub mod FileClients
 pub mod FileSteps
+pub mod GrantedRecords
 pub mod MasterSteps
+pub mod RecordDues
 pub mod Rounds
 pub mod ServerSteps
 pub mod ToldRounds
+pub mod WholeSteps

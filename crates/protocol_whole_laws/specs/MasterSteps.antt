@@ -17,7 +17,7 @@ use Rattle.protocol_laws.specs.Laws.{HasAllReferences, times_in}
 use Rattle.protocol_name_laws.specs.Names.{HasNamesOf}
 use Rattle.protocol_name_laws.specs.Alike.{Requests}
 use Rattle.protocol_name_laws.specs.NameSteps.{AreNamedFilesThere}
-use Rattle.protocol_name_laws.specs.NameTrails.{log_read, RunsQuietly, IsChangeOf, NameTrail}
+use Rattle.protocol_name_laws.specs.NameTrails.{log_read, RunsQuietly, IsChangeOf, IsBesideLog, NameTrail}
 use Rattle.protocol_invariant.specs.Actions.{Spot}
 use Rattle.protocol_machine_laws.specs.ChunksAlike.{ChunkSides, StandsAt, IsRoundOpen, AreChunksAlike, KeepsRounds, NoneEnds}
 use Rattle.protocol_machine_laws.specs.ChunkRecords.{IsUnused, StandsAlone, IsCopyDue, AreFilesOnce, StandsIn, AreFilesThere, gone_after}
@@ -130,16 +130,24 @@ AreChangesDue first orders d (x ∷ rest) =
     ((k : ChunkSides) (n : Machine) → LeadsTo first k.machine → k.log ≡ log_read d → k.orders ≡ orders → IsWhole k n → IsChangeDue d k x)
     × AreChangesDue first orders (log_changed d x) rest
 
--- The whole machine beside the log along its changes: after each it is beside the log as it was read then.
-abbrev pub WholeTrail : LogDisk → ChunkSides → List LogChange → Machine → Type 0
-WholeTrail d k [] n = (m : Machine) × Comes NoneEnds k (record k { machine = m }) n
-WholeTrail d k (x ∷ rest) n =
-    (a b m : Machine) × (j : ChunkSides) × Comes NoneEnds k (record k { machine = m }) a × Comes (EndsAtChange d x) (record k { machine = m }) j b
-    × (j.log ≡ log_read (log_changed d x)) × (j.orders ≡ k.orders) × HasOpenedAt j x × WholeTrail (log_changed d x) j rest n
+-- The whole machine after a change, at the sides j, with the machine by names alone at a and then at b: it was at the machine m before the change.
+pub record IsTaken (requests : Requests) (first : Machine) (start d : LogDisk) (k j : ChunkSides) (m a b : Machine) (x : LogChange) : Type 0 where
+  pub quiet : Comes NoneEnds k (record k { machine = m }) a
+  pub comes : Comes (EndsAtChange d x) (record k { machine = m }) j b
+  pub log : j.log ≡ log_read (log_changed d x)
+  pub orders : j.orders ≡ k.orders
+  pub opened : HasOpenedAt j x
+  pub beside : IsBesideLog requests first start (log_changed d x) b
+
+-- The whole machine along changes of a log: after each it is beside the log as it is read then.
+abbrev pub WholeTrail : Requests → Machine → LogDisk → LogDisk → ChunkSides → List LogChange → Machine → Type 0
+WholeTrail requests first start d k [] n = (m : Machine) × Comes NoneEnds k (record k { machine = m }) n
+WholeTrail requests first start d k (x ∷ rest) n =
+    (j : ChunkSides) × (m a b : Machine) × IsTaken requests first start d k j m a b x × WholeTrail requests first start (log_changed d x) j rest n
 
 -- Where the machine by names alone goes along the changes of a step, and each is due, the whole machine goes along them too.
 abbrev pub ChangesAreTaken : Type 0
 ChangesAreTaken =
     (requests : Requests) (first : Machine) (start d : LogDisk) (changes : List LogChange) (k : ChunkSides) (n later : Machine)
     → IsWhole k n → k.log ≡ log_read d → HasNamesOf k.log n → NameTrail requests first start d n changes later → AreChangesDue k.machine k.orders d changes
-    → WholeTrail d k changes later
+    → WholeTrail requests first start d k changes later

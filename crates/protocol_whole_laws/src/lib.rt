@@ -4,6 +4,8 @@
 pub mod file_calls_begin;
 pub mod file_steps;
 pub mod master_steps;
+pub mod record_dues;
 pub mod rounds;
 pub mod server_steps;
 pub mod told_rounds;
+pub mod whole_steps;

@@ -1,0 +1,28 @@
+//! Laws of the whole machine beside a whole step of the master in a reached world, its stops and its restarts.
+
+ghost use Rattle.protocol_whole_laws.specs.WholeSteps.{EndsAreReached, MasterStepsAreTaken, RestartsAreTaken, StatesHaveTheirLogsFiles, StopsAreTaken};
+
+/// A step of the master: the whole machine follows each change of its log, where calls asked for the chunks that are added and copies follow their sources.
+pub fn master_steps_are_taken()
+    ensures { MasterStepsAreTaken }
+{}
+
+/// Where the step stops, the whole machine is beside the log that is left.
+pub fn stops_are_taken()
+    ensures { StopsAreTaken }
+{}
+
+/// Where the step goes through, it is beside the log in the end, and what was granted is open, but for chunks whose rounds may end later in the step.
+pub fn ends_are_reached()
+    ensures { EndsAreReached }
+{}
+
+/// At a restart it is beside each log that the opening makes.
+pub fn restarts_are_taken()
+    ensures { RestartsAreTaken }
+{}
+
+/// The master's state and its log have the same files, and so has the log without copies under way.
+pub fn states_have_their_logs_files()
+    ensures { StatesHaveTheirLogsFiles }
+{}
