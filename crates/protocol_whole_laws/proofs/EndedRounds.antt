@@ -36,7 +36,7 @@ use Rattle.protocol_step_laws.specs.Versions.{IsLeaseOver, AreLeasesOver}
 use Rattle.protocol_step_laws.specs.NewCopies.{HasNoLease}
 use Rattle.protocol_step_laws.proofs.EndedLeases.{attempted_chunks_have_no_lease}
 use Rattle.protocol_step_laws.proofs.Unleased.{new_copies_have_no_lease}
-use Rattle.protocol_step_laws.proofs.LeasesStayOver.{reached_later}
+use Rattle.protocol_step_laws.proofs.LeasesStayOver.{reached_later, leases_stay_over}
 use Rattle.protocol_step_laws.proofs.Histories.{step_grown, stood_before}
 use Rattle.protocol_step_laws.proofs.Events.{IsGiven, HoldsAfter, holds_after}
 use Rattle.protocol_version_laws.proofs.ClosedVersions.{clocks_before}
@@ -45,11 +45,11 @@ use Rattle.protocol_version_laws.proofs.ExtendLaws.{restart_silent}
 use Rattle.protocol_version_laws.proofs.SharedChunks.{quiet_sent, shared_chunks_have_no_lease, shared_chunks_in_the_log_have_no_lease}
 use Rattle.protocol_replica_laws.proofs.CopiedOrders.{copies_under_way_are_not_granted}
 use Rattle.protocol_invariant.specs.Actions.{Spot}
-use Rattle.protocol_machine_laws.specs.ChunksAlike.{ChunkSides, StandsAt, StoodAt, IsRoundOpen, AreChunksAlike}
+use Rattle.protocol_machine_laws.specs.ChunksAlike.{ChunkSides, StandsAt, StoodAt, IsRoundOpen, AreChunksAlike, KeepsRounds, HasRounds}
 use Rattle.protocol_machine_laws.specs.EntrySteps.{StandsNowhereElse}
 use Rattle.protocol_machine_laws.specs.OpenRounds.{NewRoundsAreOpen}
 use Rattle.protocol_machine_laws.proofs.Sides.{gone_or_there}
-use Rattle.protocol_machine_laws.proofs.OpenRounds.{rounds_go_with_leases, chunks_of_one_owner_stand_once}
+use Rattle.protocol_machine_laws.proofs.OpenRounds.{chunks_of_one_owner_stand_once}
 use Rattle.protocol_whole_laws.specs.Rounds.{log_as, IsLogOf, IsMastersStep, IsTried, IsCopied, IsCopy, IsBegun, IsShared, IsEnded, SentGrantsAreOpen, EachEventKeepsRounds, OtherEventsKeepRounds, SharedChunksInEachLogHaveNoLease, LeasedChunksStandOnce, OpenRoundsHaveOneSpot, EndedRoundsAreOver}
 use Rattle.protocol_whole_laws.proofs.Decided.{IsDecided, decided_world, over_in, counted_in_each}
 
@@ -126,6 +126,45 @@ open_rounds_have_one_spot k h handle version other s t nowhere first second = by
     by_places (inr stood) (inl there) = absurd (gone_or_there k h handle t there s stood)
     by_places (inr stood) (inr too) = same_some s t (sym stood.0 ∙ too.0)
 
+-- from one world to the next
+
+module _ (config : Config) (servers clients : ℕ) (w : WorldState) (r : IsReached config servers clients w) (e : Event) (choice : Choice) (clocks : IsTrue (happens w e choice).world.observer.are_clocks_kept) where
+  abbrev next : WorldState
+  next = (happens w e choice).world
+
+  still_over : (handle version : ℕ) → 1 ≤ grants_of handle version w.sent → IsLeaseOver w handle version → IsLeaseOver next handle version
+  still_over handle version granted over = leases_stay_over config servers clients w r handle version granted over ((e, choice) ∷ []) clocks
+
+  pub ended_before : (handle : ℕ) → AreLeasesOver w handle → IsEnded w next handle
+  ended_before handle over version granted = still_over handle version granted (over version)
+
+  module _ (k j : ChunkSides) (has : HasRounds (IsLeaseOver w) k) (keeps : KeepsRounds (IsEnded w next) k j) (new : NewRoundsAreOpen w next j) where
+    abbrev Goes : ℕ → ℕ → Type 0
+    Goes handle version = IsLeaseOver next handle version ⊎ ((s : Spot) × IsRoundOpen j handle version s)
+
+    open_still : (handle version : ℕ) → 1 ≤ grants_of handle version w.sent → (s : Spot) → IsRoundOpen k handle version s → Goes handle version
+    open_still handle version granted s was_open = elim (keeps handle version s was_open) [
+      | inl ended ↦ inl (ended version granted)
+      | inr still ↦ inr (s, still)
+    ]
+
+    granted_before : (handle version : ℕ) → 1 ≤ grants_of handle version w.sent → Goes handle version
+    granted_before handle version granted = elim (has handle version) [
+      | inl over ↦ inl (still_over handle version granted over)
+      | inr was_open ↦ open_still handle version granted was_open.0 was_open.1
+    ]
+
+    by_before : (handle version : ℕ) → 1 ≤ grants_of handle version next.sent → (count : ℕ) → grants_of handle version w.sent ≡ count → Goes handle version
+    by_before handle version some zero is = inr (new handle version is some)
+    by_before handle version some (suc count) is = granted_before handle version (omega (arith, is))
+
+    by_count : (handle version : ℕ) (count : ℕ) → grants_of handle version next.sent ≡ count → Goes handle version
+    by_count handle version zero is = inl (ungranted_is_over config servers clients next (reached_later config servers clients w ((e, choice) ∷ []) r) handle version is)
+    by_count handle version (suc count) is = by_before handle version (omega (arith, is)) (grants_of handle version w.sent) refl
+
+    rounds_go : HasRounds (IsLeaseOver next) j
+    rounds_go handle version = by_count handle version (grants_of handle version next.sent) refl
+
 -- an event that is no step of the master
 
 pub masters_input : (w : WorldState) (e : Event) (moment : ℕ) (i : Input) → IsGiven w e node.Master moment i → IsMastersStep w e
@@ -159,7 +198,7 @@ module _ (w : WorldState) (handle version : ℕ) where
 
 pub other_events_keep_rounds : OtherEventsKeepRounds
 other_events_keep_rounds config servers clients w r e choice clocks not k j has keeps =
-    rounds_go_with_leases config servers clients w r e choice clocks k j has keeps
+    rounds_go config servers clients w r e choice clocks k j has keeps
     (λ handle version none some. let few = holds_after w (λ e x. (IsMastersStep w e → ⊥) → GrantsNoMore w handle version x.world) (none_granted w handle version) e choice not in absurd (omega (arith, none, some, few)))
 
 -- chunks whose rounds may end
@@ -195,16 +234,16 @@ ended_rounds_are_over config servers clients w r e choice clocks handle may = by
     before = clocks_before w ((e, choice) ∷ []) clocks
 
     by_kind : IsTried w.master handle ⊎ IsCopied w.master handle ⊎ IsCopy w.master handle ⊎ IsBegun w.master handle ⊎ IsShared w.master handle ⊎ IsShared then_.master handle → IsEnded w then_ handle
-    by_kind (inl is) = inl (tried_over config servers clients w r before handle is)
-    by_kind (inr (inl is)) = inl (copied_over config servers clients w r before handle is)
-    by_kind (inr (inr (inl is))) = inl (copy_over config servers clients w r before handle is)
-    by_kind (inr (inr (inr (inl is)))) = inl (begun_over config servers clients w r before handle is)
-    by_kind (inr (inr (inr (inr (inl is))))) = inl (is_shared_over config servers clients w r before handle is)
-    by_kind (inr (inr (inr (inr (inr is))))) = inr (is_shared_over config servers clients then_ (reached_later config servers clients w ((e, choice) ∷ []) r) clocks handle is)
+    by_kind (inl is) = ended_before config servers clients w r e choice clocks handle (tried_over config servers clients w r before handle is)
+    by_kind (inr (inl is)) = ended_before config servers clients w r e choice clocks handle (copied_over config servers clients w r before handle is)
+    by_kind (inr (inr (inl is))) = ended_before config servers clients w r e choice clocks handle (copy_over config servers clients w r before handle is)
+    by_kind (inr (inr (inr (inl is)))) = ended_before config servers clients w r e choice clocks handle (begun_over config servers clients w r before handle is)
+    by_kind (inr (inr (inr (inr (inl is))))) = ended_before config servers clients w r e choice clocks handle (is_shared_over config servers clients w r before handle is)
+    by_kind (inr (inr (inr (inr (inr is))))) = λ version granted. is_shared_over config servers clients then_ (reached_later config servers clients w ((e, choice) ∷ []) r) clocks handle is version
 
 -- what an event grants
 
-some_place : (handle version : ℕ) (sent : List Message) → 1 ≤ grants_of handle version sent → (place : ℕ) × (m : Message) × (element_at sent place ≡ Some m) × (is_grant handle version m.body ≡ true)
+pub some_place : (handle version : ℕ) (sent : List Message) → 1 ≤ grants_of handle version sent → (place : ℕ) × (m : Message) × (element_at sent place ≡ Some m) × (is_grant handle version m.body ≡ true)
 some_place handle version [] some = absurd (omega (arith, some))
 some_place handle version (m ∷ sent) some = by_test (is_grant handle version m.body) refl (λ more. let found = some_place handle version sent more in (suc found.0, found.1, found.2, found.3))
   where
@@ -216,17 +255,17 @@ some_place handle version (m ∷ sent) some = by_test (is_grant handle version m
         let none = ap tally is in
         behind (omega (arith, some, whole, none))
 
-record IsGrantOf (handle version : ℕ) (b : Body) : Type 0 where
-  order : OrderNo
-  named : Handle
-  number : Version
-  end_moment : Moment
-  members : List ℕ
-  body_is : b ≡ body.Grant order named number end_moment members
-  handle_is : named.0 ≡ handle
-  version_is : number.0 ≡ version
+pub record IsGrantOf (handle version : ℕ) (b : Body) : Type 0 where
+  pub order : OrderNo
+  pub named : Handle
+  pub number : Version
+  pub end_moment : Moment
+  pub members : List ℕ
+  pub body_is : b ≡ body.Grant order named number end_moment members
+  pub handle_is : named.0 ≡ handle
+  pub version_is : number.0 ≡ version
 
-grant_is : (handle version : ℕ) (b : Body) → is_grant handle version b ≡ true → IsGrantOf handle version b
+pub grant_is : (handle version : ℕ) (b : Body) → is_grant handle version b ≡ true → IsGrantOf handle version b
 grant_is handle version (body.Grant order h v end_moment members) is =
     let parts = and_parts (h.0 == handle) (v.0 == version) is in
     record { order = order; named = h; number = v; end_moment = end_moment; members = members; body_is = refl; handle_is = eqb-true h.0 handle parts.0; version_is = eqb-true v.0 version parts.1 }
@@ -247,7 +286,7 @@ new_rounds w e choice j sent handle version none some =
 
 pub each_event_keeps_rounds : EachEventKeepsRounds
 each_event_keeps_rounds config servers clients w r e choice clocks k j has keeps sent =
-    rounds_go_with_leases config servers clients w r e choice clocks k j has
+    rounds_go config servers clients w r e choice clocks k j has
     (λ handle version s was_open. elim (keeps handle version s was_open) [
       | inl may ↦ inl (ended_rounds_are_over config servers clients w r e choice clocks handle may)
       | inr still ↦ inr still

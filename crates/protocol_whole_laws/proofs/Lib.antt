@@ -18,6 +18,7 @@ pub mod RecordTimes
 pub mod ServerSteps
 pub mod Settlements
 pub mod SoundLogs
+pub mod StoppedSteps
 pub mod ToldRounds
 pub mod WholeLogs
 pub mod WholeSteps

@@ -91,7 +91,7 @@ module _ (handle version : ℕ) where
           rots = λ e index q s x place byte is_kept at there up. (passed, omega arith);
         }
 
-  passed_on : (config : Config) (servers clients : ℕ) (w : WorldState) → IsReached config servers clients w → (steps : List (Event × Choice)) → HasPassed handle version w.master → GoesPassed w (after_events w steps)
+  pub passed_on : (config : Config) (servers clients : ℕ) (w : WorldState) → IsReached config servers clients w → (steps : List (Event × Choice)) → HasPassed handle version w.master → GoesPassed w (after_events w steps)
   passed_on config servers clients w r [] passed = (passed, omega arith)
   passed_on config servers clients w r (step ∷ rest) passed =
       let one = holds_after w (λ e x. GoesPassed w x.world) (each_passed config servers clients w r passed) step.0 step.1 in

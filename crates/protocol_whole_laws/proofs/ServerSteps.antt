@@ -64,7 +64,7 @@ use Rattle.protocol_machine_laws.specs.EntrySteps.{StandsNowhereElse, IsWanted, 
 use Rattle.protocol_machine_laws.proofs.Orders.{numbered_mutations_are_placed}
 use Rattle.protocol_machine_laws.proofs.OpenRounds.{counting_rounds_are_open}
 use Rattle.protocol_whole_laws.specs.Rounds.{IsLogOf, IsMastersStep}
-use Rattle.protocol_whole_laws.specs.ServerSteps.{AreDataOf, HasPartLeft, IsCallAlike, AreCallsAlike, is_of_entries, ComesToOrders, EntryActionsAreUnseen, OtherEventsAreTaken}
+use Rattle.protocol_whole_laws.specs.ServerSteps.{AreDataOf, HasPartLeft, IsForOpenCall, AreForOpenCalls, is_of_entries, ComesToOrders, EntryActionsAreUnseen, OtherEventsAreTaken}
 use Rattle.protocol_whole_laws.proofs.EndedRounds.{masters_input, leased_chunks_stand_once}
 use Rattle.protocol_whole_laws.proofs.Settlements.{IsSettlingDue, due_later, takes_nothing, takes_more, settles_all, counted_entry}
 
@@ -169,7 +169,7 @@ module _ (config : Config) (servers clients : ℕ) (w : WorldState) (r : IsReach
 
   -- what is numbered takes its place
 
-  module _ (calls : AreCallsAlike w k) (handle : Handle) (version : Version) (serial : Serial) (id : DataId) (m : Mutation) (place : ℕ) (seen : element_at shown place ≡ Some (Numbered handle version serial id m)) where
+  module _ (calls : AreForOpenCalls w k) (handle : Handle) (version : Version) (serial : Serial) (id : DataId) (m : Mutation) (place : ℕ) (seen : element_at shown place ≡ Some (Numbered handle version serial id m)) where
     asked : (x : Message) × (i ≡ input.Deliver x) × IsAskedFor (server_at s moment) w.sent x handle version serial id m
     asked = numbered_mutations_were_asked_for config servers clients w r index s there moment i choice came place handle version serial id m seen
 
@@ -182,7 +182,7 @@ module _ (config : Config) (servers clients : ℕ) (w : WorldState) (r : IsReach
     abbrev numbers : Numbers w index moment s i choice handle version id
     numbers = record { is = there; came = came; place = place; serial = serial; placed = m; seen = seen }
 
-    alike : IsCallAlike w k id (was_open.0) m
+    alike : IsForOpenCall w k id (was_open.0) m
     alike = calls index moment s i choice handle version id numbers clocks was_open.0 was_open.1
 
     may : MayFollow config.chunk (entries_in w.observer.orders handle.0) version.0 m × ((bytes : List ℕ) × IsPushed w.sent id bytes × IsMadeOf config.chunk bytes m)
@@ -210,7 +210,7 @@ module _ (config : Config) (servers clients : ℕ) (w : WorldState) (r : IsReach
     placed = numbered_mutations_are_placed k trace handle version serial id m was_open.0 h was_open.1 (once_under handle.0 version.0 (for_it).lease (for_it).lease_is) wanted
 
   -- the first thing shown may be a numbering, and each other one is a settlement
-  taken : AreCallsAlike w k → (xs : List Seen) → shown ≡ xs → NumbersOnce xs → AllOf IsOfServers xs → ComesToOrders k (orders_after_all trace k.orders xs)
+  taken : AreForOpenCalls w k → (xs : List Seen) → shown ≡ xs → NumbersOnce xs → AllOf IsOfServers xs → ComesToOrders k (orders_after_all trace k.orders xs)
   taken calls [] is once of = takes_nothing k h
   taken calls (CopyStarted q copy ∷ xs) is once of = absurd of.0
   taken calls (BecameSettled q v n ∷ xs) is once of =
@@ -228,13 +228,13 @@ module _ (config : Config) (servers clients : ℕ) (w : WorldState) (r : IsReach
       (subst (λ (ys : List Seen). AllOf (IsSettlingDue k (orders_after_all trace k.orders ys)) xs) is
       (all_placed (IsSettlingDue k end) xs (λ place x at. one_due (suc place) x (ap (λ (ys : List Seen). element_at ys (suc place)) is ∙ at) (all_at NumbersNone xs place x once at) (all_at IsOfServers xs place x of.1 at))))))
 
-  step_taken : AreCallsAlike w k → ComesToOrders k then_.observer.orders
+  step_taken : AreForOpenCalls w k → ComesToOrders k then_.observer.orders
   step_taken calls = subst (λ (o : Table (List Placed)). ComesToOrders k o) end_is (taken calls shown refl (step_once s moment i choice) (server_shown s moment i choice))
 
 -- an event
 
 module _ (config : Config) (servers clients : ℕ) (w : WorldState) (r : IsReached config servers clients w) (kept : IsTrue (is_kept w))
-    (k : ChunkSides) (settings : k.machine.config ≡ config) (orders_are : k.orders ≡ w.observer.orders) (log : IsLogOf w.master k.log) (h : AreChunksAlike k) (has : HasRounds (IsLeaseOver w) k) (calls : AreCallsAlike w k) where
+    (k : ChunkSides) (settings : k.machine.config ≡ config) (orders_are : k.orders ≡ w.observer.orders) (log : IsLogOf w.master k.log) (h : AreChunksAlike k) (has : HasRounds (IsLeaseOver w) k) (calls : AreForOpenCalls w k) where
   abbrev IsTakenAt : Event → Happened → Type 0
   IsTakenAt e x = IsReached config servers clients x.world → IsTrue x.world.observer.are_clocks_kept → (IsMastersStep w e → ⊥) → ComesToOrders k x.world.observer.orders
 

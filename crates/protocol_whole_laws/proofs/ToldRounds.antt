@@ -1,5 +1,5 @@
 -- What was told of a chunk's round stands at the machine, from each world to the next.
-use Rattle.std.proofs.Common.{◌≡◌, ◌⊎◌, ℕ, ◌≤◌, ◌<◌, Bool, true, false, List, [], ◌∷◌, ◌++◌, length, Option, Some, None, refl, sym, ap, subst, ◌∙◌, inl, inr, arith}
+use Rattle.std.proofs.Common.{◌≡◌, ◌⊎◌, ℕ, zero, suc, ◌≤◌, ◌<◌, Bool, true, false, List, [], ◌∷◌, ◌++◌, length, Option, Some, None, refl, sym, ap, subst, ◌∙◌, inl, inr, arith}
 use Rattle.std.specs.Prelude.{◌&&◌, IsTrue}
 use Rattle.std.proofs.lemmas.Bool.{cases_lt}
 use Rattle.gfs_types.specs.declared.config.Config.{Config}
@@ -14,6 +14,7 @@ use Rattle.protocol.specs.Sending.{the_client}
 use Rattle.protocol.specs.Choice.{Choice}
 use Rattle.protocol.specs.Logged.{Logged}
 use Rattle.protocol.specs.World.{WorldState, happens, IsReached}
+use Rattle.protocol_laws.specs.Laws.{grants_of}
 use Rattle.protocol_laws.proofs.Steps.{none_some}
 use Rattle.protocol_laws.proofs.Entries.{same_number}
 use Rattle.protocol_laws.proofs.MessagesSent.{IsSent, sent_before}
@@ -36,8 +37,8 @@ use Rattle.protocol_machine_laws.specs.ChunksAlike.{ChunkSides, StandsAt, IsRoun
 use Rattle.protocol_machine_laws.proofs.OpenRounds.{rounds_are_open_at_their_place}
 use Rattle.protocol_whole_laws.specs.Rounds.{IsLogOf, IsEnded}
 use Rattle.protocol_whole_laws.specs.ToldRounds.{IsToldRound, AreToldRounds, NoRoundIsToldAtFirst, ToldRoundsStayOver, ToldRoundsGoOn}
-use Rattle.protocol_whole_laws.proofs.EndedRounds.{leased_chunks_stand_once}
-use Rattle.protocol_whole_laws.proofs.PassedRounds.{passed_over, tells_passed, told_passed}
+use Rattle.protocol_whole_laws.proofs.EndedRounds.{ungranted_is_over, leased_chunks_stand_once}
+use Rattle.protocol_whole_laws.proofs.PassedRounds.{passed_on, passed_over, tells_passed, told_passed}
 
 pub no_round_is_told_at_first : NoRoundIsToldAtFirst
 no_round_is_told_at_first config servers clients k client file l place t = none_some t.told t.sent_is
@@ -110,12 +111,14 @@ module _ (config : Config) (servers clients : ℕ) (w : WorldState) (r : IsReach
     goes_on : (file : ℕ) (l : Location) → HasPassed l.handle.0 l.round.0 w.master → IsToldRound w k file l → IsToldRound then_ j file l
     goes_on file l passed (inl over) = inl (passed_over l.handle.0 l.round.0 config servers clients w r passed over ((e, choice) ∷ []) clocks)
     goes_on file l passed (inr was_open) = elim (keeps l.handle.0 l.round.0 (record { file = file; index = l.index }) was_open) [
-      | inl ended ↦ elim ended [
-        | inl over ↦ inl (passed_over l.handle.0 l.round.0 config servers clients w r passed (over l.round.0) ((e, choice) ∷ []) clocks)
-        | inr over ↦ inl (over l.round.0)
-      ]
+      | inl ended ↦ inl (by_count (grants_of l.handle.0 l.round.0 w.sent) refl ended)
       | inr is_open ↦ inr is_open
     ]
+      where
+        by_count : (count : ℕ) → grants_of l.handle.0 l.round.0 w.sent ≡ count → IsEnded w then_ l.handle.0 → IsLeaseOver then_ l.handle.0 l.round.0
+        by_count zero none ended =
+            let few = (passed_on l.handle.0 l.round.0 config servers clients w r ((e, choice) ∷ []) passed).1 in ungranted_is_over config servers clients then_ later l.handle.0 l.round.0 (omega (arith, none, few))
+        by_count (suc count) some ended = ended l.round.0 (omega (arith, some))
 
     log_is : IsTrue w.master.up → k.log ≡ w.master.logged
     log_is up = by_log log

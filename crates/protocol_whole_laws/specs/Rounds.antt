@@ -1,5 +1,5 @@
 -- The machine's open rounds from each world of a cell to the next: which event may end one, and why its lease is over then (sections 3.1 and 3.4).
-use Rattle.std.specs.Prelude.{◌≡◌, ◌⊎◌, ℕ, ◌≤◌, Bool, List, length, Some, IsTrue, IsFalse}
+use Rattle.std.specs.Prelude.{◌≡◌, ◌≢◌, ◌⊎◌, ℕ, ◌<◌, ◌≤◌, Bool, List, length, Some, IsTrue, IsFalse}
 use Rattle.std.specs.FinMap as table
 use Rattle.gfs_types.specs.declared.config.Config.{Config}
 use Rattle.gfs_types.specs.declared.ids.Handle.{Handle}
@@ -10,17 +10,19 @@ use Rattle.gfs_types.specs.declared.ids.Node.TheVariants.{Master}
 use Rattle.messages.specs.declared.event.Event.{Event}
 use Rattle.messages.specs.declared.event.Event.TheVariants as event
 use Rattle.messages.specs.declared.event.Input.{Input}
+use Rattle.messages.specs.declared.event.Input.TheVariants as input
 use Rattle.messages.specs.declared.message.Message.{Message}
 use Rattle.messages.specs.declared.message.Body.TheVariants as body
 use Rattle.chunk_table.specs.ChunkTable.{ChunkRow, chunk_of}
-use Rattle.protocol.specs.Choice.{Choice, decided_changes}
-use Rattle.protocol.specs.Tables.{element_at}
+use Rattle.protocol.specs.Choice.{Choice, decided_changes, made_changes}
+use Rattle.protocol.specs.Tables.{moment_limit, element_at}
 use Rattle.protocol.specs.Sending.{handle_of}
 use Rattle.protocol.specs.declared.seen.Seen.TheVariants.{CopyStarted}
 use Rattle.protocol.specs.Logged.{Logged, Copy, log_changed_by_all, replayed}
 use Rattle.protocol.specs.Master.{MasterState, VersionAttempt}
-use Rattle.protocol.specs.MasterStep.{master_step}
+use Rattle.protocol.specs.MasterStep.{master_goes, master_step}
 use Rattle.protocol.specs.World.{WorldState, numbered_from_1, happens, IsReached}
+use Rattle.protocol_laws.specs.Laws.{grants_of}
 use Rattle.protocol_step_laws.specs.Versions.{IsLeaseOver, AreLeasesOver}
 use Rattle.protocol_invariant.specs.Actions.{Spot}
 use Rattle.protocol_machine_laws.specs.ChunksAlike.{ChunkSides, IsRoundOpen, AreChunksAlike, KeepsRounds, HasRounds}
@@ -40,9 +42,9 @@ IsMastersStep w (event.Deliver number now) = (m : Message) × (numbered_from_1 w
 IsMastersStep w (event.Tick n now) = n ≡ Master
 IsMastersStep w other = ⊥
 
--- each lease of the chunk is over, before an event or after it
+-- each lease of the chunk that was granted before an event is over after it
 abbrev pub IsEnded : WorldState → WorldState → ℕ → Type 0
-IsEnded w then_ handle = AreLeasesOver w handle ⊎ AreLeasesOver then_ handle
+IsEnded w then_ handle = (version : ℕ) → 1 ≤ grants_of handle version w.sent → IsLeaseOver then_ handle version
 
 -- At an event that is no step of the master nothing is granted: where rounds end there only of chunks whose leases are over, the round of each lease that isn't over is open again.
 abbrev pub OtherEventsKeepRounds : Type 0
@@ -92,7 +94,7 @@ IsShared s handle = (l : Logged) × IsLogOf s l × (row : ChunkRow) × (chunk_of
 abbrev pub MayEnd : MasterState → MasterState → ℕ → Type 0
 MayEnd before after handle = IsTried before handle ⊎ IsCopied before handle ⊎ IsCopy before handle ⊎ IsBegun before handle ⊎ IsShared before handle ⊎ IsShared after handle
 
--- Where rounds of a chunk may end at an event, each of its leases is over before the event or after it.
+-- Where rounds of a chunk may end at an event, each of its leases that was granted before is over after it.
 abbrev pub EndedRoundsAreOver : Type 0
 EndedRoundsAreOver =
     (config : Config) (servers clients : ℕ) (w : WorldState) → IsReached config servers clients w → (e : Event) (choice : Choice) → IsTrue (happens w e choice).world.observer.are_clocks_kept
@@ -110,3 +112,22 @@ EachEventKeepsRounds =
     (config : Config) (servers clients : ℕ) (w : WorldState) → IsReached config servers clients w → (e : Event) (choice : Choice) → IsTrue (happens w e choice).world.observer.are_clocks_kept
     → (k j : ChunkSides) → HasRounds (IsLeaseOver w) k → KeepsRounds (MayEnd w.master (happens w e choice).world.master) k j → SentGrantsAreOpen w (happens w e choice).world j
     → HasRounds (IsLeaseOver (happens w e choice).world) j
+
+-- this input is given to the master at this moment
+abbrev pub IsMastersInput : WorldState → Event → ℕ → Input → Type 0
+IsMastersInput w (event.Deliver number now) moment (input.Deliver m) = (numbered_from_1 w.sent number ≡ Some m) × (m.receiver ≡ Master) × (now.0 ≡ moment)
+IsMastersInput w (event.Tick n now) moment input.Tick = (n ≡ Master) × (now.0 ≡ moment)
+IsMastersInput w e moment i = ⊥
+
+-- what a master's log says after so many changes of a step
+abbrev pub log_within : MasterState → ℕ → Input → List Bool → ℕ → Logged
+log_within s moment i refused made = replayed (log_changed_by_all s.disk (made_changes made (master_goes s moment i refused).changes))
+
+-- What the log says along a step of the master: after each of its changes, of a chunk that several files own each lease is over after the step, and so is that of each version but the granted one, of those that were granted before it; and no Grant was sent before of a version above the granted one.
+abbrev pub LogsWithinStepsEndLeases : Type 0
+LogsWithinStepsEndLeases =
+    (config : Config) (servers clients : ℕ) (w : WorldState) → IsReached config servers clients w → IsTrue w.master.up
+    → (e : Event) (moment : ℕ) (i : Input) (choice : Choice) → IsMastersInput w e moment i → moment ≤ moment_limit → IsTrue (happens w e choice).world.observer.are_clocks_kept
+    → (made handle : ℕ) (row : ChunkRow) → chunk_of (log_within w.master moment i choice.refused made).table handle ≡ Some row
+    → ((version : ℕ) → 1 ≤ grants_of handle version w.sent → (2 ≤ row.references) ⊎ (version ≢ row.granted) → IsLeaseOver (happens w e choice).world handle version)
+    × ((version : ℕ) → row.granted < version → grants_of handle version w.sent ≡ 0)

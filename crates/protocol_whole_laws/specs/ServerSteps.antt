@@ -57,7 +57,7 @@ HasPartLeft m id file index (call.Append fd bytes) (Pad at) = Unit {0}
 HasPartLeft m id file index other mutation = ⊥
 
 -- The client's open call at the machine is its last one, for the file of this place, and for it the data were pushed.
-pub record IsCallAlike (w : WorldState) (k : ChunkSides) (id : DataId) (s : Spot) (mutation : Mutation) : Type 0 where
+pub record IsForOpenCall (w : WorldState) (k : ChunkSides) (id : DataId) (s : Spot) (mutation : Mutation) : Type 0 where
   pub current : OpenCall
   pub is_open : IsOpen k.machine id.client.0 current
   pub number_is : current.number ≡ calls_made w.observer.trace id.client.0
@@ -66,10 +66,10 @@ pub record IsCallAlike (w : WorldState) (k : ChunkSides) (id : DataId) (s : Spot
   pub part : HasPartLeft k.machine (record { client = id.client.0; number = current.number }) s.file s.index current.asked.call mutation
 
 -- The clients' calls are so of each mutation that a server may number now, where its round is open.
-abbrev pub AreCallsAlike : WorldState → ChunkSides → Type 0
-AreCallsAlike w k =
+abbrev pub AreForOpenCalls : WorldState → ChunkSides → Type 0
+AreForOpenCalls w k =
     (index moment : ℕ) (s : ServerState) (i : Input) (choice : Choice) (handle : Handle) (version : Version) (id : DataId) (n : Numbers w index moment s i choice handle version id)
-    → IsTrue (observed_moment w.config.skew_ms w.observer moment).are_clocks_kept → (at : Spot) → IsRoundOpen k handle.0 version.0 at → IsCallAlike w k id at n.placed
+    → IsTrue (observed_moment w.config.skew_ms w.observer moment).are_clocks_kept → (at : Spot) → IsRoundOpen k handle.0 version.0 at → IsForOpenCall w k id at n.placed
 
 -- The machine may place and settle what makes its orders these; then all is alike again, and each round stays open.
 pub record ComesToOrders (k : ChunkSides) (orders : Table (List Placed)) : Type 0 where
@@ -82,5 +82,5 @@ abbrev pub OtherEventsAreTaken : Type 0
 OtherEventsAreTaken =
     (config : Config) (servers clients : ℕ) (w : WorldState) → IsReached config servers clients w → IsTrue (is_kept w)
     → (e : Event) (choice : Choice) → IsTrue (happens w e choice).world.observer.are_clocks_kept → (IsMastersStep w e → ⊥)
-    → (k : ChunkSides) → k.machine.config ≡ config → k.orders ≡ w.observer.orders → IsLogOf w.master k.log → AreChunksAlike k → HasRounds (IsLeaseOver w) k → AreCallsAlike w k
+    → (k : ChunkSides) → k.machine.config ≡ config → k.orders ≡ w.observer.orders → IsLogOf w.master k.log → AreChunksAlike k → HasRounds (IsLeaseOver w) k → AreForOpenCalls w k
     → ComesToOrders k (happens w e choice).world.observer.orders

@@ -1,6 +1,6 @@
 //! Laws of the machine's open rounds from each world of a cell to the next.
 
-ghost use Rattle.protocol_whole_laws.specs.Rounds.{EachEventKeepsRounds, EndedRoundsAreOver, LeasedChunksStandOnce, OpenRoundsHaveOneSpot, OtherEventsKeepRounds, SharedChunksInEachLogHaveNoLease};
+ghost use Rattle.protocol_whole_laws.specs.Rounds.{EachEventKeepsRounds, EndedRoundsAreOver, LeasedChunksStandOnce, LogsWithinStepsEndLeases, OpenRoundsHaveOneSpot, OtherEventsKeepRounds, SharedChunksInEachLogHaveNoLease};
 
 /// At an event that is no step of the master nothing is granted, so the round of each lease that isn't over stays open.
 pub fn other_events_keep_rounds()
@@ -30,4 +30,9 @@ pub fn open_rounds_have_one_spot()
 /// From one world to the next the round of each lease that isn't over is open, where rounds end only of chunks of which they may, and what is granted has its round open.
 pub fn each_event_keeps_rounds()
     ensures { EachEventKeepsRounds }
+{}
+
+/// After each change that a step of the master makes of its log: of a chunk that several files own there, and of each version but the granted one, the leases that were granted before are over after the step.
+pub fn logs_within_steps_end_leases()
+    ensures { LogsWithinStepsEndLeases }
 {}
