@@ -54,7 +54,7 @@ apart_as p q same f h =
     ap (λ (n : ℕ). (n == f.0.file) && (q.index == f.0.index)) (sym (eqb-true p.file q.file parts.0))
     ∙ ap (λ (n : ℕ). (p.file == f.0.file) && (n == f.0.index)) (sym (eqb-true p.index q.index parts.1)) ∙ h
 
-all_go : (P Q : Place × Cached → Type 0) → ((e : Place × Cached) → P e → Q e) → (es : Entries) → AllByRecursion P es → AllByRecursion Q es
+pub all_go : (P Q : Place × Cached → Type 0) → ((e : Place × Cached) → P e → Q e) → (es : Entries) → AllByRecursion P es → AllByRecursion Q es
 all_go P Q go [] h = tt
 all_go P Q go (e ∷ es) h = (go e h.0, all_go P Q go es h.1)
 

@@ -336,7 +336,7 @@ module _ (m : Machine) (client : ℕ) (s : ClientState) (x : CurrentCall) (alike
   takes_goes other of said = nothing
 
   has_answer : (reply : Answer) → Staged (HasAnswer reply) → Goes (completes d0 x reply)
-  has_answer reply at = completes_done m client o is_open d0 x reply hand at.1 (λ _. at.0)
+  has_answer reply at = completes_done m client o is_open d0 x reply hand at.2 (λ _. at.1)
 
   takes_at_goes : (y : Message) (st : Stage) → Staged st → IsOfFile x.stage → Said x.stage y.body → Goes (takes_at d0 x y st)
   takes_at_goes y (HasAnswer reply) at of said = has_answer reply at

@@ -189,7 +189,9 @@ module _ (m : Machine) (client : ℕ) (o : OpenCall) (is_open : IsOpen m client 
   pub completes_done : (d : ClientDoing) (x : CurrentCall) (reply : Answer) → Hand d x → MayReturn m client o reply → (list_any (is_live_at d.client.now) x.live ≡ true → IsLasting reply) → Done (completes d x reply)
   completes_done d x reply h may lasting =
       on_cond Done (is_mutation x.asked && list_any (is_live_at d.client.now) x.live) (with_current d (record x { stage = HasAnswer reply })) (answers d reply)
-      (λ live. rests d (record x { stage = HasAnswer reply }) h (lasting (and_parts (is_mutation x.asked) (list_any (is_live_at d.client.now) x.live) live).1, may)) (λ _. answered d x reply h may)
+      (λ both.
+          let parts = and_parts (is_mutation x.asked) (list_any (is_live_at d.client.now) x.live) both in
+          rests d (record x { stage = HasAnswer reply }) h (parts.0, lasting parts.1, may)) (λ _. answered d x reply h may)
 
   gives_up_done : (d : ClientDoing) (x : CurrentCall) → Hand d x → Done (gives_up d x)
   gives_up_done d x h =

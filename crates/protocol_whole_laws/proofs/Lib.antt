@@ -4,3 +4,10 @@ pub mod Parts
 pub mod FileWalk
 pub mod MachineSteps
 pub mod FileSteps
+pub mod UnusedNumbers
+pub mod FileCallsBegun
+pub mod OwnParts
+pub mod FileClientsStay
+pub mod NotesBelow
+pub mod FileAnswers
+pub mod FileOpenings

@@ -71,7 +71,7 @@ HaveAll old new = (p : Piece) → Contains old p → Contains new p
 pub one_more : (p : Piece) (ps : List Piece) → HaveAll ps (p ∷ ps)
 one_more p ps q there = (suc there.0, (let low = there.1 in omega (arith, low)), there.2)
 
-whole_on : (size offset count part index : ℕ) (old new ps : List Piece) → HaveAll old new → AreWhole size offset count old part index ps → AreWhole size offset count new part index ps
+pub whole_on : (size offset count part index : ℕ) (old new ps : List Piece) → HaveAll old new → AreWhole size offset count old part index ps → AreWhole size offset count new part index ps
 whole_on size offset count part index old new [] all h = h
 whole_on size offset count part index old new (p ∷ ps) all h = (h.0, all p h.1, h.2, h.3, whole_on size offset count part (suc index) old new ps all h.4)
 

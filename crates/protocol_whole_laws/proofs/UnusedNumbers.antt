@@ -34,9 +34,13 @@ module _ (config : Config) (m : Machine) (reached : IsReached config m) (client 
   none_in : (index : ℕ) (order : List Entry) → AllByRecursion (WasAskedFor m index) order → count_by (is_try next) order ≡ 0
   none_in index [] all = refl
   none_in index (e ∷ rest) all =
-      tries_cons next e rest ∙ ap (λ (b : Bool). cond b 1 0 + count_by (is_try next) rest) (not_next index e all.0) ∙ none_in index rest all.1
+      let one : one_try next e ≡ 0 = ap (λ (b : Bool). cond b 1 0) (not_next index e all.0) in
+      let more : count_by (is_try next) rest ≡ 0 = none_in index rest all.1 in
+      tries_cons next e rest ∙ (let sum : one_try next e + count_by (is_try next) rest ≡ 0 = omega (arith, one, more) in sum)
 
   pub none_placed : (file count : ℕ) → tries_below (m.files file).chunks next count ≡ 0
   none_placed file zero = refl
   none_placed file (suc count) =
-      ap (λ (n : ℕ). n + tries_in next (chunk_at m file count)) (none_placed file count) ∙ none_in count (chunk_at m file count).order (entries_were_asked_for config m reached file count)
+      let below : tries_below (m.files file).chunks next count ≡ 0 = none_placed file count in
+      let here : tries_in next (chunk_at m file count) ≡ 0 = none_in count (chunk_at m file count).order (entries_were_asked_for config m reached file count) in
+      omega (arith, below, here)
