@@ -3,12 +3,11 @@ use Rattle.std.proofs.Common.{◌≡◌, ◌⊎◌, ℕ, zero, suc, ◌-◌, ◌
 use Rattle.std.specs.Prelude.{◌==◌, ◌&&◌, is_some, IsFalse}
 use Rattle.std.specs.Option.{option_map_or}
 use Rattle.std.specs.List.{AllByRecursion}
-use Rattle.std.specs.Map.{lookup, lookup_entry, remove_entry}
-use Rattle.std.specs.FinMap as table
+use Rattle.std.specs.Map.{lookup_entry, remove_entry}
 use Rattle.std.proofs.lemmas.Bool.{and_parts, eqb-true, eq-eqb, true≢false}
 use Rattle.lru.specs.LruCache.{LruCache, lru_cache, promoted, put_entries}
 use Rattle.relaxed_file.specs.Machine.{put}
-use Rattle.relaxed_file.proofs.Tables.{put_same, put_other, put_is}
+use Rattle.relaxed_file.proofs.Tables.{put_other, put_is}
 use Rattle.client_state.specs.declared.kept.Place.{Place}
 use Rattle.client_state.specs.declared.kept.Cached.{Cached}
 use Rattle.client_state.specs.declared.kept.OpenFile.{OpenFile}
@@ -19,7 +18,7 @@ use Rattle.protocol_laws.proofs.Steps.{on_cond, none_some, same_some, same_or_no
 use Rattle.protocol_laws.proofs.Entries.{AllOf}
 use Rattle.protocol_step_laws.proofs.Caches.{after_look, after_drop}
 use Rattle.protocol_step_laws.proofs.OpenFiles.{AreOpenSince}
-use Rattle.protocol_whole_laws.specs.FileClients.{IsOpenedAgain, IsKeptNote, AreOfPlaces}
+use Rattle.protocol_whole_laws.specs.FileClients.{IsKeptNote, AreOfPlaces}
 
 abbrev Entries : Type 0
 Entries = List (Place × Cached)

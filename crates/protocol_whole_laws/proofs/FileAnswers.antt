@@ -1,21 +1,19 @@
 -- What the master and servers answer a client that waits, at the machine.
-use Rattle.std.proofs.Common.{◌≡◌, ◌⊎◌, ℕ, zero, suc, ◌+◌, ◌*◌, ◌<◌, ◌≤◌, Bool, true, false, cond, List, [], ◌∷◌, Option, Some, None, refl, sym, ap, subst, ◌∙◌, inl, inr, arith}
-use Rattle.std.specs.Prelude.{nat_lt, Contains, IfSome, IsTrue, IsFalse, option_map, unwrap_or}
+use Rattle.std.proofs.Common.{◌≡◌, ℕ, zero, ◌+◌, ◌*◌, ◌<◌, ◌≤◌, Bool, true, false, cond, List, ◌∷◌, Option, Some, refl, sym, ap, subst, ◌∙◌, arith}
+use Rattle.std.specs.Prelude.{nat_lt, Contains, IfSome, IsTrue, IsFalse}
 use Rattle.std.proofs.lemmas.Bool.{lt-ltb, ltb-true, true≢false}
-use Rattle.gfs_types.specs.declared.config.Config.{Config}
 use Rattle.gfs_types.specs.declared.call.Call.{Call}
 use Rattle.gfs_types.specs.declared.call.Call.TheVariants as call
-use Rattle.gfs_types.specs.declared.mutation.Mutation.{Mutation}
 use Rattle.gfs_types.specs.declared.refusal.Refusal.TheVariants.{Collected}
 use Rattle.gfs_types.specs.Image.{image_length}
 use Rattle.messages.specs.declared.message.Holder.{Holder}
 use Rattle.messages.specs.declared.message.Location.{Location}
 use Rattle.relaxed_file.specs.Order.{CallId, Entry, IsSelection, mutations_of, same_call}
 use Rattle.relaxed_file.specs.Parts.{has_part}
-use Rattle.relaxed_file.specs.Machine.{Machine, Client, OpenCall, IsOpen, Piece, Offer, Told, NoSuchChunk, chunk_at, chunk_count, with_step}
+use Rattle.relaxed_file.specs.Machine.{Machine, Client, OpenCall, IsOpen, Piece, Told, NoSuchChunk, chunk_at, chunk_count, with_step}
 use Rattle.relaxed_file.specs.Reads.{offer_of, reads_part, read_slice, looked, is_length_call}
-use Rattle.relaxed_file.specs.Answers.{HasSuccess, IsWrite, IsAppendAt, uses_chunks}
-use Rattle.relaxed_file.specs.Run.{Action, Tell, Look, Measure, Allows, after, IsReached}
+use Rattle.relaxed_file.specs.Answers.{HasSuccess, IsWrite, uses_chunks}
+use Rattle.relaxed_file.specs.Run.{Look, Measure}
 use Rattle.relaxed_file.proofs.Tables.{at_some, from_some}
 use Rattle.relaxed_file.proofs.Tries.{same_as_itself}
 use Rattle.client_state.specs.declared.call.CurrentCall.{CurrentCall}
@@ -24,8 +22,8 @@ use Rattle.client_state.specs.declared.call.Stage.{Stage}
 use Rattle.client_state.specs.declared.call.Stage.TheVariants.{SentMutate, SentRead}
 use Rattle.protocol.specs.ClientAttempts.{is_mutation, is_length}
 use Rattle.protocol_invariant.specs.ClientParts.{index_asked}
-use Rattle.protocol_whole_laws.specs.FileClients.{id_of, IsDoneSoFar, IsNotedChunk, IsStageAt, IsFileCall, IsToldAt, IsOffered, IsRefusedAt, IsPartSettled}
-use Rattle.protocol_whole_laws.specs.FileAnswers.{Gives, IsLastRound, LocationsAreOffered, NoChunkIsOffered, CollectedFilesAreRefused, IsSeenAt, ReadsAreLooks, LengthsAreMeasured, IsOfPart, SettledEntriesAreSuccesses}
+use Rattle.protocol_whole_laws.specs.FileClients.{id_of, IsDoneSoFar, IsStageAt, IsFileCall, IsOffered, IsRefusedAt, IsPartSettled}
+use Rattle.protocol_whole_laws.specs.FileAnswers.{Gives, LocationsAreOffered, NoChunkIsOffered, CollectedFilesAreRefused, IsSeenAt, ReadsAreLooks, LengthsAreMeasured, IsOfPart, SettledEntriesAreSuccesses}
 use Rattle.protocol_whole_laws.proofs.MachineSteps.{in_client, stepped_client, step_open}
 use Rattle.protocol_whole_laws.proofs.NotesBelow.{notes_are_of_opened_rounds}
 

@@ -1,8 +1,7 @@
 -- What else the machine does leaves a client as it was.
-use Rattle.std.proofs.Common.{◌≡◌, ◌⊎◌, ℕ, zero, suc, ◌+◌, ◌*◌, ◌/◌, ◌<◌, ◌≤◌, Bool, true, false, List, [], ◌∷◌, length, Option, Some, None, refl, sym, ap, subst, ◌∙◌, inl, inr, arith}
-use Rattle.std.specs.Prelude.{nat_lt, Contains, IfSome, IsSome, IsTrue, IsFalse}
+use Rattle.std.proofs.Common.{◌≡◌, ℕ, suc, ◌+◌, ◌*◌, ◌/◌, ◌≤◌, true, List, length, Option, Some, None, refl, sym, ap, subst, ◌∙◌, inl, inr, arith}
+use Rattle.std.specs.Prelude.{nat_lt, Contains, IfSome, IsSome, IsTrue}
 use Rattle.std.specs.List.{AllByRecursion}
-use Rattle.std.specs.FinMap as table
 use Rattle.std.proofs.lemmas.Bool.{true≢false}
 use Rattle.gfs_types.specs.declared.config.Config.{Config}
 use Rattle.gfs_types.specs.declared.call.Call.{Call}
@@ -19,24 +18,23 @@ use Rattle.messages.specs.declared.message.Body.TheVariants as body
 use Rattle.messages.specs.declared.message.Location.{Location}
 use Rattle.relaxed_file.specs.Order.{CallId}
 use Rattle.relaxed_file.specs.Parts.{has_part}
-use Rattle.relaxed_file.specs.Machine.{Machine, Client, Asked, OpenCall, IsOpen, Piece, Offer, Told, NoSuchChunk, Outcome, Replies, chunk_at, chunk_count}
+use Rattle.relaxed_file.specs.Machine.{Machine, Asked, OpenCall, IsOpen, Piece, Offer, Told, NoSuchChunk, Outcome, Replies, chunk_at}
 use Rattle.relaxed_file.specs.Reads.{offer_of}
 use Rattle.relaxed_file.specs.NameStep.{is_name_call}
 use Rattle.relaxed_file.specs.Answers.{HasSuccess, IsWrite, IsAppendAt, IsDone, IsCause, MayReturn, may_give_up, uses_chunks}
-use Rattle.relaxed_file.specs.Run.{Action, Allows, after, IsReached}
+use Rattle.relaxed_file.specs.Run.{after}
 use Rattle.relaxed_file.proofs.Grows.{Grows, grows_step, known_when_reached}
 use Rattle.relaxed_file.proofs.CallSteps.{Goes}
 use Rattle.client_state.specs.declared.call.CurrentCall.{CurrentCall}
 use Rattle.client_state.specs.declared.call.LiveAttempt.{LiveAttempt}
 use Rattle.client_state.specs.declared.call.ToldChunk.{ToldChunk}
 use Rattle.client_state.specs.declared.call.Stage.{Stage}
-use Rattle.client_state.specs.declared.call.Stage.TheVariants.{AskedNames, AskedWhere, MustAskAgain, SentData, SentMutate, SentRead, IsOver, HasAnswer}
-use Rattle.protocol.specs.Client.{ClientState}
-use Rattle.protocol.specs.ClientAttempts.{is_mutation, is_length}
+use Rattle.client_state.specs.declared.call.Stage.TheVariants.{AskedWhere, SentData, SentMutate, SentRead, HasAnswer}
+use Rattle.protocol.specs.ClientAttempts.{is_mutation}
 use Rattle.protocol_invariant.specs.ClientParts.{index_asked}
 use Rattle.protocol_laws.proofs.Steps.{none_some, same_some}
-use Rattle.protocol_whole_laws.specs.FileClients.{id_of, IsKeptNote, IsReadSoFar, IsDoneSoFar, IsNotedChunk, IsLasting, IsStageAt, IsFileCall, IsCallAlike, IsFileClient, IsOffered, IsToldAt, IsRefusedAt, IsWithinPlaces, IsPartSettled, IsSaidAt, IsSaid}
-use Rattle.protocol_whole_laws.specs.FileClientsStay.{IsOfOthers, IsFirm, IsFirmInput, FileClientsStay}
+use Rattle.protocol_whole_laws.specs.FileClients.{id_of, IsKeptNote, IsReadSoFar, IsDoneSoFar, IsNotedChunk, IsLasting, IsStageAt, IsFileCall, IsCallAlike, IsOffered, IsToldAt, IsRefusedAt, IsWithinPlaces, IsPartSettled, IsSaidAt, IsSaid}
+use Rattle.protocol_whole_laws.specs.FileClientsStay.{IsFirm, IsFirmInput, FileClientsStay}
 use Rattle.protocol_whole_laws.proofs.MachineSteps.{whole_on}
 use Rattle.protocol_whole_laws.proofs.OwnParts.{IsSameOwn, own_left, call_left, idle_left, one_more_or_none, entry_stays}
 

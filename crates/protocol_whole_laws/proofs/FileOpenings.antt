@@ -1,6 +1,6 @@
 -- A client's name calls beside what it has of files.
-use Rattle.std.proofs.Common.{◌≡◌, ◌⊎◌, ℕ, zero, suc, ◌+◌, ◌≤◌, Bool, true, false, cond, List, [], ◌∷◌, Option, Some, None, refl, sym, ap, subst, ◌∙◌, inl, inr, arith}
-use Rattle.std.specs.Prelude.{◌==◌, nat_lt, IsTrue, IsFalse}
+use Rattle.std.proofs.Common.{◌≡◌, ◌⊎◌, ℕ, suc, ◌+◌, true, false, [], Option, Some, None, refl, sym, ap, subst, ◌∙◌, inl, inr, arith}
+use Rattle.std.specs.Prelude.{◌==◌, nat_lt}
 use Rattle.std.specs.List.{AllByRecursion}
 use Rattle.std.specs.FinMap as table
 use Rattle.std.proofs.lemmas.Bool.{eqb-true, true≢false}
@@ -8,7 +8,6 @@ use Rattle.gfs_types.specs.declared.call.Call.{Call}
 use Rattle.gfs_types.specs.declared.call.Call.TheVariants as call
 use Rattle.gfs_types.specs.declared.answer.Answer.{Answer}
 use Rattle.gfs_types.specs.declared.answer.Answer.TheVariants as answer
-use Rattle.gfs_types.specs.declared.ids.FileId.{FileId}
 use Rattle.gfs_types.specs.declared.refusal.Refusal.TheVariants.{NoMemory, Unknown}
 use Rattle.messages.specs.declared.event.Input.{Input}
 use Rattle.messages.specs.declared.event.Input.TheVariants as input
@@ -20,23 +19,21 @@ use Rattle.messages.specs.declared.message.NameReply.TheVariants.{Opened, Answer
 use Rattle.relaxed_file.specs.Machine.{Machine, Client, OpenCall, IsOpen, put}
 use Rattle.relaxed_file.specs.NameStep.{is_name_call}
 use Rattle.relaxed_file.specs.Answers.{descriptors_after, returned}
-use Rattle.relaxed_file.specs.Run.{Invoke, Return, ReturnFd, Allows, after, asked_now}
+use Rattle.relaxed_file.specs.Run.{Invoke, Return, ReturnFd, after, asked_now}
 use Rattle.relaxed_file.proofs.Tables.{put_same, put_other, put_is, at_some}
 use Rattle.client_state.specs.declared.kept.Place.{Place}
 use Rattle.client_state.specs.declared.kept.Cached.{Cached}
 use Rattle.client_state.specs.declared.kept.OpenFile.{OpenFile}
 use Rattle.client_state.specs.declared.call.CurrentCall.{CurrentCall}
-use Rattle.client_state.specs.declared.call.Stage.{Stage}
 use Rattle.client_state.specs.declared.call.Stage.TheVariants.{AskedNames}
 use Rattle.protocol.specs.Tables.{Table}
 use Rattle.protocol.specs.Client.{ClientState, ClientDoing, client_begins, answers}
 use Rattle.protocol.specs.ClientFiles.{opened_again, files_after_open}
 use Rattle.protocol.specs.ClientAttempts.{ended, is_last_attempt, attempts_names}
-use Rattle.protocol.specs.ClientTakes.{opens, takes_reply, takes_named, client_takes}
-use Rattle.protocol.specs.ClientStep.{new_call, calls_names, calls_on, fd_of, ticks_names, ticks_at, takes_at, client_does, client_at, client_goes, client_call_goes}
+use Rattle.protocol.specs.ClientTakes.{opens, takes_reply, client_takes}
+use Rattle.protocol.specs.ClientStep.{calls_names, calls_on, fd_of, ticks_names, client_does, client_at, client_call_goes}
 use Rattle.protocol_laws.proofs.Steps.{on_cond, none_some, same_some, same_or_not, put_there}
 use Rattle.protocol_laws.proofs.Steps as steps
-use Rattle.protocol_name_laws.specs.NameAnswers.{Tells}
 use Rattle.protocol_whole_laws.specs.FileClients.{IsOpenedAgain, IsKeptNote, AreOfPlaces, IsCallAlike, IsFileClient}
 use Rattle.protocol_whole_laws.specs.FileOpenings.{NameCallsKeepFiles, IsAnsweredAs, NameStepsKeepFiles}
 use Rattle.protocol_whole_laws.proofs.ClientCaches.{all_go}

@@ -1,9 +1,9 @@
 -- In a run a client's note of a chunk is no later than the chunk's last round, and so are the rounds that its open call was told.
-use Rattle.std.proofs.Common.{◌≡◌, ◌⊎◌, ℕ, ◌≤◌, Bool, true, false, cond, List, [], ◌∷◌, Option, Some, None, refl, sym, ap, subst, ◌∙◌, inl, inr, arith}
-use Rattle.std.specs.Prelude.{nat_lt, Contains, IfSome}
+use Rattle.std.proofs.Common.{◌≡◌, ℕ, ◌≤◌, Bool, true, false, cond, [], Option, Some, None, refl, sym, ap, subst, ◌∙◌, inl, inr, arith}
+use Rattle.std.specs.Prelude.{nat_lt, IfSome}
 use Rattle.std.specs.List.{AllByRecursion}
 use Rattle.gfs_types.specs.declared.config.Config.{Config}
-use Rattle.relaxed_file.specs.Machine.{Machine, Client, Asked, OpenCall, IsOpen, Offer, Told, NoSuchChunk, new_machine, chunk_at, chunk_count}
+use Rattle.relaxed_file.specs.Machine.{Machine, Asked, OpenCall, IsOpen, Offer, Told, NoSuchChunk, new_machine, chunk_at, chunk_count}
 use Rattle.relaxed_file.specs.Reads.{offer_of}
 use Rattle.relaxed_file.specs.Run.{Action, Visible, shown, Allows, after, IsReached}
 use Rattle.relaxed_file.proofs.Tables.{contained, all_more, from_some}

@@ -1,7 +1,6 @@
 -- What an action leaves of a client: its descriptors and notes, and its open call.
-use Rattle.std.proofs.Common.{◌≡◌, ◌⊎◌, ℕ, zero, suc, ◌<◌, Bool, true, false, cond, List, [], ◌∷◌, length, Option, Some, None, refl, sym, ap, subst, ◌∙◌, inl, inr, arith}
+use Rattle.std.proofs.Common.{◌≡◌, ◌⊎◌, ℕ, zero, suc, true, false, cond, List, [], ◌∷◌, Some, None, refl, sym, subst, ◌∙◌, inl, inr, arith}
 use Rattle.std.specs.Prelude.{Contains, IsTrue, slice_get}
-use Rattle.std.proofs.lemmas.Bool.{cases_eq}
 use Rattle.gfs_types.specs.declared.answer.Answer.{Answer}
 use Rattle.gfs_types.specs.declared.call.Call.{Call}
 use Rattle.relaxed_file.specs.Order.{Entry}
@@ -10,13 +9,13 @@ use Rattle.relaxed_file.specs.NameStep.{performed, is_refused, stepped, with_out
 use Rattle.relaxed_file.specs.Chunks.{chunk_added, placed}
 use Rattle.relaxed_file.specs.Reads.{looked}
 use Rattle.relaxed_file.specs.Answers.{returned}
-use Rattle.relaxed_file.specs.Run.{Action, Invoke, Return, ReturnFd, Step, FindBusy, FindFull, Lock, Add, Place, Tell, Note, Look, LookPast, Measure, MeasureNone, Pass, Visible, Called, Answered, Passed, shown, Allows, after, asked_file}
+use Rattle.relaxed_file.specs.Run.{Action, Invoke, Return, ReturnFd, Step, FindBusy, FindFull, Lock, Add, Place, Tell, Note, Look, LookPast, Measure, MeasureNone, Pass, Called, Answered, shown, Allows, after, asked_file}
 use Rattle.relaxed_file.proofs.Tables.{put_look, put_other, at_some, from_some}
 use Rattle.relaxed_file.proofs.Known.{asked_is}
 use Rattle.relaxed_file.proofs.OwnReads.{performed_clients}
 use Rattle.relaxed_file.proofs.Grows.{OrderGrows}
 use Rattle.relaxed_file.proofs.Successes.{settled_stays, found_at}
-use Rattle.relaxed_file.proofs.CallSteps.{Goes, CallStep, call_step}
+use Rattle.relaxed_file.proofs.CallSteps.{Goes, call_step}
 use Rattle.protocol_laws.proofs.Steps.{none_some}
 use Rattle.protocol_whole_laws.specs.FileClientsStay.{IsOfOthers}
 

@@ -1,12 +1,12 @@
 -- Nothing is placed yet under the number of a client's next call.
-use Rattle.std.proofs.Common.{◌≡◌, ℕ, zero, suc, ◌+◌, ◌<◌, Bool, true, false, List, [], ◌∷◌, Option, Some, None, refl, sym, ap, subst, ◌∙◌, arith}
-use Rattle.std.specs.Prelude.{count_by, not, cond, IsTrue}
+use Rattle.std.proofs.Common.{◌≡◌, ℕ, zero, suc, ◌+◌, Bool, true, false, List, [], ◌∷◌, Some, refl, sym, ap, subst, ◌∙◌, arith}
+use Rattle.std.specs.Prelude.{count_by, not, cond}
 use Rattle.gfs_types.specs.Mutations.{is_pad}
 use Rattle.std.specs.List.{AllByRecursion}
 use Rattle.gfs_types.specs.declared.config.Config.{Config}
 use Rattle.relaxed_file.specs.Order.{CallId, Entry, same_call}
 use Rattle.relaxed_file.specs.Chunks.{tries_in, tries_below}
-use Rattle.relaxed_file.specs.Machine.{Machine, Client, Chunk, chunk_at}
+use Rattle.relaxed_file.specs.Machine.{Machine, chunk_at}
 use Rattle.relaxed_file.specs.Run.{IsReached}
 use Rattle.relaxed_file.specs.RunLaws.{WasAskedFor}
 use Rattle.relaxed_file.proofs.Tries.{is_try, one_try, tries_cons}

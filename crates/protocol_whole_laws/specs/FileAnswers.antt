@@ -1,5 +1,5 @@
 -- What the master and servers answer a client that waits, at the machine: offers of chunks, looks, lengths, and entries that are settled (sections 2.4, 2.7.1 and 3.1).
-use Rattle.std.specs.Prelude.{◌≡◌, ℕ, suc, ◌*◌, ◌+◌, ◌<◌, ◌≤◌, List, Option, Some, None, IfSome, Contains, IsTrue, IsFalse}
+use Rattle.std.specs.Prelude.{◌≡◌, ℕ, suc, ◌*◌, ◌+◌, ◌<◌, ◌≤◌, List, Some, None, IfSome, Contains, IsTrue, IsFalse}
 use Rattle.gfs_types.specs.declared.config.Config.{Config}
 use Rattle.gfs_types.specs.declared.call.Call.{Call}
 use Rattle.gfs_types.specs.declared.call.Call.TheVariants as call

@@ -15,7 +15,7 @@ use Rattle.messages.specs.declared.message.Body.TheVariants as body
 use Rattle.messages.specs.declared.message.Location.{Location}
 use Rattle.relaxed_file.specs.Order.{CallId}
 use Rattle.relaxed_file.specs.Parts.{has_part, part_length, is_range_too_long}
-use Rattle.relaxed_file.specs.Machine.{Machine, Client, OpenCall, IsOpen, Told, NoSuchChunk, Piece, chunk_count}
+use Rattle.relaxed_file.specs.Machine.{Machine, OpenCall, IsOpen, Told, NoSuchChunk, Piece, chunk_count}
 use Rattle.relaxed_file.specs.Answers.{HasSuccess, IsWrite, IsAppendAt, IsCause, MayReturn}
 use Rattle.relaxed_file.specs.Run.{Action, IsLawful, visible, after_all}
 use Rattle.name_projections.specs.Laws.{AreNamesOf}

@@ -9,7 +9,7 @@ use Rattle.messages.specs.declared.event.Input.{Input}
 use Rattle.messages.specs.declared.message.NameReply.TheVariants.{Opened}
 use Rattle.relaxed_file.specs.Machine.{Machine, OpenCall, IsOpen}
 use Rattle.relaxed_file.specs.NameStep.{is_name_call}
-use Rattle.relaxed_file.specs.Run.{Invoke, Return, ReturnFd, Allows, after}
+use Rattle.relaxed_file.specs.Run.{Invoke, Return, ReturnFd, after}
 use Rattle.client_state.specs.declared.call.CurrentCall.{CurrentCall}
 use Rattle.client_state.specs.declared.call.Stage.TheVariants.{AskedNames}
 use Rattle.protocol.specs.Client.{ClientState, ClientDoing, client_begins, answers}
