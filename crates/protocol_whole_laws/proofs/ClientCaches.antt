@@ -3,12 +3,11 @@ use Rattle.std.proofs.Common.{◌≡◌, ◌⊎◌, ℕ, zero, suc, ◌-◌, ◌
 use Rattle.std.specs.Prelude.{◌==◌, ◌&&◌, is_some, IsFalse}
 use Rattle.std.specs.Option.{option_map_or}
 use Rattle.std.specs.List.{AllByRecursion}
-use Rattle.std.specs.Map.{lookup, lookup_entry, remove_entry}
-use Rattle.std.specs.FinMap as table
+use Rattle.std.specs.Map.{lookup_entry, remove_entry}
 use Rattle.std.proofs.lemmas.Bool.{and_parts, eqb-true, eq-eqb, true≢false}
 use Rattle.lru.specs.LruCache.{LruCache, lru_cache, promoted, put_entries}
 use Rattle.relaxed_file.specs.Machine.{put}
-use Rattle.relaxed_file.proofs.Tables.{put_same, put_other, put_is}
+use Rattle.relaxed_file.proofs.Tables.{put_other, put_is}
 use Rattle.client_state.specs.declared.kept.Place.{Place}
 use Rattle.client_state.specs.declared.kept.Cached.{Cached}
 use Rattle.client_state.specs.declared.kept.OpenFile.{OpenFile}
@@ -19,7 +18,7 @@ use Rattle.protocol_laws.proofs.Steps.{on_cond, none_some, same_some, same_or_no
 use Rattle.protocol_laws.proofs.Entries.{AllOf}
 use Rattle.protocol_step_laws.proofs.Caches.{after_look, after_drop}
 use Rattle.protocol_step_laws.proofs.OpenFiles.{AreOpenSince}
-use Rattle.protocol_whole_laws.specs.FileClients.{IsOpenedAgain, IsKeptNote, AreOfPlaces}
+use Rattle.protocol_whole_laws.specs.FileClients.{IsKeptNote, AreOfPlaces}
 
 abbrev Entries : Type 0
 Entries = List (Place × Cached)
@@ -54,7 +53,7 @@ apart_as p q same f h =
     ap (λ (n : ℕ). (n == f.0.file) && (q.index == f.0.index)) (sym (eqb-true p.file q.file parts.0))
     ∙ ap (λ (n : ℕ). (p.file == f.0.file) && (n == f.0.index)) (sym (eqb-true p.index q.index parts.1)) ∙ h
 
-all_go : (P Q : Place × Cached → Type 0) → ((e : Place × Cached) → P e → Q e) → (es : Entries) → AllByRecursion P es → AllByRecursion Q es
+pub all_go : (P Q : Place × Cached → Type 0) → ((e : Place × Cached) → P e → Q e) → (es : Entries) → AllByRecursion P es → AllByRecursion Q es
 all_go P Q go [] h = tt
 all_go P Q go (e ∷ es) h = (go e h.0, all_go P Q go es h.1)
 

@@ -1,6 +1,6 @@
 -- A call on a file begins at a client and at the machine.
-use Rattle.std.proofs.Common.{◌≡◌, ◌⊎◌, ℕ, zero, suc, ◌+◌, ◌/◌, ◌<◌, ◌≤◌, Bool, true, false, cond, List, [], ◌∷◌, length, Option, Some, None, refl, sym, ap, subst, ◌∙◌, inl, inr, arith}
-use Rattle.std.specs.Prelude.{◌==◌, ◌||◌, ◌&&◌, nat_lt, IfSome, IsSome, IsTrue, IsFalse, option_map, option_and_then}
+use Rattle.std.proofs.Common.{◌≡◌, ◌⊎◌, ℕ, zero, suc, ◌/◌, ◌≤◌, Bool, true, false, List, [], length, Option, Some, None, refl, sym, ap, subst, ◌∙◌, inl, inr, arith}
+use Rattle.std.specs.Prelude.{◌==◌, ◌||◌, nat_lt, IfSome, IsSome, IsTrue}
 use Rattle.std.specs.List.{AllByRecursion}
 use Rattle.std.specs.FinMap as table
 use Rattle.std.proofs.lemmas.Bool.{eqb-true, true≢false}
@@ -11,13 +11,12 @@ use Rattle.gfs_types.specs.declared.call.Call.TheVariants as call
 use Rattle.gfs_types.specs.declared.answer.Answer.{Answer}
 use Rattle.gfs_types.specs.declared.answer.Answer.TheVariants as answer
 use Rattle.gfs_types.specs.declared.refusal.Refusal.TheVariants.{BadFd, TooLong, NoMemory}
-use Rattle.relaxed_file.specs.Order.{CallId}
 use Rattle.relaxed_file.specs.Parts.{has_part, is_range_too_long}
-use Rattle.relaxed_file.specs.Machine.{Machine, Client, OpenCall, IsOpen, put, with_client}
+use Rattle.relaxed_file.specs.Machine.{Machine, Client, OpenCall, IsOpen, put}
 use Rattle.relaxed_file.specs.NameStep.{is_name_call}
-use Rattle.relaxed_file.specs.Answers.{HasSuccess, IsWrite, IsDone, MayReturn, is_too_long, descriptors_after}
-use Rattle.relaxed_file.specs.Run.{Invoke, Allows, after, asked_now, file_of, IsReached}
-use Rattle.relaxed_file.proofs.Tables.{put_same, put_other, put_is}
+use Rattle.relaxed_file.specs.Answers.{HasSuccess, IsWrite, MayReturn, is_too_long, descriptors_after}
+use Rattle.relaxed_file.specs.Run.{Invoke, after, asked_now, file_of, IsReached}
+use Rattle.relaxed_file.proofs.Tables.{put_other, put_is}
 use Rattle.name_projections.specs.Laws.{AreNamesOf}
 use Rattle.name_projections.proofs.Chunks.{file_calls_keep_names}
 use Rattle.client_state.specs.declared.call.CurrentCall.{CurrentCall}
@@ -29,12 +28,12 @@ use Rattle.protocol_laws.proofs.Steps.{on_cond, same_or_not, gone_there, gone_ot
 use Rattle.protocol_step_laws.proofs.ClientWalk.{closed, noted}
 use Rattle.protocol_step_laws.proofs.OpenFiles.{closed_since}
 use Rattle.protocol_whole_laws.specs.FileClients.{id_of, IsKeptNote, IsDoneSoFar, IsCallAlike, IsFileClient, IsFileOpen, IsFollowed}
-use Rattle.protocol_whole_laws.specs.FileCallsBegin.{IsBegun, FileCallsAreBegun}
+use Rattle.protocol_whole_laws.specs.FileCallsBegin.{FileCallsAreBegun}
 use Rattle.protocol_whole_laws.proofs.ClientCaches.{kept_since}
 use Rattle.protocol_whole_laws.proofs.MachineSteps.{in_client}
 use Rattle.protocol_whole_laws.proofs.Parts.{none_below, first_there, none_of_nothing}
 use Rattle.protocol_whole_laws.proofs.UnusedNumbers.{none_placed}
-use Rattle.protocol_whole_laws.proofs.FileWalk.{InHand, Hand, ends_call, attempts_done, appended_hand}
+use Rattle.protocol_whole_laws.proofs.FileWalk.{Hand, ends_call, attempts_done, appended_hand}
 
 file_by : (state : Client) (c : Call) → is_name_call c ≡ false → file_of state c ≡ state.descriptors (fd_of c)
 file_by state (call.Close fd) plain = refl
@@ -135,8 +134,6 @@ module _ (config : Config) (m : Machine) (reached : IsReached config m) (some : 
 
       size_is : file_chunk d0.client file ≡ m.config.chunk
       size_is = ap (λ (x : Config). x.chunk) alike.settings
-
-
 
 module _ (config : Config) (m : Machine) (reached : IsReached config m) (some : 1 ≤ m.config.chunk) (client : ℕ) (s : ClientState) (alike : IsFileClient m client s) (none : s.current ≡ None)
     (rows : (fd file : ℕ) → table.get s.descriptors fd ≡ Some file → IsFileOpen s file) (moment : ℕ)

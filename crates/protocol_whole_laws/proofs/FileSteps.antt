@@ -1,6 +1,6 @@
 -- A client's step for its call on a file, followed by the machine.
-use Rattle.std.proofs.Common.{◌≡◌, ◌⊎◌, ℕ, zero, suc, ◌+◌, ◌*◌, ◌≤◌, Bool, true, false, cond, List, [], ◌∷◌, Option, Some, None, refl, sym, ap, subst, ◌∙◌, inl, inr, arith}
-use Rattle.std.specs.Prelude.{◌==◌, ◌&&◌, not, nat_lt, Contains, IsTrue, IsFalse, option_map}
+use Rattle.std.proofs.Common.{◌≡◌, ℕ, zero, suc, ◌+◌, ◌*◌, ◌≤◌, Bool, true, false, List, [], ◌∷◌, Option, Some, None, refl, sym, ap, subst, ◌∙◌, inl, inr, arith}
+use Rattle.std.specs.Prelude.{◌==◌, ◌&&◌, not, nat_lt, Contains, option_map}
 use Rattle.std.specs.List.{AllByRecursion, list_any}
 use Rattle.std.specs.FinMap as table
 use Rattle.std.proofs.lemmas.Bool.{and_parts, eqb-true, true≢false}
@@ -21,12 +21,10 @@ use Rattle.messages.specs.declared.message.Body.TheVariants as body
 use Rattle.messages.specs.declared.message.Message.{Message}
 use Rattle.messages.specs.declared.message.NameReply.{NameReply}
 use Rattle.messages.specs.declared.message.Location.{Location}
-use Rattle.messages.specs.declared.message.Holder.{Holder}
 use Rattle.relaxed_file.specs.Order.{CallId}
 use Rattle.relaxed_file.specs.Machine.{Machine, Client, OpenCall, IsOpen, Piece, Told, NoSuchChunk, with_client, with_step}
-use Rattle.relaxed_file.specs.Answers.{IsCause, MayReturn}
-use Rattle.relaxed_file.specs.Reads.{noted as noted_at, looked_past, measured_none, is_length_call}
-use Rattle.relaxed_file.specs.Run.{Action, Note, LookPast, MeasureNone, Allows, after}
+use Rattle.relaxed_file.specs.Reads.{noted as noted_at, is_length_call}
+use Rattle.relaxed_file.specs.Run.{Note, LookPast, MeasureNone}
 use Rattle.client_state.specs.declared.kept.Cached.{Cached}
 use Rattle.client_state.specs.declared.call.CurrentCall.{CurrentCall}
 use Rattle.client_state.specs.declared.call.LiveAttempt.{LiveAttempt}
@@ -39,17 +37,17 @@ use Rattle.protocol.specs.Client.{file_chunk, place_in_file, ClientState, Client
 use Rattle.protocol.specs.ClientCache.{last_opened, last_opened_of, with_location}
 use Rattle.protocol.specs.ClientAttempts.{is_mutation, is_length, is_append, is_live_at, completes, gives_up, ended, is_last_attempt, ends_refused, asks, reads_next, mutate_planned, chunk_of, goes_on_at, attempts, forgets}
 use Rattle.protocol.specs.ClientTakes.{takes_named, takes_wait, gets, told_none, told_location, told, takes_told, is_own_data, takes_pushed, less_live, succeeds, takes_done, takes_bytes, takes_len_is, master_refuses, stays_live, finds_full, primary_refuses, takes_refused, client_takes}
-use Rattle.protocol.specs.ClientStep.{ticks_unanswered, ends_unanswered, ticks_at, takes_at, client_does, client_at, client_goes}
+use Rattle.protocol.specs.ClientStep.{ticks_unanswered, ends_unanswered, ticks_at, takes_at, client_does, client_at}
 use Rattle.protocol_laws.proofs.Steps.{on_cond}
 use Rattle.protocol_step_laws.specs.FileCalls.{IsOfFile}
 use Rattle.protocol_step_laws.proofs.ClientWalk.{heard_at, is_told_of, place_at}
-use Rattle.protocol_whole_laws.specs.FileClients.{id_of, IsKeptNote, AreOfPlaces, IsDoneSoFar, IsNotedChunk, IsLasting, IsStageAt, IsFileCall, IsCallAlike, IsFileClient, IsFileOpen, IsOffered, IsToldAt, IsRefusedAt, IsWithinPlaces, IsPartSettled, IsSaidAt, IsSaid, IsElsewhereSame, IsFollowed}
+use Rattle.protocol_whole_laws.specs.FileClients.{id_of, IsKeptNote, IsDoneSoFar, IsNotedChunk, IsStageAt, IsFileCall, IsCallAlike, IsFileClient, IsFileOpen, IsOffered, IsToldAt, IsRefusedAt, IsSaidAt, IsSaid, IsElsewhereSame, IsFollowed}
 use Rattle.protocol_whole_laws.specs.FileSteps.{FileStepsAreFollowed}
 use Rattle.protocol_whole_laws.proofs.ClientCaches.{note_put, note_there, noted_and_kept, places_after_put}
 use Rattle.protocol_invariant.specs.ClientParts.{index_asked}
 use Rattle.relaxed_file.proofs.Tables.{put_same, put_other}
 use Rattle.protocol_whole_laws.proofs.MachineSteps.{comes_first, put_elsewhere, in_client, same_rise, put_rises, one_more, HaveAll, done_on, stepped_client, step_open}
-use Rattle.protocol_whole_laws.proofs.FileWalk.{InHand, Hand, stays, sends, rests, completes_done, unanswered_done, refused_done, reads_done, goes_on_done, asks_done, dropped_hand, attempts_done, gets_done, length_done, succeeds_done, with_part}
+use Rattle.protocol_whole_laws.proofs.FileWalk.{Hand, stays, sends, rests, completes_done, unanswered_done, refused_done, reads_done, goes_on_done, asks_done, dropped_hand, attempts_done, gets_done, length_done, succeeds_done, with_part}
 
 -- the call that is asked for is a read
 a_read : (m : Machine) (id : CallId) (file part : ℕ) (bytes rounds : List ℕ) (ps : List Piece) (c : Call) → IsDoneSoFar m id file part bytes rounds ps c → is_mutation c ≡ false → is_length c ≡ false
@@ -261,8 +259,8 @@ module _ (m : Machine) (client : ℕ) (s : ClientState) (x : CurrentCall) (alike
   done_goes (SentMutate chunk number) id place at said =
       on_cond Goes (is_own_data d0 id number) (succeeds d0 (less_live x chunk) chunk place) d0
       (λ own.
-          let parts = and_parts (id.client.0 == s.id) (id.seq == number) own in
-          succeeds_done m client o is_open d0 (less_live x chunk) chunk place hand at.0 (said (eqb-true id.client.0 s.id parts.0) (eqb-true id.seq number parts.1)))
+      let parts = and_parts (id.client.0 == s.id) (id.seq == number) own in
+      succeeds_done m client o is_open d0 (less_live x chunk) chunk place hand at.0 (said (eqb-true id.client.0 s.id parts.0) (eqb-true id.seq number parts.1)))
       (λ _. nothing)
   done_goes other id place at said = nothing
 
@@ -270,10 +268,10 @@ module _ (m : Machine) (client : ℕ) (s : ClientState) (x : CurrentCall) (alike
   bytes_goes (SentRead chunk left asked) number bytes at said =
       on_cond Goes ((asked == number) && not (is_length x.asked)) (gets d0 x bytes (Some chunk.round.0)) d0
       (λ own.
-          let parts = and_parts (asked == number) (not (is_length x.asked)) own in
-          let plain : is_length x.asked ≡ false = not_true (is_length x.asked) parts.1 in
-          let read = a_read m (id_of client o) x.file.0 x.index x.bytes x.rounds o.pieces x.asked open_call.done at.0 plain in
-          gets_done m client o is_open d0 x read.0 read.1 read.2 read.3 bytes (Some chunk.round.0) (said (eqb-true asked number parts.0) plain) hand)
+      let parts = and_parts (asked == number) (not (is_length x.asked)) own in
+      let plain : is_length x.asked ≡ false = not_true (is_length x.asked) parts.1 in
+      let read = a_read m (id_of client o) x.file.0 x.index x.bytes x.rounds o.pieces x.asked open_call.done at.0 plain in
+      gets_done m client o is_open d0 x read.0 read.1 read.2 read.3 bytes (Some chunk.round.0) (said (eqb-true asked number parts.0) plain) hand)
       (λ _. nothing)
     where
       not_true : (b : Bool) → not b ≡ true → b ≡ false
@@ -285,11 +283,11 @@ module _ (m : Machine) (client : ℕ) (s : ClientState) (x : CurrentCall) (alike
   len_goes (SentRead chunk left asked) number count said =
       on_cond Goes ((asked == number) && is_length x.asked) (completes d0 x (answer.Length (place_in_file (file_chunk d0.client x.file.0) chunk.index count))) d0
       (λ own.
-          let parts = and_parts (asked == number) (is_length x.asked) own in
-          let told = said (eqb-true asked number parts.0) parts.1 in
-          let at : place_in_file (file_chunk d0.client x.file.0) chunk.index count ≡ chunk.index * m.config.chunk + count =
-              ap (λ (c : Config). place_in_file c.chunk chunk.index count) alike.settings ∙ min-eq_left told.0 in
-          length_done m client o is_open d0 x (place_in_file (file_chunk d0.client x.file.0) chunk.index count) parts.1 (subst (λ (n : ℕ). Contains o.lengths n) (sym at) told.1) hand)
+      let parts = and_parts (asked == number) (is_length x.asked) own in
+      let told = said (eqb-true asked number parts.0) parts.1 in
+      let at : place_in_file (file_chunk d0.client x.file.0) chunk.index count ≡ chunk.index * m.config.chunk + count =
+      ap (λ (c : Config). place_in_file c.chunk chunk.index count) alike.settings ∙ min-eq_left told.0 in
+      length_done m client o is_open d0 x (place_in_file (file_chunk d0.client x.file.0) chunk.index count) parts.1 (subst (λ (n : ℕ). Contains o.lengths n) (sym at) told.1) hand)
       (λ _. nothing)
   len_goes other number count said = nothing
 
@@ -336,7 +334,7 @@ module _ (m : Machine) (client : ℕ) (s : ClientState) (x : CurrentCall) (alike
   takes_goes other of said = nothing
 
   has_answer : (reply : Answer) → Staged (HasAnswer reply) → Goes (completes d0 x reply)
-  has_answer reply at = completes_done m client o is_open d0 x reply hand at.1 (λ _. at.0)
+  has_answer reply at = completes_done m client o is_open d0 x reply hand at.2 (λ _. at.1)
 
   takes_at_goes : (y : Message) (st : Stage) → Staged st → IsOfFile x.stage → Said x.stage y.body → Goes (takes_at d0 x y st)
   takes_at_goes y (HasAnswer reply) at of said = has_answer reply at

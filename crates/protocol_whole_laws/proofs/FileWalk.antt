@@ -1,6 +1,6 @@
 -- What a client's step for its call on a file comes to, over a machine that takes no more than its answer.
-use Rattle.std.proofs.Common.{◌≡◌, ◌⊎◌, ⊎_elim, ℕ, zero, suc, ◌+◌, ◌*◌, ◌/◌, ◌<◌, ◌≤◌, Bool, true, false, cond, min, List, [], ◌∷◌, ◌++◌, length, Option, Some, None, refl, sym, ap, subst, ◌∙◌, inl, inr, arith}
-use Rattle.std.specs.Prelude.{◌-◌, ◌==◌, ◌&&◌, ◌||◌, not, nat_lt, Contains, flat_map, filter_map, IfSome, IsSome, IsTrue, IsFalse}
+use Rattle.std.proofs.Common.{◌≡◌, ◌⊎◌, ℕ, suc, ◌+◌, ◌*◌, ◌/◌, ◌<◌, Bool, true, false, cond, List, [], ◌∷◌, ◌++◌, length, Option, Some, None, refl, sym, ap, subst, ◌∙◌, inl, inr, arith}
+use Rattle.std.specs.Prelude.{◌-◌, ◌==◌, ◌&&◌, ◌||◌, not, nat_lt, Contains, flat_map, filter_map, IfSome, IsSome, IsTrue}
 use Rattle.std.specs.Option.{option_to_list}
 use Rattle.std.specs.List.{AllByRecursion, list_any}
 use Rattle.std.specs.Map.{lookup}
@@ -10,7 +10,6 @@ use Rattle.std.proofs.Math.Nat.{min-eq_left}
 use Rattle.gfs_types.specs.declared.config.Config.{Config}
 use Rattle.gfs_types.specs.declared.ids.ServerId.{ServerId}
 use Rattle.gfs_types.specs.declared.ids.Fd.{Fd}
-use Rattle.gfs_types.specs.declared.ids.FileId.{FileId}
 use Rattle.gfs_types.specs.declared.call.Call.{Call}
 use Rattle.gfs_types.specs.declared.call.Call.TheVariants as call
 use Rattle.gfs_types.specs.declared.answer.Answer.{Answer}
@@ -22,32 +21,27 @@ use Rattle.messages.specs.declared.message.Holder.{Holder}
 use Rattle.messages.specs.declared.message.Group.{Group}
 use Rattle.relaxed_file.specs.Order.{CallId}
 use Rattle.relaxed_file.specs.Parts.{has_part, part_length}
-use Rattle.relaxed_file.specs.Machine.{Machine, Client, OpenCall, IsOpen, Piece, put, chunk_count}
+use Rattle.relaxed_file.specs.Machine.{Machine, Client, OpenCall, IsOpen, Piece, put}
 use Rattle.relaxed_file.specs.NameStep.{is_name_call}
-use Rattle.relaxed_file.specs.Answers.{HasSuccess, IsWrite, IsAppendAt, IsDone, MayReturn, may_give_up, descriptors_after, returned}
+use Rattle.relaxed_file.specs.Answers.{HasSuccess, IsWrite, IsDone, MayReturn, may_give_up, descriptors_after, returned}
 use Rattle.relaxed_file.specs.Run.{Return, after}
 use Rattle.relaxed_file.proofs.Tables.{put_same, put_other, at_some}
 use Rattle.name_projections.proofs.Chunks.{file_calls_keep_names}
-use Rattle.client_state.specs.declared.kept.Place.{Place}
 use Rattle.client_state.specs.declared.kept.Cached.{Cached}
-use Rattle.client_state.specs.declared.kept.OpenFile.{OpenFile}
 use Rattle.client_state.specs.declared.call.CurrentCall.{CurrentCall}
 use Rattle.client_state.specs.declared.call.ToldChunk.{ToldChunk}
-use Rattle.client_state.specs.declared.call.Stage.{Stage}
-use Rattle.client_state.specs.declared.call.Stage.TheVariants.{AskedNames, AskedWhere, MustAskAgain, SentData, SentMutate, SentRead, IsOver, HasAnswer}
-use Rattle.protocol.specs.Sending.{moment_of}
+use Rattle.client_state.specs.declared.call.Stage.TheVariants.{IsOver, HasAnswer}
 use Rattle.protocol.specs.PushBuffer.{next_hop}
-use Rattle.protocol.specs.Client.{file_chunk, place_in_file, ClientState, ClientDoing, Plan, client_begins, committed, with_current, answers}
-use Rattle.protocol.specs.ClientCache.{is_same_place, last_opened, last_opened_of, is_fresh, fresh_one, cached, cache_after_look}
-use Rattle.protocol.specs.ClientFiles.{with_last_append}
-use Rattle.protocol.specs.ClientAttempts.{is_mutation, is_length, is_append, read_count, has_next_part, is_live_at, completes, last_refusal, gives_up, ended, is_last_attempt, ends_refused, ask_planned, asks, read_planned, reads_next, again_planned, push_planned_to, push_planned, mutate_planned, chunk_of, goes_on_at, will_do, begins_with, begins_at, chunk_to_find, attempts, begins_next_part, forgets}
+use Rattle.protocol.specs.Client.{file_chunk, place_in_file, ClientDoing, Plan, committed, with_current, answers}
+use Rattle.protocol.specs.ClientCache.{is_same_place, last_opened, last_opened_of, is_fresh, fresh_one, cached}
+use Rattle.protocol.specs.ClientAttempts.{is_mutation, is_length, is_append, read_count, has_next_part, is_live_at, completes, last_refusal, gives_up, ended, is_last_attempt, ends_refused, ask_planned, asks, read_planned, reads_next, again_planned, push_planned_to, push_planned, chunk_of, goes_on_at, will_do, begins_with, begins_at, chunk_to_find, attempts, begins_next_part, forgets}
 use Rattle.protocol.specs.ClientTakes.{gets, succeeds}
 use Rattle.protocol_laws.proofs.Steps.{on_cond, none_some, same_some, same_or_not}
 use Rattle.protocol_step_laws.proofs.Caches.{found}
 use Rattle.protocol_step_laws.proofs.ClientWalk.{looked, noted, place_at, attempt_end}
 use Rattle.protocol_step_laws.proofs.OpenFiles.{HasRow, noted_since, noted_there}
 use Rattle.protocol_name_laws.specs.FollowedClients.{answer_shown}
-use Rattle.protocol_whole_laws.specs.FileClients.{id_of, IsKeptNote, AreOfPlaces, IsReadSoFar, IsDoneSoFar, IsNotedChunk, IsLasting, IsStageAt, IsFileCall, IsCallAlike, IsFileClient, IsElsewhereSame, IsFollowed, IsWithinPlaces, IsPartSettled}
+use Rattle.protocol_whole_laws.specs.FileClients.{id_of, IsKeptNote, AreOfPlaces, IsReadSoFar, IsDoneSoFar, IsNotedChunk, IsLasting, IsStageAt, IsFileClient, IsElsewhereSame, IsFollowed, IsPartSettled}
 use Rattle.protocol_whole_laws.proofs.ClientCaches.{all_of, dropped, looked_into, places_after_drop, places_after_look, kept_since}
 use Rattle.protocol_whole_laws.proofs.ReadPieces.{flat_last, filter_last, IsLast, pieces_end, pieces_grow}
 use Rattle.protocol_whole_laws.proofs.Parts.{none_below, none_beyond}
@@ -189,7 +183,9 @@ module _ (m : Machine) (client : ℕ) (o : OpenCall) (is_open : IsOpen m client 
   pub completes_done : (d : ClientDoing) (x : CurrentCall) (reply : Answer) → Hand d x → MayReturn m client o reply → (list_any (is_live_at d.client.now) x.live ≡ true → IsLasting reply) → Done (completes d x reply)
   completes_done d x reply h may lasting =
       on_cond Done (is_mutation x.asked && list_any (is_live_at d.client.now) x.live) (with_current d (record x { stage = HasAnswer reply })) (answers d reply)
-      (λ live. rests d (record x { stage = HasAnswer reply }) h (lasting (and_parts (is_mutation x.asked) (list_any (is_live_at d.client.now) x.live) live).1, may)) (λ _. answered d x reply h may)
+      (λ both.
+      let parts = and_parts (is_mutation x.asked) (list_any (is_live_at d.client.now) x.live) both in
+      rests d (record x { stage = HasAnswer reply }) h (parts.0, lasting parts.1, may)) (λ _. answered d x reply h may)
 
   gives_up_done : (d : ClientDoing) (x : CurrentCall) → Hand d x → Done (gives_up d x)
   gives_up_done d x h =
@@ -284,7 +280,7 @@ module _ (m : Machine) (client : ℕ) (o : OpenCall) (is_open : IsOpen m client 
       good : (c : Cached) → lookup (is_same_place (place_at x index)) d.client.cache.entries ≡ Some c → is_fresh d.client x.file.0 c ≡ true → IsNoteOf x c
       good c at test =
           let there = found (IsKeptNote (m.clients client).notes d.client.files d.client.fd_count) (is_same_place (place_at x index)) d.client.cache.entries c at
-              (all_of (IsKeptNote (m.clients client).notes d.client.files d.client.fd_count) d.client.cache.entries h.kept) in
+          (all_of (IsKeptNote (m.clients client).notes d.client.files d.client.fd_count) d.client.cache.entries h.kept) in
           let file_is : x.file.0 ≡ (there.0).file = eqb-true x.file.0 (there.0).file (and_parts (x.file.0 == (there.0).file) (index == (there.0).index) there.1).0 in
           let opened = eqb-true c.opened.0 (last_opened d.client x.file.0) (and_parts (c.opened.0 == last_opened d.client x.file.0) (nat_lt (d.client.now - c.told.0) d.client.config.cache_ms) test).0 in
           elim there.2.noted [
@@ -454,7 +450,7 @@ module _ (m : Machine) (client : ℕ) (o : OpenCall) (is_open : IsOpen m client 
   append_done d x chunk place h is settled =
       let has : IsPartSettled m id x.file.0 x.index chunk.index place (call.Append is.0 is.1) = subst (λ (c : Call). IsPartSettled m id x.file.0 x.index chunk.index place c) is.2 settled in
       let at : place_in_file (file_chunk d.client x.file.0) chunk.index place ≡ chunk.index * m.config.chunk + place =
-          ap (λ (size : ℕ). place_in_file size chunk.index place) (size_is d x h) ∙ min-eq_left has.0 in
+      ap (λ (size : ℕ). place_in_file size chunk.index place) (size_is d x h) ∙ min-eq_left has.0 in
       let reply : Answer = answer.At (place_in_file (file_chunk d.client x.file.0) chunk.index place) in
       completes_done (noted d x.file.0 (Some chunk.index)) x reply (appended_hand d x (Some chunk.index) h)
       (subst (λ (c : Call). IsDone m client o c reply) (sym (h.call_is ∙ is.2)) (x.file.0, h.file_is, chunk.index, place, at, has.1, has.2)) (λ _. tt)
@@ -501,7 +497,7 @@ module _ (m : Machine) (client : ℕ) (o : OpenCall) (is_open : IsOpen m client 
       ends none =
           let first = none_below m.config.chunk offset count x.index so_far.1 in
           let each : (part : ℕ) → IsTrue (has_part m.config.chunk offset count part) → HasSuccess m client id x.file.0 part IsWrite =
-              λ part has. all_done part (none_beyond m.config.chunk offset count x.index part first (sym next_is ∙ none) has) has in
+          λ part has. all_done part (none_beyond m.config.chunk offset count x.index part first (sym next_is ∙ none) has) has in
           completes_done d x answer.Done h
           (subst (λ (c : Call). IsDone m client o c answer.Done) (sym (h.call_is ∙ is.3)) (
             subst (λ (f : Option ℕ). IfSome f (λ file. (part : ℕ) → IsTrue (has_part m.config.chunk offset count part) → HasSuccess m client id file part IsWrite)) (sym h.file_is) each,

@@ -1,6 +1,10 @@
 pub mod ClientCaches
 pub mod Decided
 pub mod EndedRounds
+pub mod FileAnswers
+pub mod FileCallsBegun
+pub mod FileClientsStay
+pub mod FileOpenings
 pub mod FileSteps
 pub mod FileWalk
 pub mod GrantedRecords
@@ -10,6 +14,8 @@ pub mod MasterKept
 pub mod MasterNames
 pub mod MasterSnapshots
 pub mod MasterSteps
+pub mod NotesBelow
+pub mod OwnParts
 pub mod Parts
 pub mod PassedRounds
 pub mod ReadPieces
@@ -20,6 +26,7 @@ pub mod Settlements
 pub mod SoundLogs
 pub mod StoppedSteps
 pub mod ToldRounds
+pub mod UnusedNumbers
 pub mod WholeLogs
 pub mod WholeSteps
 pub mod WholeStops

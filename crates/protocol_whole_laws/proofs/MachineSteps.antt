@@ -1,22 +1,19 @@
 -- What a note or a look of a client changes at the machine: of the client alone, and what is done of its call stays done.
-use Rattle.std.proofs.Common.{◌≡◌, ◌⊎◌, ℕ, zero, suc, ◌/◌, ◌<◌, ◌≤◌, Bool, true, false, List, [], ◌∷◌, ◌++◌, length, Option, Some, None, refl, sym, ap, subst, ◌∙◌, inl, inr, arith}
-use Rattle.std.specs.Prelude.{nat_lt, Contains, IfSome, IsTrue, IsFalse, option_map}
+use Rattle.std.proofs.Common.{◌≡◌, ◌⊎◌, ℕ, suc, ◌/◌, ◌≤◌, true, false, List, [], ◌∷◌, Option, Some, None, refl, sym, ap, subst, ◌∙◌, inl, inr, arith}
+use Rattle.std.specs.Prelude.{Contains, IfSome, option_map}
 use Rattle.gfs_types.specs.declared.call.Call.{Call}
 use Rattle.gfs_types.specs.declared.call.Call.TheVariants as call
-use Rattle.gfs_types.specs.declared.answer.Answer.{Answer}
-use Rattle.relaxed_file.specs.Order.{CallId, Entry}
-use Rattle.relaxed_file.specs.Parts.{has_part}
-use Rattle.relaxed_file.specs.Machine.{Machine, Client, OpenCall, IsOpen, Piece, put, with_client, with_step}
+use Rattle.relaxed_file.specs.Order.{CallId}
+use Rattle.relaxed_file.specs.Machine.{Machine, Client, OpenCall, IsOpen, Piece, with_client, with_step}
 use Rattle.relaxed_file.specs.Answers.{HasSuccess, IsWrite}
-use Rattle.relaxed_file.specs.Run.{Action, Visible, Allows, after, after_all, shown, visible}
-use Rattle.relaxed_file.proofs.Tables.{put_same, put_other, from_some}
+use Rattle.relaxed_file.specs.Run.{Action, Visible, Allows, after, shown, visible}
+use Rattle.relaxed_file.proofs.Tables.{put_same, put_other}
 use Rattle.name_runs.specs.Laws.{is_name_action}
 use Rattle.name_projections.proofs.Chunks.{chunk_actions_keep_names}
-use Rattle.client_state.specs.declared.kept.Place.{Place}
 use Rattle.protocol.specs.Client.{ClientDoing}
 use Rattle.std.specs.List.{cons_option}
-use Rattle.protocol_laws.proofs.Steps.{same_or_not, none_some}
-use Rattle.protocol_whole_laws.specs.FileClients.{AreWhole, IsReadSoFar, IsDoneSoFar, IsElsewhereSame, IsFollowed}
+use Rattle.protocol_laws.proofs.Steps.{same_or_not}
+use Rattle.protocol_whole_laws.specs.FileClients.{AreWhole, IsDoneSoFar, IsElsewhereSame, IsFollowed}
 use Rattle.protocol_whole_laws.proofs.ClientCaches.{note_put, note_there, note_apart}
 
 -- one more action that no client sees comes first
@@ -71,7 +68,7 @@ HaveAll old new = (p : Piece) → Contains old p → Contains new p
 pub one_more : (p : Piece) (ps : List Piece) → HaveAll ps (p ∷ ps)
 one_more p ps q there = (suc there.0, (let low = there.1 in omega (arith, low)), there.2)
 
-whole_on : (size offset count part index : ℕ) (old new ps : List Piece) → HaveAll old new → AreWhole size offset count old part index ps → AreWhole size offset count new part index ps
+pub whole_on : (size offset count part index : ℕ) (old new ps : List Piece) → HaveAll old new → AreWhole size offset count old part index ps → AreWhole size offset count new part index ps
 whole_on size offset count part index old new [] all h = h
 whole_on size offset count part index old new (p ∷ ps) all h = (h.0, all p h.1, h.2, h.3, whole_on size offset count part (suc index) old new ps all h.4)
 

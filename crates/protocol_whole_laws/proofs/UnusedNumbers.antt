@@ -1,12 +1,12 @@
 -- Nothing is placed yet under the number of a client's next call.
-use Rattle.std.proofs.Common.{◌≡◌, ℕ, zero, suc, ◌+◌, ◌<◌, Bool, true, false, List, [], ◌∷◌, Option, Some, None, refl, sym, ap, subst, ◌∙◌, arith}
-use Rattle.std.specs.Prelude.{count_by, not, cond, IsTrue}
+use Rattle.std.proofs.Common.{◌≡◌, ℕ, zero, suc, ◌+◌, Bool, true, false, List, [], ◌∷◌, Some, refl, sym, ap, subst, ◌∙◌, arith}
+use Rattle.std.specs.Prelude.{count_by, not, cond}
 use Rattle.gfs_types.specs.Mutations.{is_pad}
 use Rattle.std.specs.List.{AllByRecursion}
 use Rattle.gfs_types.specs.declared.config.Config.{Config}
 use Rattle.relaxed_file.specs.Order.{CallId, Entry, same_call}
 use Rattle.relaxed_file.specs.Chunks.{tries_in, tries_below}
-use Rattle.relaxed_file.specs.Machine.{Machine, Client, Chunk, chunk_at}
+use Rattle.relaxed_file.specs.Machine.{Machine, chunk_at}
 use Rattle.relaxed_file.specs.Run.{IsReached}
 use Rattle.relaxed_file.specs.RunLaws.{WasAskedFor}
 use Rattle.relaxed_file.proofs.Tries.{is_try, one_try, tries_cons}
@@ -34,9 +34,13 @@ module _ (config : Config) (m : Machine) (reached : IsReached config m) (client 
   none_in : (index : ℕ) (order : List Entry) → AllByRecursion (WasAskedFor m index) order → count_by (is_try next) order ≡ 0
   none_in index [] all = refl
   none_in index (e ∷ rest) all =
-      tries_cons next e rest ∙ ap (λ (b : Bool). cond b 1 0 + count_by (is_try next) rest) (not_next index e all.0) ∙ none_in index rest all.1
+      let one : one_try next e ≡ 0 = ap (λ (b : Bool). cond b 1 0) (not_next index e all.0) in
+      let more : count_by (is_try next) rest ≡ 0 = none_in index rest all.1 in
+      tries_cons next e rest ∙ (let sum : one_try next e + count_by (is_try next) rest ≡ 0 = omega (arith, one, more) in sum)
 
   pub none_placed : (file count : ℕ) → tries_below (m.files file).chunks next count ≡ 0
   none_placed file zero = refl
   none_placed file (suc count) =
-      ap (λ (n : ℕ). n + tries_in next (chunk_at m file count)) (none_placed file count) ∙ none_in count (chunk_at m file count).order (entries_were_asked_for config m reached file count)
+      let below : tries_below (m.files file).chunks next count ≡ 0 = none_placed file count in
+      let here : tries_in next (chunk_at m file count) ≡ 0 = none_in count (chunk_at m file count).order (entries_were_asked_for config m reached file count) in
+      omega (arith, below, here)

@@ -1,20 +1,16 @@
 -- A call on a file begins at a client and at the machine (sections 2.3, 2.4 and 2.7.1).
-use Rattle.std.specs.Prelude.{◌≡◌, ℕ, suc, ◌≤◌, Option, Some, None, IsTrue, IsFalse}
+use Rattle.std.specs.Prelude.{◌≡◌, ℕ, ◌≤◌, Some, None, IsFalse}
 use Rattle.std.specs.FinMap as table
 use Rattle.gfs_types.specs.declared.config.Config.{Config}
 use Rattle.gfs_types.specs.declared.call.Call.{Call}
-use Rattle.gfs_types.specs.declared.answer.Answer.{Answer}
 use Rattle.gfs_types.specs.declared.answer.Answer.TheVariants as answer
 use Rattle.gfs_types.specs.declared.refusal.Refusal.TheVariants.{NoMemory}
-use Rattle.relaxed_file.specs.Machine.{Machine, OpenCall, IsOpen}
+use Rattle.relaxed_file.specs.Machine.{Machine}
 use Rattle.relaxed_file.specs.NameStep.{is_name_call}
-use Rattle.relaxed_file.specs.Run.{Invoke, Return, ReturnFd, Allows, after, IsReached}
+use Rattle.relaxed_file.specs.Run.{Invoke, Allows, after, IsReached}
 use Rattle.name_projections.specs.Laws.{AreNamesOf}
-use Rattle.client_state.specs.declared.call.CurrentCall.{CurrentCall}
-use Rattle.client_state.specs.declared.call.Stage.TheVariants.{AskedNames}
 use Rattle.protocol.specs.Client.{ClientState, ClientDoing, client_begins, answers}
-use Rattle.protocol.specs.ClientTakes.{opens}
-use Rattle.protocol.specs.ClientStep.{client_at, client_call_goes, fd_of}
+use Rattle.protocol.specs.ClientStep.{client_at, client_call_goes}
 use Rattle.protocol_whole_laws.specs.FileClients.{IsFileClient, IsFileOpen, IsFollowed}
 
 -- the call is open at the machine, and the client goes on with it, or is answered at once

@@ -7,7 +7,7 @@ use Rattle.gfs_types.specs.declared.answer.Answer.TheVariants as answer
 use Rattle.gfs_types.specs.declared.call.Call.{Call}
 use Rattle.gfs_types.specs.declared.call.Call.TheVariants as call
 use Rattle.gfs_types.specs.declared.refusal.Refusal.{Refusal}
-use Rattle.gfs_types.specs.declared.refusal.Refusal.TheVariants.{TooLong, Collected}
+use Rattle.gfs_types.specs.declared.refusal.Refusal.TheVariants.{TooLong, Collected, NoMemory}
 use Rattle.messages.specs.declared.event.Input.{Input}
 use Rattle.messages.specs.declared.event.Input.TheVariants as input
 use Rattle.messages.specs.declared.message.Body.{Body}
@@ -15,7 +15,7 @@ use Rattle.messages.specs.declared.message.Body.TheVariants as body
 use Rattle.messages.specs.declared.message.Location.{Location}
 use Rattle.relaxed_file.specs.Order.{CallId}
 use Rattle.relaxed_file.specs.Parts.{has_part, part_length, is_range_too_long}
-use Rattle.relaxed_file.specs.Machine.{Machine, Client, OpenCall, IsOpen, Told, NoSuchChunk, Piece, chunk_count}
+use Rattle.relaxed_file.specs.Machine.{Machine, OpenCall, IsOpen, Told, NoSuchChunk, Piece, chunk_count}
 use Rattle.relaxed_file.specs.Answers.{HasSuccess, IsWrite, IsAppendAt, IsCause, MayReturn}
 use Rattle.relaxed_file.specs.Run.{Action, IsLawful, visible, after_all}
 use Rattle.name_projections.specs.Laws.{AreNamesOf}
@@ -89,16 +89,17 @@ pub record IsNotedChunk (m : Machine) (client file : ℕ) (o : OpenCall) (asked 
   pub noted : (m.clients client).notes file chunk.index ≡ Some chunk.round.0
   pub last : IsTrue (is_length asked) → Contains o.offers (Told chunk.index chunk.round.0 (suc chunk.index))
 
--- An answer that waits until no attempt is live: what refuses it for good is no refusal that an entry would gainsay.
+-- An answer that waits until no attempt is live: no refusal that what is placed or begun meanwhile would gainsay.
 abbrev pub IsLasting : Answer → Type 0
 IsLasting (answer.Refused TooLong) = ⊥
+IsLasting (answer.Refused NoMemory) = ⊥
 IsLasting other = Unit {0}
 
 abbrev pub IsStageAt : Machine → ℕ → ℕ → OpenCall → Call → Stage → Type 0
 IsStageAt m client file o asked (SentData chunk primary number) = IsTrue (is_mutation asked) × IsNotedChunk m client file o asked chunk
 IsStageAt m client file o asked (SentMutate chunk number) = IsTrue (is_mutation asked) × IsNotedChunk m client file o asked chunk
 IsStageAt m client file o asked (SentRead chunk left number) = IsFalse (is_mutation asked) × IsNotedChunk m client file o asked chunk
-IsStageAt m client file o asked (HasAnswer reply) = IsLasting reply × MayReturn m client o reply
+IsStageAt m client file o asked (HasAnswer reply) = IsTrue (is_mutation asked) × IsLasting reply × MayReturn m client o reply
 IsStageAt m client file o asked other = Unit {0}
 
 -- The client's call on a file is open at the machine, and has come as far.

@@ -1,5 +1,8 @@
+pub mod FileAnswers
 pub mod FileCallsBegin
 pub mod FileClients
+pub mod FileClientsStay
+pub mod FileOpenings
 pub mod FileSteps
 pub mod GrantedRecords
 pub mod MasterSteps

@@ -1,7 +1,10 @@
 //! Laws of the whole machine beside a cell: its steps, and from each world to the next.
 #![tactic(auto)]
 
+pub mod file_answers;
 pub mod file_calls_begin;
+pub mod file_clients_stay;
+pub mod file_openings;
 pub mod file_steps;
 pub mod master_steps;
 pub mod record_dues;
