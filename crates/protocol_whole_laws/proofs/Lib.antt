@@ -1,3 +1,4 @@
+pub mod ChunksBeside
 pub mod ClientCaches
 pub mod Decided
 pub mod EndedRounds

@@ -1,3 +1,4 @@
+pub mod ChunksBeside
 pub mod FileAnswers
 pub mod FileCallsBegin
 pub mod FileClients

@@ -1,6 +1,7 @@
 //! Laws of the whole machine beside a cell: its steps, and from each world to the next.
 #![tactic(auto)]
 
+pub mod chunks_beside;
 pub mod file_answers;
 pub mod file_calls_begin;
 pub mod file_clients_stay;
