@@ -162,7 +162,7 @@ module _ (config : Config) (servers clients : ℕ) (w : WorldState) (r : IsReach
     by_count handle version zero is = inl (ungranted_is_over config servers clients next (reached_later config servers clients w ((e, choice) ∷ []) r) handle version is)
     by_count handle version (suc count) is = by_before handle version (omega (arith, is)) (grants_of handle version w.sent) refl
 
-    rounds_go : HasRounds (IsLeaseOver next) j
+    pub rounds_go : HasRounds (IsLeaseOver next) j
     rounds_go handle version = by_count handle version (grants_of handle version next.sent) refl
 
 -- an event that is no step of the master
@@ -271,7 +271,7 @@ grant_is handle version (body.Grant order h v end_moment members) is =
     record { order = order; named = h; number = v; end_moment = end_moment; members = members; body_is = refl; handle_is = eqb-true h.0 handle parts.0; version_is = eqb-true v.0 version parts.1 }
 grant_is handle version other is = absurd (let no : false ≡ true = is in cc)
 
-new_rounds : (w : WorldState) (e : Event) (choice : Choice) (j : ChunkSides) → SentGrantsAreOpen w (happens w e choice).world j → NewRoundsAreOpen w (happens w e choice).world j
+pub new_rounds : (w : WorldState) (e : Event) (choice : Choice) (j : ChunkSides) → SentGrantsAreOpen w (happens w e choice).world j → NewRoundsAreOpen w (happens w e choice).world j
 new_rounds w e choice j sent handle version none some =
     let found = some_place handle version (happens w e choice).world.sent some in
     elim (cases_lt found.0 (length w.sent)) [

@@ -9,6 +9,7 @@ pub mod FileOpenings
 pub mod FileSteps
 pub mod FileWalk
 pub mod GrantedRecords
+pub mod GrantedSources
 pub mod MachineSteps
 pub mod MasterChunks
 pub mod MasterKept
@@ -21,10 +22,12 @@ pub mod Parts
 pub mod PassedRounds
 pub mod ReadPieces
 pub mod RecordDues
+pub mod RecordRounds
 pub mod RecordTimes
 pub mod ServerSteps
 pub mod Settlements
 pub mod SoundLogs
+pub mod StepCopies
 pub mod StoppedSteps
 pub mod ToldRounds
 pub mod UnusedNumbers

@@ -1,5 +1,5 @@
 -- The world in which a step of the master has stopped after some of its changes tells what its log says then.
-use Rattle.std.proofs.Common.{◌≡◌, ◌⊎◌, ℕ, zero, suc, ◌≤◌, ◌<◌, Bool, true, false, cond, List, [], ◌∷◌, ◌++◌, length, Option, Some, None, refl, sym, ap, subst, ◌∙◌, inl, inr, arith}
+use Rattle.std.proofs.Common.{◌≡◌, ◌⊎◌, ℕ, zero, suc, ◌≤◌, ◌<◌, Bool, true, false, cond, List, [], ◌∷◌, ◌++◌, take, length, Option, Some, None, refl, sym, ap, subst, ◌∙◌, inl, inr, arith}
 use Rattle.std.specs.Prelude.{nat_le, max, IsTrue}
 use Rattle.std.proofs.lemmas.Bool.{leb-true, leb-false}
 use Rattle.std.proofs.lemmas.List.{append-nil}
@@ -16,7 +16,7 @@ use Rattle.chunk_table.specs.ChunkTable.{ChunkRow, chunk_of}
 use Rattle.protocol.specs.Tables.{moment_limit, element_at}
 use Rattle.protocol.specs.Sending.{handle_of}
 use Rattle.protocol.specs.Choice.{Choice, Stops}
-use Rattle.protocol.specs.Logged.{LogDisk, replayed}
+use Rattle.protocol.specs.Logged.{log_changed_by_all, replayed}
 use Rattle.protocol.specs.Master.{MasterState}
 use Rattle.protocol.specs.MasterStep.{master_goes, master_ends, master_bounded, master_step}
 use Rattle.protocol.specs.Seen.{Taken, no_step}
@@ -61,10 +61,10 @@ module _ (config : Config) (servers clients : ℕ) (w : WorldState) (r : IsReach
   it_is : (c : Choice) → happens w e c ≡ taken c
   it_is c = masters_event w e moment i c given ∙ (ap (λ (b : Bool). cond b (master_moves w moment i c) (nothing_happens w)) (true_test moment moment_limit limit) ∙ ap (λ (b : Bool). cond b (taken c) (nothing_happens w)) up)
 
-  abbrev stopping : Choice
+  abbrev pub stopping : Choice
   stopping = record { ending = Stops made; order = []; refused = choice.refused; decided = [] }
 
-  abbrev stopped : WorldState
+  abbrev pub stopped : WorldState
   stopped = (happens w e stopping).world
 
   abbrev then_ : WorldState
@@ -76,7 +76,7 @@ module _ (config : Config) (servers clients : ℕ) (w : WorldState) (r : IsReach
   stopped_is : stopped ≡ (after_master w moment (master_ends w.master (master_goes w.master moment i choice.refused) stopping (Stops made))).world
   stopped_is = ap (λ (h : Happened). h.world) (it_is stopping) ∙ ap (λ (t : Taken MasterState). (after_master w moment t).world) step_is
 
-  reached : IsReached config servers clients stopped
+  pub reached : IsReached config servers clients stopped
   reached = reached_later config servers clients w ((e, stopping) ∷ []) r
 
   later : IsReached config servers clients then_
@@ -85,8 +85,11 @@ module _ (config : Config) (servers clients : ℕ) (w : WorldState) (r : IsReach
   clocks_then : IsTrue stopped.observer.are_clocks_kept
   clocks_then = ap (λ (h : WorldState). h.observer.are_clocks_kept) stopped_is ∙ (sym (ap (λ (h : Happened). h.world.observer.are_clocks_kept) (it_is choice)) ∙ clocks)
 
-  log_is : replayed stopped.master.disk ≡ log_within w.master moment i choice.refused made
+  pub log_is : replayed stopped.master.disk ≡ log_within w.master moment i choice.refused made
   log_is = ap (λ (h : WorldState). replayed h.master.disk) stopped_is
+
+  pub disk_is : stopped.master.disk ≡ log_changed_by_all w.master.disk (take made (master_goes w.master moment i choice.refused).changes)
+  disk_is = ap (λ (h : WorldState). h.master.disk) stopped_is
 
   sent_is : stopped.sent ≡ w.sent
   sent_is = ap (λ (h : WorldState). h.sent) stopped_is ∙ append-nil w.sent

@@ -12,7 +12,11 @@ use Rattle.messages.specs.declared.message.Location.{Location}
 use Rattle.protocol.specs.Tables.{element_at}
 use Rattle.protocol.specs.Sending.{the_client}
 use Rattle.protocol.specs.Choice.{Choice}
+use Rattle.primary_order.specs.declared.order.SerialOrder.{SerialOrder}
 use Rattle.protocol.specs.Logged.{Logged}
+use Rattle.protocol.specs.Observer.{observed_moment}
+use Rattle.protocol.specs.Server.{ServerState, primary_of}
+use Rattle.protocol.specs.ServerStep.{server_at}
 use Rattle.protocol.specs.World.{WorldState, happens, IsReached}
 use Rattle.protocol_laws.specs.Laws.{grants_of}
 use Rattle.protocol_laws.proofs.Steps.{none_some}
@@ -22,6 +26,7 @@ use Rattle.protocol_step_laws.specs.Attempts.{is_from_client, is_request}
 use Rattle.protocol_step_laws.specs.Reads.{HasAsked}
 use Rattle.protocol_step_laws.specs.Versions.{IsLeaseOver}
 use Rattle.protocol_step_laws.proofs.Histories.{IsGrown, step_grown, stood_before}
+use Rattle.protocol_step_laws.proofs.EndedLeases.{over_leases_number_nothing}
 use Rattle.protocol_step_laws.proofs.LeasesStayOver.{reached_later}
 use Rattle.protocol_step_laws.proofs.RequestsOnce.{requests_are_numbered_once}
 use Rattle.protocol_entry_laws.proofs.Deadlines.{same_counted}
@@ -36,8 +41,8 @@ use Rattle.protocol_invariant.specs.Actions.{Spot}
 use Rattle.protocol_machine_laws.specs.ChunksAlike.{ChunkSides, StandsAt, IsRoundOpen, AreChunksAlike, KeepsRounds, HasRounds}
 use Rattle.protocol_machine_laws.proofs.OpenRounds.{rounds_are_open_at_their_place}
 use Rattle.protocol_whole_laws.specs.Rounds.{IsLogOf, IsEnded}
-use Rattle.protocol_whole_laws.specs.ToldRounds.{IsToldRound, AreToldRounds, NoRoundIsToldAtFirst, ToldRoundsStayOver, ToldRoundsGoOn}
-use Rattle.protocol_whole_laws.proofs.EndedRounds.{ungranted_is_over, leased_chunks_stand_once}
+use Rattle.protocol_whole_laws.specs.ToldRounds.{IsToldRound, AreToldRounds, NoRoundIsToldAtFirst, ToldRoundsStayOver, ToldRoundsGoOn, CountingRoundsAreOpenWhereTold}
+use Rattle.protocol_whole_laws.proofs.EndedRounds.{ungranted_is_over, leased_chunks_stand_once, open_rounds_have_one_spot}
 use Rattle.protocol_whole_laws.proofs.PassedRounds.{passed_on, passed_over, tells_passed, told_passed}
 
 pub no_round_is_told_at_first : NoRoundIsToldAtFirst
@@ -148,3 +153,27 @@ module _ (config : Config) (servers clients : ℕ) (w : WorldState) (r : IsReach
 
 pub told_rounds_go_on : ToldRoundsGoOn
 told_rounds_go_on config servers clients w r e choice clocks k j log h has keeps told = each_told config servers clients w r e choice clocks k j log h has keeps told
+
+-- where a server may number
+
+module _ (config : Config) (servers clients : ℕ) (w : WorldState) (r : IsReached config servers clients w) (clocks : IsTrue w.observer.are_clocks_kept) (k : ChunkSides) (log : IsLogOf w.master k.log) (h : AreChunksAlike k)
+    (moment : ℕ) (now : IsTrue (observed_moment w.config.skew_ms w.observer moment).are_clocks_kept) (index : ℕ) (s : ServerState) (there : element_at w.servers index ≡ Some s)
+    (handle version : ℕ) (p : SerialOrder) (counts : primary_of (server_at s moment) handle version ≡ Some p) where
+  not_over : IsLeaseOver w handle version → ⊥
+  not_over over = none_some p (sym (over_leases_number_nothing config servers clients w r handle version over moment now index s there) ∙ counts)
+
+  one_spot : (at other : Spot) → IsRoundOpen k handle version at → IsRoundOpen k handle version other → at ≡ other
+  one_spot at other first second = elim (leased_chunks_stand_once config servers clients w r clocks k log handle version) [
+    | inl over ↦ absurd (not_over over)
+    | inr once ↦ open_rounds_have_one_spot k h handle version version at other once first second
+  ]
+
+  open_there : (file : ℕ) (l : Location) → l.handle.0 ≡ handle → l.round.0 ≡ version → IsToldRound w k file l → IsRoundOpen k handle version (record { file = file; index = l.index })
+  open_there file l handle_is version_is (inl over) = absurd (not_over (subst (λ (n : ℕ). IsLeaseOver w n version) handle_is (subst (λ (v : ℕ). IsLeaseOver w l.handle.0 v) version_is over)))
+  open_there file l handle_is version_is (inr was_open) =
+      subst (λ (n : ℕ). IsRoundOpen k n version (record { file = file; index = l.index })) handle_is (subst (λ (v : ℕ). IsRoundOpen k l.handle.0 v (record { file = file; index = l.index })) version_is was_open)
+
+pub counting_rounds_are_open_where_told : CountingRoundsAreOpenWhereTold
+counting_rounds_are_open_where_told config servers clients w r clocks k log h told moment now index s there handle version p counts client file l place t handle_is version_is =
+    let here = open_there config servers clients w r clocks k log h moment now index s there handle version p counts file l handle_is version_is (told client file l place t) in
+    (here, λ at was_open. one_spot config servers clients w r clocks k log h moment now index s there handle version p counts at (record { file = file; index = l.index }) was_open here)

@@ -8,6 +8,7 @@ pub mod FileSteps
 pub mod GrantedRecords
 pub mod MasterSteps
 pub mod RecordDues
+pub mod RecordRounds
 pub mod Rounds
 pub mod ServerSteps
 pub mod ToldRounds

@@ -1,5 +1,5 @@
 -- The machine's open rounds from each world of a cell to the next: which event may end one, and why its lease is over then (sections 3.1 and 3.4).
-use Rattle.std.specs.Prelude.{◌≡◌, ◌≢◌, ◌⊎◌, ℕ, ◌<◌, ◌≤◌, Bool, List, length, Some, IsTrue, IsFalse}
+use Rattle.std.specs.Prelude.{◌≡◌, ◌≢◌, ◌⊎◌, ℕ, ◌<◌, ◌≤◌, Bool, List, [], ◌∷◌, length, Some, IsTrue, IsFalse}
 use Rattle.std.specs.FinMap as table
 use Rattle.gfs_types.specs.declared.config.Config.{Config}
 use Rattle.gfs_types.specs.declared.ids.Handle.{Handle}
@@ -18,7 +18,9 @@ use Rattle.protocol.specs.Choice.{Choice, decided_changes, made_changes}
 use Rattle.protocol.specs.Tables.{moment_limit, element_at}
 use Rattle.protocol.specs.Sending.{handle_of}
 use Rattle.protocol.specs.declared.seen.Seen.TheVariants.{CopyStarted}
-use Rattle.protocol.specs.Logged.{Logged, Copy, log_changed_by_all, replayed}
+use Rattle.log_records.specs.declared.record.Record.{Record}
+use Rattle.log_records.specs.declared.record.Record.TheVariants as log
+use Rattle.protocol.specs.Logged.{Logged, Copy, LogDisk, LogChange, AppendRecord, WriteCheckpoint, first_logged, after_records, log_changed, log_changed_by_all, replayed}
 use Rattle.protocol.specs.Master.{MasterState, VersionAttempt}
 use Rattle.protocol.specs.MasterStep.{master_goes, master_step}
 use Rattle.protocol.specs.World.{WorldState, numbered_from_1, happens, IsReached}
@@ -131,3 +133,23 @@ LogsWithinStepsEndLeases =
     → (made handle : ℕ) (row : ChunkRow) → chunk_of (log_within w.master moment i choice.refused made).table handle ≡ Some row
     → ((version : ℕ) → 1 ≤ grants_of handle version w.sent → (2 ≤ row.references) ⊎ (version ≢ row.granted) → IsLeaseOver (happens w e choice).world handle version)
     × ((version : ℕ) → row.granted < version → grants_of handle version w.sent ≡ 0)
+
+-- what a log says, with the copies under way
+abbrev pub log_on : LogDisk → Logged
+log_on d = after_records (after_records first_logged d.items) d.records
+
+-- where a record grants a copy that is under way in this log, each lease of its source is over
+abbrev pub IsSourceOver : WorldState → Logged → Record → Type 0
+IsSourceOver w l (log.Grant handle version primary members) = (c : Copy) → table.get l.copies handle.0 ≡ Some c → AreLeasesOver w c.source
+IsSourceOver w l other = Unit {0}
+
+abbrev pub AreSourcesOver : WorldState → LogDisk → List LogChange → Type 0
+AreSourcesOver w d [] = Unit {0}
+AreSourcesOver w d (AppendRecord r ∷ rest) = IsSourceOver w (log_on d) r × AreSourcesOver w (log_changed d (AppendRecord r)) rest
+AreSourcesOver w d (WriteCheckpoint items ∷ rest) = AreSourcesOver w (log_changed d (WriteCheckpoint items)) rest
+
+-- Where clocks are kept and a step of the master grants a copy, each lease of its source is over before the step.
+abbrev pub SourcesOfGrantedCopiesHaveNoLease : Type 0
+SourcesOfGrantedCopiesHaveNoLease =
+    (config : Config) (servers clients : ℕ) (w : WorldState) → IsReached config servers clients w → IsTrue w.observer.are_clocks_kept → IsTrue w.master.up
+    → (moment : ℕ) (i : Input) (refused : List Bool) → AreSourcesOver w w.master.disk (master_goes w.master moment i refused).changes

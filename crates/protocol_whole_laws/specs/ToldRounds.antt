@@ -1,12 +1,18 @@
 -- What clients were told of chunks stands at the machine: the round of each location is open in the file's chunk of its index, or its lease is over (sections 2.4, 3.1 and 3.4).
-use Rattle.std.specs.Prelude.{◌⊎◌, ℕ, List, IsTrue}
+use Rattle.std.specs.Prelude.{◌≡◌, ◌⊎◌, ℕ, List, Some, IsTrue}
 use Rattle.gfs_types.specs.declared.config.Config.{Config}
 use Rattle.messages.specs.declared.event.Event.{Event}
 use Rattle.messages.specs.declared.message.Location.{Location}
+use Rattle.primary_order.specs.declared.order.SerialOrder.{SerialOrder}
 use Rattle.protocol.specs.Choice.{Choice}
+use Rattle.protocol.specs.Tables.{element_at}
+use Rattle.protocol.specs.Server.{ServerState, primary_of}
+use Rattle.protocol.specs.ServerStep.{server_at}
+use Rattle.protocol.specs.Observer.{observed_moment}
 use Rattle.protocol.specs.World.{WorldState, new_world, happens, after_events, IsReached}
 use Rattle.protocol_step_laws.specs.Versions.{IsLeaseOver}
 use Rattle.protocol_version_laws.specs.ReplacedChunks.{IsToldAt}
+use Rattle.protocol_invariant.specs.Actions.{Spot}
 use Rattle.protocol_machine_laws.specs.ChunksAlike.{ChunkSides, IsRoundOpen, AreChunksAlike, KeepsRounds, HasRounds}
 use Rattle.protocol_whole_laws.specs.Rounds.{IsLogOf, IsEnded}
 
@@ -34,3 +40,13 @@ ToldRoundsGoOn =
     (config : Config) (servers clients : ℕ) (w : WorldState) → IsReached config servers clients w → (e : Event) (choice : Choice) → IsTrue (happens w e choice).world.observer.are_clocks_kept
     → (k j : ChunkSides) → IsLogOf w.master k.log → AreChunksAlike k → HasRounds (IsLeaseOver w) k → KeepsRounds (IsEnded w (happens w e choice).world) k j
     → AreToldRounds w k → AreToldRounds (happens w e choice).world j
+
+-- The round under which a server may number a mutation is open at the place for which a client was told it, and nowhere else.
+abbrev pub CountingRoundsAreOpenWhereTold : Type 0
+CountingRoundsAreOpenWhereTold =
+    (config : Config) (servers clients : ℕ) (w : WorldState) → IsReached config servers clients w → IsTrue w.observer.are_clocks_kept
+    → (k : ChunkSides) → IsLogOf w.master k.log → AreChunksAlike k → AreToldRounds w k
+    → (moment : ℕ) → IsTrue (observed_moment w.config.skew_ms w.observer moment).are_clocks_kept
+    → (index : ℕ) (s : ServerState) → element_at w.servers index ≡ Some s → (handle version : ℕ) (p : SerialOrder) → primary_of (server_at s moment) handle version ≡ Some p
+    → (client file : ℕ) (l : Location) (place : ℕ) → IsToldAt w.sent client file l place → l.handle.0 ≡ handle → l.round.0 ≡ version
+    → IsRoundOpen k handle version (record { file = file; index = l.index }) × ((at : Spot) → IsRoundOpen k handle version at → at ≡ record { file = file; index = l.index })

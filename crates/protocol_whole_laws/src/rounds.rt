@@ -1,6 +1,6 @@
 //! Laws of the machine's open rounds from each world of a cell to the next.
 
-ghost use Rattle.protocol_whole_laws.specs.Rounds.{EachEventKeepsRounds, EndedRoundsAreOver, LeasedChunksStandOnce, LogsWithinStepsEndLeases, OpenRoundsHaveOneSpot, OtherEventsKeepRounds, SharedChunksInEachLogHaveNoLease};
+ghost use Rattle.protocol_whole_laws.specs.Rounds.{EachEventKeepsRounds, EndedRoundsAreOver, LeasedChunksStandOnce, LogsWithinStepsEndLeases, OpenRoundsHaveOneSpot, OtherEventsKeepRounds, SharedChunksInEachLogHaveNoLease, SourcesOfGrantedCopiesHaveNoLease};
 
 /// At an event that is no step of the master nothing is granted, so the round of each lease that isn't over stays open.
 pub fn other_events_keep_rounds()
@@ -35,4 +35,9 @@ pub fn each_event_keeps_rounds()
 /// After each change that a step of the master makes of its log: of a chunk that several files own there, and of each version but the granted one, the leases that were granted before are over after the step.
 pub fn logs_within_steps_end_leases()
     ensures { LogsWithinStepsEndLeases }
+{}
+
+/// Each lease of a chunk whose copy a step of the master grants is over before the step.
+pub fn sources_of_granted_copies_have_no_lease()
+    ensures { SourcesOfGrantedCopiesHaveNoLease }
 {}
