@@ -7,6 +7,8 @@ pub mod SoundLogs
 pub mod RecordTimes
 pub mod RecordDues
 pub mod GrantedRecords
+pub mod SentGrants
 pub mod WholeSteps
 pub mod WholeStops
 pub mod WholeLogs
+pub mod OverRounds
