@@ -372,8 +372,8 @@ module _ (config : Config) (servers clients : ℕ) (w : WorldState) (r : IsReach
   all_of_attempts d (AppendRecord q ∷ xs) h = (by_record q h.0, all_of_attempts (log_changed d (AppendRecord q)) xs h.1)
     where
       by_record : (q : Record) → IsGoodChange w.master.logged w.master.attempts d (AppendRecord q) → IsGrantedFrom w.master (state_of d) q
-      by_record (log.Grant handle version primary members) good = of_attempt (state_of d) handle.0 version.0 good
-      by_record other good = tt
+      by_record (log.Grant handle version primary members) one = of_attempt (state_of d) handle.0 version.0 one
+      by_record other one = tt
 
   granted_from : (moment : ℕ) (i : Input) (refused : List Bool) → AreGrantedFrom w.master w.master.disk (master_goes w.master moment i refused).changes
   granted_from moment i refused =

@@ -17,6 +17,7 @@ pub mod MasterNames
 pub mod MasterSnapshots
 pub mod MasterSteps
 pub mod NotesBelow
+pub mod OverRounds
 pub mod OwnParts
 pub mod Parts
 pub mod PassedRounds
@@ -24,6 +25,7 @@ pub mod ReadPieces
 pub mod RecordDues
 pub mod RecordRounds
 pub mod RecordTimes
+pub mod SentGrants
 pub mod ServerSteps
 pub mod Settlements
 pub mod SoundLogs

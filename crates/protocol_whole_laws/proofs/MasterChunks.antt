@@ -31,7 +31,7 @@ use Rattle.gfs_types.specs.Paths.{hidden_name}
 use Rattle.relaxed_file.specs.Names.{Names, node_at}
 use Rattle.protocol_name_laws.specs.Names.{HasNamesOf}
 use Rattle.protocol_invariant.specs.Actions.{Spot, index_in, first_spot, opening}
-use Rattle.protocol_machine_laws.specs.ChunksAlike.{ChunkSides, StandsAt, NoneEnds, KeepsChunks, Follows, moved}
+use Rattle.protocol_machine_laws.specs.ChunksAlike.{ChunkSides, StandsAt, StoodAt, IsRoundOpen, NoneEnds, KeepsChunks, Follows, moved}
 use Rattle.protocol_machine_laws.specs.ChunkRecords.{gone_after}
 use Rattle.protocol_machine_laws.proofs.Plain.{other_changes_keep_chunks}
 use Rattle.protocol_machine_laws.proofs.Adds.{added_chunks_are_added}
@@ -40,7 +40,7 @@ use Rattle.protocol_machine_laws.proofs.Copies.{copies_take_their_place}
 use Rattle.protocol_machine_laws.proofs.Collects.{collected_files_keep_their_chunks}
 use Rattle.protocol_machine_laws.proofs.Rows.{granted_of, counted}
 use Rattle.protocol_whole_laws.specs.MasterSteps.{IsWhole, Comes, IsCopy, EndsAt, MayBeGranted, IsDueAt, HasOpened, recorded}
-use Rattle.protocol_whole_laws.proofs.MasterKept.{keeps_both, comes_both, apart_stands, rows_taken}
+use Rattle.protocol_whole_laws.proofs.MasterKept.{keeps_both, comes_both, apart_stands, no_round, fewer_end, rows_taken}
 use Rattle.protocol_whole_laws.proofs.MasterNames.{more_end}
 use Rattle.protocol_whole_laws.proofs.MasterSnapshots.{AreOfRounds, rounds_keep_names, rounds_unseen}
 
@@ -82,13 +82,21 @@ module _ (k : ChunkSides) (n : Machine) (h : IsWhole k n) where
 
   pub start_taken : (file : FileId) (index : ℕ) (handle copy : Handle) (version : Version) → IsDueAt k (log.CopyStart file index handle copy version) → Taken k n (log.CopyStart file index handle copy version)
   start_taken file index handle copy version due =
-      let r : Record = log.CopyStart file index handle copy version in
-      (
+      let r : Record = log.CopyStart file index handle copy version in (
         k.machine,
-        rows_taken k n (after_record k.log r) (EndsAt k.log r) h (λ q s same at. due s (subst (λ (x : ℕ). StandsAt k.log.table x s) same at))
-            (λ q. elim (same_or_not q copy.0) [ inl same ↦ inl same | inr other ↦ inr (ap granted_of (sym (put_other k.log.table.chunks copy.0 _ q other))) ]) refl (omega arith) (le-max_left k.log.next_handle (copy.0 + 1)),
+        fewer_end (λ q. q ≡ copy.0) (EndsAt k.log r) k (recorded k r k.machine) n new_copy
+            (rows_taken k n (after_record k.log r) (λ q. q ≡ copy.0) h (λ q s same at. due.1 s (subst (λ (x : ℕ). StandsAt k.log.table x s) same at))
+            (λ q. elim (same_or_not q copy.0) [ inl same ↦ inl same | inr other ↦ inr (ap granted_of (sym (put_other k.log.table.chunks copy.0 _ q other))) ]) refl (omega arith) (le-max_left k.log.next_handle (copy.0 + 1))),
         tt,
       )
+    where
+      -- the handle of a new copy stands nowhere, and stood nowhere
+      new_copy : (q version_open : ℕ) (s : Spot) → IsRoundOpen k q version_open s → q ≡ copy.0 → ⊥
+      new_copy q version_open s was_open same = by_place was_open.place
+        where
+          by_place : StandsAt k.log.table q s ⊎ StoodAt k q s → ⊥
+          by_place (inl at) = due.1 s (subst (λ (x : ℕ). StandsAt k.log.table x s) same at)
+          by_place (inr stood) = let low = h.below q s stood.0 in let next = due.0 in omega (arith, low, same, next)
 
   pub add_taken : (file : FileId) (handle : Handle) → IsDueAt k (log.AddChunk file handle) → Taken k n (log.AddChunk file handle)
   add_taken file handle due =
@@ -175,7 +183,7 @@ module _ (k : ChunkSides) (n : Machine) (h : IsWhole k n) (named : HasNamesOf k.
   rest = copies_given_up k.log few
 
   there : (handles : List ℕ) × (file_of k.log.table file ≡ Some handles)
-  there = by_file (file_of k.log.table file) refl (due.2 (hidden_name moment file) file (ap (λ (names : Names). node_at names (hidden_name moment file)) named.0 ∙ may.0))
+  there = by_file (file_of k.log.table file) refl (due.3 (hidden_name moment file) file (ap (λ (names : Names). node_at names (hidden_name moment file)) named.0 ∙ may.0))
     where
       by_file : (o : Option (List ℕ)) → file_of k.log.table file ≡ o → is_some (file_of k.log.table file) ≡ true → (handles : List ℕ) × (file_of k.log.table file ≡ Some handles)
       by_file None is has = absurd (true≢false (sym has ∙ ap is_some is))
@@ -192,8 +200,10 @@ module _ (k : ChunkSides) (n : Machine) (h : IsWhole k n) (named : HasNamesOf k.
       by_list true listed = inl (listed_copied k.log (λ c. c.file == file) q listed)
       by_list false apart = inr (ap granted_of (sym (removed_other k.log.table.chunks few q apart)))
 
-  first : Comes (IsCopy k.log) k (record k { log = rest }) n
-  first = rows_taken k n rest (IsCopy k.log) h (apart_stands k.log (IsCopy k.log) due.1) rows_go refl (omega arith) (omega arith)
+  first : Comes NoneEnds k (record k { log = rest }) n
+  first =
+      fewer_end (IsCopy k.log) NoneEnds k (record k { log = rest }) n (λ q version s was_open copy. no_round k.log (IsCopy k.log) due.1 k refl q version s was_open copy (due.2 q copy))
+      (rows_taken k n rest (IsCopy k.log) h (apart_stands k.log (IsCopy k.log) due.1) rows_go refl (omega arith) (omega arith))
 
   none_stands : (q : ℕ) → list_any (eq_by_cmp nat_cmp q) few ≡ true → times_in k.log.table.files q ≡ 0
   none_stands q listed = due.1 q (listed_copied k.log (λ c. c.file == file) q listed)
@@ -227,7 +237,7 @@ module _ (k : ChunkSides) (n : Machine) (h : IsWhole k n) (named : HasNamesOf k.
       below_next found =
           let one = placed_stands handles found.0 q found.1 in
           let low = subst (λ (hs : List ℕ). stands q hs ≤ times_in k.log.table.files q) (ap (λ (o : Option (List ℕ)). unwrap_or o []) there.1) (times_at_least k.log.table.files file q) in
-          due.3 q (omega (arith, one, low))
+          due.4 q (omega (arith, one, low))
 
       by_index : (o : Option ℕ) → index_in q handles 0 ≡ o → q < k.log.next_handle
       by_index None none = h.below q s (sym (ap (λ (o : Option ℕ). first_spot (option_map (λ (index : ℕ). record { file = file; index = index }) o) (k.gone q)) none) ∙ is)
@@ -254,6 +264,6 @@ module _ (k : ChunkSides) (n : Machine) (h : IsWhole k n) (named : HasNamesOf k.
   pub expired_taken : Taken k (after n action) r
   expired_taken = (
     after k.machine action,
-    comes_both (IsCopy k.log) (λ ended. 2 ≤ times_in k.log.table.files ended) (EndsAt k.log r) k without done n (after n action) (λ q over. inl over) (λ q over. inr over) first second,
+    comes_both NoneEnds (λ ended. 2 ≤ times_in k.log.table.files ended) (EndsAt k.log r) k without done n (after n action) (λ q none. absurd none) (λ q over. over) first second,
     tt,
   )

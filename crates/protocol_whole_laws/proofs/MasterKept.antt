@@ -16,7 +16,7 @@ use Rattle.protocol_machine_laws.specs.ChunksAlike.{ChunkSides, StandsAt, StoodA
 use Rattle.protocol_machine_laws.proofs.Sides.{stands_in, still_open, still_alike}
 use Rattle.protocol_machine_laws.proofs.Closings.{after_both, lawful_both}
 use Rattle.protocol_machine_laws.proofs.Rows.{granted_of}
-use Rattle.protocol_whole_laws.specs.MasterSteps.{IsWhole, Comes, IsCopyIn, CopiesMayComeAndGo}
+use Rattle.protocol_whole_laws.specs.MasterSteps.{IsWhole, Comes, IsCopyIn, CopiesMayComeAndGo, IsCopy}
 
 -- rounds through two changes
 pub rounds_both : (E F G : ℕ → Type 0) (k j i : ChunkSides) → ((handle : ℕ) → E handle → G handle) → ((handle : ℕ) → F handle → G handle) → KeepsRounds E k j → KeepsRounds F j i → KeepsRounds G k i
@@ -116,6 +116,26 @@ apart_stands l H apart handle s copy at =
     let low = times_at_least l.table.files s.file handle in
     omega (arith, none, one, low)
 
+-- a chunk that stands in no file, and has a row, has no round
+pub no_round : (l : Logged) (H : ℕ → Type 0) → ((handle : ℕ) → H handle → times_in l.table.files handle ≡ 0) → (k : ChunkSides) → k.log ≡ l → (handle version : ℕ) (s : Spot) → IsRoundOpen k handle version s → H handle
+    → (row : ChunkRow) × (chunk_of l.table handle ≡ Some row) → ⊥
+no_round l H apart k is handle version s was_open one row = by_place was_open.place
+  where
+    by_place : StandsAt k.log.table handle s ⊎ StoodAt k handle s → ⊥
+    by_place (inl at) = apart_stands l H apart handle s one (subst (λ (x : Logged). StandsAt x.table handle s) is at)
+    by_place (inr stood) = none_some row.0 (sym stood.1 ∙ ap (λ (x : Logged). chunk_of x.table handle) is ∙ row.1)
+
+-- where those rounds weren't open, they don't end
+pub fewer_end : (E F : ℕ → Type 0) (k j : ChunkSides) (n : Machine) → ((handle version : ℕ) (s : Spot) → IsRoundOpen k handle version s → E handle → F handle) → Comes E k j n → Comes F k j n
+fewer_end E F k j n f h = record {
+  actions = h.actions;
+  lawful = h.lawful;
+  leads = h.leads;
+  unseen = h.unseen;
+  rounds = λ handle version s was_open. elim (h.rounds handle version s was_open) [ inl over ↦ inl (f handle version s was_open over) | inr still ↦ inr still ];
+  whole = h.whole;
+}
+
 -- the machine does nothing
 pub rows_taken : (k : ChunkSides) (n : Machine) (l : Logged) (H : ℕ → Type 0) → IsWhole k n → ((handle : ℕ) (s : Spot) → H handle → StandsAt k.log.table handle s → ⊥)
     → ((handle : ℕ) → H handle ⊎ (granted_of (chunk_of k.log.table handle) ≡ granted_of (chunk_of l.table handle))) → l.table.files ≡ k.log.table.files → k.log.next_file ≤ l.next_file → k.log.next_handle ≤ l.next_handle
@@ -132,4 +152,10 @@ rows_taken k n l H h apart rows lists next_file next_handle =
     }
 
 pub copies_may_come_and_go : CopiesMayComeAndGo
-copies_may_come_and_go k n l h same = rows_taken k n l (IsCopyIn k.log l) h (apart_stands k.log (IsCopyIn k.log l) same.apart) same.grants same.lists same.next_file same.next_handle
+copies_may_come_and_go k n l h same =
+    fewer_end (IsCopyIn k.log l) (IsCopy l) k (record k { log = l }) n only
+    (rows_taken k n l (IsCopyIn k.log l) h (apart_stands k.log (IsCopyIn k.log l) same.apart) same.grants same.lists same.next_file same.next_handle)
+  where
+    only : (handle version : ℕ) (s : Spot) → IsRoundOpen k handle version s → IsCopyIn k.log l handle → IsCopy l handle
+    only handle version s was_open (inl old) = absurd (no_round k.log (IsCopyIn k.log l) same.apart k refl handle version s was_open (inl old) (same.rows handle old))
+    only handle version s was_open (inr new) = new

@@ -24,7 +24,7 @@ use Rattle.protocol_name_laws.specs.NameTrails.{log_read, HasCall, IsActionOf, I
 use Rattle.protocol_name_laws.proofs.NameSteps.{stepped_at, look_effect, either}
 use Rattle.protocol_machine_laws.specs.ChunksAlike.{ChunkSides, NoneEnds}
 use Rattle.protocol_machine_laws.proofs.Closings.{after_both, lawful_both}
-use Rattle.protocol_whole_laws.specs.MasterSteps.{IsWhole, Comes, IsCopyIn, EndsAt, IsDueAt, recorded, RecordsAreTaken, HaveSameFiles, EndsAtChange, IsChangeDue, HasOpenedAt, AreChangesDue, WholeTrail, ChangesAreTaken}
+use Rattle.protocol_whole_laws.specs.MasterSteps.{IsWhole, Comes, IsCopyIn, EndsAt, IsDueAt, recorded, RecordsAreTaken, HaveSameFiles, EndsAtChange, IsChangeDue, HasOpenedAt, AreChangesDue, WholeTrail, ChangesAreTaken, IsCopy}
 use Rattle.protocol_whole_laws.proofs.MasterKept.{copies_may_come_and_go}
 use Rattle.protocol_whole_laws.proofs.MasterNames.{more_end, whole_call, ready_for, done_files, refused_files, plainly_taken, refused_taken, created, quiet_runs_are_taken}
 use Rattle.protocol_whole_laws.proofs.MasterSnapshots.{snapshot_taken_whole}
@@ -154,8 +154,8 @@ change_taken d (AppendRecord r) k a b is h named change due =
 change_taken d (WriteCheckpoint items) k a b is h named change due =
     let l : Logged = log_read (log_changed d (WriteCheckpoint items)) in
     let j : ChunkSides = record k { log = l } in
-    let one : Comes (IsCopyIn k.log l) k j a = copies_may_come_and_go k a l h (subst (λ (x : Logged). HaveSameFiles x l) (sym is) due) in
-    record { j = j; comes = subst (λ (x : Machine). Comes (IsCopyIn (log_read d) l) k j x) change (subst (λ (x : Logged). Comes (IsCopyIn x l) k j a) is one); is_log = refl; same_orders = refl; opened = tt }
+    let one : Comes (IsCopy l) k j a = copies_may_come_and_go k a l h (subst (λ (x : Logged). HaveSameFiles x l) (sym is) due.0) in
+    record { j = j; comes = subst (λ (x : Machine). Comes NoneEnds k j x) change (more_end (IsCopy l) NoneEnds k j a due.1 one); is_log = refl; same_orders = refl; opened = tt }
 
 module _ (requests : Requests) (first_names : Machine) (start : LogDisk) (later first : Machine) (orders : Table (List Placed)) where
   all_taken : (changes : List LogChange) (d : LogDisk) (k : ChunkSides) (n : Machine) → LeadsTo first k.machine → k.orders ≡ orders → IsWhole k n → k.log ≡ log_read d → HasNamesOf k.log n → NameTrail requests first_names start d n changes later

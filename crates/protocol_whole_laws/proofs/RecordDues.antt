@@ -18,7 +18,7 @@ use Rattle.protocol_laws.proofs.CopiesUnderWay.{no_copies}
 use Rattle.protocol_laws.proofs.ChunkRows.{rows_of}
 use Rattle.protocol_laws.proofs.Owners.{chunks_at, times_at_least, placed_stands}
 use Rattle.protocol_laws.proofs.FilesNamed.{Files}
-use Rattle.protocol_laws.proofs.FilesLogged.{same_copy}
+use Rattle.protocol_laws.proofs.FilesLogged.{same_copy, checkpoint_no_copies}
 use Rattle.protocol_laws.proofs.OneName.{HasOneName}
 use Rattle.protocol_laws.proofs.LoggedParts.{Parts}
 use Rattle.protocol_laws.proofs.CountsLogged.{IsFoundCounts, fresh}
@@ -39,7 +39,7 @@ use Rattle.protocol_version_laws.proofs.SharedChunks.{shared_chunks_have_no_leas
 use Rattle.protocol_machine_laws.specs.ChunksAlike.{ChunkSides, StandsAt}
 use Rattle.protocol_machine_laws.proofs.OpenRounds.{chunks_of_one_owner_stand_once}
 use Rattle.protocol_machine_laws.proofs.Rows.{granted_of}
-use Rattle.protocol_whole_laws.specs.MasterSteps.{IsCopy, IsCopyIn, AreCopiesApart, HaveSameFiles}
+use Rattle.protocol_whole_laws.specs.MasterSteps.{IsCopy, IsCopyIn, AreCopiesApart, IsReadAgain, HaveSameFiles}
 use Rattle.protocol_whole_laws.specs.RecordDues.{IsOwnGrant, IsCopyGrant, IsRecordDue, IsLogDue, AreLogDues, StepsLogWhatIsDue}
 use Rattle.protocol_whole_laws.proofs.MasterKept.{apart_stands}
 use Rattle.protocol_whole_laws.proofs.MasterChunks.{all_references}
@@ -60,7 +60,7 @@ file_there t file has = by_file (file_of t file) refl
     by_file None is = absurd (true≢false (sym has ∙ ap is_some is))
     by_file (Some handles) is = (handles, is)
 
-row_there : (t : ChunkTable) (handle : ℕ) → is_some (chunk_of t handle) ≡ true → (row : ChunkRow) × (chunk_of t handle ≡ Some row)
+pub row_there : (t : ChunkTable) (handle : ℕ) → is_some (chunk_of t handle) ≡ true → (row : ChunkRow) × (chunk_of t handle ≡ Some row)
 row_there t handle has = by_row (chunk_of t handle) refl
   where
     by_row : (o : Option ChunkRow) → chunk_of t handle ≡ o → (row : ChunkRow) × (chunk_of t handle ≡ Some row)
@@ -108,15 +108,18 @@ module _ (start : LogDisk) (c : Core) (n : IsRowing start c) where
   -- what a record asks that is no grant
   record_due : (r : Record) → IsDue (Unit {0}) c.logged r → IsNoGrantRecord r → IsRecordDue log_now r
   record_due (log.Snapshot client number from to) due plain = (files_once log_now from to one_name, files_there log_now from to one_name)
-  record_due (log.Expired file) due plain = (references, apart, λ path file is. one_name.named.there path file is, counts.below)
+  record_due (log.Expired file) due plain = (references, apart, λ handle copy. counts.rows handle copy.0 copy.1, λ path file is. one_name.named.there path file is, counts.below)
   record_due (log.AddChunk file handle) due plain =
       let there = file_there log_now.table file.0 (ap (λ (files : Files). table.contains_key files file.0) (sym same_files) ∙ due.1) in
       (due.0 ∙ next_is, no_row handle.0 (due.0 ∙ next_is), there.0, there.1)
-  record_due (log.CopyStart file index handle copy version) due plain = λ s at.
-      let one = placed_stands (chunks_at log_now.table.files s.file) s.index copy.0 at in
-      let low = times_at_least log_now.table.files s.file copy.0 in
-      let none = nowhere copy.0 (due.0 ∙ next_is) in
-      omega (arith, one, low, none)
+  record_due (log.CopyStart file index handle copy version) due plain = (
+    due.0 ∙ next_is,
+    λ s at.
+        let one = placed_stands (chunks_at log_now.table.files s.file) s.index copy.0 at in
+        let low = times_at_least log_now.table.files s.file copy.0 in
+        let none = nowhere copy.0 (due.0 ∙ next_is) in
+        omega (arith, one, low, none),
+  )
   record_due (log.Grant handle version primary members) due plain = absurd plain
   record_due other due plain = tt
 
@@ -178,18 +181,8 @@ module _ (start : LogDisk) (c : Core) (n : IsRowing start c) where
         by_copy (Some x) some = inr (x, of_copy x some)
 
   -- a checkpoint says the same again
-  pub checkpoint_due : IsRowing start (core_checkpointed c) → HaveSameFiles log_now (state_of (core_checkpointed c).disk)
-  checkpoint_due after =
-      record {
-        lists = again;
-        next_file = let same = ap (λ (p : Parts). p.next_file) (sym n.same) in let then_ = ap (λ (p : Parts). p.next_file) after.same in omega (arith, same, then_);
-        next_handle = let same = ap (λ (p : Parts). p.next_handle) (sym n.same) in let then_ = ap (λ (p : Parts). p.next_handle) after.same in omega (arith, same, then_);
-        apart = λ handle copy. elim copy [
-          | inl old ↦ counts.apart handle old.0 old.1
-          | inr new ↦ ap (λ (files : Files). times_in files handle) (sym again) ∙ after.tied.log.base.apart handle new.0 new.1
-        ];
-        grants = λ handle. by_copies handle (table.get log_now.copies handle) (table.get later.copies handle) refl refl;
-      }
+  pub checkpoint_due : IsRowing start (core_checkpointed c) → IsReadAgain log_now (state_of (core_checkpointed c).disk)
+  checkpoint_due after = (same_again, λ handle copy. none_some copy.0 (sym (checkpoint_no_copies c.logged handle) ∙ copy.1))
     where
       later : Logged
       later = state_of (core_checkpointed c).disk
@@ -213,6 +206,19 @@ module _ (start : LogDisk) (c : Core) (n : IsRowing start c) where
           removed_other (rows_of c.logged) (table.keys c.logged.copies) handle (sym (table.contains_key-keys c.logged.copies handle) ∙ ap is_some gone) in
           let second = same_granted (table.get (rows_of left) handle) (table.get (rows_of later) handle) (after.tied.same handle (no_copies c.logged.copies handle ∙ sym also)) in
           inr (sym first ∙ ap granted_of (sym stays) ∙ second)
+
+      same_again : HaveSameFiles log_now (state_of (core_checkpointed c).disk)
+      same_again = record {
+        lists = again;
+        rows = λ handle copy. counts.rows handle copy.0 copy.1;
+        next_file = let same = ap (λ (p : Parts). p.next_file) (sym n.same) in let then_ = ap (λ (p : Parts). p.next_file) after.same in omega (arith, same, then_);
+        next_handle = let same = ap (λ (p : Parts). p.next_handle) (sym n.same) in let then_ = ap (λ (p : Parts). p.next_handle) after.same in omega (arith, same, then_);
+        apart = λ handle copy. elim copy [
+          | inl old ↦ counts.apart handle old.0 old.1
+          | inr new ↦ ap (λ (files : Files). times_in files handle) (sym again) ∙ after.tied.log.base.apart handle new.0 new.1
+        ];
+        grants = λ handle. by_copies handle (table.get log_now.copies handle) (table.get later.copies handle) refl refl;
+      }
 
 -- the changes so far
 

@@ -25,16 +25,16 @@ use Rattle.protocol_step_laws.proofs.MasterActs.{IsRowing, rowing_keeps, core_ch
 use Rattle.protocol_name_laws.specs.Names.{HasNamesOf}
 use Rattle.protocol_name_laws.proofs.Openings.{restarts_go_by_records}
 use Rattle.protocol_machine_laws.proofs.Rows.{granted_of}
-use Rattle.protocol_whole_laws.specs.MasterSteps.{IsCopyIn, HaveSameFiles, AreChangesDue}
+use Rattle.protocol_whole_laws.specs.MasterSteps.{IsCopyIn, HaveSameFiles, AreChangesDue, HaveCopiesRows}
 use Rattle.protocol_whole_laws.specs.WholeSteps.{RestartsAreTaken, StatesHaveTheirLogsFiles}
 use Rattle.protocol_whole_laws.proofs.MasterSteps.{changes_are_taken}
 use Rattle.protocol_whole_laws.proofs.RecordDues.{same_granted, checkpoint_due}
 
 -- both have the same, but for copies
 pub same_but_copies : (l j : Logged) → j.table.files ≡ l.table.files → l.next_file ≤ j.next_file → l.next_handle ≤ j.next_handle → ((handle : ℕ) → IsCopyIn l j handle → times_in l.table.files handle ≡ 0)
-    → ((handle : ℕ) → table.get l.copies handle ≡ None → table.get j.copies handle ≡ None → granted_of (chunk_of l.table handle) ≡ granted_of (chunk_of j.table handle)) → HaveSameFiles l j
-same_but_copies l j lists next_file next_handle apart rows =
-    record { lists = lists; next_file = next_file; next_handle = next_handle; apart = apart; grants = λ handle. by_copies handle (table.get l.copies handle) (table.get j.copies handle) refl refl }
+    → HaveCopiesRows l → ((handle : ℕ) → table.get l.copies handle ≡ None → table.get j.copies handle ≡ None → granted_of (chunk_of l.table handle) ≡ granted_of (chunk_of j.table handle)) → HaveSameFiles l j
+same_but_copies l j lists next_file next_handle apart has rows =
+    record { lists = lists; next_file = next_file; next_handle = next_handle; apart = apart; rows = has; grants = λ handle. by_copies handle (table.get l.copies handle) (table.get j.copies handle) refl refl }
   where
     by_copies : (handle : ℕ) (o p : Option Copy) → table.get l.copies handle ≡ o → table.get j.copies handle ≡ p → IsCopyIn l j handle ⊎ (granted_of (chunk_of l.table handle) ≡ granted_of (chunk_of j.table handle))
     by_copies handle (Some x) p is also = inl (inl (x, is))
@@ -62,7 +62,7 @@ module _ (l k : Logged) (h : IsRowedLog l k) (same : parts_of l ≡ parts_of k) 
   log_of_state =
       let file = next_file in
       let number = next_handle in
-      same_but_copies l k (sym files) (omega (arith, file)) (omega (arith, number)) (λ handle copy. ap (λ (fs : Files). times_in fs handle) files ∙ none_stands handle copy) rows
+      same_but_copies l k (sym files) (omega (arith, file)) (omega (arith, number)) (λ handle copy. ap (λ (fs : Files). times_in fs handle) files ∙ none_stands handle copy) (λ handle copy. h.base.rows handle copy.0 copy.1) rows
 
   turned : (handle : ℕ) → IsCopyIn k l handle → IsCopyIn l k handle
   turned handle (inl two) = inr two
@@ -72,7 +72,7 @@ module _ (l k : Logged) (h : IsRowedLog l k) (same : parts_of l ≡ parts_of k) 
   state_of_log =
       let file = next_file in
       let number = next_handle in
-      same_but_copies k l files (omega (arith, file)) (omega (arith, number)) (λ handle copy. none_stands handle (turned handle copy)) (λ handle two one. sym (rows handle one two))
+      same_but_copies k l files (omega (arith, file)) (omega (arith, number)) (λ handle copy. none_stands handle (turned handle copy)) (λ handle copy. h.base.log.rows handle copy.0 copy.1) (λ handle two one. sym (rows handle one two))
 
 -- a log without copies under way
 module _ (k : Logged) (h : IsFoundRows k) where
@@ -87,14 +87,14 @@ module _ (k : Logged) (h : IsFoundRows k) where
   stays handle none = ap granted_of (removed_other (rows_of k) (table.keys k.copies) handle (sym (table.contains_key-keys k.copies handle) ∙ ap is_some none))
 
   pub replay_of_log : HaveSameFiles k (all_copies_given_up k)
-  replay_of_log = same_but_copies k (all_copies_given_up k) refl (omega arith) (omega arith) none_left (λ handle one two. sym (stays handle one))
+  replay_of_log = same_but_copies k (all_copies_given_up k) refl (omega arith) (omega arith) none_left (λ handle copy. h.base.rows handle copy.0 copy.1) (λ handle one two. sym (stays handle one))
 
   swapped : (handle : ℕ) → IsCopyIn (all_copies_given_up k) k handle → IsCopyIn k (all_copies_given_up k) handle
   swapped handle (inl two) = inr two
   swapped handle (inr one) = inl one
 
   pub log_of_replay : HaveSameFiles (all_copies_given_up k) k
-  log_of_replay = same_but_copies (all_copies_given_up k) k refl (omega arith) (omega arith) (λ handle copy. none_left handle (swapped handle copy)) (λ handle two one. stays handle one)
+  log_of_replay = same_but_copies (all_copies_given_up k) k refl (omega arith) (omega arith) (λ handle copy. none_left handle (swapped handle copy)) (λ handle copy. none_some copy.0 (sym (no_copies k.copies handle) ∙ copy.1)) (λ handle two one. stays handle one)
 
 pub states_have_their_logs_files : StatesHaveTheirLogsFiles
 states_have_their_logs_files config servers clients w r =

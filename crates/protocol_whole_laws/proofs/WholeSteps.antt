@@ -1,5 +1,5 @@
 -- A step of the master in a reached world: what its log says, and what clients asked for, is what each change asks.
-use Rattle.std.proofs.Common.{◌≡◌, ◌⊎◌, ℕ, ◌+◌, ◌≤◌, List, [], ◌∷◌, map, Option, Some, None, refl, sym, ap, subst, inl, inr, arith}
+use Rattle.std.proofs.Common.{◌≡◌, ◌⊎◌, ℕ, ◌+◌, ◌≤◌, List, [], ◌∷◌, map, Option, Some, None, refl, sym, ap, subst, inl, inr, arith, ◌<◌}
 use Rattle.std.specs.Prelude.{IsTrue}
 use Rattle.std.specs.FinMap as table
 use Rattle.gfs_types.specs.declared.config.Config.{Config}
@@ -32,7 +32,14 @@ use Rattle.protocol_invariant.specs.Actions.{Spot}
 use Rattle.protocol_machine_laws.specs.ChunksAlike.{ChunkSides, entries_in}
 use Rattle.protocol_whole_laws.specs.MasterSteps.{IsWhole, IsDueAt, MayBeGranted, AreChangesDue}
 use Rattle.protocol_whole_laws.specs.RecordDues.{IsOwnGrant, IsCopyGrant, IsRecordDue, IsLogDue, AreLogDues}
-use Rattle.protocol_whole_laws.specs.WholeSteps.{IsCausedBy, AreCaused, DoesCopyFollow, MasterStepsAreTaken}
+use Rattle.protocol_whole_laws.specs.GrantedRecords.{IsGrantOfAttempt, IsGrantedFrom, AreGrantedFrom}
+use Rattle.protocol_whole_laws.specs.WholeSteps.{IsAskedFor, AreAskedFor, MasterStepsAreTaken}
+use Rattle.protocol_whole_laws.proofs.GrantedRecords.{steps_grant_what_was_attempted}
+use Rattle.protocol_laws.proofs.GrantedIssued.{granted_is_at_most_issued}
+use Rattle.protocol_version_laws.proofs.AttemptedNumbers.{attempts_are_of_the_last_version}
+use Rattle.protocol_replica_laws.proofs.CopiedOrders.{copies_under_way_have_their_sources_order, copies_under_way_are_not_granted}
+use Rattle.chunk_table.specs.ChunkTable.{ChunkRow, chunk_of}
+use Rattle.protocol.specs.Master.{MasterState}
 use Rattle.protocol_whole_laws.proofs.MasterSteps.{changes_are_taken}
 use Rattle.protocol_whole_laws.proofs.RecordDues.{steps_log_what_is_due}
 
@@ -76,7 +83,35 @@ action_handles l m r other is = absurd is
 numbered_on : (d : LogDisk) (x : LogChange) (m n : Machine) → IsChangeOf m n x → IsLogDue d x → (log_read d).next_handle ≤ (log_read (log_changed d x)).next_handle
 numbered_on d (AppendRecord r) m n (inl about) due = subst (λ (l : Logged). (log_read d).next_handle ≤ l.next_handle) (sym (state-appended d r)) (chunk_handles (log_read d) r about.0)
 numbered_on d (AppendRecord r) m n (inr action) due = subst (λ (l : Logged). (log_read d).next_handle ≤ l.next_handle) (sym (state-appended d r)) (action_handles (log_read d) m r action.0 action.2)
-numbered_on d (WriteCheckpoint items) m n is due = due.next_handle
+numbered_on d (WriteCheckpoint items) m n is due = (due.0).next_handle
+
+-- a copy that is granted comes after its source, whose entries it has
+abbrev DoesCopyFollow : Table (List Placed) → Logged → ℕ → ℕ → Type 0
+DoesCopyFollow orders l handle version =
+    (c : Copy) → table.get l.copies handle ≡ Some c
+    → ((before : ChunkRow) → chunk_of l.table c.source ≡ Some before → before.granted < version) × (entries_in orders handle ≡ entries_in orders c.source)
+
+copy_follows : (config : Config) (servers clients : ℕ) (w : WorldState) → IsReached config servers clients w → IsTrue w.observer.are_clocks_kept → IsTrue w.master.up → (orders : Table (List Placed)) → orders ≡ w.observer.orders → (l : Logged) (handle version : ℕ)
+    → IsGrantOfAttempt w.master l handle version → DoesCopyFollow orders l handle version
+copy_follows config servers clients w r clocks up orders same l handle version g c is = (higher, subst (λ (os : Table (List Placed)). entries_in os handle ≡ entries_in os c.source) (sym same) (ap (λ (ps : List Placed). map (λ p. p.entry) ps) like))
+  where
+    here : table.get w.master.logged.copies handle ≡ Some c
+    here = g.copies c is
+
+    like : placed_in w.observer.orders handle ≡ placed_in w.observer.orders c.source
+    like = copies_under_way_have_their_sources_order config servers clients w r clocks up handle c here
+
+    higher : (before : ChunkRow) → chunk_of l.table c.source ≡ Some before → before.granted < version
+    higher before there =
+        let old = g.sources c is before there in
+        let copy = copies_under_way_are_not_granted config servers clients w r clocks up handle c here in
+        let low = granted_is_at_most_issued config servers clients w r c.source old.0 old.1 in
+        let next = copy.follows old.0 old.1 in
+        let tried = g.attempted in
+        let last = (attempts_are_of_the_last_version config servers clients w r up handle tried.attempt tried.at).1 copy.row copy.there in
+        let number = tried.same in
+        let granted = old.2 in
+        omega (arith, low, next, last, number, granted)
 
 -- what a record asks
 
@@ -87,7 +122,8 @@ no_spot k n handle h next = by_spot (k.gone handle) refl
     by_spot None is = is
     by_spot (Some s) is = absurd (let low = h.below handle s is in omega (arith, low, next))
 
-module _ (first : Machine) (orders : Table (List Placed)) (used : ℕ) (no_entry : (handle : ℕ) → used ≤ handle → entries_in orders handle ≡ []) where
+module _ (first : Machine) (orders : Table (List Placed)) (used : ℕ) (m : MasterState) (no_entry : (handle : ℕ) → used ≤ handle → entries_in orders handle ≡ [])
+    (follows : (l : Logged) (handle version : ℕ) → IsGrantOfAttempt m l handle version → DoesCopyFollow orders l handle version) where
   grant_due : (k : ChunkSides) (handle version : ℕ) → k.orders ≡ orders → IsOwnGrant k.log handle version ⊎ ((c : Copy) × IsCopyGrant k.log handle c) → DoesCopyFollow orders k.log handle version → HasAllReferences k.log.table → MayBeGranted k handle version
   grant_due k handle version same (inl own) follows refs = inl (own.no_copy, own.place, own.row, (own.stands, own.once), own.row_is, own.higher)
   grant_due k handle version same (inr copy) follows refs =
@@ -109,10 +145,10 @@ module _ (first : Machine) (orders : Table (List Placed)) (used : ℕ) (no_entry
         },
       )
 
-  record_due : (r : Record) (k : ChunkSides) (n : Machine) → LeadsTo first k.machine → k.orders ≡ orders → IsWhole k n → used ≤ k.log.next_handle → IsRecordDue k.log r → IsCausedBy first orders k.log r → IsDueAt k r
-  record_due (log.Snapshot client number from to) k n led same h low due cause = due
-  record_due (log.Expired file) k n led same h low due cause = due
-  record_due (log.AddChunk file handle) k n led same h low due cause =
+  record_due : (r : Record) (k : ChunkSides) (n : Machine) → LeadsTo first k.machine → k.orders ≡ orders → IsWhole k n → used ≤ k.log.next_handle → IsRecordDue k.log r → IsGrantedFrom m k.log r → IsAskedFor first orders k.log r → IsDueAt k r
+  record_due (log.Snapshot client number from to) k n led same h low due granted cause = due
+  record_due (log.Expired file) k n led same h low due granted cause = due
+  record_due (log.AddChunk file handle) k n led same h low due granted cause =
       let next = due.0 in
       let asked = cause k n led refl same h in (
         record {
@@ -126,22 +162,23 @@ module _ (first : Machine) (orders : Table (List Placed)) (used : ℕ) (no_entry
         asked.1,
         asked.2,
       )
-  record_due (log.Grant handle version primary members) k n led same h low due cause = grant_due k handle.0 version.0 same due.1 cause due.0
-  record_due (log.CopyStart file index handle copy version) k n led same h low due cause = due
-  record_due other k n led same h low due cause = tt
+  record_due (log.Grant handle version primary members) k n led same h low due granted cause = grant_due k handle.0 version.0 same due.1 (follows k.log handle.0 version.0 granted) due.0
+  record_due (log.CopyStart file index handle copy version) k n led same h low due granted cause = due
+  record_due other k n led same h low due granted cause = tt
 
-  all_due : (requests : Requests) (first_names : Machine) (start : LogDisk) (later : Machine) (changes : List LogChange) (d : LogDisk) (m : Machine) → used ≤ (log_read d).next_handle → NameTrail requests first_names start d m changes later → AreLogDues d changes
-      → AreCaused first orders d changes → AreChangesDue first orders d changes
-  all_due requests first_names start later [] d m low trail dues causes = tt
-  all_due requests first_names start later (AppendRecord r ∷ rest) d m low trail dues causes =
+  all_due : (requests : Requests) (first_names : Machine) (start : LogDisk) (later : Machine) (changes : List LogChange) (d : LogDisk) (n0 : Machine) → used ≤ (log_read d).next_handle → NameTrail requests first_names start d n0 changes later → AreLogDues d changes
+      → AreGrantedFrom m d changes → AreAskedFor first orders d changes → AreChangesDue first orders d changes
+  all_due requests first_names start later [] d n0 low trail dues granted causes = tt
+  all_due requests first_names start later (AppendRecord r ∷ rest) d n0 low trail dues granted causes =
       let more = numbered_on d (AppendRecord r) trail.0 trail.1 trail.3 dues.0 in (
         λ k n led is same h.
-            record_due r k n led same h (subst (λ (l : Logged). used ≤ l.next_handle) (sym is) low) (subst (λ (l : Logged). IsRecordDue l r) (sym is) dues.0) (subst (λ (l : Logged). IsCausedBy first orders l r) (sym is) causes.0),
-        all_due requests first_names start later rest (log_changed d (AppendRecord r)) trail.1 (omega (arith, low, more)) trail.5 dues.1 causes.1,
+            record_due r k n led same h (subst (λ (l : Logged). used ≤ l.next_handle) (sym is) low) (subst (λ (l : Logged). IsRecordDue l r) (sym is) dues.0)
+            (subst (λ (l : Logged). IsGrantedFrom m l r) (sym is) granted.0) (subst (λ (l : Logged). IsAskedFor first orders l r) (sym is) causes.0),
+        all_due requests first_names start later rest (log_changed d (AppendRecord r)) trail.1 (omega (arith, low, more)) trail.5 dues.1 granted.1 causes.1,
       )
-  all_due requests first_names start later (WriteCheckpoint items ∷ rest) d m low trail dues causes =
+  all_due requests first_names start later (WriteCheckpoint items ∷ rest) d n0 low trail dues granted causes =
       let more = numbered_on d (WriteCheckpoint items) trail.0 trail.1 trail.3 dues.0 in
-      (λ k n led is same h. dues.0, all_due requests first_names start later rest (log_changed d (WriteCheckpoint items)) trail.1 (omega (arith, low, more)) trail.5 dues.1 causes)
+      (λ k n led is same h. dues.0, all_due requests first_names start later rest (log_changed d (WriteCheckpoint items)) trail.1 (omega (arith, low, more)) trail.5 dues.1 granted causes)
 
 -- handles that were not used have no entry
 
@@ -167,6 +204,6 @@ master_steps_are_taken config servers clients w r clocks up moment i refused n r
     let named : HasNamesOf k.log n = subst (λ (l : Logged). HasNamesOf l n) (sym is) (((names.4).alike).names, ((names.4).alike).next) in
     let dues : AreLogDues w.master.disk changes = steps_log_what_is_due config servers clients w r clocks up moment i refused in
     let due : AreChangesDue k.machine k.orders w.master.disk changes =
-    all_due k.machine k.orders w.master.logged.next_handle (no_entry config servers clients w r up k.orders same) requests n w.master.disk names.0 changes w.master.disk n
-    (log_handles config servers clients w r up) names.5 dues causes in
+    all_due k.machine k.orders w.master.logged.next_handle w.master (no_entry config servers clients w r up k.orders same) (copy_follows config servers clients w r clocks up k.orders same) requests n w.master.disk names.0 changes w.master.disk n
+    (log_handles config servers clients w r up) names.5 dues (steps_grant_what_was_attempted config servers clients w r clocks up moment i refused) causes in
     (names.0, names.1, names.2, names.3, changes_are_taken requests n w.master.disk w.master.disk changes k n names.0 h is named names.5 due)

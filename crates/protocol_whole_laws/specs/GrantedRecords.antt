@@ -1,5 +1,5 @@
 -- What a step of the master grants was attempted before it; a copy that it grants was under way before it, of a chunk of which nothing is granted in the step (sections 3.1 and 3.4).
-use Rattle.std.specs.Prelude.{◌≡◌, ℕ, Bool, List, [], ◌∷◌, Some, IsTrue}
+use Rattle.std.specs.Prelude.{◌≡◌, ◌⊎◌, ℕ, ◌≤◌, Bool, List, [], ◌∷◌, Option, Some, None, IsTrue}
 use Rattle.std.specs.FinMap as table
 use Rattle.gfs_types.specs.declared.config.Config.{Config}
 use Rattle.messages.specs.declared.event.Input.{Input}
@@ -10,6 +10,7 @@ use Rattle.protocol.specs.Logged.{Logged, Copy, LogDisk, LogChange, AppendRecord
 use Rattle.protocol.specs.Master.{MasterState, VersionAttempt}
 use Rattle.protocol.specs.MasterStep.{master_goes}
 use Rattle.protocol.specs.World.{WorldState, IsReached}
+use Rattle.protocol_laws.specs.Laws.{grants_of}
 use Rattle.protocol_name_laws.specs.NameTrails.{log_read}
 
 -- The master attempts this version of the chunk, which it has.
@@ -41,3 +42,19 @@ abbrev pub StepsGrantWhatWasAttempted : Type 0
 StepsGrantWhatWasAttempted =
     (config : Config) (servers clients : ℕ) (w : WorldState) → IsReached config servers clients w → IsTrue w.observer.are_clocks_kept → IsTrue w.master.up
     → (moment : ℕ) (i : Input) (refused : List Bool) → AreGrantedFrom w.master w.master.disk (master_goes w.master moment i refused).changes
+
+-- the change is a Grant of this chunk and version
+abbrev pub IsGrantOf : LogChange → ℕ → ℕ → Type 0
+IsGrantOf (AppendRecord (log.Grant h v primary members)) handle version = (h.0 ≡ handle) × (v.0 ≡ version)
+IsGrantOf other handle version = ⊥
+
+abbrev pub HasGrantRecord : List LogChange → ℕ → ℕ → Type 0
+HasGrantRecord [] handle version = ⊥
+HasGrantRecord (x ∷ rest) handle version = IsGrantOf x handle version ⊎ HasGrantRecord rest handle version
+
+-- Each Grant that a step sends has its record in the log (section 3.1).
+abbrev pub SentGrantsAreLogged : Type 0
+SentGrantsAreLogged =
+    (config : Config) (servers clients : ℕ) (w : WorldState) → IsReached config servers clients w → IsTrue w.master.up
+    → (moment : ℕ) (i : Input) (refused : List Bool) (handle version : ℕ)
+    → 1 ≤ grants_of handle version (master_goes w.master moment i refused).sent → HasGrantRecord (master_goes w.master moment i refused).changes handle version

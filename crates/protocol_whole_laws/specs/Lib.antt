@@ -7,6 +7,7 @@ pub mod FileOpenings
 pub mod FileSteps
 pub mod GrantedRecords
 pub mod MasterSteps
+pub mod OverRounds
 pub mod RecordDues
 pub mod RecordRounds
 pub mod Rounds

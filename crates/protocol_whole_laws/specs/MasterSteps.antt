@@ -45,16 +45,19 @@ QuietRunsAreTaken = (k : ChunkSides) (n later : Machine) → IsWhole k n → Run
 abbrev pub IsCopy : Logged → ℕ → Type 0
 IsCopy l handle = (c : Copy) × (table.get l.copies handle ≡ Some c)
 
+-- each copy under way has its row
+abbrev pub HaveCopiesRows : Logged → Type 0
+HaveCopiesRows l = (handle : ℕ) → IsCopy l handle → (row : ChunkRow) × (chunk_of l.table handle ≡ Some row)
+
 -- no copy under way stands in a file
 abbrev pub AreCopiesApart : Logged → Type 0
 AreCopiesApart l = (handle : ℕ) → IsCopy l handle → times_in l.table.files handle ≡ 0
 
--- Handles whose rounds may end at a record: of the chunk that is granted and of the source whose place it takes, of a new copy, of the chunks below a snapshot's source, of a collected file's shared chunks.
+-- Handles whose rounds may end at a record: of the chunk that is granted and of the source whose place it takes, of the chunks below a snapshot's source, of a collected file's shared chunks.
 abbrev pub EndsAt : Logged → Record → ℕ → Type 0
 EndsAt l (log.Snapshot client number from to) ended = StandsIn l (copied_entries l.names from to) ended
-EndsAt l (log.Expired file) ended = IsCopy l ended ⊎ (2 ≤ times_in l.table.files ended)
+EndsAt l (log.Expired file) ended = 2 ≤ times_in l.table.files ended
 EndsAt l (log.Grant handle version primary members) ended = (ended ≡ handle.0) ⊎ ((c : Copy) × (table.get l.copies handle.0 ≡ Some c) × (ended ≡ c.source))
-EndsAt l (log.CopyStart file index handle copy version) ended = ended ≡ copy.0
 EndsAt l other ended = ⊥
 
 -- A version may be granted: of a chunk that one file has, or of a copy that is due.
@@ -67,11 +70,11 @@ MayBeGranted k handle version =
 abbrev pub IsDueAt : ChunkSides → Record → Type 0
 IsDueAt k (log.Snapshot client number from to) = AreFilesOnce (copied_entries k.log.names from to) × AreFilesThere k.log (copied_entries k.log.names from to)
 IsDueAt k (log.Expired file) =
-    HasAllReferences k.log.table × AreCopiesApart k.log × AreNamedFilesThere k.log × ((handle : ℕ) → 1 ≤ times_in k.log.table.files handle → handle < k.log.next_handle)
+    HasAllReferences k.log.table × AreCopiesApart k.log × HaveCopiesRows k.log × AreNamedFilesThere k.log × ((handle : ℕ) → 1 ≤ times_in k.log.table.files handle → handle < k.log.next_handle)
 IsDueAt k (log.AddChunk file handle) =
     IsUnused k handle.0 × (handles : List ℕ) × (file_of k.log.table file.0 ≡ Some handles) × (id : CallId) × (asked : Asked) × MayAdd k.machine id asked file.0
 IsDueAt k (log.Grant handle version primary members) = MayBeGranted k handle.0 version.0
-IsDueAt k (log.CopyStart file index handle copy version) = (s : Spot) → StandsAt k.log.table copy.0 s → ⊥
+IsDueAt k (log.CopyStart file index handle copy version) = (copy.0 ≡ k.log.next_handle) × ((s : Spot) → StandsAt k.log.table copy.0 s → ⊥)
 IsDueAt k other = Unit {0}
 
 -- where handles stood, after a record
@@ -104,20 +107,25 @@ pub record HaveSameFiles (l j : Logged) : Type 0 where
   pub next_file : l.next_file ≤ j.next_file
   pub next_handle : l.next_handle ≤ j.next_handle
   pub apart : (handle : ℕ) → IsCopyIn l j handle → times_in l.table.files handle ≡ 0
+  pub rows : HaveCopiesRows l
   pub grants : (handle : ℕ) → IsCopyIn l j handle ⊎ (option_map (λ row. row.granted) (chunk_of l.table handle) ≡ option_map (λ row. row.granted) (chunk_of j.table handle))
 
+-- a checkpoint says the same, without copies
+abbrev pub IsReadAgain : Logged → Logged → Type 0
+IsReadAgain l j = HaveSameFiles l j × ((handle : ℕ) → IsCopy j handle → ⊥)
+
 abbrev pub CopiesMayComeAndGo : Type 0
-CopiesMayComeAndGo = (k : ChunkSides) (n : Machine) (l : Logged) → IsWhole k n → HaveSameFiles k.log l → Comes (IsCopyIn k.log l) k (record k { log = l }) n
+CopiesMayComeAndGo = (k : ChunkSides) (n : Machine) (l : Logged) → IsWhole k n → HaveSameFiles k.log l → Comes (IsCopy l) k (record k { log = l }) n
 
 -- handles whose rounds may end at a change of the log
 abbrev pub EndsAtChange : LogDisk → LogChange → ℕ → Type 0
 EndsAtChange d (AppendRecord r) = EndsAt (log_read d) r
-EndsAtChange d (WriteCheckpoint items) = IsCopyIn (log_read d) (log_read (log_changed d (WriteCheckpoint items)))
+EndsAtChange d (WriteCheckpoint items) = NoneEnds
 
 -- what a change asks of the sides; of a checkpoint, that the log says the same after it
 abbrev pub IsChangeDue : LogDisk → ChunkSides → LogChange → Type 0
 IsChangeDue d k (AppendRecord r) = IsDueAt k r
-IsChangeDue d k (WriteCheckpoint items) = HaveSameFiles (log_read d) (log_read (log_changed d (WriteCheckpoint items)))
+IsChangeDue d k (WriteCheckpoint items) = IsReadAgain (log_read d) (log_read (log_changed d (WriteCheckpoint items)))
 
 abbrev pub HasOpenedAt : ChunkSides → LogChange → Type 0
 HasOpenedAt j (AppendRecord r) = HasOpened j r

@@ -16,7 +16,7 @@ use Rattle.protocol_name_laws.specs.NameTrails.{log_read}
 use Rattle.protocol_invariant.specs.Actions.{Spot}
 use Rattle.protocol_machine_laws.specs.ChunksAlike.{StandsAt}
 use Rattle.protocol_machine_laws.specs.ChunkRecords.{AreFilesOnce, AreFilesThere}
-use Rattle.protocol_whole_laws.specs.MasterSteps.{AreCopiesApart, HaveSameFiles}
+use Rattle.protocol_whole_laws.specs.MasterSteps.{AreCopiesApart, HaveCopiesRows, IsReadAgain}
 
 -- A higher version is granted of a chunk that stands at one place.
 pub record IsOwnGrant (l : Logged) (handle version : ℕ) : Type 0 where
@@ -41,16 +41,16 @@ pub record IsCopyGrant (l : Logged) (handle : ℕ) (c : Copy) : Type 0 where
 -- What the log says at each record that a step makes of it.
 abbrev pub IsRecordDue : Logged → Record → Type 0
 IsRecordDue l (log.Snapshot client number from to) = AreFilesOnce (copied_entries l.names from to) × AreFilesThere l (copied_entries l.names from to)
-IsRecordDue l (log.Expired file) = HasAllReferences l.table × AreCopiesApart l × AreNamedFilesThere l × ((handle : ℕ) → 1 ≤ times_in l.table.files handle → handle < l.next_handle)
+IsRecordDue l (log.Expired file) = HasAllReferences l.table × AreCopiesApart l × HaveCopiesRows l × AreNamedFilesThere l × ((handle : ℕ) → 1 ≤ times_in l.table.files handle → handle < l.next_handle)
 IsRecordDue l (log.AddChunk file handle) = (handle.0 ≡ l.next_handle) × (chunk_of l.table handle.0 ≡ None) × (handles : List ℕ) × (file_of l.table file.0 ≡ Some handles)
 IsRecordDue l (log.Grant handle version primary members) = HasAllReferences l.table × (IsOwnGrant l handle.0 version.0 ⊎ ((c : Copy) × IsCopyGrant l handle.0 c))
-IsRecordDue l (log.CopyStart file index handle copy version) = (s : Spot) → StandsAt l.table copy.0 s → ⊥
+IsRecordDue l (log.CopyStart file index handle copy version) = (copy.0 ≡ l.next_handle) × ((s : Spot) → StandsAt l.table copy.0 s → ⊥)
 IsRecordDue l other = Unit {0}
 
 -- a checkpoint says what the log said before
 abbrev pub IsLogDue : LogDisk → LogChange → Type 0
 IsLogDue d (AppendRecord r) = IsRecordDue (log_read d) r
-IsLogDue d (WriteCheckpoint items) = HaveSameFiles (log_read d) (log_read (log_changed d (WriteCheckpoint items)))
+IsLogDue d (WriteCheckpoint items) = IsReadAgain (log_read d) (log_read (log_changed d (WriteCheckpoint items)))
 
 abbrev pub AreLogDues : LogDisk → List LogChange → Type 0
 AreLogDues d [] = Unit {0}

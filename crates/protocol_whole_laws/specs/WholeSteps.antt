@@ -21,7 +21,7 @@ use Rattle.protocol_name_laws.specs.Alike.{Requests, AreAlike}
 use Rattle.protocol_name_laws.specs.Followed.{AreKeptOn, IsBeside}
 use Rattle.protocol_name_laws.specs.FollowedSteps.{ComesTo, IsAtStep, IsInputOfOpenCall, log_left, opened}
 use Rattle.protocol_name_laws.specs.NameTrails.{log_read, IsBesideLog}
-use Rattle.protocol_machine_laws.specs.ChunksAlike.{ChunkSides, IsRoundOpen, entries_in}
+use Rattle.protocol_machine_laws.specs.ChunksAlike.{ChunkSides, IsRoundOpen}
 use Rattle.protocol_invariant.specs.Actions.{Spot}
 use Rattle.protocol_whole_laws.specs.MasterSteps.{IsWhole, Comes, EndsAtChange, HaveSameFiles, WholeTrail}
 
@@ -30,23 +30,16 @@ abbrev pub IsChunkAskedFor : Machine → Table (List Placed) → Logged → ℕ 
 IsChunkAskedFor first orders l file =
     (k : ChunkSides) (n : Machine) → LeadsTo first k.machine → k.log ≡ l → k.orders ≡ orders → IsWhole k n → (id : CallId) × (asked : Asked) × MayAdd k.machine id asked file
 
--- A copy that is granted comes after its source: what is granted is above what was granted of the source, whose entries it has.
-abbrev pub DoesCopyFollow : Table (List Placed) → Logged → ℕ → ℕ → Type 0
-DoesCopyFollow orders l handle version =
-    (c : Copy) → table.get l.copies handle ≡ Some c
-    → ((before : ChunkRow) → chunk_of l.table c.source ≡ Some before → before.granted < version) × (entries_in orders handle ≡ entries_in orders c.source)
-
 -- what is asked beside the log of a record
-abbrev pub IsCausedBy : Machine → Table (List Placed) → Logged → Record → Type 0
-IsCausedBy first orders l (log.AddChunk file handle) = IsChunkAskedFor first orders l file.0
-IsCausedBy first orders l (log.Grant handle version primary members) = DoesCopyFollow orders l handle.0 version.0
-IsCausedBy first orders l other = Unit {0}
+abbrev pub IsAskedFor : Machine → Table (List Placed) → Logged → Record → Type 0
+IsAskedFor first orders l (log.AddChunk file handle) = IsChunkAskedFor first orders l file.0
+IsAskedFor first orders l other = Unit {0}
 
--- what is asked beside the log of each record of a step
-abbrev pub AreCaused : Machine → Table (List Placed) → LogDisk → List LogChange → Type 0
-AreCaused first orders d [] = Unit {0}
-AreCaused first orders d (AppendRecord r ∷ rest) = IsCausedBy first orders (log_read d) r × AreCaused first orders (log_changed d (AppendRecord r)) rest
-AreCaused first orders d (WriteCheckpoint items ∷ rest) = AreCaused first orders (log_changed d (WriteCheckpoint items)) rest
+-- each chunk that a step adds is asked for
+abbrev pub AreAskedFor : Machine → Table (List Placed) → LogDisk → List LogChange → Type 0
+AreAskedFor first orders d [] = Unit {0}
+AreAskedFor first orders d (AppendRecord r ∷ rest) = IsAskedFor first orders (log_read d) r × AreAskedFor first orders (log_changed d (AppendRecord r)) rest
+AreAskedFor first orders d (WriteCheckpoint items ∷ rest) = AreAskedFor first orders (log_changed d (WriteCheckpoint items)) rest
 
 -- A step that a master takes, whatever it is: the whole machine follows it, change by change, and the machine by names alone is beside the step in the end.
 abbrev pub MasterStepsAreTaken : Type 0
@@ -55,7 +48,7 @@ MasterStepsAreTaken =
     → (moment : ℕ) (i : Input) (refused : List Bool) (n : Machine) (requests : Requests) (k : ChunkSides)
     → IsAtStep config (master_at w.master moment) n requests → IsInputOfOpenCall (master_begins (master_at w.master moment) refused) n requests i
     → k.log ≡ log_read w.master.disk → k.orders ≡ w.observer.orders → IsWhole k n
-    → AreCaused k.machine k.orders w.master.disk (master_goes w.master moment i refused).changes
+    → AreAskedFor k.machine k.orders w.master.disk (master_goes w.master moment i refused).changes
     → (later : Machine) × ComesTo n later requests × IsBeside (master_goes w.master moment i refused) later requests
     × AreKeptOn requests w.master.logged.kept (master_goes w.master moment i refused).master.logged.kept
     × WholeTrail requests n w.master.disk w.master.disk k (master_goes w.master moment i refused).changes later
