@@ -58,3 +58,4 @@ pub mod GrantedMembers
 pub mod AttemptedNumbers
 pub mod IssuedSteps
 pub mod IssuedVersions
+pub mod HandleIndexes

@@ -223,7 +223,7 @@ told_tracked config servers clients w r up file l told =
     by_copies None is (Some c) also = none_some told.row (sym (u.tied.base.base.alone handle c also is) ∙ told.at)
 
 -- clocks were kept in each world before
-kept_before : (w : WorldState) → IsTrue w.observer.are_clocks_kept → (v : WorldState) (steps : List (Event × Choice)) → after_events v steps ≡ w → IsTrue v.observer.are_clocks_kept
+pub kept_before : (w : WorldState) → IsTrue w.observer.are_clocks_kept → (v : WorldState) (steps : List (Event × Choice)) → after_events v steps ≡ w → IsTrue v.observer.are_clocks_kept
 kept_before w clocks v steps path = clocks_before v steps (subst (λ (x : WorldState). IsTrue x.observer.are_clocks_kept) (sym path) clocks)
 
 tracked_of : (config : Config) (servers clients : ℕ) (w : WorldState) → IsReached config servers clients w → IsTrue w.observer.are_clocks_kept → (v : WorldState) → IsReached config servers clients v → (more : List (Event × Choice)) → after_events v more ≡ w
