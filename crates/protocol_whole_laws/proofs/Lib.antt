@@ -11,3 +11,9 @@ pub mod FileClientsStay
 pub mod NotesBelow
 pub mod FileAnswers
 pub mod FileOpenings
+pub mod ChunkReadings
+pub mod ClientFiles
+pub mod CountedCalls
+pub mod ToldHolders
+pub mod WaitedNumbers
+pub mod WaitedSuccesses

@@ -4,3 +4,9 @@ pub mod FileSteps
 pub mod FileClientsStay
 pub mod FileAnswers
 pub mod FileOpenings
+pub mod ChunkReadings
+pub mod ClientFiles
+pub mod CountedCalls
+pub mod ToldHolders
+pub mod WaitedNumbers
+pub mod WaitedSuccesses
