@@ -1,5 +1,8 @@
+pub mod ChunkReadings
 pub mod ChunksBeside
 pub mod ClientCaches
+pub mod ClientFiles
+pub mod CountedCalls
 pub mod Decided
 pub mod EndedRounds
 pub mod FileAnswers
@@ -31,8 +34,11 @@ pub mod Settlements
 pub mod SoundLogs
 pub mod StepCopies
 pub mod StoppedSteps
+pub mod ToldHolders
 pub mod ToldRounds
 pub mod UnusedNumbers
+pub mod WaitedNumbers
+pub mod WaitedSuccesses
 pub mod WholeLogs
 pub mod WholeSteps
 pub mod WholeStops

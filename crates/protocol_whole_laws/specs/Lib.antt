@@ -1,4 +1,7 @@
+pub mod ChunkReadings
 pub mod ChunksBeside
+pub mod ClientFiles
+pub mod CountedCalls
 pub mod FileAnswers
 pub mod FileCallsBegin
 pub mod FileClients
@@ -12,5 +15,8 @@ pub mod RecordDues
 pub mod RecordRounds
 pub mod Rounds
 pub mod ServerSteps
+pub mod ToldHolders
 pub mod ToldRounds
+pub mod WaitedNumbers
+pub mod WaitedSuccesses
 pub mod WholeSteps

@@ -1,7 +1,10 @@
 //! Laws of the whole machine beside a cell: its steps, and from each world to the next.
 #![tactic(auto)]
 
+pub mod chunk_readings;
 pub mod chunks_beside;
+pub mod client_files;
+pub mod counted_calls;
 pub mod file_answers;
 pub mod file_calls_begin;
 pub mod file_clients_stay;
@@ -12,5 +15,8 @@ pub mod record_dues;
 pub mod record_rounds;
 pub mod rounds;
 pub mod server_steps;
+pub mod told_holders;
 pub mod told_rounds;
+pub mod waited_numbers;
+pub mod waited_successes;
 pub mod whole_steps;

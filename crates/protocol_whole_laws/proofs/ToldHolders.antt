@@ -1,0 +1,42 @@
+-- What a location stands for at the machine.
+use Rattle.std.proofs.Common.{◌≡◌, ℕ, zero, suc, ◌<◌, ◌≤◌, List, [], ◌∷◌, length, Some, refl, sym, ap, subst, ◌∙◌, arith}
+use Rattle.std.specs.Prelude.{IsTrue, IsFalse}
+use Rattle.gfs_types.specs.declared.config.Config.{Config}
+use Rattle.gfs_types.specs.declared.call.Call.{Call}
+use Rattle.messages.specs.declared.message.Location.{Location}
+use Rattle.chunk_table.specs.ChunkTable.{ChunkRow, file_of, chunk_of}
+use Rattle.relaxed_file.specs.Order.{Entry}
+use Rattle.relaxed_file.specs.Machine.{chunk_at, chunk_count}
+use Rattle.protocol.specs.Tables.{Table, element_at}
+use Rattle.protocol.specs.Observer.{Placed, entries_of}
+use Rattle.protocol_laws.proofs.Steps.{none_some, same_some}
+use Rattle.protocol_machine_laws.specs.ChunksAlike.{ChunkSides, entries_in, AreChunksAlike}
+use Rattle.protocol_whole_laws.specs.ChunkReadings.{AgreeUpTo}
+use Rattle.protocol_whole_laws.specs.FileAnswers.{IsLastRound, IsSeenAt}
+use Rattle.protocol_whole_laws.specs.ToldHolders.{HoldersAreSeen, LoggedChunksAreLastRounds}
+use Rattle.protocol_whole_laws.proofs.ChunkReadings.{readings_are_of_the_chunk}
+
+pub holders_are_seen : HoldersAreSeen
+holders_are_seen config servers clients w reached kept k orders server s at handle row row_is file index round low stands =
+    let agree : AgreeUpTo row.version.0 (entries_of w.observer handle) (chunk_at k.machine file index).order =
+        subst (λ (os : Table (List Placed)). AgreeUpTo row.version.0 (entries_in os handle) (chunk_at k.machine file index).order) orders stands.entries in
+    let read = readings_are_of_the_chunk config servers clients w reached kept server s at handle row row_is (chunk_at k.machine file index).order agree in
+    (read.0, record { count = stands.count; version_is = low; selection = read.1.selection }, read.1)
+
+-- an element has a place below the length
+place_below : {A : Type 0} (xs : List A) (n : ℕ) (x : A) → element_at xs n ≡ Some x → n < length xs
+place_below [] n x is = none_some x is
+place_below (y ∷ ys) zero x is = omega arith
+place_below (y ∷ ys) (suc n) x is = let low = place_below ys n x is in omega (arith, low)
+
+pub logged_chunks_are_last_rounds : LoggedChunksAreLastRounds
+logged_chunks_are_last_rounds k alike file handles there is_there l handle row at row_is round asked last =
+    let whole = alike.there file handles there in
+    let chunk = whole.chunks l.index handle at in
+    let same : chunk.0 ≡ row = same_some chunk.0 row (sym chunk.1 ∙ row_is) in
+    record {
+      is_there = is_there;
+      count = (let count = whole.count in let low = place_below handles l.index handle at in omega (arith, count, low));
+      round = chunk.2.round ∙ ap (λ (r : ChunkRow). r.granted) same ∙ sym round;
+      last = λ is. whole.count ∙ last is;
+    }
