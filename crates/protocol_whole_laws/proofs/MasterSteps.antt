@@ -24,7 +24,7 @@ use Rattle.protocol_name_laws.specs.NameTrails.{log_read, HasCall, IsActionOf, I
 use Rattle.protocol_name_laws.proofs.NameSteps.{stepped_at, look_effect, either}
 use Rattle.protocol_machine_laws.specs.ChunksAlike.{ChunkSides, NoneEnds}
 use Rattle.protocol_machine_laws.proofs.Closings.{after_both, lawful_both}
-use Rattle.protocol_whole_laws.specs.MasterSteps.{IsWhole, Comes, IsCopyIn, EndsAt, IsDueAt, recorded, RecordsAreTaken, HaveSameFiles, EndsAtChange, IsChangeDue, HasOpenedAt, AreChangesDue, WholeTrail, ChangesAreTaken, IsCopy}
+use Rattle.protocol_whole_laws.specs.MasterSteps.{IsWhole, Comes, EndsAt, IsDueAt, recorded, RecordsAreTaken, HaveSameFiles, EndsAtChange, IsChangeDue, HasOpenedAt, AreChangesDue, WholeTrail, ChangesAreTaken, IsCopy}
 use Rattle.protocol_whole_laws.proofs.MasterKept.{copies_may_come_and_go}
 use Rattle.protocol_whole_laws.proofs.MasterNames.{more_end, whole_call, ready_for, done_files, refused_files, plainly_taken, refused_taken, created, quiet_runs_are_taken}
 use Rattle.protocol_whole_laws.proofs.MasterSnapshots.{snapshot_taken_whole}

@@ -1,9 +1,9 @@
 -- Rounds that end in a step are over: of what is granted and of sources before it, of shared chunks where the step could have stopped.
-use Rattle.std.proofs.Common.{◌≡◌, ◌⊎◌, ℕ, zero, suc, ◌+◌, ◌≤◌, ◌<◌, Bool, true, false, cond, max, List, [], ◌∷◌, ◌++◌, take, length, Option, Some, None, is_some, refl, sym, ap, subst, ◌∙◌, inl, inr, arith}
-use Rattle.std.specs.Prelude.{◌&&◌, unwrap_or, nat_le, IsTrue}
+use Rattle.std.proofs.Common.{◌≡◌, ◌⊎◌, ℕ, zero, suc, ◌+◌, ◌≤◌, ◌<◌, Bool, true, false, cond, List, [], ◌∷◌, ◌++◌, take, length, Option, Some, None, is_some, refl, sym, ap, subst, ◌∙◌, inl, inr, arith}
+use Rattle.std.specs.Prelude.{unwrap_or, nat_le, IsTrue}
 use Rattle.std.specs.FinMap as table
-use Rattle.std.proofs.Math.Nat.{le-max_left, le-max_right}
-use Rattle.std.proofs.lemmas.Bool.{and_parts, true≢false}
+use Rattle.std.proofs.Math.Nat.{le-max_left}
+use Rattle.std.proofs.lemmas.Bool.{and_parts}
 use Rattle.gfs_types.specs.Paths.{Path}
 use Rattle.gfs_types.specs.declared.config.Config.{Config}
 use Rattle.messages.specs.declared.event.Event.{Event}
@@ -13,7 +13,7 @@ use Rattle.log_records.specs.declared.record.Record.{Record}
 use Rattle.log_records.specs.declared.record.Record.TheVariants as log
 use Rattle.chunk_table.specs.ChunkTable.{ChunkRow, ChunkTable, chunk_of, handles_of}
 use Rattle.relaxed_file.specs.Names.{Node, Dir, File, copied_entries, id_after}
-use Rattle.protocol.specs.Tables.{Table, element_at}
+use Rattle.protocol.specs.Tables.{element_at}
 use Rattle.protocol.specs.Choice.{Choice, Ending, Goes, Stops}
 use Rattle.protocol.specs.Seen.{Taken, no_step}
 use Rattle.protocol.specs.Logged.{Logged, Copy, LogDisk, LogChange, AppendRecord, WriteCheckpoint, log_changed, log_changed_by_all, after_record, replayed, with_copied_node, with_copied_nodes}
@@ -40,7 +40,7 @@ use Rattle.protocol_step_laws.proofs.EndedLeases.{attempted_chunks_have_no_lease
 use Rattle.protocol_version_laws.proofs.SharedChunks.{shared_chunks_in_the_log_have_no_lease}
 use Rattle.protocol_version_laws.proofs.CopiedSources.{copied_chunks_have_no_lease}
 use Rattle.protocol_machine_laws.specs.ChunkRecords.{StandsIn}
-use Rattle.protocol_whole_laws.specs.MasterSteps.{EndsAt, EndsAtChange}
+use Rattle.protocol_whole_laws.specs.MasterSteps.{EndsAt}
 use Rattle.protocol_whole_laws.specs.GrantedRecords.{IsAttempted, IsGrantedFrom, AreGrantedFrom, IsGrantOf, HasGrantRecord}
 use Rattle.protocol_whole_laws.proofs.SentGrants.{sent_grants_are_logged}
 use Rattle.protocol_step_laws.proofs.LeasesStayOver.{AreOverAt, over_sent, over_to, over_of}

@@ -1,18 +1,16 @@
 -- The whole machine follows a step of the master in a reached world, record by record (sections 2.6.3, 3.1, 3.4 and 4.1).
-use Rattle.std.specs.Prelude.{◌≡◌, ◌⊎◌, ℕ, ◌<◌, Bool, List, [], ◌∷◌, Some, IsTrue}
-use Rattle.std.specs.FinMap as table
+use Rattle.std.specs.Prelude.{◌≡◌, ◌⊎◌, ℕ, Bool, List, [], ◌∷◌, IsTrue}
 use Rattle.gfs_types.specs.declared.config.Config.{Config}
 use Rattle.messages.specs.declared.event.Input.{Input}
 use Rattle.log_records.specs.declared.record.Record.{Record}
 use Rattle.log_records.specs.declared.record.Record.TheVariants as log
-use Rattle.chunk_table.specs.ChunkTable.{ChunkRow, chunk_of}
 use Rattle.relaxed_file.specs.Order.{CallId}
 use Rattle.relaxed_file.specs.Machine.{Machine, Asked}
 use Rattle.relaxed_file.specs.Chunks.{MayAdd}
 use Rattle.relaxed_file.specs.Run.{LeadsTo}
 use Rattle.protocol.specs.Tables.{Table}
 use Rattle.protocol.specs.Choice.{Choice}
-use Rattle.protocol.specs.Logged.{Logged, Copy, LogDisk, LogChange, AppendRecord, WriteCheckpoint, log_changed, log_changed_by_all, replayed}
+use Rattle.protocol.specs.Logged.{Logged, LogDisk, LogChange, AppendRecord, WriteCheckpoint, log_changed, log_changed_by_all, replayed}
 use Rattle.protocol.specs.Observer.{Placed}
 use Rattle.protocol.specs.Master.{master_begins}
 use Rattle.protocol.specs.MasterStep.{master_at, master_goes, found_log}
