@@ -1,6 +1,6 @@
 -- The machine's chunks beside a world, from each world to the next.
-use Rattle.std.proofs.Common.{◌≡◌, ◌⊎◌, ℕ, zero, suc, ◌-◌, Bool, true, false, cond, List, [], ◌∷◌, ◌++◌, Option, Some, None, refl, sym, ap, subst, ◌∙◌, inl, inr, arith}
-use Rattle.std.specs.Prelude.{◌&&◌, nat_lt, nat_le, option_map, unwrap_or, IsTrue}
+use Rattle.std.proofs.Common.{◌≡◌, ℕ, ◌-◌, true, false, List, [], ◌∷◌, Option, Some, None, refl, sym, ap, subst, ◌∙◌, inl, inr, arith}
+use Rattle.std.specs.Prelude.{◌&&◌, nat_lt, nat_le, option_map, unwrap_or}
 use Rattle.std.specs.List.{list_all}
 use Rattle.std.specs.Ordering.{nat_cmp}
 use Rattle.std.specs.FinMap as table
@@ -13,7 +13,7 @@ use Rattle.messages.specs.declared.event.Event.TheVariants as event
 use Rattle.messages.specs.declared.event.Input.{Input}
 use Rattle.messages.specs.declared.event.Input.TheVariants as input
 use Rattle.messages.specs.declared.message.Message.{Message}
-use Rattle.relaxed_file.specs.Machine.{Machine, OpenCall, FileState, new_machine}
+use Rattle.relaxed_file.specs.Machine.{Machine, OpenCall, FileState}
 use Rattle.relaxed_file.specs.Chunks.{placed}
 use Rattle.relaxed_file.specs.Run.{Action, Place, Settle, after, after_all}
 use Rattle.protocol.specs.Choice.{Choice}
@@ -22,14 +22,14 @@ use Rattle.replica_store.specs.Replicas.{Replica, replica_of}
 use Rattle.protocol.specs.Server.{ServerState}
 use Rattle.protocol.specs.ServerStep.{server_step}
 use Rattle.protocol.specs.Client.{ClientState}
-use Rattle.protocol.specs.ClientStep.{may_call, client_step, client_call}
-use Rattle.protocol.specs.World.{WorldState, Happened, new_world, nothing_happens, numbered_from_1, after_server, after_client, server_moves, client_moves, moves, delivered, server_restarts_at, restarts, call_moves, rots_replica, rots_on, at_moment, happens, IsReached}
+use Rattle.protocol.specs.ClientStep.{may_call, client_step}
+use Rattle.protocol.specs.World.{WorldState, Happened, new_world, nothing_happens, numbered_from_1, after_server, after_client, server_moves, client_moves, moves, delivered, server_restarts_at, restarts, call_moves, rots_replica, rots_on, at_moment, happens}
 use Rattle.protocol.specs.Tables.{moment_limit}
 use Rattle.protocol_laws.proofs.Steps.{on_cond, none_some}
 use Rattle.protocol_step_laws.specs.Versions.{IsLeaseOver}
-use Rattle.protocol_machine_laws.specs.ChunksAlike.{ChunkSides, IsRoundOpen, AreChunksAlike, NoneEnds, KeepsRounds, HasRounds, moved}
+use Rattle.protocol_machine_laws.specs.ChunksAlike.{ChunkSides, IsRoundOpen, AreChunksAlike, KeepsRounds, HasRounds, moved}
 use Rattle.protocol_machine_laws.proofs.Plain.{other_changes_keep_chunks}
-use Rattle.protocol_whole_laws.specs.Rounds.{IsLogOf, IsMastersStep, IsEnded, SentGrantsAreOpen}
+use Rattle.protocol_whole_laws.specs.Rounds.{IsLogOf, IsMastersStep, IsEnded}
 use Rattle.protocol_whole_laws.specs.ServerSteps.{is_of_entries, ComesToOrders}
 use Rattle.protocol_whole_laws.specs.ToldRounds.{AreToldRounds}
 use Rattle.protocol_whole_laws.specs.ChunksBeside.{AreChunksBeside, NewChunksAreBeside, SameFilesKeepChunksBeside, IsMastersEvent, OtherEventsKeepChunksBeside, MastersEventsKeepChunksBeside}

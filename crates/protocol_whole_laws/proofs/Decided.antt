@@ -1,5 +1,5 @@
 -- The world in which a master that opens has stopped at once: all is as before, but that its log is decided.
-use Rattle.std.proofs.Common.{◌≡◌, ℕ, zero, suc, ◌+◌, ◌-◌, ◌≤◌, Bool, true, cond, List, [], ◌∷◌, ◌++◌, Option, Some, None, is_some, refl, sym, ap, subst, ◌∙◌, arith}
+use Rattle.std.proofs.Common.{◌≡◌, ℕ, suc, ◌+◌, ◌-◌, ◌≤◌, Bool, List, [], ◌∷◌, Option, Some, None, is_some, refl, sym, ap, subst, ◌∙◌, arith}
 use Rattle.std.specs.Prelude.{nat_lt, nat_le, ◌&&◌, max, IsTrue}
 use Rattle.std.proofs.lemmas.Bool.{leb-true, leb-false}
 use Rattle.std.proofs.lemmas.List.{append-nil}
@@ -15,20 +15,19 @@ use Rattle.messages.specs.declared.event.Event.TheVariants as event
 use Rattle.messages.specs.declared.event.Input.{Input}
 use Rattle.messages.specs.declared.event.Input.TheVariants as input
 use Rattle.chunk_table.specs.ChunkTable.{ChunkTable}
-use Rattle.protocol.specs.Tables.{moment_limit, element_at}
+use Rattle.protocol.specs.Tables.{moment_limit}
 use Rattle.protocol.specs.Choice.{Choice, Stops}
-use Rattle.protocol.specs.Logged.{Logged, LogDisk, replayed}
+use Rattle.protocol.specs.Logged.{replayed}
 use Rattle.replica_store.specs.Replicas.{Replica, replica_of}
 use Rattle.protocol.specs.Observer.{Observer, observed_moment, observed_answer}
 use Rattle.protocol.specs.Server.{ServerState}
-use Rattle.protocol.specs.ServerStep.{server_step, server_restart}
-use Rattle.protocol.specs.MasterStep.{found_log, master_step, master_restart}
+use Rattle.protocol.specs.ServerStep.{server_step}
+use Rattle.protocol.specs.MasterStep.{master_step, master_restart}
 use Rattle.protocol.specs.Client.{ClientState}
 use Rattle.protocol.specs.ClientStep.{may_call, client_step, client_call}
-use Rattle.protocol.specs.World.{WorldState, Happened, new_world, nothing_happens, numbered_from_1, after_master, after_server, after_client, master_moves, server_moves, client_moves, moves, delivered, server_restarts_at, restarts, call_moves, rots_replica, rots_on, at_moment, happens, after_events, IsReached}
+use Rattle.protocol.specs.World.{WorldState, Happened, new_world, nothing_happens, numbered_from_1, after_master, after_server, after_client, server_moves, client_moves, moves, delivered, server_restarts_at, restarts, call_moves, rots_replica, rots_on, at_moment, happens, after_events, IsReached}
 use Rattle.protocol_laws.specs.Laws.{HasAllReferences}
 use Rattle.protocol_laws.proofs.Steps.{on_cond}
-use Rattle.protocol_laws.proofs.OrderNumbers.{state_of}
 use Rattle.protocol_laws.proofs.Owners.{references_of, has_row, AreCounted}
 use Rattle.protocol_laws.proofs.CountsKept.{restart_counted}
 use Rattle.protocol_laws.proofs.SentReached.{sent_reached}

@@ -1,7 +1,6 @@
 -- Which rounds may end at an event, and that their leases are over.
-use Rattle.std.proofs.Common.{◌≡◌, ◌⊎◌, ℕ, zero, suc, ◌≤◌, ◌<◌, Bool, true, false, List, [], ◌∷◌, ◌++◌, length, Option, Some, None, is_some, refl, sym, ap, subst, ◌∙◌, inl, inr, arith}
+use Rattle.std.proofs.Common.{◌≡◌, ◌⊎◌, ℕ, zero, suc, ◌≤◌, Bool, true, false, List, [], ◌∷◌, ◌++◌, length, Option, Some, None, is_some, refl, sym, ap, subst, ◌∙◌, inl, inr, arith}
 use Rattle.std.specs.Prelude.{◌==◌, ◌&&◌, IsTrue}
-use Rattle.std.specs.FinMap as table
 use Rattle.std.proofs.lemmas.Bool.{and_parts, eq-eqb, eqb-true, cases_lt}
 use Rattle.gfs_types.specs.declared.config.Config.{Config}
 use Rattle.gfs_types.specs.declared.ids.Handle.{Handle}
@@ -25,7 +24,7 @@ use Rattle.protocol.specs.ServerStep.{server_step, server_restart}
 use Rattle.protocol.specs.MasterStep.{master_restart}
 use Rattle.protocol.specs.ClientStep.{client_step, client_call}
 use Rattle.protocol.specs.World.{WorldState, stamped, happens, IsReached}
-use Rattle.protocol_laws.specs.Laws.{HasAllReferences, times_in, is_grant, grants_of}
+use Rattle.protocol_laws.specs.Laws.{HasAllReferences, is_grant, grants_of}
 use Rattle.protocol_laws.proofs.Steps.{none_some, same_some, tally, count-cons}
 use Rattle.protocol_laws.proofs.ClientMoves.{HasNoOrder, quiet_orders, client_quiet, call_quiet}
 use Rattle.protocol_laws.proofs.SentReached.{server_quiet, server_restarts_quiet}
@@ -45,13 +44,13 @@ use Rattle.protocol_version_laws.proofs.ExtendLaws.{restart_silent}
 use Rattle.protocol_version_laws.proofs.SharedChunks.{quiet_sent, shared_chunks_have_no_lease, shared_chunks_in_the_log_have_no_lease}
 use Rattle.protocol_replica_laws.proofs.CopiedOrders.{copies_under_way_are_not_granted}
 use Rattle.protocol_invariant.specs.Actions.{Spot}
-use Rattle.protocol_machine_laws.specs.ChunksAlike.{ChunkSides, StandsAt, StoodAt, IsRoundOpen, AreChunksAlike, KeepsRounds, HasRounds}
+use Rattle.protocol_machine_laws.specs.ChunksAlike.{ChunkSides, StandsAt, StoodAt, IsRoundOpen, KeepsRounds, HasRounds}
 use Rattle.protocol_machine_laws.specs.EntrySteps.{StandsNowhereElse}
 use Rattle.protocol_machine_laws.specs.OpenRounds.{NewRoundsAreOpen}
 use Rattle.protocol_machine_laws.proofs.Sides.{gone_or_there}
 use Rattle.protocol_machine_laws.proofs.OpenRounds.{chunks_of_one_owner_stand_once}
-use Rattle.protocol_whole_laws.specs.Rounds.{log_as, IsLogOf, IsMastersStep, IsTried, IsCopied, IsCopy, IsBegun, IsShared, IsEnded, SentGrantsAreOpen, EachEventKeepsRounds, OtherEventsKeepRounds, SharedChunksInEachLogHaveNoLease, LeasedChunksStandOnce, OpenRoundsHaveOneSpot, EndedRoundsAreOver}
-use Rattle.protocol_whole_laws.proofs.Decided.{IsDecided, decided_world, over_in, counted_in_each}
+use Rattle.protocol_whole_laws.specs.Rounds.{IsLogOf, IsMastersStep, IsTried, IsCopied, IsCopy, IsBegun, IsShared, IsEnded, SentGrantsAreOpen, EachEventKeepsRounds, OtherEventsKeepRounds, SharedChunksInEachLogHaveNoLease, LeasedChunksStandOnce, OpenRoundsHaveOneSpot, EndedRoundsAreOver}
+use Rattle.protocol_whole_laws.proofs.Decided.{decided_world, over_in, counted_in_each}
 
 -- what was never granted is over
 

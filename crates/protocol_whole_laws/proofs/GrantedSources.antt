@@ -1,5 +1,5 @@
 -- A copy that a step of the master grants was under way as the step began, so that each lease of its source is over.
-use Rattle.std.proofs.Common.{◌≡◌, ◌⊎◌, ℕ, List, [], ◌∷◌, ◌++◌, Option, Some, None, refl, sym, ap, subst, ◌∙◌, inl, inr}
+use Rattle.std.proofs.Common.{◌≡◌, ℕ, List, [], ◌∷◌, ◌++◌, Option, Some, None, refl, sym, ap, ◌∙◌, inl, inr}
 use Rattle.std.specs.Prelude.{Bool, IsTrue}
 use Rattle.std.specs.FinMap as table
 use Rattle.gfs_types.specs.declared.config.Config.{Config}
@@ -9,13 +9,12 @@ use Rattle.log_records.specs.declared.record.Record.TheVariants as log
 use Rattle.chunk_table.specs.ChunkTable.{ChunkRow, chunk_of}
 use Rattle.protocol.specs.Tables.{Table}
 use Rattle.protocol.specs.Logged.{Logged, Copy, LogDisk, LogChange, AppendRecord, WriteCheckpoint, first_logged, copies_for_file, after_record, log_changed, log_changed_by_all, copies_given_up}
-use Rattle.protocol.specs.MasterStep.{master_at, master_goes}
-use Rattle.protocol.specs.Master.{master_begins}
+use Rattle.protocol.specs.MasterStep.{master_goes}
 use Rattle.protocol.specs.World.{WorldState, IsReached}
-use Rattle.protocol_laws.proofs.Steps.{none_some, same_some, kept_cases, removed_cases}
+use Rattle.protocol_laws.proofs.Steps.{none_some, kept_cases, removed_cases}
 use Rattle.protocol_laws.proofs.Entries.{AllOf}
 use Rattle.protocol_laws.proofs.FilesLogged.{without_copy, copies_after, copies_are_after}
-use Rattle.protocol_laws.proofs.MasterMoves.{Core, core_of, core_changed, core_appended, core_ended, IsDue, IsNoGrantRecord, Keeps, Nothing, NoneEnded, grant_record}
+use Rattle.protocol_laws.proofs.MasterMoves.{Core, core_changed, core_appended, IsNoGrantRecord, Keeps, Nothing, NoneEnded, grant_record}
 use Rattle.protocol_laws.proofs.MasterSteps.{no_input, goes_named}
 use Rattle.protocol_laws.proofs.NamesReached.{IsUpToLog, naming_keeps}
 use Rattle.protocol_laws.proofs.OrderNumbers.{state_of}
@@ -23,11 +22,10 @@ use Rattle.protocol_laws.proofs.RevokesNumbered.{IsRowing}
 use Rattle.protocol_laws.proofs.RowsLogged.{IsFoundRows, IsRowedLog}
 use Rattle.protocol_laws.proofs.RowsKept.{rows_kept}
 use Rattle.protocol_laws.proofs.SentReached.{sent_reached}
-use Rattle.protocol_step_laws.specs.Versions.{AreLeasesOver}
 use Rattle.protocol_step_laws.proofs.WaitsKept.{IsOfWaits, waits_kept}
 use Rattle.protocol_version_laws.proofs.AskedSteps.{IsNoGrant}
 use Rattle.protocol_version_laws.proofs.CopiedSources.{IsNoStartRecord, IsNoStart, asked_or_not, unasked_step, asked_step, free_reached, copied_chunks_have_no_lease}
-use Rattle.protocol_whole_laws.specs.Rounds.{log_on, IsSourceOver, AreSourcesOver, SourcesOfGrantedCopiesHaveNoLease}
+use Rattle.protocol_whole_laws.specs.Rounds.{IsSourceOver, AreSourcesOver, SourcesOfGrantedCopiesHaveNoLease}
 
 -- a record that starts no copy leaves no more of them
 fewer_copies : (l : Logged) (r : Record) → IsNoStartRecord r → (q : ℕ) (x : Copy) → table.get (after_record l r).copies q ≡ Some x → table.get l.copies q ≡ Some x

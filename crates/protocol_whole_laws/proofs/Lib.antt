@@ -33,6 +33,7 @@ pub mod ServerSteps
 pub mod Settlements
 pub mod SoundLogs
 pub mod StepCopies
+pub mod StepRounds
 pub mod StoppedSteps
 pub mod ToldHolders
 pub mod ToldRounds

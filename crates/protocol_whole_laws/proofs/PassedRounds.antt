@@ -1,5 +1,5 @@
 -- A round that was told was granted before, so that no Grant of it follows: its lease stays over once it is.
-use Rattle.std.proofs.Common.{◌≡◌, ◌⊎◌, ℕ, suc, ◌≤◌, ◌<◌, Bool, true, false, List, [], ◌∷◌, ◌++◌, length, Option, Some, None, refl, sym, ap, subst, ◌∙◌, inl, inr, arith}
+use Rattle.std.proofs.Common.{◌≡◌, ℕ, suc, ◌≤◌, Bool, true, false, List, [], ◌∷◌, ◌++◌, length, Option, Some, None, refl, sym, ap, subst, ◌∙◌, arith}
 use Rattle.std.specs.Prelude.{◌==◌, ◌&&◌, IsTrue}
 use Rattle.std.specs.FinMap as table
 use Rattle.std.proofs.lemmas.Bool.{and_parts, eqb-true}
@@ -10,13 +10,12 @@ use Rattle.messages.specs.declared.message.Body.TheVariants as body
 use Rattle.messages.specs.declared.message.Message.{Message}
 use Rattle.messages.specs.declared.message.Location.{Location}
 use Rattle.chunk_table.specs.ChunkTable.{ChunkRow}
-use Rattle.protocol.specs.Tables.{element_at}
 use Rattle.protocol.specs.Choice.{Choice}
 use Rattle.protocol.specs.Logged.{Logged, Copy, LogChange}
 use Rattle.protocol.specs.MasterStep.{master_step, master_restart}
 use Rattle.protocol.specs.ServerStep.{server_step, server_restart}
 use Rattle.protocol.specs.ClientStep.{client_step, client_call}
-use Rattle.protocol.specs.World.{WorldState, Happened, stamped, happens, after_events, IsReached}
+use Rattle.protocol.specs.World.{WorldState, stamped, happens, after_events, IsReached}
 use Rattle.protocol_laws.specs.Laws.{is_grant, grants_of}
 use Rattle.protocol_laws.proofs.Steps.{none_some, same_some, tally, count-cons}
 use Rattle.protocol_laws.proofs.Entries.{AllOf}

@@ -1,5 +1,5 @@
 -- Where rounds end as the machine follows the records of a step of the master, their leases are over.
-use Rattle.std.proofs.Common.{◌≡◌, ◌⊎◌, ℕ, zero, suc, ◌+◌, ◌≤◌, ◌<◌, Bool, true, false, List, [], ◌∷◌, ◌++◌, take, Option, Some, None, is_some, refl, sym, ap, subst, ◌∙◌, inl, inr, arith}
+use Rattle.std.proofs.Common.{◌≡◌, ◌⊎◌, ℕ, zero, suc, ◌+◌, ◌≤◌, true, List, [], ◌∷◌, take, Option, Some, None, is_some, refl, sym, ap, subst, ◌∙◌, inl, inr, arith}
 use Rattle.std.specs.Prelude.{unwrap_or, IsTrue}
 use Rattle.std.specs.FinMap as table
 use Rattle.gfs_types.specs.declared.config.Config.{Config}
@@ -20,18 +20,16 @@ use Rattle.protocol.specs.MasterStep.{master_goes}
 use Rattle.protocol.specs.World.{WorldState, happens, IsReached}
 use Rattle.protocol_laws.specs.Laws.{HasAllReferences, times_in, grants_of}
 use Rattle.protocol_laws.proofs.Steps.{none_some, same_some, same_or_not, put_there, put_other, removed_cases}
-use Rattle.protocol_laws.proofs.Owners.{stands, chunks_at, times_new, times_at_least, placed_stands}
+use Rattle.protocol_laws.proofs.Owners.{stands, times_new, times_at_least, placed_stands}
 use Rattle.protocol_laws.proofs.CountsLogged.{AreFilesBelow, files_below, new_is_none}
 use Rattle.protocol_laws.proofs.OrderNumbers.{state-appended}
 use Rattle.protocol_laws.proofs.SentReached.{sent_reached}
-use Rattle.protocol_step_laws.specs.Versions.{IsLeaseOver, AreLeasesOver}
 use Rattle.protocol_step_laws.proofs.WaitsKept.{IsOfWaits, waits_kept}
 use Rattle.protocol_version_laws.proofs.ClosedVersions.{clocks_before}
-use Rattle.protocol_invariant.specs.Actions.{Spot}
-use Rattle.protocol_machine_laws.specs.ChunksAlike.{ChunkSides, StandsAt, StoodAt, IsRoundOpen}
+use Rattle.protocol_machine_laws.specs.ChunksAlike.{StandsAt, StoodAt}
 use Rattle.protocol_machine_laws.specs.ChunkRecords.{StandsIn}
 use Rattle.protocol_whole_laws.specs.Rounds.{IsMastersInput, IsEnded, log_on, log_within, AreSourcesOver, IsSourceOver}
-use Rattle.protocol_whole_laws.specs.RecordRounds.{IsGrantOfOwn, IsSourceOfGrant, MayEndAt, RecordsEndOverRounds, UnplacedChunksHaveNoRound}
+use Rattle.protocol_whole_laws.specs.RecordRounds.{IsGrantOfOwn, MayEndAt, RecordsEndOverRounds, UnplacedChunksHaveNoRound}
 use Rattle.protocol_whole_laws.proofs.Decided.{counted_in_each}
 use Rattle.protocol_whole_laws.proofs.EndedRounds.{ended_before}
 use Rattle.protocol_whole_laws.proofs.GrantedSources.{sources_of_granted_copies_have_no_lease}
@@ -139,7 +137,7 @@ granted_files l named version primary members none = ap (λ (o : Option Copy). t
 
 -- a record of a step
 
-made_more : (d : LogDisk) (xs : List LogChange) (made : ℕ) (x : LogChange) → element_at xs made ≡ Some x → log_changed_by_all d (take (suc made) xs) ≡ log_changed (log_changed_by_all d (take made xs)) x
+pub made_more : (d : LogDisk) (xs : List LogChange) (made : ℕ) (x : LogChange) → element_at xs made ≡ Some x → log_changed_by_all d (take (suc made) xs) ≡ log_changed (log_changed_by_all d (take made xs)) x
 made_more d [] made x at = none_some x at
 made_more d (y ∷ ys) zero x at = ap (λ (z : LogChange). log_changed d z) (same_some y x at)
 made_more d (y ∷ ys) (suc made) x at = made_more (log_changed d y) ys made x at
@@ -227,7 +225,7 @@ module _ (config : Config) (servers clients : ℕ) (w : WorldState) (r : IsReach
     own_over v granted = elim (same_or_not v version) [
       | inl same ↦ absurd (let none = none_before in let count = ap (λ (n : ℕ). grants_of named n w.sent) same in omega (arith, none, count, granted))
       | inr other ↦ (logs_within_steps_end_leases config servers clients w r up e moment i choice given limit clocks (suc made) named (row_in (suc made) named some_after).0 (row_in (suc made) named some_after).1).0 v granted
-      (inr (λ same. other (same ∙ now_granted)))
+          (inr (λ same. other (same ∙ now_granted)))
     ]
       where
         now_granted : ((row_in (suc made) named some_after).0).granted ≡ version

@@ -1,7 +1,7 @@
 -- What a server numbers and settles in a step, the machine places and settles.
-use Rattle.std.proofs.Common.{◌≡◌, ◌⊎◌, ℕ, zero, suc, ◌+◌, ◌*◌, ◌<◌, ◌≤◌, Bool, true, false, cond, List, [], ◌∷◌, ◌++◌, length, Option, Some, None, refl, sym, ap, subst, ◌∙◌, inl, inr, arith}
-use Rattle.std.specs.Prelude.{◌&&◌, IsTrue, IsFalse}
-use Rattle.std.specs.List.{list_all, AllByRecursion}
+use Rattle.std.proofs.Common.{◌≡◌, ℕ, zero, suc, ◌+◌, ◌*◌, ◌<◌, ◌≤◌, Bool, true, false, List, [], ◌∷◌, length, Some, refl, sym, ap, subst, ◌∙◌, inl, inr}
+use Rattle.std.specs.Prelude.{IsTrue}
+use Rattle.std.specs.List.{list_all}
 use Rattle.std.specs.FinMap as table
 use Rattle.std.proofs.lemmas.Bool.{and_parts}
 use Rattle.gfs_types.specs.declared.config.Config.{Config}
@@ -13,27 +13,25 @@ use Rattle.gfs_types.specs.declared.ids.Serial.{Serial}
 use Rattle.gfs_types.specs.declared.ids.Version.{Version}
 use Rattle.gfs_types.specs.declared.mutation.Mutation.{Mutation}
 use Rattle.gfs_types.specs.declared.mutation.Mutation.TheVariants.{Write, Append, Pad}
-use Rattle.gfs_types.specs.Mutations.{start_of, end_of}
 use Rattle.messages.specs.declared.event.Event.{Event}
 use Rattle.messages.specs.declared.event.Input.{Input}
 use Rattle.messages.specs.declared.event.Input.TheVariants as input
 use Rattle.messages.specs.declared.message.Message.{Message}
 use Rattle.primary_order.specs.declared.order.SerialOrder.{SerialOrder}
 use Rattle.relaxed_file.specs.Order.{CallId, Entry}
-use Rattle.relaxed_file.specs.Parts.{part_bytes}
-use Rattle.relaxed_file.specs.Machine.{Machine, Chunk, chunk_size, chunk_at}
+use Rattle.relaxed_file.specs.Machine.{Machine, chunk_size, chunk_at}
 use Rattle.relaxed_file.specs.Chunks.{IsPastAll, is_an_end, AsksFor}
 use Rattle.relaxed_file.specs.Run.{Action, Place, Settle, Visible, IsLawful, visible, after, after_all}
 use Rattle.protocol.specs.Choice.{Choice}
 use Rattle.protocol.specs.Tables.{Table, element_at, first_numbers, with_at}
 use Rattle.protocol.specs.declared.seen.Seen.{Seen}
 use Rattle.protocol.specs.declared.seen.Seen.TheVariants.{Numbered, BecameSettled, CopyStarted}
-use Rattle.protocol.specs.Observer.{Observer, Placed, placed_in, order_of, observed_moment, calls_made, orders_after, orders_after_all}
+use Rattle.protocol.specs.Observer.{Placed, placed_in, order_of, observed_moment, orders_after, orders_after_all}
 use Rattle.protocol.specs.Server.{ServerState, primary_of}
 use Rattle.protocol.specs.ServerStep.{server_at, server_step, server_restart}
 use Rattle.protocol.specs.MasterStep.{master_restart}
 use Rattle.protocol.specs.ClientStep.{client_step, client_call}
-use Rattle.protocol.specs.World.{WorldState, Happened, after_server, happens, IsReached, is_kept}
+use Rattle.protocol.specs.World.{WorldState, Happened, after_server, IsReached, is_kept}
 use Rattle.protocol_laws.proofs.Steps.{none_some}
 use Rattle.protocol_laws.proofs.Entries.{AllOf}
 use Rattle.protocol_laws.proofs.MembersRecorded.{all_at}
@@ -59,7 +57,7 @@ use Rattle.protocol_replica_laws.specs.WaitingMutations.{IsAcknowledgedByAll}
 use Rattle.protocol_replica_laws.proofs.Acknowledging.{settled_mutations_were_acknowledged}
 use Rattle.protocol_replica_laws.proofs.LawfulPlaces.{numbered_mutations_may_follow}
 use Rattle.protocol_invariant.specs.Actions.{Spot}
-use Rattle.protocol_machine_laws.specs.ChunksAlike.{ChunkSides, chunk_in, entries_in, IsRoundOpen, AreChunksAlike, NoneEnds, HasRounds, moved, Follows}
+use Rattle.protocol_machine_laws.specs.ChunksAlike.{ChunkSides, entries_in, IsRoundOpen, AreChunksAlike, NoneEnds, HasRounds, moved, Follows}
 use Rattle.protocol_machine_laws.specs.EntrySteps.{StandsNowhereElse, IsWanted, IsOnlyPlace}
 use Rattle.protocol_machine_laws.proofs.Orders.{numbered_mutations_are_placed}
 use Rattle.protocol_machine_laws.proofs.OpenRounds.{counting_rounds_are_open}
@@ -152,8 +150,10 @@ module _ (config : Config) (servers clients : ℕ) (w : WorldState) (r : IsReach
     only_there =
         let has_entry = counted_entry version.0 serial.0 (acknowledged.later).serial (order_of then_.observer handle.0) counted (acknowledged.given).0 (acknowledged.given).1 in (
           has_entry.0,
-          ((has_entry.1, has_entry.2, has_entry.3, has_entry.4),
-          λ other q is round serial_is. serials_have_one_entry config servers clients then_ reached handle.0 other has_entry.0 q has_entry.1 is has_entry.2 (round ∙ sym has_entry.3) (serial_is ∙ sym has_entry.4)),
+          (
+            (has_entry.1, has_entry.2, has_entry.3, has_entry.4),
+            λ other q is round serial_is. serials_have_one_entry config servers clients then_ reached handle.0 other has_entry.0 q has_entry.1 is has_entry.2 (round ∙ sym has_entry.3) (serial_is ∙ sym has_entry.4),
+          ),
         )
 
     settling_due : IsSettlingDue k end (BecameSettled handle version serial)

@@ -1,8 +1,7 @@
 -- What a server settles: each entry has its name, its round and its serial, before and after.
-use Rattle.std.proofs.Common.{◌≡◌, ◌⊎◌, ℕ, zero, suc, ◌≤◌, Bool, true, false, cond, List, [], ◌∷◌, ◌++◌, map, length, Option, Some, refl, sym, ap, subst, ◌∙◌, inl, inr, arith}
-use Rattle.std.specs.Prelude.{◌==◌, ◌&&◌, IsTrue, filter, unwrap_or}
+use Rattle.std.proofs.Common.{◌≡◌, ℕ, zero, suc, ◌≤◌, Bool, true, false, cond, List, [], ◌∷◌, ◌++◌, map, length, Option, Some, refl, sym, ap, subst, ◌∙◌, inl, inr, arith}
+use Rattle.std.specs.Prelude.{◌==◌, ◌&&◌, filter, unwrap_or}
 use Rattle.std.specs.List.{list_all}
-use Rattle.std.specs.FinMap as table
 use Rattle.std.proofs.lemmas.Bool.{eqb-true, cases_lt}
 use Rattle.relaxed_file.specs.Run.{Action, Settle, Visible}
 use Rattle.protocol.specs.Tables.{Table, element_at, first_numbers}
@@ -110,7 +109,7 @@ pub due_later : (k : ChunkSides) (actions : List Action) (orders end : Table (Li
 due_later k actions orders end [] keeps all = tt
 due_later k actions orders end (BecameSettled q v n ∷ xs) keeps all =
     let it = all.0 in (
-      (it.0, elim (keeps q.0 v.0 it.0 it.1) [ | inl none ↦ absurd none | inr still ↦ still ], it.2, it.3, it.4),
+      (it.0, elim (keeps q.0 v.0 it.0 it.1) [ inl none ↦ absurd none | inr still ↦ still ], it.2, it.3, it.4),
       due_later k actions orders end xs keeps all.1,
     )
 due_later k actions orders end (Numbered q v n id m ∷ xs) keeps all = absurd all.0

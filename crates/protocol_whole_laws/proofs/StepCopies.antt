@@ -1,13 +1,13 @@
 -- The copies that the log has along a step of the master were under way before it, or their handles are new: they had no open round before.
-use Rattle.std.proofs.Common.{◌≡◌, ◌⊎◌, ℕ, zero, suc, ◌+◌, ◌≤◌, ◌<◌, List, [], ◌∷◌, ◌++◌, take, Option, Some, None, refl, sym, ap, subst, ◌∙◌, inl, inr, arith}
-use Rattle.std.specs.Prelude.{Bool, IsTrue, max}
+use Rattle.std.proofs.Common.{◌≡◌, ◌⊎◌, ℕ, zero, suc, ◌+◌, ◌≤◌, ◌<◌, List, [], ◌∷◌, take, Option, Some, None, refl, sym, ap, subst, ◌∙◌, inl, inr, arith}
+use Rattle.std.specs.Prelude.{Bool, IsTrue}
 use Rattle.std.specs.FinMap as table
 use Rattle.std.proofs.Math.Nat.{le-max_left}
 use Rattle.gfs_types.specs.declared.config.Config.{Config}
 use Rattle.messages.specs.declared.event.Input.{Input}
 use Rattle.log_records.specs.declared.record.Record.{Record}
 use Rattle.log_records.specs.declared.record.Record.TheVariants as log
-use Rattle.chunk_table.specs.ChunkTable.{ChunkRow, grant, handles_of, chunk_of}
+use Rattle.chunk_table.specs.ChunkTable.{grant, handles_of, chunk_of}
 use Rattle.protocol.specs.Tables.{Table}
 use Rattle.protocol.specs.Logged.{Logged, Copy, LogDisk, LogChange, AppendRecord, WriteCheckpoint, first_logged, copies_for_file, after_record, swapped_in, log_changed, log_changed_by_all, copies_given_up, checkpoint_of}
 use Rattle.protocol.specs.MasterStep.{master_goes}
@@ -17,7 +17,7 @@ use Rattle.protocol_laws.proofs.Steps.{none_some, kept_cases, put_cases, removed
 use Rattle.protocol_laws.proofs.FilesLogged.{without_copy, copies_after, copies_are_after, checkpoint_no_copies}
 use Rattle.protocol_laws.proofs.CountsLogged.{IsFoundCounts}
 use Rattle.protocol_laws.proofs.LoggedParts.{Parts}
-use Rattle.protocol_laws.proofs.MasterMoves.{Core, core_of, core_changed, core_appended, IsDue, Keeps, Nothing, NoneEnded, grant_record}
+use Rattle.protocol_laws.proofs.MasterMoves.{Core, core_changed, core_appended, IsDue, Keeps, Nothing, NoneEnded, grant_record}
 use Rattle.protocol_laws.proofs.MasterSteps.{no_input, goes_named}
 use Rattle.protocol_laws.proofs.NamesReached.{IsUpToLog, naming_keeps}
 use Rattle.protocol_laws.proofs.OrderNumbers.{state_of, state-appended, AllStops, stops_push}

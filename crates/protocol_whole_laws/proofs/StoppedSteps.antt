@@ -1,11 +1,10 @@
 -- The world in which a step of the master has stopped after some of its changes tells what its log says then.
-use Rattle.std.proofs.Common.{◌≡◌, ◌⊎◌, ℕ, zero, suc, ◌≤◌, ◌<◌, Bool, true, false, cond, List, [], ◌∷◌, ◌++◌, take, length, Option, Some, None, refl, sym, ap, subst, ◌∙◌, inl, inr, arith}
+use Rattle.std.proofs.Common.{◌≡◌, ◌⊎◌, ℕ, zero, suc, ◌≤◌, ◌<◌, Bool, true, false, cond, List, [], ◌∷◌, ◌++◌, take, length, Option, Some, refl, sym, ap, subst, ◌∙◌, inl, inr, arith}
 use Rattle.std.specs.Prelude.{nat_le, max, IsTrue}
-use Rattle.std.proofs.lemmas.Bool.{leb-true, leb-false}
+use Rattle.std.proofs.lemmas.Bool.{leb-false}
 use Rattle.std.proofs.lemmas.List.{append-nil}
 use Rattle.gfs_types.specs.declared.config.Config.{Config}
 use Rattle.gfs_types.specs.declared.ids.Node.{Node}
-use Rattle.gfs_types.specs.declared.ids.Node.TheVariants as node
 use Rattle.messages.specs.declared.event.Event.{Event}
 use Rattle.messages.specs.declared.event.Event.TheVariants as event
 use Rattle.messages.specs.declared.event.Input.{Input}
@@ -21,7 +20,7 @@ use Rattle.protocol.specs.Master.{MasterState}
 use Rattle.protocol.specs.MasterStep.{master_goes, master_ends, master_bounded, master_step}
 use Rattle.protocol.specs.Seen.{Taken, no_step}
 use Rattle.protocol.specs.Server.{ServerState}
-use Rattle.protocol.specs.World.{WorldState, Happened, stamped, nothing_happens, numbered_from_1, after_master, master_moves, moves, delivered, at_moment, happens, IsReached}
+use Rattle.protocol.specs.World.{WorldState, Happened, stamped, nothing_happens, after_master, master_moves, moves, delivered, at_moment, happens, IsReached}
 use Rattle.protocol_laws.specs.Laws.{grants_of}
 use Rattle.protocol_laws.proofs.GrantsOnce.{versions_are_granted_once}
 use Rattle.protocol_laws.proofs.ScenesReached.{Scene, scene_of}

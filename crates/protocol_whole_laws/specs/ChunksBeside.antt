@@ -1,5 +1,5 @@
 -- The machine's chunks beside a world: the log's chunks, the observer's orders, the rounds of the leases and what was told of them, from each world to the next (sections 2.4, 3.1 and 3.4).
-use Rattle.std.specs.Prelude.{◌≡◌, ℕ, List, Option, Some, None, IsTrue}
+use Rattle.std.specs.Prelude.{◌≡◌, ℕ, List, None, IsTrue}
 use Rattle.std.specs.List.{list_all}
 use Rattle.gfs_types.specs.declared.config.Config.{Config}
 use Rattle.gfs_types.specs.declared.ids.Node.TheVariants.{Master}

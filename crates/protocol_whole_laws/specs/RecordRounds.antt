@@ -1,5 +1,5 @@
 -- Where rounds end as the machine follows the records of a step of the master, their leases are over (sections 3.1, 3.4 and 4.4).
-use Rattle.std.specs.Prelude.{◌≡◌, ◌⊎◌, ℕ, ◌<◌, ◌≤◌, Bool, List, take, Some, None, IsTrue}
+use Rattle.std.specs.Prelude.{◌≡◌, ◌⊎◌, ℕ, ◌<◌, ◌≤◌, Bool, List, take, Some, None, IsTrue, [], ◌∷◌}
 use Rattle.std.specs.FinMap as table
 use Rattle.gfs_types.specs.declared.config.Config.{Config}
 use Rattle.messages.specs.declared.event.Event.{Event}
@@ -10,12 +10,12 @@ use Rattle.chunk_table.specs.ChunkTable.{ChunkRow, chunk_of}
 use Rattle.relaxed_file.specs.Names.{copied_entries}
 use Rattle.protocol.specs.Choice.{Choice}
 use Rattle.protocol.specs.Tables.{moment_limit, element_at}
-use Rattle.protocol.specs.Logged.{Logged, Copy, AppendRecord, log_changed_by_all}
+use Rattle.protocol.specs.Logged.{Logged, Copy, AppendRecord, log_changed_by_all, LogDisk, LogChange, WriteCheckpoint, log_changed}
 use Rattle.protocol.specs.MasterStep.{master_goes}
 use Rattle.protocol.specs.World.{WorldState, happens, IsReached}
 use Rattle.protocol_laws.specs.Laws.{times_in}
 use Rattle.protocol_invariant.specs.Actions.{Spot}
-use Rattle.protocol_machine_laws.specs.ChunksAlike.{ChunkSides, StandsAt, IsRoundOpen, AreChunksAlike}
+use Rattle.protocol_machine_laws.specs.ChunksAlike.{ChunkSides, StandsAt, IsRoundOpen, KeepsRounds, NoneEnds}
 use Rattle.protocol_machine_laws.specs.ChunkRecords.{StandsIn}
 use Rattle.protocol_whole_laws.specs.Rounds.{IsMastersInput, IsEnded, log_on}
 
@@ -62,3 +62,28 @@ CopiesWithinStepsHaveNoRound =
     → table.get (log_on (log_changed_by_all w.master.disk (take made (master_goes w.master moment i refused).changes))).copies handle ≡ Some c
     → (k : ChunkSides) → k.log ≡ log_on w.master.disk → ((other : ℕ) (s : Spot) → k.gone other ≡ Some s → other < k.log.next_handle)
     → (version : ℕ) (s : Spot) → IsRoundOpen k handle version s → ⊥
+
+-- a copy of this handle is under way in the log
+abbrev pub IsCopyOn : LogDisk → ℕ → Type 0
+IsCopyOn d handle = (c : Copy) × (table.get (log_on d).copies handle ≡ Some c)
+
+abbrev pub MayEndBy : LogDisk → LogChange → ℕ → Type 0
+MayEndBy d (AppendRecord r) handle = MayEndAt (log_on d) r handle
+MayEndBy d (WriteCheckpoint items) handle = ⊥
+
+-- Rounds of these chunks may end at a change of the log: as its record says, and of copies that are under way before it or after it.
+abbrev pub MayEndAtChange : LogDisk → LogChange → ℕ → Type 0
+MayEndAtChange d x handle = MayEndBy d x handle ⊎ IsCopyOn d handle ⊎ IsCopyOn (log_changed d x) handle
+
+-- The machine follows the changes of a log, one after the other, and rounds end of these chunks alone.
+abbrev pub EndsAlong : LogDisk → List LogChange → ChunkSides → ChunkSides → Type 0
+EndsAlong d [] k j = KeepsRounds NoneEnds k j
+EndsAlong d (x ∷ rest) k j = (m : ChunkSides) × KeepsRounds (MayEndAtChange d x) k m × EndsAlong (log_changed d x) rest m j
+
+-- Where the machine follows the changes of a step of the master, also of one that stops after some of them, each round that was open before stays so, or its lease is over after the step.
+abbrev pub StepsKeepRounds : Type 0
+StepsKeepRounds =
+    (config : Config) (servers clients : ℕ) (w : WorldState) → IsReached config servers clients w → IsTrue w.master.up
+    → (e : Event) (moment : ℕ) (i : Input) (choice : Choice) → IsMastersInput w e moment i → moment ≤ moment_limit → IsTrue (happens w e choice).world.observer.are_clocks_kept
+    → (k j : ChunkSides) → k.log ≡ log_on w.master.disk → ((other : ℕ) (s : Spot) → k.gone other ≡ Some s → other < k.log.next_handle)
+    → (made : ℕ) → EndsAlong w.master.disk (take made (master_goes w.master moment i choice.refused).changes) k j → KeepsRounds (IsEnded w (happens w e choice).world) k j
