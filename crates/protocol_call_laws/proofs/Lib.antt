@@ -16,3 +16,6 @@ pub mod UsedIndexes
 pub mod AskedParts
 pub mod PastChunks
 pub mod FullBefore
+pub mod ToldHolders
+pub mod ToldPlaces
+pub mod ToldOnce

@@ -8,7 +8,7 @@ use Rattle.messages.specs.declared.message.Message.{Message}
 use Rattle.messages.specs.declared.message.Wanted.TheVariants as wanted
 use Rattle.protocol.specs.Tables.{element_at}
 use Rattle.protocol.specs.Sending.{the_client}
-use Rattle.protocol.specs.World.{WorldState, IsReached, is_kept}
+use Rattle.protocol.specs.World.{WorldState, IsReached}
 use Rattle.protocol_invariant.specs.AttemptParts.{is_full}
 use Rattle.protocol_call_laws.specs.AnsweredWrites.{IsToldChunk}
 
@@ -19,9 +19,9 @@ pub record IsFullBefore (w : WorldState) (client file index : ℕ) : Type 0 wher
   pub chunk : IsToldChunk w.sent client file index handle round
   pub full : IsTrue (is_full w handle)
 
--- Where clocks and disks are kept, a client asks for a chunk past one, to append to it, only where that one is full in this sense (section 3.3). A chunk has at least one byte.
+-- Where clocks are kept, a client asks for a chunk past one, to append to it, only where that one is full in this sense (section 3.3). A chunk has at least one byte.
 abbrev pub AsksPastAChunkFindItFull : Type 0
 AsksPastAChunkFindItFull =
-    (config : Config) (servers clients : ℕ) (w : WorldState) → IsReached config servers clients w → IsTrue (is_kept w) → 1 ≤ config.chunk
+    (config : Config) (servers clients : ℕ) (w : WorldState) → IsReached config servers clients w → IsTrue w.observer.are_clocks_kept → 1 ≤ config.chunk
     → (place client number past : ℕ) (m : Message) (file : FileId) (deadline : Moment) (lost : Bool) → element_at w.sent place ≡ Some m → m.sender ≡ the_client client → m.body ≡ body.Ask number file (wanted.Append (suc past)) deadline lost
     → IsFullBefore w client file.0 past

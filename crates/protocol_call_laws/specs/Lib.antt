@@ -8,3 +8,4 @@ pub mod ToldIndexes
 pub mod RefusedAsks
 pub mod EarlierParts
 pub mod FullBefore
+pub mod ToldHolders

@@ -10,4 +10,5 @@ pub mod open_attempts;
 pub mod open_calls;
 pub mod passed_attempts;
 pub mod refused_asks;
+pub mod told_holders;
 pub mod told_indexes;
