@@ -12,3 +12,4 @@ pub mod WholeSteps
 pub mod WholeStops
 pub mod WholeLogs
 pub mod OverRounds
+pub mod UnaskedAdds
