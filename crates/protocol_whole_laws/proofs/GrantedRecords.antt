@@ -168,9 +168,9 @@ module _ (first : Logged) (tried : Attempts) where
           | inr rows ↦ elim (copies_after c.logged r due plain h.0.1) [
             | inl begins ↦ inl (start_last c.changes (AppendRecord r) begins)
             | inr copies ↦ inr (
-                (let low = h.0.0 in let more = next_grows c.logged c.logged r due in omega (arith, low, more), copies, h.0.2, rows),
-                pushed c (AppendRecord r) n h.1 (good_record c.disk r plain),
-              )
+              (let low = h.0.0 in let more = next_grows c.logged c.logged r due in omega (arith, low, more), copies, h.0.2, rows),
+              pushed c (AppendRecord r) n h.1 (good_record c.disk r plain),
+            )
           ]
         ]
 
@@ -259,26 +259,26 @@ module _ (first : Logged) (tried : Attempts) where
           checkpoint = λ c attempts ss tree n after h. elim h [
             | inl begun ↦ inl (start_stays c.changes (WriteCheckpoint (checkpoint_of c.logged) ∷ []) begun)
             | inr from ↦ inr (
-                (
-                  from.0.0,
-                  λ q x is. from.0.1 q x (removed_cases c.logged.copies (table.keys c.logged.copies) q x is),
-                  λ q a at. from.0.2 q a (removed_cases attempts (table.keys c.logged.copies) q a at),
-                  λ q row is. from.0.3 q row (removed_cases (rows_of c.logged) (table.keys c.logged.copies) q row is),
-                ),
-                pushed c (WriteCheckpoint (checkpoint_of c.logged)) n from.1 tt,
-              )
+              (
+                from.0.0,
+                λ q x is. from.0.1 q x (removed_cases c.logged.copies (table.keys c.logged.copies) q x is),
+                λ q a at. from.0.2 q a (removed_cases attempts (table.keys c.logged.copies) q a at),
+                λ q row is. from.0.3 q row (removed_cases (rows_of c.logged) (table.keys c.logged.copies) q row is),
+              ),
+              pushed c (WriteCheckpoint (checkpoint_of c.logged)) n from.1 tt,
+            )
           ];
           less = λ c attempts ss handles copied n h. elim h [
             | inl begun ↦ inl begun
             | inr from ↦ inr (
-                (
-                  from.0.0,
-                  λ q x is. from.0.1 q x (removed_cases c.logged.copies handles q x is),
-                  λ q a at. from.0.2 q a (removed_cases attempts handles q a at),
-                  λ q row is. from.0.3 q row (removed_cases (rows_of c.logged) handles q row is),
-                ),
-                from.1,
-              )
+              (
+                from.0.0,
+                λ q x is. from.0.1 q x (removed_cases c.logged.copies handles q x is),
+                λ q a at. from.0.2 q a (removed_cases attempts handles q a at),
+                λ q row is. from.0.3 q row (removed_cases (rows_of c.logged) handles q row is),
+              ),
+              from.1,
+            )
           ];
           fewer = λ c attempts left ss were h. elim h [ inl begun ↦ inl begun | inr from ↦ inr ((from.0.0, from.0.1, λ q a at. from.0.2 q a (were q a at), from.0.3), from.1) ];
           waits = λ c attempts ss more h. h;
@@ -287,32 +287,32 @@ module _ (first : Logged) (tried : Attempts) where
           records = λ c attempts ss handle a b at same servers h. elim h [
             | inl begun ↦ inl begun
             | inr from ↦ inr (
-                (
-                  from.0.0,
-                  from.0.1,
-                  λ q x is. elim (put_cases attempts handle b q x is) [
-                    | inl here ↦
-                        let was = from.0.2 handle a at in
-                        (was.0, ap (λ (n : ℕ). table.get tried n) here.0 ∙ was.1, was.2 ∙ sym same ∙ ap (λ (v : VersionAttempt). v.version) here.1)
-                    | inr old ↦ from.0.2 q x old
-                  ],
-                  from.0.3,
-                ),
-                from.1,
-              )
+              (
+                from.0.0,
+                from.0.1,
+                λ q x is. elim (put_cases attempts handle b q x is) [
+                  | inl here ↦
+                      let was = from.0.2 handle a at in
+                      (was.0, ap (λ (n : ℕ). table.get tried n) here.0 ∙ was.1, was.2 ∙ sym same ∙ ap (λ (v : VersionAttempt). v.version) here.1)
+                  | inr old ↦ from.0.2 q x old
+                ],
+                from.0.3,
+              ),
+              from.1,
+            )
           ];
           grants = λ c attempts ss handle a until primary members at all due n after h. elim h [
             | inl begun ↦ inl (start_stays c.changes (AppendRecord (grant_record handle a.version primary members) ∷ []) begun)
             | inr from ↦ inr (
-                (
-                  next_granted c attempts handle a until primary members at due.0 due.1 n from.0 (table.get c.logged.copies handle),
-                  copies_granted c attempts handle a until primary members at due.0 due.1 n from.0 (table.get c.logged.copies handle),
-                  λ q x is. from.0.2 q x (kept_cases attempts handle q x is),
-                  rows_changed (rows_of (swapped_in (granted_logged c.logged handle a.version primary members) handle (table.get c.logged.copies handle))) handle (λ r. record r { lease_end = until }) (λ r. refl)
-                      (rows_granted c attempts handle a until primary members at due.0 due.1 n from.0),
-                ),
-                pushed c (AppendRecord (grant_record handle a.version primary members)) n from.1 (good c attempts handle a until primary members at due.0 due.1 n from.0),
-              )
+              (
+                next_granted c attempts handle a until primary members at due.0 due.1 n from.0 (table.get c.logged.copies handle),
+                copies_granted c attempts handle a until primary members at due.0 due.1 n from.0 (table.get c.logged.copies handle),
+                λ q x is. from.0.2 q x (kept_cases attempts handle q x is),
+                rows_changed (rows_of (swapped_in (granted_logged c.logged handle a.version primary members) handle (table.get c.logged.copies handle))) handle (λ r. record r { lease_end = until }) (λ r. refl)
+                    (rows_granted c attempts handle a until primary members at due.0 due.1 n from.0),
+              ),
+              pushed c (AppendRecord (grant_record handle a.version primary members)) n from.1 (good c attempts handle a until primary members at due.0 due.1 n from.0),
+            )
           ];
           ends = λ c attempts ss handle row is word n h. elim h [
             | inl begun ↦ inl begun
@@ -361,10 +361,14 @@ module _ (config : Config) (servers clients : ℕ) (w : WorldState) (r : IsReach
               let low = u.tied.base.log.below x.source (omega (arith, one, some, same)) in
               let next = ap (λ (p : Parts). p.next_handle) u.same in
               omega (arith, low, next)
-      source c is before (inr old) = (old.0, old.1, elim old.2 [
-        | inl kept ↦ kept
-        | inr attempted ↦ none_some attempted.0 (sym (copied_chunks_have_no_lease config servers clients w r clocks up handle c is).0 ∙ attempted.1)
-      ])
+      source c is before (inr old) = (
+        old.0,
+        old.1,
+        elim old.2 [
+          | inl kept ↦ kept
+          | inr attempted ↦ none_some attempted.0 (sym (copied_chunks_have_no_lease config servers clients w r clocks up handle c is).0 ∙ attempted.1)
+        ],
+      )
 
   all_of_attempts : (d : LogDisk) (xs : List LogChange) → AreGood w.master.logged w.master.attempts d xs → AreGrantedFrom w.master d xs
   all_of_attempts d [] h = tt

@@ -37,6 +37,7 @@ pub mod StepRounds
 pub mod StoppedSteps
 pub mod ToldHolders
 pub mod ToldRounds
+pub mod UnaskedAdds
 pub mod UnusedNumbers
 pub mod WaitedNumbers
 pub mod WaitedSuccesses

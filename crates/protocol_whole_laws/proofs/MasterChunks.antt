@@ -72,8 +72,7 @@ module _ (k : ChunkSides) (n : Machine) (h : IsWhole k n) where
 
   pub issue_taken : (handle : Handle) (version : Version) → Taken k n (log.Issue handle version)
   issue_taken handle version =
-      let r : Record = log.Issue handle version in
-      (
+      let r : Record = log.Issue handle version in (
         k.machine,
         more_end NoneEnds (EndsAt k.log r) k (recorded k r k.machine) n (λ q none. absurd none)
             (rows_taken k n (after_record k.log r) NoneEnds h (λ q s none. absurd none) (λ q. inr (issued_grant k.log.table.chunks handle.0 version.0 q)) refl (omega arith) (omega arith)),
@@ -104,8 +103,7 @@ module _ (k : ChunkSides) (n : Machine) (h : IsWhole k n) where
       let id = due.3 in
       let j : ChunkSides = moved k (Add id ∷ []) (after_record k.log r) k.gone k.orders in
       let went : Follows NoneEnds k (Add id ∷ []) j = added_chunks_are_added k file handle due.1 id due.4 h.chunks due.2 due.0 due.5 in
-      let more : k.log.next_handle ≤ max k.log.next_handle (handle.0 + 1) = le-max_left k.log.next_handle (handle.0 + 1) in
-      (
+      let more : k.log.next_handle ≤ max k.log.next_handle (handle.0 + 1) = le-max_left k.log.next_handle (handle.0 + 1) in (
         after k.machine (Add id),
         record {
           actions = Add id ∷ [];
@@ -148,8 +146,7 @@ module _ (k : ChunkSides) (n : Machine) (h : IsWhole k n) where
   grant_taken handle version primary members (inr due) =
       let c : Copy = due.0 in
       let s : Spot = record { file = c.file; index = c.index } in
-      let went = copies_take_their_place k handle version primary members c h.chunks due.1 due.2 in
-      (
+      let went = copies_take_their_place k handle version primary members c h.chunks due.1 due.2 in (
         after_all k.machine (opening k.machine version.0 s),
         granted _ handle version primary members s _ refl went.0 (λ q over. elim over [ inl same ↦ inl same | inr source ↦ inr (c, (due.2).under_way, source) ]),
         (s, went.1),

@@ -273,8 +273,8 @@ stopped_steps_keep_rounds config servers clients w r up e moment i event clocks 
 
     same : left_world ≡ (happens w e choice).world
     same = sym (
-      event choice ∙ ap (λ (b : Bool). (after_master w moment (cond b (master_bounded w.master (master_goes w.master moment i choice.refused) choice) (no_step w.master))).world) up
-      ∙ ap (λ (x : Ending). (after_master w moment (cond (may_end (master_goes w.master moment i choice.refused) x) (master_ends w.master (master_goes w.master moment i choice.refused) choice x) (no_step w.master))).world) ends)
+        event choice ∙ ap (λ (b : Bool). (after_master w moment (cond b (master_bounded w.master (master_goes w.master moment i choice.refused) choice) (no_step w.master))).world) up
+        ∙ ap (λ (x : Ending). (after_master w moment (cond (may_end (master_goes w.master moment i choice.refused) x) (master_ends w.master (master_goes w.master moment i choice.refused) choice x) (no_step w.master))).world) ends)
 
     kept_later : IsTrue (happens w e choice).world.observer.are_clocks_kept
     kept_later = subst (λ (v : WorldState). IsTrue v.observer.are_clocks_kept) same clocks
@@ -335,8 +335,8 @@ rounds_that_end_stay_over config servers clients w r up e moment i event clocks 
 
     same : world_by w moment (cond (may_end goes_now Goes) (master_ends w.master goes_now choice Goes) (no_step w.master)) ≡ (happens w e choice).world
     same = sym (
-      event choice ∙ ap (λ (b : Bool). world_by w moment (cond b (master_bounded w.master goes_now choice) (no_step w.master))) up
-      ∙ ap (λ (x : Ending). world_by w moment (cond (may_end goes_now x) (master_ends w.master goes_now choice x) (no_step w.master))) ends)
+        event choice ∙ ap (λ (b : Bool). world_by w moment (cond b (master_bounded w.master goes_now choice) (no_step w.master))) up
+        ∙ ap (λ (x : Ending). world_by w moment (cond (may_end goes_now x) (master_ends w.master goes_now choice x) (no_step w.master))) ends)
 
     over_here : AreLeasesOver (passed w moment) handle
     over_here = rounds_that_end_are_over config servers clients w r up e moment i event clocks choice handle over
@@ -397,8 +397,8 @@ steps_keep_rounds config servers clients w r up e moment i event clocks choice e
 
     same : world_by w moment (cond (may_end goes_now Goes) (master_ends w.master goes_now choice Goes) (no_step w.master)) ≡ (happens w e choice).world
     same = sym (
-      event choice ∙ ap (λ (b : Bool). world_by w moment (cond b (master_bounded w.master goes_now choice) (no_step w.master))) up
-      ∙ ap (λ (x : Ending). world_by w moment (cond (may_end goes_now x) (master_ends w.master goes_now choice x) (no_step w.master))) ends)
+        event choice ∙ ap (λ (b : Bool). world_by w moment (cond b (master_bounded w.master goes_now choice) (no_step w.master))) up
+        ∙ ap (λ (x : Ending). world_by w moment (cond (may_end goes_now x) (master_ends w.master goes_now choice x) (no_step w.master))) ends)
 
     clocks_of : (b : Bool) → IsTrue (world_by w moment (cond b (master_ends w.master goes_now choice Goes) (no_step w.master))).observer.are_clocks_kept
     clocks_of true = clocks

@@ -26,8 +26,7 @@ module _ (requests : Requests) (first : Machine) (start : LogDisk) (k0 : ChunkSi
   left_all [] d k n later over beside is same so_far trail = record { names = n; beside = beside; sides = k; log = is; orders = same; comes = so_far }
   left_all (x ∷ rest) d k n later over beside is same so_far trail =
       let j : ChunkSides = trail.0 in
-      let taken = trail.4 in
-      (
+      let taken = trail.4 in (
         record { names = n; beside = beside; sides = k; log = is; orders = same; comes = so_far },
         left_all rest (log_changed d x) j trail.3 later (λ handle at. over handle (inr at)) taken.beside taken.log (taken.orders ∙ same)
             (one_on requests first start d T T k0 k j trail.1 n trail.2 trail.3 x (λ handle t. t) (λ handle at. over handle (inl at)) so_far taken) trail.5,

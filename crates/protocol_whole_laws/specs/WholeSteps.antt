@@ -2,6 +2,9 @@
 use Rattle.std.specs.Prelude.{◌≡◌, ◌⊎◌, ℕ, Bool, List, [], ◌∷◌, IsTrue}
 use Rattle.gfs_types.specs.declared.config.Config.{Config}
 use Rattle.messages.specs.declared.event.Input.{Input}
+use Rattle.messages.specs.declared.event.Input.TheVariants as input
+use Rattle.messages.specs.declared.message.Body.{Body}
+use Rattle.messages.specs.declared.message.Body.TheVariants as body
 use Rattle.log_records.specs.declared.record.Record.{Record}
 use Rattle.log_records.specs.declared.record.Record.TheVariants as log
 use Rattle.relaxed_file.specs.Order.{CallId}
@@ -12,7 +15,7 @@ use Rattle.protocol.specs.Tables.{Table}
 use Rattle.protocol.specs.Choice.{Choice}
 use Rattle.protocol.specs.Logged.{Logged, LogDisk, LogChange, AppendRecord, WriteCheckpoint, log_changed, log_changed_by_all, replayed}
 use Rattle.protocol.specs.Observer.{Placed}
-use Rattle.protocol.specs.Master.{master_begins}
+use Rattle.protocol.specs.Master.{MasterState, master_begins}
 use Rattle.protocol.specs.MasterStep.{master_at, master_goes, found_log}
 use Rattle.protocol.specs.World.{WorldState, IsReached}
 use Rattle.protocol_name_laws.specs.Alike.{Requests, AreAlike}
@@ -38,6 +41,21 @@ abbrev pub AreAskedFor : Machine → Table (List Placed) → LogDisk → List Lo
 AreAskedFor first orders d [] = Unit {0}
 AreAskedFor first orders d (AppendRecord r ∷ rest) = IsAskedFor first orders (log_read d) r × AreAskedFor first orders (log_changed d (AppendRecord r)) rest
 AreAskedFor first orders d (WriteCheckpoint items ∷ rest) = AreAskedFor first orders (log_changed d (WriteCheckpoint items)) rest
+
+-- what is taken is no Ask
+abbrev pub IsNoAskIn : Body → Type 0
+IsNoAskIn (body.Ask number file what deadline lost) = ⊥
+IsNoAskIn other = Unit {0}
+
+abbrev pub TakesNoAsk : Input → Type 0
+TakesNoAsk (input.Deliver m) = IsNoAskIn m.body
+TakesNoAsk input.Tick = Unit {0}
+
+-- A step that takes no Ask adds no chunk, so nothing is asked of it.
+abbrev pub OnlyAsksAddChunks : Type 0
+OnlyAsksAddChunks =
+    (m : MasterState) (moment : ℕ) (i : Input) (refused : List Bool) → TakesNoAsk i
+    → (first : Machine) (orders : Table (List Placed)) (d : LogDisk) → AreAskedFor first orders d (master_goes m moment i refused).changes
 
 -- A step that a master takes, whatever it is: the whole machine follows it, change by change, and the machine by names alone is beside the step in the end.
 abbrev pub MasterStepsAreTaken : Type 0

@@ -1,11 +1,16 @@
 //! Laws of the whole machine beside a whole step of the master in a reached world, its stops and its restarts.
 
 ghost use Rattle.protocol_whole_laws.specs.OverRounds.{MastersEventsAreSteps, RoundsThatEndAreOver, RoundsThatEndStayOver, StepsKeepRounds, StoppedStepsKeepRounds};
-ghost use Rattle.protocol_whole_laws.specs.WholeSteps.{EndsAreReached, MasterStepsAreTaken, RestartsAreTaken, StatesHaveTheirLogsFiles, StopsAreTaken};
+ghost use Rattle.protocol_whole_laws.specs.WholeSteps.{EndsAreReached, MasterStepsAreTaken, OnlyAsksAddChunks, RestartsAreTaken, StatesHaveTheirLogsFiles, StopsAreTaken};
 
 /// A step of the master: the whole machine follows each change of its log, where calls asked for the chunks that are added.
 pub fn master_steps_are_taken()
     ensures { MasterStepsAreTaken }
+{}
+
+/// A step that takes no Ask adds no chunk, so nothing is asked of it.
+pub fn only_asks_add_chunks()
+    ensures { OnlyAsksAddChunks }
 {}
 
 /// Where the step stops, the whole machine is beside the log that is left.
