@@ -25,7 +25,7 @@ use Rattle.protocol_whole_laws.proofs.ChunkReadings.{readings_are_of_the_chunk}
 pub holders_are_seen : HoldersAreSeen
 holders_are_seen config servers clients w reached kept k orders server s at handle row row_is file index round low stands =
     let agree : AgreeUpTo row.version.0 (entries_of w.observer handle) (chunk_at k.machine file index).order =
-        subst (λ (os : Table (List Placed)). AgreeUpTo row.version.0 (entries_in os handle) (chunk_at k.machine file index).order) orders stands.entries in
+    subst (λ (os : Table (List Placed)). AgreeUpTo row.version.0 (entries_in os handle) (chunk_at k.machine file index).order) orders stands.entries in
     let read = readings_are_of_the_chunk config servers clients w reached kept server s at handle row row_is (chunk_at k.machine file index).order agree in
     (read.0, record { count = stands.count; version_is = low; selection = read.1.selection }, read.1)
 
