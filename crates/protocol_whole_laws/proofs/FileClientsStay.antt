@@ -1,5 +1,5 @@
 -- What else the machine does leaves a client as it was.
-use Rattle.std.proofs.Common.{◌≡◌, ℕ, suc, ◌+◌, ◌*◌, ◌/◌, ◌≤◌, true, List, length, Option, Some, None, refl, sym, ap, subst, ◌∙◌, inl, inr, arith}
+use Rattle.std.proofs.Common.{◌≡◌, ℕ, suc, ◌+◌, ◌*◌, ◌/◌, ◌≤◌, true, List, length, Option, Some, None, refl, sym, ap, subst, ◌∙◌, inl, inr, arith, [], ◌∷◌}
 use Rattle.std.specs.Prelude.{nat_lt, Contains, IfSome, IsSome, IsTrue}
 use Rattle.std.specs.List.{AllByRecursion}
 use Rattle.std.proofs.lemmas.Bool.{true≢false}
@@ -18,11 +18,12 @@ use Rattle.messages.specs.declared.message.Body.TheVariants as body
 use Rattle.messages.specs.declared.message.Location.{Location}
 use Rattle.relaxed_file.specs.Order.{CallId}
 use Rattle.relaxed_file.specs.Parts.{has_part}
-use Rattle.relaxed_file.specs.Machine.{Machine, Asked, OpenCall, IsOpen, Piece, Offer, Told, NoSuchChunk, Outcome, Replies, chunk_at}
+use Rattle.relaxed_file.specs.Machine.{Machine, Asked, OpenCall, IsOpen, Piece, Offer, Told, NoSuchChunk, Outcome, Replies, chunk_at, new_machine}
 use Rattle.relaxed_file.specs.Reads.{offer_of}
 use Rattle.relaxed_file.specs.NameStep.{is_name_call}
 use Rattle.relaxed_file.specs.Answers.{HasSuccess, IsWrite, IsAppendAt, IsDone, IsCause, MayReturn, may_give_up, uses_chunks}
-use Rattle.relaxed_file.specs.Run.{after}
+use Rattle.relaxed_file.specs.Run.{Action, IsReached, after, Note, LookPast, MeasureNone, Return, IsLawful, after_all}
+use Rattle.relaxed_file.proofs.Reached.{leads_on, leads_by}
 use Rattle.relaxed_file.proofs.Grows.{Grows, grows_step, known_when_reached}
 use Rattle.relaxed_file.proofs.CallSteps.{Goes}
 use Rattle.client_state.specs.declared.call.CurrentCall.{CurrentCall}
@@ -30,11 +31,12 @@ use Rattle.client_state.specs.declared.call.LiveAttempt.{LiveAttempt}
 use Rattle.client_state.specs.declared.call.ToldChunk.{ToldChunk}
 use Rattle.client_state.specs.declared.call.Stage.{Stage}
 use Rattle.client_state.specs.declared.call.Stage.TheVariants.{AskedWhere, SentData, SentMutate, SentRead, HasAnswer}
+use Rattle.protocol.specs.Client.{ClientState}
 use Rattle.protocol.specs.ClientAttempts.{is_mutation}
 use Rattle.protocol_invariant.specs.ClientParts.{index_asked}
 use Rattle.protocol_laws.proofs.Steps.{none_some, same_some}
-use Rattle.protocol_whole_laws.specs.FileClients.{id_of, IsKeptNote, IsReadSoFar, IsDoneSoFar, IsNotedChunk, IsLasting, IsStageAt, IsFileCall, IsCallAlike, IsOffered, IsToldAt, IsRefusedAt, IsWithinPlaces, IsPartSettled, IsSaidAt, IsSaid}
-use Rattle.protocol_whole_laws.specs.FileClientsStay.{IsFirm, IsFirmInput, FileClientsStay}
+use Rattle.protocol_whole_laws.specs.FileClients.{id_of, IsKeptNote, IsReadSoFar, IsDoneSoFar, IsNotedChunk, IsLasting, IsStageAt, IsFileCall, IsCallAlike, IsOffered, IsToldAt, IsRefusedAt, IsWithinPlaces, IsPartSettled, IsSaidAt, IsSaid, IsOwnAction, IsFileClient}
+use Rattle.protocol_whole_laws.specs.FileClientsStay.{IsFirm, IsFirmInput, FileClientsStay, OtherClientsStay, IsOfOthers}
 use Rattle.protocol_whole_laws.proofs.MachineSteps.{whole_on}
 use Rattle.protocol_whole_laws.proofs.OwnParts.{IsSameOwn, own_left, call_left, idle_left, one_more_or_none, entry_stays}
 
@@ -235,3 +237,24 @@ file_clients_stay config m reached action allowed client of s h = (
             let on = call_left m client action allowed of o was in
             subst (λ (e : OpenCall). IsSaidAt (after m action) client s.id e x x.stage y.body) (same_some on.0 d (sym on.1 ∙ there))
             (said_on m (after m action) client grows own o on.0 on.2 s.id x x.stage y.body firm (g x o is was))
+
+-- what another client's step comes to
+of_others : (client other : ℕ) → (other ≡ client → ⊥) → (a : Action) → IsOwnAction client a → IsOfOthers other a
+of_others client other apart (Note who file index round count) mine = λ same. apart (same ∙ mine)
+of_others client other apart (LookPast who index) mine = tt
+of_others client other apart (MeasureNone who) mine = tt
+of_others client other apart (Return who reply) mine = λ same. apart (same ∙ mine)
+of_others client other apart a mine = absurd mine
+
+abbrev Stays : Machine → Machine → ℕ → ClientState → Type 0
+Stays m n client s = IsFileClient n client s × ((i : Input) → IsFirmInput i → IsSaid m client s i → IsSaid n client s i)
+
+all_stay : (config : Config) (client other : ℕ) → (other ≡ client → ⊥) → (s : ClientState) (m : Machine) (actions : List Action) → IsReached config m → IsLawful m actions → AllByRecursion (IsOwnAction client) actions → IsFileClient m other s → Stays m (after_all m actions) other s
+all_stay config client other apart s m [] reached lawful own h = (h, λ i firm said. said)
+all_stay config client other apart s m (a ∷ rest) reached lawful own h =
+    let one = file_clients_stay config m reached a lawful.0 other (of_others client other apart a own.0) s h in
+    let more = all_stay config client other apart s (after m a) rest (leads_on (new_machine config) m (after m a) reached (leads_by m a lawful.0)) lawful.1 own.1 one.0 in
+    (more.0, λ i firm said. more.1 i firm (one.1 i firm said))
+
+pub other_clients_stay : OtherClientsStay
+other_clients_stay config m reached client d f other apart s h = all_stay config client other apart s m f.actions reached f.allowed f.own h

@@ -118,7 +118,7 @@ module _ (m : Machine) (client : ℕ) (s : ClientState) (x : CurrentCall) (alike
 
   past_goes : (fd : Fd) (offset count : ℕ) → x.asked ≡ call.Read fd offset count → Contains o.offers (NoSuchChunk x.index) → Goes (gets d0 (record x { saw_no_holder = false }) [] None)
   past_goes fd offset count is told =
-      comes_first m client (gets d0 (record x { saw_no_holder = false }) [] None) (LookPast client x.index) (o, is_open, told) refl refl (put_elsewhere m client (stepped_client m client change))
+      comes_first m client (gets d0 (record x { saw_no_holder = false }) [] None) (LookPast client x.index) (o, is_open, told) refl refl refl (put_elsewhere m client (stepped_client m client change))
       (gets_done (with_step m client change) client p2 (step_open m client change o is_open) d0 (record x { saw_no_holder = false }) fd offset count is [] None (zero, omega arith, refl)
       (hand_on change refl refl (one_more piece o.pieces)))
     where
@@ -133,7 +133,7 @@ module _ (m : Machine) (client : ℕ) (s : ClientState) (x : CurrentCall) (alike
 
   none_goes : (fd : Fd) → x.asked ≡ call.Length fd → Contains o.offers (NoSuchChunk zero) → Goes (completes d0 x (answer.Length zero))
   none_goes fd is told =
-      comes_first m client (completes d0 x (answer.Length zero)) (MeasureNone client) (o, is_open, (ap is_length_call (open_call.call_is ∙ is), told)) refl refl (put_elsewhere m client (stepped_client m client change))
+      comes_first m client (completes d0 x (answer.Length zero)) (MeasureNone client) (o, is_open, (ap is_length_call (open_call.call_is ∙ is), told)) refl refl refl (put_elsewhere m client (stepped_client m client change))
       (length_done (with_step m client change) client p2 (step_open m client change o is_open) d0 x zero (ap is_length is) (zero, omega arith, refl) (hand_on change refl refl (λ q there. there)))
     where
       change : OpenCall → OpenCall
@@ -216,7 +216,7 @@ module _ (m : Machine) (client : ℕ) (s : ClientState) (x : CurrentCall) (alike
 
     heard_goes : Goes (goes_on_at (heard_at d0 x l) (is_told_of x) l)
     heard_goes =
-        comes_first m client (goes_on_at (heard_at d0 x l) (is_told_of x) l) (Note client x.file.0 l.index l.round.0 told.count) (o, is_open, (open_call.file_is, told.offered, told.rising)) refl refl elsewhere
+        comes_first m client (goes_on_at (heard_at d0 x l) (is_told_of x) l) (Note client x.file.0 l.index l.round.0 told.count) (o, is_open, (open_call.file_is, told.offered, told.rising)) refl refl refl elsewhere
         (goes_on_done m2 client o2 open2 (heard_at d0 x l) (is_told_of x) l heard_hand noted_chunk)
 
     location_goes : Goes (told_location d0 x l)

@@ -112,7 +112,7 @@ module _ (m : Machine) (client : ℕ) (o : OpenCall) (is_open : IsOpen m client 
   Done d = IsFollowed m client d
 
   pub stays : (d : ClientDoing) → d.answer ≡ None → IsFileClient m client d.client → Done d
-  stays d none alike = record { actions = []; allowed = tt; seen = ap (λ (a : Option Answer). answer_shown client a) (sym none); elsewhere = same_elsewhere m client; names = λ n h. h; alike = alike }
+  stays d none alike = record { actions = []; allowed = tt; own = tt; seen = ap (λ (a : Option Answer). answer_shown client a) (sym none); elsewhere = same_elsewhere m client; names = λ n h. h; alike = alike }
 
   -- one request is sent, or the call waits
 
@@ -148,6 +148,7 @@ module _ (m : Machine) (client : ℕ) (o : OpenCall) (is_open : IsOpen m client 
       record {
         actions = Return client reply ∷ [];
         allowed = ((o, is_open, may), tt);
+        own = (refl, tt);
         seen = refl;
         elsewhere = at (λ n. IsElsewhereSame m client n) (record { config = refl; clock = refl; names = refl; file_count = refl; files = refl; others = λ q apart. put_other client closed m.clients q apart });
         names = λ n same. (file_calls_keep_names m n client same).1 reply o is_open plain;

@@ -13,15 +13,16 @@ use Rattle.name_projections.proofs.Chunks.{chunk_actions_keep_names}
 use Rattle.protocol.specs.Client.{ClientDoing}
 use Rattle.std.specs.List.{cons_option}
 use Rattle.protocol_laws.proofs.Steps.{same_or_not}
-use Rattle.protocol_whole_laws.specs.FileClients.{AreWhole, IsDoneSoFar, IsElsewhereSame, IsFollowed}
+use Rattle.protocol_whole_laws.specs.FileClients.{AreWhole, IsDoneSoFar, IsElsewhereSame, IsFollowed, IsOwnAction}
 use Rattle.protocol_whole_laws.proofs.ClientCaches.{note_put, note_there, note_apart}
 
 -- one more action that no client sees comes first
-pub comes_first : (m : Machine) (client : ℕ) (d : ClientDoing) (a : Action) → Allows m a → shown a ≡ None → is_name_action a ≡ false → IsElsewhereSame m client (after m a) → IsFollowed (after m a) client d → IsFollowed m client d
-comes_first m client d a may unseen unnamed same f =
+pub comes_first : (m : Machine) (client : ℕ) (d : ClientDoing) (a : Action) → Allows m a → shown a ≡ None → is_name_action a ≡ false → IsOwnAction client a → IsElsewhereSame m client (after m a) → IsFollowed (after m a) client d → IsFollowed m client d
+comes_first m client d a may unseen unnamed mine same f =
     record {
       actions = a ∷ f.actions;
       allowed = (may, f.allowed);
+      own = (mine, f.own);
       seen = ap (λ (o : Option Visible). cons_option o (visible f.actions)) unseen ∙ f.seen;
       elsewhere = record {
         config = f.elsewhere.config ∙ same.config;

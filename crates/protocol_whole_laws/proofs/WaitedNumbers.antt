@@ -20,10 +20,10 @@ use Rattle.client_state.specs.declared.call.ToldChunk.{ToldChunk}
 use Rattle.client_state.specs.declared.call.Stage.{Stage}
 use Rattle.client_state.specs.declared.call.Stage.TheVariants.{AskedNames, AskedWhere, MustAskAgain, SentData, SentMutate, SentRead, IsOver, HasAnswer}
 use Rattle.protocol.specs.Tables.{element_at, with_at, first_numbers}
-use Rattle.protocol.specs.Sending.{the_client, data_id}
+use Rattle.protocol.specs.Sending.{message, the_client, the_server, data_id}
 use Rattle.protocol.specs.Choice.{Choice}
-use Rattle.protocol.specs.Client.{ClientState, ClientDoing, new_client, stopped_client, client_begins, committed}
-use Rattle.protocol.specs.ClientAttempts.{mutate_planned}
+use Rattle.protocol.specs.Client.{ClientState, ClientDoing, new_client, stopped_client, client_begins, committed, file_chunk}
+use Rattle.protocol.specs.ClientAttempts.{mutate_planned, target_of}
 use Rattle.protocol.specs.ClientStep.{client_at, client_goes, client_call_goes, client_step, client_call, may_call, has_room_to_count}
 use Rattle.protocol.specs.MasterStep.{master_step, master_restart}
 use Rattle.protocol.specs.ServerStep.{server_step, server_restart}
@@ -145,7 +145,8 @@ all_came input.Tick = tt
 asks_now : (s : ClientState) (c : CurrentCall) (chunk : ToldChunk) (primary : ServerId) (number : ℕ) → Next s (committed (client_begins s) c (mutate_planned s c chunk primary number))
 asks_now s c chunk primary number x n is =
     let same : number ≡ n = ap (λ (p : ToldChunk × ℕ). p.1) (same_some (chunk, number) (x, n) is) in
-    inr (among s.id n (option_to_list (mutate_planned s c chunk primary number).sent) zero _ refl (own_mutate s.id n _ refl (eq-eqb number n same)))
+    let asked : Message = message (the_client s.id) (the_server primary.0) (body.Mutate (data_id s.id number) chunk.handle chunk.round (target_of (file_chunk s c.file.0) c.index c.asked) c.deadline) in
+    inr (among s.id n (asked ∷ []) zero asked refl (own_mutate s.id n asked refl (eq-eqb number n same)))
 
 step_next : (s : ClientState) (moment : ℕ) (i : Input) (choice : Choice) → IsNext s (client_step s moment i choice).state (client_step s moment i choice).out.sent
 step_next s moment i choice =

@@ -17,7 +17,7 @@ use Rattle.relaxed_file.specs.Order.{CallId}
 use Rattle.relaxed_file.specs.Parts.{has_part, part_length, is_range_too_long}
 use Rattle.relaxed_file.specs.Machine.{Machine, OpenCall, IsOpen, Told, NoSuchChunk, Piece, chunk_count}
 use Rattle.relaxed_file.specs.Answers.{HasSuccess, IsWrite, IsAppendAt, IsCause, MayReturn}
-use Rattle.relaxed_file.specs.Run.{Action, IsLawful, visible, after_all}
+use Rattle.relaxed_file.specs.Run.{Action, IsLawful, visible, after_all, Note, LookPast, MeasureNone, Return}
 use Rattle.name_projections.specs.Laws.{AreNamesOf}
 use Rattle.client_state.specs.declared.kept.Place.{Place}
 use Rattle.client_state.specs.declared.kept.Cached.{Cached}
@@ -181,10 +181,19 @@ pub record IsElsewhereSame (m : Machine) (client : ℕ) (n : Machine) : Type 0 w
   pub files : n.files ≡ m.files
   pub others : (other : ℕ) → (other ≡ client → ⊥) → n.clients other ≡ m.clients other
 
+-- a note, that there is no chunk, or an answer, of this client
+abbrev pub IsOwnAction : ℕ → Action → Type 0
+IsOwnAction client (Note who file index round count) = who ≡ client
+IsOwnAction client (LookPast who index) = who ≡ client
+IsOwnAction client (MeasureNone who) = who ≡ client
+IsOwnAction client (Return who reply) = who ≡ client
+IsOwnAction client other = ⊥
+
 -- The machine may take a note or a look for the client, and its answer if it gives one; it is the client's again, and all else is as it was, also what another machine has of its names.
 pub record IsFollowed (m : Machine) (client : ℕ) (d : ClientDoing) : Type 0 where
   pub actions : List Action
   pub allowed : IsLawful m actions
+  pub own : AllByRecursion (IsOwnAction client) actions
   pub seen : visible actions ≡ answer_shown client d.answer
   pub elsewhere : IsElsewhereSame m client (after_all m actions)
   pub names : (n : Machine) → AreNamesOf m n → AreNamesOf (after_all m actions) n

@@ -7,9 +7,9 @@ use Rattle.messages.specs.declared.event.Input.TheVariants as input
 use Rattle.messages.specs.declared.message.Body.{Body}
 use Rattle.messages.specs.declared.message.Body.TheVariants as body
 use Rattle.relaxed_file.specs.Machine.{Machine}
-use Rattle.relaxed_file.specs.Run.{Action, Invoke, Return, ReturnFd, Note, Allows, after, IsReached}
-use Rattle.protocol.specs.Client.{ClientState}
-use Rattle.protocol_whole_laws.specs.FileClients.{IsFileClient, IsSaid}
+use Rattle.relaxed_file.specs.Run.{Action, Invoke, Return, ReturnFd, Note, Allows, after, IsReached, after_all}
+use Rattle.protocol.specs.Client.{ClientState, ClientDoing}
+use Rattle.protocol_whole_laws.specs.FileClients.{IsFileClient, IsSaid, IsFollowed}
 
 -- no call or answer of this client, and no note
 abbrev pub IsOfOthers : ℕ → Action → Type 0
@@ -33,3 +33,9 @@ abbrev pub FileClientsStay : Type 0
 FileClientsStay =
     (config : Config) (m : Machine) → IsReached config m → (action : Action) → Allows m action → (client : ℕ) → IsOfOthers client action → (s : ClientState) → IsFileClient m client s
     → IsFileClient (after m action) client s × ((i : Input) → IsFirmInput i → IsSaid m client s i → IsSaid (after m action) client s i)
+
+-- So do the actions by which the machine follows another client's step.
+abbrev pub OtherClientsStay : Type 0
+OtherClientsStay =
+    (config : Config) (m : Machine) → IsReached config m → (client : ℕ) (d : ClientDoing) (f : IsFollowed m client d) (other : ℕ) → (other ≡ client → ⊥) → (s : ClientState) → IsFileClient m other s
+    → IsFileClient (after_all m f.actions) other s × ((i : Input) → IsFirmInput i → IsSaid m other s i → IsSaid (after_all m f.actions) other s i)

@@ -5,7 +5,14 @@ use Rattle.gfs_types.specs.declared.call.Call.{Call}
 use Rattle.messages.specs.declared.message.Holder.{Holder}
 use Rattle.messages.specs.declared.message.Location.{Location}
 use Rattle.chunk_table.specs.ChunkTable.{ChunkRow, file_of, chunk_of}
-use Rattle.relaxed_file.specs.Order.{Entry}
+use Rattle.relaxed_file.specs.Order.{Entry, mutations_of}
+use Rattle.relaxed_file.specs.Reads.{read_slice}
+use Rattle.gfs_types.specs.Image.{image_length}
+use Rattle.messages.specs.declared.message.Body.{Body}
+use Rattle.messages.specs.declared.message.Body.TheVariants as body
+use Rattle.client_state.specs.declared.call.CurrentCall.{CurrentCall}
+use Rattle.client_state.specs.declared.call.ToldChunk.{ToldChunk}
+use Rattle.protocol_step_laws.specs.Reads.{IsTrueOf}
 use Rattle.relaxed_file.specs.Machine.{chunk_at, chunk_count}
 use Rattle.replica_store.specs.declared.row.Row.{Row}
 use Rattle.replica_store.specs.Replicas.{row_at}
@@ -40,3 +47,15 @@ LoggedChunksAreLastRounds =
     (k : ChunkSides) → AreChunksAlike k → (file : ℕ) (handles : List ℕ) → file_of k.log.table file ≡ Some handles → IsFalse (k.machine.files file).is_collected
     → (l : Location) (handle : ℕ) (row : ChunkRow) → element_at handles l.index ≡ Some handle → chunk_of k.log.table handle ≡ Some row → l.round.0 ≡ row.granted
     → (asked : Call) → (IsTrue (is_length asked) → length handles ≡ suc l.index) → IsLastRound k.machine file asked l
+
+-- what an answer to a client's reading shows: the bytes of the part in hand, or the length, of these entries
+abbrev pub IsShownAs : ℕ → CurrentCall → List Entry → Body → Type 0
+IsShownAs size x chosen (body.Bytes number bytes) = bytes ≡ read_slice size x.index x.asked chosen
+IsShownAs size x chosen (body.LenIs number count) = count ≡ image_length size (mutations_of chosen)
+IsShownAs size x chosen other = Unit {0}
+
+-- An answer that is so at the server shows what is seen of the chunk.
+abbrev pub AnswersShowTheChunk : Type 0
+AnswersShowTheChunk =
+    (s : ServerState) (size : ℕ) (x : CurrentCall) (chunk : ToldChunk) (row : Row) (order chosen : List Entry) → IsReadAs s size chunk.handle.0 row order chosen
+    → (answer : Body) → IsTrueOf s.disk row size x chunk answer → IsShownAs size x chosen answer
