@@ -189,12 +189,34 @@ class Judge(simulate.Simulation):
         if node == ('Master',) and before['master']['up']:
             goes = apply(self.master_goes, before['master'], moment, given, self.choice['refused'])
             log = before['master']['logged']
+            granted = set()
             for change in goes['changes']:
+                self.claim(not granted & self.ended_by(log, change), 'AreGrantsLast')
+                if change[0] != 'WriteCheckpoint' and change[1][0] == 'Grant':
+                    handle = number(change[1][1])
+                    attempt = before['master']['attempts'].items.get(handle)
+                    self.claim(attempt and attempt['version'] == number(change[1][2]), f'Grant: attempt of {handle}')
+                    granted.add(handle)
                 log = self.check_change(before, log, change, goes)
         if node[0] == 'Server':
             server = before['servers'][number(node[1]) - 1]
             if server['up']:
                 self.check_seen(before, apply(self.server_goes, server, moment, given)['seen'])
+
+    def ended_by(self, log, change):
+        """The chunks whose rounds may end at a change of the log (`EndsAtChange`)."""
+        if change[0] == 'WriteCheckpoint':
+            return set()
+        record, files = change[1], log['table']['files'].items
+        if record[0] == 'Grant':
+            copy = log['copies'].items.get(number(record[1]))
+            return {number(record[1]), *([copy['source']] if copy else [])}
+        if record[0] == 'Snapshot':
+            nodes = [list(e.values())[1] if isinstance(e, dict) else e[1] for e in apply(self.copied_entries, log['names'], record[3], record[4])]
+            return {h for node in nodes if node[0] == 'File' for h in files.get(node[1], [])}
+        if record[0] == 'Expired':
+            return {h for h, times in collections.Counter(h for hs in files.values() for h in hs).items() if times > 1}
+        return set()
 
     def counted(self, log):
         files, rows = log['table']['files'].items, log['table']['chunks'].items

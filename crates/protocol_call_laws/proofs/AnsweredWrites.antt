@@ -62,8 +62,9 @@ use Rattle.protocol_call_laws.proofs.CallWalk.{AnyUsed, StandsAt, StandsNow, IsC
 use Rattle.protocol_call_laws.proofs.Answerers.{came_to}
 use Rattle.protocol_call_laws.proofs.LaterCalls.{pushed_later, sent_there, last_at}
 use Rattle.protocol_call_laws.specs.AnsweredWrites.{IsPartPlaced, AnsweredWritesHaveTheirBytes}
+use Rattle.protocol_call_laws.specs.EarlierParts.{EarlierPartsAreSettled}
 use Rattle.protocol_call_laws.proofs.UsedIndexes.{located_part}
-use Rattle.protocol_call_laws.proofs.ToldParts.{IsLocated, HasAsked, IsPartTold, AllTold, asked_later, located_later, told_later, all_later, file_called, IsBetween, HasData, IsUnderWay, FineReply, CameAs, Leaving, step_leaves, call_leaves}
+use Rattle.protocol_call_laws.proofs.ToldParts.{IsLocated, HasAsked, IsPartTold, AreTold, AllTold, asked_later, located_later, told_later, all_later, file_called, IsBetween, HasData, IsUnderWay, FineReply, CameAs, Leaving, step_leaves, call_leaves}
 
 -- what stands of a call, of a client that used numbers up to this one
 abbrev Stands : List Message → ℕ → ℕ → ℕ → ℕ → Call → Option Message → CurrentCall → Stage → Type 0
@@ -464,3 +465,28 @@ answered_writes_have_their_bytes config servers clients w r index moment s i cho
 
     all : AllTold w.sent (suc index) config.chunk a.current.file.0 (call.Write fd offset bytes)
     all = subst (λ (n : ℕ). AllTold w.sent n config.chunk a.current.file.0 (call.Write fd offset bytes)) numbered.id (subst (λ (x : Call). AllTold w.sent s.id config.chunk a.current.file.0 x) asked told)
+
+-- the parts before the one in hand
+
+told_before : (sent : List Message) (client size file most : ℕ) (A : Call) (c : CurrentCall) (st : Stage) → Stands sent client size most file A None c st → (limit : ℕ) × AreTold sent client size limit file A c.index
+told_before sent client size file most A c AskedNames h = (most, (h.1).1)
+told_before sent client size file most A c (AskedWhere number) h = (most, h.1)
+told_before sent client size file most A c MustAskAgain h = (most, h.1)
+told_before sent client size file most A c (SentData chunk primary number) h = (most, (h.1).1)
+told_before sent client size file most A c (SentMutate chunk number) h = (((h.1).1).0, ((h.1).1).1)
+told_before sent client size file most A c (SentRead chunk left number) h = (most, (h.1).1)
+told_before sent client size file most A c IsOver h = (most, h.1)
+told_before sent client size file most A c (HasAnswer reply) h = (most, (h.0).1)
+
+pub earlier_parts_are_settled : EarlierPartsAreSettled
+earlier_parts_are_settled config servers clients w r index s at c fd offset bytes current asked =
+    (told.numbers, λ part less has. part_placed config servers clients w r (suc index) c.file.0 offset bytes fd part (told.numbers part) (told.told part less has), λ part later order less has also. told.rising part later order less has also)
+  where
+    stands : Stands w.sent (suc index) config.chunk s.number c.file.0 c.asked None c c.stage
+    stands = ((all_on config servers clients w r).fine index s at).1 c current
+
+    limit : ℕ
+    limit = (told_before w.sent (suc index) config.chunk c.file.0 s.number c.asked c c.stage stands).0
+
+    told : AreTold w.sent (suc index) config.chunk limit c.file.0 (call.Write fd offset bytes) c.index
+    told = subst (λ (x : Call). AreTold w.sent (suc index) config.chunk limit c.file.0 x c.index) asked (told_before w.sent (suc index) config.chunk c.file.0 s.number c.asked c c.stage stands).1

@@ -1,5 +1,5 @@
 -- In each world that is reached, a Done comes from a server, and so does a refusal, or it refuses an Ask of its receiver under that number; and a location answers an Ask of its receiver.
-use Rattle.std.proofs.Common.{◌≡◌, ◌⊎◌, ℕ, suc, ◌-◌, Bool, true, List, [], ◌∷◌, ◌++◌, length, Option, Some, None, refl, sym, ap, subst, ◌∙◌, inl, inr}
+use Rattle.std.proofs.Common.{◌≡◌, ◌⊎◌, ℕ, suc, ◌-◌, true, List, [], ◌∷◌, ◌++◌, length, Option, Some, None, refl, sym, ap, subst, ◌∙◌, inl, inr}
 use Rattle.std.specs.Prelude.{◌&&◌}
 use Rattle.std.specs.Option.{option_to_list}
 use Rattle.std.proofs.lemmas.Bool.{and_from}
@@ -42,18 +42,8 @@ use Rattle.protocol_call_laws.specs.CallSteps.{IsAnswerUnder, AttemptsAreAnswere
 use Rattle.messages.specs.declared.message.Location.{Location}
 use Rattle.protocol_step_laws.proofs.Locations.{locations_name_current_holders}
 use Rattle.protocol_call_laws.proofs.MasterRefusals.{is_no_answer, IsTakenAsk, master_refuses_asks}
-use Rattle.protocol_call_laws.specs.ToldIndexes.{IsIndexOf, IsAskOf, LocationsAnswerTheirAsk}
-
--- this client asked under this number
-pub record HasAsk (sent : List Message) (asker : Node) (number : ℕ) : Type 0 where
-  pub ask : Message
-  pub file : FileId
-  pub what : Wanted
-  pub deadline : Moment
-  pub lost : Bool
-  pub sent_is : IsAmong sent ask
-  pub sender_is : ask.sender ≡ asker
-  pub body_is : ask.body ≡ body.Ask number file what deadline lost
+use Rattle.protocol_call_laws.specs.ToldIndexes.{IsIndexOf, LocationsAnswerTheirAsk}
+use Rattle.protocol_call_laws.specs.RefusedAsks.{HasAsk, RefusalsOfTheMasterAnswerAnAsk}
 
 -- and a location of this index answers it
 pub record HasAskOf (sent : List Message) (asker : Node) (number index : ℕ) : Type 0 where
@@ -123,12 +113,12 @@ client_sends sent s d (Some m) step is = (client_answers sent m.sender m.receive
 
 mastered : (w : WorldState) (moment : ℕ) (i : Input) (choice : Choice) → ((m : Message) → i ≡ input.Deliver m → IsAmong w.sent m) → AllOf (Answers w.sent) (master_step w.master moment i choice).out.sent
 mastered w moment i choice came =
-    master_refuses_asks i (Answers w.sent)
+    master_refuses_asks i w.master.holders (Answers w.sent)
     (record {
       plain = λ receiver b is. plain_answers w.sent node.Master receiver b is;
       refuses = λ receiver number refusal taken. inr (record { ask = taken.ask; file = taken.file; what = taken.what; deadline = taken.deadline; lost = taken.lost; sent_is = came taken.ask taken.came; sender_is = taken.sender_is; body_is = taken.body_is });
-      tells = λ receiver number l taken. inr (record { asked = record { ask = taken.taken.ask; file = taken.taken.file; what = taken.taken.what; deadline = taken.taken.deadline; lost = taken.taken.lost; sent_is = came taken.taken.ask taken.taken.came; sender_is = taken.taken.sender_is; body_is = taken.taken.body_is }; index_is = taken.index_is });
-    }) w.master moment choice
+      tells = λ receiver number l taken known. inr (record { asked = record { ask = taken.taken.ask; file = taken.taken.file; what = taken.taken.what; deadline = taken.taken.deadline; lost = taken.taken.lost; sent_is = came taken.taken.ask taken.taken.came; sender_is = taken.taken.sender_is; body_is = taken.taken.body_is }; index_is = taken.index_is });
+    }) w.master moment choice refl
 
 -- what comes in was sent
 pub came_to : (w : WorldState) (e : Event) (n : Node) (moment : ℕ) (i : Input) → IsGiven w e n moment i → (m : Message) → i ≡ input.Deliver m → IsAmong w.sent m
@@ -234,3 +224,10 @@ pub locations_answer_their_ask : LocationsAnswerTheirAsk
 locations_answer_their_ask config servers clients w r place number m l at is =
     let h = told_as_asked config servers clients w r place number m l at is in
     record { ask = h.asked.ask; file = h.asked.file; what = h.asked.what; deadline = h.asked.deadline; lost = h.asked.lost; sent_is = h.asked.sent_is; sender_is = h.asked.sender_is; body_is = h.asked.body_is; index_is = h.index_is }
+
+pub refusals_of_the_master_answer_an_ask : RefusalsOfTheMasterAnswerAnAsk
+refusals_of_the_master_answer_an_ask config servers clients w r place number m refusal at sender is =
+    elim (subst (λ (b : Body). IsAnswered w.sent m.sender m.receiver b) is (answered_reached config servers clients w r place m at)) [
+      | inl from ↦ absurd (let both : the_server from.0 ≡ node.Master = sym from.1 ∙ sender in cc)
+      | inr asked ↦ asked
+    ]

@@ -38,7 +38,7 @@ use Rattle.client_state.specs.declared.kept.Place.{Place}
 use Rattle.protocol.specs.Client.{file_chunk, place_in_file, ClientState, ClientDoing, client_begins, committed, with_current, answers}
 use Rattle.protocol.specs.ClientCache.{cached}
 use Rattle.protocol.specs.ClientFiles.{last_append}
-use Rattle.protocol.specs.ClientAttempts.{is_mutation, is_length, is_append, read_start, read_count, has_next_part, is_live_at, completes, last_refusal, gives_up, ended, is_last_attempt, ends_refused, asks, reads_next, push_planned_to, push_planned, mutate_planned, chunk_of, goes_on_at, will_do, begins_with, begins_at, chunk_to_find, attempts, attempts_names, begins_next_part, forgets}
+use Rattle.protocol.specs.ClientAttempts.{is_mutation, is_length, is_append, wanted_by, read_start, read_count, has_next_part, is_live_at, completes, last_refusal, gives_up, ended, is_last_attempt, ends_refused, asks, reads_next, push_planned_to, push_planned, mutate_planned, chunk_of, goes_on_at, will_do, begins_with, begins_at, chunk_to_find, attempts, attempts_names, begins_next_part, forgets}
 use Rattle.protocol.specs.ClientTakes.{takes_reply, takes_named, takes_wait, gets, told_none, told_location, told, takes_told, is_own_data, takes_pushed, less_live, succeeds, takes_done, takes_bytes, takes_len_is, master_refuses, stays_live, finds_full, primary_refuses, takes_refused, client_takes}
 use Rattle.protocol.specs.ClientStep.{new_call, calls_names, calls_file, calls_on, fd_of, calls, ticks_names, ends_unanswered, ticks_unanswered, ticks_at, takes_at, client_does}
 use Rattle.protocol_laws.proofs.Steps.{on_cond, none_some, same_some}
@@ -61,9 +61,15 @@ IsDenial NoLease = ⊥
 IsDenial NoChunk = ⊥
 IsDenial other = Unit {0}
 
+-- what is asked of the master is for the part in hand of the call
+abbrev pub IsOwnAsk : Option CurrentCall → Body → Type 0
+IsOwnAsk o (body.Ask number file what deadline lost) = (c : CurrentCall) × (o ≡ Some c) × (file ≡ c.file) × (what ≡ wanted_by c.index c.asked)
+IsOwnAsk o other = Unit {0}
+
 -- the first part of a call
 abbrev pub IsFirst : ℕ → Call → ℕ → Type 0
 IsFirst chunk (call.Write fd offset bytes) index = index ≡ offset / chunk
+IsFirst chunk (call.Append fd bytes) index = index ≡ 0
 IsFirst chunk other index = Unit {0}
 
 -- of a read or a write a location is looked for that is of the part in hand
@@ -111,7 +117,8 @@ pub record KeepsCall (s : ClientState) (Came : Body → Type 0) (P : Place × Ca
   pub denied : (c : CurrentCall) (chunk : ToldChunk) (number : ℕ) (refusal : Refusal) → M c chunk number → Came (body.Refused number refusal) → IsDenial refusal → H (less_live c chunk)
   pub done : (c : CurrentCall) (chunk : ToldChunk) (number : ℕ) (id : DataId) (place : ℕ) → M c chunk number → Came (body.Done id place) → id.client.0 ≡ s.id → id.seq ≡ number → K (less_live c chunk) chunk place
   -- an append past a full chunk
-  pub passes : (c e : CurrentCall) → is_append c.asked ≡ true → e.asked ≡ c.asked → e.file ≡ c.file → e.live ≡ c.live → e.deadline ≡ c.deadline → H c → H e
+  pub passes : (c : CurrentCall) (chunk : ToldChunk) (number : ℕ) (e : CurrentCall) → is_append c.asked ≡ true → M c chunk number → Came (body.Refused number ChunkFull)
+      → e.asked ≡ c.asked → e.file ≡ c.file → e.index ≡ suc chunk.index → e.live ≡ (less_live c chunk).live → e.deadline ≡ c.deadline → H (less_live c chunk) → H e
   -- what a success comes to
   pub appended : (c : CurrentCall) (chunk : ToldChunk) (place : ℕ) → is_append c.asked ≡ true → K c chunk place → H c × F c.asked (answer.At (place_in_file s.config.chunk chunk.index place))
   pub next : (c e : CurrentCall) (chunk : ToldChunk) (place : ℕ) → is_append c.asked ≡ false → has_next_part s.config.chunk c.index c.asked ≡ true → e.asked ≡ c.asked → e.file ≡ c.file → e.index ≡ suc c.index → e.live ≡ c.live → e.deadline ≡ c.deadline → K c chunk place → H e
@@ -149,6 +156,7 @@ module _ (s : ClientState) (X : CurrentCall → ToldChunk → Type 0) (H : Curre
   pub record IsCalm (d : ClientDoing) : Type 0 where
     pub kept : (d.client.config ≡ s.config) × (d.client.now ≡ s.now)
     pub silent : (m : Message) → d.sent ≡ Some m → IsNoMutate m.body
+    pub asks : (m : Message) → d.sent ≡ Some m → IsOwnAsk d.client.current m.body
     pub stands : StandsNow d.sent d.answer d.client.current
 
   -- a primary is asked now
@@ -201,11 +209,17 @@ module _ (s : ClientState) (Came : Body → Type 0) (P : Place × Cached → Typ
   none_silent : (o : Option Message) → o ≡ None → (m : Message) → o ≡ Some m → IsNoMutate m.body
   none_silent o none m is = none_some m (sym none ∙ is)
 
+  one_asked : (x : Message) (now : Option CurrentCall) → IsOwnAsk now x.body → (m : Message) → Some x ≡ Some m → IsOwnAsk now m.body
+  one_asked x now h m is = subst (λ (y : Message). IsOwnAsk now y.body) (same_some x m is) h
+
+  none_asked : (o : Option Message) (now : Option CurrentCall) → o ≡ None → (m : Message) → o ≡ Some m → IsOwnAsk now m.body
+  none_asked o now none m is = none_some m (sym none ∙ is)
+
   waits : (d : ClientDoing) (c : CurrentCall) → IsReady P s d → At d.sent c c.stage → Calm (with_current d c)
-  waits d c r h = record { kept = (r.0, r.1); silent = none_silent d.sent r.4; stands = (r.5, h) }
+  waits d c r h = record { kept = (r.0, r.1); silent = none_silent d.sent r.4; asks = none_asked d.sent (Some c) r.4; stands = (r.5, h) }
 
   replied : (d : ClientDoing) (reply : Answer) → IsReady P s d → E reply → Calm (answers d reply)
-  replied d reply r h = record { kept = (r.0, r.1); silent = none_silent d.sent r.4; stands = h }
+  replied d reply r h = record { kept = (r.0, r.1); silent = none_silent d.sent r.4; asks = none_asked d.sent None r.4; stands = h }
 
   none_live : (d : ClientDoing) (c : CurrentCall) → IsReady P s d → is_mutation c.asked && list_any (is_live_at d.client.now) c.live ≡ false → is_mutation c.asked ≡ true → list_any (is_live_at s.now) c.live ≡ false
   none_live d c r none mutates = subst (λ (n : ℕ). list_any (is_live_at n) c.live ≡ false) r.1 (and_second (is_mutation c.asked) (list_any (is_live_at d.client.now) c.live) none mutates)
@@ -224,7 +238,7 @@ module _ (s : ClientState) (Came : Body → Type 0) (P : Place × Cached → Typ
       on_cond Calm (is_last_attempt c) (gives_up d (ended c)) (with_current d (ended c)) (λ _. gives_up_calm d (ended c) r over) (λ _. waits d (ended c) r over)
 
   asks_calm : (d : ClientDoing) (c : CurrentCall) → IsReady P s d → H c → Calm (asks d c)
-  asks_calm d c r h = record { kept = (r.0, r.1); silent = λ m is. one_silent _ tt m is; stands = (r.5, k.same c _ (refl, refl, refl, refl, refl) h) }
+  asks_calm d c r h = record { kept = (r.0, r.1); silent = λ m is. one_silent _ tt m is; asks = λ m is. one_asked _ (asks d c).client.current (record c { lost_lease = false; stage = AskedWhere (suc d.client.number) }, refl, refl, refl) m is; stands = (r.5, k.same c _ (refl, refl, refl, refl, refl) h) }
 
   reads_calm : (d : ClientDoing) (c : CurrentCall) (chunk : ToldChunk) (hs : List Holder) → IsReady P s d → is_mutation c.asked ≡ false → X c chunk → H c → Calm (reads_next d c chunk hs)
   reads_calm d c chunk [] r plain fit h = refused_calm d (record c { is_nobody_serving = true }) r (k.same c (record c { is_nobody_serving = true }) (refl, refl, refl, refl, refl) h)
@@ -233,15 +247,17 @@ module _ (s : ClientState) (Came : Body → Type 0) (P : Place × Cached → Typ
         kept = (r.0, r.1);
         silent = λ m is. one_silent _ (on_cond IsNoMutate (is_length c.asked) (body.Len (suc d.client.number) chunk.handle x.version)
             (body.Read (suc d.client.number) chunk.handle x.version (read_start (file_chunk d.client c.file.0) c.index c.asked) (read_count (file_chunk d.client c.file.0) c.index c.asked)) (λ _. tt) (λ _. tt)) m is;
+        asks = λ m is. one_asked _ (reads_next d c chunk (x ∷ rest)).client.current (on_cond (λ (b : Body). IsOwnAsk (reads_next d c chunk (x ∷ rest)).client.current b) (is_length c.asked) (body.Len (suc d.client.number) chunk.handle x.version)
+            (body.Read (suc d.client.number) chunk.handle x.version (read_start (file_chunk d.client c.file.0) c.index c.asked) (read_count (file_chunk d.client c.file.0) c.index c.asked)) (λ _. tt) (λ _. tt)) m is;
         stands = (r.5, (plain, k.same c _ (refl, refl, refl, refl, refl) h, k.fits c (record c { stage = SentRead chunk rest (suc d.client.number) }) chunk refl refl fit));
       }
 
   again_calm : (d : ClientDoing) (c : CurrentCall) (chunk : ToldChunk) → IsReady P s d → H c → Calm (committed d c (push_planned d.client c chunk None))
-  again_calm d c chunk r h = record { kept = (r.0, r.1); silent = λ m is. none_some m is; stands = (r.5, k.same c _ (refl, refl, refl, refl, refl) h) }
+  again_calm d c chunk r h = record { kept = (r.0, r.1); silent = λ m is. none_some m is; asks = λ m is. none_some m is; stands = (r.5, k.same c _ (refl, refl, refl, refl, refl) h) }
 
   push_to_calm : (d : ClientDoing) (c : CurrentCall) (chunk : ToldChunk) (g : Group) (o : Option ServerId) → IsReady P s d → is_mutation c.asked ≡ true → X c chunk → H c → Calm (committed d c (push_planned_to d.client c chunk g o))
   push_to_calm d c chunk g None r mutates x h = again_calm d c chunk r h
-  push_to_calm d c chunk g (Some first) r mutates x h = record { kept = (r.0, r.1); silent = λ m is. one_silent _ tt m is; stands = (r.5, (mutates, k.same c _ (refl, refl, refl, refl, refl) h, k.pushes d c chunk g first r mutates x h)) }
+  push_to_calm d c chunk g (Some first) r mutates x h = record { kept = (r.0, r.1); silent = λ m is. one_silent _ tt m is; asks = λ m is. one_asked _ (committed d c (push_planned_to d.client c chunk g (Some first))).client.current tt m is; stands = (r.5, (mutates, k.same c _ (refl, refl, refl, refl, refl) h, k.pushes d c chunk g first r mutates x h)) }
 
   push_calm : (d : ClientDoing) (c : CurrentCall) (chunk : ToldChunk) (o : Option Group) → IsReady P s d → is_mutation c.asked ≡ true → X c chunk → H c → Calm (committed d c (push_planned d.client c chunk o))
   push_calm d c chunk None r mutates x h = again_calm d c chunk r h
@@ -316,7 +332,7 @@ module _ (s : ClientState) (Came : Body → Type 0) (P : Place × Cached → Typ
   named_reply c reply plain h = ends c reply h (k.replies c.asked reply plain) (λ mutates. absurd (true≢false (sym mutates ∙ plain)))
 
   reply_calm : (d : ClientDoing) (c : CurrentCall) (reply : NameReply) → IsReady P s d → is_mutation c.asked ≡ false → H c → Calm (takes_reply d reply)
-  reply_calm d c (Opened file) r plain h = record { kept = (r.0, r.1); silent = none_silent d.sent r.4; stands = named_reply c _ plain h }
+  reply_calm d c (Opened file) r plain h = record { kept = (r.0, r.1); silent = none_silent d.sent r.4; asks = none_asked d.sent None r.4; stands = named_reply c _ plain h }
   reply_calm d c (Answered reply) r plain h = replied d reply r (named_reply c reply plain h)
 
   takes_named_calm : (d : ClientDoing) (c : CurrentCall) (st : Stage) (number : ℕ) (reply : NameReply) → IsReady P s d → At None c st → Calm d → Calm (takes_named d c st number reply)
@@ -345,10 +361,10 @@ module _ (s : ClientState) (Came : Body → Type 0) (P : Place × Cached → Typ
   master_refuses_calm d c Collected r h p = completes_calm d c (answer.Refused Collected) r h (k.refuses c.asked Collected)
   master_refuses_calm d c other r h p = p
 
-  full_calm : (d : ClientDoing) (c : CurrentCall) (chunk : ToldChunk) → IsReady P s d → H c → Calm (finds_full d c chunk)
-  full_calm d c chunk r h =
-      let past : CurrentCall = record c { stage = IsOver; index = suc chunk.index } in
-      on_cond Calm (is_append c.asked) (with_current d past) (ends_refused d c) (λ append. waits d past r (k.passes c past append refl refl refl refl h)) (λ _. refused_calm d c r h)
+  full_calm : (d : ClientDoing) (c : CurrentCall) (chunk : ToldChunk) (number : ℕ) → IsReady P s d → M c chunk number → Came (body.Refused number ChunkFull) → H (less_live c chunk) → Calm (finds_full d (less_live c chunk) chunk)
+  full_calm d c chunk number r m came h =
+      let past : CurrentCall = record (less_live c chunk) { stage = IsOver; index = suc chunk.index } in
+      on_cond Calm (is_append c.asked) (with_current d past) (ends_refused d (less_live c chunk)) (λ append. waits d past r (k.passes c chunk number past append m came refl refl refl refl refl h)) (λ _. refused_calm d (less_live c chunk) r h)
 
   abbrev d0 : ClientDoing
   d0 = client_begins s
@@ -359,7 +375,7 @@ module _ (s : ClientState) (Came : Body → Type 0) (P : Place × Cached → Typ
   primary_refuses_calm : (c : CurrentCall) (chunk : ToldChunk) (number : ℕ) (refusal : Refusal) → M c chunk number → Came (body.Refused number refusal) → Calm (primary_refuses (forgets (client_begins s) c chunk) c chunk refusal)
   primary_refuses_calm c chunk number NoChunk m came = refused_calm (forgets d0 c chunk) (stays_live d0 c chunk) (dropped c chunk) (k.stays c chunk number m)
   primary_refuses_calm c chunk number NoLease m came = refused_calm (forgets d0 c chunk) (stays_live d0 c chunk) (dropped c chunk) (k.stays c chunk number m)
-  primary_refuses_calm c chunk number ChunkFull m came = full_calm (forgets d0 c chunk) (less_live c chunk) chunk (dropped c chunk) (k.denied c chunk number ChunkFull m came tt)
+  primary_refuses_calm c chunk number ChunkFull m came = full_calm (forgets d0 c chunk) c chunk number (dropped c chunk) m came (k.denied c chunk number ChunkFull m came tt)
   primary_refuses_calm c chunk number other m came = refused_calm (forgets d0 c chunk) (less_live c chunk) (dropped c chunk) (k.denied c chunk number other m came tt)
 
   takes_refused_calm : (c : CurrentCall) (st : Stage) (number : ℕ) (refusal : Refusal) → At None c st → Came (body.Refused number refusal) → Calm d0 → Calm (takes_refused (client_begins s) c st number refusal)
@@ -419,6 +435,7 @@ module _ (s : ClientState) (Came : Body → Type 0) (P : Place × Cached → Typ
       record {
         kept = (r.0, r.1);
         silent = λ m is. one_silent _ (on_cond IsNoMutate (is_look c.asked) (body.Look c.number c.asked) (body.Name c.number begun.deadline c.asked) (λ _. tt) (λ _. tt)) m is;
+        asks = λ m is. one_asked _ (attempts_names d c).client.current (on_cond (λ (b : Body). IsOwnAsk (attempts_names d c).client.current b) (is_look c.asked) (body.Look c.number c.asked) (body.Name c.number begun.deadline c.asked) (λ _. tt) (λ _. tt)) m is;
         stands = (r.5, (plain, k.begins c _ (refl, refl, refl, refl) (same_end d r) h));
       }
 
@@ -442,7 +459,7 @@ module _ (s : ClientState) (Came : Body → Type 0) (P : Place × Cached → Typ
   ticks_calm c (SentRead chunk left number) h p = ticks_unanswered_calm c (λ e. forgets e c chunk) (dropped c chunk) (λ _. h.1) p
 
   pub begun_calm : StandsNow s X H D M F E Z None None s.current → IsCalm s X H D M F E Z (client_begins s)
-  begun_calm h = record { kept = (refl, refl); silent = λ m is. none_some m is; stands = h }
+  begun_calm h = record { kept = (refl, refl); silent = λ m is. none_some m is; asks = λ m is. none_some m is; stands = h }
 
   pub does_leave : (i : Input) (o : Option CurrentCall) → s.current ≡ o → IsCameIn Came i → StandsNow s X H D M F E Z None None o → Calm d0 → Left (client_does (client_begins s) i o)
   does_leave i None now came h p = inl p
@@ -463,7 +480,7 @@ module _ (s : ClientState) (Came : Body → Type 0) (P : Place × Cached → Typ
     file_calm (call.Append fd bytes) file plain at asks p =
         let c : CurrentCall = new_call s.config.attempts 0 (call.Append fd bytes) file 0 (last_append s.files file) in
         on_cond Calm (nat_lt (file_chunk s file / 4) (length bytes)) _ (attempts (noted d0 file None) c) (λ _. replied d0 (answer.Refused TooLong) ready (at_once (answer.Refused TooLong)))
-        (λ _. attempts_calm (noted d0 file None) c ready (filed (call.Append fd bytes) file 0 (last_append s.files file) plain at asks tt))
+        (λ _. attempts_calm (noted d0 file None) c ready (filed (call.Append fd bytes) file 0 (last_append s.files file) plain at asks refl))
     file_calm (call.Read fd offset count) file plain at asks p =
         let c : CurrentCall = new_call s.config.attempts 0 (call.Read fd offset count) file (offset / file_chunk s file) None in
         on_cond Calm (is_range_too_long offset count) _ _ (λ _. replied d0 (answer.Refused TooLong) ready (at_once (answer.Refused TooLong)))

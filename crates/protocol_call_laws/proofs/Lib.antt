@@ -14,3 +14,8 @@ pub mod KeptIndexes
 pub mod AskedIndexes
 pub mod UsedIndexes
 pub mod AskedParts
+pub mod PastChunks
+pub mod FullBefore
+pub mod ToldHolders
+pub mod ToldPlaces
+pub mod ToldOnce

@@ -1,6 +1,7 @@
 -- What the master says in a step: it refuses, and tells locations for, only the Ask that it takes, to the one that sent it, under its number; and what it tells for a read or a write is of the index that was asked for.
-use Rattle.std.proofs.Common.{◌≡◌, ℕ, zero, suc, ◌+◌, Bool, true, false, List, [], ◌∷◌, ◌++◌, length, map, Option, Some, None, refl, sym, subst}
-use Rattle.std.specs.Prelude.{◌==◌, ◌&&◌, nat_lt, nat_le, cond}
+use Rattle.std.proofs.Common.{◌≡◌, ℕ, zero, suc, ◌+◌, Bool, true, false, List, [], ◌∷◌, ◌++◌, length, map, Option, Some, None, true≢false, refl, sym, ap, subst, ◌∙◌}
+use Rattle.std.specs.Prelude.{◌==◌, ◌&&◌, nat_lt, nat_le, cond, unwrap_or}
+use Rattle.std.specs.List.{filter_map, cons_option}
 use Rattle.std.specs.FinMap as table
 use Rattle.gfs_types.specs.declared.ids.Node.{Node}
 use Rattle.gfs_types.specs.declared.ids.Node.TheVariants as node
@@ -28,14 +29,14 @@ use Rattle.log_records.specs.declared.record.Record.TheVariants as log
 use Rattle.relaxed_file.specs.NameStep.{outcome_by, needs_room}
 use Rattle.chunk_table.specs.ChunkTable.{ChunkRow, chunk_of, file_of}
 use Rattle.leases.specs.LeaseEnds.{has_ended}
-use Rattle.protocol.specs.Tables.{element_at, rising, has_number, with_number}
+use Rattle.protocol.specs.Tables.{Table, element_at, rising, has_number, with_number}
 use Rattle.protocol.specs.LogSizes.{checkpoint_fits}
 use Rattle.protocol.specs.Sending.{message, client_id, file_id, server_id, handle_of, version_of, moment_of, the_server, the_client, client_number, server_number}
 use Rattle.protocol.specs.Choice.{Choice, Ending, Goes, Lost, Stops}
 use Rattle.protocol.specs.Seen.{Taken, no_step}
 use Rattle.protocol.specs.declared.seen.Seen.TheVariants.{CopyStarted}
 use Rattle.protocol.specs.Logged.{KeptCall, checkpoint_of}
-use Rattle.protocol.specs.Master.{MasterState, MasterDoing, PendingSnapshot, VersionAttempt, HeldAt, master_begins, tells, orders, logs, logs_after_checkpoint, appends, fits, writes_checkpoint, is_of_copy, ends_at, with_attempt, without_attempt, without_attempts, gives_up_copy, gives_up_copies, holders_where, current_holders, has_lease}
+use Rattle.protocol.specs.Master.{MasterState, MasterDoing, PendingSnapshot, VersionAttempt, HeldAt, master_begins, tells, orders, logs, logs_after_checkpoint, appends, fits, writes_checkpoint, is_of_copy, ends_at, with_attempt, without_attempt, without_attempts, gives_up_copy, gives_up_copies, servers_of, version_held, held_where, holders_where, current_holders, has_lease}
 use Rattle.protocol.specs.MasterSnapshots.{revokes_row, revokes, revokes_all, takes_locks, begins_snapshot, snapshot_handles, snapshot_files, copies_for_files, reply_of, answers_name, settles_name, refuses_name, changes_names, first_is_true, all_but_first, lets_go, takes_snapshot, takes_ready, is_ready, waits_for}
 use Rattle.protocol.specs.MasterNames.{master_refusal, reply_by, performs, names_by, is_waiting_call, names_anew, names_kept}
 use Rattle.protocol.specs.MasterVersions.{Asker, VersionTarget, holder_line, group_of, tells_location, tells_holders, tells_none, tells_to_wait, version_order, sends_versions, new_attempt, sends_issued, issues_to, targets_by, recorded_holders, issues_own, is_attempted, copy_order, sends_copies, copy_targets, sends_copy_started, copies_to, begins_copy, copy_for, is_copied, wants_own, wants_own_of, issues_copy, wants_copy, wants_by, wants_primary, holder_target, sends_grant, grants_to, is_complete, with_recorded, learns_attempt, learns}
@@ -43,7 +44,7 @@ use Rattle.protocol.specs.MasterAsks.{looks_at_row, looks_at, mutates_row, mutat
 use Rattle.protocol.specs.MasterReports.{holds_now, revoked_row, is_useless, drops_useless, learns_all, may_extend, extends_row, extends_all, hears, takes_report}
 use Rattle.protocol.specs.MasterClones.{CloneOrder, orders_clone, best_clone}
 use Rattle.protocol.specs.MasterStep.{master_ticks, gives_up_attempts, gives_up_lost_copies, expires_all, expires_old, expired_files, master_takes, master_does, master_at, master_goes, may_end, master_bounded, master_ends, master_step}
-use Rattle.protocol_laws.proofs.Steps.{on_cond}
+use Rattle.protocol_laws.proofs.Steps.{on_cond, none_some, same_some}
 use Rattle.protocol_laws.proofs.Entries.{AllOf, all_joined}
 use Rattle.protocol_laws.proofs.MembersRecorded.{all_in_order}
 use Rattle.protocol_call_laws.specs.ToldIndexes.{IsIndexOf}
@@ -71,18 +72,60 @@ pub record IsTakenAskOf (i : Input) (sender : Node) (number index : ℕ) : Type 
   pub taken : IsTakenAsk i sender number
   pub index_is : IsIndexOf taken.what index
 
--- Of what the master says as it takes an input.
-pub record MasterRefuses (i : Input) (W : Message → Type 0) : Type 0 where
+-- some Ask came in
+abbrev pub IsAskIn : Input → Type 0
+IsAskIn i = (sender : Node) × (number : ℕ) × IsTakenAsk i sender number
+
+-- what is known of a server's replica of a chunk
+abbrev pub version_in : Table (Table ℕ) → ℕ → ℕ → Option ℕ
+version_in known handle server = table.get (unwrap_or (table.get known server) table.empty) handle
+
+-- each of these holders is known with its version
+abbrev pub AreKnown : Table (Table ℕ) → ℕ → List Holder → Type 0
+AreKnown known handle holders = (n : ℕ) (x : Holder) → element_at holders n ≡ Some x → version_in known handle x.server.0 ≡ Some x.version.0
+
+-- one more line, where this server has the chunk and the test holds
+held_line : (m : MasterState) (handle : ℕ) (test : ℕ → Bool) (s : ℕ) (others : List HeldAt) → AreKnown m.holders handle (map holder_line others) → (o : Option ℕ) → version_held m handle s ≡ o
+    → AreKnown m.holders handle (map holder_line (cons_option (held_where test s o) others))
+held_line m handle test s others rest None is = rest
+held_line m handle test s others rest (Some v) is = by_test (test v)
+  where
+    by_test : (b : Bool) → AreKnown m.holders handle (map holder_line (cons_option (cond b (Some (record { server = s; version = v })) None) others))
+    by_test true zero x at = subst (λ (y : Holder). version_held m handle y.server.0 ≡ Some y.version.0) (same_some (holder_line (record { server = s; version = v })) x at) is
+    by_test true (suc n) x at = rest n x at
+    by_test false n x at = rest n x at
+
+held_lines : (m : MasterState) (handle : ℕ) (test : ℕ → Bool) (servers : List ℕ) → AreKnown m.holders handle (map holder_line (filter_map (λ s. held_where test s (version_held m handle s)) servers))
+held_lines m handle test [] = λ n x at. none_some x at
+held_lines m handle test (s ∷ rest) = held_line m handle test s (filter_map (λ s. held_where test s (version_held m handle s)) rest) (held_lines m handle test rest) (version_held m handle s) refl
+
+abbrev is_ask : Body → Bool
+is_ask (body.Ask number file what deadline lost) = true
+is_ask other = false
+
+abbrev message_in : Input → Option Message
+message_in (input.Deliver m) = Some m
+message_in input.Tick = None
+
+-- another message is no Ask
+no_ask : (i : Input) (m : Message) (b : Body) → i ≡ input.Deliver m → m.body ≡ b → is_ask b ≡ false → IsAskIn i → ⊥
+no_ask i m b came is other ask =
+    let one : m ≡ (ask.2).ask = same_some m (ask.2).ask (ap message_in (sym came ∙ (ask.2).came)) in
+    true≢false (sym (ap is_ask (sym is ∙ ap (λ (x : Message). x.body) one ∙ (ask.2).body_is)) ∙ other)
+
+-- Of what the master says as it takes an input, where this is known of replicas.
+pub record MasterRefuses (i : Input) (known : Table (Table ℕ)) (W : Message → Type 0) : Type 0 where
   pub plain : (receiver : Node) (b : Body) → is_no_answer b ≡ true → W (message node.Master receiver b)
   pub refuses : (receiver : Node) (number : ℕ) (refusal : Refusal) → IsTakenAsk i receiver number → W (message node.Master receiver (body.Refused number refusal))
-  pub tells : (receiver : Node) (number : ℕ) (l : Location) → IsTakenAskOf i receiver number l.index → W (message node.Master receiver (body.Told number (Some l)))
+  pub tells : (receiver : Node) (number : ℕ) (l : Location) → IsTakenAskOf i receiver number l.index → AreKnown known l.handle.0 l.holders → W (message node.Master receiver (body.Told number (Some l)))
 
-module _ (i : Input) (W : Message → Type 0) (k : MasterRefuses i W) where
+module _ (i : Input) (known : Table (Table ℕ)) (W : Message → Type 0) (k : MasterRefuses i known W) where
+  -- an Ask changes nothing that is known
   abbrev pub Fine : MasterDoing → Type 0
-  Fine d = AllOf W d.sent
+  Fine d = AllOf W d.sent × (IsAskIn i → d.master.holders ≡ known)
 
   said : (d : MasterDoing) (receiver : Node) (b : Body) → is_no_answer b ≡ true → Fine d → Fine (tells d receiver b)
-  said d receiver b is h = all_joined W d.sent (message node.Master receiver b ∷ []) h (k.plain receiver b is, tt)
+  said d receiver b is h = (all_joined W d.sent (message node.Master receiver b ∷ []) h.0 (k.plain receiver b is, tt), h.1)
 
   -- it refuses an Ask that it takes
   abbrev IsAsked : Asker → Type 0
@@ -93,12 +136,12 @@ module _ (i : Input) (W : Message → Type 0) (k : MasterRefuses i W) where
   IsAskedAt a = IsTakenAskOf i a.client a.number a.index
 
   denied : (d : MasterDoing) (a : Asker) (refusal : Refusal) → IsAsked a → Fine d → Fine (tells d a.client (body.Refused a.number refusal))
-  denied d a refusal asked h = all_joined W d.sent (message node.Master a.client (body.Refused a.number refusal) ∷ []) h (k.refuses a.client a.number refusal asked, tt)
+  denied d a refusal asked h = (all_joined W d.sent (message node.Master a.client (body.Refused a.number refusal) ∷ []) h.0 (k.refuses a.client a.number refusal asked, tt), h.1)
 
   ordered : (d : MasterDoing) (server : ℕ) (b : OrderNo → Body) → ((o : OrderNo) → is_no_answer (b o) ≡ true) → Fine d → Fine (orders d server b)
   ordered d server b is h =
       let o : OrderNo = record { epoch = d.master.logged.epoch; count = suc d.master.order_count } in
-      all_joined W d.sent (message node.Master (the_server server) (b o) ∷ []) h (k.plain (the_server server) (b o) (is o), tt)
+      (all_joined W d.sent (message node.Master (the_server server) (b o) ∷ []) h.0 (k.plain (the_server server) (b o) (is o), tt), h.1)
 
   logged : (d : MasterDoing) (r : Record) (then_ : MasterDoing → MasterDoing) → ((e : MasterDoing) → Fine e → Fine (then_ e)) → Fine d → Fine (logs d r then_)
   logged d r then_ go h =
@@ -171,13 +214,15 @@ module _ (i : Input) (W : Message → Type 0) (k : MasterRefuses i W) where
 
   -- chunks
 
-  location_said : (d : MasterDoing) (a : Asker) (handle : ℕ) (row : ChunkRow) (holders : List Holder) → IsAskedAt a → Fine d → Fine (tells_location d a handle row holders)
-  location_said d a handle row holders asked h =
+  location_said : (d : MasterDoing) (a : Asker) (handle : ℕ) (row : ChunkRow) (holders : List Holder) → IsAskedAt a → AreKnown known handle holders → Fine d → Fine (tells_location d a handle row holders)
+  location_said d a handle row holders asked there h =
       let l : Location = record { index = a.index; handle = handle_of handle; round = version_of row.granted; holders = holders; group = group_of d.master row } in
-      all_joined W d.sent (message node.Master a.client (body.Told a.number (Some l)) ∷ []) h (k.tells a.client a.number l asked, tt)
+      (all_joined W d.sent (message node.Master a.client (body.Told a.number (Some l)) ∷ []) h.0 (k.tells a.client a.number l asked there, tt), h.1)
 
   holders_said : (d : MasterDoing) (a : Asker) (handle : ℕ) (row : ChunkRow) → IsAskedAt a → Fine d → Fine (tells_holders d a handle row)
-  holders_said d a handle row asked h = location_said d a handle row (map holder_line (current_holders d.master handle row)) asked h
+  holders_said d a handle row asked h =
+      location_said d a handle row (map holder_line (current_holders d.master handle row)) asked
+      (subst (λ (t : Table (Table ℕ)). AreKnown t handle (map holder_line (current_holders d.master handle row))) (h.1 (a.client, a.number, asked.taken)) (held_lines d.master handle (λ v. nat_le row.granted v) (servers_of d.master))) h
 
   none_said : (d : MasterDoing) (a : Asker) → Fine d → Fine (tells_none d a)
   none_said d a h = said d a.client (body.Told a.number None) refl h
@@ -200,7 +245,7 @@ module _ (i : Input) (W : Message → Type 0) (k : MasterRefuses i W) where
       wait_said (sends_versions held handle version targets) a (versions_sent held handle version targets h)
 
   issues_said : (d : MasterDoing) (a : Asker) (own : ℕ) (own_row : ChunkRow) (handle : ℕ) (row : ChunkRow) (targets : List VersionTarget) → IsAskedAt a → Fine d → Fine (issues_to d a own own_row handle row targets)
-  issues_said d a own own_row handle row [] asked h = location_said d a own own_row [] asked h
+  issues_said d a own own_row handle row [] asked h = location_said d a own own_row [] asked (λ n x at. none_some x at) h
   issues_said d a own own_row handle row (t ∷ rest) asked h =
       logged d (log.Issue (handle_of handle) (version_of (suc row.issued))) (λ e. sends_issued e a handle (suc row.issued) (t ∷ rest)) (issued_said a handle (suc row.issued) (t ∷ rest)) h
 
@@ -224,7 +269,7 @@ module _ (i : Input) (W : Message → Type 0) (k : MasterRefuses i W) where
       wait_said (sends_copies held handle copy version targets) a (copies_sent held handle copy version targets h)
 
   copies_said : (d : MasterDoing) (a : Asker) (handle : ℕ) (row : ChunkRow) (targets : List VersionTarget) → IsAskedAt a → Fine d → Fine (copies_to d a handle row targets)
-  copies_said d a handle row [] asked h = location_said d a handle row [] asked h
+  copies_said d a handle row [] asked h = location_said d a handle row [] asked (λ n x at. none_some x at) h
   copies_said d a handle row (t ∷ rest) asked h =
       let copy : ℕ = d.master.logged.next_handle in
       logged d (log.CopyStart (file_id a.file) a.index (handle_of handle) (handle_of copy) (version_of (suc row.issued))) (λ e. sends_copy_started e a handle copy (suc row.issued) (t ∷ rest))
@@ -371,7 +416,7 @@ module _ (i : Input) (W : Message → Type 0) (k : MasterRefuses i W) where
       let row : Option ChunkRow = chunk_of d.master.logged.table line.handle.0 in
       extends_all_said (extends_row d server line row) server rest (extends_said d server line row h)
 
-  report_said : (d : MasterDoing) (server : ℕ) (replicas : List ReplicaLine) (leases : List LeaseLine) → Fine d → Fine (takes_report d server replicas leases)
+  report_said : (d : MasterDoing) (server : ℕ) (replicas : List ReplicaLine) (leases : List LeaseLine) → Fine (hears d server replicas) → Fine (takes_report d server replicas leases)
   report_said d server replicas leases h =
       let heard : MasterDoing = hears d server replicas in
       let dropped : MasterDoing = drops_useless heard server replicas in
@@ -399,10 +444,10 @@ module _ (i : Input) (W : Message → Type 0) (k : MasterRefuses i W) where
   takes_said d m (body.Ask number file w deadline lost) came is h = ask_said d m.sender number file.0 w deadline.0 lost (record { ask = m; file = file; what = w; deadline = deadline; lost = lost; came = came; sender_is = refl; body_is = is }) refl h
   takes_said d m (body.Recorded handle version) came is h =
       let held : MasterDoing = holds_now d (server_number m.sender) handle.0 version.0 in
-      learns_said held (server_number m.sender) handle.0 version.0 (chunk_of held.master.logged.table handle.0) (table.get held.master.attempts handle.0) h
+      learns_said held (server_number m.sender) handle.0 version.0 (chunk_of held.master.logged.table handle.0) (table.get held.master.attempts handle.0) (h.0, λ ask. absurd (no_ask i m (body.Recorded handle version) came is refl ask))
   takes_said d m (body.Revoked handle version) came is h = revoked_row_said d (server_number m.sender) handle.0 version.0 (chunk_of d.master.logged.table handle.0) h
-  takes_said d m (body.Cloned handle version) came is h = h
-  takes_said d m (body.Report replicas leases) came is h = report_said d (server_number m.sender) replicas leases h
+  takes_said d m (body.Cloned handle version) came is h = (h.0, λ ask. absurd (no_ask i m (body.Cloned handle version) came is refl ask))
+  takes_said d m (body.Report replicas leases) came is h = report_said d (server_number m.sender) replicas leases (h.0, λ ask. absurd (no_ask i m (body.Report replicas leases) came is refl ask))
   takes_said d m (body.Named number reply) came is h = h
   takes_said d m (body.Told number location) came is h = h
   takes_said d m (body.Wait number) came is h = h
@@ -433,18 +478,18 @@ module _ (i : Input) (W : Message → Type 0) (k : MasterRefuses i W) where
   does_said d (input.Deliver m) came h = takes_said d m m.body came refl h
   does_said d input.Tick came h = ticks_said d h
 
-  goes_said : (m : MasterState) (moment : ℕ) (refusals : List Bool) → Fine (master_goes m moment i refusals)
-  goes_said m moment refusals =
+  goes_said : (m : MasterState) (moment : ℕ) (refusals : List Bool) → m.holders ≡ known → Fine (master_goes m moment i refusals)
+  goes_said m moment refusals held =
       let d : MasterDoing = master_does (master_begins (master_at m moment) refusals) i in
-      ready d d.master.snapshots (does_said (master_begins (master_at m moment) refusals) i refl tt)
+      ready d d.master.snapshots (does_said (master_begins (master_at m moment) refusals) i refl (tt, λ _. held))
 
   ends_said : (m : MasterState) (d : MasterDoing) (choice : Choice) (e : Ending) → Fine d → AllOf W (master_ends m d choice e).out.sent
-  ends_said m d choice Goes h = all_in_order W choice.order d.sent h
+  ends_said m d choice Goes h = all_in_order W choice.order d.sent h.0
   ends_said m d choice Lost h = tt
   ends_said m d choice (Stops made) h = tt
 
-  pub master_refuses_asks : (m : MasterState) (moment : ℕ) (choice : Choice) → AllOf W (master_step m moment i choice).out.sent
-  master_refuses_asks m moment choice =
+  pub master_refuses_asks : (m : MasterState) (moment : ℕ) (choice : Choice) → m.holders ≡ known → AllOf W (master_step m moment i choice).out.sent
+  master_refuses_asks m moment choice held =
       let d : MasterDoing = master_goes m moment i choice.refused in
       on_cond (λ (t : Taken MasterState). AllOf W t.out.sent) m.up (master_bounded m d choice) (no_step m)
-      (λ _. on_cond (λ (t : Taken MasterState). AllOf W t.out.sent) (may_end d choice.ending) (master_ends m d choice choice.ending) (no_step m) (λ _. ends_said m d choice choice.ending (goes_said m moment choice.refused)) (λ _. tt)) (λ _. tt)
+      (λ _. on_cond (λ (t : Taken MasterState). AllOf W t.out.sent) (may_end d choice.ending) (master_ends m d choice choice.ending) (no_step m) (λ _. ends_said m d choice choice.ending (goes_said m moment choice.refused held)) (λ _. tt)) (λ _. tt)

@@ -360,7 +360,7 @@ module _ (G : ℕ → ToldChunk → ℕ → Type 0) (config : Config) (sent : Li
         stays = λ c chunk number h. stays_open c chunk number h;
         denied = λ c chunk number refusal h came is. denied_open c chunk number h (came is h.pushed);
         done = λ c chunk number id place h came own is. denied_open c chunk number h (came number own is h.pushed);
-        passes = λ c e append asked file live deadline h. same_open c e asked file live deadline h;
+        passes = λ c chunk number e append m came asked file index live deadline h. same_open (less_live c chunk) e asked file live deadline h;
         appended = λ c chunk place append h. (h, tt);
         next = λ c e chunk place write more asked file index live deadline h. same_open c e asked file live deadline h;
         last = λ c chunk place write none h. (h, tt);

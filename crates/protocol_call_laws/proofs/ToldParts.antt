@@ -344,7 +344,7 @@ module _ (sent : List Message) (size file : ℕ) (A : Call) (s : ClientState) (s
         stays = λ c chunk number h. (h.0, more_told sent s.id size file A (h.1).0 s.number c.index (below c chunk number h) (h.1).1, h.4);
         denied = λ c chunk number refusal h came is. (h.0, more_told sent s.id size file A (h.1).0 s.number c.index (below c chunk number h) (h.1).1, h.4);
         done = λ c chunk number id place h came own is. done_placed c chunk number id place h came own is;
-        passes = λ c e append asked same live deadline h. append_between c e append asked same h;
+        passes = λ c chunk number e append m came asked same index live deadline h. append_between (less_live c chunk) e append asked same h;
         appended = λ c chunk place append h. ((h.0, h.1, h.3), λ is. absurd (let both : answer.At (place_in_file s.config.chunk chunk.index place) ≡ answer.Done = is in cc));
         next = λ c e chunk place write more asked same index live deadline h. (asked ∙ h.0, subst (λ (n : ℕ). AreTold sent s.id size s.number file A n) (sym index) h.2, ap (λ (f : FileId). f.0) same ∙ h.3);
         last = λ c chunk place write none h. ((h.0, h.1, h.3), λ is. subst (λ (x : Call). AllTold sent s.id size file x) (sym h.0) (all_placed c h.0 none (h.1).begun h.2));
@@ -419,4 +419,5 @@ module _ (sent : List Message) (size file : ℕ) (A : Call) (s : ClientState) (s
     where
       named_first : (c : Call) → is_name_call c ≡ true → IsFirst s.config.chunk c 0
       named_first (call.Write fd offset bytes) name = absurd (true≢false (sym name))
+      named_first (call.Append fd bytes) name = refl
       named_first other name = tt

@@ -142,7 +142,7 @@ module _ (config : Config) (servers clients : ℕ) (w : WorldState) (r : IsReach
         stays = λ c chunk number h. tt;
         denied = λ c chunk number refusal h came is. tt;
         done = λ c chunk number id place h came own is. tt;
-        passes = λ c e append asked file live deadline h. tt;
+        passes = λ c chunk number e append m came asked file index live deadline h. tt;
         appended = λ c chunk place append h. (tt, tt);
         next = λ c e chunk place write more asked file same live deadline h. tt;
         last = λ c chunk place write none h. (tt, tt);

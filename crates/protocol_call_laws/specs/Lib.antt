@@ -5,3 +5,7 @@ pub mod OpenCalls
 pub mod AnsweredWrites
 pub mod BoundedCalls
 pub mod ToldIndexes
+pub mod RefusedAsks
+pub mod EarlierParts
+pub mod FullBefore
+pub mod ToldHolders

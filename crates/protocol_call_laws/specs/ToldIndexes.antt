@@ -21,6 +21,7 @@ use Rattle.protocol.specs.ClientAttempts.{wanted_by}
 use Rattle.protocol.specs.World.{WorldState, IsReached}
 use Rattle.protocol_entry_laws.specs.Entries.{IsAmong}
 use Rattle.protocol_step_laws.specs.Locations.{chunk_used}
+use Rattle.protocol_version_laws.specs.ReplacedChunks.{IsToldAt}
 use Rattle.protocol_call_laws.specs.AnsweredWrites.{IsToldChunk}
 
 -- The client of a call asked under this number for the part in hand, of the file of the call.
@@ -74,3 +75,9 @@ PartsGoToTheirChunk =
     (config : Config) (servers clients : ℕ) (w : WorldState) → IsReached config servers clients w → (index : ℕ) (s : ClientState) → element_at w.clients index ≡ Some s
     → (c : CurrentCall) (chunk : ToldChunk) → s.current ≡ Some c → chunk_used c.stage ≡ Some chunk → IsTrue (has_index c.asked)
     → IsToldChunk w.sent (suc index) c.file.0 c.index chunk.handle.0 chunk.round.0
+
+-- Where clocks are kept, all locations that were told of one chunk with a granted round are of one index, to whichever clients and of whichever files (section 3.4).
+abbrev pub HandlesAreToldAtOneIndex : Type 0
+HandlesAreToldAtOneIndex =
+    (config : Config) (servers clients : ℕ) (w : WorldState) → IsReached config servers clients w → IsTrue w.observer.are_clocks_kept
+    → (client other file also : ℕ) (l k : Location) (place later : ℕ) → IsToldAt w.sent client file l place → IsToldAt w.sent other also k later → l.handle.0 ≡ k.handle.0 → l.index ≡ k.index

@@ -170,18 +170,22 @@ module _ (K : Seen → Type 0) where
           let L : Seen → Type 0 = Since K (d.seen ++ BecameSettled (handle_of q) (version_of p.held.version) (serial_of serial) ∷ []) in
           let there : IsRight L q p = right_on (Since K d.seen) L (still d.seen (BecameSettled (handle_of q) (version_of p.held.version) (serial_of serial))) q p right in
           let shown = latest d.seen (BecameSettled (handle_of q) (version_of p.held.version) (serial_of serial)) in
-          answered (shows (with_primary d q (acknowledged p server serial)) (BecameSettled (handle_of q) (version_of p.held.version) (serial_of serial))) (attempt_of w) w.place (success_right L q p server serial w is shown there) (
+          answered (shows (with_primary d q (acknowledged p server serial)) (BecameSettled (handle_of q) (version_of p.held.version) (serial_of serial))) (attempt_of w) w.place (success_right L q p server serial w is shown there).0 (
             put L d.server.leases q (acknowledged p server serial) (right_acknowledged L q p server serial (λ x settled. shown) there)
                 (all_right d.seen (BecameSettled (handle_of q) (version_of p.held.version) (serial_of serial)) d.server.leases h.0),
             all_caused d.seen (BecameSettled (handle_of q) (version_of p.held.version) (serial_of serial)) d.sent h.1,
           )
 
-  denied_fine : (d : ServerDoing) (q : ℕ) (p : SerialOrder) (id : DataId) (refusal : Refusal) → IsRight (Since K d.seen) q p → Fine d → Fine (denies d q p id refusal)
+  -- an attempt that is new in a lease
+  abbrev IsNewIn : ServerDoing → ℕ → SerialOrder → DataId → Type 0
+  IsNewIn d q p id = IsRight (Since K d.seen) q p × (attempted p id.client id.seq ≡ IsNew)
+
+  denied_fine : (d : ServerDoing) (q : ℕ) (p : SerialOrder) (id : DataId) (refusal : Refusal) → IsNewIn d q p id → Fine d → Fine (denies d q p id refusal)
   denied_fine d q p id refusal right h =
       attempt_refused (takes_data (with_primary d q (denied p id.client id.seq refusal)) id) id refusal
-      (put (Since K d.seen) d.server.leases q (denied p id.client id.seq refusal) (right_denied (Since K d.seen) q p id.client id.seq refusal right) h.0, h.1)
+      (put (Since K d.seen) d.server.leases q (denied p id.client id.seq refusal) (right_denied (Since K d.seen) q p id refusal right.1 right.0) h.0, h.1)
 
-  places_fine : (d : ServerDoing) (q : ℕ) (p : SerialOrder) (id : DataId) (m : Mutation) → IsRight (Since K d.seen) q p → Fine d → Fine (places d q p id m)
+  places_fine : (d : ServerDoing) (q : ℕ) (p : SerialOrder) (id : DataId) (m : Mutation) → IsNewIn d q p id → Fine d → Fine (places d q p id m)
   places_fine d q p id m right h =
       on_cond Fine (nat_le counter_limit p.serial) d _ (λ _. h)
       (λ _. on_cond Fine (is_writable_at d.server.disk q (start_of m) (end_of (chunk_limit d.server q) m)) (primary_applies taken q p id m) (refuses_attempt (drops_corrupt taken q) id Corrupt)
@@ -197,23 +201,23 @@ module _ (K : Seen → Type 0) where
       taken = shows (takes_data (with_primary d q (numbered p id.client id.seq (place_of m))) id) (Numbered (handle_of q) (version_of p.held.version) (serial_of (p.serial + 1)) id m)
 
       new_right : IsRight (Since K (d.seen ++ seen ∷ [])) q (numbered p id.client id.seq (place_of m))
-      new_right = right_numbered (Since K (d.seen ++ seen ∷ [])) q p id m (latest d.seen seen) (right_on (Since K d.seen) (Since K (d.seen ++ seen ∷ [])) (still d.seen seen) q p right)
+      new_right = right_numbered (Since K (d.seen ++ seen ∷ [])) q p id m right.1 (latest d.seen seen) (right_on (Since K d.seen) (Since K (d.seen ++ seen ∷ [])) (still d.seen seen) q p right.0)
 
       there : Fine taken
       there = (put (Since K (d.seen ++ seen ∷ [])) d.server.leases q (numbered p id.client id.seq (place_of m)) new_right (all_right d.seen seen d.server.leases h.0), all_caused d.seen seen d.sent h.1)
 
-  appends_fine : (d : ServerDoing) (q : ℕ) (p : SerialOrder) (id : DataId) (bytes : List ℕ) (where_ : Placing) → IsRight (Since K d.seen) q p → Fine d → Fine (appends_as d q p id bytes where_)
+  appends_fine : (d : ServerDoing) (q : ℕ) (p : SerialOrder) (id : DataId) (bytes : List ℕ) (where_ : Placing) → IsNewIn d q p id → Fine d → Fine (appends_as d q p id bytes where_)
   appends_fine d q p id bytes TooLong right h = denied_fine d q p id ServerTooLong right h
   appends_fine d q p id bytes Full right h = denied_fine d q p id ChunkFull right h
   appends_fine d q p id bytes (Pad offset) right h = places_fine d q p id (mutation.Pad offset) right h
   appends_fine d q p id bytes (At offset) right h = places_fine d q p id (mutation.Append offset bytes) right h
 
-  with_fine : (d : ServerDoing) (q : ℕ) (p : SerialOrder) (r : Row) (id : DataId) (t : Target) (bytes : List ℕ) → IsRight (Since K d.seen) q p → Fine d → Fine (mutates_with d q p r id t bytes)
+  with_fine : (d : ServerDoing) (q : ℕ) (p : SerialOrder) (r : Row) (id : DataId) (t : Target) (bytes : List ℕ) → IsNewIn d q p id → Fine d → Fine (mutates_with d q p r id t bytes)
   with_fine d q p r id (target.Write offset) bytes right h =
       on_cond Fine (nat_lt (chunk_limit d.server q) (offset + length bytes)) d (places d q p id (mutation.Write offset bytes)) (λ _. h) (λ _. places_fine d q p id (mutation.Write offset bytes) right h)
   with_fine d q p r id target.Append bytes right h = appends_fine d q p id bytes (placing r.count (length bytes) (chunk_limit d.server q)) right h
 
-  new_fine : (d : ServerDoing) (q : ℕ) (p : SerialOrder) (id : DataId) (t : Target) (o : Option Row) (found : Option (List ℕ)) → IsRight (Since K d.seen) q p → Fine d → Fine (mutates_new d q p id t o found)
+  new_fine : (d : ServerDoing) (q : ℕ) (p : SerialOrder) (id : DataId) (t : Target) (o : Option Row) (found : Option (List ℕ)) → IsNewIn d q p id → Fine d → Fine (mutates_new d q p id t o found)
   new_fine d q p id t None found right h = h
   new_fine d q p id t (Some r) None right h = denied_fine d q p id NoData right h
   new_fine d q p id t (Some r) (Some bytes) right h = with_fine d q p r id t bytes right h
@@ -239,9 +243,9 @@ module _ (K : Seen → Type 0) where
   as_fine d q p id t (IsRepeat IsPending) is right h = h
   as_fine d q p id t (IsRepeat (IsSettled place)) is right h =
       let was = repeated id.seq (table.get p.kept id.client.0) place is in
-      answered d id place (subst (λ (n : ℕ). IsSettledAs (Since K d.seen) (data_id id.client.0 n) place) was.2 (right.keeps id.client.0 was.0 place was.1 was.3)) h
+      answered d id place (subst (λ (n : ℕ). IsSettledAs (Since K d.seen) (data_id id.client.0 n) place) was.2 (right.keeps id.client.0 was.0 place was.1 was.3).0) h
   as_fine d q p id t (IsRepeat (IsRefused refusal)) is right h = attempt_refused d id refusal h
-  as_fine d q p id t IsNew is right h = new_fine d q p id t (row_at d.server.disk q) (data_of d.server.pushed id) right h
+  as_fine d q p id t IsNew is right h = new_fine d q p id t (row_at d.server.disk q) (data_of d.server.pushed id) (right, is) h
 
   under_fine : (d : ServerDoing) (q : ℕ) (id : DataId) (t : Target) (deadline : ℕ) (o : Option SerialOrder) → ((p : SerialOrder) → o ≡ Some p → IsRight (Since K d.seen) q p) → Fine d → Fine (mutates_under d q id t deadline o)
   under_fine d q id t deadline None right h = attempt_refused d id NoLease h

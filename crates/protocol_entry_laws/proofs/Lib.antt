@@ -20,6 +20,7 @@ pub mod OrderedOrders
 pub mod RisingRounds
 pub mod CopiesBegin
 pub mod Within
+pub mod WellKept
 pub mod RightLeases
 pub mod LeaseAnswers
 pub mod Successes
@@ -42,6 +43,7 @@ pub mod SettledSerials
 pub mod SettledOrders
 pub mod KnownEntries
 pub mod SettledEntries
+pub mod KeptAttempts
 pub mod FullPlaces
 pub mod ToldFull
 pub mod Replies

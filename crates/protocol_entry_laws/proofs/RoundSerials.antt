@@ -29,10 +29,10 @@ append-append [] ys zs = refl
 append-append {X} (x ∷ xs) ys zs = ap (λ (vs : List X). x ∷ vs) (append-append xs ys zs)
 
 -- the serial of one entry, if it is of the round
-abbrev serial_in : ℕ → Placed → List ℕ
+abbrev pub serial_in : ℕ → Placed → List ℕ
 serial_in round p = cond (p.entry.round == round) (p.serial ∷ []) []
 
-serials_first : (round : ℕ) (p : Placed) (ps : List Placed) → serials_of round (p ∷ ps) ≡ serial_in round p ++ serials_of round ps
+pub serials_first : (round : ℕ) (p : Placed) (ps : List Placed) → serials_of round (p ∷ ps) ≡ serial_in round p ++ serials_of round ps
 serials_first round p ps = by_test (p.entry.round == round)
   where
     by_test : (b : Bool) → map (λ q. q.serial) (cond b (p ∷ filter (λ q. q.entry.round == round) ps) (filter (λ q. q.entry.round == round) ps)) ≡ cond b (p.serial ∷ []) [] ++ serials_of round ps
@@ -216,7 +216,7 @@ first_rise zero = tt
 first_rise (suc n) = rise_last (first_numbers n) (suc n) (first_below n) (first_rise n)
 
 -- an entry is of the round by the test
-is_of : (round : ℕ) (x p : Placed) → x ≡ p → p.entry.round ≡ round → (x.entry.round == round) ≡ true
+pub is_of : (round : ℕ) (x p : Placed) → x ≡ p → p.entry.round ≡ round → (x.entry.round == round) ≡ true
 is_of round x p one same = subst (λ (n : ℕ). (x.entry.round == n) ≡ true) (ap (λ (y : Placed). y.entry.round) one ∙ same) (same_number x.entry.round)
 
 -- the serial of an entry behind comes after

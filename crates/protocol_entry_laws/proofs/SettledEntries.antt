@@ -250,10 +250,10 @@ all_on P Q go (m ∷ ms) h = (go m h.0, all_on P Q go ms h.1)
 
 -- worlds
 
-record IsSound (w : WorldState) : Type 0 where
-  numbered : AreNumbered w.sent w.clients
-  leases : (index : ℕ) (s : ServerState) → element_at w.servers index ≡ Some s → AreRight (K w) s.leases
-  told : (place : ℕ) (m : Message) → element_at w.sent place ≡ Some m → IsCaused (K w) m.body
+pub record IsSound (w : WorldState) : Type 0 where
+  pub numbered : AreNumbered w.sent w.clients
+  pub leases : (index : ℕ) (s : ServerState) → element_at w.servers index ≡ Some s → AreRight (K w) s.leases
+  pub told : (place : ℕ) (m : Message) → element_at w.sent place ≡ Some m → IsCaused (K w) m.body
 
 more_told : (L : Seen → Type 0) (sent : List Message) (k : ℕ) (ms : List Message) → ((place : ℕ) (m : Message) → element_at sent place ≡ Some m → IsCaused L m.body) → AllOf (λ m. IsCaused L m.body) ms
     → (place : ℕ) (m : Message) → element_at (sent ++ stamped k ms) place ≡ Some m → IsCaused L m.body
@@ -374,7 +374,7 @@ new_sound config servers clients =
 
 -- the laws
 
-sound_reached : (config : Config) (servers clients : ℕ) (w : WorldState) → IsReached config servers clients w → IsSound w
+pub sound_reached : (config : Config) (servers clients : ℕ) (w : WorldState) → IsReached config servers clients w → IsSound w
 sound_reached config servers clients w r = subst (λ (u : WorldState). IsSound u) r.1 (sound_on config servers clients (new_world config servers clients) r.0 ([], refl) (new_sound config servers clients))
 
 done_settled : (config : Config) (servers clients : ℕ) (w : WorldState) → IsReached config servers clients w → (place : ℕ) (m : Message) → element_at w.sent place ≡ Some m → (id : DataId) (offset : ℕ) → m.body ≡ body.Done id offset → IsSettledAs (K w) id (Some offset)

@@ -20,3 +20,4 @@ pub mod Bytes
 pub mod CountedSerials
 pub mod CausedWords
 pub mod LeasedAnswers
+pub mod KeptAttempts

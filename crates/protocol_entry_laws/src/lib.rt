@@ -10,6 +10,7 @@ pub mod counted_serials;
 pub mod deadlines_laws;
 pub mod entries;
 pub mod full_chunks;
+pub mod kept_attempts;
 pub mod leased_answers;
 pub mod new_handles;
 pub mod numbered_once;

@@ -25,6 +25,7 @@ use Rattle.protocol_name_laws.proofs.WaitingSnapshotsWalk.{begins_live}
 use Rattle.protocol_name_laws.proofs.Unrefused.{waiting_snapshots_are_unrefused}
 use Rattle.protocol_name_laws.proofs.Expiring.{expiring_files_are_old}
 use Rattle.protocol_name_laws.specs.FollowedSteps.{ComesTo, IsAtStep, IsInputOfOpenCall, log_left, StepsAreFollowed, StoppedStepsAreFollowed}
+use Rattle.protocol_name_laws.specs.NameTrails.{IsBesideLog, StepsGoByRecords}
 use Rattle.protocol_name_laws.proofs.Following.{IsGoodLog, IsFollowedTo, IsFollowing, HasLog}
 use Rattle.protocol_name_laws.proofs.FollowedStepsWalk.{Comes, goes_at}
 
@@ -49,17 +50,24 @@ module _ (config : Config) (servers clients : ℕ) (w : WorldState) (r : IsReach
     abbrev done : MasterDoing
     done = master_goes w.master moment i refused
 
+    comes : ComesTo n n requests
+    comes = record { run = stays n; told = λ x t. t }
+
+    alone : AreAlike (state_of w.master.disk) [] n requests
+    alone = log_alike w.master.logged (state_of w.master.disk) (master_at w.master moment).snapshots n requests known.same known.tied.base.files h.alike
+
+    beside : IsBesideLog requests n w.master.disk w.master.disk n
+    beside = record { comes = comes; alike = alone; kept_on = kept_same requests (state_of w.master.disk).kept }
+
     begun : IsFollowing config requests n w.master.disk n w.master.logged w.master.disk [] [] (master_at w.master moment).snapshots
     begun =
-        let comes : ComesTo n n requests = record { run = stays n; told = λ x t. t } in
-        let alone : AreAlike (state_of w.master.disk) [] n requests = log_alike w.master.logged (state_of w.master.disk) (master_at w.master moment).snapshots n requests known.same known.tied.base.files h.alike in
         record {
           alike = h.alike;
           told = tt;
           run = h.run;
           comes = comes;
           kept_on = λ client. inl (ap (λ (p : Parts). table.get p.kept client) known.same);
-          log = λ good. record { disk = refl; same = known.same; alone = alone; stops = (n, comes, alone, kept_same requests (state_of w.master.disk).kept) };
+          log = λ good. record { disk = refl; same = known.same; alone = alone; stops = (n, comes, alone, kept_same requests (state_of w.master.disk).kept); trail = ([], refl) };
         }
 
     -- what the log has kept is what the state has
@@ -90,3 +98,15 @@ stopped_steps_are_followed config servers clients w r up moment i refused n requ
     let left = found_stopped (IsFollowedTo config requests n w.master.disk) w.master.disk changes made log.stops decided in
     let read : Logged = state_of (log_left w.master.disk changes made decided) in
     (left.0, left.1, (chunks_change_no_names read [] left.0 requests left.2).1 (table.keys read.copies), kept_since config servers clients w r up moment i refused n requests h of read.kept left.3)
+
+pub steps_go_by_records : StepsGoByRecords
+steps_go_by_records config servers clients w r up moment i refused n requests h of =
+    let end = goes config servers clients w r up moment i refused n requests h of in
+    let log : HasLog config requests n w.master.disk end.0 _ _ (master_goes w.master moment i refused).changes = (end.2).log (sound config servers clients w r up moment i refused n requests h of) in (
+      end.0,
+      (end.2).comes,
+      record { alike = (end.2).alike; told = (end.2).told },
+      kept_since config servers clients w r up moment i refused n requests h of (master_goes w.master moment i refused).master.logged.kept (end.2).kept_on,
+      beside config servers clients w r up moment i refused n requests h of,
+      log.trail,
+    )

@@ -1,5 +1,5 @@
 -- What goes beside a step of the master so far: the machine, and for each log that a stop would leave a state of the machine.
-use Rattle.std.proofs.Common.{◌≡◌, ℕ, true, List, [], ◌∷◌, ◌++◌, Option, Some, None, refl, sym, ap, subst, ◌∙◌}
+use Rattle.std.proofs.Common.{◌≡◌, ℕ, true, List, [], ◌∷◌, ◌++◌, Option, Some, None, refl, sym, ap, subst, ◌∙◌, inl}
 use Rattle.std.specs.Prelude.{IfSome}
 use Rattle.std.specs.List.{AllByRecursion}
 use Rattle.std.specs.FinMap as table
@@ -32,6 +32,8 @@ use Rattle.protocol_name_laws.specs.Followed.{IsTold, IsToldTo, AreKeptOn}
 use Rattle.protocol_name_laws.proofs.Moves.{IsMove, Keeps, join, kept_then}
 use Rattle.protocol_name_laws.proofs.ChunkWalk.{IsUnnamed, KeepsChunks}
 use Rattle.protocol_name_laws.specs.FollowedSteps.{ComesTo}
+use Rattle.protocol_name_laws.specs.NameTrails.{AreQuiet, RunsQuietly, IsChunkRecord, IsChangeOf, IsBesideLog, NameTrail}
+use Rattle.relaxed_file.specs.Run.{Action, after}
 
 -- stops
 
@@ -44,6 +46,21 @@ stops_split P d (y ∷ ys) x h =
 last_stop : (P : LogDisk → Type 0) (d : LogDisk) (xs : List LogChange) → AllStops P d xs → P (log_changed_by_all d xs)
 last_stop P d [] h = h
 last_stop P d (x ∷ xs) h = last_stop P (log_changed d x) xs h.1
+
+-- the machine's states along the changes
+
+quiet_then : (m a n : Machine) (xs ys : List Action) → AreQuiet m xs a → AreQuiet a ys n → AreQuiet m (xs ++ ys) n
+quiet_then m a n [] ys one two = subst (λ (x : Machine). AreQuiet x ys n) (sym one) two
+quiet_then m a n (action ∷ xs) ys one two = (one.0, one.1, quiet_then (after m action) a n xs ys one.2 two)
+
+trail_quiet : (requests : Requests) (first : Machine) (start d : LogDisk) (m : Machine) (xs : List LogChange) (n later : Machine) → NameTrail requests first start d m xs n → RunsQuietly n later → NameTrail requests first start d m xs later
+trail_quiet requests first start d m [] n later t quiet = (t.0 ++ quiet.0, quiet_then m n later t.0 quiet.0 t.1 quiet.1)
+trail_quiet requests first start d m (x ∷ xs) n later t quiet = (t.0, t.1, t.2, t.3, t.4, trail_quiet requests first start (log_changed d x) t.1 xs n later t.5 quiet)
+
+trail_push : (requests : Requests) (first : Machine) (start d : LogDisk) (m : Machine) (xs : List LogChange) (n later : Machine) (x : LogChange) → NameTrail requests first start d m xs n → IsChangeOf n later x
+    → IsBesideLog requests first start (log_changed (log_changed_by_all d xs) x) later → NameTrail requests first start d m (xs ++ x ∷ []) later
+trail_push requests first start d m [] n later x t change beside = (n, later, t, change, beside, ([], refl))
+trail_push requests first start d m (y ∷ ys) n later x t change beside = (t.0, t.1, t.2, t.3, t.4, trail_push requests first start (log_changed d y) t.1 ys n later x t.5 change beside)
 
 -- logs that say the same
 
@@ -77,6 +94,14 @@ of_chunks_too l k (log.Issue handle version) same one is = tt
 of_chunks_too l k (log.Grant handle version primary members) same one is = if_some (λ c. table.contains_key k.table.files c.file ≡ true) (table.get k.copies handle.0) (λ c at. one.copied handle.0 c at)
 of_chunks_too l k (log.CopyStart file index handle copy copy_version) same one is = tt
 of_chunks_too l k other same one is = absurd is
+
+of_chunks : (l : Logged) (r : Record) → IsOfChunks l r → IsChunkRecord r
+of_chunks l (log.Epoch epoch) is = tt
+of_chunks l (log.AddChunk file handle) is = tt
+of_chunks l (log.Issue handle version) is = tt
+of_chunks l (log.Grant handle version primary members) is = tt
+of_chunks l (log.CopyStart file index handle copy copy_version) is = tt
+of_chunks l other is = absurd is
 
 -- such a record answers nobody
 chunk_kept : (l : Logged) (r : Record) → IsOfChunks l r → (after_record l r).kept ≡ l.kept
@@ -114,6 +139,7 @@ module _ (config : Config) (requests : Requests) (first : Machine) (start : LogD
     pub same : parts_of l ≡ parts_of (state_of k)
     pub alone : AreAlike (state_of k) [] n requests
     pub stops : AllStops IsFollowedTo start cs
+    pub trail : NameTrail requests first start start first cs n
 
   -- The log's side is known where each log that a stop may leave is sound.
   pub record IsFollowing (n : Machine) (l : Logged) (k : LogDisk) (cs : List LogChange) (sent : List Message) (ss : List PendingSnapshot) : Type 0 where
@@ -126,39 +152,41 @@ module _ (config : Config) (requests : Requests) (first : Machine) (start : LogD
 
   -- one change more
   grown : (m n : Machine) (l more : Logged) (k : LogDisk) (cs : List LogChange) (x : LogChange) → ComesTo first n requests → AreKeptOn requests (state_of start).kept more.kept → parts_of more ≡ parts_of (state_of (log_changed k x)) → AreAlike (state_of (log_changed k x)) [] n requests
-      → HasLog m l k cs → HasLog n more (log_changed k x) (cs ++ x ∷ [])
-  grown m n l more k cs x comes kept_on same alone h =
+      → IsChangeOf m n x → HasLog m l k cs → HasLog n more (log_changed k x) (cs ++ x ∷ [])
+  grown m n l more k cs x comes kept_on same alone change h =
       record {
         disk = changed-push start cs x ∙ ap (λ (d : LogDisk). log_changed d x) h.disk;
         same = same;
         alone = alone;
         stops = stops_push IsFollowedTo start cs x h.stops (subst (λ (d : LogDisk). IsFollowedTo (log_changed d x)) (sym h.disk)
             (n, comes, alone, subst (λ (p : Parts). AreKeptOn requests (state_of start).kept p.kept) same kept_on));
+        trail = trail_push requests first start start first cs m n x h.trail change (subst (λ (d : LogDisk). IsBesideLog requests first start (log_changed d x) n) (sym h.disk)
+            (record { comes = comes; alike = alone; kept_on = subst (λ (p : Parts). AreKeptOn requests (state_of start).kept p.kept) same kept_on }));
       }
 
-  recorded : (m n : Machine) (l : Logged) (k : LogDisk) (cs : List LogChange) (r : Record) → ComesTo first n requests → AreKeptOn requests (state_of start).kept (after_record l r).kept → AreAlike (after_record (state_of k) r) [] n requests → HasLog m l k cs
+  recorded : (m n : Machine) (l : Logged) (k : LogDisk) (cs : List LogChange) (r : Record) → ComesTo first n requests → AreKeptOn requests (state_of start).kept (after_record l r).kept → AreAlike (after_record (state_of k) r) [] n requests → IsChangeOf m n (AppendRecord r) → HasLog m l k cs
       → HasLog n (after_record l r) (log_changed k (AppendRecord r)) (cs ++ AppendRecord r ∷ [])
-  recorded m n l k cs r comes kept_on alone h =
+  recorded m n l k cs r comes kept_on alone change h =
       grown m n l (after_record l r) k cs (AppendRecord r) comes kept_on (same_after l (state_of k) r h.same ∙ sym (ap (λ (x : Logged). parts_of x) (state-appended k r)))
-      (subst (λ (x : Logged). AreAlike x [] n requests) (sym (state-appended k r)) alone) h
+      (subst (λ (x : Logged). AreAlike x [] n requests) (sym (state-appended k r)) alone) change h
 
   good_here : (n : Machine) (l : Logged) (k : LogDisk) (cs : List LogChange) → AllStops IsGoodLog start cs → HasLog n l k cs → IsGoodLog k
   good_here n l k cs good h = subst (λ (d : LogDisk). IsGoodLog d) h.disk (last_stop IsGoodLog start cs good)
 
-  moved : (m n : Machine) (l : Logged) (k : LogDisk) (cs : List LogChange) (sent : List Message) (ss later : List PendingSnapshot) → IsMove m n requests ss later (λ x. x) → IsFollowing m l k cs sent ss → IsFollowing n l k cs sent later
-  moved m n l k cs sent ss later move h =
+  moved : (m n : Machine) (l : Logged) (k : LogDisk) (cs : List LogChange) (sent : List Message) (ss later : List PendingSnapshot) → IsMove m n requests ss later (λ x. x) → RunsQuietly m n → IsFollowing m l k cs sent ss → IsFollowing n l k cs sent later
+  moved m n l k cs sent ss later move quiet h =
       record {
         alike = move.alike l h.alike;
         told = still_told m n requests sent move.told h.told;
         run = (name_runs_go_on (new_machine config) m n h.run (move.run).0).0;
         comes = record { run = join first m n (h.comes).run move.run; told = λ x t. move.told x ((h.comes).told x t) };
         kept_on = h.kept_on;
-        log = λ good. let g = h.log good in record { disk = g.disk; same = g.same; alone = move.alone (state_of k) g.alone; stops = g.stops };
+        log = λ good. let g = h.log good in record { disk = g.disk; same = g.same; alone = move.alone (state_of k) g.alone; stops = g.stops; trail = trail_quiet requests first start start first cs m n g.trail quiet };
       }
 
-  recorded_move : (m n : Machine) (l : Logged) (k : LogDisk) (cs : List LogChange) (sent : List Message) (ss : List PendingSnapshot) (r : Record) → IsMove m n requests ss ss (λ x. after_record x r) → IsFollowing m l k cs sent ss
+  recorded_move : (m n : Machine) (l : Logged) (k : LogDisk) (cs : List LogChange) (sent : List Message) (ss : List PendingSnapshot) (r : Record) → IsMove m n requests ss ss (λ x. after_record x r) → IsChangeOf m n (AppendRecord r) → IsFollowing m l k cs sent ss
       → IsFollowing n (after_record l r) (log_changed k (AppendRecord r)) (cs ++ AppendRecord r ∷ []) sent ss
-  recorded_move m n l k cs sent ss r move h =
+  recorded_move m n l k cs sent ss r move change h =
       let comes : ComesTo first n requests = record { run = join first m n (h.comes).run move.run; told = λ x t. move.told x ((h.comes).told x t) } in
       let kept_on : AreKeptOn requests (state_of start).kept (after_record l r).kept = kept_then requests (state_of start).kept l.kept (after_record l r).kept h.kept_on (move.kept_on l ss h.alike) in
       record {
@@ -169,7 +197,7 @@ module _ (config : Config) (requests : Requests) (first : Machine) (start : LogD
         kept_on = kept_on;
         log = λ good.
             let g = h.log (stops_split IsGoodLog start cs (AppendRecord r) good).0 in
-            recorded m n l k cs r comes kept_on (move.alone (state_of k) g.alone) g;
+            recorded m n l k cs r comes kept_on (move.alone (state_of k) g.alone) change g;
       }
 
   -- a record about chunks
@@ -183,7 +211,7 @@ module _ (config : Config) (requests : Requests) (first : Machine) (start : LogD
       let g = h before in
       let one : HasOneName (state_of k) = (good_here n l k cs before g).1.base.one_name in
       let too : IsOfChunks (state_of k) r = of_chunks_too l (state_of k) r (λ file. a.files file ∙ sym ((g.alone).files file)) one is in
-      recorded n n l k cs r comes (chunk_kept_on l r is kept_on) ((chunks_change_no_names (state_of k) [] n requests g.alone).0 r too) g
+      recorded n n l k cs r comes (chunk_kept_on l r is kept_on) ((chunks_change_no_names (state_of k) [] n requests g.alone).0 r too) (inl (of_chunks l r is, refl)) g
 
   recorded_chunks : (n : Machine) (l : Logged) (k : LogDisk) (cs : List LogChange) (sent : List Message) (ss : List PendingSnapshot) (r : Record) → IsOfChunks l r → IsFollowing n l k cs sent ss
       → IsFollowing n (after_record l r) (log_changed k (AppendRecord r)) (cs ++ AppendRecord r ∷ []) sent ss
@@ -210,7 +238,7 @@ module _ (config : Config) (requests : Requests) (first : Machine) (start : LogD
       let tree : Tree l.names = subst (λ (names : Names). Tree names) (sym (ap (λ (p : Parts). p.names) g.same)) here.0 in
       let same : parts_of new ≡ parts_of l = checkpoint_parts l tree in
       grown n n l (all_copies_given_up l) k cs x comes kept_on (sym same)
-      (same_names_alike (state_of k) new n requests (sym g.same ∙ sym same) here.1.base.one_name later.1.base.one_name g.alone) g
+      (same_names_alike (state_of k) new n requests (sym g.same ∙ sym same) here.1.base.one_name later.1.base.one_name g.alone) refl g
 
   pub checkpointed : (n : Machine) (l : Logged) (k : LogDisk) (cs : List LogChange) (sent : List Message) (ss : List PendingSnapshot) → IsFollowing n l k cs sent ss
       → IsFollowing n (all_copies_given_up l) (log_changed k (WriteCheckpoint (checkpoint_of l))) (cs ++ WriteCheckpoint (checkpoint_of l) ∷ []) sent ss
@@ -232,7 +260,7 @@ module _ (config : Config) (requests : Requests) (first : Machine) (start : LogD
         run = h.run;
         comes = h.comes;
         kept_on = h.kept_on;
-        log = λ good. let g = h.log good in record { disk = g.disk; same = g.same; alone = g.alone; stops = g.stops };
+        log = λ good. let g = h.log good in record { disk = g.disk; same = g.same; alone = g.alone; stops = g.stops; trail = g.trail };
       }
 
   pub one_told : (n : Machine) (l : Logged) (k : LogDisk) (cs : List LogChange) (sent : List Message) (ss : List PendingSnapshot) (x : Message) → IsTold n requests x → IsFollowing n l k cs sent ss → IsFollowing n l k cs (sent ++ x ∷ []) ss
@@ -266,6 +294,6 @@ module _ (config : Config) (requests : Requests) (first : Machine) (start : LogD
           run = h.run;
           comes = h.comes;
           kept_on = h.kept_on;
-          log = λ good. let g = h.log good in record { disk = g.disk; same = g.same; alone = g.alone; stops = g.stops };
+          log = λ good. let g = h.log good in record { disk = g.disk; same = g.same; alone = g.alone; stops = g.stops; trail = g.trail };
         };
       }

@@ -19,6 +19,7 @@ use Rattle.protocol.specs.Master.{MasterDoing, PendingSnapshot, fits, appends, w
 use Rattle.protocol.specs.Sending.{client_number}
 use Rattle.protocol_name_laws.specs.Alike.{Requests, AreAlike, IsWaiting}
 use Rattle.protocol_name_laws.proofs.OpenCalls.{GoesOn, same_or_not, one_call, back_at_other, got_same, got_other}
+use Rattle.protocol_name_laws.specs.NameTrails.{RunsQuietly, IsChangeOf}
 use Rattle.protocol_name_laws.specs.Followed.{RunsTo, IsTold, IsToldTo, outcome_told, AreKeptOn}
 
 on_cond : {A : Type 0} (P : A → Type 0) (b : Bool) (x y : A) → P x → P y → P (cond b x y)
@@ -90,8 +91,8 @@ pub record IsMove (m n : Machine) (requests : Requests) (before later : List Pen
 -- What is kept by each move, of the machine, the master's state, its disk, the changes and messages of the step, and the snapshots that wait.
 pub record Keeps (requests : Requests) (P : Machine → Logged → LogDisk → List LogChange → List Message → List PendingSnapshot → Type 0) : Type 0 where
   pub alike : (m : Machine) (l : Logged) (k : LogDisk) (cs : List LogChange) (sent : List Message) (ss : List PendingSnapshot) → P m l k cs sent ss → AreAlike l ss m requests
-  pub moves : (m n : Machine) (l : Logged) (k : LogDisk) (cs : List LogChange) (sent : List Message) (ss later : List PendingSnapshot) → IsMove m n requests ss later (λ x. x) → P m l k cs sent ss → P n l k cs sent later
-  pub records : (m n : Machine) (l : Logged) (k : LogDisk) (cs : List LogChange) (sent : List Message) (ss : List PendingSnapshot) (r : Record) → IsMove m n requests ss ss (λ x. after_record x r) → P m l k cs sent ss
+  pub moves : (m n : Machine) (l : Logged) (k : LogDisk) (cs : List LogChange) (sent : List Message) (ss later : List PendingSnapshot) → IsMove m n requests ss later (λ x. x) → RunsQuietly m n → P m l k cs sent ss → P n l k cs sent later
+  pub records : (m n : Machine) (l : Logged) (k : LogDisk) (cs : List LogChange) (sent : List Message) (ss : List PendingSnapshot) (r : Record) → IsMove m n requests ss ss (λ x. after_record x r) → IsChangeOf m n (AppendRecord r) → P m l k cs sent ss
       → P n (after_record l r) (log_changed k (AppendRecord r)) (cs ++ AppendRecord r ∷ []) sent ss
   pub tells : (m : Machine) (l : Logged) (k : LogDisk) (cs : List LogChange) (sent : List Message) (ss : List PendingSnapshot) (x : Message) → IsTold m requests x → P m l k cs sent ss → P m l k cs (sent ++ x ∷ []) ss
   pub checkpoint : (m : Machine) (l : Logged) (k : LogDisk) (cs : List LogChange) (sent : List Message) (ss : List PendingSnapshot) → P m l k cs sent ss
@@ -112,21 +113,21 @@ module _ (requests : Requests) (P : Machine → Logged → LogDisk → List LogC
   pub alike_at : (m : Machine) (d : MasterDoing) → At m d → AreAlike d.master.logged d.master.snapshots m requests
   alike_at m d h = k.alike m d.master.logged d.master.disk d.changes d.sent d.master.snapshots h
 
-  pub appends_at : (m n : Machine) (d : MasterDoing) (r : Record) → IsMove m n requests d.master.snapshots d.master.snapshots (λ x. after_record x r) → At m d → At n (appends d r)
-  appends_at m n d r move h = k.records m n d.master.logged d.master.disk d.changes d.sent d.master.snapshots r move h
+  pub appends_at : (m n : Machine) (d : MasterDoing) (r : Record) → IsMove m n requests d.master.snapshots d.master.snapshots (λ x. after_record x r) → IsChangeOf m n (AppendRecord r) → At m d → At n (appends d r)
+  appends_at m n d r move change h = k.records m n d.master.logged d.master.disk d.changes d.sent d.master.snapshots r move change h
 
   pub checkpoint_at : (m : Machine) (d : MasterDoing) → At m d → At m (writes_checkpoint d)
   checkpoint_at m d h = k.checkpoint m d.master.logged d.master.disk d.changes d.sent d.master.snapshots h
 
   -- A record is logged, where there is room, and the step goes on.
   pub logs_at : (m n : Machine) (d : MasterDoing) (r : Record) (then_ : MasterDoing → MasterDoing) → IsMove m n requests d.master.snapshots d.master.snapshots (λ x. after_record x r)
-      → ((e : MasterDoing) → At n e → At n (then_ e)) → At m d → Reaches m (logs d r then_)
-  logs_at m n d r then_ move go h =
+      → IsChangeOf m n (AppendRecord r) → ((e : MasterDoing) → At n e → At n (then_ e)) → At m d → Reaches m (logs d r then_)
+  logs_at m n d r then_ move change go h =
       let was : Bool = is_of_copy d.master.logged r in
       let e : MasterDoing = writes_checkpoint d in
-      on_cond (λ (x : MasterDoing). Reaches m x) (fits d r) (then_ (appends d r)) _ (n, move.run, go (appends d r) (appends_at m n d r move h))
+      on_cond (λ (x : MasterDoing). Reaches m x) (fits d r) (then_ (appends d r)) _ (n, move.run, go (appends d r) (appends_at m n d r move change h))
       (on_cond (λ (x : MasterDoing). Reaches m x) (checkpoint_fits d.master.config.log_bytes (checkpoint_of d.master.logged)) (logs_after_checkpoint e r was then_) d
       (on_cond (λ (x : MasterDoing). Reaches m x) (fits e r && not was) (then_ (appends e r)) e
-      (n, move.run, go (appends e r) (appends_at m n e r move (checkpoint_at m d h)))
+      (n, move.run, go (appends e r) (appends_at m n e r move change (checkpoint_at m d h)))
       (here m e (checkpoint_at m d h)))
       (here m d h))

@@ -31,8 +31,8 @@ beside_keeps : (requests : Requests) → Keeps requests (Beside requests)
 beside_keeps requests =
     record {
       alike = λ m l k cs sent ss h. h.0;
-      moves = λ m n l k cs sent ss later move h. (move.alike l h.0, still_told m n requests sent move.told h.1);
-      records = λ m n l k cs sent ss r move h. (move.alike l h.0, still_told m n requests sent move.told h.1);
+      moves = λ m n l k cs sent ss later move quiet h. (move.alike l h.0, still_told m n requests sent move.told h.1);
+      records = λ m n l k cs sent ss r move change h. (move.alike l h.0, still_told m n requests sent move.told h.1);
       tells = λ m l k cs sent ss x told h. (h.0, one_more_told m requests sent x told h.1);
       checkpoint = λ m l k cs sent ss h. ((chunks_change_no_names l ss m requests h.0).1 (table.keys l.copies), h.1);
       less = λ m l k cs sent ss handles h. ((chunks_change_no_names l ss m requests h.0).1 handles, h.1);

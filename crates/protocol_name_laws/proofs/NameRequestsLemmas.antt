@@ -12,10 +12,10 @@ use Rattle.log_records.specs.declared.record.Record.TheVariants as log
 use Rattle.relaxed_file.specs.Names.{Names, node_at}
 use Rattle.relaxed_file.specs.Machine.{Machine, Outcome, Replies}
 use Rattle.relaxed_file.specs.NameStep.{is_name_call, is_refused, needs_room, refusal_of, outcome_of, outcome_by, performed, with_outcome, MayTakeEffect}
-use Rattle.relaxed_file.specs.Run.{Step, FindBusy, FindFull, after}
+use Rattle.relaxed_file.specs.Run.{Step, FindBusy, FindFull, Allows, after}
 use Rattle.relaxed_file.proofs.Tables.{from_some}
 use Rattle.protocol.specs.Sending.{client_id, file_id}
-use Rattle.protocol.specs.Logged.{Logged, after_record}
+use Rattle.protocol.specs.Logged.{Logged, AppendRecord, after_record}
 use Rattle.protocol.specs.Master.{MasterState, PendingSnapshot}
 use Rattle.protocol.specs.MasterNames.{master_refusal}
 use Rattle.protocol.specs.MasterSnapshots.{reply_of}
@@ -25,20 +25,22 @@ use Rattle.protocol_name_laws.specs.Alike.{Requests, AreAlike, IsNew}
 use Rattle.protocol_name_laws.specs.NameSteps.{AreNamedFilesThere}
 use Rattle.protocol_name_laws.proofs.OpenCalls.{outcome_goes_on, none_of_client}
 use Rattle.protocol_name_laws.proofs.NameSteps.{IsBase, IsEffect, HasOutcome, answered, may_step, stepped_at, effect_of, refused_base, refused_is_name, find_holder, busy_allowed}
+use Rattle.protocol_name_laws.specs.NameTrails.{IsActionOf, IsChangeOf}
 use Rattle.protocol_name_laws.specs.Followed.{RunsTo}
 use Rattle.protocol_name_laws.proofs.Moves.{IsMove, one_action, told_stays, kept_put}
 
 -- a call of this client is answered so, by an action
 pub record IsAnswered (m n : Machine) (requests : Requests) (snapshots : List PendingSnapshot) (client : ℕ) (r : Record) (refusal : Option Refusal) : Type 0 where
   pub move : IsMove m n requests snapshots snapshots (λ x. after_record x r)
+  pub change : IsChangeOf m n (AppendRecord r)
   pub told : HasOutcome n client (Replies (reply_of refusal))
 
 -- by an outcome, on a state with the same clients
 with_outcome_move : (m base : Machine) (requests : Requests) (snapshots : List PendingSnapshot) (client number : ℕ) (c : Call) (r : Record) (refusal : Option Refusal)
-    → base.clients ≡ m.clients → RunsTo m (with_outcome base client (Replies (reply_of refusal))) → IsNew snapshots m requests client number c
+    → base.clients ≡ m.clients → RunsTo m (with_outcome base client (Replies (reply_of refusal))) → IsChangeOf m (with_outcome base client (Replies (reply_of refusal))) (AppendRecord r) → IsNew snapshots m requests client number c
     → ((l : Logged) (ss : List PendingSnapshot) → AreAlike l ss m requests → IsBase l (after_record l r) m base client number refusal)
     → (l : Logged) → AreAlike l snapshots m requests → IsAnswered m (with_outcome base client (Replies (reply_of refusal))) requests snapshots client r refusal
-with_outcome_move m base requests snapshots client number c r refusal same run new based l h =
+with_outcome_move m base requests snapshots client number c r refusal same run change new based l h =
     let n : Machine = with_outcome base client (Replies (reply_of refusal)) in
     let none : IsNew [] m requests client number c = record { current = new.current; waiting = new.waiting; call_is = new.call_is; untaken = new.untaken; alone = refl } in
     let g = outcome_goes_on m base client new.current (Replies (reply_of refusal)) same new.waiting.is_open in
@@ -50,22 +52,25 @@ with_outcome_move m base requests snapshots client number c r refusal same run n
         told = λ x t. told_stays m n requests client new.current _ g x t;
         kept_on = λ x ss a. kept_put requests x.kept (after_record x r).kept client number refusal new.waiting.number_is (based x ss a).kept;
       };
+      change = change;
       told = (answered l (after_record l r) snapshots m base requests client number c refusal h new (based l snapshots h)).1;
     }
 
 -- the call's own step
 step_move : (m : Machine) (requests : Requests) (snapshots : List PendingSnapshot) (client number moment : ℕ) (c : Call) (r : Record) (refusal : Option Refusal)
     → IsNew snapshots m requests client number c → IsTrue (is_name_call c) → Replies (reply_of refusal) ≡ outcome_of m.names c → (IsFalse (is_refused (Replies (reply_of refusal))) → MayTakeEffect m c moment)
+    → IsActionOf m r (Step client moment (Replies (reply_of refusal)))
     → (cond (is_refused (Replies (reply_of refusal))) m (performed m c moment)).clients ≡ m.clients
     → ((l : Logged) (ss : List PendingSnapshot) → AreAlike l ss m requests → IsBase l (after_record l r) m (cond (is_refused (Replies (reply_of refusal))) m (performed m c moment)) client number refusal)
     → (l : Logged) → AreAlike l snapshots m requests → IsAnswered m (after m (Step client moment (Replies (reply_of refusal)))) requests snapshots client r refusal
-step_move m requests snapshots client number moment c r refusal new name is may same based l h =
+step_move m requests snapshots client number moment c r refusal new name is may said same based l h =
     let outcome : Outcome = Replies (reply_of refusal) in
     let base : Machine = cond (is_refused outcome) m (performed m c moment) in
-    let run : RunsTo m (after m (Step client moment outcome)) = one_action m (Step client moment outcome) (new.current, new.waiting.is_open, may_step m moment outcome new.current c new.call_is name (inr new.untaken) is may) refl refl in
+    let allowed : Allows m (Step client moment outcome) = (new.current, new.waiting.is_open, may_step m moment outcome new.current c new.call_is name (inr new.untaken) is may) in
+    let run : RunsTo m (after m (Step client moment outcome)) = one_action m (Step client moment outcome) allowed refl refl in
     let at : (after m (Step client moment outcome)) ≡ with_outcome base client outcome = stepped_at (λ (n : Machine). n ≡ with_outcome base client outcome) m client moment outcome new.current c new.waiting.is_open new.call_is refl in
     subst (λ (n : Machine). IsAnswered m n requests snapshots client r refusal) (sym at)
-    (with_outcome_move m base requests snapshots client number c r refusal same (subst (λ (n : Machine). RunsTo m n) at run) new based l h)
+    (with_outcome_move m base requests snapshots client number c r refusal same (subst (λ (n : Machine). RunsTo m n) at run) (inr (Step client moment outcome, allowed, said, at)) new based l h)
 
 same_record : (l k : Logged) (client number moment : ℕ) (c : Call) → l.next_file ≡ k.next_file → record_of l client number moment c ≡ record_of k client number moment c
 same_record l k client number moment (call.Create p) same = ap (λ (n : ℕ). Some (log.Create (client_id client) number (file_id n) p)) same
@@ -83,7 +88,8 @@ effect_move l snapshots m requests client number moment c entry h there new is f
     let e : IsEffect l m client number moment c entry = effect_of l snapshots m requests client number moment c entry h there is in
     let outcome : Replies answer.Done ≡ outcome_of m.names c =
     sym (ap (λ (o : Option Refusal). outcome_by m.names c o) (ap (λ (n : Names). refusal_of n c) (sym h.names) ∙ free) ∙ e.done m.names) in
-    step_move m requests snapshots client number moment c entry None new e.name outcome (λ plain. may) e.base.clients
+    step_move m requests snapshots client number moment c entry None new e.name outcome (λ plain. may)
+    (inl (refl, (number, c, l, (new.current, new.waiting.is_open, new.call_is), h.next, is))) e.base.clients
     (λ x ss a. (effect_of x ss m requests client number moment c entry a (named_too l x snapshots ss m requests h a there) (sym (same_record l x client number moment c (h.next ∙ sym a.next)) ∙ is)).base)
     l h
 
@@ -96,18 +102,19 @@ refused_move s m requests client number c refusal h new is = elim (refusals_are_
       let outcome : Replies (answer.Refused refusal) ≡ outcome_of m.names c =
       sym (ap (λ (o : Option Refusal). outcome_by m.names c o) (ap (λ (n : Names). refusal_of n c) (sym h.names) ∙ names_refuse)) in (
         after m (Step client 0 (Replies (answer.Refused refusal))),
-        step_move m requests s.snapshots client number 0 c (log.Refused (client_id client) number refusal) (Some refusal) new (refused_is_name s.logged.names c refusal names_refuse) outcome (λ plain. absurd (true≢false plain)) refl
+        step_move m requests s.snapshots client number 0 c (log.Refused (client_id client) number refusal) (Some refusal) new (refused_is_name s.logged.names c refusal names_refuse) outcome (λ plain. absurd (true≢false plain))
+            (inr (refl, (number, refusal, refl))) refl
             (λ x ss a. refused_base x ss m requests client number refusal a) s.logged h,
       )
   | inr busy ↦
       let same : Busy ≡ refusal = same_of busy.0 in
       let others = none_of_client m requests client number s.snapshots new.waiting.number_is new.alone h.locks in
       let found = find_holder m requests client c s.snapshots h.locks others busy.1 in
-      let run : RunsTo m (after m (FindBusy client (found.0).client)) =
-      one_action m (FindBusy client (found.0).client) (busy_allowed m requests client c new.current found.0 new.waiting.is_open new.call_is (inr new.untaken) busy.2 found.1) refl refl in (
+      let allowed : Allows m (FindBusy client (found.0).client) = busy_allowed m requests client c new.current found.0 new.waiting.is_open new.call_is (inr new.untaken) busy.2 found.1 in
+      let run : RunsTo m (after m (FindBusy client (found.0).client)) = one_action m (FindBusy client (found.0).client) allowed refl refl in (
         with_outcome m client (Replies (answer.Refused Busy)),
         subst (λ (q : Refusal). IsAnswered m (with_outcome m client (Replies (answer.Refused Busy))) requests s.snapshots client (log.Refused (client_id client) number q) (Some q)) same
-            (with_outcome_move m m requests s.snapshots client number c (log.Refused (client_id client) number Busy) (Some Busy) refl run new (λ x ss a. refused_base x ss m requests client number Busy a) s.logged h),
+            (with_outcome_move m m requests s.snapshots client number c (log.Refused (client_id client) number Busy) (Some Busy) refl run (inr (FindBusy client (found.0).client, allowed, (number, Busy, refl), refl)) new (λ x ss a. refused_base x ss m requests client number Busy a) s.logged h),
       )
 ]
   where
@@ -118,7 +125,7 @@ refused_move s m requests client number c refusal h new is = elim (refusals_are_
 pub full_move : (l : Logged) (snapshots : List PendingSnapshot) (m : Machine) (requests : Requests) (client number : ℕ) (c : Call) → AreAlike l snapshots m requests → IsNew snapshots m requests client number c
     → IsTrue (needs_room c) → refusal_of l.names c ≡ None → IsAnswered m (with_outcome m client (Replies (answer.Refused NamesFull))) requests snapshots client (log.Refused (client_id client) number NamesFull) (Some NamesFull)
 full_move l snapshots m requests client number c h new room free =
-    let run : RunsTo m (after m (FindFull client)) = one_action m (FindFull client) (
+    let allowed : Allows m (FindFull client) = (
       new.current,
       new.waiting.is_open,
       (
@@ -126,5 +133,6 @@ full_move l snapshots m requests client number c h new room free =
         inr new.untaken,
         ap (λ (k : Call). refusal_of m.names k) new.call_is ∙ ap (λ (n : Names). refusal_of n c) (sym h.names) ∙ free,
       ),
-    ) refl refl in
-    with_outcome_move m m requests snapshots client number c (log.Refused (client_id client) number NamesFull) (Some NamesFull) refl run new (λ x ss a. refused_base x ss m requests client number NamesFull a) l h
+    ) in
+    let run : RunsTo m (after m (FindFull client)) = one_action m (FindFull client) allowed refl refl in
+    with_outcome_move m m requests snapshots client number c (log.Refused (client_id client) number NamesFull) (Some NamesFull) refl run (inr (FindFull client, allowed, (number, NamesFull, refl), refl)) new (λ x ss a. refused_base x ss m requests client number NamesFull a) l h

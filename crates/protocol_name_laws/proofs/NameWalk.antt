@@ -19,7 +19,7 @@ use Rattle.log_records.specs.declared.record.Record.TheVariants as log
 use Rattle.relaxed_file.specs.Names.{Names}
 use Rattle.relaxed_file.specs.Machine.{Machine, OpenCall, Outcome, Replies, Opens, IsOpen}
 use Rattle.relaxed_file.specs.NameStep.{is_look, is_refused, needs_room, refusal_of, outcome_of, outcome_by, performed, with_outcome, MayTakeEffect}
-use Rattle.relaxed_file.specs.Run.{Step, FindBusy, Lock, after}
+use Rattle.relaxed_file.specs.Run.{Step, FindBusy, Lock, Allows, after}
 use Rattle.relaxed_file.proofs.Tables.{from_some}
 use Rattle.chunk_table.specs.ChunkTable.{ChunkRow, chunk_of}
 use Rattle.protocol.specs.Sending.{message, the_client, client_id, client_number, handle_of, version_of}
@@ -34,6 +34,7 @@ use Rattle.protocol_name_laws.specs.NameSteps.{AreNamedFilesThere}
 use Rattle.protocol_name_laws.proofs.OpenCalls.{GoesOn, step_goes_on, outcome_goes_on, one_call, same_or_not, none_of_call}
 use Rattle.protocol_name_laws.proofs.NameSteps.{HasOutcome, looked, may_step, stepped_at, no_look, look_is_name, look_effect, either, find_holder, busy_allowed}
 use Rattle.protocol_name_laws.proofs.LocksAndFiles.{locks_are_taken, locks_go_back}
+use Rattle.protocol_name_laws.specs.NameTrails.{RunsQuietly}
 use Rattle.protocol_name_laws.specs.Followed.{RunsTo, IsTold, outcome_told, IsTimely, IsRequest}
 use Rattle.protocol_name_laws.proofs.Moves.{IsMove, Keeps, At, Reaches, here, alike_at, logs_at, one_action, told_stays, kept_same}
 use Rattle.protocol_name_laws.proofs.NameRequestsLemmas.{IsAnswered, effect_move, refused_move, full_move}
@@ -63,23 +64,25 @@ lock_move l snapshots m requests s h new free =
 
 -- a Look
 look_runs : (s : MasterState) (m : Machine) (requests : Requests) (client : ℕ) (c : Call) (current : OpenCall) → AreAlike s.logged s.snapshots m requests → IsOpen m client current → current.asked.call ≡ c → is_look c ≡ true
-    → RunsTo m (with_outcome m client (outcome_by s.logged.names c (master_refusal s c)))
+    → (let n : Machine = with_outcome m client (outcome_by s.logged.names c (master_refusal s c)) in RunsTo m n × RunsQuietly m n)
 look_runs s m requests client c current h is same look = elim (refusals_are_the_machines s c) [
   | inl equal ↦
       let outcome : Outcome = outcome_by s.logged.names c (master_refusal s c) in
       let at_names : outcome ≡ outcome_of m.names c = ap (λ (o : Option Refusal). outcome_by s.logged.names c o) equal ∙ ap (λ (n : Names). outcome_of n c) h.names in
       let effect = look_effect m c look 0 in
       let base : Machine = cond (is_refused outcome) m (performed m c 0) in
-      let run : RunsTo m (after m (Step client 0 outcome)) = one_action m (Step client 0 outcome) (current, is, may_step m 0 outcome current c same (look_is_name c look) (inl (ap is_look same ∙ look)) at_names (λ plain. effect.1)) refl refl in
+      let allowed : Allows m (Step client 0 outcome) = (current, is, may_step m 0 outcome current c same (look_is_name c look) (inl (ap is_look same ∙ look)) at_names (λ plain. effect.1)) in
+      let run : RunsTo m (after m (Step client 0 outcome)) = one_action m (Step client 0 outcome) allowed refl refl in
       let at : (after m (Step client 0 outcome)) ≡ with_outcome m client outcome =
       stepped_at (λ (n : Machine). n ≡ with_outcome m client outcome) m client 0 outcome current c is same (ap (λ (b : Machine). with_outcome b client outcome) (either (is_refused outcome) m (performed m c 0) effect.0)) in
-      subst (λ (n : Machine). RunsTo m n) at run
+      (subst (λ (n : Machine). RunsTo m n) at run, (Step client 0 outcome ∷ [], (allowed, (c, (current, is, same), look), at)))
   | inr busy ↦
       let others = none_of_call m requests client current s.snapshots is (λ t e. no_look c look t (sym same ∙ e)) h.locks in
       let found = find_holder m requests client c s.snapshots h.locks others busy.1 in
-      let run : RunsTo m (after m (FindBusy client (found.0).client)) =
-      one_action m (FindBusy client (found.0).client) (busy_allowed m requests client c current found.0 is same (inl (ap is_look same ∙ look)) busy.2 found.1) refl refl in
-      subst (λ (o : Outcome). RunsTo m (with_outcome m client o)) (ap (λ (o : Option Refusal). outcome_by s.logged.names c o) (sym busy.0)) run
+      let allowed : Allows m (FindBusy client (found.0).client) = busy_allowed m requests client c current found.0 is same (inl (ap is_look same ∙ look)) busy.2 found.1 in
+      let run : RunsTo m (after m (FindBusy client (found.0).client)) = one_action m (FindBusy client (found.0).client) allowed refl refl in
+      subst (λ (o : Outcome). RunsTo m (with_outcome m client o) × RunsQuietly m (with_outcome m client o)) (ap (λ (o : Option Refusal). outcome_by s.logged.names c o) (sym busy.0))
+      (run, (FindBusy client (found.0).client ∷ [], (allowed, tt, refl)))
 ]
 
 reply_tells : (o : Outcome) → outcome_told (reply_by o) ≡ o
@@ -97,7 +100,7 @@ module _ (requests : Requests) (P : Machine → Logged → LogDisk → List LogC
 
   pub settles_at : (m n : Machine) (d : MasterDoing) (client number : ℕ) (entry : Record) (refusal : Option Refusal) → IsAnswered m n requests d.master.snapshots client entry refusal → At requests P k m d
       → Reaches requests P k m (settles_name d client number entry refusal)
-  settles_at m n d client number entry refusal a h = logs_at requests P k m n d entry (λ e. answers_name e client number refusal) a.move (λ e g. answers_at n e client number refusal a.told g) h
+  settles_at m n d client number entry refusal a h = logs_at requests P k m n d entry (λ e. answers_name e client number refusal) a.move a.change (λ e g. answers_at n e client number refusal a.told g) h
 
   pub changes_at : (m : Machine) (d : MasterDoing) (client number moment : ℕ) (c : Call) (entry : Record) → AreNamedFilesThere d.master.logged → IsNew d.master.snapshots m requests client number c
       → record_of d.master.logged client number moment c ≡ Some entry → refusal_of d.master.logged.names c ≡ None → MayTakeEffect m c moment → At requests P k m d → Reaches requests P k m (changes_names d client number c entry)
@@ -129,7 +132,7 @@ module _ (requests : Requests) (P : Machine → Logged → LogDisk → List LogC
       let a : AreAlike d.master.logged d.master.snapshots m requests = alike_at requests P k m d h in
       let n : Machine = after m (Lock s.client) in
       let move = lock_move d.master.logged d.master.snapshots m requests s a new free in
-      let locked : At requests P k n (takes_locks d s) = k.moves m n d.master.logged d.master.disk d.changes d.sent d.master.snapshots (d.master.snapshots ++ s ∷ []) move h in
+      let locked : At requests P k n (takes_locks d s) = k.moves m n d.master.logged d.master.disk d.changes d.sent d.master.snapshots (d.master.snapshots ++ s ∷ []) move (Lock s.client ∷ [], ((locks_are_taken d.master.logged d.master.snapshots m requests s a new free).0, tt, refl)) h in
       let handles : List ℕ = snapshot_handles d.master s in
       let copies : List ℕ = copies_for_files d.master.logged (snapshot_files d.master s) in
       let left : MasterDoing = gives_up_copies (without_attempts (takes_locks d s) handles) copies in
@@ -212,8 +215,9 @@ module _ (requests : Requests) (P : Machine → Logged → LogDisk → List LogC
       let later : OpenCall = record current { outcomes = outcome ∷ current.outcomes; has_begun = true } in
       let g : GoesOn m n client current later = outcome_goes_on m m client current outcome refl w.is_open in
       let reads : is_look current.asked.call ≡ true = ap is_look same ∙ look in
+      let went : RunsTo m n × RunsQuietly m n = look_runs d.master m requests client c current a w.is_open same look in
       let move : IsMove m n requests d.master.snapshots d.master.snapshots (λ x. x) = record {
-        run = look_runs d.master m requests client c current a w.is_open same look;
+        run = went.0;
         alike = λ l b. (looked l d.master.snapshots m requests client current outcome b w.is_open reads).0;
         alone = λ l b. (looked l [] m requests client current outcome b w.is_open reads).0;
         told = λ x t. told_stays m n requests client current later g x t;
@@ -224,7 +228,7 @@ module _ (requests : Requests) (P : Machine → Logged → LogDisk → List LogC
         move.run,
         tells_at n d sender (body.Named number (reply_by outcome))
             (λ x y. subst (λ (o : Outcome). Contains x.outcomes o) (sym (reply_tells outcome)) (subst (λ (q : OpenCall). Contains q.outcomes outcome) (one_call n client has.0 x has.1 y.is_open) has.2))
-            (k.moves m n d.master.logged d.master.disk d.changes d.sent d.master.snapshots d.master.snapshots move h),
+            (k.moves m n d.master.logged d.master.disk d.changes d.sent d.master.snapshots d.master.snapshots move went.1 h),
       )
 
   pub look_at : (m : Machine) (d : MasterDoing) (sender : Node) (number : ℕ) (c : Call) → is_look c ≡ true → ((current : OpenCall) → IsWaiting m requests (client_number sender) number current → current.asked.call ≡ c)

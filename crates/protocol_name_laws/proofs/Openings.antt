@@ -20,6 +20,7 @@ use Rattle.protocol_name_laws.proofs.LocksAndFiles.{chunks_change_no_names}
 use Rattle.protocol_name_laws.specs.Followed.{AreKeptOn}
 use Rattle.protocol_name_laws.proofs.Moves.{stays, kept_same}
 use Rattle.protocol_name_laws.specs.FollowedSteps.{ComesTo, log_left, RestartsAreFollowed}
+use Rattle.protocol_name_laws.specs.NameTrails.{RestartsGoByRecords}
 use Rattle.protocol_name_laws.proofs.Following.{IsGoodLog, IsFollowedTo, HasLog, chunk_log, checkpoint_log}
 
 still_here : (n : Machine) (requests : Requests) → ComesTo n n requests
@@ -48,7 +49,7 @@ module _ (config : Config) (requests : Requests) (n : Machine) (found : LogDisk)
       let alone : AreAlike (state_of found) [] n requests = record { names = a.names; next = a.next; files = a.files; kept = a.kept; untaken = a.untaken; locks = tt } in (
         record { names = a.names; next = a.next; files = a.files; kept = a.kept; untaken = a.untaken; locks = tt },
         kept_same requests (state_of found).kept,
-        λ good. record { disk = refl; same = refl; alone = alone; stops = (n, still_here n requests, alone, kept_same requests (state_of found).kept) },
+        λ good. record { disk = refl; same = refl; alone = alone; stops = (n, still_here n requests, alone, kept_same requests (state_of found).kept); trail = ([], refl) },
       )
 
   pub opening_opens : (count moment : ℕ) → AreAlike (replayed found) [] n requests → Opens (opening (started_master config count found moment))
@@ -78,4 +79,21 @@ restarts_are_followed config servers clients w r moment choice n requests a =
           let left = found_stopped (IsFollowedTo m.config requests n found) found d.changes made log.stops decided in
           let read : Logged = state_of (log_left found d.changes made decided) in
           (left.0, left.1, (chunks_change_no_names read [] left.0 requests left.2).1 (table.keys read.copies), left.3),
+    )
+
+pub restarts_go_by_records : RestartsGoByRecords
+restarts_go_by_records config servers clients w r moment choice n requests a =
+    let m : MasterState = w.master in
+    let found : LogDisk = found_log m choice in
+    let known = logged_here IsFoundCounts IsCountedLog counts_kept config servers clients w r in
+    let d : MasterDoing = opening (started_master m.config m.server_count found moment) in
+    let sound : AllStops IsGoodLog found d.changes = (opening_naming IsFoundCounts IsCountedLog counts_kept m.config m.server_count found moment (known.1.found choice.decided) (known.0.found choice.decided)).0.stops in
+    let end = opening_opens m.config requests n found m.server_count moment a in
+    let log : HasLog m.config requests n found n d.master.logged d.master.disk d.changes = end.2 sound in (
+      record {
+        comes = still_here n requests;
+        alike = record { names = a.names; next = a.next; files = a.files; kept = a.kept; untaken = a.untaken; locks = tt };
+        kept_on = kept_same requests (state_of found).kept;
+      },
+      log.trail,
     )

@@ -17,7 +17,7 @@ use Rattle.relaxed_file.proofs.Tables.{from_some, contained, put_other as put_ap
 use Rattle.relaxed_file.proofs.NamesTree.{removed_other, removed_there, same_or_other}
 use Rattle.protocol.specs.Tables.{has_number}
 use Rattle.protocol.specs.Sending.{client_id, client_number, file_id}
-use Rattle.protocol.specs.Logged.{Logged, LogDisk, LogChange, after_record, checkpoint_of}
+use Rattle.protocol.specs.Logged.{Logged, LogDisk, LogChange, AppendRecord, after_record, checkpoint_of}
 use Rattle.protocol.specs.LogSizes.{checkpoint_fits}
 use Rattle.protocol.specs.Master.{MasterDoing, PendingSnapshot, fits, appends, writes_checkpoint, logs, logs_after_checkpoint, is_of_copy}
 use Rattle.protocol.specs.MasterNames.{snapshot_call}
@@ -31,6 +31,7 @@ use Rattle.protocol_name_laws.specs.Alike.{Requests, is_there, HoldsLocks, AreAl
 use Rattle.protocol_name_laws.specs.NameSteps.{AreNamedFilesThere, IsOnlyName}
 use Rattle.protocol_name_laws.proofs.OpenCalls.{waits_still}
 use Rattle.protocol_name_laws.proofs.LocksAndFiles.{locks_go_back, chunks_change_no_names, expired_files_are_collected}
+use Rattle.protocol_name_laws.specs.NameTrails.{IsChangeOf}
 use Rattle.protocol_name_laws.specs.Followed.{RunsTo, IsTold, IsToldTo, IsFollowed}
 use Rattle.protocol_name_laws.proofs.Moves.{IsMove, Keeps, At, Reaches, here, alike_at, appends_at, checkpoint_at, stays, join, one_action, kept_same}
 use Rattle.protocol_name_laws.proofs.NameWalk.{changes_at}
@@ -148,9 +149,10 @@ module _ (requests : Requests) (P : Machine → Logged → LogDisk → List LogC
       let left : AreOldAt n rest = all_still_old m file old.0 rest (old.1).0 all.1 all.2 in
       let less : At requests P k m e = checkpoint_at requests P k m d h in
       let move = expire_move d.master.logged m requests d.master.snapshots file old (alike_at requests P k m d h) in
-      on_test (λ (x : MasterDoing). Left m rest x) (fits d r) (appends d r) _ (λ _. (n, move.run, appends_at requests P k m n d r move h, left))
+      let change : IsChangeOf m n (AppendRecord r) = inr (Expire file old.0, ((old.1).0, old.3), refl, refl) in
+      on_test (λ (x : MasterDoing). Left m rest x) (fits d r) (appends d r) _ (λ _. (n, move.run, appends_at requests P k m n d r move change h, left))
       (λ _. on_test (λ (x : MasterDoing). Left m rest x) (checkpoint_fits d.master.config.log_bytes (checkpoint_of d.master.logged)) (logs_after_checkpoint e r was (λ x. x)) d
-      (λ _. on_test (λ (x : MasterDoing). Left m rest x) (fits e r && not was) (appends e r) e (λ _. (n, move.run, appends_at requests P k m n e r move less, left)) (λ _. (m, stays m, less, all.2)))
+      (λ _. on_test (λ (x : MasterDoing). Left m rest x) (fits e r && not was) (appends e r) e (λ _. (n, move.run, appends_at requests P k m n e r move change less, left)) (λ _. (m, stays m, less, all.2)))
       (λ _. (m, stays m, h, all.2)))
 
   pub expires_at : (m : Machine) (d : MasterDoing) (files : List ℕ) → AreOldAt m files → At requests P k m d → Reaches requests P k m (expires_all d files)
@@ -169,7 +171,7 @@ module _ (requests : Requests) (P : Machine → Logged → LogDisk → List LogC
       let move : IsMove m m requests d.master.snapshots (filter stay d.master.snapshots) (λ x. x) =
       record { run = stays m; alike = λ l b. locks_go_back l d.master.snapshots m requests stay b; alone = λ l b. b; told = λ x t. t; kept_on = λ l ss b. kept_same requests l.kept } in
       let e : MasterDoing = lets_go d s in
-      let left : At requests P k m e = k.moves m m d.master.logged d.master.disk d.changes d.sent d.master.snapshots (filter stay d.master.snapshots) move h in
+      let left : At requests P k m e = k.moves m m d.master.logged d.master.disk d.changes d.sent d.master.snapshots (filter stay d.master.snapshots) move ([], refl) h in
       let new : IsNew e.master.snapshots m requests s.client s.number (snapshot_call s) =
       record { current = held.current; waiting = held.waiting; call_is = held.call_is; untaken = held.untaken; alone = gone s d.master.snapshots } in
       changes_at requests P k m e s.client s.number 0 (call.Snapshot s.from s.to) (log.Snapshot (client_id s.client) s.number s.from s.to) there new refl free closed left
@@ -194,8 +196,8 @@ beside_keeps : (requests : Requests) → Keeps requests (Beside requests)
 beside_keeps requests =
     record {
       alike = λ m l k cs sent ss h. h.0;
-      moves = λ m n l k cs sent ss later move h. (move.alike l h.0, all_told m n requests sent move.told h.1);
-      records = λ m n l k cs sent ss r move h. (move.alike l h.0, all_told m n requests sent move.told h.1);
+      moves = λ m n l k cs sent ss later move quiet h. (move.alike l h.0, all_told m n requests sent move.told h.1);
+      records = λ m n l k cs sent ss r move change h. (move.alike l h.0, all_told m n requests sent move.told h.1);
       tells = λ m l k cs sent ss x told h. (h.0, one_more_told m requests sent x told h.1);
       checkpoint = λ m l k cs sent ss h. ((chunks_change_no_names l ss m requests h.0).1 (table.keys l.copies), h.1);
       less = λ m l k cs sent ss handles h. ((chunks_change_no_names l ss m requests h.0).1 handles, h.1);

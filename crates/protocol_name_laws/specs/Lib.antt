@@ -12,6 +12,7 @@ pub mod OpenRequests
 pub mod UnaskedSteps
 pub mod FollowedClients
 pub mod FollowedSteps
+pub mod NameTrails
 pub mod KeptAnswers
 pub mod NamedReplies
 pub mod NameWords

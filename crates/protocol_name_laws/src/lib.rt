@@ -11,6 +11,7 @@ pub mod name_answers;
 pub mod name_clients;
 pub mod name_requests;
 pub mod name_steps;
+pub mod name_trails;
 pub mod name_words;
 pub mod named_replies;
 pub mod names;

@@ -169,16 +169,16 @@ module _ (config : Config) (servers clients : ℕ) (w : WorldState) (r : IsReach
   copy_stands : (copy : ℕ) (c : Copy) → table.get m.logged.copies copy ≡ Some c → times_in m.logged.table.files copy ≡ 0
   copy_stands copy c is = apart_here m.logged (state_of m.disk) u.tied.base copy c is
 
-  source_row : (copy : ℕ) (c : Copy) → table.get m.logged.copies copy ≡ Some c → (row : ChunkRow) × (table.get (rows_of m.logged) c.source ≡ Some row)
+  pub source_row : (copy : ℕ) (c : Copy) → table.get m.logged.copies copy ≡ Some c → (row : ChunkRow) × (table.get (rows_of m.logged) c.source ≡ Some row)
   source_row copy c is = chunk_row m.logged.table c.file c.source u.tied.base.counted (placed_stands (chunks_at m.logged.table.files c.file) c.index c.source (u.tied.base.placed copy c is))
 
-  copy_row : (copy : ℕ) (c : Copy) → table.get m.logged.copies copy ≡ Some c → (row : ChunkRow) × (table.get (rows_of m.logged) copy ≡ Some row)
+  pub copy_row : (copy : ℕ) (c : Copy) → table.get m.logged.copies copy ≡ Some c → (row : ChunkRow) × (table.get (rows_of m.logged) copy ≡ Some row)
   copy_row copy c is = u.tied.base.rows copy c is
 
-  source_used : (copy : ℕ) (c : Copy) → table.get m.logged.copies copy ≡ Some c → c.source < m.logged.next_handle
+  pub source_used : (copy : ℕ) (c : Copy) → table.get m.logged.copies copy ≡ Some c → c.source < m.logged.next_handle
   source_used copy c is = let row = source_row copy c is in below c.source row.0 row.1
 
-  copy_used : (copy : ℕ) (c : Copy) → table.get m.logged.copies copy ≡ Some c → copy < m.logged.next_handle
+  pub copy_used : (copy : ℕ) (c : Copy) → table.get m.logged.copies copy ≡ Some c → copy < m.logged.next_handle
   copy_used copy c is = let row = copy_row copy c is in below copy row.0 row.1
 
   apart : (copy other : ℕ) (c d : Copy) → table.get m.logged.copies copy ≡ Some c → table.get m.logged.copies other ≡ Some d → c.source ≡ other → ⊥
@@ -188,7 +188,7 @@ module _ (config : Config) (servers clients : ℕ) (w : WorldState) (r : IsReach
       omega (arith, more, none)
 
   -- no lease of a copy counts
-  copy_over : IsTrue w.observer.are_clocks_kept → (copy : ℕ) (c : Copy) → table.get m.logged.copies copy ≡ Some c → AreLeasesOver w copy
+  pub copy_over : IsTrue w.observer.are_clocks_kept → (copy : ℕ) (c : Copy) → table.get m.logged.copies copy ≡ Some c → AreLeasesOver w copy
   copy_over clocks copy c is version =
       let row = copy_row copy c is in
       let times : IsOfTimes (scene_of w) = scene_reached IsOfTimes times_kept config servers clients w r in

@@ -1,9 +1,9 @@
--- In each world that is reached with kept clocks and disks, each attempt whose chunk is told to be full, or kept as such, was sent for a chunk whose order has an entry that ends at the chunk's end.
-use Rattle.std.proofs.Common.{◌≡◌, ◌⊎◌, ℕ, zero, suc, ◌+◌, ◌≤◌, Bool, true, false, cond, List, [], ◌∷◌, ◌++◌, length, map, Option, Some, None, refl, sym, ap, subst, ◌∙◌, inl, inr, arith}
-use Rattle.std.specs.Prelude.{◌&&◌, ◌||◌, ◌==◌, nat_le, max, not, IsTrue}
+-- In each world that is reached with kept clocks, each attempt whose chunk is told to be full, or kept as such, was sent for a chunk whose order has an entry that ends at the chunk's end.
+use Rattle.std.proofs.Common.{◌≡◌, ℕ, zero, suc, ◌+◌, ◌≤◌, Bool, true, false, cond, List, [], ◌∷◌, ◌++◌, length, map, Option, Some, None, refl, sym, ap, subst, ◌∙◌, inl, inr, arith}
+use Rattle.std.specs.Prelude.{◌||◌, ◌==◌, IsTrue}
 use Rattle.std.specs.List.{list_any}
 use Rattle.std.specs.Option.{option_to_list}
-use Rattle.std.proofs.lemmas.Bool.{and_parts, cases_lt, eq-eqb, or_right}
+use Rattle.std.proofs.lemmas.Bool.{eq-eqb, or_right}
 use Rattle.gfs_types.specs.declared.config.Config.{Config}
 use Rattle.gfs_types.specs.declared.ids.Node.{Node}
 use Rattle.gfs_types.specs.declared.ids.DataId.{DataId}
@@ -14,7 +14,6 @@ use Rattle.gfs_types.specs.declared.refusal.Refusal.TheVariants.{ChunkFull}
 use Rattle.gfs_types.specs.declared.mutation.Mutation.{Mutation}
 use Rattle.gfs_types.specs.declared.mutation.Mutation.TheVariants.{Pad}
 use Rattle.gfs_types.specs.Mutations.{end_of}
-use Rattle.gfs_types.specs.Image.{image, image_length}
 use Rattle.messages.specs.declared.event.Event.{Event}
 use Rattle.messages.specs.declared.event.Input.{Input}
 use Rattle.messages.specs.declared.event.Input.TheVariants as input
@@ -33,19 +32,19 @@ use Rattle.protocol.specs.Choice.{Choice, Ending, Goes, Lost, Stops}
 use Rattle.protocol.specs.Seen.{Taken, no_step}
 use Rattle.protocol.specs.declared.seen.Seen.{Seen}
 use Rattle.protocol.specs.declared.seen.Seen.TheVariants.{Numbered}
-use Rattle.protocol.specs.Observer.{Placed, Observer, observed_moment, observed_call, placed_in, order_of}
+use Rattle.protocol.specs.Observer.{Placed, observed_moment, placed_in, order_of}
 use Rattle.protocol.specs.Client.{ClientState, ClientDoing}
 use Rattle.protocol.specs.ClientStep.{client_at, client_step, client_call}
 use Rattle.protocol.specs.Server.{ServerState, ServerDoing, started_server, server_begins, primary_of}
 use Rattle.protocol.specs.ServerWrites.{mutates_under}
 use Rattle.protocol.specs.ServerStep.{server_at, server_takes, server_goes, server_ends, server_step, server_restart}
 use Rattle.protocol.specs.MasterStep.{master_step, master_restart}
-use Rattle.protocol.specs.World.{WorldState, Happened, new_world, stamped, after_master, after_server, after_client, happens, after_events, IsReached, is_kept}
+use Rattle.protocol.specs.World.{WorldState, Happened, new_world, stamped, after_master, after_server, after_client, happens, after_events, IsReached}
 use Rattle.protocol_laws.proofs.Steps.{on_cond, none_some, same_some}
 use Rattle.protocol_laws.proofs.Entries.{AllOf}
 use Rattle.protocol_laws.proofs.RisingOrders.{set_cases}
 use Rattle.protocol_laws.proofs.MembersRecorded.{kept_place, all_at}
-use Rattle.protocol_step_laws.proofs.Events.{with_call, with_rot}
+use Rattle.protocol_step_laws.proofs.Events.{HoldsAfter, holds_after, with_call, with_rot}
 use Rattle.protocol_step_laws.proofs.ClientNumbers.{IsSaid, IsStepOf, of_step, of_call}
 use Rattle.protocol_step_laws.proofs.RequestsOnce.{AreNumbered, numbered_reached, later_cases}
 use Rattle.protocol_step_laws.proofs.MasterTalks.{is_masters, MasterTalks, master_said, restart_said}
@@ -61,28 +60,17 @@ use Rattle.protocol_entry_laws.proofs.FullOrders.{IsCaused, Causes, right_on, ca
 use Rattle.protocol_entry_laws.proofs.FullAnswers.{AreRight, Leaves, IsFullEnd, step_leaves, none_right, restart_leaves}
 use Rattle.protocol_entry_laws.proofs.FullPlaces.{placed_first, denied_full}
 use Rattle.protocol_invariant.specs.AttemptParts.{is_full}
+use Rattle.protocol_version_laws.proofs.ClosedVersions.{clocks_before}
 use Rattle.protocol_replica_laws.specs.CopiedEntries.{Follows}
-use Rattle.protocol_replica_laws.specs.ReplicaImages.{marked, mutations_in, IsImageOf}
 use Rattle.protocol_replica_laws.specs.FullOrders.{IsOfFullOrder, FullChunksHaveAFullOrder}
-use Rattle.protocol_replica_laws.proofs.ExactEvents.{is_kept_after, HoldsExactly, holds_exactly}
 use Rattle.protocol_replica_laws.proofs.OrdersGrow.{IsAny, same_follows, HaveGrown, orders_grow}
 use Rattle.protocol_replica_laws.proofs.Images.{numbered_there}
-use Rattle.protocol_replica_laws.proofs.ImagesReached.{answered_kept, replicas_are_images}
-use Rattle.protocol_replica_laws.proofs.AppliedReached.{kept_of, kept_both}
-use Rattle.protocol_replica_laws.proofs.SettledEnds.{length_from, marked_from}
+use Rattle.protocol_replica_laws.specs.EndedReplicas.{EndsAtEntry}
+use Rattle.protocol_replica_laws.proofs.EndedReached.{replicas_end_at_entries}
 
 -- an entry of this order ends at the end of a chunk of this size
 abbrev HasFullEnd : ℕ → List Placed → Type 0
 HasFullEnd size order = (place : ℕ) × (p : Placed) × (element_at order place ≡ Some p) × (end_of size p.entry.mutation ≡ size)
-
--- one of these mutations ends where their image ends
-ends_there : (size : ℕ) (ps : List Placed) → 1 ≤ image_length size (mutations_in ps) → (n : ℕ) × (q : Placed) × (element_at ps n ≡ Some q) × (end_of size q.entry.mutation ≡ image_length size (mutations_in ps))
-ends_there size [] long = absurd (omega (arith, long))
-ends_there size (p ∷ ps) long =
-    elim (cases_lt (end_of size p.entry.mutation) (image_length size (mutations_in ps))) [
-      | inl less ↦ let rest = ends_there size ps (omega (arith, less)) in let end = rest.3 in (suc rest.0, rest.1, rest.2, omega (arith, end, less))
-      | inr most ↦ (zero, p, refl, omega (arith, most))
-    ]
 
 -- a row is of a replica
 row_there : (o : Option Replica) (row : Row) → row_of o ≡ Some row → (r : Replica) × (o ≡ Some r) × (length r.bytes ≡ row.count)
@@ -164,18 +152,18 @@ module _ (config : Config) (servers clients : ℕ) (some : 1 ≤ config.chunk) w
   Ended w = IsEnded config.chunk w
 
   abbrev Sound : WorldState → Type 0
-  Sound w = IsTrue (is_kept w) → IsSound (Ended w) w
+  Sound w = IsSound (Ended w) w
 
-  module _ (w : WorldState) (r : IsReached config servers clients w) (h : Sound w) where
-    module _ (kept : IsTrue (is_kept w)) (v : WorldState) (more : List Message) (sent : v.sent ≡ w.sent ++ more) (grown : HaveGrown w v) where
+  module _ (w : WorldState) (r : IsReached config servers clients w) (kept : IsTrue w.observer.are_clocks_kept) (h : Sound w) where
+    module _ (v : WorldState) (more : List Message) (sent : v.sent ≡ w.sent ++ more) (grown : HaveGrown w v) where
       go : (id : DataId) → Ended w id → Ended v id
       go = ended_on config.chunk w v more sent grown
 
       leases_then : (index : ℕ) (s : ServerState) → element_at w.servers index ≡ Some s → AreRight (Ended v) s.leases
-      leases_then index s at q p there = right_on (Ended w) (Ended v) go p ((h kept).leases index s at q p there)
+      leases_then index s at q p there = right_on (Ended w) (Ended v) go p (h.leases index s at q p there)
 
       told_then : (place : ℕ) (m : Message) → element_at w.sent place ≡ Some m → Causes (Ended v) m
-      told_then place m at = caused_on (Ended w) (Ended v) go m.body m.receiver ((h kept).told place m at)
+      told_then place m at = caused_on (Ended w) (Ended v) go m.body m.receiver (h.told place m at)
 
       one_server : (index : ℕ) (t : ServerState) → AreRight (Ended v) t.leases → (other : ℕ) (u : ServerState) → element_at (with_at w.servers index t) other ≡ Some u → AreRight (Ended v) u.leases
       one_server index t here other u at =
@@ -185,7 +173,7 @@ module _ (config : Config) (servers clients : ℕ) (some : 1 ≤ config.chunk) w
           ]
 
     -- a server's step on an attempt that is new
-    module _ (index moment : ℕ) (s : ServerState) (i : Input) (choice : Choice) (at : element_at w.servers index ≡ Some s) (up : IsTrue s.up) (came : (m : Message) → i ≡ input.Deliver m → IsAmong w.sent m) (kept : IsTrue (is_kept w)) where
+    module _ (index moment : ℕ) (s : ServerState) (i : Input) (choice : Choice) (at : element_at w.servers index ≡ Some s) (up : IsTrue s.up) (came : (m : Message) → i ≡ input.Deliver m → IsAmong w.sent m) where
       abbrev After : Happened
       After = after_server w index moment (server_step s moment i choice)
 
@@ -195,25 +183,20 @@ module _ (config : Config) (servers clients : ℕ) (some : 1 ≤ config.chunk) w
       module _ (grown : HaveGrown w (after_server w index moment (server_step s moment i choice)).world) where
         -- the replica was full
         by_replica : (handle : Handle) → (row : Row) × (row_at s.disk handle.0 ≡ Some row) × (row.count ≡ config.chunk) → HasFullEnd config.chunk (order_of w.observer handle.0)
-        by_replica handle found = (from.0, from.1, from.2, ap (λ (x : Placed). end_of config.chunk x.entry.mutation) from.3 ∙ (last.3 ∙ whole))
+        by_replica handle found = there ends
           where
             one : (x : Replica) × (replica_of s.disk handle.0 ≡ Some x) × (length x.bytes ≡ found.0.count)
             one = row_there (replica_of s.disk handle.0) found.0 found.1
 
-            of : IsImageOf config.chunk (order_of w.observer handle.0) one.0.version one.0.serial one.0.bytes
-            of = subst (λ (c : Config). IsImageOf c.chunk (order_of w.observer handle.0) one.0.version one.0.serial one.0.bytes) (settings_stay config servers clients w r) ((replicas_are_images config servers clients w r kept index s at).0 handle.0 one.0 one.1)
+            ends : EndsAtEntry config.chunk (order_of w.observer handle.0) one.0.version (length one.0.bytes)
+            ends = subst (λ (c : Config). EndsAtEntry c.chunk (order_of w.observer handle.0) one.0.version (length one.0.bytes)) (settings_stay config servers clients w r) ((replicas_end_at_entries config servers clients w r kept index s at).0 handle.0 one.0 one.1)
 
-            ps : List Placed
-            ps = marked of.marks (order_of w.observer handle.0)
+            long : length one.0.bytes ≡ config.chunk
+            long = one.2 ∙ found.2
 
-            whole : image_length config.chunk (mutations_in ps) ≡ config.chunk
-            whole = sym (length_from config.chunk (mutations_in ps) 0 (image_length config.chunk (mutations_in ps))) ∙ (sym (ap (λ (bs : List ℕ). length bs) of.bytes_are) ∙ (one.2 ∙ found.2))
-
-            last : (n : ℕ) × (q : Placed) × (element_at ps n ≡ Some q) × (end_of config.chunk q.entry.mutation ≡ image_length config.chunk (mutations_in ps))
-            last = ends_there config.chunk ps (omega (arith, whole, some))
-
-            from : (place : ℕ) × (p : Placed) × (element_at (order_of w.observer handle.0) place ≡ Some p) × (unsettled p ≡ last.1)
-            from = marked_from of.marks (order_of w.observer handle.0) last.0 last.1 last.2
+            there : EndsAtEntry config.chunk (order_of w.observer handle.0) one.0.version (length one.0.bytes) → HasFullEnd config.chunk (order_of w.observer handle.0)
+            there (inl none) = absurd (omega (arith, none, long, some))
+            there (inr entry) = (entry.0, entry.1, entry.2, entry.4 ∙ long)
 
         -- a pad is placed
         by_pad : (handle : ℕ) (p : SerialOrder) (id : DataId) (offset : ℕ) (handle_is : Handle) → handle_is.0 ≡ handle → (place : ℕ) → element_at (server_step s moment i choice).seen place ≡ Some (Numbered handle_is (version_of p.held.version) (serial_of (p.serial + 1)) id (Pad offset))
@@ -263,92 +246,77 @@ module _ (config : Config) (servers clients : ℕ) (some : 1 ≤ config.chunk) w
             by_ending : (e : Ending) → choice.ending ≡ e → Leaves (Ended After.world) (server_step s moment i choice)
             by_ending Goes is =
                 step_leaves (Ended After.world) s moment i choice (anew is)
-                (λ m q v serial refusal taken asked. let there = came m taken in subst (λ (b : Body). IsCaused (Ended w) b m.receiver) asked ((h kept).told there.0 m there.1)) (leases_then kept After.world New refl grown index s at)
+                (λ m q v serial refusal taken asked. let there = came m taken in subst (λ (b : Body). IsCaused (Ended w) b m.receiver) asked (h.told there.0 m there.1)) (leases_then After.world New refl grown index s at)
             by_ending Lost is = subst (Leaves (Ended After.world)) (sym (whole_step ∙ ap (λ (e : Ending). server_ends s (server_goes s moment i) choice e) is)) none
             by_ending (Stops made) is = subst (Leaves (Ended After.world)) (sym (whole_step ∙ ap (λ (e : Ending). server_ends s (server_goes s moment i) choice e) is)) (none_right (Ended After.world), tt)
 
     numbered : AreNumbered w.sent w.clients
     numbered = numbered_reached config servers clients w r
 
-    each_sound : HoldsExactly w (λ e x. Sound x.world)
+    each_sound : HoldsAfter w (λ e x. Sound x.world)
     each_sound =
         let k : ℕ = suc (length w.sent) in
         let grow = orders_grow config servers clients w r in
         record {
           nothing = λ e. h;
-          masters = λ e moment i choice is up later.
+          masters = λ e moment i choice is up.
               let v : WorldState = (after_master w moment (master_step w.master moment i choice)).world in
               let ms : List Message = (master_step w.master moment i choice).out.sent in
-              let kept = kept_of w.observer.are_clocks_kept (nat_le w.observer.greatest (moment + w.config.skew_ms)) w.observer.are_disks_kept later in
               let grown = grow.masters e moment i choice is up in
               record {
-                leases = leases_then kept v (stamped k ms) refl grown;
-                told = more_told (Ended v) w.sent k ms (told_then kept v (stamped k ms) refl grown) (all_apply (Ended v) ms (master_said (λ m. IsNotFull m.body → Causes (Ended v) m) (talks (Ended v)) w.master moment i choice) (step_tells w.master moment i choice));
+                leases = leases_then v (stamped k ms) refl grown;
+                told = more_told (Ended v) w.sent k ms (told_then v (stamped k ms) refl grown) (all_apply (Ended v) ms (master_said (λ m. IsNotFull m.body → Causes (Ended v) m) (talks (Ended v)) w.master moment i choice) (step_tells w.master moment i choice));
               };
-          opens = λ e moment choice later.
+          opens = λ e moment choice.
               let v : WorldState = (after_master w moment (master_restart w.master moment choice)).world in
               let ms : List Message = (master_restart w.master moment choice).out.sent in
-              let kept = kept_of w.observer.are_clocks_kept (nat_le w.observer.greatest (moment + w.config.skew_ms)) w.observer.are_disks_kept later in
               let grown = grow.opens e moment choice in
               record {
-                leases = leases_then kept v (stamped k ms) refl grown;
-                told = more_told (Ended v) w.sent k ms (told_then kept v (stamped k ms) refl grown) (all_apply (Ended v) ms (restart_said (λ m. IsNotFull m.body → Causes (Ended v) m) (talks (Ended v)) w.master moment choice) (restart_tells w.master moment choice));
+                leases = leases_then v (stamped k ms) refl grown;
+                told = more_told (Ended v) w.sent k ms (told_then v (stamped k ms) refl grown) (all_apply (Ended v) ms (restart_said (λ m. IsNotFull m.body → Causes (Ended v) m) (talks (Ended v)) w.master moment choice) (restart_tells w.master moment choice));
               };
-          serves = λ e index moment s i choice at is up later.
+          serves = λ e index moment s i choice at is up.
               let v : WorldState = (after_server w index moment (server_step s moment i choice)).world in
               let ms : List Message = (server_step s moment i choice).out.sent in
-              let kept = kept_of w.observer.are_clocks_kept (nat_le w.observer.greatest (moment + w.config.skew_ms)) w.observer.are_disks_kept later in
               let grown = grow.serves e index moment s i choice at is up in
-              let left = served index moment s i choice at up (came_in w e (suc index) moment i is) kept grown in
+              let left = served index moment s i choice at up (came_in w e (suc index) moment i is) grown in
               record {
-                leases = one_server kept v (stamped k ms) refl grown index (server_step s moment i choice).state left.0;
-                told = more_told (Ended v) w.sent k ms (told_then kept v (stamped k ms) refl grown) left.1;
+                leases = one_server v (stamped k ms) refl grown index (server_step s moment i choice).state left.0;
+                told = more_told (Ended v) w.sent k ms (told_then v (stamped k ms) refl grown) left.1;
               };
-          restarts = λ e index moment s choice at later.
+          restarts = λ e index moment s choice at.
               let v : WorldState = (after_server w index moment (server_restart s moment choice)).world in
               let ms : List Message = (server_restart s moment choice).out.sent in
-              let kept = kept_of w.observer.are_clocks_kept (nat_le w.observer.greatest (moment + w.config.skew_ms)) w.observer.are_disks_kept later in
               let grown = grow.restarts e index moment s choice at in
               let left = restart_leaves (Ended v) s moment choice in
               record {
-                leases = one_server kept v (stamped k ms) refl grown index (server_restart s moment choice).state left.0;
-                told = more_told (Ended v) w.sent k ms (told_then kept v (stamped k ms) refl grown) left.1;
+                leases = one_server v (stamped k ms) refl grown index (server_restart s moment choice).state left.0;
+                told = more_told (Ended v) w.sent k ms (told_then v (stamped k ms) refl grown) left.1;
               };
-          steps = λ e index moment s i choice at is up later.
+          steps = λ e index moment s i choice at is up.
               let v : WorldState = (after_client w index moment (client_step s moment i choice)).world in
               let ms : List Message = (client_step s moment i choice).out.sent in
-              let kept =
-              kept_of w.observer.are_clocks_kept (nat_le w.observer.greatest (moment + w.config.skew_ms)) w.observer.are_disks_kept
-              (answered_kept (observed_moment w.config.skew_ms w.observer moment) (suc index) (client_step s moment i choice).out.answer later) in
               let grown = grow.steps e index moment s i choice at is up in
               record {
-                leases = leases_then kept v (stamped k ms) refl grown;
-                told = more_told (Ended v) w.sent k ms (told_then kept v (stamped k ms) refl grown)
+                leases = leases_then v (stamped k ms) refl grown;
+                told = more_told (Ended v) w.sent k ms (told_then v (stamped k ms) refl grown)
                     (of_step (λ t xs. AllOf (Causes (Ended v)) xs) s moment i choice (numbered.each index s at).named (λ d step. client_causes (Ended v) (client_at s moment) d d.sent step refl) tt tt);
               };
-          calls = λ e index moment s c choice at may later.
+          calls = λ e index moment s c choice at may.
               let v : WorldState = (after_client (with_call w index moment c) index moment (client_call s moment c choice)).world in
               let ms : List Message = (client_call s moment c choice).out.sent in
-              let seen : Observer = observed_call (observed_moment w.config.skew_ms w.observer moment) (suc index) c in
-              let twice = answered_kept (observed_moment w.config.skew_ms seen moment) (suc index) (client_call s moment c choice).out.answer later in
-              let kept =
-              kept_of w.observer.are_clocks_kept (nat_le w.observer.greatest (moment + w.config.skew_ms)) w.observer.are_disks_kept
-              (kept_of seen.are_clocks_kept (nat_le seen.greatest (moment + w.config.skew_ms)) w.observer.are_disks_kept twice) in
               let grown = grow.calls e index moment s c choice at may in
               record {
-                leases = leases_then kept v (stamped k ms) refl grown;
-                told = more_told (Ended v) w.sent k ms (told_then kept v (stamped k ms) refl grown)
+                leases = leases_then v (stamped k ms) refl grown;
+                told = more_told (Ended v) w.sent k ms (told_then v (stamped k ms) refl grown)
                     (of_call (λ t xs. AllOf (Causes (Ended v)) xs) s moment c choice (numbered.each index s at).named (λ d step. client_causes (Ended v) (client_at s moment) d d.sent step refl) tt);
               };
-          rots = λ e index handle s x place byte at there up later.
-              let v : WorldState = (with_rot w index handle s (rotten_replica x place byte) (is_kept_after w s (rotten_replica x place byte) place)).world in
-              let parts = and_parts w.observer.are_clocks_kept (w.observer.are_disks_kept && not _) later in
-              let disks = (and_parts w.observer.are_disks_kept (not _) parts.1).0 in
-              let kept = kept_both w.observer.are_clocks_kept w.observer.are_disks_kept parts.0 disks in
+          rots = λ e index handle s x place byte is_kept at there up.
+              let v : WorldState = (with_rot w index handle s (rotten_replica x place byte) is_kept).world in
               let grown : HaveGrown w v = λ n. same_follows IsAny (placed_in w.observer.orders n) in
               record {
-                leases = one_server kept v [] (sym (append-none w.sent)) grown index (record s { disk = with_replica s.disk handle (rotten_replica x place byte) }) (leases_then kept v [] (sym (append-none w.sent)) grown index s at);
-                told = told_then kept v [] (sym (append-none w.sent)) grown;
+                leases = one_server v [] (sym (append-none w.sent)) grown index (record s { disk = with_replica s.disk handle (rotten_replica x place byte) }) (leases_then v [] (sym (append-none w.sent)) grown index s at);
+                told = told_then v [] (sym (append-none w.sent)) grown;
               };
         }
       where
@@ -356,20 +324,21 @@ module _ (config : Config) (servers clients : ℕ) (some : 1 ≤ config.chunk) w
         append-none [] = refl
         append-none (m ∷ ms) = ap (λ (xs : List Message). m ∷ xs) (append-none ms)
 
-  sound_on : (w : WorldState) (steps : List (Event × Choice)) → IsReached config servers clients w → Sound w → Sound (after_events w steps)
-  sound_on w [] r h = h
-  sound_on w (step ∷ rest) r h =
-      sound_on (happens w step.0 step.1).world rest (reached_later config servers clients w (step ∷ []) r) (holds_exactly w (λ e x. Sound x.world) (each_sound w r h) step.0 step.1)
+  sound_on : (w : WorldState) (steps : List (Event × Choice)) → IsReached config servers clients w → (IsTrue w.observer.are_clocks_kept → Sound w) → IsTrue (after_events w steps).observer.are_clocks_kept → Sound (after_events w steps)
+  sound_on w [] r h kept = h kept
+  sound_on w (step ∷ rest) r h kept =
+      sound_on (happens w step.0 step.1).world rest (reached_later config servers clients w (step ∷ []) r)
+      (λ now. let before = clocks_before w (step ∷ []) now in holds_after w (λ e x. Sound x.world) (each_sound w r before (h before)) step.0 step.1) kept
 
   new_servers : (F : DataId → Type 0) (ns : List ℕ) (index : ℕ) (s : ServerState) → element_at (map (λ n. started_server config n (new_server_disk config.block) 0) ns) index ≡ Some s → AreRight F s.leases
   new_servers F [] index s is = none_some s is
   new_servers F (n ∷ ns) zero s is = subst (λ (x : ServerState). AreRight F x.leases) (same_some (started_server config n (new_server_disk config.block) 0) s is) (none_right F)
   new_servers F (n ∷ ns) (suc index) s is = new_servers F ns index s is
 
-  sound_reached : (w : WorldState) → IsReached config servers clients w → Sound w
+  sound_reached : (w : WorldState) → IsReached config servers clients w → IsTrue w.observer.are_clocks_kept → Sound w
   sound_reached w r =
-      subst Sound r.1
-      (sound_on (new_world config servers clients) r.0 ([], refl) (λ kept. record { leases = new_servers (Ended (new_world config servers clients)) (first_numbers servers); told = λ place m none. none_some m none }))
+      subst (λ (v : WorldState). IsTrue v.observer.are_clocks_kept → Sound v) r.1
+      (sound_on (new_world config servers clients) r.0 ([], refl) (λ _. record { leases = new_servers (Ended (new_world config servers clients)) (first_numbers servers); told = λ place m none. none_some m none }))
 
 pub full_chunks_have_a_full_order : FullChunksHaveAFullOrder
 full_chunks_have_a_full_order config servers clients w r kept some place client number m at receiver is =

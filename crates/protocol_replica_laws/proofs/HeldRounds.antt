@@ -59,7 +59,7 @@ use Rattle.protocol_replica_laws.proofs.HadLeases.{GrantCame, step_known}
 
 -- bytes that are written end within the bytes
 
-length-first : {X : Type 0} (n : ℕ) (xs : List X) → length (take n xs) + (n - length xs) ≡ n
+pub length-first : {X : Type 0} (n : ℕ) (xs : List X) → length (take n xs) + (n - length xs) ≡ n
 length-first zero xs = omega arith
 length-first (suc n) [] = omega arith
 length-first (suc n) (x ∷ xs) = let rest = length-first n xs in omega (arith, rest)

@@ -59,18 +59,18 @@ use Rattle.protocol_replica_laws.proofs.KeptData.{IsCarried, kept_is_carried}
 
 -- mutations and changes
 
-start_is : (m : Mutation) (c : Change) → change_of m ≡ c → start_of m ≡ change_start c
+pub start_is : (m : Mutation) (c : Change) → change_of m ≡ c → start_of m ≡ change_start c
 start_is (mutation.Write offset bytes) c is = ap change_start is
 start_is (mutation.Append offset bytes) c is = ap change_start is
 start_is (mutation.Pad offset) c is = ap change_start is
 
-written_is : (size : ℕ) (m : Mutation) (offset : ℕ) (bytes : List ℕ) → (change_of m ≡ change.Write offset) ⊎ (change_of m ≡ change.Append offset) → IsCarried bytes m → written_by size m ≡ bytes
+pub written_is : (size : ℕ) (m : Mutation) (offset : ℕ) (bytes : List ℕ) → (change_of m ≡ change.Write offset) ⊎ (change_of m ≡ change.Append offset) → IsCarried bytes m → written_by size m ≡ bytes
 written_is size (mutation.Write at written) offset bytes is carried = carried
 written_is size (mutation.Append at written) offset bytes is carried = carried
 written_is size (mutation.Pad at) offset bytes (inl is) carried = absurd (let both : change.Pad at ≡ change.Write offset = is in cc)
 written_is size (mutation.Pad at) offset bytes (inr is) carried = absurd (let both : change.Pad at ≡ change.Append offset = is in cc)
 
-padded_is : (size : ℕ) (m : Mutation) (offset : ℕ) → change_of m ≡ change.Pad offset → written_by size m ≡ replicate (size - offset) 0
+pub padded_is : (size : ℕ) (m : Mutation) (offset : ℕ) → change_of m ≡ change.Pad offset → written_by size m ≡ replicate (size - offset) 0
 padded_is size (mutation.Write at written) offset is = absurd (let both : change.Write at ≡ change.Pad offset = is in cc)
 padded_is size (mutation.Append at written) offset is = absurd (let both : change.Append at ≡ change.Pad offset = is in cc)
 padded_is size (mutation.Pad at) offset is = ap (λ (n : ℕ). replicate (size - n) 0) (ap change_start is)
@@ -124,7 +124,7 @@ numbered_there trace orders (x ∷ xs) zero handle version serial id m of at =
 numbered_there trace orders (x ∷ xs) (suc place) handle version serial id m of at = numbered_there trace (orders_after trace orders x) xs place handle version serial id m of.1 at
 
 -- a row is of a replica
-row_is : (d : ServerDisk) (handle : ℕ) (row : Row) (r : Replica) → row_at d handle ≡ Some row → replica_of d handle ≡ Some r → (r.version ≡ row.version.0) × (r.serial ≡ row.serial.0)
+pub row_is : (d : ServerDisk) (handle : ℕ) (row : Row) (r : Replica) → row_at d handle ≡ Some row → replica_of d handle ≡ Some r → (r.version ≡ row.version.0) × (r.serial ≡ row.serial.0)
 row_is d handle row r is there =
     let one = same_some _ row (sym (ap row_of there) ∙ is) in
     (ap (λ (x : Row). x.version.0) one, ap (λ (x : Row). x.serial.0) one)

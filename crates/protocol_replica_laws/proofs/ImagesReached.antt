@@ -56,7 +56,7 @@ use Rattle.protocol_replica_laws.proofs.Images.{Carried, Holds, AreIn, holds_gro
 
 -- what is seen
 
-kept_filtered : (xs : List Seen) (place : ℕ) (x : Seen) → element_at xs place ≡ Some x → is_numbering x ≡ true → (n : ℕ) × (element_at (filter is_numbering xs) n ≡ Some x)
+pub kept_filtered : (xs : List Seen) (place : ℕ) (x : Seen) → element_at xs place ≡ Some x → is_numbering x ≡ true → (n : ℕ) × (element_at (filter is_numbering xs) n ≡ Some x)
 kept_filtered [] place x at is = none_some x at
 kept_filtered (y ∷ xs) zero x at is =
     on_cond (λ (zs : List Seen). (n : ℕ) × (element_at zs n ≡ Some x)) (is_numbering y) (y ∷ filter is_numbering xs) (filter is_numbering xs) (λ _. (zero, at))
@@ -113,7 +113,7 @@ client_said : (size : ℕ) (orders : Table (List Placed)) (s : ClientState) (d :
 client_said size orders s d None step is = tt
 client_said size orders s d (Some m) step is = (clients_said size orders s d.client m.body (step.says m is).1, tt)
 
-restarted_said : (P : Message → Type 0) (s : ServerState) (moment : ℕ) (choice : Choice) (e : Ending) → AllOf P (server_restarts s moment choice e).out.sent
+pub restarted_said : (P : Message → Type 0) (s : ServerState) (moment : ℕ) (choice : Choice) (e : Ending) → AllOf P (server_restarts s moment choice e).out.sent
 restarted_said P s moment choice Goes = tt
 restarted_said P s moment choice Lost = tt
 restarted_said P s moment choice (Stops made) = tt

@@ -37,6 +37,8 @@ pub mod SettledEnds
 pub mod CopiesBehind
 pub mod CopiesAsked
 pub mod CopiedOrders
+pub mod EndedSteps
+pub mod EndedReached
 pub mod FullOrders
 pub mod RecordPlaces
 pub mod LawfulPlaces

@@ -31,7 +31,7 @@ set_past [] n x past = refl
 set_past (y ∷ xs) zero x past = absurd (omega (arith, past))
 set_past (y ∷ xs) (suc n) x past = ap (λ (ys : List ℕ). y ∷ ys) (set_past xs n x (omega (arith, past)))
 
-others_long : (es : List (ℕ × ℕ)) (bytes : List ℕ) → length (with_others es bytes) ≡ length bytes
+pub others_long : (es : List (ℕ × ℕ)) (bytes : List ℕ) → length (with_others es bytes) ≡ length bytes
 others_long [] bytes = refl
 others_long (e ∷ es) bytes = others_long es (slice_set bytes e.0 e.1) ∙ set_long bytes e.0 e.1
 

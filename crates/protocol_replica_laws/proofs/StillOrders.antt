@@ -85,10 +85,10 @@ module _ (config : Config) (servers clients : ℕ) (w : WorldState) (r : IsReach
             ]
         one place (CopyStarted q copy) at of = absurd of
 
-    abbrev IsStill : WorldState → Type 0
+    abbrev pub IsStill : WorldState → Type 0
     IsStill v = IsTrue v.observer.are_clocks_kept → AreSame version handle w.observer.orders v.observer.orders
 
-    each_still : (IsTrue w.master.up → handle < w.master.logged.next_handle) → HoldsAfter w (λ e x. IsStill x.world)
+    pub each_still : (IsTrue w.master.up → handle < w.master.logged.next_handle) → HoldsAfter w (λ e x. IsStill x.world)
     each_still used =
         record {
           nothing = λ e clocks. refl;

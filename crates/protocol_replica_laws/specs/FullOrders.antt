@@ -11,7 +11,7 @@ use Rattle.messages.specs.declared.message.Message.{Message}
 use Rattle.messages.specs.declared.message.Target.{Target}
 use Rattle.protocol.specs.Tables.{element_at}
 use Rattle.protocol.specs.Sending.{data_id, the_client}
-use Rattle.protocol.specs.World.{WorldState, IsReached, is_kept}
+use Rattle.protocol.specs.World.{WorldState, IsReached}
 use Rattle.protocol_entry_laws.specs.Entries.{IsAmong}
 use Rattle.protocol_invariant.specs.AttemptParts.{is_full}
 
@@ -27,9 +27,9 @@ pub record IsOfFullOrder (w : WorldState) (id : DataId) : Type 0 where
   pub body_is : asked.body ≡ body.Mutate id handle version aim deadline
   pub full : IsTrue (is_full w handle.0)
 
--- Where clocks and disks are kept, ChunkFull is told only of data whose chunk is full in this sense (section 3.3). A chunk has at least one byte.
+-- Where clocks are kept, ChunkFull is told only of data whose chunk is full in this sense (section 3.3). A chunk has at least one byte.
 abbrev pub FullChunksHaveAFullOrder : Type 0
 FullChunksHaveAFullOrder =
-    (config : Config) (servers clients : ℕ) (w : WorldState) → IsReached config servers clients w → IsTrue (is_kept w) → 1 ≤ config.chunk
+    (config : Config) (servers clients : ℕ) (w : WorldState) → IsReached config servers clients w → IsTrue w.observer.are_clocks_kept → 1 ≤ config.chunk
     → (place client number : ℕ) (m : Message) → element_at w.sent place ≡ Some m → m.receiver ≡ the_client client → m.body ≡ body.Refused number ChunkFull
     → IsOfFullOrder w (data_id client number)

@@ -8,6 +8,7 @@ pub mod UngrantedChunks
 pub mod SkippedRounds
 pub mod Selections
 pub mod CopiedOrders
+pub mod EndedReplicas
 pub mod FullOrders
 pub mod LawfulOrders
 pub mod LastingLeases

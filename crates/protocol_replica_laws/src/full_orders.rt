@@ -2,7 +2,7 @@
 
 ghost use Rattle.protocol_replica_laws.specs.FullOrders.{FullChunksHaveAFullOrder};
 
-/// Where clocks and disks are kept, ChunkFull is told only of data whose chunk has an entry in its order that ends at the chunk's end.
+/// Where clocks are kept, ChunkFull is told only of data whose chunk has an entry in its order that ends at the chunk's end.
 pub fn full_chunks_have_a_full_order()
     ensures { FullChunksHaveAFullOrder }
 {}

@@ -4,6 +4,7 @@
 pub mod acknowledged_entries;
 pub mod copied_entries;
 pub mod copied_orders;
+pub mod ended_replicas;
 pub mod full_orders;
 pub mod held_rounds;
 pub mod lasting_leases;

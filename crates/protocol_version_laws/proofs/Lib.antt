@@ -50,6 +50,7 @@ pub mod FreeSources
 pub mod AskedSteps
 pub mod CopiedSources
 pub mod PlacesKept
+pub mod PlacesTaken
 pub mod ToldAnswers
 pub mod ReplacedChunks
 pub mod MasterRows
@@ -57,3 +58,4 @@ pub mod GrantedMembers
 pub mod AttemptedNumbers
 pub mod IssuedSteps
 pub mod IssuedVersions
+pub mod HandleIndexes

@@ -39,18 +39,18 @@ use Rattle.protocol_version_laws.proofs.CopiedSources.{IsNoStartRecord, IsNoStar
 
 -- lists
 
-other_place : (xs : List ℕ) (i j y : ℕ) → (j ≡ i → ⊥) → element_at (with_at xs i y) j ≡ element_at xs j
+pub other_place : (xs : List ℕ) (i j y : ℕ) → (j ≡ i → ⊥) → element_at (with_at xs i y) j ≡ element_at xs j
 other_place [] i j y other = refl
 other_place (x ∷ xs) zero zero y other = absurd (other refl)
 other_place (x ∷ xs) zero (suc j) y other = refl
 other_place (x ∷ xs) (suc i) zero y other = refl
 other_place (x ∷ xs) (suc i) (suc j) y other = other_place xs i j y (λ same. other (ap (λ (n : ℕ). suc n) same))
 
-all_front : {X : Type 0} (P : X → Type 0) (xs ys : List X) → AllOf P (xs ++ ys) → AllOf P xs
+pub all_front : {X : Type 0} (P : X → Type 0) (xs ys : List X) → AllOf P (xs ++ ys) → AllOf P xs
 all_front P [] ys h = tt
 all_front P (x ∷ xs) ys h = (h.0, all_front P xs ys h.1)
 
-all_last : {X : Type 0} (P : X → Type 0) (xs : List X) (y : X) → AllOf P (xs ++ y ∷ []) → P y
+pub all_last : {X : Type 0} (P : X → Type 0) (xs : List X) (y : X) → AllOf P (xs ++ y ∷ []) → P y
 all_last P [] y h = h.0
 all_last P (x ∷ xs) y h = all_last P xs y h.1
 
@@ -59,19 +59,19 @@ abbrev pub IsSourceOf : Logged → ℕ → Type 0
 IsSourceOf l handle = (copy : ℕ) × (c : Copy) × (table.get l.copies copy ≡ Some c) × (c.source ≡ handle)
 
 -- copies after a record that begins none
-copies_before : (l : Logged) (r : Record) → IsNoStartRecord r → IsNoGrantRecord r → (copy : ℕ) (c : Copy) → table.get (after_record l r).copies copy ≡ Some c → table.get l.copies copy ≡ Some c
+pub copies_before : (l : Logged) (r : Record) → IsNoStartRecord r → IsNoGrantRecord r → (copy : ℕ) (c : Copy) → table.get (after_record l r).copies copy ≡ Some c → table.get l.copies copy ≡ Some c
 copies_before l (log.CopyStart file index source copy copy_version) start plain q c is = absurd start
 copies_before l (log.Grant handle version primary members) start plain q c is = absurd plain
 copies_before l (log.Expired file) start plain q c is = removed_cases l.copies (copies_for_file l file.0) q c is
 copies_before l other start plain q c is = is
 
-copies_left : (l : Logged) (handle : ℕ) (o : Option Copy) (copy : ℕ) (c : Copy) → table.get (swapped_in l handle o).copies copy ≡ Some c → table.get l.copies copy ≡ Some c
+pub copies_left : (l : Logged) (handle : ℕ) (o : Option Copy) (copy : ℕ) (c : Copy) → table.get (swapped_in l handle o).copies copy ≡ Some c → table.get l.copies copy ≡ Some c
 copies_left l handle None copy c is = is
 copies_left l handle (Some x) copy c is = kept_cases l.copies handle copy c is
 
 module _ (file index handle : ℕ) where
   -- the chunk stands there, or the file is gone for good
-  abbrev Place : Files → Type 0
+  abbrev pub Place : Files → Type 0
   Place files = StandsAt files file index handle ⊎ (table.get files file ≡ None)
 
   abbrev pub IsPlaceKept : Logged → Type 0
@@ -84,7 +84,7 @@ module _ (file index handle : ℕ) where
   place_same l k files next h = (subst (λ (n : ℕ). file < n) next h.0, subst (λ (f : Files). Place f) files h.1)
 
   -- one file's list is put
-  place_put : (files : Files) (g : ℕ) (hs : List ℕ) → (file ≡ g → Place files → element_at hs index ≡ Some handle) → Place files → Place (table.insert files g hs)
+  pub place_put : (files : Files) (g : ℕ) (hs : List ℕ) → (file ≡ g → Place files → element_at hs index ≡ Some handle) → Place files → Place (table.insert files g hs)
   place_put files g hs stays h =
       elim (same_or_not file g) [
         | inl same ↦ inl (ap (λ (o : Option (List ℕ)). element_at (unwrap_or o []) index) (put_there files g hs file same) ∙ stays same h)
@@ -106,7 +106,7 @@ module _ (file index handle : ℕ) where
       one Dir = h
       one (File id) = place_put t.files next (handles_of t id) (λ same. absurd (omega (arith, low, same))) h
 
-  place_after : (l : Logged) (r : Record) → IsDue (Unit {0}) l r → IsNoGrantRecord r → IsPlaceKept l → IsPlaceKept (after_record l r)
+  pub place_after : (l : Logged) (r : Record) → IsDue (Unit {0}) l r → IsNoGrantRecord r → IsPlaceKept l → IsPlaceKept (after_record l r)
   place_after l (log.Create client n new path) due plain h =
       let low = h.0 in
       let high = le-max_left l.next_file (new.0 + 1) in

@@ -87,7 +87,7 @@ module _ (config : Config) (servers clients : ℕ) (w : WorldState) (r : IsReach
   base = sent_reached IsOfWaits waits_kept config servers clients w r
 
   module _ (handle version : ℕ) (passed : HasPassed handle version w.master) where
-    each_passed : HoldsAfter w (λ e x. HasPassed handle version x.world.master × (grants_of handle version x.world.sent ≤ grants_of handle version w.sent))
+    pub each_passed : HoldsAfter w (λ e x. HasPassed handle version x.world.master × (grants_of handle version x.world.sent ≤ grants_of handle version w.sent))
     each_passed =
         let k : ℕ = suc (length w.sent) in
         record {
@@ -168,7 +168,7 @@ module _ (file index handle version : ℕ) where
 
 -- where it was told, it is at its place
 
-stood_file : (files : Files) (file index handle : ℕ) → StandsAt files file index handle → table.contains_key files file ≡ true
+pub stood_file : (files : Files) (file index handle : ℕ) → StandsAt files file index handle → table.contains_key files file ≡ true
 stood_file files file index handle stands = by_file (table.get files file) refl
   where
     by_file : (o : Option (List ℕ)) → table.get files file ≡ o → table.contains_key files file ≡ true
@@ -223,7 +223,7 @@ told_tracked config servers clients w r up file l told =
     by_copies None is (Some c) also = none_some told.row (sym (u.tied.base.base.alone handle c also is) ∙ told.at)
 
 -- clocks were kept in each world before
-kept_before : (w : WorldState) → IsTrue w.observer.are_clocks_kept → (v : WorldState) (steps : List (Event × Choice)) → after_events v steps ≡ w → IsTrue v.observer.are_clocks_kept
+pub kept_before : (w : WorldState) → IsTrue w.observer.are_clocks_kept → (v : WorldState) (steps : List (Event × Choice)) → after_events v steps ≡ w → IsTrue v.observer.are_clocks_kept
 kept_before w clocks v steps path = clocks_before v steps (subst (λ (x : WorldState). IsTrue x.observer.are_clocks_kept) (sym path) clocks)
 
 tracked_of : (config : Config) (servers clients : ℕ) (w : WorldState) → IsReached config servers clients w → IsTrue w.observer.are_clocks_kept → (v : WorldState) → IsReached config servers clients v → (more : List (Event × Choice)) → after_events v more ≡ w

@@ -45,7 +45,7 @@ use Rattle.protocol_version_laws.specs.ReplacedChunks.{IsToldAt}
 
 -- who tells no location
 
-abbrev TellsNone : Body → Type 0
+abbrev pub TellsNone : Body → Type 0
 TellsNone b = is_location b ≡ false
 
 server_talks : (s : ServerState) (i : Input) → Talks s i (λ r b. TellsNone b) (λ v. Unit {0}) (λ x. Unit {0})
@@ -67,10 +67,10 @@ all_kept : (es : List (DataId × List ℕ)) → AllOf (λ x. Unit {0}) es
 all_kept [] = tt
 all_kept (x ∷ es) = (tt, all_kept es)
 
-server_tells : (s : ServerState) (moment : ℕ) (i : Input) (choice : Choice) → AllOf (λ m. TellsNone m.body) (server_step s moment i choice).out.sent
+pub server_tells : (s : ServerState) (moment : ℕ) (i : Input) (choice : Choice) → AllOf (λ m. TellsNone m.body) (server_step s moment i choice).out.sent
 server_tells s moment i choice = (step_said (λ r b. TellsNone b) (λ v. Unit {0}) (λ x. Unit {0}) s moment i choice (server_talks (server_at s moment) i) (all_kept s.pushed.entries)).0
 
-restart_tells : (s : ServerState) (moment : ℕ) (choice : Choice) (e : Ending) → AllOf (λ m. TellsNone m.body) (server_restarts s moment choice e).out.sent
+pub restart_tells : (s : ServerState) (moment : ℕ) (choice : Choice) (e : Ending) → AllOf (λ m. TellsNone m.body) (server_restarts s moment choice e).out.sent
 restart_tells s moment choice Goes = tt
 restart_tells s moment choice Lost = tt
 restart_tells s moment choice (Stops made) = tt
@@ -79,7 +79,7 @@ client_word : (s t : ClientState) (b : Body) → IsClientsWord s t b → is_loca
 client_word s t (body.Told number o) is = absurd is
 client_word s t other is = refl
 
-client_tells : (s : ClientState) (d : ClientDoing) (o : Option Message) → IsStepOf s d → d.sent ≡ o → AllOf (λ m. TellsNone m.body) (option_to_list o)
+pub client_tells : (s : ClientState) (d : ClientDoing) (o : Option Message) → IsStepOf s d → d.sent ≡ o → AllOf (λ m. TellsNone m.body) (option_to_list o)
 client_tells s d None step is = tt
 client_tells s d (Some m) step is = (client_word s d.client m.body (step.says m is).1, tt)
 
@@ -100,7 +100,7 @@ pub record IsAnswer (u : WorldState) (m : Message) (number : ℕ) (l : Location)
 abbrev AreAnswers : WorldState → WorldState → Type 0
 AreAnswers u v = (place : ℕ) (m : Message) → length u.sent ≤ place → element_at v.sent place ≡ Some m → (number : ℕ) (l : Location) → m.body ≡ body.Told number (Some l) → 1 ≤ l.round.0 → IsAnswer u m number l
 
-none_new : {A : Type 0} (sent ms : List Message) (k place : ℕ) (m : Message) → AllOf (λ x. TellsNone x.body) ms → length sent ≤ place → element_at (sent ++ stamped k ms) place ≡ Some m → (number : ℕ) (l : Location) → m.body ≡ body.Told number (Some l) → A
+pub none_new : {A : Type 0} (sent ms : List Message) (k place : ℕ) (m : Message) → AllOf (λ x. TellsNone x.body) ms → length sent ≤ place → element_at (sent ++ stamped k ms) place ≡ Some m → (number : ℕ) (l : Location) → m.body ≡ body.Told number (Some l) → A
 none_new sent ms k place m none from at number l is =
     let new = new_one sent ms k place m from at in
     absurd (true≢false (sym (ap is_location ((new.2).2 ∙ is)) ∙ all_at (λ (x : Message). TellsNone x.body) ms (new.1).0 new.0 none (new.1).1))

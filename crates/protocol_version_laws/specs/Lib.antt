@@ -24,3 +24,4 @@ pub mod CopiedSources
 pub mod ReplacedChunks
 pub mod MasterRows
 pub mod IssuedVersions
+pub mod HandleIndexes

@@ -14,6 +14,7 @@ pub mod first_versions;
 pub mod given_clones;
 pub mod given_once;
 pub mod given_versions;
+pub mod handle_indexes;
 pub mod held_versions;
 pub mod issued_versions;
 pub mod known_versions;

@@ -1,8 +1,22 @@
-//! Laws of the whole machine beside a cell, from each world to the next.
+//! Laws of the whole machine beside a cell: its steps, and from each world to the next.
 #![tactic(auto)]
 
+pub mod chunk_readings;
 pub mod chunks_beside;
+pub mod client_files;
+pub mod counted_calls;
+pub mod file_answers;
+pub mod file_calls_begin;
+pub mod file_clients_stay;
+pub mod file_openings;
+pub mod file_steps;
+pub mod master_steps;
+pub mod record_dues;
 pub mod record_rounds;
 pub mod rounds;
 pub mod server_steps;
+pub mod told_holders;
 pub mod told_rounds;
+pub mod waited_numbers;
+pub mod waited_successes;
+pub mod whole_steps;

@@ -49,6 +49,7 @@ impl<S: ReplicaStore> Model for Server<S> {
     ghost use Rattle.std.specs.Coded.{codes, coded_ℕ};
     ghost use Rattle.protocol.specs.Server.{ServerState};
     ghost use Rattle.protocol.specs.Tables.{moment_limit};
+    ghost use Rattle.gfs_types.specs.Settings.{largest_chunk};
 
     ghost Value = { ServerState };
 

@@ -1,0 +1,61 @@
+-- What a location stands for at the machine: up to a holder's version the handle's entries are those of the file's chunk, so what its server reads is of the chunk (sections 2.4, 2.7.1 and 3.4).
+use Rattle.std.specs.Prelude.{◌≡◌, ℕ, suc, ◌<◌, ◌≤◌, List, length, Some, IsTrue, IsFalse}
+use Rattle.gfs_types.specs.declared.config.Config.{Config}
+use Rattle.gfs_types.specs.declared.call.Call.{Call}
+use Rattle.messages.specs.declared.message.Holder.{Holder}
+use Rattle.messages.specs.declared.message.Location.{Location}
+use Rattle.chunk_table.specs.ChunkTable.{ChunkRow, file_of, chunk_of}
+use Rattle.relaxed_file.specs.Order.{Entry, mutations_of}
+use Rattle.relaxed_file.specs.Reads.{read_slice}
+use Rattle.gfs_types.specs.Image.{image_length}
+use Rattle.messages.specs.declared.message.Body.{Body}
+use Rattle.messages.specs.declared.message.Body.TheVariants as body
+use Rattle.client_state.specs.declared.call.CurrentCall.{CurrentCall}
+use Rattle.client_state.specs.declared.call.ToldChunk.{ToldChunk}
+use Rattle.protocol_step_laws.specs.Reads.{IsTrueOf}
+use Rattle.relaxed_file.specs.Machine.{chunk_at, chunk_count}
+use Rattle.replica_store.specs.declared.row.Row.{Row}
+use Rattle.replica_store.specs.Replicas.{row_at}
+use Rattle.protocol.specs.Tables.{element_at}
+use Rattle.protocol.specs.ClientAttempts.{is_length}
+use Rattle.protocol.specs.Server.{ServerState}
+use Rattle.protocol.specs.World.{WorldState, IsReached, is_kept}
+use Rattle.protocol_machine_laws.specs.ChunksAlike.{ChunkSides, entries_in, AreChunksAlike}
+use Rattle.protocol_whole_laws.specs.ChunkReadings.{AgreeUpTo, IsReadAs}
+use Rattle.protocol_whole_laws.specs.FileAnswers.{IsLastRound, IsSeenAt}
+
+-- The entries of a handle up to a version are those of the file's chunk: also where a copy took the handle's place since, or the file was collected.
+pub record StandsUpTo (k : ChunkSides) (file index handle version : ℕ) : Type 0 where
+  pub count : index < chunk_count k.machine file
+  pub entries : AgreeUpTo version (entries_in k.orders handle) (chunk_at k.machine file index).order
+
+-- each holder that was told may be read: what it has of its version stands for the chunk
+abbrev pub IsToldHolder : ChunkSides → ℕ → Location → Holder → Type 0
+IsToldHolder k file l h = (l.round.0 ≤ h.version.0) × StandsUpTo k file l.index l.handle.0 h.version.0
+
+-- Where clocks and disks are kept: what a server has under a version that is no earlier than the round that was told, and up to which its handle stands for the chunk, is seen of the chunk.
+abbrev pub HoldersAreSeen : Type 0
+HoldersAreSeen =
+    (config : Config) (servers clients : ℕ) (w : WorldState) → IsReached config servers clients w → IsTrue (is_kept w) → (k : ChunkSides) → k.orders ≡ w.observer.orders
+    → (server : ℕ) (s : ServerState) → element_at w.servers server ≡ Some s → (handle : ℕ) (row : Row) → row_at s.disk handle ≡ Some row
+    → (file index round : ℕ) → round ≤ row.version.0 → StandsUpTo k file index handle row.version.0
+    → (chosen : List Entry) × IsSeenAt k.machine file index round row.version.0 chosen × IsReadAs s w.config.chunk handle row (chunk_at k.machine file index).order chosen
+
+-- Where chunks are alike, a chunk of a file in the log is one that may be told, in the round that its row grants.
+abbrev pub LoggedChunksAreLastRounds : Type 0
+LoggedChunksAreLastRounds =
+    (k : ChunkSides) → AreChunksAlike k → (file : ℕ) (handles : List ℕ) → file_of k.log.table file ≡ Some handles → IsFalse (k.machine.files file).is_collected
+    → (l : Location) (handle : ℕ) (row : ChunkRow) → element_at handles l.index ≡ Some handle → chunk_of k.log.table handle ≡ Some row → l.round.0 ≡ row.granted
+    → (asked : Call) → (IsTrue (is_length asked) → length handles ≡ suc l.index) → IsLastRound k.machine file asked l
+
+-- what an answer to a client's reading shows: the bytes of the part in hand, or the length, of these entries
+abbrev pub IsShownAs : ℕ → CurrentCall → List Entry → Body → Type 0
+IsShownAs size x chosen (body.Bytes number bytes) = bytes ≡ read_slice size x.index x.asked chosen
+IsShownAs size x chosen (body.LenIs number count) = count ≡ image_length size (mutations_of chosen)
+IsShownAs size x chosen other = Unit {0}
+
+-- An answer that is so at the server shows what is seen of the chunk.
+abbrev pub AnswersShowTheChunk : Type 0
+AnswersShowTheChunk =
+    (s : ServerState) (size : ℕ) (x : CurrentCall) (chunk : ToldChunk) (row : Row) (order chosen : List Entry) → IsReadAs s size chunk.handle.0 row order chosen
+    → (answer : Body) → IsTrueOf s.disk row size x chunk answer → IsShownAs size x chosen answer

@@ -1,0 +1,59 @@
+//! Laws of the whole machine beside a whole step of the master in a reached world, its stops and its restarts.
+
+ghost use Rattle.protocol_whole_laws.specs.OverRounds.{MastersEventsAreSteps, RoundsThatEndAreOver, RoundsThatEndStayOver, StepsKeepRounds, StoppedStepsKeepRounds};
+ghost use Rattle.protocol_whole_laws.specs.WholeSteps.{EndsAreReached, MasterStepsAreTaken, OnlyAsksAddChunks, RestartsAreTaken, StatesHaveTheirLogsFiles, StopsAreTaken};
+
+/// A step of the master: the whole machine follows each change of its log, where calls asked for the chunks that are added.
+pub fn master_steps_are_taken()
+    ensures { MasterStepsAreTaken }
+{}
+
+/// A step that takes no Ask adds no chunk, so nothing is asked of it.
+pub fn only_asks_add_chunks()
+    ensures { OnlyAsksAddChunks }
+{}
+
+/// Where the step stops, the whole machine is beside the log that is left.
+pub fn stops_are_taken()
+    ensures { StopsAreTaken }
+{}
+
+/// Where the step goes through, it is beside the log in the end, and what was granted is open, but for chunks whose rounds may end later in the step.
+pub fn ends_are_reached()
+    ensures { EndsAreReached }
+{}
+
+/// At a restart it is beside each log that the opening makes.
+pub fn restarts_are_taken()
+    ensures { RestartsAreTaken }
+{}
+
+/// The master's state and its log have the same files, and so has the log without copies under way.
+pub fn states_have_their_logs_files()
+    ensures { StatesHaveTheirLogsFiles }
+{}
+
+/// Rounds end in a step only of chunks whose leases are over, as its moment has passed.
+pub fn rounds_that_end_are_over()
+    ensures { RoundsThatEndAreOver }
+{}
+
+/// Where a step stops, the round of each lease that isn't over is open again.
+pub fn stopped_steps_keep_rounds()
+    ensures { StoppedStepsKeepRounds }
+{}
+
+/// So they are over before a step that goes through, or after it.
+pub fn rounds_that_end_stay_over()
+    ensures { RoundsThatEndStayOver }
+{}
+
+/// Where a step goes through, the round of each lease that isn't over is open again, if nothing that it grants ends in it too.
+pub fn steps_keep_rounds()
+    ensures { StepsKeepRounds }
+{}
+
+/// A tick of a master that is up, and a message that is delivered to it, are its steps.
+pub fn masters_events_are_steps()
+    ensures { MastersEventsAreSteps }
+{}
