@@ -44,7 +44,7 @@ use Rattle.protocol_version_laws.specs.HandleIndexes.{StandsAtIndex, HandlesStan
 
 -- lists
 
-last_cases : (xs : List ℕ) (y j x : ℕ) → element_at (xs ++ y ∷ []) j ≡ Some x → (element_at xs j ≡ Some x) ⊎ ((j ≡ length xs) × (y ≡ x))
+pub last_cases : (xs : List ℕ) (y j x : ℕ) → element_at (xs ++ y ∷ []) j ≡ Some x → (element_at xs j ≡ Some x) ⊎ ((j ≡ length xs) × (y ≡ x))
 last_cases [] y zero x at = inr (refl, same_some y x at)
 last_cases [] y (suc j) x at = none_some x at
 last_cases (z ∷ zs) y zero x at = inl at
@@ -55,21 +55,21 @@ module _ (handle : ℕ) (Q : ℕ → Type 0) where
   abbrev pub AreAt : Files → Type 0
   AreAt files = (file j : ℕ) → element_at (chunks_at files file) j ≡ Some handle → Q j
 
-  at_put : (files : Files) (g : ℕ) (hs : List ℕ) → ((j : ℕ) → element_at hs j ≡ Some handle → Q j) → AreAt files → AreAt (table.insert files g hs)
+  pub at_put : (files : Files) (g : ℕ) (hs : List ℕ) → ((j : ℕ) → element_at hs j ≡ Some handle → Q j) → AreAt files → AreAt (table.insert files g hs)
   at_put files g hs new h file j at =
       elim (same_or_not file g) [
         | inl same ↦ new j (sym (ap (λ (o : Option (List ℕ)). element_at (unwrap_or o []) j) (put_there files g hs file same)) ∙ at)
         | inr other ↦ h file j (sym (ap (λ (o : Option (List ℕ)). element_at (unwrap_or o []) j) (put_other files g hs file other)) ∙ at)
       ]
 
-  at_gone : (files : Files) (g : ℕ) → AreAt files → AreAt (table.remove files g)
+  pub at_gone : (files : Files) (g : ℕ) → AreAt files → AreAt (table.remove files g)
   at_gone files g h file j at =
       elim (same_or_not file g) [
         | inl same ↦ none_some handle (sym (ap (λ (o : Option (List ℕ)). element_at (unwrap_or o []) j) (gone_there files g file same)) ∙ at)
         | inr other ↦ h file j (sym (ap (λ (o : Option (List ℕ)). element_at (unwrap_or o []) j) (gone_other files g file other)) ∙ at)
       ]
 
-  at_copied : (t : ChunkTable) (next : ℕ) (es : List (Path × Node)) → AreAt t.files → AreAt (with_copied_nodes t next es).files
+  pub at_copied : (t : ChunkTable) (next : ℕ) (es : List (Path × Node)) → AreAt t.files → AreAt (with_copied_nodes t next es).files
   at_copied t next [] h = h
   at_copied t next (e ∷ es) h = at_copied (with_copied_node t next e.1) (id_after next e.1) es (one e.1)
     where
@@ -265,7 +265,7 @@ same_at handle index l k files next h = (subst (λ (n : ℕ). handle < n) next h
 same_new : (handle : ℕ) (l k : Logged) → l.table.files ≡ k.table.files → l.next_handle ≡ k.next_handle → IsLogNew handle l → IsLogNew handle k
 same_new handle l k files next h = (subst (λ (n : ℕ). n ≤ handle) next h.0, subst (λ (f : Files). AreAt handle (λ j. ⊥) f) files h.1)
 
-at_keeps : (handle index : ℕ) → KeepsFiles (IsStateAt handle index) (IsLogAt handle index)
+pub at_keeps : (handle index : ℕ) → KeepsFiles (IsStateAt handle index) (IsLogAt handle index)
 at_keeps handle index =
     record {
       logs = λ l k files next h. same_at handle index l k files next h.0;
@@ -276,7 +276,7 @@ at_keeps handle index =
       granted = λ l q version primary members h. state_granted handle index l q version primary members h;
     }
 
-good_keeps : (handle : ℕ) → KeepsFiles (IsStateGood handle) (IsLogGood handle)
+pub good_keeps : (handle : ℕ) → KeepsFiles (IsStateGood handle) (IsLogGood handle)
 good_keeps handle =
     record {
       logs = λ l k files next h. elim (h) [ inl new ↦ inl (same_new handle l k files next new.0) | inr used ↦ inr (used.0, same_at handle used.0 l k files next (used.1).0) ];
@@ -469,7 +469,7 @@ first_good zero = inr (0, ((omega arith, λ file j at. none_some 0 (sym (ap (λ 
 first_good (suc n) = inl ((omega arith, λ file j at. none_some (suc n) (sym (ap (λ (o : Option (List ℕ)). element_at (unwrap_or o []) j) (table.get-empty nat_cmp file)) ∙ at)), table.get-empty nat_cmp (suc n))
 
 module _ (config : Config) (servers clients : ℕ) where
-  good_reached : (handle : ℕ) (w : WorldState) → IsReached config servers clients w → AreFiled (IsStateGood handle) (IsLogGood handle) (good_keeps handle) w.master
+  pub good_reached : (handle : ℕ) (w : WorldState) → IsReached config servers clients w → AreFiled (IsStateGood handle) (IsLogGood handle) (good_keeps handle) w.master
   good_reached handle w r =
       subst (λ (v : WorldState). AreFiled (IsStateGood handle) (IsLogGood handle) (good_keeps handle) v.master) r.1
       (filed_on (IsStateGood handle) (IsLogGood handle) (good_keeps handle) config servers clients start r.0 ([], refl)
@@ -479,18 +479,18 @@ module _ (config : Config) (servers clients : ℕ) where
       start : WorldState
       start = new_world config servers clients
 
-  abbrev Filed : ℕ → ℕ → WorldState → Type 0
+  abbrev pub Filed : ℕ → ℕ → WorldState → Type 0
   Filed handle index w = AreFiled (IsStateAt handle index) (IsLogAt handle index) (at_keeps handle index) w.master
 
   -- where it stands at a master that is up, it is used, at that index
-  stood_at : (w : WorldState) → IsReached config servers clients w → IsTrue w.master.up → (handle file index : ℕ) → element_at (handles_of w.master.logged.table file) index ≡ Some handle → Filed handle index w
+  pub stood_at : (w : WorldState) → IsReached config servers clients w → IsTrue w.master.up → (handle file index : ℕ) → element_at (handles_of w.master.logged.table file) index ≡ Some handle → Filed handle index w
   stood_at w r up handle file index at =
       elim ((good_reached handle w r).up up) [
         | inl new ↦ absurd ((new.0).1 file index at)
         | inr used ↦ filed_up (IsStateAt handle index) (IsLogAt handle index) (at_keeps handle index) config servers clients w r up (subst (λ (n : ℕ). IsStateAt handle n w.master.logged) (sym (((used.1).0).1 file index at)) used.1)
       ]
 
-  stands_at : (w : WorldState) (handle index : ℕ) → Filed handle index w → (file other : ℕ) → StandsAtIndex w file other handle → other ≡ index
+  pub stands_at : (w : WorldState) (handle index : ℕ) → Filed handle index w → (file other : ℕ) → StandsAtIndex w file other handle → other ≡ index
   stands_at w handle index h file other (inl in_log) = (h.found []).1 file other in_log
   stands_at w handle index h file other (inr at_master) = ((h.up at_master.0).0).1 file other at_master.1
 

@@ -59,3 +59,5 @@ pub mod AttemptedNumbers
 pub mod IssuedSteps
 pub mod IssuedVersions
 pub mod HandleIndexes
+pub mod CopiesPlaced
+pub mod EntryIndexes
