@@ -42,5 +42,6 @@ pub mod UnusedNumbers
 pub mod WaitedNumbers
 pub mod WaitedSuccesses
 pub mod WholeLogs
+pub mod WholeRestarts
 pub mod WholeSteps
 pub mod WholeStops

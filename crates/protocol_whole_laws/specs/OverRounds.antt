@@ -12,13 +12,14 @@ use Rattle.log_records.specs.declared.record.Record.TheVariants as log
 use Rattle.relaxed_file.specs.Machine.{Machine}
 use Rattle.protocol.specs.Logged.{LogDisk, LogChange, AppendRecord, log_changed, log_changed_by_all}
 use Rattle.protocol.specs.Choice.{Choice, Goes, Stops}
-use Rattle.protocol.specs.MasterStep.{master_step, master_goes}
+use Rattle.protocol.specs.Master.{MasterState}
+use Rattle.protocol.specs.MasterStep.{master_step, master_goes, found_log, master_restart}
 use Rattle.protocol.specs.Observer.{observed_moment}
 use Rattle.protocol.specs.World.{WorldState, IsReached, numbered_from_1, happens, after_master}
 use Rattle.protocol.specs.Tables.{moment_limit}
 use Rattle.protocol_step_laws.specs.Versions.{IsLeaseOver, AreLeasesOver}
 use Rattle.protocol_name_laws.specs.Alike.{Requests}
-use Rattle.protocol_name_laws.specs.FollowedSteps.{log_left}
+use Rattle.protocol_name_laws.specs.FollowedSteps.{log_left, opened}
 use Rattle.protocol_name_laws.specs.NameTrails.{log_read, IsBesideLog}
 use Rattle.protocol_machine_laws.specs.ChunksAlike.{ChunkSides, HasRounds}
 use Rattle.protocol_whole_laws.specs.MasterSteps.{IsWhole, Comes, WholeTrail}
@@ -80,3 +81,18 @@ StepsKeepRounds =
     → WholeTrail requests n w.master.disk w.master.disk k (master_goes w.master moment i choice.refused).changes later → AreGrantsLast w.master.disk (master_goes w.master moment i choice.refused).changes
     → (j : ChunkSides) × (j.log ≡ log_read (log_changed_by_all w.master.disk (master_goes w.master moment i choice.refused).changes)) × (j.orders ≡ k.orders)
     × Comes (EndsAlong w.master.disk (master_goes w.master moment i choice.refused).changes) k j later × HasRounds (IsLeaseOver (happens w e choice).world) j
+
+-- The opening of a restart ends no round.
+abbrev pub OpeningsEndNoRound : Type 0
+OpeningsEndNoRound = (m : MasterState) (moment : ℕ) (choice : Choice) (handle : ℕ) → EndsAlong (found_log m choice) (opened m moment choice).changes handle → ⊥
+
+-- the event is a restart of the master
+abbrev pub IsRestart : WorldState → Event → ℕ → Choice → Type 0
+IsRestart w e moment choice = (happens w e choice).world ≡ (after_master w moment (master_restart w.master moment choice)).world
+
+-- At a restart of the master the round of each lease that isn't over stays open, whatever the opening comes to.
+abbrev pub RestartsKeepRounds : Type 0
+RestartsKeepRounds =
+    (config : Config) (servers clients : ℕ) (w : WorldState) → IsReached config servers clients w → (e : Event) (moment : ℕ) (choice : Choice) → IsRestart w e moment choice
+    → IsTrue (passed w moment).observer.are_clocks_kept → (k j : ChunkSides) (n : Machine) → HasRounds (IsLeaseOver w) k
+    → Comes (EndsAlong (found_log w.master choice) (opened w.master moment choice).changes) k j n → HasRounds (IsLeaseOver (happens w e choice).world) j
