@@ -13,6 +13,7 @@ pub mod FileSteps
 pub mod FileWalk
 pub mod GrantedRecords
 pub mod GrantedSources
+pub mod GrantsLast
 pub mod MachineSteps
 pub mod MasterChunks
 pub mod MasterKept
