@@ -39,27 +39,27 @@ use Rattle.protocol_version_laws.proofs.CopiedSources.{IsNoStart, asked_or_not, 
 use Rattle.protocol_whole_laws.specs.GrantedRecords.{IsGrantOfAttempt, IsGrantedFrom, AreGrantedFrom, StepsGrantWhatWasAttempted}
 
 -- a number is issued, or a copy begins, among these changes
-abbrev IsStart : LogChange → Type 0
+abbrev pub IsStart : LogChange → Type 0
 IsStart (AppendRecord (log.Issue handle version)) = Unit {0}
 IsStart (AppendRecord (log.CopyStart file index handle copy version)) = Unit {0}
 IsStart other = ⊥
 
-HasStart : List LogChange → Type 0
+pub HasStart : List LogChange → Type 0
 HasStart [] = ⊥
 HasStart (x ∷ xs) = IsStart x ⊎ HasStart xs
 
-start_stays : (xs ys : List LogChange) → HasStart xs → HasStart (xs ++ ys)
+pub start_stays : (xs ys : List LogChange) → HasStart xs → HasStart (xs ++ ys)
 unfolding HasStart
 start_stays [] ys h = absurd h
 start_stays (x ∷ xs) ys (inl now) = inl now
 start_stays (x ∷ xs) ys (inr later) = inr (start_stays xs ys later)
 
-start_last : (xs : List LogChange) (x : LogChange) → IsStart x → HasStart (xs ++ x ∷ [])
+pub start_last : (xs : List LogChange) (x : LogChange) → IsStart x → HasStart (xs ++ x ∷ [])
 unfolding HasStart
 start_last [] x is = inl is
 start_last (y ∷ ys) x is = inr (start_last ys x is)
 
-no_start : (xs : List LogChange) → AllOf IsNoStart xs → HasStart xs → ⊥
+pub no_start : (xs : List LogChange) → AllOf IsNoStart xs → HasStart xs → ⊥
 unfolding HasStart
 no_start [] none h = h
 no_start (AppendRecord (log.Issue handle version) ∷ xs) none (inl now) = none.0
@@ -69,17 +69,17 @@ no_start (x ∷ xs) none (inr later) = no_start xs none.1 later
 
 -- a grant of what was attempted, at a log
 module _ (first : Logged) (tried : Attempts) where
-  abbrev IsTried : ℕ → Type 0
+  abbrev pub IsTried : ℕ → Type 0
   IsTried q = (b : VersionAttempt) × (table.get tried q ≡ Some b)
 
   -- the row was there as the step began, and as much was granted, or its chunk is attempted; or the chunk is new
-  abbrev WasRow : ℕ → ChunkRow → Type 0
+  abbrev pub WasRow : ℕ → ChunkRow → Type 0
   WasRow q row = (first.next_handle ≤ q) ⊎ ((old : ChunkRow) × (chunk_of first.table q ≡ Some old) × ((old.granted ≡ row.granted) ⊎ IsTried q))
 
-  abbrev AreRows : Rows → Type 0
+  abbrev pub AreRows : Rows → Type 0
   AreRows rows = (q : ℕ) (row : ChunkRow) → table.get rows q ≡ Some row → WasRow q row
 
-  record IsGood (l : Logged) (handle version : ℕ) : Type 0 where
+  pub record IsGood (l : Logged) (handle version : ℕ) : Type 0 where
     attempt : VersionAttempt
     at : table.get tried handle ≡ Some attempt
     same : attempt.version ≡ version
@@ -88,11 +88,11 @@ module _ (first : Logged) (tried : Attempts) where
     copies : (c : Copy) → table.get l.copies handle ≡ Some c → table.get first.copies handle ≡ Some c
     sources : (c : Copy) → table.get l.copies handle ≡ Some c → (before : ChunkRow) → chunk_of l.table c.source ≡ Some before → WasRow c.source before
 
-  abbrev IsGoodChange : LogDisk → LogChange → Type 0
+  abbrev pub IsGoodChange : LogDisk → LogChange → Type 0
   IsGoodChange d (AppendRecord (log.Grant handle version primary members)) = IsGood (state_of d) handle.0 version.0
   IsGoodChange d other = Unit {0}
 
-  abbrev AreGood : LogDisk → List LogChange → Type 0
+  abbrev pub AreGood : LogDisk → List LogChange → Type 0
   AreGood d [] = Unit {0}
   AreGood d (x ∷ xs) = IsGoodChange d x × AreGood (log_changed d x) xs
 
@@ -100,12 +100,12 @@ module _ (first : Logged) (tried : Attempts) where
   good_push d [] x h one = (one, tt)
   good_push d (y ∷ ys) x h one = (h.0, good_push (log_changed d y) ys x h.1 one)
 
-  abbrev AreFromFirst : Logged → Attempts → Type 0
+  abbrev pub AreFromFirst : Logged → Attempts → Type 0
   AreFromFirst l attempts =
       (first.next_handle ≤ l.next_handle) × ((q : ℕ) (c : Copy) → table.get l.copies q ≡ Some c → table.get first.copies q ≡ Some c)
       × ((q : ℕ) (a : VersionAttempt) → table.get attempts q ≡ Some a → (b : VersionAttempt) × (table.get tried q ≡ Some b) × (b.version ≡ a.version)) × AreRows (rows_of l)
 
-  abbrev Granting : LogDisk → Core → Attempts → Waits → Type 0
+  abbrev pub Granting : LogDisk → Core → Attempts → Waits → Type 0
   Granting start c attempts ss = HasStart c.changes ⊎ (AreFromFirst c.logged attempts × AreGood start c.changes)
 
   rows_owned : (t u : Rows) → OwnedFrom t u → AreRows t → AreRows u
@@ -248,7 +248,7 @@ module _ (first : Logged) (tried : Attempts) where
       next_granted None = h.0
       next_granted (Some y) = h.0
 
-    granting_acts : Acts start NoneEnded (IsRowing start) (Granting start)
+    pub granting_acts : Acts start NoneEnded (IsRowing start) (Granting start)
     granting_acts =
         record {
           tells = λ c attempts ss receiver b quiet h. h;

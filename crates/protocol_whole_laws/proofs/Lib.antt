@@ -13,6 +13,7 @@ pub mod FileSteps
 pub mod FileWalk
 pub mod GrantedRecords
 pub mod GrantedSources
+pub mod GrantsLast
 pub mod MachineSteps
 pub mod MasterChunks
 pub mod MasterKept
@@ -42,5 +43,6 @@ pub mod UnusedNumbers
 pub mod WaitedNumbers
 pub mod WaitedSuccesses
 pub mod WholeLogs
+pub mod WholeRestarts
 pub mod WholeSteps
 pub mod WholeStops

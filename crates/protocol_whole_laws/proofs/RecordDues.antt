@@ -227,7 +227,7 @@ dues_push d [] x dues due = (due, tt)
 dues_push d (y ∷ ys) x dues due = (dues.0, dues_push (log_changed d y) ys x dues.1 due)
 
 -- chunks that are attempted stand once at most
-abbrev AreSingle : Logged → Attempts → Type 0
+abbrev pub AreSingle : Logged → Attempts → Type 0
 AreSingle l attempts = (handle : ℕ) (a : VersionAttempt) → table.get attempts handle ≡ Some a → times_in l.table.files handle ≤ 1
 
 module _ (start : LogDisk) where
@@ -237,13 +237,13 @@ module _ (start : LogDisk) where
   pushed : (c : Core) (x : LogChange) → IsRowing start c → AreLogDues start c.changes → IsLogDue c.disk x → AreLogDues start (c.changes ++ x ∷ [])
   pushed c x n dues due = dues_push start c.changes x dues (subst (λ (d : LogDisk). IsLogDue d x) (sym n.disk) due)
 
-  used : (c : Core) → IsRowing start c → (h : ℕ) → 1 ≤ times_in c.logged.table.files h → h < c.logged.next_handle
+  pub used : (c : Core) → IsRowing start c → (h : ℕ) → 1 ≤ times_in c.logged.table.files h → h < c.logged.next_handle
   used c n h some =
       let low = n.tied.base.log.below h (let same = ap (λ (files : Files). times_in files h) n.tied.base.base.files in omega (arith, same, some)) in
       let next = ap (λ (p : Parts). p.next_handle) n.same in
       omega (arith, low, next)
 
-  not_copied : (l : Logged) (attempts : Attempts) (ss : Waits) (now : ℕ) (r : Record) (handle : ℕ) (a : VersionAttempt) → IsBeside l attempts ss now r → table.get attempts handle ≡ Some a → IsNotCopied l r handle
+  pub not_copied : (l : Logged) (attempts : Attempts) (ss : Waits) (now : ℕ) (r : Record) (handle : ℕ) (a : VersionAttempt) → IsBeside l attempts ss now r → table.get attempts handle ≡ Some a → IsNotCopied l r handle
   not_copied l attempts ss now (log.Snapshot client number from to) handle a beside at = λ x id below is some. (beside.2 x id below is).0 handle some a at
   not_copied l attempts ss now other handle a beside at = tt
 
@@ -292,7 +292,7 @@ module _ (start : LogDisk) where
       }
 
 -- a chunk with several owners isn't attempted
-single_here : (config : Config) (servers clients : ℕ) (w : WorldState) → IsReached config servers clients w → IsTrue w.observer.are_clocks_kept → IsTrue w.master.up → AreSingle w.master.logged w.master.attempts
+pub single_here : (config : Config) (servers clients : ℕ) (w : WorldState) → IsReached config servers clients w → IsTrue w.observer.are_clocks_kept → IsTrue w.master.up → AreSingle w.master.logged w.master.attempts
 single_here config servers clients w r clocks up handle a at = by_times (times_in w.master.logged.table.files handle) refl
   where
     all : HasAllReferences w.master.logged.table

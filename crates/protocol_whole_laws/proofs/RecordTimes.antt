@@ -18,7 +18,7 @@ use Rattle.protocol_laws.proofs.CountsLogged.{fresh}
 use Rattle.protocol_laws.proofs.MasterMoves.{IsDue, IsNoGrantRecord}
 use Rattle.protocol_step_laws.proofs.Awaited.{EachFile}
 
-with_at_most : (hs : List ℕ) (index to q : ℕ) → stands q (with_at hs index to) ≤ stands q hs + tally (to == q)
+pub with_at_most : (hs : List ℕ) (index to q : ℕ) → stands q (with_at hs index to) ≤ stands q hs + tally (to == q)
 with_at_most [] index to q = omega arith
 with_at_most (x ∷ xs) zero to q = let new = count-cons (λ h. h == q) to xs in let old = count-cons (λ h. h == q) x xs in omega (arith, new, old)
 with_at_most (x ∷ xs) (suc index) to q =

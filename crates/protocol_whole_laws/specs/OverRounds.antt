@@ -1,5 +1,5 @@
 -- The rounds that may end in a step of the master are of chunks whose leases are over as its moment has passed (sections 3.1 and 3.4).
-use Rattle.std.specs.Prelude.{◌≡◌, ◌⊎◌, ℕ, nat_le, Some, Bool, List, [], ◌∷◌, IsTrue}
+use Rattle.std.specs.Prelude.{◌≡◌, ◌⊎◌, ℕ, ◌≤◌, nat_le, Some, Bool, List, [], ◌∷◌, IsTrue}
 use Rattle.gfs_types.specs.declared.config.Config.{Config}
 use Rattle.gfs_types.specs.declared.ids.Moment.{Moment}
 use Rattle.gfs_types.specs.declared.ids.Node.TheVariants as node
@@ -10,15 +10,16 @@ use Rattle.messages.specs.declared.event.Input.TheVariants as input
 use Rattle.messages.specs.declared.message.Message.{Message}
 use Rattle.log_records.specs.declared.record.Record.TheVariants as log
 use Rattle.relaxed_file.specs.Machine.{Machine}
+use Rattle.protocol.specs.Tables.{element_at, moment_limit}
 use Rattle.protocol.specs.Logged.{LogDisk, LogChange, AppendRecord, log_changed, log_changed_by_all}
 use Rattle.protocol.specs.Choice.{Choice, Goes, Stops}
-use Rattle.protocol.specs.MasterStep.{master_step, master_goes}
+use Rattle.protocol.specs.Master.{MasterState}
+use Rattle.protocol.specs.MasterStep.{master_step, master_goes, found_log, master_restart}
 use Rattle.protocol.specs.Observer.{observed_moment}
 use Rattle.protocol.specs.World.{WorldState, IsReached, numbered_from_1, happens, after_master}
-use Rattle.protocol.specs.Tables.{moment_limit}
 use Rattle.protocol_step_laws.specs.Versions.{IsLeaseOver, AreLeasesOver}
 use Rattle.protocol_name_laws.specs.Alike.{Requests}
-use Rattle.protocol_name_laws.specs.FollowedSteps.{log_left}
+use Rattle.protocol_name_laws.specs.FollowedSteps.{log_left, opened}
 use Rattle.protocol_name_laws.specs.NameTrails.{log_read, IsBesideLog}
 use Rattle.protocol_machine_laws.specs.ChunksAlike.{ChunkSides, HasRounds}
 use Rattle.protocol_whole_laws.specs.MasterSteps.{IsWhole, Comes, WholeTrail}
@@ -71,6 +72,17 @@ abbrev pub AreGrantsLast : LogDisk → List LogChange → Type 0
 AreGrantsLast d [] = Unit {0}
 AreGrantsLast d (x ∷ rest) = IsGrantLast (log_changed d x) rest x × AreGrantsLast (log_changed d x) rest
 
+-- what the master takes was sent
+abbrev pub WasSent : WorldState → Input → Type 0
+WasSent w (input.Deliver m) = (place : ℕ) × (element_at w.sent place ≡ Some m)
+WasSent w input.Tick = Unit {0}
+
+-- Where leases last, nothing that a step of the master grants ends in the same step.
+abbrev pub GrantsAreLast : Type 0
+GrantsAreLast =
+    (config : Config) (servers clients : ℕ) (w : WorldState) → IsReached config servers clients w → IsTrue w.observer.are_clocks_kept → IsTrue w.master.up → 1 ≤ config.lease_ms
+    → (moment : ℕ) (i : Input) → WasSent w i → (refused : List Bool) → AreGrantsLast w.master.disk (master_goes w.master moment i refused).changes
+
 -- Where a step goes through, the whole machine is beside the log in the end, and the round of each lease that isn't over is open again, if nothing that the step grants ends in it too.
 abbrev pub StepsKeepRounds : Type 0
 StepsKeepRounds =
@@ -80,3 +92,18 @@ StepsKeepRounds =
     → WholeTrail requests n w.master.disk w.master.disk k (master_goes w.master moment i choice.refused).changes later → AreGrantsLast w.master.disk (master_goes w.master moment i choice.refused).changes
     → (j : ChunkSides) × (j.log ≡ log_read (log_changed_by_all w.master.disk (master_goes w.master moment i choice.refused).changes)) × (j.orders ≡ k.orders)
     × Comes (EndsAlong w.master.disk (master_goes w.master moment i choice.refused).changes) k j later × HasRounds (IsLeaseOver (happens w e choice).world) j
+
+-- The opening of a restart ends no round.
+abbrev pub OpeningsEndNoRound : Type 0
+OpeningsEndNoRound = (m : MasterState) (moment : ℕ) (choice : Choice) (handle : ℕ) → EndsAlong (found_log m choice) (opened m moment choice).changes handle → ⊥
+
+-- the event is a restart of the master
+abbrev pub IsRestart : WorldState → Event → ℕ → Choice → Type 0
+IsRestart w e moment choice = (happens w e choice).world ≡ (after_master w moment (master_restart w.master moment choice)).world
+
+-- At a restart of the master the round of each lease that isn't over stays open, whatever the opening comes to.
+abbrev pub RestartsKeepRounds : Type 0
+RestartsKeepRounds =
+    (config : Config) (servers clients : ℕ) (w : WorldState) → IsReached config servers clients w → (e : Event) (moment : ℕ) (choice : Choice) → IsRestart w e moment choice
+    → IsTrue (passed w moment).observer.are_clocks_kept → (k j : ChunkSides) (n : Machine) → HasRounds (IsLeaseOver w) k
+    → Comes (EndsAlong (found_log w.master choice) (opened w.master moment choice).changes) k j n → HasRounds (IsLeaseOver (happens w e choice).world) j

@@ -1,6 +1,6 @@
 //! Laws of the whole machine beside a whole step of the master in a reached world, its stops and its restarts.
 
-ghost use Rattle.protocol_whole_laws.specs.OverRounds.{MastersEventsAreSteps, RoundsThatEndAreOver, RoundsThatEndStayOver, StepsKeepRounds, StoppedStepsKeepRounds};
+ghost use Rattle.protocol_whole_laws.specs.OverRounds.{GrantsAreLast, MastersEventsAreSteps, OpeningsEndNoRound, RestartsKeepRounds, RoundsThatEndAreOver, RoundsThatEndStayOver, StepsKeepRounds, StoppedStepsKeepRounds};
 ghost use Rattle.protocol_whole_laws.specs.WholeSteps.{EndsAreReached, MasterStepsAreTaken, OnlyAsksAddChunks, RestartsAreTaken, StatesHaveTheirLogsFiles, StopsAreTaken};
 
 /// A step of the master: the whole machine follows each change of its log, where calls asked for the chunks that are added.
@@ -56,4 +56,19 @@ pub fn steps_keep_rounds()
 /// A tick of a master that is up, and a message that is delivered to it, are its steps.
 pub fn masters_events_are_steps()
     ensures { MastersEventsAreSteps }
+{}
+
+/// The opening of a restart ends no round.
+pub fn openings_end_no_round()
+    ensures { OpeningsEndNoRound }
+{}
+
+/// So the round of each lease that isn't over stays open at a restart of the master.
+pub fn restarts_keep_rounds()
+    ensures { RestartsKeepRounds }
+{}
+
+/// Where leases last, nothing that a step of the master grants ends in the same step.
+pub fn grants_are_last()
+    ensures { GrantsAreLast }
 {}
