@@ -42,7 +42,7 @@ use Rattle.protocol_laws.proofs.RowsKept.{rows_kept}
 use Rattle.protocol_laws.proofs.NamesReached.{naming_keeps, IsUpToLog, logged_here}
 use Rattle.protocol_laws.proofs.OrderNumbers.{state_of}
 use Rattle.protocol_laws.proofs.MasterMoves.{Core, core_appended, core_granted, core_ended, grant_record, IsDue, IsNoGrantRecord, IsLeaseFrom, Nothing, NoneEnded, Keeps}
-use Rattle.protocol_step_laws.proofs.MasterActs.{IsRowing, core_checkpointed, Waits, Acts}
+use Rattle.protocol_step_laws.proofs.MasterActs.{IsRowing, Waits, Acts}
 use Rattle.protocol_step_laws.proofs.Awaited.{Attempts, EachFile}
 use Rattle.protocol_step_laws.proofs.AwaitedRecords.{IsBeside}
 use Rattle.protocol_step_laws.proofs.WaitsKept.{waits_here}
@@ -58,7 +58,7 @@ use Rattle.protocol_whole_laws.specs.WholeSteps.{EndsAlong}
 use Rattle.protocol_whole_laws.specs.OverRounds.{IsGrantLast, AreGrantsLast, WasSent, GrantsAreLast}
 use Rattle.protocol_whole_laws.proofs.RecordTimes.{with_at_most, swapped_times, IsNotCopied, times_after}
 use Rattle.protocol_whole_laws.proofs.RecordDues.{AreSingle, single_here, used, not_copied}
-use Rattle.protocol_whole_laws.proofs.GrantedRecords.{HasStart, start_stays, start_last, no_start, AreFromFirst, AreGood, Granting, granting_acts}
+use Rattle.protocol_whole_laws.proofs.GrantedRecords.{HasStart, start_stays, start_last, no_start, AreFromFirst, Granting, granting_acts}
 
 -- what was granted so far
 
