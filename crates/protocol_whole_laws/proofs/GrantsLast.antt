@@ -1,5 +1,5 @@
 -- Nothing that a step of the master grants ends in the same step: no attempt of it is left, it stands once, nothing is copied from it, and its lease was just set to last.
-use Rattle.std.proofs.Common.{◌≡◌, ◌⊎◌, ℕ, ◌≤◌, ◌<◌, Bool, List, [], ◌∷◌, ◌++◌, Option, Some, None, refl, sym, ap, subst, ◌∙◌, inl, inr, arith}
+use Rattle.std.proofs.Common.{◌≡◌, ◌⊎◌, ℕ, zero, suc, ◌≤◌, ◌<◌, Bool, List, [], ◌∷◌, ◌++◌, Option, Some, None, refl, sym, ap, subst, ◌∙◌, inl, inr, arith}
 use Rattle.std.specs.Prelude.{IsTrue}
 use Rattle.std.specs.FinMap as table
 use Rattle.gfs_types.specs.Paths.{Path}
@@ -19,7 +19,7 @@ use Rattle.protocol.specs.Sending.{handle_of, version_of}
 use Rattle.protocol.specs.Logged.{Logged, Copy, LogDisk, LogChange, AppendRecord, WriteCheckpoint, log_changed, log_changed_by_all, after_record, checkpoint_of, copies_given_up, all_copies_given_up, swapped_in}
 use Rattle.protocol.specs.Master.{MasterState, VersionAttempt}
 use Rattle.protocol.specs.MasterStep.{master_goes}
-use Rattle.protocol.specs.World.{WorldState, IsReached, new_world}
+use Rattle.protocol.specs.World.{WorldState, IsReached, new_world, numbered_from_1}
 use Rattle.protocol_laws.specs.Laws.{times_in}
 use Rattle.protocol_laws.proofs.Steps.{none_some, same_some, same_or_not, put_cases, kept_cases, removed_cases, gone_there}
 use Rattle.protocol_laws.proofs.Entries.{AllOf}
@@ -42,7 +42,7 @@ use Rattle.protocol_laws.proofs.RowsKept.{rows_kept}
 use Rattle.protocol_laws.proofs.NamesReached.{naming_keeps, IsUpToLog, logged_here}
 use Rattle.protocol_laws.proofs.OrderNumbers.{state_of}
 use Rattle.protocol_laws.proofs.MasterMoves.{Core, core_appended, core_granted, core_ended, grant_record, IsDue, IsNoGrantRecord, IsLeaseFrom, Nothing, NoneEnded, Keeps}
-use Rattle.protocol_step_laws.proofs.MasterActs.{IsRowing, core_checkpointed, Waits, Acts}
+use Rattle.protocol_step_laws.proofs.MasterActs.{IsRowing, Waits, Acts}
 use Rattle.protocol_step_laws.proofs.Awaited.{Attempts, EachFile}
 use Rattle.protocol_step_laws.proofs.AwaitedRecords.{IsBeside}
 use Rattle.protocol_step_laws.proofs.WaitsKept.{waits_here}
@@ -58,7 +58,7 @@ use Rattle.protocol_whole_laws.specs.WholeSteps.{EndsAlong}
 use Rattle.protocol_whole_laws.specs.OverRounds.{IsGrantLast, AreGrantsLast, WasSent, GrantsAreLast}
 use Rattle.protocol_whole_laws.proofs.RecordTimes.{with_at_most, swapped_times, IsNotCopied, times_after}
 use Rattle.protocol_whole_laws.proofs.RecordDues.{AreSingle, single_here, used, not_copied}
-use Rattle.protocol_whole_laws.proofs.GrantedRecords.{HasStart, start_stays, start_last, no_start, AreFromFirst, AreGood, Granting, granting_acts}
+use Rattle.protocol_whole_laws.proofs.GrantedRecords.{HasStart, start_stays, start_last, no_start, AreFromFirst, Granting, granting_acts}
 
 -- what was granted so far
 
@@ -588,8 +588,12 @@ module _ (config : Config) (servers clients : ℕ) (w : WorldState) (r : IsReach
   word_said m place sent other same = tt
 
   input_said : (i : Input) → WasSent w i → IsInputSaid (IsEarlier w.master.logged w.master.attempts) i
-  input_said (input.Deliver m) sent = word_said m sent.0 sent.1 m.body refl
   input_said input.Tick sent = tt
+  input_said (input.Deliver m) sent = by_number sent.0 sent.1
+    where
+      by_number : (number : ℕ) → numbered_from_1 w.sent number ≡ Some m → IsWordSaid (IsEarlier w.master.logged w.master.attempts) m.body
+      by_number zero none = none_some m none
+      by_number (suc place) at = word_said m place at m.body refl
 
   config_is : w.master.config ≡ config
   config_is = timed.clock.0 ∙ ap (λ (v : WorldState). v.config) (sym r.1) ∙ config_stays config (new_world config servers clients) r.0 refl

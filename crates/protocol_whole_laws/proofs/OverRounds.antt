@@ -56,6 +56,7 @@ use Rattle.protocol_whole_laws.proofs.WholeStops.{stops_are_taken, ends_are_reac
 use Rattle.protocol_whole_laws.proofs.MasterChunks.{all_references}
 use Rattle.protocol_whole_laws.proofs.RecordDues.{row_there}
 use Rattle.protocol_whole_laws.proofs.GrantedRecords.{steps_grant_what_was_attempted}
+use Rattle.protocol_whole_laws.proofs.GrantsLast.{grants_are_last}
 
 -- worlds with the same servers and messages, of which one is not earlier
 over_later : (v u : WorldState) → u.servers ≡ v.servers → v.observer.greatest ≤ u.observer.greatest → ((place : ℕ) (m : Message) → element_at u.sent place ≡ Some m → element_at v.sent place ≡ Some m) → (handle : ℕ) → AreLeasesOver v handle → AreLeasesOver u handle
@@ -379,7 +380,9 @@ open_at_end j handle version (x ∷ xs) d opened last (inl now) = by_change x op
     by_change other found none same = absurd same
 
 pub steps_keep_rounds : StepsKeepRounds
-steps_keep_rounds config servers clients w r up e moment i event clocks choice ends requests k n later h is rounds trail last =
+steps_keep_rounds config servers clients w r up e moment i event clocks choice ends long sent requests k n later h is rounds trail =
+    let last : AreGrantsLast w.master.disk (master_goes w.master moment i choice.refused).changes =
+    grants_are_last config servers clients w r (kept config servers clients w r up e moment i event clocks choice) up long moment i sent choice.refused in
     let changes : List LogChange = (master_goes w.master moment i choice.refused).changes in
     let end = ends_are_reached requests n w.master.disk w.master.disk changes k n later h is trail in
     let j : ChunkSides = end.0 in

@@ -1,28 +1,23 @@
 -- A restart of the master ends no round and grants nothing.
-use Rattle.std.proofs.Common.{◌≡◌, ◌⊎◌, ℕ, suc, ◌≤◌, List, [], ◌∷◌, ◌++◌, length, refl, sym, ap, subst, ◌∙◌, inl, inr, arith}
+use Rattle.std.proofs.Common.{◌≡◌, ◌⊎◌, ℕ, suc, List, [], ◌++◌, length, refl, sym, ap, subst, ◌∙◌, inl, inr, arith}
 use Rattle.std.specs.Prelude.{◌&&◌, IsTrue}
-use Rattle.gfs_types.specs.declared.config.Config.{Config}
-use Rattle.messages.specs.declared.event.Event.{Event}
 use Rattle.messages.specs.declared.message.Message.{Message}
 use Rattle.log_records.specs.declared.record.Record.TheVariants as log
-use Rattle.relaxed_file.specs.Machine.{Machine}
 use Rattle.protocol.specs.Choice.{Choice, Ending, Goes, Lost, Stops}
 use Rattle.protocol.specs.Seen.{Taken}
 use Rattle.protocol.specs.Logged.{LogDisk}
 use Rattle.protocol.specs.Master.{MasterState, MasterDoing, master_begins}
-use Rattle.protocol.specs.MasterStep.{is_within_limits, found_log, started_master, opening, has_opened, opens_as, master_restart}
-use Rattle.protocol.specs.World.{WorldState, IsReached, stamped, happens, after_master}
+use Rattle.protocol.specs.MasterStep.{is_within_limits, found_log, started_master, opening, has_opened, opens_as}
+use Rattle.protocol.specs.World.{WorldState, stamped, happens}
 use Rattle.protocol_laws.specs.Laws.{grants_of}
 use Rattle.protocol_laws.proofs.Steps.{on_cond}
 use Rattle.protocol_laws.proofs.MasterMoves.{logs_alone}
-use Rattle.protocol_step_laws.specs.Versions.{IsLeaseOver, AreLeasesOver}
-use Rattle.protocol_name_laws.specs.FollowedSteps.{opened}
-use Rattle.protocol_machine_laws.specs.ChunksAlike.{ChunkSides, KeepsRounds, HasRounds}
+use Rattle.protocol_step_laws.specs.Versions.{AreLeasesOver}
+use Rattle.protocol_machine_laws.specs.ChunksAlike.{KeepsRounds}
 use Rattle.protocol_machine_laws.specs.OpenRounds.{NewRoundsAreOpen}
 use Rattle.protocol_machine_laws.proofs.OpenRounds.{rounds_go_with_leases}
-use Rattle.protocol_whole_laws.specs.MasterSteps.{Comes}
 use Rattle.protocol_whole_laws.specs.WholeSteps.{EndsAlong}
-use Rattle.protocol_whole_laws.specs.OverRounds.{passed, OpeningsEndNoRound, IsRestart, RestartsKeepRounds}
+use Rattle.protocol_whole_laws.specs.OverRounds.{OpeningsEndNoRound, RestartsKeepRounds}
 use Rattle.protocol_whole_laws.proofs.OverRounds.{append_nil}
 
 pub openings_end_no_round : OpeningsEndNoRound

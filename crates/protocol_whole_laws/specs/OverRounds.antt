@@ -10,7 +10,7 @@ use Rattle.messages.specs.declared.event.Input.TheVariants as input
 use Rattle.messages.specs.declared.message.Message.{Message}
 use Rattle.log_records.specs.declared.record.Record.TheVariants as log
 use Rattle.relaxed_file.specs.Machine.{Machine}
-use Rattle.protocol.specs.Tables.{element_at, moment_limit}
+use Rattle.protocol.specs.Tables.{moment_limit}
 use Rattle.protocol.specs.Logged.{LogDisk, LogChange, AppendRecord, log_changed, log_changed_by_all}
 use Rattle.protocol.specs.Choice.{Choice, Goes, Stops}
 use Rattle.protocol.specs.Master.{MasterState}
@@ -74,7 +74,7 @@ AreGrantsLast d (x ∷ rest) = IsGrantLast (log_changed d x) rest x × AreGrants
 
 -- what the master takes was sent
 abbrev pub WasSent : WorldState → Input → Type 0
-WasSent w (input.Deliver m) = (place : ℕ) × (element_at w.sent place ≡ Some m)
+WasSent w (input.Deliver m) = (number : ℕ) × (numbered_from_1 w.sent number ≡ Some m)
 WasSent w input.Tick = Unit {0}
 
 -- Where leases last, nothing that a step of the master grants ends in the same step.
@@ -83,13 +83,13 @@ GrantsAreLast =
     (config : Config) (servers clients : ℕ) (w : WorldState) → IsReached config servers clients w → IsTrue w.observer.are_clocks_kept → IsTrue w.master.up → 1 ≤ config.lease_ms
     → (moment : ℕ) (i : Input) → WasSent w i → (refused : List Bool) → AreGrantsLast w.master.disk (master_goes w.master moment i refused).changes
 
--- Where a step goes through, the whole machine is beside the log in the end, and the round of each lease that isn't over is open again, if nothing that the step grants ends in it too.
+-- Where a step goes through, the whole machine is beside the log in the end, and the round of each lease that isn't over is open again.
 abbrev pub StepsKeepRounds : Type 0
 StepsKeepRounds =
     (config : Config) (servers clients : ℕ) (w : WorldState) → IsReached config servers clients w → IsTrue w.master.up → (e : Event) (moment : ℕ) (i : Input) → IsMastersEvent w e moment i
-    → IsTrue (passed w moment).observer.are_clocks_kept → (choice : Choice) → choice.ending ≡ Goes
+    → IsTrue (passed w moment).observer.are_clocks_kept → (choice : Choice) → choice.ending ≡ Goes → 1 ≤ config.lease_ms → WasSent w i
     → (requests : Requests) (k : ChunkSides) (n later : Machine) → IsWhole k n → k.log ≡ log_read w.master.disk → HasRounds (IsLeaseOver w) k
-    → WholeTrail requests n w.master.disk w.master.disk k (master_goes w.master moment i choice.refused).changes later → AreGrantsLast w.master.disk (master_goes w.master moment i choice.refused).changes
+    → WholeTrail requests n w.master.disk w.master.disk k (master_goes w.master moment i choice.refused).changes later
     → (j : ChunkSides) × (j.log ≡ log_read (log_changed_by_all w.master.disk (master_goes w.master moment i choice.refused).changes)) × (j.orders ≡ k.orders)
     × Comes (EndsAlong w.master.disk (master_goes w.master moment i choice.refused).changes) k j later × HasRounds (IsLeaseOver (happens w e choice).world) j
 

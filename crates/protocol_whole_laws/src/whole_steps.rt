@@ -48,7 +48,7 @@ pub fn rounds_that_end_stay_over()
     ensures { RoundsThatEndStayOver }
 {}
 
-/// Where a step goes through, the round of each lease that isn't over is open again, if nothing that it grants ends in it too.
+/// Where a step goes through, the round of each lease that isn't over is open again, where leases last.
 pub fn steps_keep_rounds()
     ensures { StepsKeepRounds }
 {}
