@@ -150,7 +150,7 @@ module _ (config : Config) (trace : List Visible) (greatest : ℕ) (sent : List 
   abbrev PassedBy : List Visible → ℕ → Type 0
   PassedBy more passed = (n : Machine) × IsNamesBeside config more passed sent l ss n requests × ((q : ℕ) → IsLeft (m.clients q) (n.clients q))
 
-  passes_on : (moment : ℕ) → nat_lt greatest moment ≡ true → PassedBy (trace ++ Passed moment ∷ []) moment
+  pub passes_on : (moment : ℕ) → nat_lt greatest moment ≡ true → PassedBy (trace ++ Passed moment ∷ []) moment
   passes_on moment ahead =
       let n : Machine = after m (Pass moment) in
       let now = h.clock in
