@@ -41,6 +41,9 @@ pub mod UnaskedAdds
 pub mod UnusedNumbers
 pub mod WaitedNumbers
 pub mod WaitedSuccesses
+pub mod WholeClients
 pub mod WholeLogs
+pub mod WholeMoves
 pub mod WholeSteps
 pub mod WholeStops
+pub mod WholeWorlds
