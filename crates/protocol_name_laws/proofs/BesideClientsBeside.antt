@@ -150,8 +150,8 @@ module _ (config : Config) (trace : List Visible) (greatest : ℕ) (sent : List 
   abbrev PassedBy : List Visible → ℕ → Type 0
   PassedBy more passed = (n : Machine) × IsNamesBeside config more passed sent l ss n requests × ((q : ℕ) → IsLeft (m.clients q) (n.clients q))
 
-  passes_on : (moment : ℕ) → nat_lt greatest moment ≡ true → PassedBy (trace ++ Passed moment ∷ []) moment
-  passes_on moment ahead =
+  pub passes_at : (moment : ℕ) → nat_lt greatest moment ≡ true → IsNamesBeside config (trace ++ Passed moment ∷ []) moment sent l ss (after m (Pass moment)) requests
+  passes_at moment ahead =
       let n : Machine = after m (Pass moment) in
       let now = h.clock in
       let before = ltb-true greatest moment ahead in
@@ -159,19 +159,19 @@ module _ (config : Config) (trace : List Visible) (greatest : ℕ) (sent : List 
       let both = name_runs_go_on (new_machine config) m n h.run (single m (Pass moment) allowed refl) in
       let passed = moments_pass l (lasting config.skew_ms greatest ss) m requests moment h.alike in
       let locks = all_fewer (HoldsLocks n requests) (lasts config.skew_ms moment) (lasts config.skew_ms greatest) ss
-      (λ s is. let long = ltb-true moment (s.deadline + config.skew_ms) is in lt-ltb greatest (s.deadline + config.skew_ms) (omega (arith, long, before))) passed.0.locks in (
-        n,
-        record {
-          run = both.0;
-          seen = both.1 ∙ ap (λ (xs : List Visible). xs ++ Passed moment ∷ []) h.seen ∙ sym (part_grows none_called trace (Passed moment));
-          clock = refl;
-          alike = relocked l (lasting config.skew_ms greatest ss) (lasting config.skew_ms moment ss) n requests passed.0 locks;
-          told = λ x is. passed.1 x (h.told x is);
-          known = λ x is. known_on m n requests requests (client_number x.sender) (left_same (m.clients (client_number x.sender))) refl l.kept x.body allowed refl (h.known x is);
-          later = h.later;
-        },
-        λ q. left_same (m.clients q),
-      )
+      (λ s is. let long = ltb-true moment (s.deadline + config.skew_ms) is in lt-ltb greatest (s.deadline + config.skew_ms) (omega (arith, long, before))) passed.0.locks in
+      record {
+        run = both.0;
+        seen = both.1 ∙ ap (λ (xs : List Visible). xs ++ Passed moment ∷ []) h.seen ∙ sym (part_grows none_called trace (Passed moment));
+        clock = refl;
+        alike = relocked l (lasting config.skew_ms greatest ss) (lasting config.skew_ms moment ss) n requests passed.0 locks;
+        told = λ x is. passed.1 x (h.told x is);
+        known = λ x is. known_on m n requests requests (client_number x.sender) (left_same (m.clients (client_number x.sender))) refl l.kept x.body allowed refl (h.known x is);
+        later = h.later;
+      }
+
+  passes_on : (moment : ℕ) → nat_lt greatest moment ≡ true → PassedBy (trace ++ Passed moment ∷ []) moment
+  passes_on moment ahead = (after m (Pass moment), passes_at moment ahead, λ q. left_same (m.clients q))
 
   pub passes : (moment : ℕ) → PassedBy (passed_trace greatest moment trace) (max greatest moment)
   passes moment = by_test (nat_lt greatest moment) refl

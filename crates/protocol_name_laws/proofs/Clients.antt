@@ -204,13 +204,17 @@ module _ (config : Config) (trace : List Visible) (greatest : ℕ) (clients : Li
     Left more t ms = Beside config more greatest (with_at clients index t) (sent ++ stamped k ms) l ss
 
     -- nothing is said, and the machine stays
-    pub stays_with : (t : ClientState) → (IsTrue t.up → IsClientBeside config trace greatest t m requests client) → Left trace t []
-    stays_with t own = (
-      m,
-      requests,
+    abbrev pub LeftAt : List Visible → ClientState → List Message → Type 0
+    LeftAt more t ms = IsNamesBeside config more greatest (sent ++ stamped k ms) l ss m requests × AreClientsBeside config more greatest (with_at clients index t) m requests
+
+    pub stays_at : (t : ClientState) → (IsTrue t.up → IsClientBeside config trace greatest t m requests client) → LeftAt trace t []
+    stays_at t own = (
       says_else config trace greatest sent l ss m requests h k [] (λ x none. none_sent x none),
       one_on config trace trace greatest clients m m requests requests index t (λ q not. left_same (m.clients q)) (λ q not. refl) (λ q not. refl) own all,
     )
+
+    pub stays_with : (t : ClientState) → (IsTrue t.up → IsClientBeside config trace greatest t m requests client) → Left trace t []
+    stays_with t own = let there = stays_at t own in (m, requests, there.0, there.1)
 
     answered_last : (a : Option Answer) (q : ℕ) → last_calls none_called (answered_trace client a trace) q ≡ last_calls none_called trace q
     answered_last None q = refl
@@ -234,11 +238,9 @@ module _ (config : Config) (trace : List Visible) (greatest : ℕ) (clients : Li
     file_stage None a c is now = none_some c now
     file_stage (Some e) a c is now = subst (λ (x : CurrentCall). is_asked_names x.stage ≡ false) (same_some e c now) (of_file e.stage is.0)
 
-    pub file_goes : (s : ClientState) (moment : ℕ) (d : ClientDoing) → IsClientBeside config trace greatest s m requests client → moment ≤ greatest → IsFileStep s moment d → (m.clients client).open_call ≡ None
-        → is_naming (last_calls none_called trace client) ≡ false → Left (answered_trace client d.answer trace) d.client (option_to_list d.sent)
-    file_goes s moment d own reached step idle plain = (
-      m,
-      requests,
+    pub file_goes_at : (s : ClientState) (moment : ℕ) (d : ClientDoing) → IsClientBeside config trace greatest s m requests client → moment ≤ greatest → IsFileStep s moment d → (m.clients client).open_call ≡ None
+        → is_naming (last_calls none_called trace client) ≡ false → LeftAt (answered_trace client d.answer trace) d.client (option_to_list d.sent)
+    file_goes_at s moment d own reached step idle plain = (
       says_else config (answered_trace client d.answer trace) greatest sent l ss m requests
           (reseen config trace greatest sent l ss m requests h (answered_trace client d.answer trace) (file_answered config trace greatest sent l ss m requests h client d.answer plain)) k (option_to_list d.sent)
           (λ x is. step.says x (sent_one d.sent x is)),
@@ -250,6 +252,10 @@ module _ (config : Config) (trace : List Visible) (greatest : ℕ) (clients : Li
             now = (let at = step.now in let low = max-le own.now reached in omega (arith, at, low));
           }) all,
     )
+
+    pub file_goes : (s : ClientState) (moment : ℕ) (d : ClientDoing) → IsClientBeside config trace greatest s m requests client → moment ≤ greatest → IsFileStep s moment d → (m.clients client).open_call ≡ None
+        → is_naming (last_calls none_called trace client) ≡ false → Left (answered_trace client d.answer trace) d.client (option_to_list d.sent)
+    file_goes s moment d own reached step idle plain = let there = file_goes_at s moment d own reached step idle plain in (m, requests, there.0, there.1)
 
     -- what a client asks of names is known of its open call
     pub asks_known : (t : ClientState) (n : Machine) (later : Requests) (q : ℕ) (b : Body) → IsBesideClient t n later client → IsForTheCall t b → IsToldTo n later q b × IsKnown l.kept n later client b

@@ -64,7 +64,7 @@ pub record BesideMaster (config : Config) (trace : List Visible) (greatest : ℕ
 
 -- the clock
 
-passed_last : (trace : List Visible) (greatest moment q : ℕ) → last_calls none_called (passed_trace greatest moment trace) q ≡ last_calls none_called trace q
+pub passed_last : (trace : List Visible) (greatest moment q : ℕ) → last_calls none_called (passed_trace greatest moment trace) q ≡ last_calls none_called trace q
 passed_last trace greatest moment q =
     on_cond (λ (xs : List Visible). last_calls none_called xs q ≡ last_calls none_called trace q) (nat_lt greatest moment) (trace ++ Passed moment ∷ []) trace
     (λ _. ap (λ (f : LastCalls). f q) (calls_grow none_called trace (Passed moment))) (λ _. refl)

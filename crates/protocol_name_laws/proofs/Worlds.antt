@@ -56,18 +56,18 @@ none_there config file =
     by_tests true false c apart = refl
     by_tests false b c apart = refl
 
-new_one : (config : Config) (xs : List ℕ) (index : ℕ) (s : ClientState) → element_at (map (new_client config) xs) index ≡ Some s → (id : ℕ) × (new_client config id ≡ s)
+pub new_one : (config : Config) (xs : List ℕ) (index : ℕ) (s : ClientState) → element_at (map (new_client config) xs) index ≡ Some s → (id : ℕ) × (new_client config id ≡ s)
 new_one config [] index s is = none_some s is
 new_one config (x ∷ xs) zero s is = (x, same_some (new_client config x) s is)
 new_one config (x ∷ xs) (suc index) s is = new_one config xs index s is
 
-new_clients : (config : Config) (count : ℕ) → AreClientsBeside config [] 0 (map (new_client config) (first_numbers count)) (new_machine config) (λ q. None)
+pub new_clients : (config : Config) (count : ℕ) → AreClientsBeside config [] 0 (map (new_client config) (first_numbers count)) (new_machine config) (λ q. None)
 new_clients config count index s is up =
     let one = new_one config (first_numbers count) index s is in
     subst (λ (t : ClientState). IsClientBeside config [] 0 t (new_machine config) (λ q. None) (suc index)) one.1
     (record { beside = record { call = refl; count = refl }; naming = λ c none. none_some c none; settings = refl; now = omega arith })
 
-new_names : (config : Config) (servers : ℕ) → IsNamesBeside config [] 0 [] (new_master config servers).logged (new_master config servers).snapshots (new_machine config) (λ q. None)
+pub new_names : (config : Config) (servers : ℕ) → IsNamesBeside config [] 0 [] (new_master config servers).logged (new_master config servers).snapshots (new_machine config) (λ q. None)
 new_names config servers =
     record {
       run = ([], tt, refl, refl);
@@ -97,7 +97,7 @@ observed_fields o client None = (refl, refl, refl)
 observed_fields o client (Some reply) = (refl, refl, refl)
 
 -- a moment that passed does not pass again
-passed_once : (trace : List Visible) (greatest moment : ℕ) → moment ≤ greatest → (trace ≡ passed_trace greatest moment trace) × (greatest ≡ max greatest moment)
+pub passed_once : (trace : List Visible) (greatest moment : ℕ) → moment ≤ greatest → (trace ≡ passed_trace greatest moment trace) × (greatest ≡ max greatest moment)
 passed_once trace greatest moment reached = (by_test (nat_lt greatest moment) refl, sym (max-eq_left reached))
   where
     by_test : (b : Bool) → nat_lt greatest moment ≡ b → trace ≡ passed_trace greatest moment trace
@@ -110,7 +110,7 @@ silent_of (body.Look number c) is = is
 silent_of (body.Named number reply) is = is
 silent_of other is = tt
 
-all_silent : (ms : List Message) → AreSilent ms → (x : Message) → IsSent ms x → IsNoWordOfNames x.body
+pub all_silent : (ms : List Message) → AreSilent ms → (x : Message) → IsSent ms x → IsNoWordOfNames x.body
 all_silent ms all x is = silent_of x.body (all_at (λ y. IsSilent y.body) ms is.0 x all is.1)
 
 module _ (config : Config) (servers clients : ℕ) where

@@ -85,7 +85,7 @@ rot_left w index handle place byte (Some s) =
     by_replica None = refl
     by_replica (Some r) = refl
 
-master_left : (w : WorldState) (e : Event) (choice : Choice) → (IsMastersEvent w e → ⊥) → IsLeft w (happens w e choice)
+pub master_left : (w : WorldState) (e : Event) (choice : Choice) → (IsMastersEvent w e → ⊥) → IsLeft w (happens w e choice)
 master_left w (event.Call client c now) choice not = moment_left w now.0 _ (call_left w now.0 (client.0 - 1) c choice (numbered_from_1 w.clients client.0))
 master_left w (event.Deliver number now) choice not = moment_left w now.0 _ (delivery_left w now.0 choice (numbered_from_1 w.sent number) (λ m at to. not (m, at, to)))
 master_left w (event.Tick n now) choice not = moment_left w now.0 _ (moves_left w now.0 n input.Tick choice not)

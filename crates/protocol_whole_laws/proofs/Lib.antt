@@ -42,7 +42,10 @@ pub mod UnaskedAdds
 pub mod UnusedNumbers
 pub mod WaitedNumbers
 pub mod WaitedSuccesses
+pub mod WholeClients
 pub mod WholeLogs
+pub mod WholeMoves
 pub mod WholeRestarts
 pub mod WholeSteps
 pub mod WholeStops
+pub mod WholeWorlds

@@ -19,4 +19,6 @@ pub mod ToldHolders
 pub mod ToldRounds
 pub mod WaitedNumbers
 pub mod WaitedSuccesses
+pub mod WholeClients
 pub mod WholeSteps
+pub mod WholeWorlds

@@ -19,4 +19,6 @@ pub mod told_holders;
 pub mod told_rounds;
 pub mod waited_numbers;
 pub mod waited_successes;
+pub mod whole_clients;
 pub mod whole_steps;
+pub mod whole_worlds;
