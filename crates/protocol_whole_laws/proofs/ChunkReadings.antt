@@ -1,21 +1,17 @@
 -- What servers read of their replicas is of each order that has the same entries up to the replica's version.
-use Rattle.std.proofs.Common.{◌≡◌, ℕ, zero, suc, ◌+◌, ◌-◌, ◌<◌, ◌≤◌, Bool, true, false, cond, min, List, [], ◌∷◌, length, take, drop, Option, Some, None, refl, sym, ap, subst, ◌∙◌, arith}
-use Rattle.std.specs.Prelude.{nat_le, filter, IsTrue}
+use Rattle.std.proofs.Common.{◌≡◌, ℕ, zero, suc, ◌+◌, ◌-◌, ◌≤◌, Bool, true, false, cond, min, List, [], ◌∷◌, length, take, drop, Option, Some, None, refl, sym, ap, subst, ◌∙◌, arith}
+use Rattle.std.specs.Prelude.{nat_le, filter}
 use Rattle.std.proofs.lemmas.Bool.{and_parts, leb-false}
-use Rattle.gfs_types.specs.declared.config.Config.{Config}
 use Rattle.gfs_types.specs.declared.mutation.Mutation.{Mutation}
 use Rattle.gfs_types.specs.Image.{byte_at, bytes_from, image, image_length, image_slice}
 use Rattle.relaxed_file.specs.Order.{Entry, IsSelection, empty, takes, leaves, mutations_of}
 use Rattle.replica_store.specs.declared.row.Row.{Row}
-use Rattle.replica_store.specs.Replicas.{Replica, ServerDisk, replica_of, row_of, row_at, read_at}
-use Rattle.protocol.specs.Tables.{element_at}
+use Rattle.replica_store.specs.Replicas.{Replica, replica_of, row_of}
 use Rattle.protocol.specs.Observer.{entries_of}
-use Rattle.protocol.specs.Server.{ServerState}
-use Rattle.protocol.specs.World.{WorldState, IsReached, is_kept}
 use Rattle.protocol_laws.proofs.Steps.{on_cond, none_some, same_some}
 use Rattle.protocol_replica_laws.proofs.Selections.{replicas_are_selections}
 use Rattle.protocol_replica_laws.proofs.KeptDisks.{reads_are_as_stored}
-use Rattle.protocol_whole_laws.specs.ChunkReadings.{AgreeUpTo, SelectionsGoByRounds, IsReadAs, ReadingsAreOfTheChunk}
+use Rattle.protocol_whole_laws.specs.ChunkReadings.{SelectionsGoByRounds, IsReadAs, ReadingsAreOfTheChunk}
 
 -- selections
 

@@ -1,10 +1,9 @@
 -- The files of a client's descriptors and of its open call are open.
-use Rattle.std.proofs.Common.{◌≡◌, ◌⊎◌, ℕ, zero, suc, List, [], ◌∷◌, map, Some, None, refl, sym, ap, subst, ◌∙◌, inl, inr}
+use Rattle.std.proofs.Common.{◌≡◌, ℕ, zero, suc, List, [], ◌∷◌, map, Some, refl, sym, subst, inl, inr}
 use Rattle.gfs_types.specs.declared.config.Config.{Config}
 use Rattle.gfs_types.specs.declared.call.Call.{Call}
 use Rattle.gfs_types.specs.declared.answer.Answer.TheVariants as answer
 use Rattle.gfs_types.specs.declared.refusal.Refusal.TheVariants.{NoMemory}
-use Rattle.messages.specs.declared.event.Event.{Event}
 use Rattle.messages.specs.declared.event.Input.{Input}
 use Rattle.messages.specs.declared.event.Input.TheVariants as input
 use Rattle.messages.specs.declared.message.Body.{Body}
@@ -15,9 +14,8 @@ use Rattle.client_state.specs.declared.call.Stage.TheVariants.{AskedNames, Asked
 use Rattle.protocol.specs.Tables.{element_at, with_at, first_numbers}
 use Rattle.protocol.specs.Choice.{Choice}
 use Rattle.protocol.specs.Client.{ClientState, ClientDoing, new_client, stopped_client, client_begins, answers}
-use Rattle.protocol.specs.ClientTakes.{opens}
 use Rattle.protocol.specs.ClientStep.{client_at, client_goes, client_call_goes, client_call, client_step}
-use Rattle.protocol.specs.World.{WorldState, new_world}
+use Rattle.protocol.specs.World.{WorldState}
 use Rattle.protocol_laws.proofs.Steps.{none_some, same_some}
 use Rattle.protocol_laws.proofs.RisingOrders.{set_cases}
 use Rattle.protocol_laws.proofs.ServerMoves.{IsCameIn}
@@ -25,9 +23,9 @@ use Rattle.protocol_step_laws.specs.FileCalls.{IsOfFile}
 use Rattle.protocol_step_laws.proofs.Events.{HoldsAfter, world_reached}
 use Rattle.protocol_step_laws.proofs.ClientReads.{stepped, called}
 use Rattle.protocol_step_laws.proofs.OpenFiles.{HasRow}
-use Rattle.protocol_step_laws.proofs.KeptLocations.{IsFiled, Stands, Keeps, nothing_kept, keeps_later, keeps_opened, After, steps_here, calls_here, refused_here}
+use Rattle.protocol_step_laws.proofs.KeptLocations.{Stands, Keeps, nothing_kept, keeps_later, keeps_opened, After, steps_here, calls_here, refused_here}
 use Rattle.protocol_whole_laws.specs.FileClients.{IsFileOpen}
-use Rattle.protocol_whole_laws.specs.ClientFiles.{AreFilesOpen, ClientsFilesAreOpen}
+use Rattle.protocol_whole_laws.specs.ClientFiles.{ClientsFilesAreOpen}
 
 -- nothing is asked of locations
 abbrev Always : ℕ → Location → ℕ → Type 0

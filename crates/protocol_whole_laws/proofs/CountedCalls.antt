@@ -1,10 +1,9 @@
 -- How many calls a run of the machine has of a client.
-use Rattle.std.proofs.Common.{◌≡◌, ◌⊎◌, ℕ, zero, suc, ◌+◌, Bool, true, false, cond, List, [], ◌∷◌, Option, Some, None, refl, sym, ap, subst, ◌∙◌, inl, inr, arith}
-use Rattle.std.specs.Prelude.{◌==◌, count_by}
+use Rattle.std.proofs.Common.{◌≡◌, ℕ, suc, ◌+◌, Bool, true, false, cond, List, [], ◌∷◌, Option, Some, None, refl, sym, ap, subst, ◌∙◌, inl, inr, arith}
+use Rattle.std.specs.Prelude.{◌==◌}
 use Rattle.std.specs.List.{cons_option}
-use Rattle.std.proofs.lemmas.Bool.{cases_eq, eqb-true, eq-eqb, ne_eqb}
+use Rattle.std.proofs.lemmas.Bool.{cases_eq, eq-eqb, ne_eqb}
 use Rattle.std.proofs.lemmas.List.Sums.{sum_by-cons}
-use Rattle.gfs_types.specs.declared.config.Config.{Config}
 use Rattle.gfs_types.specs.declared.call.Call.{Call}
 use Rattle.relaxed_file.specs.Machine.{Machine, Client, OpenCall, IsOpen, new_machine, put}
 use Rattle.relaxed_file.specs.NameStep.{performed, is_refused, stepped, with_outcome}
@@ -15,7 +14,7 @@ use Rattle.relaxed_file.specs.Run.{Action, Invoke, Return, ReturnFd, Step, FindB
 use Rattle.relaxed_file.proofs.Tables.{put_look, put_is, put_other, at_some, from_some}
 use Rattle.relaxed_file.proofs.Known.{asked_is}
 use Rattle.relaxed_file.proofs.OwnReads.{performed_clients}
-use Rattle.relaxed_file.proofs.CallSteps.{CallStep, IsOthers, call_step}
+use Rattle.relaxed_file.proofs.CallSteps.{IsOthers, call_step}
 use Rattle.protocol.specs.Observer.{is_call_of, calls_made}
 use Rattle.protocol_laws.proofs.Steps.{none_some}
 use Rattle.protocol_whole_laws.specs.CountedCalls.{CallsAreCounted}

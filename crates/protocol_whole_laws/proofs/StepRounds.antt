@@ -4,7 +4,6 @@ use Rattle.std.specs.Prelude.{IsTrue}
 use Rattle.gfs_types.specs.declared.config.Config.{Config}
 use Rattle.messages.specs.declared.event.Event.{Event}
 use Rattle.messages.specs.declared.event.Input.{Input}
-use Rattle.log_records.specs.declared.record.Record.{Record}
 use Rattle.protocol.specs.Choice.{Choice}
 use Rattle.protocol.specs.Tables.{moment_limit, element_at}
 use Rattle.protocol.specs.Logged.{LogDisk, LogChange, AppendRecord, WriteCheckpoint, log_changed, log_changed_by_all}
@@ -14,7 +13,7 @@ use Rattle.protocol_laws.proofs.Steps.{none_some}
 use Rattle.protocol_invariant.specs.Actions.{Spot}
 use Rattle.protocol_machine_laws.specs.ChunksAlike.{ChunkSides, IsRoundOpen}
 use Rattle.protocol_whole_laws.specs.Rounds.{IsMastersInput, IsEnded, log_on}
-use Rattle.protocol_whole_laws.specs.RecordRounds.{MayEndAt, IsCopyOn, MayEndBy, MayEndAtChange, EndsAlong, StepsKeepRounds}
+use Rattle.protocol_whole_laws.specs.RecordRounds.{IsCopyOn, MayEndBy, MayEndAtChange, EndsAlong, StepsKeepRounds}
 use Rattle.protocol_whole_laws.proofs.RecordRounds.{made_more, records_end_over_rounds}
 use Rattle.protocol_whole_laws.proofs.StepCopies.{copies_within_steps_have_no_round}
 

@@ -1,10 +1,7 @@
 -- What a location stands for at the machine.
-use Rattle.std.proofs.Common.{◌≡◌, ℕ, zero, suc, ◌<◌, ◌≤◌, List, [], ◌∷◌, length, Some, refl, sym, ap, subst, ◌∙◌, arith, ◌-◌, min}
-use Rattle.std.specs.Prelude.{IsTrue, IsFalse}
-use Rattle.gfs_types.specs.declared.config.Config.{Config}
+use Rattle.std.proofs.Common.{◌≡◌, ℕ, zero, suc, ◌<◌, List, [], ◌∷◌, length, Some, refl, sym, ap, subst, ◌∙◌, arith, ◌-◌, min}
 use Rattle.gfs_types.specs.declared.call.Call.{Call}
-use Rattle.messages.specs.declared.message.Location.{Location}
-use Rattle.chunk_table.specs.ChunkTable.{ChunkRow, file_of, chunk_of}
+use Rattle.chunk_table.specs.ChunkTable.{ChunkRow}
 use Rattle.relaxed_file.specs.Order.{Entry, mutations_of}
 use Rattle.relaxed_file.specs.Reads.{read_slice}
 use Rattle.gfs_types.specs.Image.{image_length, image_slice, bytes_from}
@@ -12,13 +9,12 @@ use Rattle.gfs_types.specs.declared.mutation.Mutation.{Mutation}
 use Rattle.gfs_types.specs.declared.call.Call.TheVariants as call
 use Rattle.messages.specs.declared.message.Body.TheVariants as body
 use Rattle.protocol.specs.ClientAttempts.{read_start, read_count}
-use Rattle.relaxed_file.specs.Machine.{chunk_at, chunk_count}
+use Rattle.relaxed_file.specs.Machine.{chunk_at}
 use Rattle.protocol.specs.Tables.{Table, element_at}
 use Rattle.protocol.specs.Observer.{Placed, entries_of}
 use Rattle.protocol_laws.proofs.Steps.{none_some, same_some}
-use Rattle.protocol_machine_laws.specs.ChunksAlike.{ChunkSides, entries_in, AreChunksAlike}
+use Rattle.protocol_machine_laws.specs.ChunksAlike.{entries_in}
 use Rattle.protocol_whole_laws.specs.ChunkReadings.{AgreeUpTo}
-use Rattle.protocol_whole_laws.specs.FileAnswers.{IsLastRound, IsSeenAt}
 use Rattle.protocol_whole_laws.specs.ToldHolders.{HoldersAreSeen, LoggedChunksAreLastRounds, AnswersShowTheChunk}
 use Rattle.protocol_whole_laws.proofs.ChunkReadings.{readings_are_of_the_chunk}
 

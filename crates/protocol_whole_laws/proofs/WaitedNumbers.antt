@@ -1,13 +1,12 @@
 -- In which call a client used the number of the data for whose place it waits.
-use Rattle.std.proofs.Common.{◌≡◌, ◌⊎◌, ℕ, zero, suc, ◌+◌, ◌≤◌, Bool, true, false, cond, List, [], ◌∷◌, ◌++◌, length, map, Option, Some, None, refl, sym, ap, subst, ◌∙◌, inl, inr, arith}
-use Rattle.std.specs.Prelude.{◌==◌, ◌&&◌, count_by, is_none, IsTrue}
+use Rattle.std.proofs.Common.{◌≡◌, ◌⊎◌, ℕ, zero, suc, ◌+◌, ◌≤◌, Bool, true, cond, List, [], ◌∷◌, ◌++◌, length, map, Option, Some, None, refl, sym, ap, subst, ◌∙◌, inl, inr, arith}
+use Rattle.std.specs.Prelude.{◌&&◌, is_none, IsTrue}
 use Rattle.std.specs.Option.{option_to_list}
-use Rattle.std.proofs.lemmas.Bool.{and_parts, eqb-true, eq-eqb, ne_eqb, cases_eq, true≢false}
+use Rattle.std.proofs.lemmas.Bool.{and_parts, eq-eqb, ne_eqb, cases_eq, true≢false}
 use Rattle.std.proofs.lemmas.List.{append-nil}
 use Rattle.std.proofs.lemmas.List.Sums.{sum_by-cons, sum_by-append}
 use Rattle.gfs_types.specs.declared.config.Config.{Config}
 use Rattle.gfs_types.specs.declared.call.Call.{Call}
-use Rattle.gfs_types.specs.declared.ids.Node.{Node}
 use Rattle.messages.specs.declared.event.Event.{Event}
 use Rattle.messages.specs.declared.event.Input.{Input}
 use Rattle.messages.specs.declared.event.Input.TheVariants as input
@@ -22,23 +21,22 @@ use Rattle.client_state.specs.declared.call.Stage.TheVariants.{AskedNames, Asked
 use Rattle.protocol.specs.Tables.{element_at, with_at, first_numbers}
 use Rattle.protocol.specs.Sending.{message, the_client, the_server, data_id}
 use Rattle.protocol.specs.Choice.{Choice}
-use Rattle.protocol.specs.Client.{ClientState, ClientDoing, new_client, stopped_client, client_begins, committed, file_chunk}
+use Rattle.protocol.specs.Client.{ClientState, ClientDoing, new_client, client_begins, committed, file_chunk}
 use Rattle.protocol.specs.ClientAttempts.{mutate_planned, target_of}
-use Rattle.protocol.specs.ClientStep.{client_at, client_goes, client_call_goes, client_step, client_call, may_call, has_room_to_count}
+use Rattle.protocol.specs.ClientStep.{client_at, client_step, client_call, may_call, has_room_to_count}
 use Rattle.protocol.specs.MasterStep.{master_step, master_restart}
 use Rattle.protocol.specs.ServerStep.{server_step, server_restart}
-use Rattle.protocol.specs.Observer.{Observer, calls_made, observed_moment, observed_call, observed_answer}
+use Rattle.protocol.specs.Observer.{calls_made, observed_moment, observed_call, observed_answer}
 use Rattle.protocol.specs.World.{WorldState, Happened, new_world, nothing_happens, after_master, after_server, after_client, stamped, happens, after_events}
 use Rattle.replica_store.specs.Replicas.{rotten_replica}
 use Rattle.gfs_types.specs.declared.ids.ServerId.{ServerId}
-use Rattle.protocol_laws.proofs.Steps.{on_cond, none_some, same_some}
-use Rattle.protocol_laws.proofs.Entries.{same_number}
+use Rattle.protocol_laws.proofs.Steps.{none_some, same_some}
 use Rattle.protocol_laws.proofs.RisingOrders.{set_cases}
 use Rattle.protocol_laws.proofs.ServerMoves.{IsCameIn}
 use Rattle.protocol_step_laws.specs.Attempts.{is_from_client, is_mutate, mutates_under}
 use Rattle.protocol_step_laws.specs.FewAttempts.{IsAskedNow, WasAsked}
 use Rattle.protocol_step_laws.proofs.ClientReads.{stepped, called}
-use Rattle.protocol_step_laws.proofs.ClientWalk.{IsIdle, KeepsClient, KeepsCalls, HoldsAt, step_kept, call_kept}
+use Rattle.protocol_step_laws.proofs.ClientWalk.{IsIdle, KeepsClient, HoldsAt, step_kept, call_kept}
 use Rattle.protocol_step_laws.proofs.Events.{HoldsAfter, holds_after, with_call, with_rot}
 use Rattle.protocol_step_laws.proofs.RequestsOnce.{AreNumbered, each_event, numbered_reached, from_itself}
 use Rattle.protocol_entry_laws.specs.WaitedRounds.{waits_at, waited}

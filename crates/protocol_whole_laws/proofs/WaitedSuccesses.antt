@@ -1,5 +1,5 @@
 -- The success that a client waits for is one of its open call, at the machine.
-use Rattle.std.proofs.Common.{◌≡◌, ℕ, zero, suc, ◌<◌, ◌≤◌, Bool, true, false, cond, List, [], ◌∷◌, length, Option, Some, None, refl, sym, ap, subst, ◌∙◌, arith}
+use Rattle.std.proofs.Common.{◌≡◌, ℕ, zero, suc, ◌<◌, ◌≤◌, Bool, true, false, cond, List, [], ◌∷◌, length, Option, Some, refl, sym, ap, subst, ◌∙◌, arith}
 use Rattle.std.specs.Prelude.{Contains, filter, nat_le, map, slice_index_or, IsTrue}
 use Rattle.std.proofs.lemmas.Bool.{le-leb, true≢false}
 use Rattle.gfs_types.specs.declared.config.Config.{Config}
@@ -9,7 +9,7 @@ use Rattle.gfs_types.specs.declared.mutation.Mutation.{Mutation}
 use Rattle.gfs_types.specs.declared.mutation.Mutation.TheVariants.{Write, Append, Pad}
 use Rattle.messages.specs.declared.event.Event.{Event}
 use Rattle.relaxed_file.specs.Order.{CallId, Entry, same_call}
-use Rattle.relaxed_file.specs.Machine.{Machine, OpenCall, chunk_at, new_machine}
+use Rattle.relaxed_file.specs.Machine.{OpenCall, chunk_at, new_machine}
 use Rattle.relaxed_file.specs.Run.{IsReached}
 use Rattle.relaxed_file.specs.RunLaws.{IsAskedOf}
 use Rattle.relaxed_file.proofs.Tries.{same_as_itself}
@@ -19,10 +19,9 @@ use Rattle.relaxed_file.proofs.Successes.{success_asked}
 use Rattle.client_state.specs.declared.call.CurrentCall.{CurrentCall}
 use Rattle.client_state.specs.declared.call.ToldChunk.{ToldChunk}
 use Rattle.client_state.specs.declared.call.Stage.{Stage}
-use Rattle.client_state.specs.declared.call.Stage.TheVariants.{SentMutate}
 use Rattle.protocol.specs.Tables.{Table, element_at}
 use Rattle.protocol.specs.Choice.{Choice}
-use Rattle.protocol.specs.Observer.{Placed, order_of, calls_made}
+use Rattle.protocol.specs.Observer.{Placed, order_of}
 use Rattle.protocol.specs.World.{WorldState, new_world, after_events}
 use Rattle.protocol_laws.proofs.Steps.{on_cond, none_some, same_some}
 use Rattle.protocol_machine_laws.specs.ChunksAlike.{ChunkSides, entries_in}
@@ -32,7 +31,7 @@ use Rattle.protocol_entry_laws.specs.SettledEntries.{HasSettledEntry}
 use Rattle.primary_order.specs.PrimaryOrder.{place_of}
 use Rattle.protocol_entry_laws.proofs.SettledEntries.{noted_successes_have_entries}
 use Rattle.protocol_call_laws.proofs.OpenEntries.{entries_were_asked_for_in_their_call}
-use Rattle.protocol_whole_laws.specs.FileClients.{id_of, IsFileCall, IsWithinPlaces, IsPartSettled}
+use Rattle.protocol_whole_laws.specs.FileClients.{id_of, IsWithinPlaces, IsPartSettled}
 use Rattle.protocol_whole_laws.specs.FileAnswers.{IsOfPart}
 use Rattle.protocol_whole_laws.specs.WaitedSuccesses.{WaitsForDone, HasTheCall, WaitedSuccessesAreSettled}
 use Rattle.protocol_whole_laws.proofs.FileAnswers.{settled_entries_are_successes}
