@@ -1,8 +1,7 @@
 -- A client's step for its call on a file, and a client that stops, keep a whole machine beside the world.
-use Rattle.std.proofs.Common.{◌≡◌, ◌⊎◌, ℕ, zero, suc, ◌-◌, ◌≤◌, Bool, true, false, max, List, [], ◌∷◌, ◌++◌, length, Option, Some, None, refl, sym, ap, subst, ◌∙◌, inl, inr, arith}
-use Rattle.std.specs.Prelude.{nat_lt, nat_le, IsTrue, IsFalse}
+use Rattle.std.proofs.Common.{◌≡◌, ◌⊎◌, ℕ, zero, suc, ◌-◌, Bool, true, false, max, List, [], ◌∷◌, ◌++◌, length, Option, Some, None, refl, sym, ap, subst, ◌∙◌, inl, inr, arith}
+use Rattle.std.specs.Prelude.{nat_le, IsTrue}
 use Rattle.std.specs.List.{list_all}
-use Rattle.std.specs.Option.{option_to_list}
 use Rattle.std.proofs.lemmas.Bool.{true≢false}
 use Rattle.std.proofs.lemmas.List.{append-nil}
 use Rattle.std.proofs.Math.Nat.{le-max_left, le-max_right}
@@ -19,11 +18,10 @@ use Rattle.messages.specs.declared.event.Input.TheVariants as input
 use Rattle.messages.specs.declared.message.Body.{Body}
 use Rattle.messages.specs.declared.message.Body.TheVariants as body
 use Rattle.messages.specs.declared.message.Message.{Message}
-use Rattle.relaxed_file.specs.Machine.{Machine, new_machine}
-use Rattle.relaxed_file.specs.Run.{Action, IsLawful, Visible, visible, after_all, IsReached, IsRunTo, LeadsTo}
+use Rattle.relaxed_file.specs.Machine.{Machine}
+use Rattle.relaxed_file.specs.Run.{Action, IsLawful, Visible, after_all, IsReached, IsRunTo, LeadsTo}
 use Rattle.relaxed_file.proofs.Reached.{leads_on}
 use Rattle.name_projections.specs.Laws.{AreNamesOf}
-use Rattle.name_traces.specs.Laws.{none_called, last_calls, is_naming}
 use Rattle.client_state.specs.declared.call.CurrentCall.{CurrentCall}
 use Rattle.client_state.specs.declared.call.Stage.{Stage}
 use Rattle.client_state.specs.declared.call.Stage.TheVariants.{AskedNames}
@@ -32,15 +30,13 @@ use Rattle.protocol.specs.Choice.{Choice, Ending, Goes, Lost, Stops}
 use Rattle.protocol.specs.Seen.{Taken, no_step, down_output}
 use Rattle.protocol.specs.Sending.{the_client}
 use Rattle.protocol.specs.Observer.{Observer, observed_moment, observed_answer}
-use Rattle.protocol.specs.Logged.{Logged}
-use Rattle.protocol.specs.Master.{MasterState, PendingSnapshot}
+use Rattle.protocol.specs.Master.{PendingSnapshot}
 use Rattle.protocol.specs.Client.{ClientState, ClientDoing, stopped_client}
 use Rattle.protocol.specs.ClientStep.{client_goes, client_ends, client_step, may_step}
 use Rattle.protocol.specs.World as world
 use Rattle.protocol.specs.World.{WorldState, Happened, nothing_happens, numbered_from_1, stamped, after_client, client_moves, moves, delivered, at_moment, happens, is_kept}
 use Rattle.protocol_laws.proofs.Steps.{on_cond, none_some, same_some, same_or_not}
 use Rattle.protocol_laws.proofs.RisingOrders.{set_cases, element_numbered}
-use Rattle.protocol_laws.proofs.MessagesSent.{IsSent, none_sent}
 use Rattle.protocol_step_laws.specs.FileCalls.{IsOfFile}
 use Rattle.protocol_step_laws.proofs.FileSteps.{file_calls_go_on}
 use Rattle.protocol_name_laws.specs.Alike.{Requests}
@@ -50,18 +46,17 @@ use Rattle.protocol_name_laws.proofs.BesideClientsBeside.{passed_trace, all_on}
 use Rattle.protocol_name_laws.proofs.Clients.{stays_at, file_goes_at}
 use Rattle.protocol_name_laws.proofs.Masters.{passed_last}
 use Rattle.protocol_machine_laws.specs.ChunksAlike.{ChunkSides, moved}
-use Rattle.protocol_whole_laws.specs.Rounds.{log_as}
 use Rattle.protocol_whole_laws.specs.FileClients.{IsFileClient, IsSaid, IsFollowed}
 use Rattle.protocol_whole_laws.specs.FileClientsStay.{IsFirm, IsFirmInput}
 use Rattle.protocol_whole_laws.specs.ServerSteps.{is_of_entries}
 use Rattle.protocol_whole_laws.specs.ChunksBeside.{AreChunksBeside, IsMastersEvent}
-use Rattle.protocol_whole_laws.specs.WholeWorlds.{AreWordsSo, AreFileClients, IsBeside, HasMachine, IsWholeWorld}
+use Rattle.protocol_whole_laws.specs.WholeWorlds.{AreWordsSo, AreFileClients, IsBeside, IsWholeWorld}
 use Rattle.protocol_whole_laws.specs.WholeClients.{GivesClient, AreOwnWordsSo, AreClientsTrue, FileStepsKeepWorldsWhole}
 use Rattle.protocol_whole_laws.proofs.ChunksBeside.{master_left, other_events_keep_chunks_beside, same_files_keep_chunks_beside}
 use Rattle.protocol_whole_laws.proofs.ClientFiles.{clients_files_are_open}
 use Rattle.protocol_whole_laws.proofs.FileClientsStay.{other_clients_stay}
 use Rattle.protocol_whole_laws.proofs.FileSteps.{file_steps_are_followed}
-use Rattle.protocol_whole_laws.proofs.WholeMoves.{AllStay, GoesQuietly, quiet_run, entries_quiet, run_goes, run_goes_unseen, PassesBoth, both_pass}
+use Rattle.protocol_whole_laws.proofs.WholeMoves.{GoesQuietly, quiet_run, entries_quiet, run_goes, run_goes_unseen, PassesBoth, both_pass}
 use Rattle.protocol_whole_laws.proofs.WholeWorlds.{files_stay, words_stay, more_words, on_left}
 
 -- a word stays so, or a range is too long
@@ -94,26 +89,26 @@ not_masters w other index moment i given masters = absurd given
 module _ (w : WorldState) (choice : Choice) (index moment : ℕ) (s : ClientState) (i : Input) (at : element_at w.clients index ≡ Some s) (P : Happened → Type 0) (none : P (nothing_happens w))
     (some : IsTrue s.up → P (after_client w index moment (client_step s moment i choice)))
   where
-  client_case : P (moves w (the_client (suc index)) moment i choice)
-  client_case = subst (λ (q : ℕ). P (client_moves w q moment i choice (element_at w.clients index))) (let e : index ≡ suc index - 1 = omega arith in e)
-      (subst (λ (o : Option ClientState). P (client_moves w index moment i choice o)) (sym at) (on_cond P s.up (after_client w index moment (client_step s moment i choice)) (nothing_happens w) some (λ _. none)))
+    client_case : P (moves w (the_client (suc index)) moment i choice)
+    client_case = subst (λ (q : ℕ). P (client_moves w q moment i choice (element_at w.clients index))) (let e : index ≡ suc index - 1 = omega arith in e)
+        (subst (λ (o : Option ClientState). P (client_moves w index moment i choice o)) (sym at) (on_cond P s.up (after_client w index moment (client_step s moment i choice)) (nothing_happens w) some (λ _. none)))
 
-  moment_case : (h : Happened) → P h → P (at_moment w moment h)
-  moment_case h g = on_cond P (nat_le moment moment_limit) h (nothing_happens w) (λ _. g) (λ _. none)
+    moment_case : (h : Happened) → P h → P (at_moment w moment h)
+    moment_case h g = on_cond P (nat_le moment moment_limit) h (nothing_happens w) (λ _. g) (λ _. none)
 
-  event_case : (e : Event) → GivesClient w e index moment i → P (happens w e choice)
-  event_case (event.Deliver number now) given =
-      subst (λ (t : ℕ). P (at_moment w t (delivered w t choice (numbered_from_1 w.sent number)))) (sym given.4)
-      (moment_case (delivered w moment choice (numbered_from_1 w.sent number))
-      (subst (λ (o : Option Message). P (delivered w moment choice o)) (sym given.1)
-      (subst (λ (n : Node). P (moves w n moment (input.Deliver given.0) choice)) (sym given.2)
-      (subst (λ (j : Input). P (moves w (the_client (suc index)) moment j choice)) given.3 client_case))))
-  event_case (event.Tick n now) given =
-      subst (λ (t : ℕ). P (at_moment w t (moves w n t input.Tick choice))) (sym given.2)
-      (moment_case (moves w n moment input.Tick choice)
-      (subst (λ (k : Node). P (moves w k moment input.Tick choice)) (sym given.0)
-      (subst (λ (j : Input). P (moves w (the_client (suc index)) moment j choice)) given.1 client_case)))
-  event_case other given = absurd given
+    event_case : (e : Event) → GivesClient w e index moment i → P (happens w e choice)
+    event_case (event.Deliver number now) given =
+        subst (λ (t : ℕ). P (at_moment w t (delivered w t choice (numbered_from_1 w.sent number)))) (sym given.4)
+        (moment_case (delivered w moment choice (numbered_from_1 w.sent number))
+        (subst (λ (o : Option Message). P (delivered w moment choice o)) (sym given.1)
+        (subst (λ (n : Node). P (moves w n moment (input.Deliver given.0) choice)) (sym given.2)
+        (subst (λ (j : Input). P (moves w (the_client (suc index)) moment j choice)) given.3 client_case))))
+    event_case (event.Tick n now) given =
+        subst (λ (t : ℕ). P (at_moment w t (moves w n t input.Tick choice))) (sym given.2)
+        (moment_case (moves w n moment input.Tick choice)
+        (subst (λ (k : Node). P (moves w k moment input.Tick choice)) (sym given.0)
+        (subst (λ (j : Input). P (moves w (the_client (suc index)) moment j choice)) given.1 client_case)))
+    event_case other given = absurd given
 
 abbrev message_in : Input → Message → Message
 message_in (input.Deliver y) z = y
@@ -170,190 +165,190 @@ module _ (config : Config) (servers clients : ℕ) (w : WorldState) (r : world.I
     (index moment : ℕ) (s : ClientState) (i : Input) (at : element_at w.clients index ≡ Some s) (given : GivesClient w e index moment i) (x : CurrentCall) (is : s.current ≡ Some x) (of : IsOfFile x.stage) (up : IsTrue s.up)
     (asks : AreClientsTrue config w (happens w e choice).world index moment s i) (ss : List PendingSnapshot) (k : ChunkSides) (h : IsBeside config w ss k)
   where
-  abbrev v : WorldState
-  v = (happens w e choice).world
+    abbrev v : WorldState
+    v = (happens w e choice).world
 
-  abbrev client : ℕ
-  client = suc index
+    abbrev client : ℕ
+    client = suc index
 
-  abbrev trace : List Visible
-  trace = passed_trace w.observer.greatest moment w.observer.trace
+    abbrev trace : List Visible
+    trace = passed_trace w.observer.greatest moment w.observer.trace
 
-  abbrev greatest : ℕ
-  greatest = max w.observer.greatest moment
+    abbrev greatest : ℕ
+    greatest = max w.observer.greatest moment
 
-  abbrev number : ℕ
-  number = suc (length w.sent)
+    abbrev number : ℕ
+    number = suc (length w.sent)
 
-  goes : (actions : List Action) × IsTrue (list_all is_of_entries actions) × IsLawful k.machine actions × AreChunksBeside config v (moved k actions k.log k.gone v.observer.orders)
-  goes = other_events_keep_chunks_beside config servers clients w r kept e choice clocks (not_masters w e index moment i given) k h.chunks (asks.numbers ss k h)
+    goes : (actions : List Action) × IsTrue (list_all is_of_entries actions) × IsLawful k.machine actions × AreChunksBeside config v (moved k actions k.log k.gone v.observer.orders)
+    goes = other_events_keep_chunks_beside config servers clients w r kept e choice clocks (not_masters w e index moment i given) k h.chunks (asks.numbers ss k h)
 
-  abbrev placed : ChunkSides
-  placed = moved k goes.0 k.log k.gone v.observer.orders
+    abbrev placed : ChunkSides
+    placed = moved k goes.0 k.log k.gone v.observer.orders
 
-  before : IsReached config k.machine
-  before = (h.run.0, h.run.1, h.run.3)
+    before : IsReached config k.machine
+    before = (h.run.0, h.run.1, h.run.3)
 
-  one : GoesQuietly k.machine placed.machine goes.0
-  one = quiet_run config k.machine goes.0 before goes.2 (entries_quiet goes.0 goes.1)
+    one : GoesQuietly k.machine placed.machine goes.0
+    one = quiet_run config k.machine goes.0 before goes.2 (entries_quiet goes.0 goes.1)
 
-  files_placed : AreFileClients w.clients placed.machine
-  files_placed = files_stay k.machine placed.machine w.clients one.stays h.files
+    files_placed : AreFileClients w.clients placed.machine
+    files_placed = files_stay k.machine placed.machine w.clients one.stays h.files
 
-  said_placed : AreWordsSo w.sent w.clients placed.machine
-  said_placed = words_stay k.machine placed.machine w.clients w.sent one.stays h.files h.said
+    said_placed : AreWordsSo w.sent w.clients placed.machine
+    said_placed = words_stay k.machine placed.machine w.clients w.sent one.stays h.files h.said
 
-  run_placed : IsRunTo config w.observer.trace placed.machine
-  run_placed = run_goes_unseen config w.observer.trace k.machine goes.0 h.run goes.2 one.seen
+    run_placed : IsRunTo config w.observer.trace placed.machine
+    run_placed = run_goes_unseen config w.observer.trace k.machine goes.0 h.run goes.2 one.seen
 
-  p : PassesBoth config w.observer.trace w.observer.greatest w.sent k.log ss placed.machine h.names h.requests h.named (one.names h.names h.same) run_placed trace greatest
-  p = both_pass config w.observer.trace w.observer.greatest w.sent k.log ss placed.machine h.names h.requests h.named (one.names h.names h.same) run_placed moment
+    p : PassesBoth config w.observer.trace w.observer.greatest w.sent k.log ss placed.machine h.names h.requests h.named (one.names h.names h.same) run_placed trace greatest
+    p = both_pass config w.observer.trace w.observer.greatest w.sent k.log ss placed.machine h.names h.requests h.named (one.names h.names h.same) run_placed moment
 
-  abbrev passed : ChunkSides
-  passed = record placed { machine = p.whole }
+    abbrev passed : ChunkSides
+    passed = record placed { machine = p.whole }
 
-  chunks_passed : AreChunksBeside config v passed
-  chunks_passed = same_files_keep_chunks_beside config v placed p.whole goes.3 p.settings p.files
+    chunks_passed : AreChunksBeside config v passed
+    chunks_passed = same_files_keep_chunks_beside config v placed p.whole goes.3 p.settings p.files
 
-  files_passed : AreFileClients w.clients p.whole
-  files_passed = files_stay placed.machine p.whole w.clients p.stays files_placed
+    files_passed : AreFileClients w.clients p.whole
+    files_passed = files_stay placed.machine p.whole w.clients p.stays files_placed
 
-  said_passed : AreWordsSo w.sent w.clients p.whole
-  said_passed = words_stay placed.machine p.whole w.clients w.sent p.stays files_placed said_placed
+    said_passed : AreWordsSo w.sent w.clients p.whole
+    said_passed = words_stay placed.machine p.whole w.clients w.sent p.stays files_placed said_placed
 
-  asking_passed : AreClientsBeside config trace greatest w.clients p.names h.requests
-  asking_passed =
-      all_on config w.observer.trace trace w.observer.greatest greatest w.clients h.names p.names h.requests p.left (λ q. passed_last w.observer.trace w.observer.greatest moment q) (le-max_left w.observer.greatest moment) h.asking
+    asking_passed : AreClientsBeside config trace greatest w.clients p.names h.requests
+    asking_passed =
+        all_on config w.observer.trace trace w.observer.greatest greatest w.clients h.names p.names h.requests p.left (λ q. passed_last w.observer.trace w.observer.greatest moment q) (le-max_left w.observer.greatest moment) h.asking
 
-  reached : IsReached config p.whole
-  reached = (p.run.0, p.run.1, p.run.3)
+    reached : IsReached config p.whole
+    reached = (p.run.0, p.run.1, p.run.3)
 
-  leads : LeadsTo k.machine p.whole
-  leads = leads_on k.machine placed.machine p.whole (goes.0, goes.2, refl) p.leads
+    leads : LeadsTo k.machine p.whole
+    leads = leads_on k.machine placed.machine p.whole (goes.0, goes.2, refl) p.leads
 
-  -- what stands once the client came to this
-  record Stands (t : Taken ClientState) : Type 0 where
-    pub machine : Machine
-    pub named : IsNamesBeside config (answered_trace client t.out.answer trace) greatest (w.sent ++ stamped number t.out.sent) k.log ss p.names h.requests
-    pub asking : AreClientsBeside config (answered_trace client t.out.answer trace) greatest (with_at w.clients index t.state) p.names h.requests
-    pub run : IsRunTo config (answered_trace client t.out.answer trace) machine
-    pub same : AreNamesOf machine p.names
-    pub chunks : AreChunksBeside config v (record placed { machine = machine })
-    pub files : AreFileClients (with_at w.clients index t.state) machine
-    pub said : AreWordsSo w.sent (with_at w.clients index t.state) machine
+    -- what stands once the client came to this
+    record Stands (t : Taken ClientState) : Type 0 where
+      pub machine : Machine
+      pub named : IsNamesBeside config (answered_trace client t.out.answer trace) greatest (w.sent ++ stamped number t.out.sent) k.log ss p.names h.requests
+      pub asking : AreClientsBeside config (answered_trace client t.out.answer trace) greatest (with_at w.clients index t.state) p.names h.requests
+      pub run : IsRunTo config (answered_trace client t.out.answer trace) machine
+      pub same : AreNamesOf machine p.names
+      pub chunks : AreChunksBeside config v (record placed { machine = machine })
+      pub files : AreFileClients (with_at w.clients index t.state) machine
+      pub said : AreWordsSo w.sent (with_at w.clients index t.state) machine
 
-  stands_still : (t : ClientState) (down : Bool) → (IsTrue t.up → IsClientBeside config trace greatest t p.names h.requests client) → (IsTrue t.up → IsFileClient p.whole client t) → (IsTrue t.up → AreOwnWordsSo w.sent p.whole index t)
-      → Stands (record { state = t; out = record { sent = []; answer = None; down = down }; seen = [] })
-  stands_still t down beside files said =
-      let names = stays_at config trace greatest w.clients w.sent k.log ss p.names h.requests p.named asking_passed number index t beside in
-      record {
-        machine = p.whole;
-        named = names.0;
-        asking = names.1;
-        run = p.run;
-        same = p.same;
-        chunks = chunks_passed;
-        files = put_all (λ other z. IsTrue z.up → IsFileClient p.whole (suc other) z) w.clients index t files (λ other z apart there. files_passed other z there);
-        said = put_all (λ other z. IsTrue z.up → AreOwnWordsSo w.sent p.whole other z) w.clients index t said (λ other z apart there. said_passed other z there);
-      }
+    stands_still : (t : ClientState) (down : Bool) → (IsTrue t.up → IsClientBeside config trace greatest t p.names h.requests client) → (IsTrue t.up → IsFileClient p.whole client t) → (IsTrue t.up → AreOwnWordsSo w.sent p.whole index t)
+        → Stands (record { state = t; out = record { sent = []; answer = None; down = down }; seen = [] })
+    stands_still t down beside files said =
+        let names = stays_at config trace greatest w.clients w.sent k.log ss p.names h.requests p.named asking_passed number index t beside in
+        record {
+          machine = p.whole;
+          named = names.0;
+          asking = names.1;
+          run = p.run;
+          same = p.same;
+          chunks = chunks_passed;
+          files = put_all (λ other z. IsTrue z.up → IsFileClient p.whole (suc other) z) w.clients index t files (λ other z apart there. files_passed other z there);
+          said = put_all (λ other z. IsTrue z.up → AreOwnWordsSo w.sent p.whole other z) w.clients index t said (λ other z apart there. said_passed other z there);
+        }
 
-  heard : IsSaid p.whole client s i
-  heard = elim (firm_or_not i) [
-    | inl firm ↦ by_input i refl firm
-    | inr loose ↦ asks.heard ss k passed h leads chunks_passed loose
-  ]
-    where
-      by_input : (j : Input) → i ≡ j → IsFirmInput j → IsSaid p.whole client s j
-      by_input input.Tick same firm = tt
-      by_input (input.Deliver y) same firm = let was = came w e index moment i given y same in said_passed index s at up y was.0 was.1 firm
+    heard : IsSaid p.whole client s i
+    heard = elim (firm_or_not i) [
+      | inl firm ↦ by_input i refl firm
+      | inr loose ↦ asks.heard ss k passed h leads chunks_passed loose
+    ]
+      where
+        by_input : (j : Input) → i ≡ j → IsFirmInput j → IsSaid p.whole client s j
+        by_input input.Tick same firm = tt
+        by_input (input.Deliver y) same firm = let was = came w e index moment i given y same in said_passed index s at up y was.0 was.1 firm
 
-  abbrev d : ClientDoing
-  d = client_goes s moment i
+    abbrev d : ClientDoing
+    d = client_goes s moment i
 
-  follows : (f : IsFollowed p.whole client d) × AreOwnWordsSo w.sent (after_all p.whole f.actions) index d.client
-  follows =
-      asks.waits ss k p.whole h leads files_passed said_passed
-      (file_steps_are_followed p.whole client s x (files_passed index s at up) is of ((clients_files_are_open config servers clients w r index s at).call x is of) moment i heard)
+    follows : (f : IsFollowed p.whole client d) × AreOwnWordsSo w.sent (after_all p.whole f.actions) index d.client
+    follows =
+        asks.waits ss k p.whole h leads files_passed said_passed
+        (file_steps_are_followed p.whole client s x (files_passed index s at up) is of ((clients_files_are_open config servers clients w r index s at).call x is of) moment i heard)
 
-  abbrev f : IsFollowed p.whole client d
-  f = follows.0
+    abbrev f : IsFollowed p.whole client d
+    f = follows.0
 
-  others : (other : ℕ) (z : ClientState) → (other ≡ index → ⊥) → IsFileClient p.whole (suc other) z
-      → IsFileClient (after_all p.whole f.actions) (suc other) z × ((j : Input) → IsFirmInput j → IsSaid p.whole (suc other) z j → IsSaid (after_all p.whole f.actions) (suc other) z j)
-  others other z apart g = other_clients_stay config p.whole reached client d f (suc other) (λ same. apart (omega (arith, same))) z g
+    others : (other : ℕ) (z : ClientState) → (other ≡ index → ⊥) → IsFileClient p.whole (suc other) z
+        → IsFileClient (after_all p.whole f.actions) (suc other) z × ((j : Input) → IsFirmInput j → IsSaid p.whole (suc other) z j → IsSaid (after_all p.whole f.actions) (suc other) z j)
+    others other z apart g = other_clients_stay config p.whole reached client d f (suc other) (λ same. apart (omega (arith, same))) z g
 
-  own : IsClientBeside config trace greatest s p.names h.requests client
-  own = asking_passed index s at up
+    own : IsClientBeside config trace greatest s p.names h.requests client
+    own = asking_passed index s at up
 
-  idle : (p.names.clients client).open_call ≡ None
-  idle = idle_at p.names h.requests client x x.stage of (subst (λ (o : Option CurrentCall). IsBesideCall p.names h.requests client o) is (own.beside).call)
+    idle : (p.names.clients client).open_call ≡ None
+    idle = idle_at p.names h.requests client x x.stage of (subst (λ (o : Option CurrentCall). IsBesideCall p.names h.requests client o) is (own.beside).call)
 
-  stands_on : Stands (client_ends s d Goes)
-  stands_on =
-      let names = file_goes_at config trace greatest w.clients w.sent k.log ss p.names h.requests p.named asking_passed number index s moment d own (le-max_right w.observer.greatest moment) (file_calls_go_on s moment i x is of) idle
-      (own.naming x is ∙ of_file x.stage of) in
-      record {
-        machine = after_all p.whole f.actions;
-        named = names.0;
-        asking = names.1;
-        run = subst (λ (t : List Visible). IsRunTo config t (after_all p.whole f.actions)) (ap (λ (vs : List Visible). trace ++ vs) f.seen ∙ shown_trace client d.answer trace) (run_goes config trace p.whole f.actions p.run f.allowed);
-        same = f.names p.names p.same;
-        chunks = same_files_keep_chunks_beside config v passed (after_all p.whole f.actions) chunks_passed f.elsewhere.config f.elsewhere.files;
-        files = put_all (λ other z. IsTrue z.up → IsFileClient (after_all p.whole f.actions) (suc other) z) w.clients index d.client (λ on. f.alike)
-            (λ other z apart there on. (others other z apart (files_passed other z there on)).0);
-        said = put_all (λ other z. IsTrue z.up → AreOwnWordsSo w.sent (after_all p.whole f.actions) other z) w.clients index d.client (λ on. follows.1)
-            (λ other z apart there on y was to firm. (others other z apart (files_passed other z there on)).1 (input.Deliver y) firm (said_passed other z there on y was to firm));
-      }
+    stands_on : Stands (client_ends s d Goes)
+    stands_on =
+        let names = file_goes_at config trace greatest w.clients w.sent k.log ss p.names h.requests p.named asking_passed number index s moment d own (le-max_right w.observer.greatest moment) (file_calls_go_on s moment i x is of) idle
+        (own.naming x is ∙ of_file x.stage of) in
+        record {
+          machine = after_all p.whole f.actions;
+          named = names.0;
+          asking = names.1;
+          run = subst (λ (t : List Visible). IsRunTo config t (after_all p.whole f.actions)) (ap (λ (vs : List Visible). trace ++ vs) f.seen ∙ shown_trace client d.answer trace) (run_goes config trace p.whole f.actions p.run f.allowed);
+          same = f.names p.names p.same;
+          chunks = same_files_keep_chunks_beside config v passed (after_all p.whole f.actions) chunks_passed f.elsewhere.config f.elsewhere.files;
+          files = put_all (λ other z. IsTrue z.up → IsFileClient (after_all p.whole f.actions) (suc other) z) w.clients index d.client (λ on. f.alike)
+              (λ other z apart there on. (others other z apart (files_passed other z there on)).0);
+          said = put_all (λ other z. IsTrue z.up → AreOwnWordsSo w.sent (after_all p.whole f.actions) other z) w.clients index d.client (λ on. follows.1)
+              (λ other z apart there on y was to firm. (others other z apart (files_passed other z there on)).1 (input.Deliver y) firm (said_passed other z there on y was to firm));
+        }
 
-  stands_down : Stands (record { state = stopped_client s; out = down_output; seen = [] })
-  stands_down = stands_still (stopped_client s) true (λ on. absurd (true≢false (sym on))) (λ on. absurd (true≢false (sym on))) (λ on. absurd (true≢false (sym on)))
+    stands_down : Stands (record { state = stopped_client s; out = down_output; seen = [] })
+    stands_down = stands_still (stopped_client s) true (λ on. absurd (true≢false (sym on))) (λ on. absurd (true≢false (sym on))) (λ on. absurd (true≢false (sym on)))
 
-  by_ending : (end : Ending) → Stands (client_ends s d end)
-  by_ending Goes = stands_on
-  by_ending Lost = stands_down
-  by_ending (Stops made) = stands_down
+    by_ending : (end : Ending) → Stands (client_ends s d end)
+    by_ending Goes = stands_on
+    by_ending Lost = stands_down
+    by_ending (Stops made) = stands_down
 
-  stands : Stands (client_step s moment i choice)
-  stands =
-      on_cond Stands (may_step s) (client_ends s d choice.ending) (no_step s) (λ _. by_ending choice.ending)
-      (λ _. stands_still s false (λ on. own) (λ on. files_passed index s at up) (λ on. said_passed index s at up))
+    stands : Stands (client_step s moment i choice)
+    stands =
+        on_cond Stands (may_step s) (client_ends s d choice.ending) (no_step s) (λ _. by_ending choice.ending)
+        (λ _. stands_still s false (λ on. own) (λ on. files_passed index s at up) (λ on. said_passed index s at up))
 
-  abbrev t : Taken ClientState
-  t = client_step s moment i choice
+    abbrev t : Taken ClientState
+    t = client_step s moment i choice
 
-  abbrev u : WorldState
-  u = (after_client w index moment t).world
+    abbrev u : WorldState
+    u = (after_client w index moment t).world
 
-  module _ (comes : happens w e choice ≡ after_client w index moment t) where
-    same_world : v ≡ u
-    same_world = ap (λ (z : Happened). z.world) comes
+    module _ (comes : happens w e choice ≡ after_client w index moment t) where
+      same_world : v ≡ u
+      same_world = ap (λ (z : Happened). z.world) comes
 
-    abbrev Parts : List Visible → ℕ → List Message → List ClientState → Type 0
-    Parts seen late sent cs =
-        IsNamesBeside config seen late sent k.log ss p.names h.requests × AreClientsBeside config seen late cs p.names h.requests × IsRunTo config seen stands.machine × AreFileClients cs stands.machine × AreWordsSo sent cs stands.machine
+      abbrev Parts : List Visible → ℕ → List Message → List ClientState → Type 0
+      Parts seen late sent cs =
+          IsNamesBeside config seen late sent k.log ss p.names h.requests × AreClientsBeside config seen late cs p.names h.requests × IsRunTo config seen stands.machine × AreFileClients cs stands.machine × AreWordsSo sent cs stands.machine
 
-    new_words : AreWordsSo (stamped number t.out.sent) (with_at w.clients index t.state) stands.machine
-    new_words =
-        subst (λ (cs : List ClientState). AreWordsSo (stamped number t.out.sent) cs stands.machine) (ap (λ (z : WorldState). z.clients) same_world)
-        (asks.says (stamped number t.out.sent) (ap (λ (z : WorldState). z.sent) same_world) stands.machine)
+      new_words : AreWordsSo (stamped number t.out.sent) (with_at w.clients index t.state) stands.machine
+      new_words =
+          subst (λ (cs : List ClientState). AreWordsSo (stamped number t.out.sent) cs stands.machine) (ap (λ (z : WorldState). z.clients) same_world)
+          (asks.says (stamped number t.out.sent) (ap (λ (z : WorldState). z.sent) same_world) stands.machine)
 
-    here : Parts (answered_trace client t.out.answer trace) greatest (w.sent ++ stamped number t.out.sent) (with_at w.clients index t.state)
-    here = (stands.named, stands.asking, stands.run, stands.files, more_words stands.machine (with_at w.clients index t.state) w.sent (stamped number t.out.sent) stands.said new_words)
+      here : Parts (answered_trace client t.out.answer trace) greatest (w.sent ++ stamped number t.out.sent) (with_at w.clients index t.state)
+      here = (stands.named, stands.asking, stands.run, stands.files, more_words stands.machine (with_at w.clients index t.state) w.sent (stamped number t.out.sent) stands.said new_words)
 
-    there : Parts u.observer.trace u.observer.greatest u.sent u.clients
-    there =
-        let fields = answered_fields (observed_moment w.config.skew_ms w.observer moment) client t.out.answer in
-        subst (λ (g : ℕ). Parts u.observer.trace g u.sent u.clients) fields.1 (subst (λ (seen : List Visible). Parts seen greatest u.sent u.clients) fields.0 here)
+      there : Parts u.observer.trace u.observer.greatest u.sent u.clients
+      there =
+          let fields = answered_fields (observed_moment w.config.skew_ms w.observer moment) client t.out.answer in
+          subst (λ (g : ℕ). Parts u.observer.trace g u.sent u.clients) fields.1 (subst (λ (seen : List Visible). Parts seen greatest u.sent u.clients) fields.0 here)
 
-    parts : Parts v.observer.trace v.observer.greatest v.sent v.clients
-    parts = subst (λ (z : WorldState). Parts z.observer.trace z.observer.greatest z.sent z.clients) (sym same_world) there
+      parts : Parts v.observer.trace v.observer.greatest v.sent v.clients
+      parts = subst (λ (z : WorldState). Parts z.observer.trace z.observer.greatest z.sent z.clients) (sym same_world) there
 
-    keeps : (j : ChunkSides) × (j.log ≡ k.log) × IsBeside config v ss j
-    keeps = (
-      record placed { machine = stands.machine },
-      refl,
-      record { names = p.names; requests = h.requests; named = parts.0; asking = parts.1; run = parts.2; same = stands.same; below = h.below; chunks = stands.chunks; files = parts.3; said = parts.4 },
-    )
+      keeps : (j : ChunkSides) × (j.log ≡ k.log) × IsBeside config v ss j
+      keeps = (
+        record placed { machine = stands.machine },
+        refl,
+        record { names = p.names; requests = h.requests; named = parts.0; asking = parts.1; run = parts.2; same = stands.same; below = h.below; chunks = stands.chunks; files = parts.3; said = parts.4 },
+      )
 
 abbrev Cases : WorldState → ClientState → Happened → Happened → Type 0
 Cases w s after_it z = (z ≡ nothing_happens w) ⊎ (IsTrue s.up × (z ≡ after_it))

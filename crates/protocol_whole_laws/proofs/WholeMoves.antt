@@ -8,7 +8,7 @@ use Rattle.std.proofs.Math.Nat.{max-eq_left, max-eq_right}
 use Rattle.gfs_types.specs.declared.config.Config.{Config}
 use Rattle.messages.specs.declared.event.Input.{Input}
 use Rattle.messages.specs.declared.message.Message.{Message}
-use Rattle.relaxed_file.specs.Machine.{Machine, OpenCall, FileState, new_machine}
+use Rattle.relaxed_file.specs.Machine.{Machine, OpenCall, new_machine}
 use Rattle.relaxed_file.specs.Reads.{looked}
 use Rattle.relaxed_file.specs.Run.{Action, Place, Settle, Look, Measure, Pass, Visible, Passed, shown, visible, after, after_all, IsLawful, IsReached, IsRunTo, LeadsTo}
 use Rattle.relaxed_file.proofs.GoingOn.{visible-append}
@@ -102,46 +102,46 @@ run_goes_unseen config trace m more run lawful unseen =
 module _ (config : Config) (trace : List Visible) (greatest : ℕ) (sent : List Message) (l : Logged) (ss : List PendingSnapshot) (m n : Machine) (requests : Requests) (h : IsNamesBeside config trace greatest sent l ss n requests)
     (same_before : AreNamesOf m n) (run_before : IsRunTo config trace m)
   where
-  pub record PassesBoth (more : List Visible) (passed : ℕ) : Type 0 where
-    pub whole : Machine
-    pub names : Machine
-    pub settings : whole.config ≡ m.config
-    pub files : whole.files ≡ m.files
-    pub same : AreNamesOf whole names
-    pub run : IsRunTo config more whole
-    pub named : IsNamesBeside config more passed sent l ss names requests
-    pub left : (q : ℕ) → IsLeft (n.clients q) (names.clients q)
-    pub stays : AllStay m whole
-    pub leads : LeadsTo m whole
+    pub record PassesBoth (more : List Visible) (passed : ℕ) : Type 0 where
+      pub whole : Machine
+      pub names : Machine
+      pub settings : whole.config ≡ m.config
+      pub files : whole.files ≡ m.files
+      pub same : AreNamesOf whole names
+      pub run : IsRunTo config more whole
+      pub named : IsNamesBeside config more passed sent l ss names requests
+      pub left : (q : ℕ) → IsLeft (n.clients q) (names.clients q)
+      pub stays : AllStay m whole
+      pub leads : LeadsTo m whole
 
-  passes_ahead : (moment : ℕ) → nat_lt greatest moment ≡ true → PassesBoth (trace ++ Passed moment ∷ []) moment
-  passes_ahead moment ahead =
-      let first = h.clock in
-      let second = same_before.clock in
-      let before = ltb-true greatest moment ahead in
-      let may : m.clock ≤ moment = omega (arith, first, second, before) in
-      let low : n.clock ≤ moment = omega (arith, first, before) in
-      let both = name_actions_are_taken m n (Pass moment) same_before refl low tt in
-      record {
-        whole = after m (Pass moment);
-        names = after n (Pass moment);
-        settings = refl;
-        files = refl;
-        same = both.1;
-        run = run_goes config trace m (Pass moment ∷ []) run_before (may, tt);
-        named = passes_at config trace greatest sent l ss n requests h moment ahead;
-        left = λ q. left_same (n.clients q);
-        stays = λ client s g. file_clients_stay config m (run_before.0, run_before.1, run_before.3) (Pass moment) may client tt s g;
-        leads = leads_by m (Pass moment) may;
-      }
+    passes_ahead : (moment : ℕ) → nat_lt greatest moment ≡ true → PassesBoth (trace ++ Passed moment ∷ []) moment
+    passes_ahead moment ahead =
+        let first = h.clock in
+        let second = same_before.clock in
+        let before = ltb-true greatest moment ahead in
+        let may : m.clock ≤ moment = omega (arith, first, second, before) in
+        let low : n.clock ≤ moment = omega (arith, first, before) in
+        let both = name_actions_are_taken m n (Pass moment) same_before refl low tt in
+        record {
+          whole = after m (Pass moment);
+          names = after n (Pass moment);
+          settings = refl;
+          files = refl;
+          same = both.1;
+          run = run_goes config trace m (Pass moment ∷ []) run_before (may, tt);
+          named = passes_at config trace greatest sent l ss n requests h moment ahead;
+          left = λ q. left_same (n.clients q);
+          stays = λ client s g. file_clients_stay config m (run_before.0, run_before.1, run_before.3) (Pass moment) may client tt s g;
+          leads = leads_by m (Pass moment) may;
+        }
 
-  pub both_pass : (moment : ℕ) → PassesBoth (passed_trace greatest moment trace) (max greatest moment)
-  both_pass moment = by_test (nat_lt greatest moment) refl
-    where
-      by_test : (b : Bool) → nat_lt greatest moment ≡ b → PassesBoth (cond b (trace ++ Passed moment ∷ []) trace) (max greatest moment)
-      by_test true ahead =
-          let before = ltb-true greatest moment ahead in
-          subst (λ (g : ℕ). PassesBoth (trace ++ Passed moment ∷ []) g) (sym (max-eq_right (let low : greatest ≤ moment = omega (arith, before) in low))) (passes_ahead moment ahead)
-      by_test false behind =
-          subst (λ (g : ℕ). PassesBoth trace g) (sym (max-eq_left (ltb-false greatest moment behind)))
-          (record { whole = m; names = n; settings = refl; files = refl; same = same_before; run = run_before; named = h; left = λ q. left_same (n.clients q); stays = λ client s g. (g, λ i firm said. said); leads = ([], tt, refl) })
+    pub both_pass : (moment : ℕ) → PassesBoth (passed_trace greatest moment trace) (max greatest moment)
+    both_pass moment = by_test (nat_lt greatest moment) refl
+      where
+        by_test : (b : Bool) → nat_lt greatest moment ≡ b → PassesBoth (cond b (trace ++ Passed moment ∷ []) trace) (max greatest moment)
+        by_test true ahead =
+            let before = ltb-true greatest moment ahead in
+            subst (λ (g : ℕ). PassesBoth (trace ++ Passed moment ∷ []) g) (sym (max-eq_right (let low : greatest ≤ moment = omega (arith, before) in low))) (passes_ahead moment ahead)
+        by_test false behind =
+            subst (λ (g : ℕ). PassesBoth trace g) (sym (max-eq_left (ltb-false greatest moment behind)))
+            (record { whole = m; names = n; settings = refl; files = refl; same = same_before; run = run_before; named = h; left = λ q. left_same (n.clients q); stays = λ client s g. (g, λ i firm said. said); leads = ([], tt, refl) })

@@ -1,5 +1,5 @@
 -- A whole machine is beside a new world, and each event of a server keeps one beside the world.
-use Rattle.std.proofs.Common.{◌≡◌, ℕ, suc, ◌-◌, ◌≤◌, Bool, true, false, max, List, [], ◌∷◌, ◌++◌, length, map, Option, Some, None, refl, sym, ap, subst, ◌∙◌, inl, inr, arith}
+use Rattle.std.proofs.Common.{◌≡◌, ℕ, suc, ◌-◌, Bool, max, List, [], ◌++◌, length, map, Option, Some, None, refl, sym, subst, ◌∙◌, inl, inr, arith}
 use Rattle.std.specs.Prelude.{nat_lt, nat_le, ◌&&◌, IsTrue, IsFalse}
 use Rattle.std.specs.List.{list_all}
 use Rattle.std.specs.Ordering.{nat_cmp}
@@ -19,7 +19,7 @@ use Rattle.relaxed_file.specs.Machine.{Machine, new_machine}
 use Rattle.relaxed_file.specs.Run.{Action, Visible, after_all, IsLawful, IsReached, IsRunTo}
 use Rattle.relaxed_file.proofs.Reached.{leads_on}
 use Rattle.name_projections.specs.Laws.{AreNamesOf}
-use Rattle.protocol.specs.Tables.{moment_limit, element_at, first_numbers}
+use Rattle.protocol.specs.Tables.{moment_limit, first_numbers}
 use Rattle.protocol.specs.Choice.{Choice}
 use Rattle.protocol.specs.Seen.{Taken}
 use Rattle.protocol.specs.Logged.{Logged}
@@ -183,97 +183,97 @@ more_words m clients xs ys one two = λ index s at up x was to firm. elim (sent_
 module _ (config : Config) (servers clients : ℕ) (w : WorldState) (r : world.IsReached config servers clients w) (kept : IsTrue (is_kept w)) (e : Event) (choice : Choice) (clocks : IsTrue (happens w e choice).world.observer.are_clocks_kept)
     (of : IsServersEvent w e) (asks : AreServersTrue config w (happens w e choice).world) (ss : List PendingSnapshot) (k : ChunkSides) (h : IsBeside config w ss k)
   where
-  abbrev v : WorldState
-  v = (happens w e choice).world
+    abbrev v : WorldState
+    v = (happens w e choice).world
 
-  o : IsOfServers w v
-  o = event_of w e choice of
+    o : IsOfServers w v
+    o = event_of w e choice of
 
-  goes : (actions : List Action) × IsTrue (list_all is_of_entries actions) × IsLawful k.machine actions × AreChunksBeside config v (moved k actions k.log k.gone v.observer.orders)
-  goes = other_events_keep_chunks_beside config servers clients w r kept e choice clocks (not_masters w e of) k h.chunks (asks.numbers ss k h)
+    goes : (actions : List Action) × IsTrue (list_all is_of_entries actions) × IsLawful k.machine actions × AreChunksBeside config v (moved k actions k.log k.gone v.observer.orders)
+    goes = other_events_keep_chunks_beside config servers clients w r kept e choice clocks (not_masters w e of) k h.chunks (asks.numbers ss k h)
 
-  abbrev placed : ChunkSides
-  placed = moved k goes.0 k.log k.gone v.observer.orders
+    abbrev placed : ChunkSides
+    placed = moved k goes.0 k.log k.gone v.observer.orders
 
-  before : IsReached config k.machine
-  before = (h.run.0, h.run.1, h.run.3)
+    before : IsReached config k.machine
+    before = (h.run.0, h.run.1, h.run.3)
 
-  one : GoesQuietly k.machine placed.machine goes.0
-  one = quiet_run config k.machine goes.0 before goes.2 (entries_quiet goes.0 goes.1)
+    one : GoesQuietly k.machine placed.machine goes.0
+    one = quiet_run config k.machine goes.0 before goes.2 (entries_quiet goes.0 goes.1)
 
-  files_placed : AreFileClients w.clients placed.machine
-  files_placed = files_stay k.machine placed.machine w.clients one.stays h.files
+    files_placed : AreFileClients w.clients placed.machine
+    files_placed = files_stay k.machine placed.machine w.clients one.stays h.files
 
-  said_placed : AreWordsSo w.sent w.clients placed.machine
-  said_placed = words_stay k.machine placed.machine w.clients w.sent one.stays h.files h.said
+    said_placed : AreWordsSo w.sent w.clients placed.machine
+    said_placed = words_stay k.machine placed.machine w.clients w.sent one.stays h.files h.said
 
-  answers : AreAnswersSo w v placed.machine
-  answers = asks.answers ss k placed h (goes.0, goes.2, refl) goes.3 files_placed said_placed
+    run_placed : IsRunTo config w.observer.trace placed.machine
+    run_placed = run_goes_unseen config w.observer.trace k.machine goes.0 h.run goes.2 one.seen
 
-  abbrev looked : Machine
-  looked = after_all placed.machine answers.looks
+    answers : AreAnswersSo w v placed.machine
+    answers = asks.answers ss k placed h (goes.0, goes.2, refl) run_placed goes.3 files_placed said_placed
 
-  two : GoesQuietly placed.machine looked answers.looks
-  two = quiet_run config placed.machine answers.looks (leads_on (new_machine config) k.machine placed.machine before (goes.0, goes.2, refl)) answers.lawful (looks_quiet answers.looks answers.of_looks)
+    abbrev looked : Machine
+    looked = after_all placed.machine answers.looks
 
-  run_placed : IsRunTo config w.observer.trace placed.machine
-  run_placed = run_goes_unseen config w.observer.trace k.machine goes.0 h.run goes.2 one.seen
+    two : GoesQuietly placed.machine looked answers.looks
+    two = quiet_run config placed.machine answers.looks (leads_on (new_machine config) k.machine placed.machine before (goes.0, goes.2, refl)) answers.lawful (looks_quiet answers.looks answers.of_looks)
 
-  run_looked : IsRunTo config w.observer.trace looked
-  run_looked = run_goes_unseen config w.observer.trace placed.machine answers.looks run_placed answers.lawful two.seen
+    run_looked : IsRunTo config w.observer.trace looked
+    run_looked = run_goes_unseen config w.observer.trace placed.machine answers.looks run_placed answers.lawful two.seen
 
-  same_looked : AreNamesOf looked h.names
-  same_looked = two.names h.names (one.names h.names h.same)
+    same_looked : AreNamesOf looked h.names
+    same_looked = two.names h.names (one.names h.names h.same)
 
-  files_looked : AreFileClients w.clients looked
-  files_looked = files_stay placed.machine looked w.clients two.stays files_placed
+    files_looked : AreFileClients w.clients looked
+    files_looked = files_stay placed.machine looked w.clients two.stays files_placed
 
-  said_looked : AreWordsSo (w.sent ++ stamped o.number o.messages) w.clients looked
-  said_looked = more_words looked w.clients w.sent (stamped o.number o.messages) (words_stay placed.machine looked w.clients w.sent two.stays files_placed said_placed) (answers.said (stamped o.number o.messages) o.sent)
+    said_looked : AreWordsSo (w.sent ++ stamped o.number o.messages) w.clients looked
+    said_looked = more_words looked w.clients w.sent (stamped o.number o.messages) (words_stay placed.machine looked w.clients w.sent two.stays files_placed said_placed) (answers.said (stamped o.number o.messages) o.sent)
 
-  p : PassesBoth config w.observer.trace w.observer.greatest w.sent k.log ss looked h.names h.requests h.named same_looked run_looked (passed_trace w.observer.greatest o.moment w.observer.trace) (max w.observer.greatest o.moment)
-  p = both_pass config w.observer.trace w.observer.greatest w.sent k.log ss looked h.names h.requests h.named same_looked run_looked o.moment
+    p : PassesBoth config w.observer.trace w.observer.greatest w.sent k.log ss looked h.names h.requests h.named same_looked run_looked (passed_trace w.observer.greatest o.moment w.observer.trace) (max w.observer.greatest o.moment)
+    p = both_pass config w.observer.trace w.observer.greatest w.sent k.log ss looked h.names h.requests h.named same_looked run_looked o.moment
 
-  chunks_looked : AreChunksBeside config v (record placed { machine = looked })
-  chunks_looked = let left = looks_leave placed.machine answers.looks answers.of_looks in same_files_keep_chunks_beside config v placed looked goes.3 left.0 left.1
+    chunks_looked : AreChunksBeside config v (record placed { machine = looked })
+    chunks_looked = let left = looks_leave placed.machine answers.looks answers.of_looks in same_files_keep_chunks_beside config v placed looked goes.3 left.0 left.1
 
-  abbrev At : List Visible → ℕ → List Message → List ClientState → Type 0
-  At trace greatest sent cs =
-      IsNamesBeside config trace greatest sent k.log ss p.names h.requests × AreClientsBeside config trace greatest cs p.names h.requests × IsRunTo config trace p.whole × AreFileClients cs p.whole × AreWordsSo sent cs p.whole
+    abbrev At : List Visible → ℕ → List Message → List ClientState → Type 0
+    At trace greatest sent cs =
+        IsNamesBeside config trace greatest sent k.log ss p.names h.requests × AreClientsBeside config trace greatest cs p.names h.requests × IsRunTo config trace p.whole × AreFileClients cs p.whole × AreWordsSo sent cs p.whole
 
-  here : At (passed_trace w.observer.greatest o.moment w.observer.trace) (max w.observer.greatest o.moment) (w.sent ++ stamped o.number o.messages) w.clients
-  here = (
-    says_else config (passed_trace w.observer.greatest o.moment w.observer.trace) (max w.observer.greatest o.moment) w.sent k.log ss p.names h.requests p.named o.number o.messages o.silent,
-    all_on config w.observer.trace (passed_trace w.observer.greatest o.moment w.observer.trace) w.observer.greatest (max w.observer.greatest o.moment) w.clients h.names p.names h.requests p.left
-    (λ q. passed_last w.observer.trace w.observer.greatest o.moment q) (le-max_left w.observer.greatest o.moment) h.asking,
-    p.run,
-    files_stay looked p.whole w.clients p.stays files_looked,
-    words_stay looked p.whole w.clients (w.sent ++ stamped o.number o.messages) p.stays files_looked said_looked,
-  )
+    here : At (passed_trace w.observer.greatest o.moment w.observer.trace) (max w.observer.greatest o.moment) (w.sent ++ stamped o.number o.messages) w.clients
+    here = (
+      says_else config (passed_trace w.observer.greatest o.moment w.observer.trace) (max w.observer.greatest o.moment) w.sent k.log ss p.names h.requests p.named o.number o.messages o.silent,
+      all_on config w.observer.trace (passed_trace w.observer.greatest o.moment w.observer.trace) w.observer.greatest (max w.observer.greatest o.moment) w.clients h.names p.names h.requests p.left
+          (λ q. passed_last w.observer.trace w.observer.greatest o.moment q) (le-max_left w.observer.greatest o.moment) h.asking,
+      p.run,
+      files_stay looked p.whole w.clients p.stays files_looked,
+      words_stay looked p.whole w.clients (w.sent ++ stamped o.number o.messages) p.stays files_looked said_looked,
+    )
 
-  there : At v.observer.trace v.observer.greatest v.sent v.clients
-  there =
-      subst (λ (t : List Visible). At t v.observer.greatest v.sent v.clients) (sym o.trace)
-      (subst (λ (g : ℕ). At (passed_trace w.observer.greatest o.moment w.observer.trace) g v.sent v.clients) (sym o.greatest)
-      (subst (λ (ms : List Message). At (passed_trace w.observer.greatest o.moment w.observer.trace) (max w.observer.greatest o.moment) ms v.clients) (sym o.sent)
-      (subst (λ (cs : List ClientState). At (passed_trace w.observer.greatest o.moment w.observer.trace) (max w.observer.greatest o.moment) (w.sent ++ stamped o.number o.messages) cs) (sym o.clients) here)))
+    there : At v.observer.trace v.observer.greatest v.sent v.clients
+    there =
+        subst (λ (t : List Visible). At t v.observer.greatest v.sent v.clients) (sym o.trace)
+        (subst (λ (g : ℕ). At (passed_trace w.observer.greatest o.moment w.observer.trace) g v.sent v.clients) (sym o.greatest)
+        (subst (λ (ms : List Message). At (passed_trace w.observer.greatest o.moment w.observer.trace) (max w.observer.greatest o.moment) ms v.clients) (sym o.sent)
+        (subst (λ (cs : List ClientState). At (passed_trace w.observer.greatest o.moment w.observer.trace) (max w.observer.greatest o.moment) (w.sent ++ stamped o.number o.messages) cs) (sym o.clients) here)))
 
-  beside : IsBeside config v ss (record placed { machine = p.whole })
-  beside = record {
-    names = p.names;
-    requests = h.requests;
-    named = there.0;
-    asking = there.1;
-    run = there.2;
-    same = p.same;
-    below = h.below;
-    chunks = same_files_keep_chunks_beside config v (record placed { machine = looked }) p.whole chunks_looked p.settings p.files;
-    files = there.3;
-    said = there.4;
-  }
+    beside : IsBeside config v ss (record placed { machine = p.whole })
+    beside = record {
+      names = p.names;
+      requests = h.requests;
+      named = there.0;
+      asking = there.1;
+      run = there.2;
+      same = p.same;
+      below = h.below;
+      chunks = same_files_keep_chunks_beside config v (record placed { machine = looked }) p.whole chunks_looked p.settings p.files;
+      files = there.3;
+      said = there.4;
+    }
 
-  keeps : (j : ChunkSides) × (j.log ≡ k.log) × IsBeside config v ss j
-  keeps = (record placed { machine = p.whole }, refl, beside)
+    keeps : (j : ChunkSides) × (j.log ≡ k.log) × IsBeside config v ss j
+    keeps = (record placed { machine = p.whole }, refl, beside)
 
 module _ (config : Config) (v : WorldState) where
   abbrev Up : MasterState → Type 0

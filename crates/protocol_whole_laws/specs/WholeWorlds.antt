@@ -91,7 +91,7 @@ pub record AreAnswersSo (w then_ : WorldState) (m : Machine) : Type 0 where
 -- What an event of a server asks: what it may number is for an open call, and what it answers may be looked at, once the machine has placed what was numbered.
 pub record AreServersTrue (config : Config) (w then_ : WorldState) : Type 0 where
   pub numbers : (ss : List PendingSnapshot) (k : ChunkSides) → IsBeside config w ss k → AreForOpenCalls w k
-  pub answers : (ss : List PendingSnapshot) (k j : ChunkSides) → IsBeside config w ss k → LeadsTo k.machine j.machine → AreChunksBeside config then_ j
+  pub answers : (ss : List PendingSnapshot) (k j : ChunkSides) → IsBeside config w ss k → LeadsTo k.machine j.machine → IsRunTo config w.observer.trace j.machine → AreChunksBeside config then_ j
       → AreFileClients w.clients j.machine → AreWordsSo w.sent w.clients j.machine → AreAnswersSo w then_ j.machine
 
 -- An event of a server keeps all so.
