@@ -5,20 +5,16 @@
 
 The machine goes beside the world as under `tools/explore --simulate`, which sees to it that each action is allowed.
 """
-import argparse
 import collections
 import os
 import sys
-import time
 
 ROOT = os.path.dirname(os.path.dirname(os.path.dirname(os.path.abspath(__file__))))
 sys.path.insert(0, os.path.join(ROOT, 'tools'))
 sys.dont_write_bytecode = True
 import state  # noqa: E402
 import simulate  # noqa: E402
-from events import Explorer  # noqa: E402
 from facts import Broken  # noqa: E402
-from statements import Statements  # noqa: E402
 from words import apply  # noqa: E402
 import explore_loader  # noqa: E402
 
@@ -317,37 +313,5 @@ class Judge(simulate.Simulation):
             self.counts['judged ' + it[0]] += 1
 
 
-def run(options):
-    program = Statements()
-    counts = collections.Counter()
-    end = time.process_time() + 60 * options.minutes
-    for seed in range(*options.seeds):
-        if time.process_time() > end:
-            break
-        explorer = Explorer(seed, options.faults, program)
-        Judge(explorer, program)
-        for place in range(options.events):
-            try:
-                explorer.step()
-            except Broken as fact:
-                print(f'seed {seed}, event {place}: {fact}')
-                return 1
-            if time.process_time() > end:
-                break
-        counts += explorer.counts
-        counts['lists'] += 1
-    print(', '.join(f'{counts[n]} {n}' for n in sorted(counts)))
-    return 0
-
-
-def main():
-    parser = argparse.ArgumentParser(description=__doc__, formatter_class=argparse.RawDescriptionHelpFormatter)
-    parser.add_argument('--faults', action='store_true')
-    parser.add_argument('--seeds', type=int, nargs=2, default=[0, 100000])
-    parser.add_argument('--events', type=int, default=1200)
-    parser.add_argument('--minutes', type=float, default=3)
-    return explore_loader.in_deep_stack(run, parser.parse_args())
-
-
 if __name__ == '__main__':
-    sys.exit(main())
+    sys.exit(explore_loader.judge_lists(__doc__, Judge))

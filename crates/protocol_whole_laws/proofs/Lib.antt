@@ -27,14 +27,11 @@ pub mod Parts
 pub mod PassedRounds
 pub mod ReadPieces
 pub mod RecordDues
-pub mod RecordRounds
 pub mod RecordTimes
 pub mod SentGrants
 pub mod ServerSteps
 pub mod Settlements
 pub mod SoundLogs
-pub mod StepCopies
-pub mod StepRounds
 pub mod StoppedSteps
 pub mod ToldHolders
 pub mod ToldRounds

@@ -12,7 +12,6 @@ pub mod GrantedRecords
 pub mod MasterSteps
 pub mod OverRounds
 pub mod RecordDues
-pub mod RecordRounds
 pub mod Rounds
 pub mod ServerSteps
 pub mod ToldHolders

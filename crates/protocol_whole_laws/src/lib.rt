@@ -12,7 +12,6 @@ pub mod file_openings;
 pub mod file_steps;
 pub mod master_steps;
 pub mod record_dues;
-pub mod record_rounds;
 pub mod rounds;
 pub mod server_steps;
 pub mod told_holders;
