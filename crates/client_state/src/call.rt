@@ -1,5 +1,7 @@
 //! A client's open call.
 
+ghost use Rattle.std.specs.Prelude.{◌≡◌};
+
 use crate::gathered::Gathered;
 use gfs_types::answer::Answer;
 use gfs_types::call::Call;
@@ -58,7 +60,6 @@ pub enum Stage {
 }
 
 /// A call that has no answer yet.
-#[derive(Drop)]
 pub struct CurrentCall {
     /// The number of a name call.
     pub number: u64,
@@ -84,4 +85,51 @@ pub struct CurrentCall {
     /// What a read has read so far.
     pub bytes: Gathered,
     pub rounds: RoundList,
+}
+
+// Stands here, once, so that no function that lets one go, here or above, takes its fields apart.
+impl Drop for CurrentCall {
+    fn drop(self) {
+        let Self {
+            number: _,
+            asked: _asked,
+            file: _,
+            index: _,
+            last_chunk: _,
+            left: _,
+            deadline: _,
+            stage: _stage,
+            lost_lease: _,
+            saw_no_holder: _,
+            is_nobody_serving: _,
+            live: _live,
+            bytes: _bytes,
+            rounds: _rounds,
+        } = self;
+    }
+}
+
+impl CurrentCall {
+    /// What a read has read so far, and the rounds of it.
+    pub fn into_read(self) -> (Gathered, RoundList)
+        ensures { (result.0 ≡ self.bytes) × (result.1 ≡ self.rounds) }
+    {
+        let Self {
+            number: _,
+            asked: _asked,
+            file: _,
+            index: _,
+            last_chunk: _,
+            left: _,
+            deadline: _,
+            stage: _stage,
+            lost_lease: _,
+            saw_no_holder: _,
+            is_nobody_serving: _,
+            live: _live,
+            bytes,
+            rounds,
+        } = self;
+        (bytes, rounds)
+    }
 }

@@ -51,11 +51,9 @@ fn answers_read(client: &mut Client, current: CurrentCall) -> Result<Effects, No
     if is_mutation(&current.asked) {
         return Err(NoMemory);
     }
-    let bytes = current.bytes.into_bytes()?;
-    Ok(client.answers(Answer::Bytes {
-        bytes,
-        rounds: current.rounds,
-    }))
+    let (gathered, rounds) = current.into_read();
+    let bytes = gathered.into_bytes()?;
+    Ok(client.answers(Answer::Bytes { bytes, rounds }))
 }
 
 /// Bytes of a part came, or there is no such chunk. A part that is shorter than was asked is the last one.

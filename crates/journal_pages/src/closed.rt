@@ -13,11 +13,21 @@ use journal_list::{Beginning, WholeList};
 use std::marker::Model;
 
 /// All entries of a cell that was closed.
-#[derive(Drop)]
 pub struct ClosedPages {
     pub(crate) cell: CellIdentity,
     pub(crate) rows: Vec<Row>,
     pub(crate) whole: WholeList<Entry>,
+}
+
+// Stands here, once, so that no function that lets one go, here or above, takes its fields apart.
+impl Drop for ClosedPages {
+    fn drop(self) {
+        let Self {
+            cell: _cell,
+            rows: _rows,
+            whole: _whole,
+        } = self;
+    }
 }
 
 impl Model for ClosedPages {

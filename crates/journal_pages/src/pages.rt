@@ -20,7 +20,6 @@ use std::alloc::Global;
 use std::marker::Model;
 
 /// All entries so far, with room for those that are reserved.
-#[derive(Drop)]
 pub struct Pages {
     cell: CellIdentity,
     rows: Vec<Row>,
@@ -28,6 +27,19 @@ pub struct Pages {
     count: u128,
     reserved: u64,
     list: GrowingList<Entry>,
+}
+
+// Stands here, once, so that no function that lets one go, here or above, takes its fields apart.
+impl Drop for Pages {
+    fn drop(self) {
+        let Self {
+            cell: _cell,
+            rows: _rows,
+            count: _,
+            reserved: _,
+            list: _list,
+        } = self;
+    }
 }
 
 impl Model for Pages {
@@ -151,11 +163,12 @@ impl Pages {
     pub fn close(self) -> ClosedPages
         ensures { result ≡ closed self.cell self.entries }
     {
-        let Pages {
+        let Self {
             cell,
             rows,
+            count: _,
+            reserved: _,
             list,
-            ..
         } = self;
         ClosedPages {
             cell,

@@ -1,6 +1,6 @@
 //! How a step ends: what was planned is made.
 
-ghost use Rattle.std.specs.Prelude.{◌≡◌, ◌&&◌, nat_le, []};
+ghost use Rattle.std.specs.Prelude.{◌≡◌, ◌*◌, ◌&&◌, nat_le, []};
 ghost use Rattle.protocol.specs.Tables.{counter_limit};
 ghost use Rattle.protocol.specs.MasterStep.{is_within_limits};
 ghost use Rattle.master_plan.specs.Changes.{changes_of};
@@ -8,7 +8,7 @@ ghost use Rattle.master_plan.specs.Plans.{known};
 ghost use Rattle.master.specs.Ends.{AreMade, step_out};
 
 use crate::commit::commit;
-use gfs_types::ids::MAX_COUNTER;
+use gfs_types::ids::{Handle, MAX_COUNTER};
 use master_plan::change::ChangeList;
 use master_plan::plan::Plan;
 use messages::event::StepOut;
@@ -63,8 +63,10 @@ fn is_within_limits<A: Allocator + Clone>(plan: &Plan<A>) -> bool
     ensures { result ≡ is_within_limits (known plan.now) }
 {
     let state = plan.state();
-    state.table().is_sound();
+    let table = state.table();
+    table.is_sound();
     are_within(state.epoch(), plan.order_count())
+        && has_places(table.next_handle(), plan.config().chunk)
 }
 
 // The other counters are the table's, which keeps them within their limits.
@@ -72,4 +74,14 @@ fn are_within(epoch: u64, order_count: u64) -> bool
     ensures { result ≡ (nat_le epoch counter_limit && nat_le order_count counter_limit) }
 {
     epoch <= MAX_COUNTER && order_count <= MAX_COUNTER
+}
+
+// Whether no place in a file is past the limit, where each chunk's index is below this handle.
+fn has_places(next_handle: Handle, chunk: u64) -> bool
+    ensures { result ≡ nat_le (next_handle.0 * chunk) counter_limit }
+{
+    match next_handle.0.checked_mul(chunk) {
+        Some(end) => end <= MAX_COUNTER,
+        None => false,
+    }
 }

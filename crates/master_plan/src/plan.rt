@@ -24,7 +24,6 @@ use std::alloc::{Allocator, Global};
 use std::marker::Model;
 
 /// The master while it takes a step: the changes that it makes of its log are put down here, and made as the step ends.
-#[derive(Drop)]
 pub struct Plan<A: Allocator> {
     pub(crate) alloc: Global,
     pub(crate) config: Config,
@@ -39,6 +38,27 @@ pub struct Plan<A: Allocator> {
     pub(crate) sent: MessageList,
     pub(crate) changes: ChangeList,
     pub(crate) seen: SeenList,
+}
+
+// Stands here, once, so that no function that lets one go, here or above, takes its fields apart.
+impl<A: Allocator> Drop for Plan<A> {
+    fn drop(self) {
+        let Self {
+            alloc: _,
+            config: _,
+            server_count: _,
+            clock: _,
+            state: _state,
+            order_count: _,
+            attempts: _attempts,
+            snapshots: _snapshots,
+            holders: _holders,
+            reported: _reported,
+            sent: _sent,
+            changes: _changes,
+            seen: _seen,
+        } = self;
+    }
 }
 
 impl<A: Allocator> Model for Plan<A> {

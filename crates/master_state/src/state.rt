@@ -22,7 +22,6 @@ use std::marker::Model;
 
 /// The names, files and chunks, counters, clients' last calls and copies under way: what the log's replay comes to. The names
 /// lie in `A`. Contracts see it as `Logged`.
-#[derive(Drop)]
 pub struct State<A: Allocator> {
     pub(crate) alloc: Global,
     pub(crate) names: Namespace<A>,
@@ -30,6 +29,20 @@ pub struct State<A: Allocator> {
     pub(crate) epoch: u64,
     pub(crate) kept: OrderedMap<KeptCall>,
     pub(crate) copies: OrderedMap<CopyRow>,
+}
+
+// Stands here, once, so that no function that lets one go, here or above, takes its fields apart.
+impl<A: Allocator> Drop for State<A> {
+    fn drop(self) {
+        let Self {
+            alloc: _,
+            names: _names,
+            table: _table,
+            epoch: _,
+            kept: _kept,
+            copies: _copies,
+        } = self;
+    }
 }
 
 impl<A: Allocator> Model for State<A> {

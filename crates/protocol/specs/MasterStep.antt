@@ -114,11 +114,12 @@ finishes d = takes_ready d d.master.snapshots
 abbrev pub master_goes : MasterState → ℕ → Input → List Bool → MasterDoing
 master_goes m moment i refused = finishes (master_does (master_begins (master_at m moment) refused) i)
 
--- no counter is past its limit
+-- No counter is past its limit, and no place in a file either: a chunk's index is below the next handle.
 abbrev pub is_within_limits : MasterState → Bool
 is_within_limits m =
     nat_le m.logged.next_file counter_limit && nat_le m.logged.next_handle counter_limit && nat_le m.logged.epoch counter_limit
     && nat_le m.order_count counter_limit && list_all (λ e. nat_le e.1.issued counter_limit) (table.entries m.logged.table.chunks)
+    && nat_le (m.logged.next_handle * m.config.chunk) counter_limit
 
 abbrev pub master_ends : MasterState → MasterDoing → Choice → Ending → Taken MasterState
 master_ends m d choice Goes = record { state = d.master; out = record { sent = in_order choice.order d.sent; answer = None; down = false }; seen = d.seen }
