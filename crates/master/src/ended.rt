@@ -77,10 +77,10 @@ fn are_within(epoch: u64, order_count: u64) -> bool
 }
 
 // Whether no place in a file is past the limit, where each chunk's index is below this handle.
-fn has_places(next_handle: Handle, chunk: u64) -> bool
+fn has_places(next_handle: Handle, chunk: u32) -> bool
     ensures { result ≡ nat_le (next_handle.0 * chunk) counter_limit }
 {
-    match next_handle.0.checked_mul(chunk) {
+    match next_handle.0.checked_mul(u64::from(chunk)) {
         Some(end) => end <= MAX_COUNTER,
         None => false,
     }
