@@ -1,0 +1,4 @@
+//! Laws of what servers number, at the whole machine: it is for the open calls of its clients.
+#![tactic(auto)]
+
+pub mod numbered_calls;
