@@ -82,9 +82,9 @@ each_join P [] ys one two = two
 each_join P (x ∷ xs) ys one two = (one.0, each_join P xs ys one.1 two)
 
 apart_join : (P Q : ℕ → Type 0) → ((x y : ℕ) → P x → Q y → x ≡ y → ⊥) → (xs ys : List ℕ) → AreApart xs → AreApart ys → EachOf P xs → EachOf Q ys → AreApart (xs ++ ys)
-apart_join P Q no [] ys one two ps qs = two
-apart_join P Q no (x ∷ xs) ys one two ps qs =
-    (each_join (λ m. x ≡ m → ⊥) xs ys one.0 (each_on Q (λ m. x ≡ m → ⊥) (λ y q. no x y ps.0 q) ys qs), apart_join P Q no xs ys one.1 two ps.1 qs)
+apart_join P Q differ [] ys one two ps qs = two
+apart_join P Q differ (x ∷ xs) ys one two ps qs =
+    (each_join (λ m. x ≡ m → ⊥) xs ys one.0 (each_on Q (λ m. x ≡ m → ⊥) (λ y q. differ x y ps.0 q) ys qs), apart_join P Q differ xs ys one.1 two ps.1 qs)
 
 -- what the call has left, by what is to be placed for it
 
@@ -335,7 +335,7 @@ module _ (config : Config) (servers clients : ℕ) (steps : List (Event × Choic
           file_is = ap (λ (a : Asked). a.file) (sym same_asked) ∙ attempt.of_call.file_is;
           pushed = λ bytes was.
               subst (λ (a : Asked). AreDataOf (chunk_size k.machine attempt.file) attempt.place a.call bytes) same_asked
-              (subst (λ (bs : List ℕ). AreDataOf (chunk_size k.machine attempt.file) attempt.place attempt.of_call.asked.call bs) (sym (data_are_pushed_once config servers clients W reached id id attempt.bytes bytes attempt.pushed was refl refl)) attempt.data);
+              (subst (λ (bs : List ℕ). AreDataOf (chunk_size k.machine attempt.file) attempt.place attempt.of_call.asked.call bs) (sym (data_are_pushed_once config servers clients W reached id id attempt.bytes bytes attempt.pushed was refl refl)) attempt.pushes);
           part =
               left_of k.machine Id attempt.file attempt.place (opened.0).asked.call asked.aim asked.bytes n.placed asked.fits
               (subst (λ (q : ℕ). IsPartTo k.machine (record { client = id.client.0; number = q }) attempt.file attempt.place (opened.0).asked.call asked.aim) made_is

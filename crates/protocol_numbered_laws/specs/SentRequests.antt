@@ -56,7 +56,7 @@ pub record IsAttemptOf (start : WorldState) (steps : List (Event × Choice)) (m 
   pub told : IsToldChunk (after_events start steps).sent client file place handle.0 version.0
   pub bytes : List ℕ
   pub pushed : IsPushed (after_events start steps).sent id bytes
-  pub data : AreDataOf (chunk_size m file) place of_call.asked.call bytes
+  pub pushes : AreDataOf (chunk_size m file) place of_call.asked.call bytes
   pub part : IsPartTo m (record { client = client; number = number }) file place of_call.asked.call aim
   pub was_asked : WasAsked index start steps number (part_of of_call.asked.call place) id.seq
 
