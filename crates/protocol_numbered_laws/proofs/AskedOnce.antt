@@ -59,10 +59,10 @@ grown_under client n before after g =
 
 -- what an event sends
 
-abbrev Sends : WorldState → Happened → Type 0
+abbrev pub Sends : WorldState → Happened → Type 0
 Sends w x = (k : ℕ) × (x.world.sent ≡ w.sent ++ stamped k x.out.sent)
 
-each_sends : (w : WorldState) → HoldsAfter w (λ e x. Sends w x)
+pub each_sends : (w : WorldState) → HoldsAfter w (λ e x. Sends w x)
 each_sends w =
     record {
       nothing = λ e. (0, sym (append-nil w.sent));

@@ -1,2 +1,4 @@
 pub mod AskedOnce
 pub mod NumberedCalls
+pub mod RequestsStay
+pub mod SentNow
