@@ -1,4 +1,7 @@
 pub mod AskedOnce
+pub mod NumberedAttempts
 pub mod NumberedCalls
+pub mod QuietTries
 pub mod RequestsStay
 pub mod SentNow
+pub mod TriesStay

@@ -65,6 +65,8 @@ use Rattle.protocol_whole_laws.proofs.ToldRounds.{counting_rounds_are_open_where
 use Rattle.protocol_numbered_laws.specs.SentRequests.{IsPartTo, IsAttemptOf, IsRequestOf, AreRequestsOf, AreRequestsOfCalls, IsTryAt, AreTriesNumbered}
 use Rattle.protocol_numbered_laws.specs.NumberedCalls.{NumberedMutationsAreForOpenCalls}
 use Rattle.protocol_numbered_laws.proofs.AskedOnce.{asked_once}
+use Rattle.protocol_numbered_laws.proofs.NumberedAttempts as attempts
+use Rattle.protocol_numbered_laws.proofs.NumberedAttempts.{told_at}
 
 -- a client that waits has its call open
 from_waiting : (p q : Option OpenCall) → q ≡ p → is_waiting p ≡ true → (o : OpenCall) × (q ≡ Some o)
@@ -73,7 +75,7 @@ from_waiting (Some o) q is waiting = (o, is)
 
 -- numbers
 
-each_on : (P Q : ℕ → Type 0) → ((n : ℕ) → P n → Q n) → (ns : List ℕ) → EachOf P ns → EachOf Q ns
+pub each_on : (P Q : ℕ → Type 0) → ((n : ℕ) → P n → Q n) → (ns : List ℕ) → EachOf P ns → EachOf Q ns
 each_on P Q go [] h = tt
 each_on P Q go (n ∷ ns) h = (go n h.0, each_on P Q go ns h.1)
 
@@ -102,19 +104,6 @@ left_of m id file index (call.Append fd content) target.Append bytes (Append o b
 left_of m id file index (call.Append fd content) target.Append bytes (Pad o) fits part try_ = tt
 left_of m id file index other aim bytes x fits part try_ = absurd part
 
--- a chunk that was told, in a round that was granted
-told_at : (sent : List Message) (client file index handle round : ℕ) (t : IsToldChunk sent client file index handle round) → 1 ≤ round → IsToldAt sent client file t.location (t.told.sent_is).0
-told_at sent client file index handle round t low =
-    record {
-      number = t.told.number;
-      asked = t.told.asked;
-      told = t.told.told;
-      sent_is = (t.told.sent_is).1;
-      receiver_is = t.told.receiver_is;
-      body_is = t.told.body_is;
-      granted = let same = t.round_is in omega (arith, same, low);
-    }
-
 module _ (config : Config) (servers clients : ℕ) (steps : List (Event × Choice)) (settings : AreSettings config) (kept : IsTrue (is_kept (after_events (new_world config servers clients) steps)))
     (ss : List PendingSnapshot) (k : ChunkSides) (beside : IsBeside config (after_events (new_world config servers clients) steps) ss k)
     (requests : AreRequestsOf (new_world config servers clients) steps k.machine) (tries : AreTriesNumbered (after_events (new_world config servers clients) steps) k.machine) where
@@ -136,35 +125,19 @@ module _ (config : Config) (servers clients : ℕ) (steps : List (Event × Choic
   known : Known k.machine
   known = known_when_reached config k.machine (beside.run.0, beside.run.1, beside.run.3)
 
-  -- two tries of one number are at one index
-  one_index : (client made other i j x y : ℕ) → IsTryAt W client made i x → IsTryAt W client other j y → x ≡ y → i ≡ j
-  one_index client made other i j x y t u same =
-      sym t.told.index_is ∙ handles_are_told_at_one_index config servers clients W reached clocks client client t.file u.file t.told.location u.told.location (t.told.told.sent_is).0 (u.told.told.sent_is).0
-      (told_at W.sent client t.file i t.named.0 t.version.0 t.told t.granted) (told_at W.sent client u.file j u.named.0 u.version.0 u.told u.granted)
-      (t.told.handle_is ∙ ap (λ (h : Handle). h.0) one.0 ∙ sym u.told.handle_is) ∙ u.told.index_is
-    where
-      same_id : u.id ≡ t.id
-      same_id = λ n. record { client = record { 0 = (u.own ∙ sym t.own) n }; seq = (u.id_is ∙ sym same ∙ sym t.id_is) n }
-
-      one : (t.named ≡ u.named) × (t.version ≡ u.version)
-      one =
-          one_target config servers clients W reached t.id t.named u.named t.version u.version
-          (record { asked = t.asked; aim = t.aim; deadline = t.deadline; sent_is = t.sent_is; sender_is = t.sender_is ∙ ap (λ (c : ℕ). Rattle.protocol.specs.Sending.the_client c) (sym t.own); body_is = t.body_is })
-          (record { asked = u.asked; aim = u.aim; deadline = u.deadline; sent_is = u.sent_is; sender_is = u.sender_is ∙ ap (λ (c : ℕ). Rattle.protocol.specs.Sending.the_client c) (sym t.own); body_is = subst (λ (d : DataId). u.asked.body ≡ Rattle.messages.specs.declared.message.Body.TheVariants.Mutate d u.named u.version u.aim u.deadline) same_id u.body_is })
-
   module _ (index moment : ℕ) (s : ServerState) (i : Input) (choice : Choice) (handle : Handle) (version : Version) (id : DataId) (n : Numbers (after_events (new_world config servers clients) steps) index moment s i choice handle version id)
       (counts : IsTrue (observed_moment (after_events (new_world config servers clients) steps).config.skew_ms (after_events (new_world config servers clients) steps).observer moment).are_clocks_kept) where
-    counted : IsTrue (observed_moment config.skew_ms W.observer moment).are_clocks_kept
-    counted = subst (λ (c : Config). IsTrue (observed_moment c.skew_ms W.observer moment).are_clocks_kept) same_config counts
+    abbrev counted : IsTrue (observed_moment config.skew_ms W.observer moment).are_clocks_kept
+    counted = attempts.counted config servers clients steps clocks k beside.chunks requests index moment s i choice handle version id n counts
 
-    law : (m : Message) × (i ≡ input.Deliver m) × IsAskedFor (server_at s moment) W.sent m handle version n.serial id n.placed
-    law = numbered_mutations_were_asked_for config servers clients W reached index s n.is moment i choice n.came n.place handle version n.serial id n.placed n.seen
+    abbrev law : (m : Message) × (i ≡ input.Deliver m) × IsAskedFor (server_at s moment) W.sent m handle version n.serial id n.placed
+    law = attempts.law config servers clients steps clocks k beside.chunks requests index moment s i choice handle version id n counts
 
-    asked : IsAskedFor (server_at s moment) W.sent law.0 handle version n.serial id n.placed
-    asked = law.2
+    abbrev asked : IsAskedFor (server_at s moment) W.sent law.0 handle version n.serial id n.placed
+    asked = attempts.asked config servers clients steps clocks k beside.chunks requests index moment s i choice handle version id n counts
 
-    attempt : IsAttemptOf Start steps k.machine id.client.0 id handle version asked.aim
-    attempt = subst (λ (b : Body). IsRequestOf Start steps k.machine id.client.0 b) asked.body_is (requests id.client.0 (n.came law.0 law.1).0 law.0 (n.came law.0 law.1).1 asked.sender_is)
+    abbrev attempt : IsAttemptOf Start steps k.machine id.client.0 id handle version asked.aim
+    attempt = attempts.attempt config servers clients steps clocks k beside.chunks requests index moment s i choice handle version id n counts
 
     of_open : IsOfOpenCall Start steps attempt.index id.seq
     of_open = entries_are_of_open_calls config servers clients steps index moment s i choice handle version id n counted attempt.index attempt.client_is
@@ -199,23 +172,6 @@ module _ (config : Config) (servers clients : ℕ) (steps : List (Event × Choic
 
     same_asked : attempt.of_call.asked ≡ (opened.0).asked
     same_asked = from_some (sym attempt.of_call.made ∙ ap (λ (q : ℕ). (k.machine.clients id.client.0).calls q) made_is ∙ call_made)
-
-    -- the place for which the chunk was told
-
-    lease_there : (Rattle.std.specs.FinMap.get s.leases handle.0 ≡ Some asked.lease) × (asked.lease.held.version ≡ version.0)
-    lease_there = primary_there (server_at s moment) version.0 (Rattle.std.specs.FinMap.get s.leases handle.0) asked.lease asked.lease_is
-
-    granted : 1 ≤ version.0
-    granted =
-        let grant = leased_granted config servers clients W reached index s n.is handle.0 asked.lease lease_there.0 in
-        granted_from_one config servers clients W reached handle.0 version.0
-        (subst (λ (v : ℕ). 1 ≤ grants_of handle.0 v W.sent) lease_there.1 (counted_one (λ m. is_grant handle.0 asked.lease.held.version m.body) W.sent grant.0 (grant.1).0 (grant.1).1 grant.2))
-
-    spot_is : (at : Spot) → IsRoundOpen k handle.0 version.0 at → at ≡ record { file = attempt.file; index = attempt.place }
-    spot_is at was_open =
-        (counting_rounds_are_open_where_told config servers clients W reached clocks k beside.chunks.log beside.chunks.alike beside.chunks.told moment counts index s n.is handle.0 version.0 asked.lease asked.lease_is
-        id.client.0 attempt.file attempt.told.location (attempt.told.told.sent_is).0 (told_at W.sent id.client.0 attempt.file attempt.place handle.0 version.0 attempt.told granted) attempt.told.handle_is attempt.told.round_is).1 at was_open
-        ∙ ap (λ (q : ℕ). record { file = attempt.file; index = q }) attempt.told.index_is
 
     -- tries
 
@@ -304,7 +260,7 @@ module _ (config : Config) (servers clients : ℕ) (steps : List (Event × Choic
           let t = tries file count (suc attempt.index) Made in
           (
             t.0 ++ first.0,
-            apart_join (IsTryAt W (suc attempt.index) Made count) (Below count) (λ x y one two same. let at_one = one_index (suc attempt.index) Made Made count two.0 x y one two.2 same in let low = two.1 in absurd (omega (arith, at_one, low))) t.0 first.0 t.1 first.1 t.2 first.2,
+            apart_join (IsTryAt W (suc attempt.index) Made count) (Below count) (λ x y one two same. let at_one = attempts.one_index config servers clients steps clocks k beside.chunks requests (suc attempt.index) Made Made count two.0 x y one two.2 same in let low = two.1 in absurd (omega (arith, at_one, low))) t.0 first.0 t.1 first.1 t.2 first.2,
             each_join (Below (suc count)) t.0 first.0 (each_on (IsTryAt W (suc attempt.index) Made count) (Below (suc count)) (λ q try_. (count, omega arith, try_)) t.0 t.2)
                 (each_on (Below count) (Below (suc count)) (λ q below. let low = below.1 in (below.0, omega (arith, low), below.2)) first.0 first.2),
             (let one = t.3 in let two = first.3 in let sum = length-append t.0 first.0 in omega (arith, one, two, sum)),
@@ -345,7 +301,7 @@ module _ (config : Config) (servers clients : ℕ) (steps : List (Event × Choic
 
   are_for_open_calls : AreForOpenCalls W k
   are_for_open_calls index moment s i choice handle version id n counts at was_open =
-      subst (λ (p : Spot). IsForOpenCall W k id p n.placed) (sym (spot_is index moment s i choice handle version id n counts at was_open)) (for_there index moment s i choice handle version id n counts)
+      subst (λ (p : Spot). IsForOpenCall W k id p n.placed) (sym (attempts.spot_is config servers clients steps clocks k beside.chunks requests index moment s i choice handle version id n counts at was_open)) (for_there index moment s i choice handle version id n counts)
 
 pub numbered_mutations_are_for_open_calls : NumberedMutationsAreForOpenCalls
 numbered_mutations_are_for_open_calls config servers clients w settings r kept ss k beside requests tries =

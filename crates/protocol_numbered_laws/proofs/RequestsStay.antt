@@ -142,7 +142,7 @@ module _ (m n : Machine) (grows : Grows m n) where
   wanted_on id file c wanted.Last h = tt
   wanted_on id file other what h = absurd h
 
-told_on : (sent more : List Message) (client file index handle round : ℕ) → IsToldChunk sent client file index handle round → IsToldChunk (sent ++ more) client file index handle round
+pub told_on : (sent more : List Message) (client file index handle round : ℕ) → IsToldChunk sent client file index handle round → IsToldChunk (sent ++ more) client file index handle round
 told_on sent more client file index handle round h = record { location = h.location; told = told_later sent more client file h.location h.told; index_is = h.index_is; handle_is = h.handle_is; round_is = h.round_is }
 
 -- what is new

@@ -1,2 +1,3 @@
 pub mod NumberedCalls
+pub mod NumberedTries
 pub mod SentRequests
