@@ -73,8 +73,8 @@ module _ (m : Machine) where
   step_keeps (Expire file moment) a quiet = put_keeps HoldsOfFile file _ m.files (first file) first
   step_keeps (Add id) a quiet = at_some Holds (chunk_added m id) m (asked_file m id) a.1 (asked_is m id a.0 a.1 a.2.0 a.2.1)
       (put_keeps HoldsOfFile a.1 _ m.files (put_at P (chunk_count m a.1) new_chunk (m.files a.1).chunks (new_has (chunk_count m a.1)) (first a.1)) first)
-  step_keeps (OpenRound file index round) a quiet = chunk_keeps file index _ (same_has file index _ refl)
-  step_keeps (CloseRound file index) a quiet = chunk_keeps file index _ (same_has file index _ refl)
+  step_keeps (OpenRound file index round) a quiet = chunk_keeps file index _ (same_has file index (record (chunk_at m file index) { round = round; is_open = true }) refl)
+  step_keeps (CloseRound file index) a quiet = chunk_keeps file index _ (same_has file index (record (chunk_at m file index) { is_open = false }) refl)
   step_keeps (Place client file index mutation) a quiet = absurd (true≢false (sym quiet))
   step_keeps (Settle file index place) a quiet = chunk_keeps file index _ (file, λ id. let e = settled_tries id place (chunk_at m file index).order in omega (arith, e))
   step_keeps (Look client file index least last chosen) a quiet = at_some Holds (λ current. looked m client current file index least chosen) m _ a.0 a.1 first

@@ -99,7 +99,10 @@ module _ (config : Config) (servers clients : ℕ) (steps : List (Event × Choic
     abbrev law : (m : Message) × (g.input ≡ input.Deliver m) × IsAskedFor (server_at g.server g.moment) W.sent m g.handle g.version g.numbers.serial g.id g.numbers.placed
     law = attempts.law config servers clients steps clocks k chunks requests g.index g.moment g.server g.input g.choice g.handle g.version g.id g.numbers g.counts
 
-    attempt : IsAttemptOf Start steps k.machine g.id.client.0 g.id g.handle g.version law.2.aim
+    abbrev asked : IsAskedFor (server_at g.server g.moment) W.sent law.0 g.handle g.version g.numbers.serial g.id g.numbers.placed
+    asked = attempts.asked config servers clients steps clocks k chunks requests g.index g.moment g.server g.input g.choice g.handle g.version g.id g.numbers g.counts
+
+    abbrev attempt : IsAttemptOf Start steps k.machine g.id.client.0 g.id g.handle g.version asked.aim
     attempt = attempts.attempt config servers clients steps clocks k chunks requests g.index g.moment g.server g.input g.choice g.handle g.version g.id g.numbers g.counts
 
     granted : 1 ≤ g.version.0
@@ -120,7 +123,7 @@ module _ (config : Config) (servers clients : ℕ) (steps : List (Event × Choic
     not_used : IsUsed W g.id → ⊥
     not_used used =
         used_not_new config servers clients W (steps, refl) g.id used g.index g.moment g.server g.numbers.is g.handle g.version
-        (record { asked = law.0; aim = law.2.aim; deadline = law.2.deadline; sent_is = g.numbers.came law.0 law.1; sender_is = law.2.sender_is; body_is = law.2.body_is }) law.2.lease law.2.lease_is law.2.new
+        (record { asked = law.0; aim = asked.aim; deadline = asked.deadline; sent_is = g.numbers.came law.0 law.1; sender_is = asked.sender_is; body_is = asked.body_is }) asked.lease asked.lease_is asked.new
 
     other_number : (made index q : ℕ) → IsTryAt W g.id.client.0 made index q → g.id.seq ≡ q → ⊥
     other_number made index q t same =
@@ -139,13 +142,13 @@ module _ (config : Config) (servers clients : ℕ) (steps : List (Event × Choic
           no_pad = subst (λ (m : Mutation). IsPad m → ⊥) (sym (ap (λ (p : Placed). p.entry.mutation) entry.3)) no_pad;
           asked = law.0;
           sent_is = subst (λ (ms : List Message). (place : ℕ) × (element_at ms place ≡ Some law.0)) (sym more.1) (among_later W.sent more.0 law.0 (g.numbers.came law.0 law.1));
-          sender_is = law.2.sender_is;
+          sender_is = asked.sender_is;
           id = g.id;
           named = g.handle;
           version = g.version;
-          aim = law.2.aim;
-          deadline = law.2.deadline;
-          body_is = law.2.body_is;
+          aim = asked.aim;
+          deadline = asked.deadline;
+          body_is = asked.body_is;
           own = refl;
           id_is = refl;
           granted = granted;
