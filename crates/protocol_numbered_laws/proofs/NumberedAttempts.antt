@@ -65,7 +65,7 @@ use Rattle.protocol_whole_laws.specs.ServerSteps.{AreDataOf, HasPartLeft, IsForO
 use Rattle.protocol_whole_laws.specs.ChunksBeside.{AreChunksBeside}
 use Rattle.protocol_whole_laws.proofs.CountedCalls.{calls_are_counted}
 use Rattle.protocol_whole_laws.proofs.ToldRounds.{counting_rounds_are_open_where_told}
-use Rattle.protocol_numbered_laws.specs.SentRequests.{IsPartTo, IsAttemptOf, IsRequestOf, AreRequestsOf, AreRequestsOfCalls, IsTryAt, AreTriesNumbered}
+use Rattle.protocol_whole_laws.specs.SentRequests.{IsPartTo, IsAttemptOf, IsRequestOf, AreRequestsOf, AreRequestsOfCalls, IsTryAt, AreTriesNumbered}
 use Rattle.protocol_numbered_laws.specs.NumberedCalls.{NumberedMutationsAreForOpenCalls}
 use Rattle.protocol_numbered_laws.proofs.AskedOnce.{asked_once}
 

@@ -62,7 +62,7 @@ use Rattle.protocol_whole_laws.specs.ServerSteps.{AreDataOf, HasPartLeft, IsForO
 use Rattle.protocol_whole_laws.specs.WholeWorlds.{IsBeside}
 use Rattle.protocol_whole_laws.proofs.CountedCalls.{calls_are_counted}
 use Rattle.protocol_whole_laws.proofs.ToldRounds.{counting_rounds_are_open_where_told}
-use Rattle.protocol_numbered_laws.specs.SentRequests.{IsPartTo, IsAttemptOf, IsRequestOf, AreRequestsOf, AreRequestsOfCalls, IsTryAt, AreTriesNumbered}
+use Rattle.protocol_whole_laws.specs.SentRequests.{IsPartTo, IsAttemptOf, IsRequestOf, AreRequestsOf, AreRequestsOfCalls, IsTryAt, AreTriesNumbered}
 use Rattle.protocol_numbered_laws.specs.NumberedCalls.{NumberedMutationsAreForOpenCalls}
 use Rattle.protocol_numbered_laws.proofs.AskedOnce.{asked_once}
 use Rattle.protocol_numbered_laws.proofs.NumberedAttempts as attempts
@@ -304,6 +304,7 @@ module _ (config : Config) (servers clients : ℕ) (steps : List (Event × Choic
       subst (λ (p : Spot). IsForOpenCall W k id p n.placed) (sym (attempts.spot_is config servers clients steps clocks k beside.chunks requests index moment s i choice handle version id n counts at was_open)) (for_there index moment s i choice handle version id n counts)
 
 pub numbered_mutations_are_for_open_calls : NumberedMutationsAreForOpenCalls
-numbered_mutations_are_for_open_calls config servers clients w settings r kept ss k beside requests tries =
+numbered_mutations_are_for_open_calls config servers clients w settings r kept ss k beside =
+    let requests : AreRequestsOfCalls config w k.machine = beside.requests_are.0 in
     subst (λ (u : WorldState). IsTrue (is_kept u) → IsBeside config u ss k → AreTriesNumbered u k.machine → AreForOpenCalls u k) requests.leads
-    (λ ok there numbered. are_for_open_calls config requests.servers requests.clients requests.steps settings ok ss k there requests.each numbered) kept beside tries
+    (λ ok there numbered. are_for_open_calls config requests.servers requests.clients requests.steps settings ok ss k there requests.each numbered) kept beside beside.requests_are.1

@@ -18,14 +18,9 @@ use Rattle.relaxed_file.specs.Run.{Action, Return, Step, Expire, Add, OpenRound,
 use Rattle.relaxed_file.proofs.Tables.{put_keeps, put_at, at_some}
 use Rattle.relaxed_file.proofs.Known.{asked_is}
 use Rattle.relaxed_file.proofs.Tries.{is_try, one_try, tries_cons}
-use Rattle.protocol_numbered_laws.specs.NumberedTries.{places_nothing, HasNoMoreTries, QuietActionsAddNoTries}
-
--- settling changes no try
-
-settled_tries : (id : CallId) (place : ℕ) (order : List Entry) → count_by (is_try id) (settled_at place order) ≡ count_by (is_try id) order
-settled_tries id place [] = refl
-settled_tries id zero (e ∷ rest) = tries_cons id (record e { settled = true }) rest ∙ sym (tries_cons id e rest)
-settled_tries id (suc place) (e ∷ rest) = tries_cons id e (settled_at place rest) ∙ ap (λ (n : ℕ). one_try id e + n) (settled_tries id place rest) ∙ sym (tries_cons id e rest)
+use Rattle.protocol_whole_laws.specs.Tries.{HasNoMoreTries}
+use Rattle.protocol_whole_laws.proofs.TriesRise.{settled_tries}
+use Rattle.protocol_numbered_laws.specs.NumberedTries.{places_nothing, QuietActionsAddNoTries}
 
 module _ (m : Machine) where
   -- it has no more tries than a chunk of this index

@@ -1,5 +1,5 @@
 -- The tries of calls stay numbered: entries stay in the orders, and what a server numbers has a number of its own.
-use Rattle.std.proofs.Common.{◌≡◌, ◌⊎◌, ℕ, suc, ◌≤◌, List, [], ◌∷◌, ◌++◌, length, Option, Some, refl, sym, ap, subst, ◌∙◌, inl, inr, arith}
+use Rattle.std.proofs.Common.{◌≡◌, ◌⊎◌, ℕ, suc, ◌≤◌, List, [], ◌∷◌, ◌++◌, length, Option, Some, None, refl, sym, ap, subst, ◌∙◌, inl, inr, arith}
 use Rattle.std.specs.Prelude.{IsTrue}
 use Rattle.gfs_types.specs.declared.config.Config.{Config}
 use Rattle.gfs_types.specs.declared.ids.DataId.{DataId}
@@ -32,8 +32,9 @@ use Rattle.protocol_call_laws.proofs.LaterCalls.{calls_passed, among_later}
 use Rattle.protocol_invariant.specs.Actions.{Spot}
 use Rattle.protocol_machine_laws.specs.ChunksAlike.{ChunkSides}
 use Rattle.protocol_whole_laws.specs.ChunksBeside.{AreChunksBeside}
-use Rattle.protocol_numbered_laws.specs.SentRequests.{IsAttemptOf, AreRequestsOf, AreRequestsOfCalls, IsTryAt, AreTriesNumbered}
-use Rattle.protocol_numbered_laws.specs.NumberedTries.{HasNoMoreTries, IsPlacedOnce, TriesStayNumbered}
+use Rattle.protocol_whole_laws.specs.SentRequests.{IsAttemptOf, AreRequestsOf, AreRequestsOfCalls, IsTryAt, AreTriesNumbered}
+use Rattle.protocol_whole_laws.specs.Tries.{HasNoMoreTries, IsNumberedAt, IsRise, RiseBy, AddsNumberedTries}
+use Rattle.protocol_numbered_laws.specs.NumberedTries.{TriesStayNumbered}
 use Rattle.protocol_numbered_laws.proofs.NumberedAttempts as attempts
 use Rattle.protocol_numbered_laws.proofs.NumberedCalls.{each_on}
 use Rattle.protocol_numbered_laws.proofs.RequestsStay.{told_on}
@@ -95,7 +96,8 @@ module _ (config : Config) (servers clients : ℕ) (steps : List (Event × Choic
 
   module _ (clocks : IsTrue (after_events (new_world config servers clients) steps).observer.are_clocks_kept) (k : ChunkSides) (chunks : AreChunksBeside config (after_events (new_world config servers clients) steps) k)
       (requests : AreRequestsOf (new_world config servers clients) steps k.machine) (tries : AreTriesNumbered (after_events (new_world config servers clients) steps) k.machine)
-      (n : Machine) (g : IsPlacedOnce (after_events (new_world config servers clients) steps) (happens (after_events (new_world config servers clients) steps) e choice).world k n) where
+      (n : Machine) (g : IsNumberedAt (after_events (new_world config servers clients) steps) (happens (after_events (new_world config servers clients) steps) e choice).world k)
+      (rises : RiseBy (IsRise (after_events (new_world config servers clients) steps) (happens (after_events (new_world config servers clients) steps) e choice).world k (Some g)) k.machine n) where
     abbrev law : (m : Message) × (g.input ≡ input.Deliver m) × IsAskedFor (server_at g.server g.moment) W.sent m g.handle g.version g.numbers.serial g.id g.numbers.placed
     law = attempts.law config servers clients steps clocks k chunks requests g.index g.moment g.server g.input g.choice g.handle g.version g.id g.numbers g.counts
 
@@ -158,16 +160,16 @@ module _ (config : Config) (servers clients : ℕ) (steps : List (Event × Choic
         }
 
     placed : AreTriesNumbered V n
-    placed file index client made = elim (g.rises file index (record { client = client; number = made })) [
+    placed file index client made = elim (rises (record { file = file; index = index }) (record { client = client; number = made })) [
       | inl less ↦ (t.0, t.1, all_on client made index t.0 t.2, let two = t.3 in omega (arith, less, two))
       | inr rise ↦
-          let own : client ≡ g.id.client.0 = ap (λ (c : CallId). c.client) rise.2 in
+          let own : client ≡ g.id.client.0 = ap (λ (c : CallId). c.client) (rise.0).1 in
           let its = subst (λ (c : ℕ). (numbers : List ℕ) × AreApart numbers × EachOf (IsTryAt W c made index) numbers × (tries_in (record { client = client; number = made }) (chunk_at k.machine file index) ≤ length numbers)) own t in
           (
             g.id.seq ∷ its.0,
             (each_on (IsTryAt W g.id.client.0 made index) (λ m. g.id.seq ≡ m → ⊥) (λ q u. other_number made index q u) its.0 its.2, its.1),
-            subst (λ (c : ℕ). EachOf (IsTryAt V c made index) (g.id.seq ∷ its.0)) (sym own) (new_try made index (ap (λ (c : CallId). c.number) rise.2) rise.1 rise.3, all_on g.id.client.0 made index its.0 its.2),
-            (let one = rise.4 in let two = its.3 in omega (arith, one, two)),
+            subst (λ (c : ℕ). EachOf (IsTryAt V c made index) (g.id.seq ∷ its.0)) (sym own) (new_try made index (ap (λ (c : CallId). c.number) (rise.0).1) (ap (λ (s : Spot). s.index) (rise.0).0) (rise.0).2, all_on g.id.client.0 made index its.0 its.2),
+            (let one = rise.1 in let two = its.3 in omega (arith, one, two)),
           )
     ]
       where
@@ -176,8 +178,18 @@ module _ (config : Config) (servers clients : ℕ) (steps : List (Event × Choic
 
 pub tries_stay_numbered : TriesStayNumbered
 tries_stay_numbered config w e choice clocks k chunks requests tries n how =
-    subst (λ (u : WorldState). IsTrue u.observer.are_clocks_kept → AreChunksBeside config u k → AreTriesNumbered u k.machine → HasNoMoreTries k.machine n ⊎ IsPlacedOnce u (happens u e choice).world k n → AreTriesNumbered (happens u e choice).world n) requests.leads
+    subst (λ (u : WorldState). IsTrue u.observer.are_clocks_kept → AreChunksBeside config u k → AreTriesNumbered u k.machine → HasNoMoreTries k.machine n ⊎ AddsNumberedTries u (happens u e choice).world k n → AreTriesNumbered (happens u e choice).world n) requests.leads
     (λ ok there numbered so. elim so [
       | inl less ↦ quiet config requests.servers requests.clients requests.steps e choice k.machine n numbered less
-      | inr once ↦ placed config requests.servers requests.clients requests.steps e choice ok k there requests.each numbered n once
+      | inr adds ↦ by_one ok there numbered adds.0 adds.1
     ]) clocks chunks tries how
+  where
+    by_one : IsTrue (after_events (new_world config requests.servers requests.clients) requests.steps).observer.are_clocks_kept → AreChunksBeside config (after_events (new_world config requests.servers requests.clients) requests.steps) k
+        → AreTriesNumbered (after_events (new_world config requests.servers requests.clients) requests.steps) k.machine
+        → (g : Option (IsNumberedAt (after_events (new_world config requests.servers requests.clients) requests.steps) (happens (after_events (new_world config requests.servers requests.clients) requests.steps) e choice).world k))
+        → RiseBy (IsRise (after_events (new_world config requests.servers requests.clients) requests.steps) (happens (after_events (new_world config requests.servers requests.clients) requests.steps) e choice).world k g) k.machine n
+        → AreTriesNumbered (happens (after_events (new_world config requests.servers requests.clients) requests.steps) e choice).world n
+    by_one ok there numbered None none =
+        quiet config requests.servers requests.clients requests.steps e choice k.machine n numbered
+        (λ file index. (file, λ id. elim (none (record { file = file; index = index }) id) [ | inl less ↦ less | inr rise ↦ absurd rise.0 ]))
+    by_one ok there numbered (Some g) rises = placed config requests.servers requests.clients requests.steps e choice ok k there requests.each numbered n g rises

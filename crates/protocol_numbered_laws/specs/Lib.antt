@@ -1,3 +1,2 @@
 pub mod NumberedCalls
 pub mod NumberedTries
-pub mod SentRequests

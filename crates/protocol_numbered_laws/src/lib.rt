@@ -2,3 +2,4 @@
 #![tactic(auto)]
 
 pub mod numbered_calls;
+pub mod numbered_tries;

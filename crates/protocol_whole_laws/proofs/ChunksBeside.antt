@@ -31,6 +31,7 @@ use Rattle.protocol_machine_laws.specs.ChunksAlike.{ChunkSides, IsRoundOpen, Are
 use Rattle.protocol_machine_laws.proofs.Plain.{other_changes_keep_chunks}
 use Rattle.protocol_whole_laws.specs.Rounds.{IsLogOf, IsMastersStep, IsEnded}
 use Rattle.protocol_whole_laws.specs.ServerSteps.{is_of_entries, ComesToOrders}
+use Rattle.protocol_whole_laws.specs.Tries.{IsNumberedAt, IsRise}
 use Rattle.protocol_whole_laws.specs.ToldRounds.{AreToldRounds}
 use Rattle.protocol_whole_laws.specs.ChunksBeside.{AreChunksBeside, NewChunksAreBeside, SameFilesKeepChunksBeside, IsMastersEvent, OtherEventsKeepChunksBeside, MastersEventsKeepChunksBeside}
 use Rattle.protocol_whole_laws.proofs.EndedRounds.{ungranted_is_over, other_events_keep_rounds, rounds_go, new_rounds}
@@ -127,13 +128,17 @@ other_events_keep_chunks_beside config servers clients w r kept e choice clocks 
     rounds = other_events_keep_rounds config servers clients w r e choice clocks no_step k j h.rounds none_ended;
     told = told_rounds_go_on config servers clients w r e choice clocks k j h.log h.alike h.rounds none_ended h.told;
   },
+  (came.0, comes.tries),
 )
   where
     no_step : IsMastersStep w e → ⊥
     no_step is = not (masters_step w e is)
 
-    comes : ComesToOrders k (happens w e choice).world.observer.orders
-    comes = other_events_are_taken config servers clients w r kept e choice clocks no_step k h.settings h.orders h.log h.alike h.rounds calls
+    came : (g : Option (IsNumberedAt w (happens w e choice).world k)) × ComesToOrders k (happens w e choice).world.observer.orders (IsRise w (happens w e choice).world k g)
+    came = other_events_are_taken config servers clients w r kept e choice clocks no_step k h.settings h.orders h.log h.alike h.rounds calls
+
+    comes : ComesToOrders k (happens w e choice).world.observer.orders (IsRise w (happens w e choice).world k came.0)
+    comes = came.1
 
     j : ChunkSides
     j = moved k comes.actions k.log k.gone (happens w e choice).world.observer.orders

@@ -35,6 +35,7 @@ pub mod SoundLogs
 pub mod StoppedSteps
 pub mod ToldHolders
 pub mod ToldRounds
+pub mod TriesRise
 pub mod UnaskedAdds
 pub mod UnusedNumbers
 pub mod WaitedNumbers

@@ -3,7 +3,8 @@ use Rattle.std.proofs.Common.{◌≡◌, ℕ, zero, suc, ◌≤◌, Bool, true, 
 use Rattle.std.specs.Prelude.{◌==◌, ◌&&◌, filter, unwrap_or}
 use Rattle.std.specs.List.{list_all}
 use Rattle.std.proofs.lemmas.Bool.{eqb-true, cases_lt}
-use Rattle.relaxed_file.specs.Run.{Action, Settle, Visible, after_all}
+use Rattle.relaxed_file.specs.Order.{CallId}
+use Rattle.relaxed_file.specs.Run.{Action, Settle, Visible, after, after_all}
 use Rattle.protocol.specs.Tables.{Table, element_at, first_numbers}
 use Rattle.protocol.specs.declared.seen.Seen.{Seen}
 use Rattle.protocol.specs.declared.seen.Seen.TheVariants.{Numbered, BecameSettled, CopyStarted}
@@ -17,6 +18,8 @@ use Rattle.protocol_machine_laws.specs.ChunksAlike.{ChunkSides, IsRoundOpen, Are
 use Rattle.protocol_machine_laws.specs.EntrySteps.{StandsNowhereElse, IsOnlyPlace}
 use Rattle.protocol_machine_laws.proofs.Orders.{settled_entries_are_settled}
 use Rattle.protocol_whole_laws.specs.ServerSteps.{is_of_entries, ComesToOrders, AreGoneOrdersAlike}
+use Rattle.protocol_whole_laws.specs.Tries.{RiseBy}
+use Rattle.protocol_whole_laws.proofs.TriesRise.{settle_tries}
 use Rattle.protocol_machine_laws.proofs.Sides.{gone_or_there}
 use Rattle.protocol_machine_laws.proofs.OneChunk.{one_changed, HasPlace, one_owner}
 use Rattle.relaxed_file.specs.Machine.{Chunk}
@@ -119,13 +122,14 @@ due_later k actions orders end (BecameSettled q v n ∷ xs) keeps all =
 due_later k actions orders end (Numbered q v n id m ∷ xs) keeps all = absurd all.0
 due_later k actions orders end (CopyStarted q copy ∷ xs) keeps all = absurd all.0
 
-pub takes_nothing : (k : ChunkSides) → AreChunksAlike k → ComesToOrders k k.orders
-takes_nothing k h = record { actions = []; of_entries = refl; follows = record { allowed = tt; keeps = record { alike = h; rounds = λ handle version s was_open. inr was_open } }; gone = λ gone. gone }
+pub takes_nothing : (k : ChunkSides) (Rise : Spot → CallId → Type 0) → AreChunksAlike k → ComesToOrders k k.orders Rise
+takes_nothing k Rise h = record { actions = []; of_entries = refl; follows = record { allowed = tt; keeps = record { alike = h; rounds = λ handle version s was_open. inr was_open } }; gone = λ gone. gone; tries = λ s c. inl (omega arith) }
 
 -- one action, and then the others
-pub takes_more : (k : ChunkSides) (orders end : Table (List Placed)) (action : Action) → is_of_entries action ≡ true → Follows NoneEnds k (action ∷ []) (moved k (action ∷ []) k.log k.gone orders)
-    → (AreGoneOrdersAlike k → AreGoneOrdersAlike (moved k (action ∷ []) k.log k.gone orders)) → ComesToOrders (moved k (action ∷ []) k.log k.gone orders) end → ComesToOrders k end
-takes_more k orders end action is first first_gone rest = record {
+pub takes_more : (k : ChunkSides) (orders end : Table (List Placed)) (Rise : Spot → CallId → Type 0) (action : Action) → is_of_entries action ≡ true → Follows NoneEnds k (action ∷ []) (moved k (action ∷ []) k.log k.gone orders)
+    → (AreGoneOrdersAlike k → AreGoneOrdersAlike (moved k (action ∷ []) k.log k.gone orders)) → RiseBy Rise k.machine (after k.machine action)
+    → ComesToOrders (moved k (action ∷ []) k.log k.gone orders) end (λ s c. ⊥) → ComesToOrders k end Rise
+takes_more k orders end Rise action is first first_gone first_tries rest = record {
   actions = action ∷ rest.actions;
   of_entries = ap (λ (b : Bool). b && list_all is_of_entries rest.actions) is ∙ rest.of_entries;
   follows = record {
@@ -139,6 +143,10 @@ takes_more k orders end action is first first_gone rest = record {
     };
   };
   gone = λ gone. rest.gone (first_gone gone);
+  tries = λ s c. elim (rest.tries s c) [
+    | inl same ↦ elim (first_tries s c) [ | inl less ↦ inl (omega (arith, same, less)) | inr more ↦ inr (more.0, let one = more.1 in omega (arith, same, one)) ]
+    | inr none ↦ absurd none.0
+  ];
 }
 
 -- an entry comes or is settled in an open round: of each other chunk nothing changes
@@ -160,12 +168,12 @@ gone_kept k actions orders handle version s h was_open now others elsewhere gone
     owner same = one_owner k h q handle s (subst (λ (at : Spot). HasPlace k q at) same (inr stood)) was_open.place
 
 -- the machine settles what becomes settled
-pub settles_all : (k : ChunkSides) (trace : List Visible) (xs : List Seen) → AreChunksAlike k → AllOf (IsSettlingDue k (orders_after_all trace k.orders xs)) xs → ComesToOrders k (orders_after_all trace k.orders xs)
-settles_all k trace [] h all = takes_nothing k h
+pub settles_all : (k : ChunkSides) (trace : List Visible) (xs : List Seen) → AreChunksAlike k → AllOf (IsSettlingDue k (orders_after_all trace k.orders xs)) xs → ComesToOrders k (orders_after_all trace k.orders xs) (λ s c. ⊥)
+settles_all k trace [] h all = takes_nothing k (λ s c. ⊥) h
 settles_all k trace (Numbered q v n id m ∷ xs) h all = absurd all.0
 settles_all k trace (CopyStarted q copy ∷ xs) h all = absurd all.0
 settles_all k trace (BecameSettled q v n ∷ xs) h all =
-    takes_more k orders end (Settle s.file s.index place) refl follows keeps_gone
+    takes_more k orders end (λ t c. ⊥) (Settle s.file s.index place) refl follows keeps_gone (settle_tries k.machine s place)
     (settles_all (moved k (Settle s.file s.index place ∷ []) k.log k.gone orders) trace xs follows.keeps.alike (due_later k (Settle s.file s.index place ∷ []) orders end xs follows.keeps.rounds all.1))
   where
     end : Table (List Placed)

@@ -6,7 +6,7 @@ use Rattle.gfs_types.specs.declared.ids.Node.TheVariants.{Master}
 use Rattle.messages.specs.declared.event.Event.{Event}
 use Rattle.messages.specs.declared.event.Event.TheVariants as event
 use Rattle.relaxed_file.specs.Machine.{Machine, new_machine}
-use Rattle.relaxed_file.specs.Run.{Action, IsLawful}
+use Rattle.relaxed_file.specs.Run.{Action, IsLawful, after_all}
 use Rattle.protocol.specs.Choice.{Choice}
 use Rattle.protocol.specs.World.{WorldState, new_world, happens, IsReached, is_kept}
 use Rattle.protocol_step_laws.specs.Versions.{IsLeaseOver}
@@ -14,6 +14,7 @@ use Rattle.protocol_machine_laws.specs.ChunksAlike.{ChunkSides, AreChunksAlike, 
 use Rattle.protocol_whole_laws.specs.Rounds.{IsLogOf, IsMastersStep, IsEnded, SentGrantsAreOpen}
 use Rattle.protocol_whole_laws.specs.ServerSteps.{is_of_entries, AreForOpenCalls, AreGoneOrdersAlike}
 use Rattle.protocol_whole_laws.specs.ToldRounds.{AreToldRounds}
+use Rattle.protocol_whole_laws.specs.Tries.{AddsNumberedTries}
 
 -- The machine's chunks are those of the master's log, with the orders that are seen; also of handles that are gone; the round of each lease that isn't over is open, and so is each that was told, in the file's chunk of its index.
 pub record AreChunksBeside (config : Config) (w : WorldState) (k : ChunkSides) : Type 0 where
@@ -42,7 +43,7 @@ abbrev pub IsMastersEvent : WorldState → Event → Type 0
 IsMastersEvent w (event.Restart n now) = n ≡ Master
 IsMastersEvent w e = IsMastersStep w e
 
--- At each other event the machine places and settles what was seen, and it is so again.
+-- At each other event the machine places and settles what was seen, and it is so again; what was numbered is the only try that comes.
 abbrev pub OtherEventsKeepChunksBeside : Type 0
 OtherEventsKeepChunksBeside =
     (config : Config) (servers clients : ℕ) (w : WorldState) → IsReached config servers clients w → IsTrue (is_kept w)
@@ -50,6 +51,7 @@ OtherEventsKeepChunksBeside =
     → (k : ChunkSides) → AreChunksBeside config w k → AreForOpenCalls w k
     → (actions : List Action) × IsTrue (list_all is_of_entries actions) × IsLawful k.machine actions
     × AreChunksBeside config (happens w e choice).world (moved k actions k.log k.gone (happens w e choice).world.observer.orders)
+    × AddsNumberedTries w (happens w e choice).world k (after_all k.machine actions)
 
 -- At an event of the master it is so again, where the machine followed the log: chunks are alike, also of gone handles, rounds ended only of chunks whose leases are over, and what was granted has its round open.
 abbrev pub MastersEventsKeepChunksBeside : Type 0

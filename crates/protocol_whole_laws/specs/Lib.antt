@@ -13,9 +13,11 @@ pub mod MasterSteps
 pub mod OverRounds
 pub mod RecordDues
 pub mod Rounds
+pub mod SentRequests
 pub mod ServerSteps
 pub mod ToldHolders
 pub mod ToldRounds
+pub mod Tries
 pub mod WaitedNumbers
 pub mod WaitedSuccesses
 pub mod WholeClients

@@ -121,3 +121,7 @@ abbrev pub AreTriesNumbered : WorldState → Machine → Type 0
 AreTriesNumbered w m =
     (file index client made : ℕ)
     → (numbers : List ℕ) × AreApart numbers × EachOf (IsTryAt w client made index) numbers × (tries_in (record { client = client; number = made }) (chunk_at m file index) ≤ length numbers)
+
+-- Requests are of calls, and tries are numbered.
+abbrev pub AreRequestsNumbered : Config → WorldState → Machine → Type 0
+AreRequestsNumbered config w m = AreRequestsOfCalls config w m × AreTriesNumbered w m
