@@ -1,5 +1,5 @@
 -- A number was used to ask for a place in one call, and for one part of it.
-use Rattle.std.proofs.Common.{◌≡◌, ◌⊎◌, ℕ, zero, suc, ◌+◌, ◌≤◌, Bool, true, cond, List, [], ◌∷◌, ◌++◌, length, Option, Some, None, refl, sym, ap, subst, ◌∙◌, inl, inr, arith}
+use Rattle.std.proofs.Common.{◌≡◌, ℕ, zero, suc, ◌+◌, ◌≤◌, Bool, true, cond, List, [], ◌∷◌, ◌++◌, length, Option, Some, refl, sym, ap, ◌∙◌, inl, inr, arith}
 use Rattle.std.specs.Prelude.{◌&&◌}
 use Rattle.std.proofs.lemmas.Bool.{eq-eqb}
 use Rattle.std.proofs.lemmas.List.{append-nil}
@@ -17,9 +17,9 @@ use Rattle.protocol.specs.World.{WorldState, Happened, new_world, stamped, happe
 use Rattle.protocol_laws.proofs.Steps.{none_some, same_some}
 use Rattle.protocol_step_laws.specs.Attempts.{is_from_client, is_mutate, mutates_under}
 use Rattle.protocol_step_laws.specs.FewAttempts.{IsAskedNow, WasAsked, part_of}
-use Rattle.protocol_step_laws.proofs.Events.{HoldsAfter, holds_after, holds_on}
+use Rattle.protocol_step_laws.proofs.Events.{HoldsAfter, holds_after}
 use Rattle.protocol_step_laws.proofs.Histories.{IsGrown, steps_grown}
-use Rattle.protocol_step_laws.proofs.RequestsOnce.{AreNumbered, each_event, numbered_reached, from_itself}
+use Rattle.protocol_step_laws.proofs.RequestsOnce.{AreNumbered, numbered_reached, from_itself}
 
 -- whether this is the client's Mutate of the number
 abbrev is_own : ℕ → ℕ → Message → Bool

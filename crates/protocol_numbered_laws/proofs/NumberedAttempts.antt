@@ -1,73 +1,41 @@
 -- What a server may number was asked for in a call of its client, in the chunk at whose place its round is open.
-use Rattle.std.proofs.Common.{◌≡◌, ◌⊎◌, ℕ, zero, suc, ◌+◌, ◌<◌, ◌≤◌, max, Bool, true, false, List, [], ◌∷◌, ◌++◌, length, Option, Some, None, refl, sym, ap, subst, ◌∙◌, inl, inr, arith}
+use Rattle.std.proofs.Common.{◌≡◌, ℕ, ◌≤◌, List, Some, refl, sym, ap, subst, ◌∙◌, arith}
 use Rattle.std.specs.Prelude.{IsTrue}
 use Rattle.std.specs.FinMap as table
-use Rattle.std.proofs.lemmas.Bool.{and_parts, true≢false}
-use Rattle.std.proofs.lemmas.List.{length-append}
-use Rattle.std.proofs.Math.Nat.{max-le}
 use Rattle.gfs_types.specs.declared.config.Config.{Config}
-use Rattle.gfs_types.specs.declared.call.Call.{Call}
-use Rattle.gfs_types.specs.declared.call.Call.TheVariants as call
 use Rattle.gfs_types.specs.declared.ids.DataId.{DataId}
 use Rattle.gfs_types.specs.declared.ids.Handle.{Handle}
 use Rattle.gfs_types.specs.declared.ids.Version.{Version}
-use Rattle.gfs_types.specs.declared.mutation.Mutation.{Mutation}
-use Rattle.gfs_types.specs.declared.mutation.Mutation.TheVariants.{Write, Append, Pad}
 use Rattle.messages.specs.declared.event.Event.{Event}
 use Rattle.messages.specs.declared.event.Input.{Input}
 use Rattle.messages.specs.declared.event.Input.TheVariants as input
 use Rattle.messages.specs.declared.message.Body.{Body}
 use Rattle.messages.specs.declared.message.Body.TheVariants as body
-use Rattle.messages.specs.declared.message.Location.{Location}
 use Rattle.messages.specs.declared.message.Message.{Message}
-use Rattle.messages.specs.declared.message.Target.{Target}
-use Rattle.messages.specs.declared.message.Target.TheVariants as target
-use Rattle.relaxed_file.specs.Order.{CallId}
-use Rattle.relaxed_file.specs.Machine.{Machine, Asked, OpenCall, IsOpen, Chunk, new_machine, chunk_size, chunk_at, chunk_count}
-use Rattle.relaxed_file.specs.Chunks.{tries_in, tries_below}
-use Rattle.relaxed_file.specs.NotRuns.{waits}
-use Rattle.relaxed_file.proofs.Known.{Known}
-use Rattle.relaxed_file.proofs.Grows.{known_when_reached}
-use Rattle.relaxed_file.proofs.AskedFor.{open_is_made}
-use Rattle.relaxed_file.proofs.Moments.{is_waiting, waits_as_seen}
-use Rattle.relaxed_file.proofs.Tables.{from_some}
-use Rattle.protocol.specs.Tables.{element_at}
 use Rattle.protocol.specs.Sending.{the_client}
 use Rattle.protocol.specs.Choice.{Choice}
-use Rattle.protocol.specs.Master.{PendingSnapshot}
-use Rattle.protocol.specs.Observer.{observed_moment, calls_made}
+use Rattle.protocol.specs.Observer.{observed_moment}
 use Rattle.protocol.specs.Server.{ServerState}
 use Rattle.protocol.specs.ServerStep.{server_at}
-use Rattle.protocol.specs.World.{WorldState, new_world, after_events, IsReached, is_kept}
+use Rattle.protocol.specs.World.{WorldState, new_world, after_events, IsReached}
 use Rattle.protocol_laws.specs.Laws.{is_grant, grants_of}
-use Rattle.protocol_step_laws.specs.FewAttempts.{WasAsked, part_of, EachOf, AreApart}
-use Rattle.protocol_entry_laws.specs.Entries.{IsPushed, IsPlacedFor, IsAskedFor}
+use Rattle.protocol_entry_laws.specs.Entries.{IsAskedFor}
 use Rattle.protocol_entry_laws.specs.Deadlines.{Numbers}
-use Rattle.protocol_entry_laws.specs.FullChunks.{IsPad}
 use Rattle.protocol_entry_laws.proofs.KnownNumbers.{primary_there}
 use Rattle.protocol_entry_laws.proofs.RisingRounds.{leased_granted}
 use Rattle.protocol_entry_laws.proofs.SentGrants.{counted_one}
 use Rattle.protocol_entry_laws.proofs.Stemming.{numbered_mutations_were_asked_for}
-use Rattle.protocol_entry_laws.proofs.UsedNumbers.{Asks, one_target}
-use Rattle.protocol_replica_laws.proofs.PushedData.{data_are_pushed_once}
+use Rattle.protocol_entry_laws.proofs.UsedNumbers.{one_target}
 use Rattle.protocol_version_laws.specs.ReplacedChunks.{IsToldAt}
 use Rattle.protocol_call_laws.specs.AnsweredWrites.{IsToldChunk}
-use Rattle.protocol_call_laws.specs.BoundedCalls.{IsEntryFor}
-use Rattle.protocol_call_laws.specs.OpenAttempts.{IsOfOpenCall}
-use Rattle.protocol_call_laws.proofs.BoundedCalls.{placings_are_of_few_entries}
 use Rattle.protocol_call_laws.proofs.GrantedRounds.{granted_from_one}
-use Rattle.protocol_call_laws.proofs.OpenEntries.{config_stays, entries_are_of_open_calls, entries_were_asked_for_in_their_call}
+use Rattle.protocol_call_laws.proofs.OpenEntries.{config_stays}
 use Rattle.protocol_call_laws.proofs.ToldOnce.{handles_are_told_at_one_index}
 use Rattle.protocol_invariant.specs.Actions.{Spot}
-use Rattle.protocol_invariant.specs.Explained.{AreSettings}
 use Rattle.protocol_machine_laws.specs.ChunksAlike.{ChunkSides, IsRoundOpen}
-use Rattle.protocol_whole_laws.specs.ServerSteps.{AreDataOf, HasPartLeft, IsForOpenCall, AreForOpenCalls}
 use Rattle.protocol_whole_laws.specs.ChunksBeside.{AreChunksBeside}
-use Rattle.protocol_whole_laws.proofs.CountedCalls.{calls_are_counted}
 use Rattle.protocol_whole_laws.proofs.ToldRounds.{counting_rounds_are_open_where_told}
-use Rattle.protocol_whole_laws.specs.SentRequests.{IsPartTo, IsAttemptOf, IsRequestOf, AreRequestsOf, AreRequestsOfCalls, IsTryAt, AreTriesNumbered}
-use Rattle.protocol_numbered_laws.specs.NumberedCalls.{NumberedMutationsAreForOpenCalls}
-use Rattle.protocol_numbered_laws.proofs.AskedOnce.{asked_once}
+use Rattle.protocol_whole_laws.specs.SentRequests.{IsAttemptOf, IsRequestOf, AreRequestsOf, IsTryAt}
 
 -- a chunk that was told, in a round that was granted
 pub told_at : (sent : List Message) (client file index handle round : ℕ) (t : IsToldChunk sent client file index handle round) → 1 ≤ round → IsToldAt sent client file t.location (t.told.sent_is).0

@@ -1,24 +1,22 @@
 -- No action but Place adds a try of a call: a chunk stays as it was, is new, or is a copy of another file's.
-use Rattle.std.proofs.Common.{◌≡◌, ◌⊎◌, ℕ, zero, suc, ◌+◌, ◌≤◌, Bool, true, false, cond, List, [], ◌∷◌, refl, sym, ap, subst, ◌∙◌, inl, inr, arith}
-use Rattle.std.specs.Prelude.{count_by, not, ◌&&◌, IsTrue}
+use Rattle.std.proofs.Common.{◌≡◌, ℕ, suc, ◌≤◌, true, false, cond, List, [], ◌∷◌, refl, sym, ap, arith}
+use Rattle.std.specs.Prelude.{count_by}
 use Rattle.std.specs.List.{list_all}
 use Rattle.std.proofs.lemmas.Bool.{and_parts, true≢false}
 use Rattle.gfs_types.specs.declared.call.Call.{Call}
 use Rattle.gfs_types.specs.declared.call.Call.TheVariants as call
-use Rattle.gfs_types.specs.Mutations.{is_pad}
 use Rattle.gfs_types.specs.Paths.{Path}
 use Rattle.relaxed_file.specs.Names.{Node, Dir, File, copied_entries, id_after}
-use Rattle.relaxed_file.specs.Order.{CallId, same_call, Entry}
+use Rattle.relaxed_file.specs.Order.{CallId, Entry}
 use Rattle.relaxed_file.specs.Machine.{Machine, FileState, Chunk, new_chunk, new_file, chunk_at, chunk_count, with_chunk}
 use Rattle.relaxed_file.specs.NameStep.{performed, is_refused, stepped, with_outcome, with_copied_file, with_copied_files}
-use Rattle.relaxed_file.specs.Chunks.{settled_at, tries_in, chunk_added}
+use Rattle.relaxed_file.specs.Chunks.{tries_in, chunk_added}
 use Rattle.relaxed_file.specs.Answers.{returned}
 use Rattle.relaxed_file.specs.Reads.{looked}
-use Rattle.relaxed_file.specs.Run.{Action, Return, Step, Expire, Add, OpenRound, CloseRound, Place, Settle, Look, Allows, after, after_all, asked_file, IsLawful}
+use Rattle.relaxed_file.specs.Run.{Action, Return, Step, Expire, Add, OpenRound, CloseRound, Place, Settle, Look, Allows, after, asked_file}
 use Rattle.relaxed_file.proofs.Tables.{put_keeps, put_at, at_some}
 use Rattle.relaxed_file.proofs.Known.{asked_is}
-use Rattle.relaxed_file.proofs.Tries.{is_try, one_try, tries_cons}
-use Rattle.protocol_whole_laws.specs.Tries.{HasNoMoreTries}
+use Rattle.relaxed_file.proofs.Tries.{is_try}
 use Rattle.protocol_whole_laws.proofs.TriesRise.{settled_tries}
 use Rattle.protocol_numbered_laws.specs.NumberedTries.{places_nothing, QuietActionsAddNoTries}
 

@@ -1,5 +1,4 @@
 -- From one world to the next requests stay of calls, and tries numbered.
-use Rattle.protocol_whole_laws.specs.SentRequests.{AreRequestsNumbered}
 use Rattle.protocol_numbered_laws.specs.NumberedCalls.{EventsKeepRequestsNumbered}
 use Rattle.protocol_numbered_laws.proofs.RequestsStay.{requests_stay_of_calls}
 use Rattle.protocol_numbered_laws.proofs.TriesStay.{tries_stay_numbered}

@@ -1,5 +1,5 @@
 -- Requests stay of their clients' calls as the machine goes on, and each new one is of a call that its client has open.
-use Rattle.std.proofs.Common.{◌≡◌, ◌⊎◌, ℕ, zero, suc, ◌+◌, ◌*◌, ◌/◌, ◌<◌, ◌≤◌, Bool, true, false, true≢false, List, [], ◌∷◌, ◌++◌, length, Option, Some, None, refl, sym, ap, subst, ◌∙◌, inl, inr, arith}
+use Rattle.std.proofs.Common.{◌≡◌, ◌⊎◌, ℕ, suc, ◌*◌, ◌/◌, ◌<◌, ◌≤◌, Bool, true, false, true≢false, List, [], ◌∷◌, ◌++◌, length, Option, Some, None, refl, sym, ap, subst, ◌∙◌, inl, inr, arith}
 use Rattle.std.specs.Prelude.{nat_lt, not, ◌&&◌, Contains, IsTrue, IsFalse}
 use Rattle.std.specs.List.{list_any}
 use Rattle.std.proofs.lemmas.Bool.{and_parts, ltb-false}
@@ -25,29 +25,26 @@ use Rattle.messages.specs.declared.message.Wanted.{Wanted}
 use Rattle.messages.specs.declared.message.Wanted.TheVariants as wanted
 use Rattle.relaxed_file.specs.Order.{CallId, same_call, Entry}
 use Rattle.relaxed_file.specs.Parts.{has_part, part_start, part_bytes}
-use Rattle.relaxed_file.specs.Machine.{Machine, Asked, OpenCall, IsOpen, Piece, new_machine, chunk_size, chunk_at}
+use Rattle.relaxed_file.specs.Machine.{Machine, OpenCall, Piece, new_machine, chunk_at}
 use Rattle.relaxed_file.specs.Answers.{HasSuccess, IsWrite}
 use Rattle.relaxed_file.specs.Chunks.{is_success, AreEarlierPartsSettled}
 use Rattle.relaxed_file.specs.Run.{LeadsTo, IsRunTo}
 use Rattle.relaxed_file.proofs.AskedFor.{open_is_made}
 use Rattle.relaxed_file.proofs.Grows.{Grows, OrderGrows, grows_to, known_at_first, known_when_reached}
-use Rattle.relaxed_file.proofs.Reached.{leads_on}
 use Rattle.relaxed_file.proofs.Successes.{settled_stays, found_at}
 use Rattle.client_state.specs.declared.call.CurrentCall.{CurrentCall}
 use Rattle.client_state.specs.declared.call.ToldChunk.{ToldChunk}
 use Rattle.client_state.specs.declared.call.Stage.{Stage}
-use Rattle.client_state.specs.declared.call.Stage.TheVariants.{AskedNames, SentData, SentMutate}
+use Rattle.client_state.specs.declared.call.Stage.TheVariants.{SentMutate}
 use Rattle.protocol.specs.Tables.{element_at}
 use Rattle.protocol.specs.Sending.{data_id, the_client, client_number}
 use Rattle.protocol.specs.Choice.{Choice}
 use Rattle.protocol.specs.Client.{ClientState}
-use Rattle.protocol.specs.ClientAttempts.{is_mutation, bytes_to_send, target_of, wanted_by, chunk_of}
+use Rattle.protocol.specs.ClientAttempts.{is_mutation, bytes_to_send, target_of, wanted_by}
 use Rattle.protocol.specs.ClientStep.{client_step, client_call}
-use Rattle.protocol.specs.MasterStep.{master_step, master_restart}
-use Rattle.protocol.specs.ServerStep.{server_step, server_restart}
 use Rattle.protocol.specs.Observer.{calls_made, observed_moment}
 use Rattle.protocol.specs.World.{WorldState, Happened, new_world, stamped, happens, after_events}
-use Rattle.protocol_laws.proofs.Steps.{none_some, same_some}
+use Rattle.protocol_laws.proofs.Steps.{none_some}
 use Rattle.protocol_laws.proofs.MembersRecorded.{all_at}
 use Rattle.protocol_step_laws.specs.Attempts.{is_from_client}
 use Rattle.protocol_step_laws.specs.FewAttempts.{IsAskedNow, WasAsked, part_of}
@@ -55,7 +52,7 @@ use Rattle.protocol_step_laws.specs.FileCalls.{IsOfFile}
 use Rattle.protocol_step_laws.specs.Locations.{chunk_used}
 use Rattle.protocol_step_laws.proofs.ClientReads.{told_later}
 use Rattle.protocol_step_laws.proofs.Events.{HoldsAfter, holds_after}
-use Rattle.protocol_step_laws.proofs.Histories.{IsGrown, step_grown, after_both}
+use Rattle.protocol_step_laws.proofs.Histories.{after_both}
 use Rattle.protocol_step_laws.proofs.RequestsOnce.{from_itself, later_cases}
 use Rattle.protocol_step_laws.proofs.Senders.{AreNotClients, server_sends, server_restart_sends, master_sends, master_restart_sends, one_client}
 use Rattle.protocol_entry_laws.specs.Entries.{IsPushed}
@@ -65,13 +62,13 @@ use Rattle.protocol_call_laws.specs.ToldIndexes.{has_index}
 use Rattle.protocol_call_laws.proofs.LaterCalls.{pushed_later, calls_answered, calls_passed}
 use Rattle.protocol_call_laws.proofs.UsedIndexes.{no_call, used_was_told, parts_go_to_their_chunk}
 use Rattle.protocol_whole_laws.specs.ServerSteps.{AreDataOf}
-use Rattle.protocol_whole_laws.specs.FileClients.{id_of, IsDoneSoFar, IsStageAt, IsFileCall, IsCallAlike}
+use Rattle.protocol_whole_laws.specs.FileClients.{id_of, IsDoneSoFar, IsFileCall, IsCallAlike}
 use Rattle.protocol_whole_laws.specs.WholeWorlds.{AreFileClients}
 use Rattle.protocol_whole_laws.proofs.CountedCalls.{calls_are_counted}
 use Rattle.protocol_whole_laws.specs.SentRequests.{IsCallOn, IsPartTo, IsAttemptOf, IsWantedBy, IsAskOf, IsRequestOf, AreRequestsOf, AreRequestsOfCalls}
 use Rattle.protocol_numbered_laws.specs.NumberedCalls.{RequestsStayOfCalls}
 use Rattle.protocol_numbered_laws.proofs.AskedOnce.{Sends, each_sends}
-use Rattle.protocol_numbered_laws.proofs.SentNow.{IsMutateNow, IsOwn, IsLeft, step_left, call_left, ArePushing, pushing_reached}
+use Rattle.protocol_numbered_laws.proofs.SentNow.{IsMutateNow, IsOwn, step_left, call_left, ArePushing, pushing_reached}
 
 -- what was asked in some steps was so in more
 

@@ -1,5 +1,5 @@
 -- What a client's step sends: an Ask for the part in hand of its call, a Mutate for the part whose data it pushed, or nothing of this kind. What it waits to have pushed it pushed, for the part in hand.
-use Rattle.std.proofs.Common.{◌≡◌, ◌⊎◌, ℕ, zero, suc, Bool, true, false, List, [], ◌∷◌, ◌++◌, length, map, Option, Some, None, refl, sym, ap, subst, ◌∙◌, inl, inr}
+use Rattle.std.proofs.Common.{◌≡◌, ◌⊎◌, ℕ, zero, suc, false, List, [], ◌∷◌, ◌++◌, length, map, Option, Some, None, refl, sym, ap, subst, ◌∙◌, inl, inr}
 use Rattle.std.specs.Prelude.{IsTrue}
 use Rattle.std.specs.Option.{option_to_list}
 use Rattle.gfs_types.specs.declared.config.Config.{Config}
@@ -27,12 +27,12 @@ use Rattle.protocol.specs.Tables.{element_at, with_at, first_numbers}
 use Rattle.protocol.specs.Sending.{message, the_client, the_server, data_id}
 use Rattle.protocol.specs.Choice.{Choice}
 use Rattle.protocol.specs.Client.{ClientState, ClientDoing, new_client, stopped_client, client_begins, committed, answers, file_chunk}
-use Rattle.protocol.specs.ClientAttempts.{is_length, bytes_to_send, target_of, wanted_by, ask_planned, asks, again_planned, read_planned, read_body, read_start, read_count, push_planned_to, mutate_planned, name_planned, chunk_of}
+use Rattle.protocol.specs.ClientAttempts.{is_length, bytes_to_send, target_of, wanted_by, asks, again_planned, read_planned, read_body, read_start, read_count, push_planned_to, mutate_planned, name_planned, chunk_of}
 use Rattle.protocol.specs.PushBuffer.{hops_after}
 use Rattle.protocol.specs.ClientStep.{client_at, client_step, client_call}
 use Rattle.protocol.specs.MasterStep.{master_step, master_restart}
 use Rattle.protocol.specs.ServerStep.{server_step, server_restart}
-use Rattle.protocol.specs.World.{WorldState, new_world, stamped, happens, after_events, IsReached}
+use Rattle.protocol.specs.World.{WorldState, new_world, stamped, happens, after_events}
 use Rattle.protocol_laws.proofs.Steps.{on_cond, none_some, same_some}
 use Rattle.protocol_laws.proofs.MessagesSent.{IsSent, IsSameMessage, sent_after}
 use Rattle.protocol_laws.proofs.RisingOrders.{set_cases}
@@ -45,7 +45,6 @@ use Rattle.protocol_step_laws.proofs.Events.{HoldsAfter, holds_after}
 use Rattle.protocol_step_laws.proofs.RequestsOnce.{AreNumbered, each_event, numbered_reached}
 use Rattle.protocol_entry_laws.specs.Entries.{IsPushed}
 use Rattle.protocol_call_laws.proofs.LaterCalls.{pushed_later, one_message}
-use Rattle.protocol_call_laws.proofs.UsedIndexes.{no_call}
 
 -- the client asked now to place the data that it had pushed
 pub record IsMutateNow (s : ClientState) (o : Option CurrentCall) (id : DataId) (handle : Handle) (version : Version) (aim : Target) : Type 0 where

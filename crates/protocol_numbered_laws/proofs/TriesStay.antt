@@ -1,5 +1,5 @@
 -- The tries of calls stay numbered: entries stay in the orders, and what a server numbers has a number of its own.
-use Rattle.std.proofs.Common.{◌≡◌, ◌⊎◌, ℕ, suc, ◌≤◌, List, [], ◌∷◌, ◌++◌, length, Option, Some, None, refl, sym, ap, subst, ◌∙◌, inl, inr, arith}
+use Rattle.std.proofs.Common.{◌≡◌, ◌⊎◌, ℕ, ◌≤◌, List, ◌∷◌, length, Option, Some, None, refl, sym, ap, subst, ◌∙◌, inl, inr, arith}
 use Rattle.std.specs.Prelude.{IsTrue}
 use Rattle.gfs_types.specs.declared.config.Config.{Config}
 use Rattle.gfs_types.specs.declared.ids.DataId.{DataId}
@@ -12,11 +12,10 @@ use Rattle.relaxed_file.specs.Machine.{Machine, chunk_at}
 use Rattle.relaxed_file.specs.Chunks.{tries_in}
 use Rattle.relaxed_file.specs.Run.{Visible}
 use Rattle.protocol.specs.Tables.{element_at}
-use Rattle.protocol.specs.Sending.{the_client, data_id}
 use Rattle.protocol.specs.Choice.{Choice}
-use Rattle.protocol.specs.Observer.{Placed, order_of, placed_in, observed_moment, calls_made, new_entry, orders_after_all}
+use Rattle.protocol.specs.Observer.{Placed, order_of, observed_moment, calls_made, new_entry}
 use Rattle.protocol.specs.ServerStep.{server_step, server_at}
-use Rattle.protocol.specs.World.{WorldState, new_world, after_server, happens, after_events, IsReached}
+use Rattle.protocol.specs.World.{WorldState, new_world, happens, after_events}
 use Rattle.protocol_step_laws.specs.FewAttempts.{EachOf, AreApart}
 use Rattle.protocol_step_laws.proofs.Events.{holds_after}
 use Rattle.protocol_step_laws.proofs.Histories.{IsGrown, step_grown}
@@ -24,7 +23,7 @@ use Rattle.protocol_entry_laws.specs.ChunkOrders.{unsettled}
 use Rattle.protocol_entry_laws.specs.Entries.{IsAskedFor}
 use Rattle.protocol_entry_laws.specs.FullChunks.{IsPad}
 use Rattle.protocol_entry_laws.proofs.RoundsPassed.{server_shown}
-use Rattle.protocol_entry_laws.proofs.UsedNumbers.{Asks, IsUsed, entries_are_used, used_not_new}
+use Rattle.protocol_entry_laws.proofs.UsedNumbers.{IsUsed, entries_are_used, used_not_new}
 use Rattle.protocol_replica_laws.proofs.Images.{numbered_there}
 use Rattle.protocol_replica_laws.proofs.OrdersGrow.{HaveGrown, orders_grow}
 use Rattle.protocol_call_laws.specs.AnsweredWrites.{IsToldChunk}
@@ -32,7 +31,7 @@ use Rattle.protocol_call_laws.proofs.LaterCalls.{calls_passed, among_later}
 use Rattle.protocol_invariant.specs.Actions.{Spot}
 use Rattle.protocol_machine_laws.specs.ChunksAlike.{ChunkSides}
 use Rattle.protocol_whole_laws.specs.ChunksBeside.{AreChunksBeside}
-use Rattle.protocol_whole_laws.specs.SentRequests.{IsAttemptOf, AreRequestsOf, AreRequestsOfCalls, IsTryAt, AreTriesNumbered}
+use Rattle.protocol_whole_laws.specs.SentRequests.{IsAttemptOf, AreRequestsOf, IsTryAt, AreTriesNumbered}
 use Rattle.protocol_whole_laws.specs.Tries.{HasNoMoreTries, IsNumberedAt, IsRise, RiseBy, AddsNumberedTries}
 use Rattle.protocol_numbered_laws.specs.NumberedTries.{TriesStayNumbered}
 use Rattle.protocol_numbered_laws.proofs.NumberedAttempts as attempts

@@ -1,5 +1,5 @@
 -- What the tries of calls in the machine's chunks come to, as an entry takes its place or is settled.
-use Rattle.std.proofs.Common.{◌≡◌, ◌⊎◌, ℕ, zero, suc, ◌+◌, ◌≤◌, Bool, true, false, true≢false, cond, List, [], ◌∷◌, ◌++◌, Option, Some, None, refl, sym, ap, subst, ◌∙◌, inl, inr, arith}
+use Rattle.std.proofs.Common.{◌≡◌, ◌⊎◌, ℕ, zero, suc, ◌+◌, ◌≤◌, Bool, true, false, true≢false, cond, List, [], ◌∷◌, refl, sym, ap, subst, ◌∙◌, inl, inr, arith}
 use Rattle.std.specs.Prelude.{count_by, not, ◌&&◌}
 use Rattle.std.proofs.lemmas.Bool.{and_parts}
 use Rattle.gfs_types.specs.declared.mutation.Mutation.{Mutation}
@@ -16,7 +16,7 @@ use Rattle.protocol_entry_laws.specs.FullChunks.{IsPad}
 use Rattle.protocol_invariant.specs.Actions.{Spot}
 use Rattle.protocol_machine_laws.specs.ChunksAlike.{ChunkSides, chunk_in}
 use Rattle.protocol.specs.World.{WorldState}
-use Rattle.protocol_whole_laws.specs.Tries.{RiseBy, IsNumberedAt, IsRise, AddsNumberedTries}
+use Rattle.protocol_whole_laws.specs.Tries.{RiseBy, IsRise, AddsNumberedTries}
 
 -- settling changes no try
 pub settled_tries : (id : CallId) (place : ℕ) (order : List Entry) → count_by (is_try id) (settled_at place order) ≡ count_by (is_try id) order
