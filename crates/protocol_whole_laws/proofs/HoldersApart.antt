@@ -1,5 +1,5 @@
 -- What stands for a chunk stays so as an entry comes or is settled in an open round.
-use Rattle.std.proofs.Common.{◌≡◌, ◌⊎◌, ℕ, ◌<◌, ◌≤◌, Bool, true, false, cond, List, [], ◌∷◌, map, refl, sym, ap, subst, ◌∙◌, inl, inr}
+use Rattle.std.proofs.Common.{◌≡◌, ◌⊎◌, ℕ, ◌<◌, Bool, true, false, cond, List, [], ◌∷◌, map, refl, sym, ap, subst, ◌∙◌, inl, inr}
 use Rattle.std.specs.Prelude.{nat_le, filter, IsTrue}
 use Rattle.std.proofs.lemmas.Bool.{cases_lt}
 use Rattle.relaxed_file.specs.Order.{Entry}
@@ -15,7 +15,7 @@ use Rattle.protocol_invariant.specs.Actions.{Spot}
 use Rattle.protocol_machine_laws.specs.ChunksAlike.{ChunkSides, IsRoundOpen, chunk_in, entries_in, moved}
 use Rattle.protocol_machine_laws.proofs.Sides.{same_spot}
 use Rattle.protocol_whole_laws.specs.ChunkReadings.{AgreeUpTo}
-use Rattle.protocol_whole_laws.specs.HoldersApart.{StandsUpTo, IsRoundAt, IsApart, KeepsStanding}
+use Rattle.protocol_whole_laws.specs.HoldersApart.{IsRoundAt, IsApart, KeepsStanding}
 
 pub spot_or_not : (s t : Spot) → (s ≡ t) ⊎ (s ≡ t → ⊥)
 spot_or_not s t = elim (same_or_not s.file t.file) [

@@ -1,5 +1,5 @@
 -- Holders that were told, over an event that is no step of the master: nothing is told, no lease comes back, and what stands for a chunk does so still.
-use Rattle.std.proofs.Common.{◌≡◌, ◌⊎◌, ℕ, zero, suc, ◌<◌, ◌≤◌, Bool, List, [], ◌∷◌, length, Some, refl, sym, ap, subst, ◌∙◌, inl, inr, arith}
+use Rattle.std.proofs.Common.{◌≡◌, ℕ, zero, suc, ◌<◌, ◌≤◌, Bool, List, [], ◌∷◌, length, Some, refl, sym, ap, subst, ◌∙◌, inl, inr, arith}
 use Rattle.std.specs.Prelude.{◌&&◌, IsTrue}
 use Rattle.std.proofs.lemmas.Bool.{cases_lt}
 use Rattle.gfs_types.specs.declared.config.Config.{Config}
@@ -32,10 +32,9 @@ use Rattle.protocol_version_laws.proofs.ExtendLaws.{restart_silent, none_before}
 use Rattle.protocol_version_laws.proofs.ToldAnswers.{TellsNone, server_tells, restart_tells, client_tells, none_new}
 use Rattle.protocol_call_laws.specs.ToldIndexes.{IsAskOf}
 use Rattle.protocol_call_laws.proofs.Answerers.{locations_answer_their_ask}
-use Rattle.protocol_invariant.specs.Actions.{Spot}
 use Rattle.protocol_machine_laws.specs.ChunksAlike.{ChunkSides}
 use Rattle.protocol_whole_laws.specs.Rounds.{IsMastersStep}
-use Rattle.protocol_whole_laws.specs.HoldersApart.{IsApart, KeepsStanding}
+use Rattle.protocol_whole_laws.specs.HoldersApart.{KeepsStanding}
 use Rattle.protocol_whole_laws.specs.ToldHolders.{IsStandingFor, IsToldLocation, AreHoldersTold}
 use Rattle.protocol_whole_laws.proofs.EndedRounds.{ungranted_is_over, masters_input, GrantsNoMore, none_granted}
 
