@@ -207,7 +207,7 @@ module _ (config : Config) (w : WorldState) (k : ChunkSides) (m : Machine) (h : 
   still_held : AreHoldersTold w later
   still_held client file l t =
       let it = h.holders client file l t in
-      record { round = λ granted. still_standing file l.index l.handle.0 l.round.0 (it.round granted); holders = λ n x there. let one = it.holders n x there in (one.0, still_standing file l.index l.handle.0 x.version.0 one.1) }
+      record { round = still_standing file l.index l.handle.0 l.round.0 it.round; holders = λ n x there. let one = it.holders n x there in (one.0, still_standing file l.index l.handle.0 x.version.0 one.1) }
 
   still_alike : AreChunksAlike later
   still_alike = (other_changes_keep_chunks k later h.alike (record { lists = refl; grants = λ handle. refl; next = omega arith; gone = refl; orders = refl; files = files })).alike

@@ -147,7 +147,7 @@ module _ (config : Config) (servers clients : ℕ) (w : WorldState) (r : IsReach
 
       location_on : (file : ℕ) (l : Location) → IsToldLocation w k file l → IsToldLocation then_ j file l
       location_on file l it = record {
-        round = λ granted. standing_on file l.index l.handle.0 l.round.0 (it.round granted);
+        round = standing_on file l.index l.handle.0 l.round.0 it.round;
         holders = λ n x there. let one = it.holders n x there in (one.0, standing_on file l.index l.handle.0 x.version.0 one.1);
       }
 

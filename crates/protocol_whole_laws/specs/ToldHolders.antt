@@ -35,9 +35,9 @@ pub record IsStandingFor (w : WorldState) (k : ChunkSides) (file index handle ve
   pub stands : StandsUpTo k file index handle version
   pub apart : IsApart (IsLeaseOver w) k handle version (record { file = file; index = index })
 
--- So does what a location names: up to its round, where it was granted, and up to each holder's version, which is no earlier.
+-- So does what a location names: up to its round, and up to each holder's version, which is no earlier.
 pub record IsToldLocation (w : WorldState) (k : ChunkSides) (file : ℕ) (l : Location) : Type 0 where
-  pub round : 1 ≤ l.round.0 → IsStandingFor w k file l.index l.handle.0 l.round.0
+  pub round : IsStandingFor w k file l.index l.handle.0 l.round.0
   pub holders : (n : ℕ) (x : Holder) → element_at l.holders n ≡ Some x → (l.round.0 ≤ x.version.0) × IsStandingFor w k file l.index l.handle.0 x.version.0
 
 -- So it is of each location that a client was told for its ask for a chunk of a file, also of one that was never granted.
