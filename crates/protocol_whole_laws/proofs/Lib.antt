@@ -14,6 +14,8 @@ pub mod FileWalk
 pub mod GrantedRecords
 pub mod GrantedSources
 pub mod GrantsLast
+pub mod HoldersApart
+pub mod HoldersOn
 pub mod MachineSteps
 pub mod MasterChunks
 pub mod MasterKept

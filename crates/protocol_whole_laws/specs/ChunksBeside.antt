@@ -13,10 +13,11 @@ use Rattle.protocol_step_laws.specs.Versions.{IsLeaseOver}
 use Rattle.protocol_machine_laws.specs.ChunksAlike.{ChunkSides, AreChunksAlike, KeepsRounds, HasRounds, moved}
 use Rattle.protocol_whole_laws.specs.Rounds.{IsLogOf, IsMastersStep, IsEnded, SentGrantsAreOpen}
 use Rattle.protocol_whole_laws.specs.ServerSteps.{is_of_entries, AreForOpenCalls, AreGoneOrdersAlike}
+use Rattle.protocol_whole_laws.specs.ToldHolders.{AreHoldersTold}
 use Rattle.protocol_whole_laws.specs.ToldRounds.{AreToldRounds}
 use Rattle.protocol_whole_laws.specs.Tries.{AddsNumberedTries}
 
--- The machine's chunks are those of the master's log, with the orders that are seen; also of handles that are gone; the round of each lease that isn't over is open, and so is each that was told, in the file's chunk of its index.
+-- The machine's chunks are those of the master's log, with the orders that are seen; also of handles that are gone; the round of each lease that isn't over is open, and so is each that was told, in the file's chunk of its index; and each holder that was told may be read.
 pub record AreChunksBeside (config : Config) (w : WorldState) (k : ChunkSides) : Type 0 where
   pub settings : k.machine.config ≡ config
   pub log : IsLogOf w.master k.log
@@ -25,6 +26,7 @@ pub record AreChunksBeside (config : Config) (w : WorldState) (k : ChunkSides) :
   pub rounds : HasRounds (IsLeaseOver w) k
   pub told : AreToldRounds w k
   pub gone : AreGoneOrdersAlike k
+  pub holders : AreHoldersTold w k
 
 -- So it is of a new cell and a new machine.
 abbrev pub NewChunksAreBeside : Type 0
@@ -60,4 +62,5 @@ MastersEventsKeepChunksBeside =
     → (k j : ChunkSides) → AreChunksBeside config w k
     → j.machine.config ≡ config → IsLogOf (happens w e choice).world.master j.log → j.orders ≡ (happens w e choice).world.observer.orders → AreChunksAlike j → AreGoneOrdersAlike j
     → KeepsRounds (IsEnded w (happens w e choice).world) k j → SentGrantsAreOpen w (happens w e choice).world j
+    → AreHoldersTold (happens w e choice).world j
     → AreChunksBeside config (happens w e choice).world j

@@ -9,6 +9,7 @@ pub mod FileClientsStay
 pub mod FileOpenings
 pub mod FileSteps
 pub mod GrantedRecords
+pub mod HoldersApart
 pub mod MasterSteps
 pub mod OverRounds
 pub mod RecordDues
