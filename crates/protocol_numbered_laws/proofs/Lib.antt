@@ -1,3 +1,5 @@
+pub mod AskedAdds
+pub mod AskedChunks
 pub mod AskedOnce
 pub mod NumberedAttempts
 pub mod NumberedCalls

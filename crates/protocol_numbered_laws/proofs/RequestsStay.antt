@@ -118,7 +118,7 @@ module _ (m n : Machine) (grows : Grows m n) where
   earlier_on id file offset count index h = λ earlier low has.
       success_stays id (chunk_at m file earlier).order (chunk_at n file earlier).order (((grows.files file).chunks earlier).order) (h earlier low (sym (part_on offset count earlier) ∙ has))
 
-  abbrev call_on : (client number file : ℕ) → IsCallOn m client number file → IsCallOn n client number file
+  abbrev pub call_on : (client number file : ℕ) → IsCallOn m client number file → IsCallOn n client number file
   call_on client number file h = record { asked = h.asked; made = (grows.clients client).calls number h.asked h.made; file_is = h.file_is }
 
   part_to_on : (id : CallId) (file index : ℕ) (c : Call) (aim : Target) → IsPartTo m id file index c aim → IsPartTo n id file index c aim
@@ -132,7 +132,7 @@ module _ (m n : Machine) (grows : Grows m n) where
   data_on : (index : ℕ) (c : Call) (bytes : List ℕ) → AreDataOf m.config.chunk index c bytes → AreDataOf n.config.chunk index c bytes
   data_on index c bytes h = subst (λ (k : ℕ). AreDataOf k index c bytes) (sym size_kept) h
 
-  wanted_on : (id : CallId) (file : ℕ) (c : Call) (what : Wanted) → IsWantedBy m id file c what → IsWantedBy n id file c what
+  pub wanted_on : (id : CallId) (file : ℕ) (c : Call) (what : Wanted) → IsWantedBy m id file c what → IsWantedBy n id file c what
   wanted_on id file (call.Write fd offset bytes) (wanted.Write index) h = (h.0, part_on offset (length bytes) index ∙ h.1, earlier_on id file offset (length bytes) index h.2)
   wanted_on id file (call.Append fd bytes) (wanted.Append index) h = subst (λ (k : ℕ). 4 * length bytes ≤ k) (sym size_kept) h
   wanted_on id file c (wanted.Read index) h = tt

@@ -1,0 +1,13 @@
+//! Laws of the chunks that are added for what clients ask.
+
+ghost use Rattle.protocol_numbered_laws.specs.AskedChunks.{AsksAddTheNextChunk, AskedChunksMayBeAdded};
+
+/// An Ask adds the next chunk of its file, or none.
+pub fn asks_add_the_next_chunk()
+    ensures { AsksAddTheNextChunk }
+{}
+
+/// A call that asked for the next chunk of a file may have it at the machine.
+pub fn asked_chunks_may_be_added()
+    ensures { AskedChunksMayBeAdded }
+{}
