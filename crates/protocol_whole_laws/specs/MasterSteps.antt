@@ -15,7 +15,7 @@ use Rattle.protocol.specs.Logged.{Logged, Copy, LogDisk, LogChange, AppendRecord
 use Rattle.protocol.specs.Observer.{Placed}
 use Rattle.protocol_laws.specs.Laws.{HasAllReferences, times_in}
 use Rattle.protocol_name_laws.specs.Names.{HasNamesOf}
-use Rattle.protocol_name_laws.specs.Alike.{Requests}
+use Rattle.protocol_name_laws.specs.Alike.{Requests, is_there}
 use Rattle.protocol_name_laws.specs.NameSteps.{AreNamedFilesThere}
 use Rattle.protocol_name_laws.specs.NameTrails.{log_read, RunsQuietly, IsChangeOf, IsBesideLog, NameTrail}
 use Rattle.protocol_invariant.specs.Actions.{Spot}
@@ -131,11 +131,15 @@ abbrev pub HasOpenedAt : ChunkSides → LogChange → Type 0
 HasOpenedAt j (AppendRecord r) = HasOpened j r
 HasOpenedAt j (WriteCheckpoint items) = Unit {0}
 
+-- the machine by names alone has the files that the log has
+abbrev pub HasFilesOf : Logged → Machine → Type 0
+HasFilesOf l n = (file : ℕ) → table.contains_key l.table.files file ≡ is_there n file
+
 -- each change is due, whichever whole machine, of those that the first one leads to, goes beside the log then
 abbrev pub AreChangesDue : Machine → Table (List Placed) → LogDisk → List LogChange → Type 0
 AreChangesDue first orders d [] = Unit {0}
 AreChangesDue first orders d (x ∷ rest) =
-    ((k : ChunkSides) (n : Machine) → LeadsTo first k.machine → k.log ≡ log_read d → k.orders ≡ orders → IsWhole k n → IsChangeDue d k x)
+    ((k : ChunkSides) (n : Machine) → LeadsTo first k.machine → k.log ≡ log_read d → k.orders ≡ orders → IsWhole k n → HasFilesOf k.log n → IsChangeDue d k x)
     × AreChangesDue first orders (log_changed d x) rest
 
 -- The whole machine after a change, at the sides j, with the machine by names alone at a and then at b: it was at the machine m before the change.
@@ -157,5 +161,5 @@ WholeTrail requests first start d k (x ∷ rest) n =
 abbrev pub ChangesAreTaken : Type 0
 ChangesAreTaken =
     (requests : Requests) (first : Machine) (start d : LogDisk) (changes : List LogChange) (k : ChunkSides) (n later : Machine)
-    → IsWhole k n → k.log ≡ log_read d → HasNamesOf k.log n → NameTrail requests first start d n changes later → AreChangesDue k.machine k.orders d changes
+    → IsWhole k n → k.log ≡ log_read d → HasNamesOf k.log n → HasFilesOf k.log n → NameTrail requests first start d n changes later → AreChangesDue k.machine k.orders d changes
     → WholeTrail requests first start d k changes later
