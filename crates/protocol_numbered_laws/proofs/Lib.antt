@@ -1,3 +1,4 @@
+pub mod AddedChunks
 pub mod AskedAdds
 pub mod AskedChunks
 pub mod AskedOnce

@@ -1,6 +1,6 @@
 //! Laws of the chunks that are added for what clients ask.
 
-ghost use Rattle.protocol_numbered_laws.specs.AskedChunks.{AsksAddTheNextChunk, AskedChunksMayBeAdded};
+ghost use Rattle.protocol_numbered_laws.specs.AskedChunks.{AsksAddTheNextChunk, AskedChunksMayBeAdded, AddedChunksAreAskedFor};
 
 /// An Ask adds the next chunk of its file, or none.
 pub fn asks_add_the_next_chunk()
@@ -10,4 +10,9 @@ pub fn asks_add_the_next_chunk()
 /// A call that asked for the next chunk of a file may have it at the machine.
 pub fn asked_chunks_may_be_added()
     ensures { AskedChunksMayBeAdded }
+{}
+
+/// Each chunk that a step of the master adds is asked for, where the chunks past which clients asked are full.
+pub fn added_chunks_are_asked_for()
+    ensures { AddedChunksAreAskedFor }
 {}
