@@ -33,6 +33,7 @@ use Rattle.protocol.specs.World.{WorldState, new_world, IsReached}
 use Rattle.protocol_laws.proofs.Entries.{AllOf}
 use Rattle.protocol_name_laws.specs.NameTrails.{log_read}
 use Rattle.protocol_name_laws.specs.Alike.{is_there}
+use Rattle.protocol_entry_laws.specs.Entries.{IsAmong}
 use Rattle.protocol_machine_laws.specs.ChunksAlike.{ChunkSides}
 use Rattle.protocol_whole_laws.specs.MasterSteps.{IsWhole, HaveSameFiles, HasFilesOf}
 use Rattle.protocol_whole_laws.specs.RecordDues.{AreLogDues}
@@ -42,7 +43,8 @@ use Rattle.protocol_whole_laws.specs.WholeWorlds.{IsBeside}
 use Rattle.protocol_whole_laws.proofs.RecordDues.{steps_log_what_is_due}
 use Rattle.protocol_whole_laws.proofs.UnaskedAdds.{IsNoAdd, nothing_asked, only_asks_add_chunks}
 use Rattle.protocol_whole_laws.proofs.WholeLogs.{states_have_their_logs_files}
-use Rattle.protocol_numbered_laws.specs.AskedChunks.{IsForNext, AddsNoChunk, AddNoChunk, AddOneChunk, IsFullAt, AreAsksFull, ComesFromClients, AddedChunksAreAskedFor}
+use Rattle.protocol_numbered_laws.specs.AskedChunks.{IsForNext, AddsNoChunk, AddNoChunk, AddOneChunk, IsFullAt, AreAsksFull, AddedChunksAreAskedFor}
+use Rattle.protocol_numbered_laws.proofs.AskSenders.{asks_come_from_clients}
 use Rattle.protocol_numbered_laws.proofs.AskedAdds.{asks_add_the_next_chunk}
 use Rattle.protocol_numbered_laws.proofs.AskedChunks.{asked_chunks_may_be_added}
 
@@ -161,13 +163,13 @@ module _ (config : Config) (servers clients : ℕ) (w : WorldState) (r : IsReach
       asked_for x place client number file what deadline lost at from is (asks_add_the_next_chunk w.master moment refused x number file what deadline lost is)
   by_body x place client at from other is = only_asks_add_chunks w.master moment (input.Deliver x) refused (subst (λ (b : Body). IsNoAskIn b) (sym is) tt) k.machine orders w.master.disk
 
-  by_input : (i : Input) → ComesFromClients w i → AreAskedFor k.machine orders w.master.disk (master_goes w.master moment i refused).changes
+  by_input : (i : Input) → ((x : Message) → i ≡ input.Deliver x → IsAmong w.sent x) → AreAskedFor k.machine orders w.master.disk (master_goes w.master moment i refused).changes
   by_input input.Tick comes = only_asks_add_chunks w.master moment input.Tick refused tt k.machine orders w.master.disk
   by_input (input.Deliver x) comes =
       let came = comes x refl in
-      elim (came.1) [
+      elim (asks_come_from_clients config servers clients w r came.0 x came.1) [
         | inl none ↦ only_asks_add_chunks w.master moment (input.Deliver x) refused none k.machine orders w.master.disk
-        | inr from ↦ by_body x (came.0).0 from.0 (came.0).1 from.1 x.body refl
+        | inr from ↦ by_body x came.0 from.0 came.1 from.1 x.body refl
       ]
 
 pub added_chunks_are_asked_for : AddedChunksAreAskedFor

@@ -1,4 +1,5 @@
 pub mod AddedChunks
+pub mod AskSenders
 pub mod AskedAdds
 pub mod AskedChunks
 pub mod AskedOnce

@@ -79,13 +79,17 @@ AreAsksFull w m =
     (client place number past : ℕ) (x : Message) (file : FileId) (deadline : Moment) (lost : Bool) → element_at w.sent place ≡ Some x → x.sender ≡ the_client client
     → x.body ≡ body.Ask number file (wanted.Append (suc past)) deadline lost → IsFullAt m file.0 past
 
--- what the master takes was sent, and an Ask by a client
-abbrev pub ComesFromClients : WorldState → Input → Type 0
-ComesFromClients w i = (x : Message) → i ≡ input.Deliver x → IsAmong w.sent x × (IsNoAskIn x.body ⊎ ((client : ℕ) × (x.sender ≡ the_client client)))
+-- it is no Ask, or a client's
+abbrev pub IsClients : Message → Type 0
+IsClients x = IsNoAskIn x.body ⊎ ((client : ℕ) × (x.sender ≡ the_client client))
+
+-- Each Ask that was sent is a client's.
+abbrev pub AsksComeFromClients : Type 0
+AsksComeFromClients = (config : Config) (servers clients : ℕ) (w : WorldState) → IsReached config servers clients w → (place : ℕ) (x : Message) → element_at w.sent place ≡ Some x → IsClients x
 
 -- Each chunk that a step of the master adds is asked for.
 abbrev pub AddedChunksAreAskedFor : Type 0
 AddedChunksAreAskedFor =
     (config : Config) (servers clients : ℕ) (w : WorldState) → IsReached config servers clients w → IsTrue w.observer.are_clocks_kept → IsTrue w.master.up → (ss : List PendingSnapshot) (k : ChunkSides) → IsBeside config w ss k
-    → AreAsksFull w k.machine → (moment : ℕ) (i : Input) (refused : List Bool) → ComesFromClients w i → (orders : Table (List Placed))
+    → AreAsksFull w k.machine → (moment : ℕ) (i : Input) (refused : List Bool) → ((x : Message) → i ≡ input.Deliver x → IsAmong w.sent x) → (orders : Table (List Placed))
     → AreAskedFor k.machine orders w.master.disk (master_goes w.master moment i refused).changes
