@@ -1,5 +1,5 @@
 -- Each chunk that a step of the master adds is asked for, by a call that may have it at the machine.
-use Rattle.std.proofs.Common.{◌≡◌, ◌⊎◌, ℕ, zero, suc, ◌≤◌, ◌<◌, Bool, true, false, List, [], ◌∷◌, length, Option, Some, None, refl, sym, ap, subst, ◌∙◌, inl, inr, arith}
+use Rattle.std.proofs.Common.{◌≡◌, ◌⊎◌, ℕ, zero, suc, ◌≤◌, ◌<◌, Bool, true, false, List, [], ◌∷◌, length, Option, Some, refl, sym, ap, subst, ◌∙◌, inl, inr, arith}
 use Rattle.std.specs.Prelude.{◌==◌, ◌||◌, ◌&&◌, not, nat_lt, nat_le, is_some, IsTrue, IsFalse}
 use Rattle.std.specs.List.{list_any}
 use Rattle.std.specs.FinMap as table
@@ -15,13 +15,11 @@ use Rattle.messages.specs.declared.message.Body.TheVariants as body
 use Rattle.messages.specs.declared.message.Message.{Message}
 use Rattle.messages.specs.declared.message.Wanted.{Wanted}
 use Rattle.messages.specs.declared.message.Wanted.TheVariants as wanted
-use Rattle.log_records.specs.declared.record.Record.{Record}
 use Rattle.log_records.specs.declared.record.Record.TheVariants as log
 use Rattle.chunk_table.specs.ChunkTable.{file_of}
 use Rattle.relaxed_file.specs.Order.{Entry}
 use Rattle.relaxed_file.specs.Machine.{Machine, chunk_count, chunk_size, chunk_at}
 use Rattle.relaxed_file.specs.Chunks.{is_last_chunk_full}
-use Rattle.relaxed_file.specs.Run.{LeadsTo}
 use Rattle.relaxed_file.proofs.Grows.{Grows, OrderGrows, grows_to, known_when_reached}
 use Rattle.protocol.specs.Tables.{Table, element_at}
 use Rattle.protocol.specs.Sending.{the_client}
@@ -35,10 +33,10 @@ use Rattle.protocol_name_laws.specs.NameTrails.{log_read}
 use Rattle.protocol_name_laws.specs.Alike.{is_there}
 use Rattle.protocol_entry_laws.specs.Entries.{IsAmong}
 use Rattle.protocol_machine_laws.specs.ChunksAlike.{ChunkSides}
-use Rattle.protocol_whole_laws.specs.MasterSteps.{IsWhole, HaveSameFiles, HasFilesOf}
+use Rattle.protocol_whole_laws.specs.MasterSteps.{HaveSameFiles}
 use Rattle.protocol_whole_laws.specs.RecordDues.{AreLogDues}
 use Rattle.protocol_whole_laws.specs.SentRequests.{IsAskOf, IsRequestOf, AreRequestsOfCalls}
-use Rattle.protocol_whole_laws.specs.WholeSteps.{IsChunkAskedFor, AreAskedFor, IsNoAskIn, TakesNoAsk}
+use Rattle.protocol_whole_laws.specs.WholeSteps.{IsChunkAskedFor, AreAskedFor, IsNoAskIn}
 use Rattle.protocol_whole_laws.specs.WholeWorlds.{IsBeside}
 use Rattle.protocol_whole_laws.proofs.RecordDues.{steps_log_what_is_due}
 use Rattle.protocol_whole_laws.proofs.UnaskedAdds.{IsNoAdd, nothing_asked, only_asks_add_chunks}

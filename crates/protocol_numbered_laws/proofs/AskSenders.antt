@@ -1,24 +1,17 @@
 -- Asks come from clients alone.
-use Rattle.std.proofs.Common.{◌≡◌, ◌⊎◌, ℕ, suc, Bool, true, false, true≢false, List, [], ◌∷◌, ◌++◌, length, Some, refl, sym, ap, subst, ◌∙◌, inl, inr}
-use Rattle.gfs_types.specs.declared.config.Config.{Config}
+use Rattle.std.proofs.Common.{◌≡◌, ℕ, suc, true, true≢false, List, [], ◌∷◌, ◌++◌, length, Some, sym, subst, ◌∙◌, inl, inr}
 use Rattle.gfs_types.specs.declared.ids.DataId.{DataId}
-use Rattle.gfs_types.specs.declared.ids.Node.{Node}
-use Rattle.messages.specs.declared.event.Event.{Event}
 use Rattle.messages.specs.declared.event.Input.{Input}
 use Rattle.messages.specs.declared.message.Body.{Body}
 use Rattle.messages.specs.declared.message.Body.TheVariants as body
 use Rattle.messages.specs.declared.message.Message.{Message}
 use Rattle.protocol.specs.Tables.{element_at}
-use Rattle.protocol.specs.Sending.{the_client}
 use Rattle.protocol.specs.Choice.{Choice, Ending, Goes, Lost, Stops}
-use Rattle.protocol.specs.declared.seen.Seen.{Seen}
 use Rattle.protocol.specs.Server.{ServerState}
-use Rattle.protocol.specs.Master.{MasterState}
-use Rattle.protocol.specs.Client.{ClientState}
 use Rattle.protocol.specs.ClientStep.{client_step, client_call}
 use Rattle.protocol.specs.MasterStep.{master_step, master_restart}
 use Rattle.protocol.specs.ServerStep.{server_step, server_at, server_restarts, server_restart}
-use Rattle.protocol.specs.World.{WorldState, new_world, stamped, IsReached}
+use Rattle.protocol.specs.World.{WorldState, stamped}
 use Rattle.protocol_laws.proofs.Steps.{none_some}
 use Rattle.protocol_laws.proofs.Entries.{AllOf}
 use Rattle.protocol_laws.proofs.MembersRecorded.{all_at}

@@ -3,12 +3,10 @@ use Rattle.std.proofs.Common.{◌≡◌, ◌⊎◌, ℕ, zero, suc, ◌≤◌, B
 use Rattle.std.specs.Prelude.{◌==◌, nat_lt, nat_le, cond}
 use Rattle.std.proofs.lemmas.Bool.{eqb-true, ltb-true}
 use Rattle.gfs_types.specs.declared.ids.FileId.{FileId}
-use Rattle.gfs_types.specs.declared.ids.Handle.{Handle}
 use Rattle.gfs_types.specs.declared.ids.Node.{Node}
-use Rattle.gfs_types.specs.declared.refusal.Refusal.TheVariants.{TooLong, Collected}
+use Rattle.gfs_types.specs.declared.refusal.Refusal.TheVariants.{TooLong}
 use Rattle.messages.specs.declared.message.Body.{Body}
 use Rattle.messages.specs.declared.message.Body.TheVariants as body
-use Rattle.messages.specs.declared.message.Message.{Message}
 use Rattle.messages.specs.declared.message.Wanted.{Wanted}
 use Rattle.messages.specs.declared.message.Wanted.TheVariants as wanted
 use Rattle.log_records.specs.declared.record.Record.{Record}
@@ -24,7 +22,7 @@ use Rattle.protocol.specs.Master.{MasterState, MasterDoing, HeldAt, master_begin
 use Rattle.protocol.specs.MasterSnapshots.{revokes, revokes_row, waits_for}
 use Rattle.protocol.specs.MasterVersions.{Asker, VersionTarget, tells_holders, tells_to_wait, version_order, sends_versions, new_attempt, sends_issued, issues_to, targets_by, recorded_holders, issues_own, is_attempted, copy_order, sends_copies, copy_targets, sends_copy_started, copies_to, begins_copy, copy_for, is_copied, wants_own, wants_own_of, issues_copy, wants_copy, wants_by, wants_primary, holder_target}
 use Rattle.protocol.specs.MasterAsks.{looks_at, looks_at_row, mutates_row, mutates_at, adds_chunk, with_index, asks_to_write, asks_to_append, asks_for_last, asks_for, asks_of, takes_ask}
-use Rattle.protocol.specs.MasterStep.{master_takes, master_at, master_goes}
+use Rattle.protocol.specs.MasterStep.{master_takes, master_at}
 use Rattle.protocol_laws.proofs.Steps.{on_cond}
 use Rattle.protocol_version_laws.proofs.UnaskedSteps.{IsOfNames, KeepsNames, ready}
 use Rattle.protocol_numbered_laws.specs.AskedChunks.{IsForNext, AddsNoChunk, AddNoChunk, AddOneChunk, AsksAddTheNextChunk}

@@ -1,16 +1,15 @@
 -- A call that asked for the next chunk of a file may have it at the machine.
-use Rattle.std.proofs.Common.{◌≡◌, ℕ, ◌*◌, ◌≤◌, List, length, Some, refl, sym, ap, subst, ◌∙◌}
-use Rattle.std.specs.Prelude.{IsTrue, IsFalse}
-use Rattle.gfs_types.specs.declared.config.Config.{Config}
+use Rattle.std.proofs.Common.{◌≡◌, ℕ, refl, subst}
+use Rattle.std.specs.Prelude.{IsTrue}
 use Rattle.gfs_types.specs.declared.call.Call.{Call}
 use Rattle.gfs_types.specs.declared.call.Call.TheVariants as call
 use Rattle.messages.specs.declared.message.Wanted.{Wanted}
 use Rattle.messages.specs.declared.message.Wanted.TheVariants as wanted
 use Rattle.relaxed_file.specs.Order.{CallId}
-use Rattle.relaxed_file.specs.Machine.{Machine, Asked, chunk_count}
+use Rattle.relaxed_file.specs.Machine.{Machine, chunk_count}
 use Rattle.relaxed_file.specs.Chunks.{NeedsChunk, is_last_chunk_full}
 use Rattle.relaxed_file.proofs.Grows.{Grows, grows_to, known_when_reached}
-use Rattle.protocol_whole_laws.specs.SentRequests.{IsCallOn, IsWantedBy, IsAskOf}
+use Rattle.protocol_whole_laws.specs.SentRequests.{IsCallOn, IsWantedBy}
 use Rattle.protocol_numbered_laws.specs.AskedChunks.{IsForNext, AskedChunksMayBeAdded}
 use Rattle.protocol_numbered_laws.proofs.RequestsStay.{call_on, wanted_on}
 

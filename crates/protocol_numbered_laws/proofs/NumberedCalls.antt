@@ -245,8 +245,7 @@ module _ (config : Config) (servers clients : ℕ) (steps : List (Event × Choic
       all_below file zero = ([], tt, tt, omega arith)
       all_below file (suc count) =
           let first = all_below file count in
-          let t = tries file count (suc attempt.index) Made in
-          (
+          let t = tries file count (suc attempt.index) Made in (
             t.0 ++ first.0,
             apart_join (IsTryAt W (suc attempt.index) Made count) (Below count) (λ x y one two same. let at_one = attempts.one_index config servers clients steps clocks k beside.chunks requests (suc attempt.index) Made Made count two.0 x y one two.2 same in let low = two.1 in absurd (omega (arith, at_one, low))) t.0 first.0 t.1 first.1 t.2 first.2,
             each_join (Below (suc count)) t.0 first.0 (each_on (IsTryAt W (suc attempt.index) Made count) (Below (suc count)) (λ q try_. (count, omega arith, try_)) t.0 t.2)

@@ -136,11 +136,20 @@ module _ (s : ClientState) where
           settings = h.1;
           up = h.2;
           says = λ x there. subst (λ (y : Message). (y.sender ≡ the_client s.id) × IsOwn s (Some Now) y.body) (same_some Word x there) (ap (λ (n : ℕ). the_client n) h.0, tt);
-          pushes = λ x told primary number there staged. inr (Word, refl, (ap (λ (n : ℕ). the_client n) h.0, (hops_after g.members first.0,
-              ap (λ (n : ℕ). body.Push (data_id n (suc d.client.number)) (bytes_to_send d.client.config.chunk c.index c.asked) (hops_after g.members first.0)) h.0
-              ∙ ap (λ (z : Config). body.Push (data_id s.id (suc d.client.number)) (bytes_to_send z.chunk c.index c.asked) (hops_after g.members first.0)) h.1
-              ∙ ap (λ (n : ℕ). body.Push (data_id s.id n) (bytes_to_send s.config.chunk c.index c.asked) (hops_after g.members first.0)) (number_is x told primary number there staged)
-              ∙ ap (λ (y : CurrentCall). body.Push (data_id s.id number) (bytes_to_send s.config.chunk y.index y.asked) (hops_after g.members first.0)) (same_some Now x there))));
+          pushes = λ x told primary number there staged. inr (
+            Word,
+            refl,
+            (
+              ap (λ (n : ℕ). the_client n) h.0,
+              (
+                hops_after g.members first.0,
+                ap (λ (n : ℕ). body.Push (data_id n (suc d.client.number)) (bytes_to_send d.client.config.chunk c.index c.asked) (hops_after g.members first.0)) h.0
+                    ∙ ap (λ (z : Config). body.Push (data_id s.id (suc d.client.number)) (bytes_to_send z.chunk c.index c.asked) (hops_after g.members first.0)) h.1
+                    ∙ ap (λ (n : ℕ). body.Push (data_id s.id n) (bytes_to_send s.config.chunk c.index c.asked) (hops_after g.members first.0)) (number_is x told primary number there staged)
+                    ∙ ap (λ (y : CurrentCall). body.Push (data_id s.id number) (bytes_to_send s.config.chunk y.index y.asked) (hops_after g.members first.0)) (same_some Now x there),
+              ),
+            ),
+          );
         }
 
   idle_data : (st : Stage) → IsIdle st → data_number st ≡ None

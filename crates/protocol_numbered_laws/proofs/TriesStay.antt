@@ -163,8 +163,7 @@ module _ (config : Config) (servers clients : ℕ) (steps : List (Event × Choic
       | inl less ↦ (t.0, t.1, all_on client made index t.0 t.2, let two = t.3 in omega (arith, less, two))
       | inr rise ↦
           let own : client ≡ g.id.client.0 = ap (λ (c : CallId). c.client) (rise.0).1 in
-          let its = subst (λ (c : ℕ). (numbers : List ℕ) × AreApart numbers × EachOf (IsTryAt W c made index) numbers × (tries_in (record { client = client; number = made }) (chunk_at k.machine file index) ≤ length numbers)) own t in
-          (
+          let its = subst (λ (c : ℕ). (numbers : List ℕ) × AreApart numbers × EachOf (IsTryAt W c made index) numbers × (tries_in (record { client = client; number = made }) (chunk_at k.machine file index) ≤ length numbers)) own t in (
             g.id.seq ∷ its.0,
             (each_on (IsTryAt W g.id.client.0 made index) (λ m. g.id.seq ≡ m → ⊥) (λ q u. other_number made index q u) its.0 its.2, its.1),
             subst (λ (c : ℕ). EachOf (IsTryAt V c made index) (g.id.seq ∷ its.0)) (sym own) (new_try made index (ap (λ (c : CallId). c.number) (rise.0).1) (ap (λ (s : Spot). s.index) (rise.0).0) (rise.0).2, all_on g.id.client.0 made index its.0 its.2),
@@ -190,5 +189,5 @@ tries_stay_numbered config w e choice clocks k chunks requests tries n how =
         → AreTriesNumbered (happens (after_events (new_world config requests.servers requests.clients) requests.steps) e choice).world n
     by_one ok there numbered None none =
         quiet config requests.servers requests.clients requests.steps e choice k.machine n numbered
-        (λ file index. (file, λ id. elim (none (record { file = file; index = index }) id) [ | inl less ↦ less | inr rise ↦ absurd rise.0 ]))
+        (λ file index. (file, λ id. elim (none (record { file = file; index = index }) id) [ inl less ↦ less | inr rise ↦ absurd rise.0 ]))
     by_one ok there numbered (Some g) rises = placed config requests.servers requests.clients requests.steps e choice ok k there requests.each numbered n g rises

@@ -272,22 +272,26 @@ module _ (config : Config) (servers clients : ℕ) (w : WorldState) (r : IsReach
   taken : AreForOpenCalls w k → (xs : List Seen) → shown ≡ xs → NumbersOnce xs → AllOf IsOfServers xs → (g : Option (IsNumberedAt w then_ k)) × ComesToOrders (IsLeaseOver w) k (orders_after_all trace k.orders xs) (IsRise w then_ k g)
   taken calls [] is once of = (None, takes_nothing (IsLeaseOver w) k (λ t c. ⊥) h)
   taken calls (CopyStarted q copy ∷ xs) is once of = absurd of.0
-  taken calls (BecameSettled q v n ∷ xs) is once of = (None,
-      settles_all (IsLeaseOver w) k trace (BecameSettled q v n ∷ xs) h
-      (subst (λ (ys : List Seen). AllOf (IsSettlingDue (IsLeaseOver w) k (orders_after_all trace k.orders ys)) (BecameSettled q v n ∷ xs)) is
-      (all_placed (IsSettlingDue (IsLeaseOver w) k end) (BecameSettled q v n ∷ xs) (λ place x at. one_due place x (ap (λ (ys : List Seen). element_at ys place) is ∙ at)
-      (all_at NumbersNone (BecameSettled q v n ∷ xs) place x (tt, once) at) (all_at IsOfServers (BecameSettled q v n ∷ xs) place x of at)))))
+  taken calls (BecameSettled q v n ∷ xs) is once of = (
+    None,
+    settles_all (IsLeaseOver w) k trace (BecameSettled q v n ∷ xs) h
+        (subst (λ (ys : List Seen). AllOf (IsSettlingDue (IsLeaseOver w) k (orders_after_all trace k.orders ys)) (BecameSettled q v n ∷ xs)) is
+        (all_placed (IsSettlingDue (IsLeaseOver w) k end) (BecameSettled q v n ∷ xs) (λ place x at. one_due place x (ap (λ (ys : List Seen). element_at ys place) is ∙ at)
+        (all_at NumbersNone (BecameSettled q v n ∷ xs) place x (tt, once) at) (all_at IsOfServers (BecameSettled q v n ∷ xs) place x of at)))),
+  )
   taken calls (Numbered q v n id m ∷ xs) is once of =
       let seen : element_at shown 0 ≡ Some (Numbered q v n id m) = ap (λ (ys : List Seen). element_at ys 0) is in
       let first = placed calls q v n id m 0 seen in
       let act : Action = action calls q v n id m 0 seen in
       let orders : Table (List Placed) = orders_after trace k.orders (Numbered q v n id m) in
-      let g : IsNumberedAt w then_ k = numbered_at calls q v n id m 0 seen in
-      (Some g, takes_more (IsLeaseOver w) k orders (orders_after_all trace orders xs) (IsRise w then_ k (Some g)) act refl first (placed_gone calls q v n id m 0 seen) (placed_standing calls q v n id m 0 seen) (placed_tries calls q v n id m 0 seen)
-      (settles_all (IsLeaseOver w) (moved k (act ∷ []) k.log k.gone orders) trace xs first.keeps.alike
-      (due_later (IsLeaseOver w) k (act ∷ []) orders (orders_after_all trace orders xs) xs first.keeps.rounds
-      (subst (λ (ys : List Seen). AllOf (IsSettlingDue (IsLeaseOver w) k (orders_after_all trace k.orders ys)) xs) is
-      (all_placed (IsSettlingDue (IsLeaseOver w) k end) xs (λ place x at. one_due (suc place) x (ap (λ (ys : List Seen). element_at ys (suc place)) is ∙ at) (all_at NumbersNone xs place x once at) (all_at IsOfServers xs place x of.1 at)))))))
+      let g : IsNumberedAt w then_ k = numbered_at calls q v n id m 0 seen in (
+        Some g,
+        takes_more (IsLeaseOver w) k orders (orders_after_all trace orders xs) (IsRise w then_ k (Some g)) act refl first (placed_gone calls q v n id m 0 seen) (placed_standing calls q v n id m 0 seen) (placed_tries calls q v n id m 0 seen)
+            (settles_all (IsLeaseOver w) (moved k (act ∷ []) k.log k.gone orders) trace xs first.keeps.alike
+            (due_later (IsLeaseOver w) k (act ∷ []) orders (orders_after_all trace orders xs) xs first.keeps.rounds
+            (subst (λ (ys : List Seen). AllOf (IsSettlingDue (IsLeaseOver w) k (orders_after_all trace k.orders ys)) xs) is
+            (all_placed (IsSettlingDue (IsLeaseOver w) k end) xs (λ place x at. one_due (suc place) x (ap (λ (ys : List Seen). element_at ys (suc place)) is ∙ at) (all_at NumbersNone xs place x once at) (all_at IsOfServers xs place x of.1 at)))))),
+      )
 
   step_taken : AreForOpenCalls w k → (g : Option (IsNumberedAt w then_ k)) × ComesToOrders (IsLeaseOver w) k then_.observer.orders (IsRise w then_ k g)
   step_taken calls =

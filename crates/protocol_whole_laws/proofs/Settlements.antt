@@ -155,7 +155,7 @@ takes_more IsOver k orders end Rise action is first first_gone first_standing fi
   gone = λ gone. rest.gone (first_gone gone);
   standing = λ file index handle version apart stands. let one = first_standing file index handle version apart stands in rest.standing file index handle version one.0 one.1;
   tries = λ s c. elim (rest.tries s c) [
-    | inl same ↦ elim (first_tries s c) [ | inl less ↦ inl (omega (arith, same, less)) | inr more ↦ inr (more.0, let one = more.1 in omega (arith, same, one)) ]
+    | inl same ↦ elim (first_tries s c) [ inl less ↦ inl (omega (arith, same, less)) | inr more ↦ inr (more.0, let one = more.1 in omega (arith, same, one)) ]
     | inr none ↦ absurd none.0
   ];
 }

@@ -75,7 +75,7 @@ place_tries m client current s mutation Rise is rise =
 pub same_files_rise : (Rise : Spot → CallId → Type 0) (m n l : Machine) → l.files ≡ n.files → RiseBy Rise m n → RiseBy Rise m l
 same_files_rise Rise m n l same h t c =
     let e = ap (λ (f : ℕ → FileState). tries_in c ((f t.file).chunks t.index)) same in
-    elim (h t c) [ | inl less ↦ inl (omega (arith, e, less)) | inr rise ↦ inr (rise.0, let one = rise.1 in omega (arith, e, one)) ]
+    elim (h t c) [ inl less ↦ inl (omega (arith, e, less)) | inr rise ↦ inr (rise.0, let one = rise.1 in omega (arith, e, one)) ]
 
 pub same_files_add : (w then_ : WorldState) (k : ChunkSides) (n l : Machine) → l.files ≡ n.files → AddsNumberedTries w then_ k n → AddsNumberedTries w then_ k l
 same_files_add w then_ k n l same h = (h.0, same_files_rise (IsRise w then_ k h.0) k.machine n l same h.1)
