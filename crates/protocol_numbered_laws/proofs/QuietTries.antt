@@ -18,7 +18,8 @@ use Rattle.relaxed_file.proofs.Tables.{put_keeps, put_at, at_some}
 use Rattle.relaxed_file.proofs.Known.{asked_is}
 use Rattle.relaxed_file.proofs.Tries.{is_try}
 use Rattle.protocol_whole_laws.proofs.TriesRise.{settled_tries}
-use Rattle.protocol_numbered_laws.specs.NumberedTries.{places_nothing, QuietActionsAddNoTries}
+use Rattle.protocol_whole_laws.specs.Tries.{places_nothing}
+use Rattle.protocol_numbered_laws.specs.NumberedTries.{QuietActionsAddNoTries}
 
 module _ (m : Machine) where
   -- it has no more tries than a chunk of this index

@@ -1,21 +1,16 @@
 -- The tries of calls at the machine stay numbered: no action but Place adds one (sections 3.1 and 3.3).
-use Rattle.std.specs.Prelude.{◌⊎◌, Bool, true, false, List, IsTrue}
+use Rattle.std.specs.Prelude.{◌⊎◌, List, IsTrue}
 use Rattle.std.specs.List.{list_all}
 use Rattle.gfs_types.specs.declared.config.Config.{Config}
 use Rattle.messages.specs.declared.event.Event.{Event}
 use Rattle.relaxed_file.specs.Machine.{Machine}
-use Rattle.relaxed_file.specs.Run.{Action, Place, IsLawful, after_all}
+use Rattle.relaxed_file.specs.Run.{Action, IsLawful, after_all}
 use Rattle.protocol.specs.Choice.{Choice}
 use Rattle.protocol.specs.World.{WorldState, happens}
 use Rattle.protocol_machine_laws.specs.ChunksAlike.{ChunkSides}
 use Rattle.protocol_whole_laws.specs.ChunksBeside.{AreChunksBeside}
 use Rattle.protocol_whole_laws.specs.SentRequests.{AreRequestsOfCalls, AreTriesNumbered}
-use Rattle.protocol_whole_laws.specs.Tries.{HasNoMoreTries, AddsNumberedTries}
-
--- nothing takes a place
-abbrev pub places_nothing : Action → Bool
-places_nothing (Place client file index mutation) = false
-places_nothing other = true
+use Rattle.protocol_whole_laws.specs.Tries.{places_nothing, HasNoMoreTries, AddsNumberedTries}
 
 -- Where nothing takes a place, no chunk has more tries.
 abbrev pub QuietActionsAddNoTries : Type 0

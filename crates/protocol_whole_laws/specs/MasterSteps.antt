@@ -1,5 +1,6 @@
 -- Where the whole machine goes beside the master's log, it follows each change of the log: by the action of the record, or by actions on chunks (sections 2.6.3, 3.1 and 3.4).
-use Rattle.std.specs.Prelude.{◌≡◌, ◌⊎◌, ℕ, ◌<◌, ◌≤◌, List, [], ◌∷◌, Option, Some, None, option_map}
+use Rattle.std.specs.Prelude.{◌≡◌, ◌⊎◌, ℕ, ◌<◌, ◌≤◌, List, [], ◌∷◌, Option, Some, None, option_map, IsTrue}
+use Rattle.std.specs.List.{list_all}
 use Rattle.std.specs.FinMap as table
 use Rattle.log_records.specs.declared.record.Record.{Record}
 use Rattle.log_records.specs.declared.record.Record.TheVariants as log
@@ -21,6 +22,7 @@ use Rattle.protocol_name_laws.specs.NameTrails.{log_read, RunsQuietly, IsChangeO
 use Rattle.protocol_invariant.specs.Actions.{Spot}
 use Rattle.protocol_machine_laws.specs.ChunksAlike.{ChunkSides, StandsAt, IsRoundOpen, AreChunksAlike, KeepsRounds, NoneEnds}
 use Rattle.protocol_machine_laws.specs.ChunkRecords.{IsUnused, StandsAlone, IsCopyDue, AreFilesOnce, StandsIn, AreFilesThere, gone_after}
+use Rattle.protocol_whole_laws.specs.Tries.{places_nothing}
 
 -- The whole machine has the names of the one by names alone and the chunks of the log; where handles stood that are gone, their numbers were used.
 pub record IsWhole (k : ChunkSides) (n : Machine) : Type 0 where
@@ -28,12 +30,13 @@ pub record IsWhole (k : ChunkSides) (n : Machine) : Type 0 where
   pub chunks : AreChunksAlike k
   pub below : (handle : ℕ) (s : Spot) → k.gone handle ≡ Some s → handle < k.log.next_handle
 
--- The whole machine takes actions of which clients see nothing, and is then beside the log and the names again; rounds end of these handles alone.
+-- The whole machine takes actions of which clients see nothing and that place nothing, and is then beside the log and the names again; rounds end of these handles alone.
 pub record Comes (Ends : ℕ → Type 0) (k j : ChunkSides) (n : Machine) : Type 0 where
   pub actions : List Action
   pub lawful : IsLawful k.machine actions
   pub leads : after_all k.machine actions ≡ j.machine
   pub unseen : visible actions ≡ []
+  pub places : IsTrue (list_all places_nothing actions)
   pub rounds : KeepsRounds Ends k j
   pub whole : IsWhole j n
 

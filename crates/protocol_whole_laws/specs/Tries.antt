@@ -1,5 +1,5 @@
 -- How many tries of a call the machine's chunks get at an event: none, or what a server numbers in it (sections 3.1 and 3.3).
-use Rattle.std.specs.Prelude.{◌≡◌, ◌⊎◌, ℕ, suc, ◌≤◌, Option, Some, None, IsTrue}
+use Rattle.std.specs.Prelude.{◌≡◌, ◌⊎◌, ℕ, suc, ◌≤◌, Bool, true, false, Option, Some, None, IsTrue}
 use Rattle.gfs_types.specs.declared.ids.DataId.{DataId}
 use Rattle.gfs_types.specs.declared.ids.Handle.{Handle}
 use Rattle.gfs_types.specs.declared.ids.Version.{Version}
@@ -7,6 +7,7 @@ use Rattle.messages.specs.declared.event.Input.{Input}
 use Rattle.relaxed_file.specs.Order.{CallId}
 use Rattle.relaxed_file.specs.Machine.{Machine, chunk_at}
 use Rattle.relaxed_file.specs.Chunks.{tries_in}
+use Rattle.relaxed_file.specs.Run.{Action, Place}
 use Rattle.protocol.specs.Choice.{Choice}
 use Rattle.protocol.specs.Observer.{observed_moment, calls_made}
 use Rattle.protocol.specs.Server.{ServerState}
@@ -16,6 +17,11 @@ use Rattle.protocol_entry_laws.specs.Deadlines.{Numbers}
 use Rattle.protocol_entry_laws.specs.FullChunks.{IsPad}
 use Rattle.protocol_invariant.specs.Actions.{Spot}
 use Rattle.protocol_machine_laws.specs.ChunksAlike.{ChunkSides, IsRoundOpen, chunk_in}
+
+-- nothing takes a place
+abbrev pub places_nothing : Action → Bool
+places_nothing (Place client file index mutation) = false
+places_nothing other = true
 
 -- Each chunk of the second has no more tries of a call than a chunk of this index of the first: its own, or that of the file of which it is a copy.
 abbrev pub HasNoMoreTries : Machine → Machine → Type 0
