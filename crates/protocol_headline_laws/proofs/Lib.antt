@@ -1,1 +1,2 @@
 pub mod FilePlaces
+pub mod ShownFiles
