@@ -160,6 +160,7 @@ class Judge(simulate.Simulation):
             if version and not self.is_over(world, handle, version):
                 self.counts['judged told'] += 1
                 self.claim(self.open_at[was_made].get((handle, version)) == (file, index), f'told round {handle} {version} {file} {index}')
+            self.claim(handle < log['next_handle'], 'told used')
             state_of_file = apply(machine['files'], file)
             self.claim(index < state_of_file['chunk_count'], 'told count')
             order = apply(state_of_file['chunks'], index)['order']

@@ -1,2 +1,3 @@
-pub mod Answers
+pub mod AllAnswers
+pub mod SaidAnswers
 pub mod ServerWords

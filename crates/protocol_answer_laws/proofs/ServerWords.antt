@@ -1,7 +1,6 @@
 -- What an event of a server leaves, and what it says: clients stay, no location is told, and a reading is answered by what is on the disk, in a step that shows nothing.
-use Rattle.std.proofs.Common.{◌≡◌, ℕ, suc, ◌-◌, ◌≤◌, Bool, true, false, List, [], ◌∷◌, ◌++◌, length, Option, Some, None, refl, sym, ap, subst, ◌∙◌}
-use Rattle.std.specs.Prelude.{◌==◌, ◌&&◌, nat_lt, nat_le, filter, IsTrue}
-use Rattle.gfs_types.specs.declared.config.Config.{Config}
+use Rattle.std.proofs.Common.{◌≡◌, ℕ, suc, ◌-◌, ◌≤◌, true, false, List, [], ◌∷◌, length, Option, Some, None, refl, sym, ap, subst, ◌∙◌}
+use Rattle.std.specs.Prelude.{◌==◌, ◌&&◌, nat_lt, nat_le, filter}
 use Rattle.gfs_types.specs.declared.ids.DataId.{DataId}
 use Rattle.gfs_types.specs.declared.ids.Node.{Node}
 use Rattle.gfs_types.specs.declared.ids.Node.TheVariants as node
@@ -15,21 +14,22 @@ use Rattle.messages.specs.declared.message.Message.{Message}
 use Rattle.replica_store.specs.declared.row.Row.{Row}
 use Rattle.replica_store.specs.Replicas.{Replica, row_at, read_at, replica_of}
 use Rattle.relaxed_file.specs.Run.{Visible}
-use Rattle.protocol.specs.Tables.{Table, moment_limit, element_at}
-use Rattle.protocol.specs.Sending.{the_server, the_client}
+use Rattle.protocol.specs.Tables.{moment_limit, element_at}
+use Rattle.protocol.specs.Sending.{the_server}
 use Rattle.protocol.specs.Choice.{Choice, Ending, Goes, Lost, Stops}
 use Rattle.protocol.specs.Seen.{is_numbering, Taken, no_step}
 use Rattle.protocol.specs.declared.seen.Seen.{Seen}
-use Rattle.protocol.specs.Observer.{Placed, observed_moment, orders_after_all}
+use Rattle.protocol.specs.Observer.{observed_moment, calls_made, orders_after_all}
 use Rattle.protocol.specs.Server.{ServerState, ServerDoing, server_begins}
 use Rattle.protocol.specs.ServerReads.{answers_bytes, reads_from, measures}
 use Rattle.protocol.specs.ServerStep.{server_at, server_takes, server_goes, server_ends, server_step, server_restarts, server_restart}
-use Rattle.protocol.specs.World.{WorldState, Happened, nothing_happens, numbered_from_1, stamped, after_server, server_moves, moves, delivered, server_restarts_at, restarts, rots_replica, rots_on, at_moment, happens}
+use Rattle.protocol.specs.World.{WorldState, Happened, nothing_happens, numbered_from_1, after_server, server_moves, moves, delivered, server_restarts_at, restarts, rots_replica, rots_on, at_moment, happens}
 use Rattle.protocol_laws.proofs.Steps.{on_cond}
 use Rattle.protocol_laws.proofs.Entries.{AllOf}
 use Rattle.protocol_laws.proofs.MembersRecorded.{all_at}
 use Rattle.protocol_laws.proofs.MessagesSent.{IsSent}
 use Rattle.protocol_laws.proofs.RisingOrders.{element_numbered}
+use Rattle.protocol_entry_laws.proofs.Placing.{same_calls}
 use Rattle.protocol_step_laws.specs.Reads.{is_answer}
 use Rattle.protocol_step_laws.proofs.ReadAnswers.{IsReadBy}
 use Rattle.protocol_step_laws.proofs.ServerTalks.{is_quiet, Talks, step_said}
@@ -90,10 +90,19 @@ reading_of s row (body.Read n handle version offset count) (body.Bytes number by
 reading_of s row (body.Len n handle version) (body.LenIs number count) so = tt
 reading_of s row request b so = absurd so
 
-abbrev IsCausedIfAny : ServerState → Input → Node → Body → Type 0
-IsCausedIfAny s i receiver b = (number : ℕ) → is_answer number b ≡ true → IsCaused s i receiver b
+-- it tells nothing of where a chunk is
+abbrev pub IsUntold : Body → Type 0
+IsUntold (body.Told number location) = ⊥
+IsUntold other = Unit {0}
 
-quiet_caused : (s : ServerState) (i : Input) (receiver : Node) (b : Body) → is_quiet b ≡ true → IsCausedIfAny s i receiver b
+abbrev IsCausedIfAny : ServerState → Input → Node → Body → Type 0
+IsCausedIfAny s i receiver b = ((number : ℕ) → is_answer number b ≡ true → IsCaused s i receiver b) × IsUntold b
+
+quiet_untold : (b : Body) → is_quiet b ≡ true → IsUntold b
+quiet_untold (body.Told number location) quiet = absurd (let both : false ≡ true = quiet in cc)
+quiet_untold other quiet = tt
+
+quiet_caused : (s : ServerState) (i : Input) (receiver : Node) (b : Body) → is_quiet b ≡ true → (number : ℕ) → is_answer number b ≡ true → IsCaused s i receiver b
 quiet_caused s i receiver (body.Bytes n bytes) quiet number is = absurd (let both : false ≡ true = quiet in cc)
 quiet_caused s i receiver (body.LenIs n count) quiet number is = absurd (let both : false ≡ true = quiet in cc)
 quiet_caused s i receiver other quiet number is = absurd (let both : false ≡ true = is in cc)
@@ -101,12 +110,18 @@ quiet_caused s i receiver other quiet number is = absurd (let both : false ≡ t
 talks : (s : ServerState) (moment : ℕ) (i : Input) → Talks (server_at s moment) i (IsCausedIfAny s i) (λ v. Unit {0}) (λ x. Unit {0})
 talks s moment i =
     record {
-      quiet = quiet_caused s i;
-      reads = λ m number handle version offset count r bytes is asked row same there n any.
-          record { request = m; came = is; from = refl; row = r; so = subst (λ (b : Body). IsReadBy s.disk r b (body.Bytes number bytes)) (sym asked) (refl, row, same, there) };
-      lengths = λ m number handle version r is asked row same n any.
-          record { request = m; came = is; from = refl; row = r; so = subst (λ (b : Body). IsReadBy s.disk r b (body.LenIs number r.count)) (sym asked) (refl, row, same, refl) };
-      pushes = λ m id bytes rest is asked. (tt, λ receiver hops n any. absurd (let both : false ≡ true = any in cc));
+      quiet = λ receiver b is. (quiet_caused s i receiver b is, quiet_untold b is);
+      reads = λ m number handle version offset count r bytes is asked row same there. (
+        λ n any.
+            record { request = m; came = is; from = refl; row = r; so = subst (λ (b : Body). IsReadBy s.disk r b (body.Bytes number bytes)) (sym asked) (refl, row, same, there) },
+        tt,
+      );
+      lengths = λ m number handle version r is asked row same. (
+        λ n any.
+            record { request = m; came = is; from = refl; row = r; so = subst (λ (b : Body). IsReadBy s.disk r b (body.LenIs number r.count)) (sym asked) (refl, row, same, refl) },
+        tt,
+      );
+      pushes = λ m id bytes rest is asked. (tt, λ receiver hops. (λ n any. absurd (let both : false ≡ true = any in cc), tt));
       settled = λ handle version serial. tt;
       numbers = λ m id handle version t deadline p bytes placed is asked primary new there fit. tt;
     }
@@ -134,9 +149,11 @@ pub record IsServersWord (w then_ : WorldState) (m : Message) : Type 0 where
   pub server : ℕ
   pub sender_is : m.sender ≡ the_server server
   pub answered : (number : ℕ) → is_answer number m.body ≡ true → IsAnsweredBy w then_ m.receiver m.body
+  pub untold : IsUntold m.body
 
 pub record IsOfServer (w then_ : WorldState) : Type 0 where
   pub clients : then_.clients ≡ w.clients
+  pub calls : (client : ℕ) → calls_made then_.observer.trace client ≡ calls_made w.observer.trace client
   pub words : (place : ℕ) (m : Message) → length w.sent ≤ place → element_at then_.sent place ≡ Some m → IsServersWord w then_ m
 
 restart_words : (s : ServerState) (moment : ℕ) (choice : Choice) (e : Ending) → AllOf (λ x. ⊥) (server_restarts s moment choice e).out.sent
@@ -151,11 +168,11 @@ module _ (w : WorldState) where
   abbrev Came : Input → Type 0
   Came i = (m : Message) → i ≡ input.Deliver m → IsSent w.sent m
 
-  still : (v : WorldState) → v.clients ≡ w.clients → v.sent ≡ w.sent → IsOfServer w v
-  still v clients sent = record { clients = clients; words = λ place m from at. none_before w.sent place m from (subst (λ (ms : List Message). element_at ms place ≡ Some m) sent at) }
+  still : (v : WorldState) → v.clients ≡ w.clients → v.observer.trace ≡ w.observer.trace → v.sent ≡ w.sent → IsOfServer w v
+  still v clients trace sent = record { clients = clients; calls = λ client. ap (λ (vs : List Visible). calls_made vs client) trace; words = λ place m from at. none_before w.sent place m from (subst (λ (ms : List Message). element_at ms place ≡ Some m) sent at) }
 
   nothing : Of (nothing_happens w)
-  nothing = still w refl refl
+  nothing = still w refl refl refl
 
   module _ (index moment : ℕ) (s : ServerState) (there : element_at w.servers index ≡ Some s) (i : Input) (choice : Choice) (came : Came i) where
     abbrev said : List Message
@@ -191,11 +208,12 @@ module _ (w : WorldState) where
               subst (λ (n : Node). IsAnsweredBy w then_ n m.body) (x.2).1
               (subst (λ (b : Body). IsAnsweredBy w then_ (x.0).receiver b) (x.2).2
               (answered (x.0).receiver (x.0).body
-              (all_at (λ (y : Message). IsCausedIfAny s i y.receiver y.body) said (x.1).0 x.0 caused (x.1).1 number (subst (λ (b : Body). is_answer number b ≡ true) (sym (x.2).2) is))));
+              ((all_at (λ (y : Message). IsCausedIfAny s i y.receiver y.body) said (x.1).0 x.0 caused (x.1).1).0 number (subst (λ (b : Body). is_answer number b ≡ true) (sym (x.2).2) is))));
+          untold = subst IsUntold (x.2).2 (all_at (λ (y : Message). IsCausedIfAny s i y.receiver y.body) said (x.1).0 x.0 caused (x.1).1).1;
         }
 
     serves : Of (after_server w index moment (server_step s moment i choice))
-    serves = record { clients = refl; words = words }
+    serves = record { clients = refl; calls = λ client. same_calls w.config.skew_ms w.observer moment client; words = words }
 
   server_of : (n moment : ℕ) (i : Input) (choice : Choice) → Came i → (o : Option ServerState) → numbered_from_1 w.servers n ≡ o → Of (server_moves w (n - 1) moment i choice o)
   server_of n moment i choice came None at = nothing
@@ -222,6 +240,7 @@ module _ (w : WorldState) where
   opens_of index moment choice (Some s) =
       record {
         clients = refl;
+        calls = λ client. same_calls w.config.skew_ms w.observer moment client;
         words = λ place m from at.
             let x = new_one w.sent (server_restart s moment choice).out.sent (suc (length w.sent)) place m from at in
             absurd (all_at (λ (y : Message). ⊥) (server_restart s moment choice).out.sent (x.1).0 x.0 (restart_words s moment choice choice.ending) (x.1).1);
@@ -242,7 +261,7 @@ module _ (w : WorldState) where
     where
       by_replica : (o : Option Replica) → Of (rots_replica w index s handle place byte o)
       by_replica None = nothing
-      by_replica (Some r) = still (rots_replica w index s handle place byte (Some r)).world refl refl
+      by_replica (Some r) = still (rots_replica w index s handle place byte (Some r)).world refl refl refl
 
   pub event_of : (e : Event) (choice : Choice) → IsServersEvent w e → Of (happens w e choice)
   event_of (event.Call client c now) choice is = absurd is

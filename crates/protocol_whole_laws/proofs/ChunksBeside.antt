@@ -40,6 +40,7 @@ use Rattle.relaxed_file.specs.Order.{Entry}
 use Rattle.protocol_whole_laws.specs.ChunksBeside.{AreChunksBeside, NewChunksAreBeside, SameFilesKeepChunksBeside, IsMastersEvent, OtherEventsKeepChunksBeside, MastersEventsKeepChunksBeside}
 use Rattle.protocol_whole_laws.proofs.EndedRounds.{ungranted_is_over, other_events_keep_rounds, rounds_go, new_rounds}
 use Rattle.protocol_whole_laws.proofs.HoldersOn.{holders_go_on}
+use Rattle.protocol_whole_laws.proofs.MasterHolders.{masters_events_keep_holders}
 use Rattle.protocol_whole_laws.proofs.ServerSteps.{other_events_are_taken}
 use Rattle.protocol_whole_laws.proofs.ToldRounds.{no_round_is_told_at_first, told_rounds_go_on}
 
@@ -132,7 +133,7 @@ other_events_keep_chunks_beside config servers clients w r kept e choice clocks 
     gone = comes.gone h.gone;
     rounds = other_events_keep_rounds config servers clients w r e choice clocks no_step k j h.rounds none_ended;
     told = told_rounds_go_on config servers clients w r e choice clocks k j h.log h.alike h.rounds none_ended h.told;
-    holders = holders_go_on config servers clients w r e choice clocks no_step k j comes.standing h.holders;
+    holders = holders_go_on config servers clients w r e choice clocks no_step k j (omega arith) comes.standing h.holders;
   },
   (came.0, comes.tries),
 )
@@ -156,9 +157,9 @@ other_events_keep_chunks_beside config servers clients w r kept e choice clocks 
     ]
 
 pub masters_events_keep_chunks_beside : MastersEventsKeepChunksBeside
-masters_events_keep_chunks_beside config servers clients w r e choice clocks k j h settings log orders alike gone keeps sent holders = record {
+masters_events_keep_chunks_beside config servers clients w r e choice clocks k j h settings log orders alike gone keeps sent is may = record {
   gone = gone;
-  holders = holders;
+  holders = masters_events_keep_holders config servers clients w r e choice is k j h.log h.orders orders h.holders may;
   settings = settings;
   log = log;
   orders = orders;
@@ -212,7 +213,7 @@ module _ (config : Config) (w : WorldState) (k : ChunkSides) (m : Machine) (h : 
   still_held : AreHoldersTold w later
   still_held client file l t =
       let it = h.holders client file l t in
-      record { round = still_standing file l.index l.handle.0 l.round.0 it.round; holders = λ n x there. let one = it.holders n x there in (one.0, still_standing file l.index l.handle.0 x.version.0 one.1) }
+      record { used = it.used; round = still_standing file l.index l.handle.0 l.round.0 it.round; holders = λ n x there. let one = it.holders n x there in (one.0, still_standing file l.index l.handle.0 x.version.0 one.1) }
 
   still_alike : AreChunksAlike later
   still_alike = (other_changes_keep_chunks k later h.alike (record { lists = refl; grants = λ handle. refl; next = omega arith; gone = refl; orders = refl; files = files })).alike

@@ -133,7 +133,7 @@ module _ (config : Config) (servers clients : ℕ) (w : WorldState) (r : IsReach
         by_count zero none = ungranted_is_over config servers clients then_ later handle version (omega (arith, none, few))
         by_count (suc count) some = leases_stay_over config servers clients w r handle version (omega (arith, some)) over ((e, choice) ∷ []) clocks
 
-    module _ (k j : ChunkSides) (keeps : KeepsStanding (IsLeaseOver w) k j) where
+    module _ (k j : ChunkSides) (next : k.log.next_handle ≤ j.log.next_handle) (keeps : KeepsStanding (IsLeaseOver w) k j) where
       standing_on : (file index handle version : ℕ) → IsStandingFor w k file index handle version → IsStandingFor then_ j file index handle version
       standing_on file index handle version x =
           let on = keeps file index handle version x.apart x.stands in
@@ -147,6 +147,7 @@ module _ (config : Config) (servers clients : ℕ) (w : WorldState) (r : IsReach
 
       location_on : (file : ℕ) (l : Location) → IsToldLocation w k file l → IsToldLocation then_ j file l
       location_on file l it = record {
+        used = (let low = it.used in omega (arith, low, next));
         round = standing_on file l.index l.handle.0 l.round.0 it.round;
         holders = λ n x there. let one = it.holders n x there in (one.0, standing_on file l.index l.handle.0 x.version.0 one.1);
       }

@@ -18,6 +18,7 @@ pub mod HoldersApart
 pub mod HoldersOn
 pub mod MachineSteps
 pub mod MasterChunks
+pub mod MasterHolders
 pub mod MasterKept
 pub mod MasterNames
 pub mod MasterSnapshots

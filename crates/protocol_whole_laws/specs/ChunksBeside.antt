@@ -13,7 +13,7 @@ use Rattle.protocol_step_laws.specs.Versions.{IsLeaseOver}
 use Rattle.protocol_machine_laws.specs.ChunksAlike.{ChunkSides, AreChunksAlike, KeepsRounds, HasRounds, moved}
 use Rattle.protocol_whole_laws.specs.Rounds.{IsLogOf, IsMastersStep, IsEnded, SentGrantsAreOpen}
 use Rattle.protocol_whole_laws.specs.ServerSteps.{is_of_entries, AreForOpenCalls, AreGoneOrdersAlike}
-use Rattle.protocol_whole_laws.specs.ToldHolders.{AreHoldersTold}
+use Rattle.protocol_whole_laws.specs.ToldHolders.{AreHoldersTold, HoldersMayGoOn}
 use Rattle.protocol_whole_laws.specs.ToldRounds.{AreToldRounds}
 use Rattle.protocol_whole_laws.specs.Tries.{AddsNumberedTries}
 
@@ -55,12 +55,12 @@ OtherEventsKeepChunksBeside =
     × AreChunksBeside config (happens w e choice).world (moved k actions k.log k.gone (happens w e choice).world.observer.orders)
     × AddsNumberedTries w (happens w e choice).world k (after_all k.machine actions)
 
--- At an event of the master it is so again, where the machine followed the log: chunks are alike, also of gone handles, rounds ended only of chunks whose leases are over, and what was granted has its round open.
+-- At an event of the master it is so again, where the machine followed the log: chunks are alike, also of gone handles, rounds ended only of chunks whose leases are over, what was granted has its round open, and holders may go on.
 abbrev pub MastersEventsKeepChunksBeside : Type 0
 MastersEventsKeepChunksBeside =
     (config : Config) (servers clients : ℕ) (w : WorldState) → IsReached config servers clients w → (e : Event) (choice : Choice) → IsTrue (happens w e choice).world.observer.are_clocks_kept
     → (k j : ChunkSides) → AreChunksBeside config w k
     → j.machine.config ≡ config → IsLogOf (happens w e choice).world.master j.log → j.orders ≡ (happens w e choice).world.observer.orders → AreChunksAlike j → AreGoneOrdersAlike j
     → KeepsRounds (IsEnded w (happens w e choice).world) k j → SentGrantsAreOpen w (happens w e choice).world j
-    → AreHoldersTold (happens w e choice).world j
+    → IsMastersEvent w e → HoldersMayGoOn w (happens w e choice).world k j
     → AreChunksBeside config (happens w e choice).world j

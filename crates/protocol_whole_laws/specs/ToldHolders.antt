@@ -1,5 +1,5 @@
 -- What a location stands for at the machine: up to a holder's version the handle's entries are those of the file's chunk, so what its server reads is of the chunk (sections 2.4, 2.7.1 and 3.4).
-use Rattle.std.specs.Prelude.{◌≡◌, ℕ, suc, ◌≤◌, List, length, Some, IsTrue, IsFalse}
+use Rattle.std.specs.Prelude.{◌≡◌, ◌⊎◌, ℕ, suc, ◌<◌, ◌≤◌, List, length, Some, IsTrue, IsFalse}
 use Rattle.gfs_types.specs.declared.config.Config.{Config}
 use Rattle.gfs_types.specs.declared.call.Call.{Call}
 use Rattle.messages.specs.declared.message.Holder.{Holder}
@@ -14,7 +14,7 @@ use Rattle.client_state.specs.declared.call.CurrentCall.{CurrentCall}
 use Rattle.client_state.specs.declared.call.ToldChunk.{ToldChunk}
 use Rattle.protocol_step_laws.specs.Reads.{IsTold, IsTrueOf}
 use Rattle.protocol_step_laws.specs.Versions.{IsLeaseOver}
-use Rattle.relaxed_file.specs.Machine.{chunk_at}
+use Rattle.relaxed_file.specs.Machine.{chunk_at, chunk_count}
 use Rattle.replica_store.specs.declared.row.Row.{Row}
 use Rattle.replica_store.specs.Replicas.{row_at}
 use Rattle.protocol.specs.Tables.{element_at}
@@ -35,8 +35,9 @@ pub record IsStandingFor (w : WorldState) (k : ChunkSides) (file index handle ve
   pub stands : StandsUpTo k file index handle version
   pub apart : IsApart (IsLeaseOver w) k handle version (record { file = file; index = index })
 
--- So does what a location names: up to its round, and up to each holder's version, which is no earlier.
+-- So does what a location names, whose handle was used: up to its round, and up to each holder's version, which is no earlier.
 pub record IsToldLocation (w : WorldState) (k : ChunkSides) (file : ℕ) (l : Location) : Type 0 where
+  pub used : l.handle.0 < k.log.next_handle
   pub round : IsStandingFor w k file l.index l.handle.0 l.round.0
   pub holders : (n : ℕ) (x : Holder) → element_at l.holders n ≡ Some x → (l.round.0 ≤ x.version.0) × IsStandingFor w k file l.index l.handle.0 x.version.0
 
@@ -70,3 +71,15 @@ abbrev pub AnswersShowTheChunk : Type 0
 AnswersShowTheChunk =
     (s : ServerState) (size : ℕ) (x : CurrentCall) (chunk : ToldChunk) (row : Row) (order chosen : List Entry) → IsReadAs s size chunk.handle.0 row order chosen
     → (answer : Body) → IsTrueOf s.disk row size x chunk answer → IsShownAs size x chosen answer
+
+-- a version up to which a location says that its handle stands for the chunk
+abbrev pub IsToldVersion : Location → ℕ → Type 0
+IsToldVersion l version = (version ≡ l.round.0) ⊎ ((n : ℕ) × (x : Holder) × (element_at l.holders n ≡ Some x) × (version ≡ x.version.0))
+
+-- What holders that were told ask of an event of the master: the machine leaves the orders of the chunks that there were, no handle is used again, rounds are apart still, and what is told anew is so.
+pub record HoldersMayGoOn (w then_ : WorldState) (k j : ChunkSides) : Type 0 where
+  pub orders : (file index : ℕ) → index < chunk_count k.machine file → (index < chunk_count j.machine file) × ((chunk_at j.machine file index).order ≡ (chunk_at k.machine file index).order)
+  pub next : k.log.next_handle ≤ j.log.next_handle
+  pub apart : (client file : ℕ) (l : Location) → IsTold w.sent client file l
+      → (version : ℕ) → IsToldVersion l version → IsApart (IsLeaseOver w) k l.handle.0 version (record { file = file; index = l.index }) → IsApart (IsLeaseOver then_) j l.handle.0 version (record { file = file; index = l.index })
+  pub begun : (client file : ℕ) (l : Location) (t : IsTold then_.sent client file l) → length w.sent ≤ (t.sent_is).0 → IsToldLocation then_ j file l
