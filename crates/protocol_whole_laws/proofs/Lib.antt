@@ -38,6 +38,7 @@ pub mod SoundLogs
 pub mod StoppedSteps
 pub mod ToldHolders
 pub mod ToldRounds
+pub mod ToldStanding
 pub mod UnaskedAdds
 pub mod UnusedNumbers
 pub mod WaitedNumbers
