@@ -33,6 +33,7 @@ use Rattle.protocol_whole_laws.specs.FileClientsStay.{IsFirm}
 use Rattle.protocol_whole_laws.specs.WholeWorlds.{AreWordsSo, AreFileClients, IsServersEvent, is_of_looks, AreAnswersSo}
 use Rattle.protocol_whole_laws.proofs.WholeWorlds.{words_stay, more_words}
 use Rattle.protocol_answer_laws.specs.Answers.{AreToldPlacesWithin, AreMutatesOfPushedData, AnswersAreSo}
+use Rattle.protocol_answer_laws.proofs.PushedMutates.{mutates_are_of_pushed_data}
 use Rattle.protocol_answer_laws.proofs.SaidAnswers.{all_looks, later_at, cancelled, IsBesideLooks, quiet, looked, Result, result}
 
 names_so : (n : Machine) (client own : ℕ) (z : OpenCall) (x : CurrentCall) (b : Body) → IsSaidAt n client own z x AskedNames b
@@ -187,4 +188,5 @@ module _ (config : Config) (servers clients : ℕ) (w : WorldState) (r : IsReach
       }
 
 pub answers_are_so : AnswersAreSo
-answers_are_so config servers clients w r kept e choice clocks of within pushed j run beside files = answers config servers clients w r kept e choice clocks of within pushed j beside run files
+answers_are_so config servers clients w r kept e choice clocks of within j run beside files =
+    answers config servers clients w r kept e choice clocks of within (mutates_are_of_pushed_data config servers clients w r) j beside run files

@@ -1,3 +1,4 @@
 pub mod AllAnswers
+pub mod PushedMutates
 pub mod SaidAnswers
 pub mod ServerWords

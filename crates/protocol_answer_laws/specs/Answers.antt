@@ -30,10 +30,13 @@ AreMutatesOfPushedData sent =
     (place : ℕ) (m : Message) → element_at sent place ≡ Some m → (id : DataId) (handle : Handle) (version : Version) (aim : Target) (deadline : Moment) → m.body ≡ body.Mutate id handle version aim deadline
     → (bytes : List ℕ) × IsPushed sent id bytes
 
+abbrev pub MutatesAreOfPushedData : Type 0
+MutatesAreOfPushedData = (config : Config) (servers clients : ℕ) (w : WorldState) → IsReached config servers clients w → AreMutatesOfPushedData w.sent
+
 -- Where clocks and disks are kept, whatever an event of a server says to a client that waits is so: the machine, which has the orders that are seen after the event, may take a look or a measure for it.
 abbrev pub AnswersAreSo : Type 0
 AnswersAreSo =
     (config : Config) (servers clients : ℕ) (w : WorldState) → IsReached config servers clients w → IsTrue (is_kept w)
-    → (e : Event) (choice : Choice) → IsTrue (happens w e choice).world.observer.are_clocks_kept → IsServersEvent w e → AreToldPlacesWithin config w → AreMutatesOfPushedData w.sent
+    → (e : Event) (choice : Choice) → IsTrue (happens w e choice).world.observer.are_clocks_kept → IsServersEvent w e → AreToldPlacesWithin config w
     → (j : ChunkSides) → IsRunTo config w.observer.trace j.machine → AreChunksBeside config (happens w e choice).world j → AreFileClients w.clients j.machine
     → AreAnswersSo w (happens w e choice).world j.machine

@@ -39,6 +39,7 @@ pub mod StoppedSteps
 pub mod ToldHolders
 pub mod ToldRounds
 pub mod TriesRise
+pub mod ToldStanding
 pub mod UnaskedAdds
 pub mod UnusedNumbers
 pub mod WaitedNumbers

@@ -8,6 +8,7 @@ use Rattle.chunk_table.specs.ChunkTable.{ChunkRow, file_of, chunk_of}
 use Rattle.relaxed_file.specs.Order.{Entry, mutations_of}
 use Rattle.relaxed_file.specs.Reads.{read_slice}
 use Rattle.gfs_types.specs.Image.{image_length}
+use Rattle.messages.specs.declared.event.Event.{Event}
 use Rattle.messages.specs.declared.message.Body.{Body}
 use Rattle.messages.specs.declared.message.Body.TheVariants as body
 use Rattle.client_state.specs.declared.call.CurrentCall.{CurrentCall}
@@ -20,11 +21,14 @@ use Rattle.replica_store.specs.Replicas.{row_at}
 use Rattle.protocol.specs.Tables.{element_at}
 use Rattle.protocol.specs.ClientAttempts.{is_length}
 use Rattle.protocol.specs.Server.{ServerState}
-use Rattle.protocol.specs.World.{WorldState, IsReached, is_kept}
+use Rattle.protocol.specs.Choice.{Choice}
+use Rattle.protocol.specs.World.{WorldState, happens, IsReached, is_kept}
 use Rattle.protocol_machine_laws.specs.ChunksAlike.{ChunkSides, AreChunksAlike}
 use Rattle.protocol_whole_laws.specs.ChunkReadings.{IsReadAs}
 use Rattle.protocol_whole_laws.specs.FileAnswers.{IsLastRound, IsSeenAt}
+use Rattle.protocol_version_laws.specs.ReplacedChunks.{IsToldAt}
 use Rattle.protocol_whole_laws.specs.HoldersApart.{StandsUpTo, IsApart}
+use Rattle.protocol_whole_laws.specs.Rounds.{IsLogOf}
 
 -- each holder that was told may be read: what it has of its version stands for the chunk
 abbrev pub IsToldHolder : ChunkSides → ℕ → Location → Holder → Type 0
@@ -83,3 +87,11 @@ pub record HoldersMayGoOn (w then_ : WorldState) (k j : ChunkSides) : Type 0 whe
   pub apart : (client file : ℕ) (l : Location) → IsTold w.sent client file l
       → (version : ℕ) → IsToldVersion l version → IsApart (IsLeaseOver w) k l.handle.0 version (record { file = file; index = l.index }) → IsApart (IsLeaseOver then_) j l.handle.0 version (record { file = file; index = l.index })
   pub begun : (client file : ℕ) (l : Location) (t : IsTold then_.sent client file l) → length w.sent ≤ (t.sent_is).0 → IsToldLocation then_ j file l
+
+-- Where chunks are alike before an event, what is told in it with a granted round stands there: its handle was used, and stands for the file's chunk up to each version.
+abbrev pub ToldChunksStand : Type 0
+ToldChunksStand =
+    (config : Config) (servers clients : ℕ) (w : WorldState) → IsReached config servers clients w → (e : Event) (choice : Choice) → IsTrue (happens w e choice).world.observer.are_clocks_kept
+    → (k : ChunkSides) → IsLogOf w.master k.log → AreChunksAlike k
+    → (client file : ℕ) (l : Location) (place : ℕ) → IsToldAt (happens w e choice).world.sent client file l place → length w.sent ≤ place
+    → (l.handle.0 < k.log.next_handle) × ((version : ℕ) → StandsUpTo k file l.index l.handle.0 version)
