@@ -1,0 +1,3 @@
+pub mod AskAnswers
+pub mod ClientWords
+pub mod EventKinds

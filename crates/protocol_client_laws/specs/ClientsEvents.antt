@@ -1,0 +1,56 @@
+-- Which events are a client's, and what they keep (sections 2.3 and 2.7).
+use Rattle.std.specs.Prelude.{◌≡◌, ◌⊎◌, ℕ, suc, ◌≤◌, List, Some, IsTrue}
+use Rattle.gfs_types.specs.declared.config.Config.{Config}
+use Rattle.gfs_types.specs.declared.ids.Node.{Node}
+use Rattle.gfs_types.specs.declared.ids.Node.TheVariants as node
+use Rattle.messages.specs.declared.event.Event.{Event}
+use Rattle.messages.specs.declared.event.Event.TheVariants as event
+use Rattle.messages.specs.declared.event.Input.{Input}
+use Rattle.messages.specs.declared.message.Message.{Message}
+use Rattle.relaxed_file.specs.Run.{LeadsTo}
+use Rattle.protocol.specs.Choice.{Choice}
+use Rattle.protocol.specs.Tables.{element_at}
+use Rattle.protocol.specs.Client.{ClientState}
+use Rattle.protocol.specs.Master.{PendingSnapshot}
+use Rattle.protocol.specs.World.{WorldState, numbered_from_1, happens, IsReached, is_kept}
+use Rattle.protocol_machine_laws.specs.ChunksAlike.{ChunkSides}
+use Rattle.protocol_whole_laws.specs.ServerSteps.{AreForOpenCalls}
+use Rattle.protocol_whole_laws.specs.ChunksBeside.{AreChunksBeside, IsMastersEvent}
+use Rattle.protocol_whole_laws.specs.FileClients.{IsSaid}
+use Rattle.protocol_whole_laws.specs.FileClientsStay.{IsFirmInput}
+use Rattle.protocol_whole_laws.specs.WholeWorlds.{AreFileClients, IsBeside, IsWholeWorld, IsServersEvent}
+use Rattle.protocol_whole_laws.specs.WholeClients.{GivesClient}
+
+abbrev pub IsClient : Node → Type 0
+IsClient (node.Client c) = Unit {0}
+IsClient other = ⊥
+
+-- a call of a client, or a message, a tick or a restart of one
+abbrev pub IsClientsEvent : WorldState → Event → Type 0
+IsClientsEvent w (event.Call client c now) = Unit {0}
+IsClientsEvent w (event.Deliver number now) = (m : Message) × (numbered_from_1 w.sent number ≡ Some m) × IsClient m.receiver
+IsClientsEvent w (event.Tick n now) = IsClient n
+IsClientsEvent w (event.Restart n now) = IsClient n
+IsClientsEvent w other = ⊥
+
+-- Each event is a server's, a client's or the master's.
+abbrev pub EventsAreOfOneKind : Type 0
+EventsAreOfOneKind = (w : WorldState) (e : Event) → IsServersEvent w e ⊎ (IsClientsEvent w e ⊎ IsMastersEvent w e)
+
+-- Beside the world the mutations that a server may number are for open calls.
+abbrev pub AreOpenCallsKnown : Config → WorldState → Type 0
+AreOpenCallsKnown config w = (ss : List PendingSnapshot) (k : ChunkSides) → IsBeside config w ss k → AreForOpenCalls w k
+
+-- Where a client takes a refusal because its range is too long, it is too long at the machine that is beside the world, once that has placed what was numbered.
+abbrev pub AreTooLong : Config → WorldState → WorldState → Event → Type 0
+AreTooLong config w then_ e =
+    (index moment : ℕ) (s : ClientState) (i : Input) → element_at w.clients index ≡ Some s → GivesClient w e index moment i → (IsFirmInput i → ⊥)
+    → (ss : List PendingSnapshot) (k j : ChunkSides) → IsBeside config w ss k → LeadsTo k.machine j.machine → AreChunksBeside config then_ j → IsSaid j.machine (suc index) s i
+
+-- An event of a client keeps the whole machine beside the world.
+abbrev pub ClientsEventsKeepWorldsWhole : Type 0
+ClientsEventsKeepWorldsWhole =
+    (config : Config) → 1 ≤ config.chunk → (servers clients : ℕ) (w : WorldState) → IsReached config servers clients w → IsTrue (is_kept w)
+    → (e : Event) (choice : Choice) → IsTrue (happens w e choice).world.observer.are_clocks_kept → IsClientsEvent w e
+    → AreOpenCallsKnown config w → AreTooLong config w (happens w e choice).world e
+    → IsWholeWorld config w → IsWholeWorld config (happens w e choice).world
