@@ -53,6 +53,8 @@ use Rattle.protocol_call_laws.specs.ToldIndexes.{IsIndexOf}
 abbrev pub is_no_answer : Body → Bool
 is_no_answer (body.Refused number refusal) = false
 is_no_answer (body.Done id place) = false
+is_no_answer (body.Bytes number bytes) = false
+is_no_answer (body.LenIs number count) = false
 is_no_answer (body.Told number location) = false
 is_no_answer other = true
 
