@@ -8,11 +8,13 @@ use Rattle.messages.specs.declared.event.Event.TheVariants as event
 use Rattle.messages.specs.declared.event.Input.{Input}
 use Rattle.messages.specs.declared.message.Message.{Message}
 use Rattle.relaxed_file.specs.Run.{LeadsTo}
+use Rattle.client_state.specs.declared.call.CurrentCall.{CurrentCall}
 use Rattle.protocol.specs.Choice.{Choice}
 use Rattle.protocol.specs.Tables.{element_at}
 use Rattle.protocol.specs.Client.{ClientState}
 use Rattle.protocol.specs.Master.{PendingSnapshot}
 use Rattle.protocol.specs.World.{WorldState, numbered_from_1, happens, IsReached, is_kept}
+use Rattle.protocol_step_laws.specs.FileCalls.{IsOfFile}
 use Rattle.protocol_machine_laws.specs.ChunksAlike.{ChunkSides}
 use Rattle.protocol_whole_laws.specs.ServerSteps.{AreForOpenCalls}
 use Rattle.protocol_whole_laws.specs.ChunksBeside.{AreChunksBeside, IsMastersEvent}
@@ -46,6 +48,15 @@ abbrev pub AreTooLong : Config → WorldState → WorldState → Event → Type 
 AreTooLong config w then_ e =
     (index moment : ℕ) (s : ClientState) (i : Input) → element_at w.clients index ≡ Some s → GivesClient w e index moment i → (IsFirmInput i → ⊥)
     → (ss : List PendingSnapshot) (k j : ChunkSides) → IsBeside config w ss k → LeadsTo k.machine j.machine → AreChunksBeside config then_ j → IsSaid j.machine (suc index) s i
+
+-- A step of a client for its open call on a file keeps the whole machine beside the world.
+abbrev pub ClientFileStepsKeepWorldsWhole : Type 0
+ClientFileStepsKeepWorldsWhole =
+    (config : Config) (servers clients : ℕ) (w : WorldState) → IsReached config servers clients w → IsTrue (is_kept w)
+    → (e : Event) (choice : Choice) → IsTrue (happens w e choice).world.observer.are_clocks_kept
+    → (index moment : ℕ) (s : ClientState) (i : Input) → element_at w.clients index ≡ Some s → GivesClient w e index moment i → (x : CurrentCall) → s.current ≡ Some x → IsOfFile x.stage
+    → AreOpenCallsKnown config w → AreTooLong config w (happens w e choice).world e
+    → IsWholeWorld config w → IsWholeWorld config (happens w e choice).world
 
 -- An event of a client keeps the whole machine beside the world.
 abbrev pub ClientsEventsKeepWorldsWhole : Type 0
