@@ -76,7 +76,7 @@ module _ (m : Machine) (client own : ℕ) (o : OpenCall) (x : CurrentCall) (s : 
   said_new other b new firm few none = tt
 
 module _ (config : Config) (servers clients : ℕ) (w : WorldState) (r : IsReached config servers clients w) (index : ℕ) (s : ClientState) (at : element_at w.clients index ≡ Some s) (up : IsTrue s.up) where
-  words_at : (m : Machine) (t : ClientState) → t.id ≡ s.id → IsNewCall s t.current → AreOwnWordsSo w.sent m index t
+  pub words_at : (m : Machine) (t : ClientState) → t.id ≡ s.id → IsNewCall s t.current → AreOwnWordsSo w.sent m index t
   words_at m t same new x was to firm = λ c o is open_call.
       let stage : IsNewStage s c.stage = subst (λ (p : Option CurrentCall). IsNewCall s p) is new in
       said_new m (suc index) t.id o c s c.stage x.body stage firm (answers_carry_used_numbers config servers clients w r index s at up was.0 x was.1 to)

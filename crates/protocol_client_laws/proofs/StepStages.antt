@@ -1,15 +1,16 @@
 -- What a step of a client's open call makes of its stage: nothing changed, or what it waits for then has a number that is new, or is its data that were pushed.
 use Rattle.std.proofs.Common.{◌≡◌, ◌⊎◌, ℕ, suc, ◌<◌, List, Option, Some, None, refl, sym, ap, subst, ◌∙◌, inl, inr, arith}
+use Rattle.gfs_types.specs.declared.call.Call.{Call}
 use Rattle.messages.specs.declared.event.Input.{Input}
 use Rattle.messages.specs.declared.event.Input.TheVariants as input
 use Rattle.client_state.specs.declared.call.CurrentCall.{CurrentCall}
 use Rattle.client_state.specs.declared.call.Stage.{Stage}
 use Rattle.client_state.specs.declared.call.Stage.TheVariants.{AskedNames, AskedWhere, MustAskAgain, SentData, SentMutate, SentRead, IsOver, HasAnswer}
 use Rattle.protocol.specs.Client.{ClientState, ClientDoing, client_begins}
-use Rattle.protocol.specs.ClientStep.{client_at, client_goes}
+use Rattle.protocol.specs.ClientStep.{client_at, client_goes, client_call_goes}
 use Rattle.protocol_laws.proofs.ServerMoves.{IsCameIn}
 use Rattle.protocol_step_laws.specs.Attempts.{waited_data, data_number}
-use Rattle.protocol_step_laws.proofs.ClientWalk.{IsIdle, HoldsAt, KeepsClient, step_kept}
+use Rattle.protocol_step_laws.proofs.ClientWalk.{IsIdle, HoldsAt, KeepsClient, KeepsCalls, step_kept, call_kept}
 
 -- it waits for nothing, or under a number that is new, or for the data that were pushed
 abbrev pub IsNewStage : ClientState → Stage → Type 0
@@ -67,6 +68,15 @@ module _ (s : ClientState) where
         naming = λ d c end h. inr (h.0, tt);
       }
 
+  in_calls : KeepsCalls s (IsSameHand s) (IsSameHand s) (IsNextStep s)
+  in_calls =
+      record {
+        replies = λ reply. inr (refl, tt);
+        closes = λ fd file there. inr (refl, tt);
+        named = λ c. (refl, refl);
+        filed = λ c file index last there. (refl, refl);
+      }
+
   at_stage : (c : CurrentCall) (st : Stage) → HoldsAt s (IsSameHand s) (IsSameHand s) c st
   at_stage c AskedNames = (refl, refl)
   at_stage c (AskedWhere number) = (refl, refl)
@@ -85,3 +95,12 @@ pub next_step : (s : ClientState) (moment : ℕ) (i : Input) → IsNextStep (cli
 next_step s moment i =
     let now : ClientState = client_at s moment in
     step_kept now (λ b. Unit {0}) (IsSameHand now) (IsSameHand now) (λ d c l. Unit {0}) (λ d c chunk left. Unit {0}) (IsNextStep now) (in_steps now) i s.current refl (all_came i) (λ c is. at_stage now c c.stage) (inl refl)
+
+-- so it is of a call that begins where none is open
+pub next_call : (s : ClientState) (moment : ℕ) (c : Call) → s.current ≡ None → ((client_call_goes s moment c).client.id ≡ s.id) × IsNewCall s (client_call_goes s moment c).client.current
+next_call s moment c none =
+    let now : ClientState = client_at s moment in
+    elim (call_kept now (λ b. Unit {0}) (IsSameHand now) (IsSameHand now) (λ d e l. Unit {0}) (λ d e chunk left. Unit {0}) (IsNextStep now) (in_steps now) (in_calls now) c (inl refl)) [
+      | inl same ↦ subst (λ (d : ClientDoing). (d.client.id ≡ s.id) × IsNewCall s d.client.current) (sym same) (refl, subst (λ (o : Option CurrentCall). IsNewCall s o) (sym none) tt)
+      | inr new ↦ new
+    ]

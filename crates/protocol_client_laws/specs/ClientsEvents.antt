@@ -1,14 +1,19 @@
 -- Which events are a client's, and what they keep (sections 2.3 and 2.7).
-use Rattle.std.specs.Prelude.{◌≡◌, ◌⊎◌, ℕ, suc, ◌≤◌, List, Some, IsTrue}
+use Rattle.std.specs.Prelude.{◌≡◌, ◌⊎◌, ℕ, suc, ◌≤◌, List, Some, None, IsTrue, IsFalse}
 use Rattle.gfs_types.specs.declared.config.Config.{Config}
+use Rattle.gfs_types.specs.declared.call.Call.{Call}
+use Rattle.gfs_types.specs.declared.ids.ClientId.{ClientId}
+use Rattle.gfs_types.specs.declared.ids.Moment.{Moment}
 use Rattle.gfs_types.specs.declared.ids.Node.{Node}
 use Rattle.gfs_types.specs.declared.ids.Node.TheVariants as node
 use Rattle.messages.specs.declared.event.Event.{Event}
 use Rattle.messages.specs.declared.event.Event.TheVariants as event
 use Rattle.messages.specs.declared.event.Input.{Input}
 use Rattle.messages.specs.declared.message.Message.{Message}
+use Rattle.relaxed_file.specs.NameStep.{is_name_call}
 use Rattle.relaxed_file.specs.Run.{LeadsTo}
 use Rattle.client_state.specs.declared.call.CurrentCall.{CurrentCall}
+use Rattle.client_state.specs.declared.call.Stage.TheVariants.{AskedNames}
 use Rattle.protocol.specs.Choice.{Choice}
 use Rattle.protocol.specs.Tables.{element_at}
 use Rattle.protocol.specs.Client.{ClientState}
@@ -58,10 +63,31 @@ ClientFileStepsKeepWorldsWhole =
     → AreOpenCallsKnown config w → AreTooLong config w (happens w e choice).world e
     → IsWholeWorld config w → IsWholeWorld config (happens w e choice).world
 
--- An event of a client keeps the whole machine beside the world.
+-- So does a message or a tick that a client gets that has no call, or that is down.
+abbrev pub IdleStepsKeepWorldsWhole : Type 0
+IdleStepsKeepWorldsWhole =
+    (config : Config) (servers clients : ℕ) (w : WorldState) → IsReached config servers clients w → IsTrue (is_kept w)
+    → (e : Event) (choice : Choice) → IsTrue (happens w e choice).world.observer.are_clocks_kept
+    → (index moment : ℕ) (s : ClientState) (i : Input) → element_at w.clients index ≡ Some s → GivesClient w e index moment i → (s.current ≡ None) ⊎ IsFalse s.up
+    → AreOpenCallsKnown config w → IsWholeWorld config w → IsWholeWorld config (happens w e choice).world
+
+-- So does a call on a file as it is made: it is begun, refused or answered at once, or the client stops.
+abbrev pub FileCallsKeepWorldsWhole : Type 0
+FileCallsKeepWorldsWhole =
+    (config : Config) → 1 ≤ config.chunk → (servers clients : ℕ) (w : WorldState) → IsReached config servers clients w → IsTrue (is_kept w)
+    → (client : ClientId) (c : Call) (now : Moment) (choice : Choice) → IsFalse (is_name_call c) → IsTrue (happens w (event.Call client c now) choice).world.observer.are_clocks_kept
+    → AreOpenCallsKnown config w → IsWholeWorld config w → IsWholeWorld config (happens w (event.Call client c now) choice).world
+
+-- A name call is made, or its client gets a message or a tick.
+abbrev pub IsOfNames : WorldState → Event → Type 0
+IsOfNames w (event.Call client c now) = IsTrue (is_name_call c)
+IsOfNames w e =
+    (index : ℕ) × (moment : ℕ) × (s : ClientState) × (i : Input) × (element_at w.clients index ≡ Some s) × GivesClient w e index moment i × (x : CurrentCall) × (s.current ≡ Some x) × (x.stage ≡ AskedNames)
+
+-- An event of a client keeps the whole machine beside the world, where those of name calls do.
 abbrev pub ClientsEventsKeepWorldsWhole : Type 0
 ClientsEventsKeepWorldsWhole =
     (config : Config) → 1 ≤ config.chunk → (servers clients : ℕ) (w : WorldState) → IsReached config servers clients w → IsTrue (is_kept w)
     → (e : Event) (choice : Choice) → IsTrue (happens w e choice).world.observer.are_clocks_kept → IsClientsEvent w e
-    → AreOpenCallsKnown config w → AreTooLong config w (happens w e choice).world e
+    → AreOpenCallsKnown config w → AreTooLong config w (happens w e choice).world e → (IsOfNames w e → IsWholeWorld config (happens w e choice).world)
     → IsWholeWorld config w → IsWholeWorld config (happens w e choice).world
