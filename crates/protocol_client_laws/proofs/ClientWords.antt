@@ -1,5 +1,5 @@
 -- A client tells nothing that was asked of others; and in each world that is reached, what it is answered was asked under a number that it used.
-use Rattle.std.proofs.Common.{◌≡◌, ◌⊎◌, ℕ, suc, ◌-◌, ◌≤◌, true, false, true≢false, List, [], ◌∷◌, ◌++◌, length, Option, Some, None, refl, sym, ap, subst, ◌∙◌, inl, inr}
+use Rattle.std.proofs.Common.{◌≡◌, ◌⊎◌, ℕ, suc, ◌≤◌, true, true≢false, List, [], ◌∷◌, ◌++◌, length, Option, Some, None, refl, sym, subst, ◌∙◌, inl, inr}
 use Rattle.std.specs.Prelude.{IsTrue}
 use Rattle.std.specs.Option.{option_to_list}
 use Rattle.gfs_types.specs.declared.config.Config.{Config}
@@ -9,8 +9,6 @@ use Rattle.gfs_types.specs.declared.ids.DataId.{DataId}
 use Rattle.gfs_types.specs.declared.call.Call.{Call}
 use Rattle.gfs_types.specs.declared.refusal.Refusal.{Refusal}
 use Rattle.gfs_types.specs.declared.refusal.Refusal.TheVariants.{NoLease}
-use Rattle.messages.specs.declared.event.Event.{Event}
-use Rattle.messages.specs.declared.event.Event.TheVariants as event
 use Rattle.messages.specs.declared.event.Input.{Input}
 use Rattle.messages.specs.declared.event.Input.TheVariants as input
 use Rattle.messages.specs.declared.message.Body.{Body}
@@ -39,7 +37,7 @@ use Rattle.protocol_entry_laws.specs.Entries.{IsAmong}
 use Rattle.protocol_entry_laws.specs.AnsweredAttempts.{IsFinal}
 use Rattle.protocol_entry_laws.proofs.RisingRounds.{restart_silent}
 use Rattle.protocol_entry_laws.proofs.UsedAnswers.{IsReading}
-use Rattle.protocol_entry_laws.proofs.AnsweredAttempts.{Reads, IsSpentUp, answers_known}
+use Rattle.protocol_entry_laws.proofs.AnsweredAttempts.{IsSpentUp, answers_known}
 use Rattle.protocol_call_laws.specs.RefusedAsks.{HasAsk}
 use Rattle.protocol_call_laws.proofs.Answerers.{came_to}
 use Rattle.protocol_client_laws.specs.ClientWords.{IsNoTelling, ClientsTellNothing, IsOfUsed, AnswersCarryUsedNumbers}
@@ -92,7 +90,6 @@ IsAnswered sent sender receiver other = Unit {0}
 
 abbrev Answers : List Message → Message → Type 0
 Answers sent m = IsAnswered sent m.sender m.receiver m.body
-
 
 telling_none : (sent : List Message) (sender receiver : Node) (b : Body) → IsNoTelling b → IsAnswered sent sender receiver b
 telling_none sent sender receiver (body.Told number l) none = absurd none

@@ -1,11 +1,10 @@
 -- Each event of a client keeps a whole machine beside the world, where those of name calls do.
-use Rattle.std.proofs.Common.{◌≡◌, ◌⊎◌, ℕ, zero, suc, ◌-◌, ◌≤◌, Bool, true, false, max, List, [], ◌∷◌, ◌++◌, length, Option, Some, None, refl, sym, ap, subst, ◌∙◌, inl, inr, arith}
-use Rattle.std.specs.Prelude.{nat_lt, nat_le, ◌&&◌, is_none, IsTrue, IsFalse}
+use Rattle.std.proofs.Common.{◌≡◌, ◌⊎◌, ℕ, zero, suc, ◌-◌, ◌≤◌, Bool, true, false, max, List, Option, Some, None, refl, sym, ap, subst, ◌∙◌, inl, inr, arith}
+use Rattle.std.specs.Prelude.{nat_le, ◌&&◌, is_none, IsTrue, IsFalse}
 use Rattle.std.proofs.lemmas.Bool.{true≢false, and_parts}
 use Rattle.std.proofs.Math.Nat.{le-max_right}
 use Rattle.gfs_types.specs.declared.config.Config.{Config}
 use Rattle.gfs_types.specs.declared.call.Call.{Call}
-use Rattle.gfs_types.specs.declared.answer.Answer.{Answer}
 use Rattle.gfs_types.specs.declared.ids.ClientId.{ClientId}
 use Rattle.gfs_types.specs.declared.ids.Moment.{Moment}
 use Rattle.gfs_types.specs.declared.ids.Node.{Node}
@@ -36,7 +35,6 @@ use Rattle.protocol_step_laws.proofs.RequestsOnce.{numbered_reached}
 use Rattle.protocol_name_laws.specs.Beside.{answered_trace}
 use Rattle.protocol_name_laws.proofs.BesideClientsBeside.{passed_trace}
 use Rattle.protocol_name_laws.proofs.Worlds.{passed_once}
-use Rattle.protocol_machine_laws.specs.ChunksAlike.{ChunkSides}
 use Rattle.protocol_whole_laws.specs.ChunksBeside.{IsMastersEvent}
 use Rattle.protocol_whole_laws.specs.WholeWorlds.{IsWholeWorld}
 use Rattle.protocol_whole_laws.specs.WholeClients.{GivesClient}
@@ -46,7 +44,7 @@ use Rattle.protocol_whole_laws.proofs.WholeWorlds.{on_left}
 use Rattle.protocol_client_laws.specs.ClientsEvents.{IsClient, IsClientsEvent, AreOpenCallsKnown, AreTooLong, IdleStepsKeepWorldsWhole, FileCallsKeepWorldsWhole, IsOfNames, ClientsEventsKeepWorldsWhole}
 use Rattle.protocol_client_laws.proofs.ClientWords.{step_asks, call_asks}
 use Rattle.protocol_client_laws.proofs.ClientsFileSteps.{client_file_steps_keep_worlds_whole}
-use Rattle.protocol_client_laws.proofs.ClientsGo.{stands_beside, idle_stands, call_stands, calling}
+use Rattle.protocol_client_laws.proofs.ClientsGo.{stands_beside, idle_stands, call_stands}
 
 -- a step without a call
 

@@ -1,11 +1,9 @@
 -- A client's step for its open call on a file keeps a whole machine beside the world, where calls are known and refusals for length are so.
-use Rattle.std.proofs.Common.{◌≡◌, ◌⊎◌, ℕ, zero, suc, List, [], ◌∷◌, ◌++◌, length, Option, Some, None, refl, sym, ap, subst, ◌∙◌, inl, inr, arith}
-use Rattle.std.specs.Prelude.{IsTrue}
+use Rattle.std.proofs.Common.{◌≡◌, ℕ, suc, List, [], ◌∷◌, ◌++◌, length, Some, ap, subst, ◌∙◌}
 use Rattle.std.proofs.lemmas.List.{append-nil}
 use Rattle.gfs_types.specs.declared.config.Config.{Config}
 use Rattle.messages.specs.declared.event.Event.{Event}
 use Rattle.messages.specs.declared.event.Input.{Input}
-use Rattle.messages.specs.declared.event.Input.TheVariants as input
 use Rattle.messages.specs.declared.message.Body.{Body}
 use Rattle.messages.specs.declared.message.Body.TheVariants as body
 use Rattle.messages.specs.declared.message.Message.{Message}
@@ -21,15 +19,14 @@ use Rattle.protocol.specs.World.{WorldState, Happened, nothing_happens, stamped,
 use Rattle.protocol_laws.proofs.Steps.{none_some}
 use Rattle.protocol_laws.proofs.Entries.{AllOf}
 use Rattle.protocol_laws.proofs.MembersRecorded.{all_at}
-use Rattle.protocol_laws.proofs.MessagesSent.{IsSent, IsSameMessage, numbered_sent}
+use Rattle.protocol_laws.proofs.MessagesSent.{numbered_sent}
 use Rattle.protocol_step_laws.proofs.RequestsOnce.{numbered_reached}
-use Rattle.protocol_name_laws.specs.Beside.{WasSent}
 use Rattle.protocol_whole_laws.specs.FileClients.{IsSaidAt}
 use Rattle.protocol_whole_laws.specs.WholeWorlds.{AreWordsSo}
-use Rattle.protocol_whole_laws.specs.WholeClients.{GivesClient, AreClientsTrue}
+use Rattle.protocol_whole_laws.specs.WholeClients.{GivesClient}
 use Rattle.protocol_whole_laws.proofs.WholeClients.{event_case, file_steps_keep_worlds_whole}
 use Rattle.protocol_client_laws.specs.ClientWords.{IsNoTelling}
-use Rattle.protocol_client_laws.specs.ClientsEvents.{AreOpenCallsKnown, AreTooLong, ClientFileStepsKeepWorldsWhole}
+use Rattle.protocol_client_laws.specs.ClientsEvents.{ClientFileStepsKeepWorldsWhole}
 use Rattle.protocol_client_laws.proofs.ClientWords.{step_asks}
 use Rattle.protocol_client_laws.proofs.FileWords.{waits_so}
 

@@ -1,23 +1,20 @@
 -- A client that has no call takes a step, or is called on a file: a whole machine stays beside the world.
-use Rattle.std.proofs.Common.{◌≡◌, ◌⊎◌, ⊎_elim, ℕ, suc, ◌-◌, ◌+◌, ◌≤◌, Bool, true, false, max, List, [], ◌∷◌, ◌++◌, length, Option, Some, None, refl, sym, ap, subst, ◌∙◌, inl, inr, arith}
-use Rattle.std.specs.Prelude.{nat_le, ◌&&◌, is_none, IsTrue}
-use Rattle.std.specs.Option.{option_to_list}
+use Rattle.std.proofs.Common.{◌≡◌, ⊎_elim, ℕ, suc, ◌≤◌, Bool, true, false, max, List, [], ◌∷◌, ◌++◌, length, Option, Some, None, refl, sym, ap, subst, ◌∙◌, arith}
+use Rattle.std.specs.Prelude.{IsTrue}
 use Rattle.std.specs.List.{list_all}
 use Rattle.std.proofs.lemmas.Bool.{true≢false}
 use Rattle.std.proofs.Math.Nat.{le-max_left, le-max_right, max-le}
 use Rattle.gfs_types.specs.declared.config.Config.{Config}
 use Rattle.gfs_types.specs.declared.call.Call.{Call}
-use Rattle.gfs_types.specs.declared.answer.Answer.{Answer}
 use Rattle.gfs_types.specs.declared.answer.Answer.TheVariants as answer
 use Rattle.gfs_types.specs.declared.refusal.Refusal.TheVariants.{NoMemory}
 use Rattle.messages.specs.declared.event.Event.{Event}
-use Rattle.messages.specs.declared.event.Event.TheVariants as event
 use Rattle.messages.specs.declared.event.Input.{Input}
 use Rattle.messages.specs.declared.event.Input.TheVariants as input
 use Rattle.messages.specs.declared.message.Message.{Message}
 use Rattle.relaxed_file.specs.Machine.{Machine, new_machine}
 use Rattle.relaxed_file.specs.NameStep.{is_name_call}
-use Rattle.relaxed_file.specs.Run.{Action, Invoke, IsLawful, Visible, Called, after, after_all, Allows, IsReached, IsRunTo, LeadsTo}
+use Rattle.relaxed_file.specs.Run.{Action, Invoke, IsLawful, Visible, Called, after, after_all, Allows, IsReached, IsRunTo}
 use Rattle.relaxed_file.proofs.Reached.{leads_on, leads_by}
 use Rattle.relaxed_file.proofs.Tables.{put_same, put_other}
 use Rattle.name_projections.specs.Laws.{AreNamesOf}
@@ -29,7 +26,6 @@ use Rattle.protocol.specs.Tables.{element_at, with_at}
 use Rattle.protocol.specs.Choice.{Choice, Ending, Goes, Lost, Stops}
 use Rattle.protocol.specs.Seen.{Taken, no_step, down_output}
 use Rattle.protocol.specs.MasterSnapshots.{first_is_true}
-use Rattle.protocol.specs.Sending.{the_client}
 use Rattle.protocol.specs.Master.{PendingSnapshot}
 use Rattle.protocol.specs.Client.{ClientState, ClientDoing, client_begins, stopped_client, answers}
 use Rattle.protocol.specs.ClientStep.{client_at, client_does, client_goes, client_call_goes, client_ends, client_step, client_call, may_step}

@@ -1,40 +1,26 @@
 -- What was sent to a client stays so for the stage to which its step comes.
-use Rattle.std.proofs.Common.{◌≡◌, ◌⊎◌, ℕ, suc, ◌+◌, ◌≤◌, ◌<◌, Bool, true, false, List, [], ◌++◌, Option, Some, None, refl, sym, ap, subst, ◌∙◌, inl, inr, arith}
-use Rattle.std.specs.Prelude.{◌&&◌, IsTrue}
+use Rattle.std.proofs.Common.{◌≡◌, ℕ, suc, ◌≤◌, ◌<◌, [], Option, Some, refl, sym, subst, ◌∙◌, inl, inr, arith}
+use Rattle.std.specs.Prelude.{IsTrue}
 use Rattle.gfs_types.specs.declared.config.Config.{Config}
 use Rattle.gfs_types.specs.declared.ids.DataId.{DataId}
 use Rattle.gfs_types.specs.declared.refusal.Refusal.{Refusal}
-use Rattle.gfs_types.specs.declared.refusal.Refusal.TheVariants.{TooLong, Collected, NoLease}
-use Rattle.gfs_types.specs.declared.answer.Answer.{Answer}
-use Rattle.messages.specs.declared.event.Event.{Event}
+use Rattle.gfs_types.specs.declared.refusal.Refusal.TheVariants.{TooLong, NoLease}
 use Rattle.messages.specs.declared.event.Input.{Input}
-use Rattle.messages.specs.declared.event.Input.TheVariants as input
 use Rattle.messages.specs.declared.message.Body.{Body}
 use Rattle.messages.specs.declared.message.Body.TheVariants as body
-use Rattle.messages.specs.declared.message.Message.{Message}
-use Rattle.relaxed_file.specs.Machine.{Machine, OpenCall, IsOpen}
+use Rattle.relaxed_file.specs.Machine.{Machine, OpenCall}
 use Rattle.relaxed_file.specs.Run.{after_all}
 use Rattle.client_state.specs.declared.call.CurrentCall.{CurrentCall}
 use Rattle.client_state.specs.declared.call.Stage.{Stage}
-use Rattle.client_state.specs.declared.call.Stage.TheVariants.{AskedNames, AskedWhere, MustAskAgain, SentData, SentMutate, SentRead, IsOver, HasAnswer}
-use Rattle.protocol.specs.Choice.{Choice}
+use Rattle.client_state.specs.declared.call.Stage.TheVariants.{AskedWhere, SentMutate, SentRead}
 use Rattle.protocol.specs.Tables.{element_at}
-use Rattle.protocol.specs.Sending.{the_client}
 use Rattle.protocol.specs.Client.{ClientState, ClientDoing, client_begins}
 use Rattle.protocol.specs.ClientStep.{client_at, client_goes}
-use Rattle.protocol.specs.World.{WorldState, new_world, happens, after_events, IsReached}
-use Rattle.protocol_laws.proofs.Steps.{none_some, same_some}
-use Rattle.protocol_laws.proofs.MembersRecorded.{kept_place}
-use Rattle.protocol_step_laws.specs.Attempts.{is_from_client, is_mutate, mutates_under, waited_data}
-use Rattle.protocol_step_laws.proofs.RequestsOnce.{IsNumbered, numbered_reached}
-use Rattle.protocol_entry_laws.specs.Entries.{IsAmong}
-use Rattle.protocol_entry_laws.specs.Successes.{WasShown, IsShownNow, IsSettledAs}
-use Rattle.protocol_entry_laws.proofs.Successes.{successes_were_settled}
-use Rattle.protocol_name_laws.specs.Beside.{WasSent}
-use Rattle.protocol_name_laws.specs.FollowedClients.{answer_shown}
-use Rattle.protocol_whole_laws.specs.FileClients.{IsFileClient, IsRefusedAt, IsSaidAt, IsSaid, IsFollowed}
+use Rattle.protocol.specs.World.{WorldState, IsReached}
+use Rattle.protocol_step_laws.specs.Attempts.{waited_data}
+use Rattle.protocol_step_laws.proofs.RequestsOnce.{numbered_reached}
+use Rattle.protocol_whole_laws.specs.FileClients.{IsFileClient, IsRefusedAt, IsSaidAt, IsFollowed}
 use Rattle.protocol_whole_laws.specs.FileClientsStay.{IsFirm}
-use Rattle.protocol_whole_laws.specs.WholeWorlds.{AreWordsSo, AreFileClients}
 use Rattle.protocol_whole_laws.specs.WholeClients.{AreOwnWordsSo}
 use Rattle.protocol_whole_laws.proofs.FileWalk.{same_elsewhere}
 use Rattle.protocol_client_laws.specs.ClientWords.{IsOfUsed}

@@ -25,7 +25,7 @@ use Rattle.protocol_whole_laws.specs.ServerSteps.{AreForOpenCalls}
 use Rattle.protocol_whole_laws.specs.ChunksBeside.{AreChunksBeside, IsMastersEvent}
 use Rattle.protocol_whole_laws.specs.FileClients.{IsSaid}
 use Rattle.protocol_whole_laws.specs.FileClientsStay.{IsFirmInput}
-use Rattle.protocol_whole_laws.specs.WholeWorlds.{AreFileClients, IsBeside, IsWholeWorld, IsServersEvent}
+use Rattle.protocol_whole_laws.specs.WholeWorlds.{IsBeside, IsWholeWorld, IsServersEvent}
 use Rattle.protocol_whole_laws.specs.WholeClients.{GivesClient}
 
 abbrev pub IsClient : Node → Type 0
