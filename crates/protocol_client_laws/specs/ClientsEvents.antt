@@ -71,23 +71,25 @@ IdleStepsKeepWorldsWhole =
     → (index moment : ℕ) (s : ClientState) (i : Input) → element_at w.clients index ≡ Some s → GivesClient w e index moment i → (s.current ≡ None) ⊎ IsFalse s.up
     → AreOpenCallsKnown config w → IsWholeWorld config w → IsWholeWorld config (happens w e choice).world
 
--- So does a call on a file as it is made: it is begun, refused or answered at once, or the client stops.
-abbrev pub FileCallsKeepWorldsWhole : Type 0
-FileCallsKeepWorldsWhole =
+-- So does one that a client gets that waits for the answer to its name call: it waits on, is answered or gives up, or stops.
+abbrev pub NameStepsKeepWorldsWhole : Type 0
+NameStepsKeepWorldsWhole =
+    (config : Config) (servers clients : ℕ) (w : WorldState) → IsReached config servers clients w → IsTrue (is_kept w)
+    → (e : Event) (choice : Choice) → IsTrue (happens w e choice).world.observer.are_clocks_kept
+    → (index moment : ℕ) (s : ClientState) (i : Input) → element_at w.clients index ≡ Some s → GivesClient w e index moment i → (x : CurrentCall) → s.current ≡ Some x → x.stage ≡ AskedNames
+    → AreOpenCallsKnown config w → IsWholeWorld config w → IsWholeWorld config (happens w e choice).world
+
+-- So does a call as it is made, of names or on a file: it is begun, refused or answered at once, or the client stops.
+abbrev pub CallsKeepWorldsWhole : Type 0
+CallsKeepWorldsWhole =
     (config : Config) → 1 ≤ config.chunk → (servers clients : ℕ) (w : WorldState) → IsReached config servers clients w → IsTrue (is_kept w)
-    → (client : ClientId) (c : Call) (now : Moment) (choice : Choice) → IsFalse (is_name_call c) → IsTrue (happens w (event.Call client c now) choice).world.observer.are_clocks_kept
+    → (client : ClientId) (c : Call) (now : Moment) (choice : Choice) → IsTrue (happens w (event.Call client c now) choice).world.observer.are_clocks_kept
     → AreOpenCallsKnown config w → IsWholeWorld config w → IsWholeWorld config (happens w (event.Call client c now) choice).world
 
--- A name call is made, or its client gets a message or a tick.
-abbrev pub IsOfNames : WorldState → Event → Type 0
-IsOfNames w (event.Call client c now) = IsTrue (is_name_call c)
-IsOfNames w e =
-    (index : ℕ) × (moment : ℕ) × (s : ClientState) × (i : Input) × (element_at w.clients index ≡ Some s) × GivesClient w e index moment i × (x : CurrentCall) × (s.current ≡ Some x) × (x.stage ≡ AskedNames)
-
--- An event of a client keeps the whole machine beside the world, where those of name calls do.
+-- An event of a client keeps the whole machine beside the world.
 abbrev pub ClientsEventsKeepWorldsWhole : Type 0
 ClientsEventsKeepWorldsWhole =
     (config : Config) → 1 ≤ config.chunk → (servers clients : ℕ) (w : WorldState) → IsReached config servers clients w → IsTrue (is_kept w)
     → (e : Event) (choice : Choice) → IsTrue (happens w e choice).world.observer.are_clocks_kept → IsClientsEvent w e
-    → AreOpenCallsKnown config w → AreTooLong config w (happens w e choice).world e → (IsOfNames w e → IsWholeWorld config (happens w e choice).world)
+    → AreOpenCallsKnown config w → AreTooLong config w (happens w e choice).world e
     → IsWholeWorld config w → IsWholeWorld config (happens w e choice).world

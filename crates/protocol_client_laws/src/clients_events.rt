@@ -1,6 +1,6 @@
 //! Laws of the whole machine beside a world at the events of clients.
 
-ghost use Rattle.protocol_client_laws.specs.ClientsEvents.{ClientFileStepsKeepWorldsWhole, ClientsEventsKeepWorldsWhole, EventsAreOfOneKind, FileCallsKeepWorldsWhole, IdleStepsKeepWorldsWhole};
+ghost use Rattle.protocol_client_laws.specs.ClientsEvents.{CallsKeepWorldsWhole, ClientFileStepsKeepWorldsWhole, ClientsEventsKeepWorldsWhole, EventsAreOfOneKind, IdleStepsKeepWorldsWhole, NameStepsKeepWorldsWhole};
 
 /// Each event is a server's, a client's or the master's.
 pub fn events_are_of_one_kind()
@@ -17,12 +17,17 @@ pub fn idle_steps_keep_worlds_whole()
     ensures { IdleStepsKeepWorldsWhole }
 {}
 
-/// So does a call on a file as it is made.
-pub fn file_calls_keep_worlds_whole()
-    ensures { FileCallsKeepWorldsWhole }
+/// So does one that a client gets that waits for the answer to its name call.
+pub fn name_steps_keep_worlds_whole()
+    ensures { NameStepsKeepWorldsWhole }
 {}
 
-/// So does each event of a client, where those of name calls do.
+/// So does a call as it is made, of names or on a file.
+pub fn calls_keep_worlds_whole()
+    ensures { CallsKeepWorldsWhole }
+{}
+
+/// So does each event of a client.
 pub fn clients_events_keep_worlds_whole()
     ensures { ClientsEventsKeepWorldsWhole }
 {}
