@@ -83,7 +83,7 @@ client_file_steps_keep_worlds_whole config servers clients w r kept e choice clo
     file_steps_keep_worlds_whole config servers clients w r kept e choice clocks index moment s i at given x is of
     (record {
       numbers = known;
-      heard = λ up ss k j beside leads chunks loose. long index moment s i at given loose ss k j beside leads chunks;
+      heard = λ up ss k j beside leads chunks run files loose. long index moment s i at up given loose ss k j beside leads chunks run files;
       waits = λ up ss k m beside leads files words f. waits_so config servers clients w r index s at up moment i m (files index s at up) (words index s at up) f;
       says = says config servers clients w r e choice index moment s i at given;
     }) h

@@ -11,12 +11,13 @@ use Rattle.messages.specs.declared.event.Event.TheVariants as event
 use Rattle.messages.specs.declared.event.Input.{Input}
 use Rattle.messages.specs.declared.message.Message.{Message}
 use Rattle.relaxed_file.specs.NameStep.{is_name_call}
-use Rattle.relaxed_file.specs.Run.{LeadsTo}
+use Rattle.relaxed_file.specs.Run.{LeadsTo, IsRunTo}
 use Rattle.client_state.specs.declared.call.CurrentCall.{CurrentCall}
 use Rattle.client_state.specs.declared.call.Stage.TheVariants.{AskedNames}
 use Rattle.protocol.specs.Choice.{Choice}
 use Rattle.protocol.specs.Tables.{element_at}
 use Rattle.protocol.specs.Client.{ClientState}
+use Rattle.protocol.specs.Observer.{observed_moment}
 use Rattle.protocol.specs.Master.{PendingSnapshot}
 use Rattle.protocol.specs.World.{WorldState, numbered_from_1, happens, IsReached, is_kept}
 use Rattle.protocol_step_laws.specs.FileCalls.{IsOfFile}
@@ -25,7 +26,7 @@ use Rattle.protocol_whole_laws.specs.ServerSteps.{AreForOpenCalls}
 use Rattle.protocol_whole_laws.specs.ChunksBeside.{AreChunksBeside, IsMastersEvent}
 use Rattle.protocol_whole_laws.specs.FileClients.{IsSaid}
 use Rattle.protocol_whole_laws.specs.FileClientsStay.{IsFirmInput}
-use Rattle.protocol_whole_laws.specs.WholeWorlds.{IsBeside, IsWholeWorld, IsServersEvent}
+use Rattle.protocol_whole_laws.specs.WholeWorlds.{AreFileClients, IsBeside, IsWholeWorld, IsServersEvent}
 use Rattle.protocol_whole_laws.specs.WholeClients.{GivesClient}
 
 abbrev pub IsClient : Node → Type 0
@@ -51,8 +52,9 @@ AreOpenCallsKnown config w = (ss : List PendingSnapshot) (k : ChunkSides) → Is
 -- Where a client takes a refusal because its range is too long, it is too long at the machine that is beside the world, once that has placed what was numbered.
 abbrev pub AreTooLong : Config → WorldState → WorldState → Event → Type 0
 AreTooLong config w then_ e =
-    (index moment : ℕ) (s : ClientState) (i : Input) → element_at w.clients index ≡ Some s → GivesClient w e index moment i → (IsFirmInput i → ⊥)
-    → (ss : List PendingSnapshot) (k j : ChunkSides) → IsBeside config w ss k → LeadsTo k.machine j.machine → AreChunksBeside config then_ j → IsSaid j.machine (suc index) s i
+    (index moment : ℕ) (s : ClientState) (i : Input) → element_at w.clients index ≡ Some s → IsTrue s.up → GivesClient w e index moment i → (IsFirmInput i → ⊥)
+    → (ss : List PendingSnapshot) (k j : ChunkSides) → IsBeside config w ss k → LeadsTo k.machine j.machine → AreChunksBeside config then_ j
+    → IsRunTo config (observed_moment w.config.skew_ms w.observer moment).trace j.machine → AreFileClients w.clients j.machine → IsSaid j.machine (suc index) s i
 
 -- A step of a client for its open call on a file keeps the whole machine beside the world.
 abbrev pub ClientFileStepsKeepWorldsWhole : Type 0
