@@ -1,5 +1,5 @@
 -- Each event of a client keeps a whole machine beside the world.
-use Rattle.std.proofs.Common.{◌≡◌, ◌⊎◌, ℕ, zero, suc, ◌-◌, ◌≤◌, Bool, true, false, max, List, Option, Some, None, refl, sym, ap, subst, ◌∙◌, inl, inr, arith, []}
+use Rattle.std.proofs.Common.{◌≡◌, ◌⊎◌, ℕ, zero, suc, ◌-◌, ◌≤◌, Bool, true, max, List, Option, Some, None, refl, sym, ap, subst, ◌∙◌, inl, inr, arith, []}
 use Rattle.std.specs.Prelude.{nat_le, ◌&&◌, is_none, IsTrue, IsFalse}
 use Rattle.std.proofs.lemmas.Bool.{true≢false, and_parts}
 use Rattle.std.proofs.Math.Nat.{le-max_right}
@@ -14,7 +14,6 @@ use Rattle.messages.specs.declared.event.Event.TheVariants as event
 use Rattle.messages.specs.declared.event.Input.{Input}
 use Rattle.messages.specs.declared.event.Input.TheVariants as input
 use Rattle.messages.specs.declared.message.Message.{Message}
-use Rattle.relaxed_file.specs.NameStep.{is_name_call}
 use Rattle.relaxed_file.specs.Run.{Visible}
 use Rattle.client_state.specs.declared.call.CurrentCall.{CurrentCall}
 use Rattle.client_state.specs.declared.call.Stage.{Stage}
@@ -46,7 +45,6 @@ use Rattle.protocol_whole_laws.specs.WholeWorlds.{HasMachine, IsWholeWorld}
 use Rattle.protocol_whole_laws.specs.WholeClients.{GivesClient}
 use Rattle.protocol_whole_laws.proofs.ChunksBeside.{master_left}
 use Rattle.protocol_whole_laws.proofs.WholeClients.{came, not_masters, event_case, answered_fields}
-use Rattle.protocol_whole_laws.proofs.WholeWorlds.{on_left}
 use Rattle.protocol_client_laws.specs.ClientsEvents.{IsClient, IsClientsEvent, AreOpenCallsKnown, AreTooLong, IdleStepsKeepWorldsWhole, NameStepsKeepWorldsWhole, CallsKeepWorldsWhole, ClientsEventsKeepWorldsWhole}
 use Rattle.protocol_client_laws.proofs.ClientWords.{step_asks, call_asks}
 use Rattle.protocol_client_laws.proofs.ClientsFileSteps.{client_file_steps_keep_worlds_whole}
@@ -98,21 +96,21 @@ module _ (config : Config) (servers clients : ℕ) (w : WorldState) (r : IsReach
     module _ (stands : (up : IsTrue s.up) (l : Logged) (ss : List PendingSnapshot) → (b : HasMachine config w l ss) → IsAskedFor w.sent (b.0).log ss
         → Stands config servers clients w r kept e choice clocks (not_masters w e index moment i given) known index moment s at up ss b.0 b.2 (answered_trace (suc index) t.out.answer (passed_trace w.observer.greatest moment w.observer.trace)) t)
       where
-      stood_whole : IsWholeWorld config (happens w e choice).world
-      stood_whole =
-          elim (cases) [
-            | inl is ↦ nothing_kept is
-            | inr goes ↦
-                let same : u ≡ (happens w e choice).world = sym (ap (λ (z : Happened). z.world) goes.1) in
-                let fields = answered_fields (observed_moment w.config.skew_ms w.observer moment) (suc index) t.out.answer in
-                asked_left config servers clients w r (happens w e choice).world (master_left w e choice (not_masters w e index moment i given))
-                (λ l ss asked b.
-                let moved_asked : IsAskedFor w.sent (b.0).log ss = subst (λ (q : Logged). IsAskedFor w.sent q ss) (sym b.1) asked in
-                let on = stands_beside config servers clients w r kept e choice clocks (not_masters w e index moment i given) known index moment s at goes.0 ss b.0 b.2 _ t (stands goes.0 l ss b moved_asked)
-                (step_asks s ((numbered_reached config servers clients w r).each index s at).named moment i choice)
-                (fields.0 ∙ ap (λ (z : WorldState). z.observer.trace) same) (fields.1 ∙ ap (λ (z : WorldState). z.observer.greatest) same) (ap (λ (z : WorldState). z.sent) same) (ap (λ (z : WorldState). z.clients) same) in
-                (on.0, on.1 ∙ b.1, on.2)) h
-          ]
+        stood_whole : IsWholeWorld config (happens w e choice).world
+        stood_whole =
+            elim (cases) [
+              | inl is ↦ nothing_kept is
+              | inr goes ↦
+                  let same : u ≡ (happens w e choice).world = sym (ap (λ (z : Happened). z.world) goes.1) in
+                  let fields = answered_fields (observed_moment w.config.skew_ms w.observer moment) (suc index) t.out.answer in
+                  asked_left config servers clients w r (happens w e choice).world (master_left w e choice (not_masters w e index moment i given))
+                  (λ l ss asked b.
+                  let moved_asked : IsAskedFor w.sent (b.0).log ss = subst (λ (q : Logged). IsAskedFor w.sent q ss) (sym b.1) asked in
+                  let on = stands_beside config servers clients w r kept e choice clocks (not_masters w e index moment i given) known index moment s at goes.0 ss b.0 b.2 _ t (stands goes.0 l ss b moved_asked)
+                  (step_asks s ((numbered_reached config servers clients w r).each index s at).named moment i choice)
+                  (fields.0 ∙ ap (λ (z : WorldState). z.observer.trace) same) (fields.1 ∙ ap (λ (z : WorldState). z.observer.greatest) same) (ap (λ (z : WorldState). z.sent) same) (ap (λ (z : WorldState). z.clients) same) in
+                  (on.0, on.1 ∙ b.1, on.2)) h
+            ]
 
     pub idle_whole : s.current ≡ None → IsWholeWorld config (happens w e choice).world
     idle_whole none = stood_whole (λ up l ss b asked. idle_stands config servers clients w r kept e choice clocks (not_masters w e index moment i given) known index moment s at up ss b.0 b.2 none i)
@@ -288,7 +286,6 @@ module _ (config : Config) (some : 1 ≤ config.chunk) (servers clients : ℕ) (
       (subst (λ (n : Node). Kept config w choice h (moves w n now.0 (input.Deliver m) choice)) (sym to) (moves_none config w choice h cl now.0 (input.Deliver m) there)))
   delivers number now m sent cl to (Some s) there clocks long =
       step_whole config servers clients w r kept (event.Deliver number now) choice clocks known long h (cl.0 - 1) now.0 s (input.Deliver m) at given
-     
     where
       at : element_at w.clients (cl.0 - 1) ≡ Some s
       at = element_numbered w.clients cl.0 s there

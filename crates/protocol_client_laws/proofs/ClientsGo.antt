@@ -1,6 +1,6 @@
 -- A client that has no call takes a step, or is called on a file: a whole machine stays beside the world.
 use Rattle.gfs_types.specs.declared.answer.Answer.{Answer}
-use Rattle.std.proofs.Common.{◌≡◌, ⊎_elim, ℕ, suc, ◌≤◌, Bool, true, false, max, List, [], ◌∷◌, ◌++◌, length, Option, Some, None, refl, sym, ap, subst, ◌∙◌, arith, inl, inr, filter, option_to_list, ◌⊎◌, ◌-◌}
+use Rattle.std.proofs.Common.{◌≡◌, ⊎_elim, ℕ, suc, ◌≤◌, Bool, true, false, max, List, [], ◌∷◌, ◌++◌, length, Option, Some, None, refl, sym, ap, subst, ◌∙◌, arith, inl, inr, filter, option_to_list}
 use Rattle.std.specs.Prelude.{IsTrue, ◌==◌, not}
 use Rattle.std.specs.List.{list_all, cons_option}
 use Rattle.std.proofs.lemmas.Bool.{true≢false}
@@ -54,7 +54,7 @@ use Rattle.protocol_name_laws.specs.NameAnswers as waits
 use Rattle.protocol_name_laws.specs.NameAnswers.{Tells}
 use Rattle.protocol_name_laws.specs.NameClients.{with_request, IsAnswerTo}
 use Rattle.protocol_name_laws.proofs.Answers.{told_answers_are_allowed, name_calls_may_give_up}
-use Rattle.protocol_name_laws.proofs.BesideClientsCalls.{LeftTo, name_done_at, name_down_at, name_refused_at, given}
+use Rattle.protocol_name_laws.proofs.BesideClientsCalls.{name_done_at, name_down_at, name_refused_at, given}
 use Rattle.protocol_name_laws.proofs.Ends.{answers_end_calls}
 use Rattle.protocol_name_laws.proofs.Followed.{facts}
 use Rattle.protocol_name_laws.proofs.FollowedClientsCalls.{beside_waiting}

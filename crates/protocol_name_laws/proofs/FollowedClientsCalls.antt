@@ -1,6 +1,6 @@
 -- A name call is made, and each step of its client while it is open.
 use Rattle.std.proofs.Common.{◌≡◌, ⊎_elim, ℕ, suc, true, false, List, [], ◌∷◌, Option, Some, None, refl, sym, ap, subst, ◌∙◌}
-use Rattle.std.specs.Prelude.{◌==◌, not, filter, IsTrue}
+use Rattle.std.specs.Prelude.{◌==◌, not, filter}
 use Rattle.gfs_types.specs.declared.ids.FileId.{FileId}
 use Rattle.gfs_types.specs.declared.call.Call.{Call}
 use Rattle.gfs_types.specs.declared.answer.Answer.{Answer}
@@ -15,19 +15,17 @@ use Rattle.messages.specs.declared.message.NameReply.TheVariants as named
 use Rattle.relaxed_file.specs.Machine.{Machine, Client, OpenCall, put}
 use Rattle.relaxed_file.specs.NameStep.{is_name_call}
 use Rattle.relaxed_file.specs.Answers.{descriptors_after, returned}
-use Rattle.relaxed_file.specs.Run.{Action, Visible, Answered, Invoke, Return, ReturnFd, Allows, after, asked_now, visible}
+use Rattle.relaxed_file.specs.Run.{Action, Answered, Invoke, Return, ReturnFd, Allows, after, asked_now, visible}
 use Rattle.relaxed_file.proofs.Tables.{put_same, at_some}
 use Rattle.name_runs.specs.Laws.{LeadsByNames}
 use Rattle.client_state.specs.declared.call.CurrentCall.{CurrentCall}
 use Rattle.client_state.specs.declared.call.Stage.{Stage}
 use Rattle.client_state.specs.declared.call.Stage.TheVariants.{AskedNames}
-use Rattle.protocol.specs.Sending.{client_number}
 use Rattle.protocol.specs.Logged.{Logged}
 use Rattle.protocol.specs.Master.{PendingSnapshot}
 use Rattle.protocol.specs.Client.{ClientState, ClientDoing}
 use Rattle.protocol.specs.ClientStep.{client_goes, client_call_goes}
 use Rattle.protocol_name_laws.specs.Alike.{Requests, AreAlike, IsWaiting}
-use Rattle.protocol_name_laws.specs.Followed.{IsTold}
 use Rattle.protocol_name_laws.specs.NameClients.{with_request, StaysTold}
 use Rattle.protocol_name_laws.proofs.Beginnings.{calls_begin}
 use Rattle.protocol_name_laws.proofs.Ends.{answers_end_calls}
