@@ -29,8 +29,9 @@ use Rattle.name_traces.proofs.Traces.{calls_grow}
 use Rattle.client_state.specs.declared.call.CurrentCall.{CurrentCall}
 use Rattle.client_state.specs.declared.call.Stage.{Stage}
 use Rattle.client_state.specs.declared.call.Stage.TheVariants.{AskedNames}
-use Rattle.protocol.specs.Tables.{element_at}
+use Rattle.protocol.specs.Tables.{element_at, with_at}
 use Rattle.protocol.specs.Choice.{Choice, Ending, Goes, Lost, Stops}
+use Rattle.protocol.specs.World.{stamped}
 use Rattle.protocol.specs.Seen.{Taken, no_step}
 use Rattle.protocol.specs.Sending.{client_number}
 use Rattle.protocol.specs.Logged.{Logged, KeptCall}
@@ -53,8 +54,8 @@ use Rattle.protocol_name_laws.specs.NameClients.{with_request, IsOfOther}
 use Rattle.protocol_name_laws.proofs.Beginnings.{calls_begin}
 use Rattle.protocol_name_laws.proofs.Ends.{answers_end_calls}
 use Rattle.protocol_name_laws.proofs.Answers.{name_calls_may_give_up}
-use Rattle.protocol_name_laws.specs.FollowedClients.{IsBesideAt, IsBesideCall}
-use Rattle.protocol_name_laws.proofs.FollowedClientsCalls.{name_calls_are_begun}
+use Rattle.protocol_name_laws.specs.FollowedClients.{IsBesideAt, IsBesideCall, IsBesideClient}
+use Rattle.protocol_name_laws.proofs.FollowedClientsCalls.{begun_beside}
 use Rattle.protocol_name_laws.specs.Beside.{lasting, IsKnown, IsNamesBeside, is_asked_names, IsClientBeside, AreClientsBeside, answered_trace, ComesTo}
 use Rattle.protocol_name_laws.proofs.BesideClientsBeside.{client_on, one_on, says_more, says_else}
 use Rattle.protocol_name_laws.proofs.Clients.{sent_one, the_sender, reseen, file_called, ends_call, begins_call, IsNotUnder, IsKnownClient, Left, stays_with, file_goes, asks_known, client_asked, kept_asked, name_goes}
@@ -71,6 +72,10 @@ module _ (config : Config) (trace : List Visible) (greatest : ℕ) (clients : Li
 
     abbrev LeftBy : List Visible → Taken ClientState → Type 0
     LeftBy more t = Left config trace greatest clients sent l ss m requests h all k index (answered_trace client t.out.answer more) t.state t.out.sent
+
+    -- beside this machine
+    abbrev pub LeftTo : Machine → Requests → List Visible → ClientState → List Message → Type 0
+    LeftTo n later more t ms = IsNamesBeside config more greatest (sent ++ stamped k ms) l ss n later × AreClientsBeside config more greatest (with_at clients index t) n later
 
     -- a step
 
@@ -158,6 +163,12 @@ module _ (config : Config) (trace : List Visible) (greatest : ℕ) (clients : Li
       -- of names
 
       module _ (name : is_name_call c ≡ true) where
+        abbrev n1 : Machine
+        n1 = after m (Invoke client c)
+
+        run1 : LeadsByNames m n1
+        run1 = single m (Invoke client c) idle refl
+
         -- under the next number
 
         abbrev number : Option ℕ
@@ -183,48 +194,52 @@ module _ (config : Config) (trace : List Visible) (greatest : ℕ) (clients : Li
         name_step : IsNameStep s moment d
         name_step = name_calls_ask_first s moment c name
 
-        name_done : Left config trace greatest clients sent l ss m requests h all k index (answered_trace client d.answer calling_trace) d.client (option_to_list d.sent)
-        name_done =
-            let low : (x : KeptCall) → table.get l.kept client ≡ Some x → x.number ≤ s.call_count = kept_asked config trace greatest clients sent l ss m requests h all k index s up at facts in
-            let b = name_calls_are_begun l (lasting config.skew_ms greatest ss) m requests client s moment c h.alike own.beside none name
-            (λ x is same. let few = low x is in let number_is : suc s.call_count ≡ x.number = from_some same in omega (arith, few, number_is)) in
-            let n : Machine = b.0 in
-            let names = begins_call config trace greatest sent l ss m requests h client n b.1 c number name b.2 b.3
-            (λ x is. b.4 x (λ to. of_other x.body (subst (λ (q : ℕ). IsAnswerToAsked sent q x.body) to (facts.answers x is))) (h.told x is)) idle
+        low : (x : KeptCall) → table.get l.kept client ≡ Some x → x.number ≤ s.call_count
+        low = kept_asked config trace greatest clients sent l ss m requests h all k index s up at facts
+
+        begun_now : Allows m (Invoke client c) × AreAlike l (lasting config.skew_ms greatest ss) n1 later
+            × ((x : Message) → (client_number x.receiver ≡ client → IsOfOther x.body number) → IsTold m requests x → IsTold n1 later x)
+        begun_now = calls_begin l (lasting config.skew_ms greatest ss) m requests client number c h.alike idle (λ x is same. let few = low x is in let number_is : suc s.call_count ≡ x.number = from_some same in omega (arith, few, number_is))
+
+        names_now : IsNamesBeside config calling_trace greatest sent l ss n1 later × ((q : ℕ) → (q ≡ client → ⊥) → IsLeft (m.clients q) (n1.clients q))
+        names_now =
+            begins_call config trace greatest sent l ss m requests h client n1 (single m (Invoke client c) idle refl) c number name refl begun_now.1
+            (λ x is. begun_now.2 x (λ to. of_other x.body (subst (λ (q : ℕ). IsAnswerToAsked sent q x.body) to (facts.answers x is))) (h.told x is)) idle
             (λ x is from. fresh x.body (facts.numbered.used up is.0 x is.1 (the_sender x.sender index from)))
-            (λ x q is same. let few = low x is in let number_is : suc s.call_count ≡ q = from_some same in omega (arith, few, number_is)) in
+            (λ x q is same. let few = low x is in let number_is : suc s.call_count ≡ q = from_some same in omega (arith, few, number_is))
+
+        beside_now : IsBesideClient d.client n1 later client
+        beside_now = begun_beside m requests client s moment c own.beside name
+
+        pub name_done_at : LeftTo n1 later (answered_trace client d.answer calling_trace) d.client (option_to_list d.sent)
+        name_done_at =
             let waiting = (name_calls_begin s moment c name).0 in
-            subst (λ (a : Option Answer). Left config trace greatest clients sent l ss m requests h all k index (answered_trace client a calling_trace) d.client (option_to_list d.sent)) (sym waiting.unanswered) (
-              n,
-              later,
-              says_more config calling_trace greatest sent l ss n later names.0 k (option_to_list d.sent)
+            subst (λ (a : Option Answer). LeftTo n1 later (answered_trace client a calling_trace) d.client (option_to_list d.sent)) (sym waiting.unanswered) (
+              says_more config calling_trace greatest sent l ss n1 later names_now.0 k (option_to_list d.sent)
                   (λ x is.
                   let said : d.sent ≡ Some x = sent_one d.sent x is in
                   let from = ((call_numbered s moment c facts.numbered.named).says x said).0 in
-                  let both = asks_known config trace greatest clients sent l ss m requests h all k index d.client n later (client_number x.receiver) x.body b.5 (name_step.says x said) in
-                  (both.0, subst (λ (q : ℕ). IsKnown l.kept n later q x.body) (sym (ap client_number from ∙ facts.numbered.id)) both.1)),
-              one_on config trace calling_trace greatest clients m n requests later index d.client names.1 (λ q not. put_other client number requests q not) last_others
+                  let both = asks_known config trace greatest clients sent l ss m requests h all k index d.client n1 later (client_number x.receiver) x.body beside_now (name_step.says x said) in
+                  (both.0, subst (λ (q : ℕ). IsKnown l.kept n1 later q x.body) (sym (ap client_number from ∙ facts.numbered.id)) both.1)),
+              one_on config trace calling_trace greatest clients m n1 requests later index d.client names_now.1 (λ q not. put_other client number requests q not) last_others
                   (λ _. record {
-                    beside = b.5;
+                    beside = beside_now;
                     naming = λ e is. ap is_naming last_own ∙ name ∙ ap is_asked_names (sym (subst (λ (x : CurrentCall). x.stage ≡ AskedNames) (same_some waiting.current e (sym waiting.is_open ∙ is)) waiting.stage_is));
                     settings = name_step.config ∙ own.settings;
                     now = (let at_moment = name_step.now in let early = max-le own.now reached in omega (arith, at_moment, early));
                   }) all,
             )
 
-        -- under no number
+        name_done : Left config trace greatest clients sent l ss m requests h all k index (answered_trace client d.answer calling_trace) d.client (option_to_list d.sent)
+        name_done = (n1, later, name_done_at.0, name_done_at.1)
 
-        abbrev n1 : Machine
-        n1 = after m (Invoke client c)
+        -- under no number
 
         abbrev unasked : Requests
         unasked = with_request requests client None
 
         begun : Allows m (Invoke client c) × AreAlike l (lasting config.skew_ms greatest ss) n1 unasked × ((x : Message) → (client_number x.receiver ≡ client → IsOfOther x.body None) → IsTold m requests x → IsTold n1 unasked x)
         begun = calls_begin l (lasting config.skew_ms greatest ss) m requests client None c h.alike idle (λ x is same. absurd (none-some x.number same))
-
-        run1 : LeadsByNames m n1
-        run1 = single m (Invoke client c) idle refl
 
         of_none : (b : Body) → IsOfOther b None
         of_none (body.Named named reply) = λ same. none-some named same
@@ -242,13 +257,14 @@ module _ (config : Config) (trace : List Visible) (greatest : ℕ) (clients : Li
             begins_call config trace greatest sent l ss m requests h client n1 (single m (Invoke client c) idle refl) c None name refl begun.1 (λ x is. begun.2 x (λ _. of_none x.body) (h.told x is)) idle
             (λ x is from. not_none x.body) (λ x q is same. absurd (none-some q same))
 
-        name_down : Left config trace greatest clients sent l ss m requests h all k index calling_trace (stopped_client s) []
-        name_down = (
-          n1,
-          unasked,
+        pub name_down_at : LeftTo n1 unasked calling_trace (stopped_client s) []
+        name_down_at = (
           says_else config calling_trace greatest sent l ss n1 unasked names1.0 k [] (λ x is. none_sent x is),
           one_on config trace calling_trace greatest clients m n1 requests unasked index (stopped_client s) names1.1 (λ q not. put_other client None requests q not) last_others (λ on. absurd (true≢false (sym on))) all,
         )
+
+        name_down : Left config trace greatest clients sent l ss m requests h all k index calling_trace (stopped_client s) []
+        name_down = (n1, unasked, name_down_at.0, name_down_at.1)
 
         -- refused for want of memory
 
@@ -261,7 +277,7 @@ module _ (config : Config) (trace : List Visible) (greatest : ℕ) (clients : Li
         open1 : (n1.clients client).open_call ≡ Some call1
         open1 = ap (λ (x : Client). x.open_call) (put_same client (calling m client c) m.clients)
 
-        given : Allows n1 (Return client reply)
+        pub given : Allows n1 (Return client reply)
         given = (name_calls_may_give_up n1 client call1 open1 name).1 refl
 
         abbrev n2 : Machine
@@ -313,18 +329,19 @@ module _ (config : Config) (trace : List Visible) (greatest : ℕ) (clients : Li
         last_then : (q : ℕ) → last_calls none_called (calling_trace ++ Answered client reply ∷ []) q ≡ last_calls none_called calling_trace q
         last_then q = ap (λ (f : LastCalls). f q) (calls_grow none_called calling_trace (Answered client reply))
 
-        name_refused : Left config trace greatest clients sent l ss m requests h all k index (calling_trace ++ Answered client reply ∷ []) refused.client []
-        name_refused =
+        pub name_refused_at : LeftTo n2 unasked (calling_trace ++ Answered client reply ∷ []) refused.client []
+        name_refused_at =
             let names2 = ends_call config calling_trace greatest sent l ss n1 unasked names1.0 client n2 (single n1 (Return client reply) given refl) reply refl ended.0 ended.1
             (none_of (lasting config.skew_ms greatest ss) (begun.1).locks) (ap is_naming last_own ∙ name)
             (λ x is from. still_known x.body (subst (λ (q : ℕ). IsKnown l.kept n1 unasked q x.body) from (names1.0.known x is))) in (
-              n2,
-              unasked,
               says_else config (calling_trace ++ Answered client reply ∷ []) greatest sent l ss n2 unasked names2.0 k [] (λ x is. none_sent x is),
               one_on config trace (calling_trace ++ Answered client reply ∷ []) greatest clients m n2 requests unasked index refused.client
                   (λ q not. left_then (m.clients q) (n1.clients q) (n2.clients q) (names1.1 q not) (names2.1 q not)) (λ q not. put_other client None requests q not) (λ q not. last_then q ∙ last_others q not)
                   (λ _. record { beside = record { call = closed.0; count = closed.1 }; naming = λ e is. none_some e is; settings = own.settings; now = max-le own.now reached }) all,
             )
+
+        name_refused : Left config trace greatest clients sent l ss m requests h all k index (calling_trace ++ Answered client reply ∷ []) refused.client []
+        name_refused = (n2, unasked, name_refused_at.0, name_refused_at.1)
 
         name_ends : (e : Ending) → LeftBy calling_trace (client_ends s d e)
         name_ends Goes = name_done

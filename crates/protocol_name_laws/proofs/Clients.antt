@@ -216,7 +216,7 @@ module _ (config : Config) (trace : List Visible) (greatest : ℕ) (clients : Li
     pub stays_with : (t : ClientState) → (IsTrue t.up → IsClientBeside config trace greatest t m requests client) → Left trace t []
     stays_with t own = let there = stays_at t own in (m, requests, there.0, there.1)
 
-    answered_last : (a : Option Answer) (q : ℕ) → last_calls none_called (answered_trace client a trace) q ≡ last_calls none_called trace q
+    pub answered_last : (a : Option Answer) (q : ℕ) → last_calls none_called (answered_trace client a trace) q ≡ last_calls none_called trace q
     answered_last None q = refl
     answered_last (Some reply) q = ap (λ (f : LastCalls). f q) (calls_grow none_called trace (Answered client reply))
 
@@ -304,23 +304,23 @@ module _ (config : Config) (trace : List Visible) (greatest : ℕ) (clients : Li
         abbrev pub d : ClientDoing
         d = client_goes s moment i
 
-        here : IsBesideAt m requests client c AskedNames
+        pub here : IsBesideAt m requests client c AskedNames
         here = subst (λ (st : Stage). IsBesideAt m requests client c st) stage_is (subst (λ (o : Option CurrentCall). IsBesideCall m requests client o) is_open (own.beside).call)
 
-        naming : is_naming (last_calls none_called trace client) ≡ true
+        pub naming : is_naming (last_calls none_called trace client) ≡ true
         naming = own.naming c is_open ∙ ap is_asked_names stage_is
 
         input_told : (j : Input) → ComesTo sent client j → IsInputTold m requests client j
         input_told (input.Deliver x) to = (ap client_number to.1, h.told x to.0)
         input_told input.Tick to = tt
 
-        step : IsNameStep s moment d
+        pub step : IsNameStep s moment d
         step = name_calls_ask_again s moment i c is_open stage_is
 
-        now_early : d.client.now ≤ greatest
+        pub now_early : d.client.now ≤ greatest
         now_early = let at_moment = step.now in let low = max-le own.now reached in omega (arith, at_moment, low)
 
-        heard : (n : Machine) → IsBesideClient d.client n requests client → (x : Message) → IsSent (option_to_list d.sent) x → IsTold n requests x × IsKnown l.kept n requests (client_number x.sender) x.body
+        pub heard : (n : Machine) → IsBesideClient d.client n requests client → (x : Message) → IsSent (option_to_list d.sent) x → IsTold n requests x × IsKnown l.kept n requests (client_number x.sender) x.body
         heard n beside x is =
             let said : d.sent ≡ Some x = sent_one d.sent x is in
             let from = ((goes_numbered s moment i facts.numbered.named).says x said).0 in
@@ -343,10 +343,10 @@ module _ (config : Config) (trace : List Visible) (greatest : ℕ) (clients : Li
         told_outcome input.Tick to r tells = absurd tells
 
         -- the call has an outcome, or is past its last deadline
-        abbrev WhyOver : Type 0
+        abbrev pub WhyOver : Type 0
         WhyOver = ((o : Outcome) × Contains (here.0).outcomes o) ⊎ (c.deadline.0 + m.config.skew_ms ≤ m.clock)
 
-        why_over : (reply : Answer) → IsCaused s moment i d c reply → WhyOver
+        pub why_over : (reply : Answer) → IsCaused s moment i d c reply → WhyOver
         why_over reply caused = ⊎_elim
             (λ told. inl (outcome_told (AnsweredWith reply), told_outcome i came (AnsweredWith reply) told.0))
             (λ rest. ⊎_elim (λ opened. inl (outcome_told (Opened opened.0), told_outcome i came (Opened opened.0) opened.1)) (λ late. inr (is_late late.1)) rest)
@@ -386,7 +386,7 @@ module _ (config : Config) (trace : List Visible) (greatest : ℕ) (clients : Li
             by_test false is = is
             by_test true is = absurd (own_snapshot (eqb-true t.client client is))
 
-        none_of_own : WhyOver → (xs : List PendingSnapshot) → AllByRecursion (HasItsRequest sent) xs → AllByRecursion (HoldsLocks m requests) (lasting config.skew_ms greatest xs)
+        pub none_of_own : WhyOver → (xs : List PendingSnapshot) → AllByRecursion (HasItsRequest sent) xs → AllByRecursion (HoldsLocks m requests) (lasting config.skew_ms greatest xs)
             → AllByRecursion (λ t. (t.client == client) ≡ false) (lasting config.skew_ms greatest xs)
         none_of_own why [] asked holds = tt
         none_of_own why (t ∷ xs) asked holds = by_test (lasts config.skew_ms greatest t) refl (λ g. none_of_own why xs asked.1 g) holds
@@ -397,7 +397,7 @@ module _ (config : Config) (trace : List Visible) (greatest : ℕ) (clients : Li
             by_test true is rest g = (not_own why t asked.0 g.0 is, rest g.1)
             by_test false is rest g = rest g
 
-        over_known : WhyOver → (n : Machine) → n.clock ≡ m.clock → n.config ≡ m.config → (n.clients client).open_call ≡ None → (x : Message) → IsSent sent x → client_number x.sender ≡ client → IsKnown l.kept n requests client x.body
+        pub over_known : WhyOver → (n : Machine) → n.clock ≡ m.clock → n.config ≡ m.config → (n.clients client).open_call ≡ None → (x : Message) → IsSent sent x → client_number x.sender ≡ client → IsKnown l.kept n requests client x.body
         over_known why n clock settings none x is from = by_body x.body refl (subst (λ (q : ℕ). IsKnown l.kept m requests q x.body) from (h.known x is))
           where
             by_body : (b : Body) → x.body ≡ b → IsKnown l.kept m requests client b → IsKnown l.kept n requests client b

@@ -14,7 +14,7 @@ use Rattle.protocol_name_laws.specs.BesideClients.{IsAskedFor, ClientStepsAreFol
 use Rattle.protocol_name_laws.proofs.Clients.{IsKnownClient}
 use Rattle.protocol_name_laws.proofs.BesideClientsCalls.{steps_beside, calls_beside}
 
-facts : (config : Config) (servers clients : ℕ) (w : WorldState) → IsReached config servers clients w → (index : ℕ) (s : ClientState) → element_at w.clients index ≡ Some s → IsTrue s.up → (l : Logged) (ss : List PendingSnapshot)
+pub facts : (config : Config) (servers clients : ℕ) (w : WorldState) → IsReached config servers clients w → (index : ℕ) (s : ClientState) → element_at w.clients index ≡ Some s → IsTrue s.up → (l : Logged) (ss : List PendingSnapshot)
     → IsAskedFor w.sent l ss → IsKnownClient w.sent l ss index s
 facts config servers clients w r index s at up l ss asked =
     record {

@@ -1,6 +1,6 @@
 -- A name call is made, and each step of its client while it is open.
 use Rattle.std.proofs.Common.{◌≡◌, ⊎_elim, ℕ, suc, true, false, List, [], ◌∷◌, Option, Some, None, refl, sym, ap, subst, ◌∙◌}
-use Rattle.std.specs.Prelude.{◌==◌, not, filter, IsTrue}
+use Rattle.std.specs.Prelude.{◌==◌, not, filter}
 use Rattle.gfs_types.specs.declared.ids.FileId.{FileId}
 use Rattle.gfs_types.specs.declared.call.Call.{Call}
 use Rattle.gfs_types.specs.declared.answer.Answer.{Answer}
@@ -15,19 +15,17 @@ use Rattle.messages.specs.declared.message.NameReply.TheVariants as named
 use Rattle.relaxed_file.specs.Machine.{Machine, Client, OpenCall, put}
 use Rattle.relaxed_file.specs.NameStep.{is_name_call}
 use Rattle.relaxed_file.specs.Answers.{descriptors_after, returned}
-use Rattle.relaxed_file.specs.Run.{Action, Visible, Answered, Invoke, Return, ReturnFd, Allows, after, asked_now, visible}
+use Rattle.relaxed_file.specs.Run.{Action, Answered, Invoke, Return, ReturnFd, Allows, after, asked_now, visible}
 use Rattle.relaxed_file.proofs.Tables.{put_same, at_some}
 use Rattle.name_runs.specs.Laws.{LeadsByNames}
 use Rattle.client_state.specs.declared.call.CurrentCall.{CurrentCall}
 use Rattle.client_state.specs.declared.call.Stage.{Stage}
 use Rattle.client_state.specs.declared.call.Stage.TheVariants.{AskedNames}
-use Rattle.protocol.specs.Sending.{client_number}
 use Rattle.protocol.specs.Logged.{Logged}
 use Rattle.protocol.specs.Master.{PendingSnapshot}
 use Rattle.protocol.specs.Client.{ClientState, ClientDoing}
 use Rattle.protocol.specs.ClientStep.{client_goes, client_call_goes}
 use Rattle.protocol_name_laws.specs.Alike.{Requests, AreAlike, IsWaiting}
-use Rattle.protocol_name_laws.specs.Followed.{IsTold}
 use Rattle.protocol_name_laws.specs.NameClients.{with_request, StaysTold}
 use Rattle.protocol_name_laws.proofs.Beginnings.{calls_begin}
 use Rattle.protocol_name_laws.proofs.Ends.{answers_end_calls}
@@ -38,34 +36,34 @@ use Rattle.protocol_name_laws.proofs.Steps.{name_calls_begin, name_calls_are_ans
 use Rattle.protocol_name_laws.specs.FollowedClients.{IsBesideAt, IsBesideCall, IsBesideClient, IsInputTold, answer_shown, snapshots_left, NameCallsAreBegun, NameCallsAreFollowed}
 
 -- a call that waits for the master
-beside_waiting : (m : Machine) (requests : Requests) (client number : ℕ) (asked : Call) (d : ClientDoing) (current : OpenCall)
+pub beside_waiting : (m : Machine) (requests : Requests) (client number : ℕ) (asked : Call) (d : ClientDoing) (current : OpenCall)
     → waits.IsWaiting d number asked → IsWaiting m requests client number current → current.asked.call ≡ asked → is_name_call asked ≡ true → IsBesideCall m requests client d.client.current
 beside_waiting m requests client number asked d current h w same name =
     let at : IsWaiting m requests client (h.current).number current = record { is_open = w.is_open; number_is = w.number_is ∙ ap Some (sym h.number_is) } in
     let open_at : IsBesideAt m requests client h.current AskedNames = (current, at, same ∙ sym h.asked_is, ap is_name_call h.asked_is ∙ name) in
     subst (λ (o : Option CurrentCall). IsBesideCall m requests client o) (sym h.is_open) (subst (λ (t : Stage). IsBesideAt m requests client h.current t) (sym h.stage_is) open_at)
 
-pub name_calls_are_begun : NameCallsAreBegun
-name_calls_are_begun l snapshots m requests client s moment c h beside none name unkept =
+-- a name call as it was made, under the next number
+pub begun_beside : (m : Machine) (requests : Requests) (client : ℕ) (s : ClientState) (moment : ℕ) (c : Call) → IsBesideClient s m requests client → is_name_call c ≡ true
+    → IsBesideClient (client_call_goes s moment c).client (after m (Invoke client c)) (with_request requests client (Some (suc s.call_count))) client
+begun_beside m requests client s moment c beside name =
     let number : ℕ = suc s.call_count in
     let n : Machine = after m (Invoke client c) in
     let later : Requests = with_request requests client (Some number) in
-    let idle : (m.clients client).open_call ≡ None = subst (λ (o : Option CurrentCall). IsBesideCall m requests client o) none beside.call in
-    let begun = calls_begin l snapshots m requests client (Some number) c h idle unkept in
     let current : OpenCall = record { number = suc (m.clients client).call_count; asked = asked_now m client c; has_begun = false; has_locks = false; outcomes = []; offers = []; pieces = []; lengths = [] } in
     let state : Client = record (m.clients client) { call_count = suc (m.clients client).call_count; calls = put (suc (m.clients client).call_count) (Some (asked_now m client c)) (m.clients client).calls; open_call = Some current } in
     let waiting : IsWaiting n later client number current = record { is_open = ap (λ (x : Client). x.open_call) (put_same client state m.clients); number_is = put_same client (Some number) requests } in
-    let client_waits = name_calls_begin s moment c name in (
-      n,
-      (Invoke client c ∷ [], (begun.0, tt), refl, refl),
-      refl,
-      begun.1,
-      begun.2,
-      record {
-        call = beside_waiting n later client number c (client_call_goes s moment c) current client_waits.0 waiting refl name;
-        count = ap (λ (x : Client). x.fd_count) (put_same client state m.clients) ∙ beside.count ∙ sym client_waits.1;
-      },
-    )
+    let client_waits = name_calls_begin s moment c name in
+    record {
+      call = beside_waiting n later client number c (client_call_goes s moment c) current client_waits.0 waiting refl name;
+      count = ap (λ (x : Client). x.fd_count) (put_same client state m.clients) ∙ beside.count ∙ sym client_waits.1;
+    }
+
+pub name_calls_are_begun : NameCallsAreBegun
+name_calls_are_begun l snapshots m requests client s moment c h beside none name unkept =
+    let idle : (m.clients client).open_call ≡ None = subst (λ (o : Option CurrentCall). IsBesideCall m requests client o) none beside.call in
+    let begun = calls_begin l snapshots m requests client (Some (suc s.call_count)) c h idle unkept in
+    (after m (Invoke client c), (Invoke client c ∷ [], (begun.0, tt), refl, refl), refl, begun.1, begun.2, begun_beside m requests client s moment c beside name)
 
 module _ (l : Logged) (snapshots : List PendingSnapshot) (m : Machine) (requests : Requests) (client : ℕ) (s : ClientState) (h : AreAlike l snapshots m requests) where
   -- beside what a step of the client has come to

@@ -71,7 +71,7 @@ firm_body (body.Refused number refusal) = by_refusal refusal
     by_refusal other = inl tt
 firm_body other = inl tt
 
-firm_or_not : (i : Input) → IsFirmInput i ⊎ (IsFirmInput i → ⊥)
+pub firm_or_not : (i : Input) → IsFirmInput i ⊎ (IsFirmInput i → ⊥)
 firm_or_not input.Tick = inl tt
 firm_or_not (input.Deliver y) = firm_body y.body
 
@@ -81,7 +81,7 @@ abbrev IsClientsNode : Node → Type 0
 IsClientsNode (node.Client c) = Unit {0}
 IsClientsNode other = ⊥
 
-not_masters : (w : WorldState) (e : Event) (index moment : ℕ) (i : Input) → GivesClient w e index moment i → IsMastersEvent w e → ⊥
+pub not_masters : (w : WorldState) (e : Event) (index moment : ℕ) (i : Input) → GivesClient w e index moment i → IsMastersEvent w e → ⊥
 not_masters w (event.Deliver number now) index moment i given masters =
     let same : given.0 ≡ masters.0 = same_some given.0 masters.0 (sym given.1 ∙ masters.1) in
     subst IsClientsNode (sym given.2 ∙ ap (λ (m : Message). m.receiver) same ∙ masters.2) tt
@@ -98,7 +98,7 @@ module _ (w : WorldState) (choice : Choice) (index moment : ℕ) (s : ClientStat
     moment_case : (h : Happened) → P h → P (at_moment w moment h)
     moment_case h g = on_cond P (nat_le moment moment_limit) h (nothing_happens w) (λ _. g) (λ _. none)
 
-    event_case : (e : Event) → GivesClient w e index moment i → P (happens w e choice)
+    pub event_case : (e : Event) → GivesClient w e index moment i → P (happens w e choice)
     event_case (event.Deliver number now) given =
         subst (λ (t : ℕ). P (at_moment w t (delivered w t choice (numbered_from_1 w.sent number)))) (sym given.4)
         (moment_case (delivered w moment choice (numbered_from_1 w.sent number))
@@ -120,7 +120,7 @@ abbrev IsTickIn : Input → Type 0
 IsTickIn input.Tick = Unit {0}
 IsTickIn other = ⊥
 
-came : (w : WorldState) (e : Event) (index moment : ℕ) (i : Input) → GivesClient w e index moment i → (y : Message) → i ≡ input.Deliver y → WasSent w.sent y × (y.receiver ≡ the_client (suc index))
+pub came : (w : WorldState) (e : Event) (index moment : ℕ) (i : Input) → GivesClient w e index moment i → (y : Message) → i ≡ input.Deliver y → WasSent w.sent y × (y.receiver ≡ the_client (suc index))
 came w (event.Deliver number now) index moment i given y is =
     let same : given.0 ≡ y = ap (λ (j : Input). message_in j y) (sym given.3 ∙ is) in
     subst (λ (z : Message). WasSent w.sent z × (z.receiver ≡ the_client (suc index))) same ((number - 1, element_numbered w.sent number given.0 given.1), given.2)
@@ -134,7 +134,7 @@ put_at t [] index s e = none_some s e
 put_at t (x ∷ xs) zero s e = same_some t s e
 put_at t (x ∷ xs) (suc index) s e = put_at t xs index s e
 
-put_all : (P : ℕ → ClientState → Type 0) (clients : List ClientState) (index : ℕ) (t : ClientState) → P index t → ((other : ℕ) (s : ClientState) → (other ≡ index → ⊥) → element_at clients other ≡ Some s → P other s)
+pub put_all : (P : ℕ → ClientState → Type 0) (clients : List ClientState) (index : ℕ) (t : ClientState) → P index t → ((other : ℕ) (s : ClientState) → (other ≡ index → ⊥) → element_at clients other ≡ Some s → P other s)
     → (other : ℕ) (s : ClientState) → element_at (with_at clients index t) other ≡ Some s → P other s
 put_all P clients index t own rest other s is = elim (same_or_not other index) [
   | inl same ↦
@@ -145,19 +145,19 @@ put_all P clients index t own rest other s is = elim (same_or_not other index) [
   ]
 ]
 
-shown_trace : (client : ℕ) (a : Option Answer) (trace : List Visible) → trace ++ answer_shown client a ≡ answered_trace client a trace
+pub shown_trace : (client : ℕ) (a : Option Answer) (trace : List Visible) → trace ++ answer_shown client a ≡ answered_trace client a trace
 shown_trace client None trace = append-nil trace
 shown_trace client (Some reply) trace = refl
 
-answered_fields : (o : Observer) (client : ℕ) (a : Option Answer) → (answered_trace client a o.trace ≡ (observed_answer o client a).trace) × (o.greatest ≡ (observed_answer o client a).greatest)
+pub answered_fields : (o : Observer) (client : ℕ) (a : Option Answer) → (answered_trace client a o.trace ≡ (observed_answer o client a).trace) × (o.greatest ≡ (observed_answer o client a).greatest)
 answered_fields o client None = (refl, refl)
 answered_fields o client (Some reply) = (refl, refl)
 
-of_file : (st : Stage) → IsOfFile st → is_asked_names st ≡ false
+pub of_file : (st : Stage) → IsOfFile st → is_asked_names st ≡ false
 of_file AskedNames of = absurd of
 of_file other of = refl
 
-idle_at : (m : Machine) (requests : Requests) (client : ℕ) (x : CurrentCall) (st : Stage) → IsOfFile st → IsBesideAt m requests client x st → (m.clients client).open_call ≡ None
+pub idle_at : (m : Machine) (requests : Requests) (client : ℕ) (x : CurrentCall) (st : Stage) → IsOfFile st → IsBesideAt m requests client x st → (m.clients client).open_call ≡ None
 idle_at m requests client x AskedNames of h = absurd of
 idle_at m requests client x other of h = h
 
@@ -265,7 +265,7 @@ module _ (config : Config) (servers clients : ℕ) (w : WorldState) (r : world.I
     heard : IsSaid p.whole client s i
     heard = elim (firm_or_not i) [
       | inl firm ↦ by_input i refl firm
-      | inr loose ↦ asks.heard ss k passed h leads chunks_passed loose
+      | inr loose ↦ asks.heard up ss k passed h leads chunks_passed p.run files_passed loose
     ]
       where
         by_input : (j : Input) → i ≡ j → IsFirmInput j → IsSaid p.whole client s j
@@ -277,7 +277,7 @@ module _ (config : Config) (servers clients : ℕ) (w : WorldState) (r : world.I
 
     follows : (f : IsFollowed p.whole client d) × AreOwnWordsSo w.sent (after_all p.whole f.actions) index d.client
     follows =
-        asks.waits ss k p.whole h leads files_passed said_passed
+        asks.waits up ss k p.whole h leads files_passed said_passed
         (file_steps_are_followed p.whole client s x (files_passed index s at up) is of ((clients_files_are_open config servers clients w r index s at).call x is of) moment i heard)
 
     abbrev f : IsFollowed p.whole client d

@@ -7,11 +7,12 @@ use Rattle.messages.specs.declared.event.Input.{Input}
 use Rattle.messages.specs.declared.event.Input.TheVariants as input
 use Rattle.messages.specs.declared.message.Message.{Message}
 use Rattle.relaxed_file.specs.Machine.{Machine}
-use Rattle.relaxed_file.specs.Run.{after_all, LeadsTo}
+use Rattle.relaxed_file.specs.Run.{after_all, LeadsTo, IsRunTo}
 use Rattle.client_state.specs.declared.call.CurrentCall.{CurrentCall}
 use Rattle.protocol.specs.Choice.{Choice}
 use Rattle.protocol.specs.Tables.{element_at}
 use Rattle.protocol.specs.Sending.{the_client}
+use Rattle.protocol.specs.Observer.{observed_moment}
 use Rattle.protocol.specs.Master.{PendingSnapshot}
 use Rattle.protocol.specs.Client.{ClientState}
 use Rattle.protocol.specs.ClientStep.{client_goes}
@@ -39,8 +40,9 @@ AreOwnWordsSo sent m index s = (x : Message) → WasSent sent x → x.receiver �
 pub record AreClientsTrue (config : Config) (w then_ : WorldState) (index moment : ℕ) (s : ClientState) (i : Input) : Type 0 where
   pub numbers : (ss : List PendingSnapshot) (k : ChunkSides) → IsBeside config w ss k → AreForOpenCalls w k
   pub requests : RequestsStayNumbered config w then_
-  pub heard : (ss : List PendingSnapshot) (k j : ChunkSides) → IsBeside config w ss k → LeadsTo k.machine j.machine → AreChunksBeside config then_ j → (IsFirmInput i → ⊥) → IsSaid j.machine (suc index) s i
-  pub waits : (ss : List PendingSnapshot) (k : ChunkSides) (m : Machine) → IsBeside config w ss k → LeadsTo k.machine m → AreFileClients w.clients m → AreWordsSo w.sent w.clients m
+  pub heard : IsTrue s.up → (ss : List PendingSnapshot) (k j : ChunkSides) → IsBeside config w ss k → LeadsTo k.machine j.machine → AreChunksBeside config then_ j
+      → IsRunTo config (observed_moment w.config.skew_ms w.observer moment).trace j.machine → AreFileClients w.clients j.machine → (IsFirmInput i → ⊥) → IsSaid j.machine (suc index) s i
+  pub waits : IsTrue s.up → (ss : List PendingSnapshot) (k : ChunkSides) (m : Machine) → IsBeside config w ss k → LeadsTo k.machine m → AreFileClients w.clients m → AreWordsSo w.sent w.clients m
       → IsFollowed m (suc index) (client_goes s moment i) → (f : IsFollowed m (suc index) (client_goes s moment i)) × AreOwnWordsSo w.sent (after_all m f.actions) index (client_goes s moment i).client
   pub says : (more : List Message) → then_.sent ≡ w.sent ++ more → (m : Machine) → AreWordsSo more then_.clients m
 

@@ -1,0 +1,2 @@
+pub mod ClientWords
+pub mod ClientsEvents
