@@ -1,11 +1,12 @@
 -- What the whole machine comes to, put together: changes one after the other, and rows of handles that no file has.
-use Rattle.std.proofs.Common.{◌≡◌, ◌⊎◌, ℕ, ◌≤◌, List, [], ◌∷◌, ◌++◌, Option, Some, None, refl, sym, ap, subst, ◌∙◌, inl, inr, arith}
-use Rattle.std.specs.Prelude.{unwrap_or}
+use Rattle.std.proofs.Common.{◌≡◌, ◌⊎◌, ℕ, ◌≤◌, Bool, true, List, [], ◌∷◌, ◌++◌, Option, Some, None, refl, sym, ap, subst, ◌∙◌, inl, inr, arith}
+use Rattle.std.specs.Prelude.{unwrap_or, ◌&&◌}
+use Rattle.std.proofs.lemmas.Bool.{and_parts}
 use Rattle.std.specs.FinMap as table
 use Rattle.chunk_table.specs.ChunkTable.{ChunkRow, file_of, handles_of, chunk_of}
 use Rattle.relaxed_file.specs.Machine.{Machine}
 use Rattle.relaxed_file.specs.Run.{Action, Visible, IsLawful, after_all, shown, visible}
-use Rattle.std.specs.List.{cons_option}
+use Rattle.std.specs.List.{cons_option, list_all}
 use Rattle.protocol.specs.Tables.{Table, element_at}
 use Rattle.protocol.specs.Logged.{Logged}
 use Rattle.protocol_laws.proofs.Steps.{none_some, same_some}
@@ -16,7 +17,7 @@ use Rattle.protocol_machine_laws.specs.ChunksAlike.{ChunkSides, StandsAt, StoodA
 use Rattle.protocol_machine_laws.proofs.Sides.{stands_in, still_open, still_alike}
 use Rattle.protocol_machine_laws.proofs.Closings.{after_both, lawful_both}
 use Rattle.protocol_machine_laws.proofs.Rows.{granted_of}
-use Rattle.protocol_whole_laws.specs.MasterSteps.{IsWhole, Comes, IsCopyIn, CopiesMayComeAndGo, IsCopy}
+use Rattle.protocol_whole_laws.specs.MasterSteps.{IsWhole, is_of_master, Comes, IsCopyIn, CopiesMayComeAndGo, IsCopy}
 
 -- rounds through two changes
 pub rounds_both : (E F G : ℕ → Type 0) (k j i : ChunkSides) → ((handle : ℕ) → E handle → G handle) → ((handle : ℕ) → F handle → G handle) → KeepsRounds E k j → KeepsRounds F j i → KeepsRounds G k i
@@ -42,18 +43,25 @@ visible_split (x ∷ xs) ys = by_seen (shown x) (visible_split xs ys)
 visible_both : (xs ys : List Action) → visible xs ≡ [] → visible ys ≡ [] → visible (xs ++ ys) ≡ []
 visible_both xs ys one two = visible_split xs ys ∙ ap (λ (seen : List Visible). seen ++ visible ys) one ∙ two
 
+all_both : (xs ys : List Action) → list_all is_of_master xs ≡ true → list_all is_of_master ys ≡ true → list_all is_of_master (xs ++ ys) ≡ true
+all_both [] ys one two = two
+all_both (x ∷ xs) ys one two =
+    let first = and_parts (is_of_master x) (list_all is_of_master xs) one in
+    ap (λ (b : Bool). b && list_all is_of_master (xs ++ ys)) first.0 ∙ all_both xs ys first.1 two
+
 pub comes_both : (E F G : ℕ → Type 0) (k j i : ChunkSides) (a n : Machine) → ((handle : ℕ) → E handle → G handle) → ((handle : ℕ) → F handle → G handle) → Comes E k j a → Comes F j i n → Comes G k i n
 comes_both E F G k j i a n e f one two = record {
   actions = one.actions ++ two.actions;
   lawful = lawful_both k.machine one.actions two.actions one.lawful (subst (λ (m : Machine). IsLawful m two.actions) (sym one.leads) two.lawful);
   leads = after_both k.machine one.actions two.actions ∙ ap (λ (m : Machine). after_all m two.actions) one.leads ∙ two.leads;
   unseen = visible_both one.actions two.actions one.unseen two.unseen;
+  of_master = all_both one.actions two.actions one.of_master two.of_master;
   rounds = rounds_both E F G k j i e f one.rounds two.rounds;
   whole = two.whole;
 }
 
 pub stays_whole : (k : ChunkSides) (n : Machine) → IsWhole k n → Comes NoneEnds k k n
-stays_whole k n h = record { actions = []; lawful = tt; leads = refl; unseen = refl; rounds = λ handle version s was_open. inr was_open; whole = h }
+stays_whole k n h = record { actions = []; lawful = tt; leads = refl; unseen = refl; of_master = refl; rounds = λ handle version s was_open. inr was_open; whole = h }
 
 -- rows at one handle
 
@@ -132,6 +140,7 @@ fewer_end E F k j n f h = record {
   lawful = h.lawful;
   leads = h.leads;
   unseen = h.unseen;
+  of_master = h.of_master;
   rounds = λ handle version s was_open. elim (h.rounds handle version s was_open) [ inl over ↦ inl (f handle version s was_open over) | inr still ↦ inr still ];
   whole = h.whole;
 }
@@ -147,6 +156,7 @@ rows_taken k n l H h apart rows lists next_file next_handle =
       lawful = tt;
       leads = refl;
       unseen = refl;
+      of_master = refl;
       rounds = kept.rounds;
       whole = record { names = h.names; chunks = kept.alike; below = λ handle s is. let low = h.below handle s is in omega (arith, low, next_handle) };
     }
