@@ -1,0 +1,4 @@
+//! Laws of the whole machine beside the master: at each of its events it stays beside the world.
+#![tactic(auto)]
+
+pub mod kept_entries;
