@@ -107,7 +107,7 @@ module _ (config : Config) (servers clients : ℕ) (w : WorldState) (r : world.I
     pub whole_here : IsWhole here passes.names
     whole_here = record { names = passes.same; chunks = chunks_here.alike; below = h.below }
 
-    open_here : KeepsRounds NoneEnds k here
+    pub open_here : KeepsRounds NoneEnds k here
     open_here = (other_changes_keep_chunks k here h.chunks.alike (record { lists = refl; grants = λ handle. refl; next = omega arith; gone = refl; orders = refl; files = passes.files })).rounds
 
     -- The machine has followed to this log, with these snapshots.

@@ -1,2 +1,3 @@
 pub mod Arrivals
 pub mod KeptEntries
+pub mod Quiet
