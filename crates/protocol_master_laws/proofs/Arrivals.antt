@@ -1,21 +1,19 @@
 -- Where the whole machine has followed the master to a log, it is beside the world after the event.
-use Rattle.std.proofs.Common.{◌≡◌, ◌⊎◌, ℕ, suc, Bool, true, false, max, List, [], ◌∷◌, ◌++◌, Option, Some, None, refl, sym, ap, subst, ◌∙◌, inl, inr, arith}
-use Rattle.std.specs.Prelude.{◌&&◌, option_map, unwrap_or, IsTrue}
+use Rattle.std.proofs.Common.{◌≡◌, ℕ, true, false, max, List, [], ◌∷◌, ◌++◌, refl, sym, subst, ◌∙◌, inl, inr, arith}
+use Rattle.std.specs.Prelude.{IsTrue}
 use Rattle.std.specs.List.{AllByRecursion, list_all}
 use Rattle.std.proofs.lemmas.Bool.{and_parts}
 use Rattle.std.proofs.Math.Nat.{le-max_left}
 use Rattle.gfs_types.specs.declared.config.Config.{Config}
 use Rattle.messages.specs.declared.event.Event.{Event}
-use Rattle.messages.specs.declared.event.Input.{Input}
-use Rattle.messages.specs.declared.event.Input.TheVariants as input
 use Rattle.messages.specs.declared.message.Message.{Message}
-use Rattle.relaxed_file.specs.Machine.{Machine, OpenCall, new_machine}
+use Rattle.relaxed_file.specs.Machine.{Machine, new_machine}
 use Rattle.relaxed_file.specs.Run.{Action, Step, FindBusy, FindFull, Lock, Expire, Add, OpenRound, CloseRound, Tell, Visible, after, after_all, IsLawful, IsReached, IsRunTo, LeadsTo}
 use Rattle.relaxed_file.proofs.Reached.{leads_on, leads_by}
 use Rattle.unseen_runs.specs.Laws.{IsLeft}
 use Rattle.protocol.specs.Choice.{Choice}
 use Rattle.protocol.specs.Logged.{Logged}
-use Rattle.protocol.specs.Master.{MasterState, PendingSnapshot}
+use Rattle.protocol.specs.Master.{PendingSnapshot}
 use Rattle.protocol.specs.Client.{ClientState}
 use Rattle.protocol.specs.World as world
 use Rattle.protocol.specs.World.{WorldState, happens}
@@ -23,12 +21,10 @@ use Rattle.protocol_step_laws.specs.Versions.{IsLeaseOver}
 use Rattle.protocol_name_laws.specs.Beside.{IsNamesBeside, AreClientsBeside}
 use Rattle.protocol_name_laws.proofs.BesideClientsBeside.{passed_trace, all_on, settings_of}
 use Rattle.protocol_name_laws.proofs.Masters.{passed_last}
-use Rattle.protocol_invariant.specs.Actions.{Spot}
-use Rattle.protocol_machine_laws.specs.ChunksAlike.{ChunkSides, IsRoundOpen, AreChunksAlike, KeepsRounds, NoneEnds, HasRounds}
+use Rattle.protocol_machine_laws.specs.ChunksAlike.{ChunkSides, KeepsRounds, NoneEnds, HasRounds}
 use Rattle.protocol_machine_laws.proofs.Plain.{other_changes_keep_chunks}
 use Rattle.protocol_whole_laws.specs.MasterSteps.{IsWhole, is_of_master, Comes}
 use Rattle.protocol_whole_laws.specs.Rounds.{IsLogOf, IsEnded}
-use Rattle.protocol_whole_laws.specs.FileClients.{IsFileClient}
 use Rattle.protocol_whole_laws.specs.FileClientsStay.{IsOfOthers}
 use Rattle.protocol_whole_laws.specs.ChunksBeside.{AreChunksBeside}
 use Rattle.protocol_whole_laws.specs.WholeWorlds.{AreWordsSo, AreFileClients, IsBeside, HasMachine}

@@ -1,3 +1,5 @@
 pub mod Arrivals
+pub mod Goings
 pub mod KeptEntries
 pub mod Quiet
+pub mod Steps

@@ -1,5 +1,5 @@
 -- Sides that go on: to another log that has the same files, and where a step sends and shows nothing.
-use Rattle.std.proofs.Common.{◌≡◌, ◌⊎◌, ℕ, suc, ◌+◌, ◌≤◌, Bool, true, max, List, [], ◌∷◌, ◌++◌, length, refl, sym, ap, subst, ◌∙◌, inl, inr, arith}
+use Rattle.std.proofs.Common.{◌≡◌, ℕ, suc, ◌+◌, ◌≤◌, true, max, List, [], ◌++◌, length, sym, ap, subst, ◌∙◌, arith}
 use Rattle.std.specs.Prelude.{◌&&◌, nat_le, IsTrue}
 use Rattle.std.proofs.lemmas.Bool.{and_parts, leb-true}
 use Rattle.std.proofs.lemmas.List.{append-nil}
@@ -10,30 +10,25 @@ use Rattle.messages.specs.declared.message.Message.{Message}
 use Rattle.relaxed_file.specs.Machine.{Machine}
 use Rattle.relaxed_file.specs.Run.{Visible}
 use Rattle.unseen_runs.specs.Laws.{IsLeft}
-use Rattle.protocol.specs.Tables.{Table}
 use Rattle.protocol.specs.Choice.{Choice}
 use Rattle.protocol.specs.Seen.{Taken}
 use Rattle.protocol.specs.declared.seen.Seen.{Seen}
-use Rattle.protocol.specs.Observer.{Placed, orders_after_all}
+use Rattle.protocol.specs.Observer.{orders_after_all}
 use Rattle.protocol.specs.Logged.{Logged}
 use Rattle.protocol.specs.Master.{MasterState, PendingSnapshot}
-use Rattle.protocol.specs.Client.{ClientState}
 use Rattle.protocol.specs.World.{WorldState, IsReached, happens, stamped, after_master}
 use Rattle.protocol_laws.specs.Laws.{grants_of}
-use Rattle.protocol_laws.proofs.MessagesSent.{none_sent}
-use Rattle.protocol_step_laws.specs.Versions.{IsLeaseOver, AreLeasesOver}
 use Rattle.protocol_name_laws.specs.Beside.{IsNamesBeside}
 use Rattle.protocol_name_laws.proofs.BesideClientsBeside.{passed_trace}
-use Rattle.protocol_invariant.specs.Actions.{Spot}
-use Rattle.protocol_machine_laws.specs.ChunksAlike.{ChunkSides, IsRoundOpen, KeepsRounds, NoneEnds}
+use Rattle.protocol_machine_laws.specs.ChunksAlike.{ChunkSides}
 use Rattle.protocol_machine_laws.specs.OpenRounds.{NewRoundsAreOpen}
 use Rattle.protocol_whole_laws.specs.MasterSteps.{IsWhole, Comes, IsCopy, HaveSameFiles}
 use Rattle.protocol_whole_laws.specs.Rounds.{IsLogOf, IsEnded}
 use Rattle.protocol_whole_laws.specs.WholeWorlds.{IsBeside}
-use Rattle.protocol_whole_laws.proofs.EndedRounds.{ended_before, rounds_go}
-use Rattle.protocol_whole_laws.proofs.MasterKept.{comes_both, copies_may_come_and_go, rounds_both}
+use Rattle.protocol_whole_laws.proofs.EndedRounds.{rounds_go}
+use Rattle.protocol_whole_laws.proofs.MasterKept.{comes_both, copies_may_come_and_go}
 use Rattle.protocol_whole_laws.proofs.MasterNames.{more_end}
-use Rattle.protocol_master_laws.proofs.Arrivals.{passes, here, chunks_here, whole_here, open_here, Arrives}
+use Rattle.protocol_master_laws.proofs.Arrivals.{passes, here, chunks_here, Arrives}
 
 -- the same handles may end
 pub both_come : (E : ℕ → Type 0) (k j i : ChunkSides) (a n : Machine) → Comes E k j a → Comes E j i n → Comes E k i n

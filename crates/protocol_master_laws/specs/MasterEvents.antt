@@ -17,9 +17,8 @@ use Rattle.protocol.specs.MasterStep.{master_goes}
 use Rattle.protocol.specs.World.{WorldState, happens, IsReached, is_kept}
 use Rattle.protocol_step_laws.specs.Versions.{AreLeasesOver}
 use Rattle.protocol_name_laws.specs.NameTrails.{log_read}
-use Rattle.protocol_invariant.specs.Actions.{Spot}
 use Rattle.protocol_invariant.specs.Explained.{AreSettings}
-use Rattle.protocol_machine_laws.specs.ChunksAlike.{ChunkSides, StandsAt}
+use Rattle.protocol_machine_laws.specs.ChunksAlike.{ChunkSides}
 use Rattle.protocol_whole_laws.specs.Rounds.{IsMastersInput}
 use Rattle.protocol_whole_laws.specs.ChunksBeside.{AreChunksBeside, IsMastersEvent}
 use Rattle.protocol_whole_laws.specs.MasterSteps.{IsCopy}
@@ -43,18 +42,18 @@ abbrev pub AreCopiesOver : WorldState → Type 0
 AreCopiesOver w =
     (decided : List Bool) (handle : ℕ) → IsCopy (log_read (log_changed_by_all w.master.disk (decided_changes decided w.master.under_way))) handle → AreLeasesOver w handle
 
--- A copy that begins stands in no file after the event.
-abbrev pub AreBegunApart : WorldState → WorldState → Event → Choice → Type 0
-AreBegunApart w then_ e choice =
-    (moment : ℕ) (i : Input) → IsMastersInput w e moment i → (place : ℕ) (source copy : Handle)
-    → element_at (master_goes w.master moment i choice.refused).seen place ≡ Some (CopyStarted source copy) → (s : Spot) → StandsAt then_.master.logged.table copy.0 s → ⊥
+-- A copy that begins in a step is under way after it.
+abbrev pub AreBegunUnderWay : WorldState → Event → Choice → Type 0
+AreBegunUnderWay w e choice =
+    (moment : ℕ) (i : Input) → IsMastersInput w e moment i → IsTrue w.master.up → (place : ℕ) (source copy : Handle)
+    → element_at (master_goes w.master moment i choice.refused).seen place ≡ Some (CopyStarted source copy) → IsCopy (master_goes w.master moment i choice.refused).master.logged copy.0
 
 -- What an event of the master asks: each chunk that it adds is asked for, and the machine may offer what it tells.
 pub record AreMastersTrue (config : Config) (w then_ : WorldState) (e : Event) (choice : Choice) : Type 0 where
   pub asked : (moment : ℕ) (i : Input) → IsMastersInput w e moment i → IsTrue w.master.up → (ss : List PendingSnapshot) (k : ChunkSides) → IsBeside config w ss k
       → (m : Machine) → LeadsTo k.machine m → AreAskedFor m w.observer.orders w.master.disk (master_goes w.master moment i choice.refused).changes
   pub copies : AreCopiesOver w
-  pub begun : AreBegunApart w then_ e choice
+  pub begun : AreBegunUnderWay w e choice
   pub offers : (ss : List PendingSnapshot) (k j : ChunkSides) → IsBeside config w ss k → LeadsTo k.machine j.machine → IsRunTo config then_.observer.trace j.machine → AreChunksBeside config then_ j
       → AreFileClients w.clients j.machine → AreOffersSo w then_ j.machine
 
