@@ -1,5 +1,5 @@
 -- Where a step of the master goes through, the whole machine is beside the master's state after it.
-use Rattle.std.proofs.Common.{◌≡◌, ◌⊎◌, ℕ, suc, ◌+◌, ◌≤◌, Bool, true, max, List, [], ◌∷◌, ◌++◌, length, Option, Some, refl, sym, ap, subst, ◌∙◌, inl, inr, arith}
+use Rattle.std.proofs.Common.{◌≡◌, ℕ, zero, suc, ◌+◌, ◌≤◌, true, max, List, [], ◌∷◌, ◌++◌, length, Some, refl, sym, ap, subst, ◌∙◌, inl, inr}
 use Rattle.std.specs.Prelude.{IsTrue}
 use Rattle.std.specs.List.{AllByRecursion}
 use Rattle.std.specs.FinMap as table
@@ -14,13 +14,14 @@ use Rattle.messages.specs.declared.message.Message.{Message}
 use Rattle.relaxed_file.specs.Machine.{Machine}
 use Rattle.relaxed_file.specs.Run.{Visible}
 use Rattle.protocol.specs.Tables.{Table, element_at}
+use Rattle.unseen_runs.specs.Laws.{IsLeft}
 use Rattle.protocol.specs.Choice.{Choice, Goes, in_order}
 use Rattle.protocol.specs.Seen.{Taken}
 use Rattle.protocol.specs.declared.seen.Seen.{Seen}
 use Rattle.protocol.specs.declared.seen.Seen.TheVariants.{CopyStarted}
 use Rattle.protocol.specs.Sending.{client_number, handle_of}
 use Rattle.protocol.specs.Observer.{Placed, orders_after}
-use Rattle.protocol.specs.Logged.{Logged, KeptCall, LogDisk, LogChange, log_changed_by_all}
+use Rattle.protocol.specs.Logged.{Logged, KeptCall, log_changed_by_all}
 use Rattle.protocol.specs.Master.{MasterState, MasterDoing, PendingSnapshot}
 use Rattle.protocol.specs.MasterStep.{master_goes, master_ends, master_step}
 use Rattle.protocol.specs.World.{WorldState, IsReached, happens, stamped, after_master}
@@ -47,13 +48,12 @@ use Rattle.protocol_name_laws.specs.NameTrails.{log_read}
 use Rattle.protocol_name_laws.proofs.LocksAndFiles.{locks_go_back}
 use Rattle.protocol_name_laws.proofs.NameWords.{IsUnasked, master_asks_nothing}
 use Rattle.protocol_name_laws.proofs.BesideClientsBeside.{passed_trace, moved, says_more}
-use Rattle.protocol_invariant.specs.Actions.{Spot}
-use Rattle.protocol_machine_laws.specs.ChunksAlike.{ChunkSides, StandsAt, IsRoundOpen, KeepsRounds, KeepsChunks, NoneEnds, HasRounds}
-use Rattle.protocol_machine_laws.proofs.Entries.{copies_begin_unseen}
+use Rattle.protocol_machine_laws.specs.ChunksAlike.{ChunkSides, KeepsChunks, NoneEnds, HasRounds}
+use Rattle.protocol_machine_laws.proofs.Orders.{copies_begin_unseen}
 use Rattle.protocol_whole_laws.specs.MasterSteps.{Comes, IsCopy, HaveSameFiles}
 use Rattle.protocol_whole_laws.specs.WholeSteps.{EndsAlong}
 use Rattle.protocol_whole_laws.specs.OverRounds as over
-use Rattle.protocol_whole_laws.specs.Rounds.{IsLogOf, IsEnded}
+use Rattle.protocol_whole_laws.specs.Rounds.{IsEnded}
 use Rattle.protocol_whole_laws.specs.WholeWorlds.{IsBeside}
 use Rattle.protocol_whole_laws.proofs.EndedRounds.{ungranted_is_over, ended_before}
 use Rattle.protocol_whole_laws.proofs.MasterKept.{copies_may_come_and_go, apart_stands, no_round}
@@ -69,7 +69,7 @@ use Rattle.protocol_master_laws.proofs.Steps.{still_up, IsTaken}
 
 told_at : (m : Machine) (requests : Requests) (ms : List Message) (place : ℕ) (x : Message) → AllByRecursion (IsTold m requests) ms → element_at ms place ≡ Some x → IsTold m requests x
 told_at m requests [] place x all at = none_some x at
-told_at m requests (y ∷ ms) 0 x all at = subst (λ (z : Message). IsTold m requests z) (same_some y x at) all.0
+told_at m requests (y ∷ ms) zero x all at = subst (λ (z : Message). IsTold m requests z) (same_some y x at) all.0
 told_at m requests (y ∷ ms) (suc place) x all at = told_at m requests ms place x all.1 at
 
 unasked_known : (kept : Table KeptCall) (m : Machine) (requests : Requests) (q : ℕ) (b : Body) → IsUnasked b → IsKnown kept m requests q b
@@ -132,6 +132,7 @@ module _ (config : Config) (servers clients : ℕ) (w : WorldState) (r : IsReach
     abbrev E : ℕ → Type 0
     E = IsEnded w v
 
+    goes : (j : ChunkSides) × (j.log ≡ log_read (log_changed_by_all w.master.disk d.changes)) × (j.orders ≡ on_disk.orders) × Comes (EndsAlong w.master.disk d.changes) on_disk j taken.later × HasRounds (IsLeaseOver v) j
     goes = steps_keep_rounds config servers clients w r up e moment i event passed_clocks choice ends long was h.requests on_disk n taken.later to_disk.whole refl
         (steps.rounds_on_disk config servers clients w r kept e choice clocks k h is up moment timely i heard copies) taken.trail
 
@@ -242,6 +243,7 @@ module _ (config : Config) (servers clients : ℕ) (w : WorldState) (r : IsReach
     alike : AreAlike d.master.logged (lasting config.skew_ms greatest d.master.snapshots) taken.later h.requests
     alike = locks_go_back d.master.logged d.master.snapshots taken.later h.requests (lasts config.skew_ms greatest) taken.beside.alike
 
+    after_it : IsNamesBeside config trace greatest w.sent d.master.logged d.master.snapshots taken.later h.requests × ((q : ℕ) → IsLeft (n.clients q) (taken.later.clients q))
     after_it = moved config trace greatest w.sent w.master.logged ss n h.requests (steps.named config servers clients w r kept e choice clocks k h is up moment timely i heard copies) d.master.logged d.master.snapshots taken.later
         taken.comes.run taken.comes.told alike taken.kept_on
 

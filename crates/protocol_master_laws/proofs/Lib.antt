@@ -3,3 +3,4 @@ pub mod Goings
 pub mod KeptEntries
 pub mod Quiet
 pub mod Steps
+pub mod Stops
