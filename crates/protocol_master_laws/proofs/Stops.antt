@@ -50,7 +50,7 @@ use Rattle.protocol_master_laws.proofs.Quiet as quiet
 use Rattle.protocol_master_laws.proofs.Steps as steps
 
 -- a log that gives up its copies has none
-none_under_way : (d : LogDisk) (handle : ℕ) → IsCopy (replayed d) handle → ⊥
+pub none_under_way : (d : LogDisk) (handle : ℕ) → IsCopy (replayed d) handle → ⊥
 none_under_way d handle copy = none_some copy.0 (sym (no_copies (log_read d).copies handle) ∙ copy.1)
 
 -- names stay as copies are given up

@@ -2,3 +2,4 @@
 #![tactic(auto)]
 
 pub mod kept_entries;
+pub mod master_events;
