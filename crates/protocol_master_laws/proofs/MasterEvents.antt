@@ -1,5 +1,5 @@
 -- Each event of the master keeps the whole machine beside the world.
-use Rattle.std.proofs.Common.{◌≡◌, ◌⊎◌, ℕ, zero, suc, ◌+◌, ◌≤◌, Bool, true, false, cond, max, List, [], Some, refl, sym, ap, subst, ◌∙◌, inl, inr, arith}
+use Rattle.std.proofs.Common.{◌≡◌, ◌⊎◌, ℕ, zero, suc, ◌+◌, ◌≤◌, Bool, true, false, cond, max, List, [], ◌∷◌, ◌++◌, Some, refl, sym, ap, subst, ◌∙◌, inl, inr, arith}
 use Rattle.std.specs.Prelude.{◌&&◌, nat_le, IsTrue}
 use Rattle.std.proofs.lemmas.Bool.{true≢false, and_parts}
 use Rattle.gfs_types.specs.declared.config.Config.{Config}
@@ -18,7 +18,10 @@ use Rattle.protocol.specs.Master.{MasterState, MasterDoing, PendingSnapshot, sto
 use Rattle.protocol.specs.MasterStep.{master_step, master_goes, master_ends, master_bounded, may_end, is_within_limits, found_log, started_master, has_opened, opens_as, master_restart}
 use Rattle.protocol.specs.World as world
 use Rattle.protocol.specs.World.{WorldState, Happened, IsReached, numbered_from_1, nothing_happens, at_moment, moves, delivered, happens, after_master, is_kept}
+use Rattle.std.proofs.lemmas.List.{append-nil}
+use Rattle.relaxed_file.specs.Machine.{Machine}
 use Rattle.protocol_laws.proofs.Steps.{none_some}
+use Rattle.protocol_laws.proofs.MessagesSent.{none_sent}
 use Rattle.protocol_name_laws.specs.Beside.{WasSent}
 use Rattle.protocol_name_laws.specs.FollowedSteps.{opened}
 use Rattle.protocol_machine_laws.specs.ChunksAlike.{ChunkSides}
@@ -29,7 +32,7 @@ use Rattle.protocol_whole_laws.specs.ChunksBeside.{IsMastersEvent}
 use Rattle.protocol_whole_laws.specs.MasterSteps.{Comes}
 use Rattle.protocol_whole_laws.specs.WholeWorlds.{IsBeside, HasMachine, IsWholeWorld}
 use Rattle.protocol_whole_laws.proofs.OverRounds.{masters_events_are_steps}
-use Rattle.protocol_master_laws.specs.MasterEvents.{AreMastersTrue, MastersEventsKeepWorldsWhole}
+use Rattle.protocol_master_laws.specs.MasterEvents.{AreOffersSo, AreMastersTrue, MastersEventsKeepWorldsWhole}
 use Rattle.protocol_master_laws.proofs.Arrivals.{passes, here, Arrives, arrived}
 use Rattle.protocol_master_laws.proofs.Quiet as quiet
 use Rattle.protocol_master_laws.proofs.Steps.{still_up, IsTaken, step_taken}
@@ -129,6 +132,10 @@ module _ (w : WorldState) (choice : Choice) where
   kind_of (event.Rot server handle place byte) is = absurd is
   kind_of (event.Fuse n count torn) is = absurd is
 
+none_more : (xs more : List Message) → xs ≡ xs ++ more → more ≡ []
+none_more [] more same = sym same
+none_more (x ∷ xs) more same = none_more xs more (let rest : xs ≡ xs ++ more = cc in rest)
+
 -- how an opening ends
 abbrev opened_as : MasterDoing → Taken MasterState
 opened_as d = record { state = d.master; out = no_output; seen = [] }
@@ -142,8 +149,22 @@ module _ (config : Config) (servers clients : ℕ) (w : WorldState) (settings : 
     abbrev v : WorldState
     v = (happens w e choice).world
 
-    arrives : (ss : List PendingSnapshot) (k : ChunkSides) (h : IsBeside config w ss k) (moment : ℕ) (l : Logged) (others : List PendingSnapshot) → Arrives config servers clients w r e choice clocks ss k h moment l others → HasMachine config v l others
-    arrives ss k h moment l others a = arrived config servers clients w r e choice clocks ss k h moment l others a (λ j. asks.offers ss k j h)
+
+    -- where nothing is sent there is nothing to offer
+    no_offers : v.sent ≡ w.sent → (m : Machine) → AreOffersSo w v m
+    no_offers still m = record {
+      offers = [];
+      of_offers = refl;
+      lawful = tt;
+      said = λ more is index s at up x was to firm. none_sent x (subst (λ (ms : List Message). WasSent ms x) (none_more w.sent more (sym still ∙ is)) was);
+    }
+
+    silently : (ss : List PendingSnapshot) (k : ChunkSides) (h : IsBeside config w ss k) (moment : ℕ) (l : Logged) (others : List PendingSnapshot) → v.sent ≡ w.sent → Arrives config servers clients w r e choice clocks ss k h moment l others
+        → HasMachine config v l others
+    silently ss k h moment l others still a = arrived config servers clients w r e choice clocks ss k h moment l others a (λ j leads run chunks files. no_offers still j.machine)
+
+    arrives : (moment0 : ℕ) (i : Input) → IsMastersInput w e moment0 i → IsTrue w.master.up → choice.ending ≡ Goes → (ss : List PendingSnapshot) (k : ChunkSides) (h : IsBeside config w ss k) (moment : ℕ) (l : Logged) (others : List PendingSnapshot) → Arrives config servers clients w r e choice clocks ss k h moment l others → HasMachine config v l others
+    arrives moment0 i given up ends ss k h moment l others a = arrived config servers clients w r e choice clocks ss k h moment l others a (λ j. asks.offers moment0 i given up ends ss k j h)
 
     abbrev At : MasterState → Type 0
     At m = HasMachine config v m.logged m.snapshots
@@ -192,17 +213,17 @@ module _ (config : Config) (servers clients : ℕ) (w : WorldState) (settings : 
           let long : 1 ≤ config.lease_ms = let skew = settings.lease in omega (arith, skew) in
           whole_up (ap (λ (m : MasterState). m.up) master_is ∙ still_up w.master s.moment s.taken choice.refused s.up)
           (subst At (sym master_is)
-          (arrives w.master.snapshots k h s.moment d.master.logged d.master.snapshots
+          (arrives s.moment s.taken s.given s.up ends w.master.snapshots k h s.moment d.master.logged d.master.snapshots
           (went config servers clients w r kept e choice clocks k h is s.up s.moment timely s.taken s.heard asks.copies s.event_is s.was long step ends same step_is (λ place source copy. asks.begun s.moment s.taken s.given s.up place source copy))))
       by_ending Lost ends step_is =
           let same = by_step (goes_through Lost) step_is in
           whole_down (ap (λ (x : WorldState). x.master.up) same)
-          (λ decided. arrives w.master.snapshots k h s.moment (log_as v.master decided) [] (stops.lost config servers clients w r kept e choice clocks k h is s.up s.moment timely s.taken s.heard asks.copies same decided))
+          (λ decided. silently w.master.snapshots k h s.moment (log_as v.master decided) [] (ap (λ (y : WorldState). y.sent) same ∙ append-nil w.sent) (stops.lost config servers clients w r kept e choice clocks k h is s.up s.moment timely s.taken s.heard asks.copies same decided))
       by_ending (Stops made) ends step_is =
           let same = by_step (goes_through (Stops made)) step_is in
           whole_down (ap (λ (x : WorldState). x.master.up) same)
           (λ decided.
-          arrives w.master.snapshots k h s.moment (log_as v.master decided) []
+          silently w.master.snapshots k h s.moment (log_as v.master decided) [] (ap (λ (y : WorldState). y.sent) same ∙ append-nil w.sent)
           (stops.stops config servers clients w r kept e choice clocks k h is s.up s.moment timely s.taken s.heard asks.copies s.event_is step made ends same decided))
 
       by_limits : (b : Bool) → may_end d choice.ending ≡ b → IsWholeWorld config v
@@ -212,7 +233,7 @@ module _ (config : Config) (servers clients : ℕ) (w : WorldState) (settings : 
           let master_is : v.master ≡ w.master = ap (λ (x : WorldState). x.master) same in
           whole_up (ap (λ (m : MasterState). m.up) master_is ∙ s.up)
           (subst At (sym master_is)
-          (arrives w.master.snapshots k h s.moment w.master.logged w.master.snapshots
+          (silently w.master.snapshots k h s.moment w.master.logged w.master.snapshots (ap (λ (y : WorldState). y.sent) same ∙ append-nil w.sent)
           (stops.unchanged config servers clients w r kept e choice clocks k h is s.up s.moment timely s.taken s.heard asks.copies same)))
 
       by_the_step : IsWholeWorld config v
@@ -277,7 +298,7 @@ module _ (config : Config) (servers clients : ℕ) (w : WorldState) (settings : 
           let master_is : v.master ≡ o.master = ap (λ (y : WorldState). y.master) same in
           whole_up (ap (λ (m : MasterState). m.up) master_is ∙ restarts.open_up config servers clients w r e choice clocks s.ss s.k s.h x.moment asks.copies choice.decided s.to_found s.named refl (opened_as o) same refl refl)
           (subst At (sym master_is)
-          (arrives s.ss s.k s.h x.moment o.master.logged o.master.snapshots
+          (silently s.ss s.k s.h x.moment o.master.logged o.master.snapshots (ap (λ (y : WorldState). y.sent) same ∙ append-nil w.sent)
           (restarts.running config servers clients w r e choice clocks s.ss s.k s.h x.moment asks.copies choice.decided s.to_found s.named refl (opened_as o) same refl refl master_is)))
       opens_it false not is =
           let same = by_restart (shut_as w.master o) (is ∙ ap (λ (b : Bool). cond b (opened_as o) (shut_as w.master o)) not) in
@@ -285,7 +306,7 @@ module _ (config : Config) (servers clients : ℕ) (w : WorldState) (settings : 
           let down : v.master.up ≡ false = ap (λ (m : MasterState). m.up) master_is in
           whole_down down
           (λ decided.
-          arrives s.ss s.k s.h x.moment (log_as v.master decided) []
+          silently s.ss s.k s.h x.moment (log_as v.master decided) [] (ap (λ (y : WorldState). y.sent) same ∙ append-nil w.sent)
           (restarts.shut config servers clients w r e choice clocks s.ss s.k s.h x.moment asks.copies choice.decided s.to_found s.named refl (shut_as w.master o) same refl refl decided down (ap (λ (m : MasterState). m.disk) master_is)
           (ap (λ (m : MasterState). m.under_way) master_is)))
 
@@ -298,7 +319,7 @@ module _ (config : Config) (servers clients : ℕ) (w : WorldState) (settings : 
           whole_down down
           (λ decided.
           let at = starts decided in
-          arrives at.ss at.k at.h x.moment (log_as v.master decided) []
+          silently at.ss at.k at.h x.moment (log_as v.master decided) [] (ap (λ (y : WorldState). y.sent) same ∙ append-nil w.sent)
           (restarts.lost config servers clients w r e choice clocks at.ss at.k at.h x.moment asks.copies decided at.to_found at.named (opens Lost) same refl refl down
           (ap (λ (m : MasterState). log_changed_by_all m.disk (decided_changes decided m.under_way)) master_is)))
       by_end (Stops made) ends is =
@@ -307,7 +328,7 @@ module _ (config : Config) (servers clients : ℕ) (w : WorldState) (settings : 
           let down : v.master.up ≡ false = ap (λ (m : MasterState). m.up) master_is in
           whole_down down
           (λ decided.
-          arrives s.ss s.k s.h x.moment (log_as v.master decided) []
+          silently s.ss s.k s.h x.moment (log_as v.master decided) [] (ap (λ (y : WorldState). y.sent) same ∙ append-nil w.sent)
           (restarts.left_at config servers clients w r e choice clocks s.ss s.k s.h x.moment asks.copies choice.decided s.to_found s.named refl (opens (Stops made)) same refl refl made decided down
           (ap (λ (m : MasterState). log_changed_by_all m.disk (decided_changes decided m.under_way)) master_is)))
 

@@ -8,7 +8,7 @@ use Rattle.messages.specs.declared.event.Input.{Input}
 use Rattle.messages.specs.declared.message.Message.{Message}
 use Rattle.relaxed_file.specs.Machine.{Machine}
 use Rattle.relaxed_file.specs.Run.{Action, Tell, IsLawful, after_all, LeadsTo, IsRunTo}
-use Rattle.protocol.specs.Choice.{Choice, decided_changes}
+use Rattle.protocol.specs.Choice.{Choice, Goes, decided_changes}
 use Rattle.protocol.specs.declared.seen.Seen.TheVariants.{CopyStarted}
 use Rattle.protocol.specs.Tables.{element_at}
 use Rattle.protocol.specs.Logged.{log_changed_by_all}
@@ -48,13 +48,13 @@ AreBegunUnderWay w e choice =
     (moment : ℕ) (i : Input) → IsMastersInput w e moment i → IsTrue w.master.up → (place : ℕ) (source copy : Handle)
     → element_at (master_goes w.master moment i choice.refused).seen place ≡ Some (CopyStarted source copy) → IsCopy (master_goes w.master moment i choice.refused).master.logged copy.0
 
--- What an event of the master asks: each chunk that it adds is asked for, and the machine may offer what it tells.
+-- What an event of the master asks: each chunk that it adds is asked for; of copies that they have no lease and are under way once they begin; and the machine may offer what a step tells that goes through.
 pub record AreMastersTrue (config : Config) (w then_ : WorldState) (e : Event) (choice : Choice) : Type 0 where
   pub asked : (moment : ℕ) (i : Input) → IsMastersInput w e moment i → IsTrue w.master.up → (ss : List PendingSnapshot) (k : ChunkSides) → IsBeside config w ss k
       → (m : Machine) → LeadsTo k.machine m → AreAskedFor m w.observer.orders w.master.disk (master_goes w.master moment i choice.refused).changes
   pub copies : AreCopiesOver w
   pub begun : AreBegunUnderWay w e choice
-  pub offers : (ss : List PendingSnapshot) (k j : ChunkSides) → IsBeside config w ss k → LeadsTo k.machine j.machine → IsRunTo config then_.observer.trace j.machine → AreChunksBeside config then_ j
+  pub offers : (moment : ℕ) (i : Input) → IsMastersInput w e moment i → IsTrue w.master.up → choice.ending ≡ Goes → (ss : List PendingSnapshot) (k j : ChunkSides) → IsBeside config w ss k → LeadsTo k.machine j.machine → IsRunTo config then_.observer.trace j.machine → AreChunksBeside config then_ j
       → AreFileClients w.clients j.machine → AreOffersSo w then_ j.machine
 
 -- An event of the master keeps all so.
