@@ -56,9 +56,9 @@ master_stays config m (a ∷ rest) reached lawful of =
     let first = and_parts (is_of_master a) (list_all is_of_master rest) of in
     let more = master_stays config (after m a) rest (leads_on (new_machine config) m (after m a) reached (leads_by m a lawful.0)) lawful.1 first.1 in
     λ client s h.
-        let one = file_clients_stay config m reached a lawful.0 client (of_others a first.0 client) s h in
-        let two = more client s one.0 in
-        (two.0, λ i firm said. two.1 i firm (one.1 i firm said))
+    let one = file_clients_stay config m reached a lawful.0 client (of_others a first.0 client) s h in
+    let two = more client s one.0 in
+    (two.0, λ i firm said. two.1 i firm (one.1 i firm said))
 
 -- offers
 

@@ -149,7 +149,6 @@ module _ (config : Config) (servers clients : ℕ) (w : WorldState) (settings : 
     abbrev v : WorldState
     v = (happens w e choice).world
 
-
     -- where nothing is sent there is nothing to offer
     no_offers : v.sent ≡ w.sent → (m : Machine) → AreOffersSo w v m
     no_offers still m = record {

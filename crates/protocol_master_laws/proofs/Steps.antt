@@ -180,5 +180,5 @@ module _ (config : Config) (servers clients : ℕ) (w : WorldState) (r : IsReach
     step_taken asked =
         let orders = h.chunks.orders in
         let f = master_steps_are_taken config servers clients w r kept up moment i choice.refused n requests on_disk at_step (input_open i refl) refl orders to_disk.whole
-            (subst (λ x. AreAskedFor start.machine x w.master.disk d.changes) (sym orders) (asked start.machine (passes config servers clients w r e choice clocks ss k h moment).leads)) in
+        (subst (λ x. AreAskedFor start.machine x w.master.disk d.changes) (sym orders) (asked start.machine (passes config servers clients w r e choice clocks ss k h moment).leads)) in
         record { first = (steps_go_by_records config servers clients w r up moment i choice.refused n requests at_step (input_open i refl)).4; later = f.0; comes = f.1; beside = f.2; kept_on = f.3; trail = f.4 }
