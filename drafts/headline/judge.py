@@ -151,6 +151,10 @@ class Judge(simulate.Simulation):
 
     def check_told(self, world, machine, was_made, log):
         """Each location that was told: its round is over, or open in the file's chunk; up to a holder's version the handle stands for the chunk."""
+        places = [(h, (f, i)) for f, hs in log['table']['files'].items.items() for i, h in enumerate(hs)]
+        places += [(h, s) for h, s in self.sides[was_made][1].items() if h not in log['table']['chunks'].items]
+        rounds = [(h, self.chunk(machine, s)['round'], s) for h, s in places if self.chunk(machine, s)['is_open']]
+        rounds = [it for it in rounds if not self.is_over(world, it[0], it[1])]
         for file, location in self.told:
             handle, version, index = number(location['handle']), number(location['round']), location['index']
             if version and not self.is_over(world, handle, version):
@@ -162,6 +166,10 @@ class Judge(simulate.Simulation):
             entries = self.entries(world, handle)
             for bound in {version, *[number(h['version']) for h in location['holders']]}:
                 self.counts['judged holders'] += 1
+                for other, opened, spot in rounds:
+                    if opened <= bound:
+                        self.counts['judged apart'] += 1
+                        self.claim((other == handle) == (spot == (file, index)), f'apart {handle} {bound} {file} {index}: {other} {opened} {spot}')
                 self.claim([e for e in entries if e['round'] <= bound] == [e for e in order if e['round'] <= bound], f'holder of {handle} at {bound} for {file} {index}')
 
     def is_round_open(self, world, machine, handle, version, spot):

@@ -1,6 +1,6 @@
 -- The machine's chunks beside a world, from each world to the next.
-use Rattle.std.proofs.Common.{◌≡◌, ℕ, ◌-◌, true, false, List, [], ◌∷◌, Option, Some, None, refl, sym, ap, subst, ◌∙◌, inl, inr, arith}
-use Rattle.std.specs.Prelude.{◌&&◌, nat_lt, nat_le, option_map, unwrap_or}
+use Rattle.std.proofs.Common.{◌≡◌, ℕ, ◌-◌, ◌<◌, true, false, List, [], ◌∷◌, Option, Some, None, refl, sym, ap, subst, ◌∙◌, inl, inr, arith}
+use Rattle.std.specs.Prelude.{◌&&◌, nat_lt, nat_le, filter, option_map, unwrap_or}
 use Rattle.std.specs.List.{list_all}
 use Rattle.std.specs.Ordering.{nat_cmp}
 use Rattle.std.specs.FinMap as table
@@ -31,9 +31,15 @@ use Rattle.protocol_machine_laws.specs.ChunksAlike.{ChunkSides, IsRoundOpen, Are
 use Rattle.protocol_machine_laws.proofs.Plain.{other_changes_keep_chunks}
 use Rattle.protocol_whole_laws.specs.Rounds.{IsLogOf, IsMastersStep, IsEnded}
 use Rattle.protocol_whole_laws.specs.ServerSteps.{is_of_entries, ComesToOrders}
+use Rattle.protocol_whole_laws.specs.Tries.{IsNumberedAt, IsRise}
+use Rattle.protocol_whole_laws.specs.HoldersApart.{IsRoundAt}
+use Rattle.protocol_whole_laws.specs.ToldHolders.{IsStandingFor, AreHoldersTold}
 use Rattle.protocol_whole_laws.specs.ToldRounds.{AreToldRounds}
+use Rattle.protocol_invariant.specs.Actions.{Spot}
+use Rattle.relaxed_file.specs.Order.{Entry}
 use Rattle.protocol_whole_laws.specs.ChunksBeside.{AreChunksBeside, NewChunksAreBeside, SameFilesKeepChunksBeside, IsMastersEvent, OtherEventsKeepChunksBeside, MastersEventsKeepChunksBeside}
 use Rattle.protocol_whole_laws.proofs.EndedRounds.{ungranted_is_over, other_events_keep_rounds, rounds_go, new_rounds}
+use Rattle.protocol_whole_laws.proofs.HoldersOn.{holders_go_on}
 use Rattle.protocol_whole_laws.proofs.ServerSteps.{other_events_are_taken}
 use Rattle.protocol_whole_laws.proofs.ToldRounds.{no_round_is_told_at_first, told_rounds_go_on}
 
@@ -126,14 +132,19 @@ other_events_keep_chunks_beside config servers clients w r kept e choice clocks 
     gone = comes.gone h.gone;
     rounds = other_events_keep_rounds config servers clients w r e choice clocks no_step k j h.rounds none_ended;
     told = told_rounds_go_on config servers clients w r e choice clocks k j h.log h.alike h.rounds none_ended h.told;
+    holders = holders_go_on config servers clients w r e choice clocks no_step k j comes.standing h.holders;
   },
+  (came.0, comes.tries),
 )
   where
     no_step : IsMastersStep w e → ⊥
     no_step is = not (masters_step w e is)
 
-    comes : ComesToOrders k (happens w e choice).world.observer.orders
-    comes = other_events_are_taken config servers clients w r kept e choice clocks no_step k h.settings h.orders h.log h.alike h.rounds calls
+    came : (g : Option (IsNumberedAt w (happens w e choice).world k)) × ComesToOrders (IsLeaseOver w) k (happens w e choice).world.observer.orders (IsRise w (happens w e choice).world k g)
+    came = other_events_are_taken config servers clients w r kept e choice clocks no_step k h.settings h.orders h.log h.alike h.rounds calls
+
+    comes : ComesToOrders (IsLeaseOver w) k (happens w e choice).world.observer.orders (IsRise w (happens w e choice).world k came.0)
+    comes = came.1
 
     j : ChunkSides
     j = moved k comes.actions k.log k.gone (happens w e choice).world.observer.orders
@@ -145,8 +156,9 @@ other_events_keep_chunks_beside config servers clients w r kept e choice clocks 
     ]
 
 pub masters_events_keep_chunks_beside : MastersEventsKeepChunksBeside
-masters_events_keep_chunks_beside config servers clients w r e choice clocks k j h settings log orders alike gone keeps sent = record {
+masters_events_keep_chunks_beside config servers clients w r e choice clocks k j h settings log orders alike gone keeps sent holders = record {
   gone = gone;
+  holders = holders;
   settings = settings;
   log = log;
   orders = orders;
@@ -181,6 +193,27 @@ module _ (config : Config) (w : WorldState) (k : ChunkSides) (m : Machine) (h : 
     | inr was_open ↦ inr (was_open.0, still_open handle version was_open.0 was_open.1)
   ]
 
+  round_before : (handle version : ℕ) (s : Spot) → IsRoundAt later handle version s → IsRoundAt k handle version s
+  round_before handle version s at = record {
+    place = at.place;
+    round = sym (ap (λ (f : ℕ → FileState). ((f s.file).chunks s.index).round) files) ∙ at.round;
+    is_open = sym (ap (λ (f : ℕ → FileState). ((f s.file).chunks s.index).is_open) files) ∙ at.is_open;
+  }
+
+  still_standing : (file index handle version : ℕ) → IsStandingFor w k file index handle version → IsStandingFor w later file index handle version
+  still_standing file index handle version x = record {
+    stands = record {
+      count = subst (λ (f : ℕ → FileState). index < (f file).chunk_count) (sym files) (x.stands).count;
+      entries = (x.stands).entries ∙ sym (ap (λ (f : ℕ → FileState). filter (λ (e : Entry). nat_le e.round version) ((f file).chunks index).order) files);
+    };
+    apart = λ other round t at few. x.apart other round t (round_before other round t at) few;
+  }
+
+  still_held : AreHoldersTold w later
+  still_held client file l t =
+      let it = h.holders client file l t in
+      record { round = still_standing file l.index l.handle.0 l.round.0 it.round; holders = λ n x there. let one = it.holders n x there in (one.0, still_standing file l.index l.handle.0 x.version.0 one.1) }
+
   still_alike : AreChunksAlike later
   still_alike = (other_changes_keep_chunks k later h.alike (record { lists = refl; grants = λ handle. refl; next = omega arith; gone = refl; orders = refl; files = files })).alike
 
@@ -193,6 +226,7 @@ same_files_keep_chunks_beside config w k m h settings files = record {
   gone = λ handle s stood. h.gone handle s stood ∙ sym (ap (λ (f : ℕ → FileState). ((f s.file).chunks s.index).order) files);
   rounds = still_rounds config w k m h files;
   told = still_told config w k m h files;
+  holders = still_held config w k m h files;
 }
 
 -- a new cell
@@ -209,5 +243,6 @@ new_chunks_are_beside config servers clients = record {
   };
   rounds = λ handle version. inl (ungranted_is_over config servers clients (new_world config servers clients) ([], refl) handle version refl);
   told = no_round_is_told_at_first config servers clients _;
+  holders = λ client file l t. none_some t.told (t.sent_is).1;
   gone = λ handle s stood. none_some s stood.0;
 }

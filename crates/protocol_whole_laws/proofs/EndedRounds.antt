@@ -177,13 +177,13 @@ masters_input w (event.Rot server q place byte) moment i given = absurd given
 masters_input w (event.Fuse n count torn) moment i given = absurd given
 
 module _ (w : WorldState) (handle version : ℕ) where
-  abbrev GrantsNoMore : WorldState → Type 0
+  abbrev pub GrantsNoMore : WorldState → Type 0
   GrantsNoMore v = grants_of handle version v.sent ≤ grants_of handle version w.sent
 
   quiet : (ms : List Message) → HasNoOrder ms → grants_of handle version (w.sent ++ stamped (suc (length w.sent)) ms) ≤ grants_of handle version w.sent
   quiet ms none = quiet_sent w.sent (suc (length w.sent)) ms handle version none
 
-  none_granted : HoldsAfter w (λ e x. (IsMastersStep w e → ⊥) → GrantsNoMore x.world)
+  pub none_granted : HoldsAfter w (λ e x. (IsMastersStep w e → ⊥) → GrantsNoMore x.world)
   none_granted = record {
     nothing = λ e not. omega arith;
     masters = λ e moment i choice given up not. absurd (not (masters_input w e moment i given));

@@ -14,6 +14,8 @@ pub mod FileWalk
 pub mod GrantedRecords
 pub mod GrantedSources
 pub mod GrantsLast
+pub mod HoldersApart
+pub mod HoldersOn
 pub mod MachineSteps
 pub mod MasterChunks
 pub mod MasterKept
@@ -35,6 +37,7 @@ pub mod SoundLogs
 pub mod StoppedSteps
 pub mod ToldHolders
 pub mod ToldRounds
+pub mod TriesRise
 pub mod UnaskedAdds
 pub mod UnusedNumbers
 pub mod WaitedNumbers

@@ -1,12 +1,14 @@
 -- What the whole machine comes to, put together: changes one after the other, and rows of handles that no file has.
-use Rattle.std.proofs.Common.{◌≡◌, ◌⊎◌, ℕ, ◌≤◌, Bool, true, List, [], ◌∷◌, ◌++◌, Option, Some, None, refl, sym, ap, subst, ◌∙◌, inl, inr, arith}
-use Rattle.std.specs.Prelude.{unwrap_or, ◌&&◌}
-use Rattle.std.proofs.lemmas.Bool.{and_parts}
+use Rattle.std.proofs.Common.{◌≡◌, ◌⊎◌, ℕ, ◌≤◌, Bool, true, false, List, [], ◌∷◌, ◌++◌, Option, Some, None, refl, sym, ap, subst, ◌∙◌, inl, inr, arith}
+use Rattle.std.specs.Prelude.{◌&&◌, unwrap_or}
 use Rattle.std.specs.FinMap as table
 use Rattle.chunk_table.specs.ChunkTable.{ChunkRow, file_of, handles_of, chunk_of}
 use Rattle.relaxed_file.specs.Machine.{Machine}
-use Rattle.relaxed_file.specs.Run.{Action, Visible, IsLawful, after_all, shown, visible}
+use Rattle.relaxed_file.specs.Run.{Action, Place, Visible, IsLawful, after_all, shown, visible}
 use Rattle.std.specs.List.{cons_option, list_all}
+use Rattle.std.proofs.lemmas.Bool.{and_parts}
+use Rattle.name_runs.specs.Laws.{is_name_action}
+use Rattle.protocol_whole_laws.specs.Tries.{places_nothing}
 use Rattle.protocol.specs.Tables.{Table, element_at}
 use Rattle.protocol.specs.Logged.{Logged}
 use Rattle.protocol_laws.proofs.Steps.{none_some, same_some}
@@ -43,6 +45,17 @@ visible_split (x ∷ xs) ys = by_seen (shown x) (visible_split xs ys)
 visible_both : (xs ys : List Action) → visible xs ≡ [] → visible ys ≡ [] → visible (xs ++ ys) ≡ []
 visible_both xs ys one two = visible_split xs ys ∙ ap (λ (seen : List Visible). seen ++ visible ys) one ∙ two
 
+places_both : (xs ys : List Action) → list_all places_nothing xs ≡ true → list_all places_nothing ys ≡ true → list_all places_nothing (xs ++ ys) ≡ true
+places_both [] ys one two = two
+places_both (x ∷ xs) ys one two =
+    let both = and_parts (places_nothing x) (list_all places_nothing xs) one in
+    ap (λ (b : Bool). b && list_all places_nothing (xs ++ ys)) both.0 ∙ places_both xs ys both.1 two
+
+-- actions on names place nothing
+pub names_place_nothing : (a : Action) → is_name_action a ≡ true → places_nothing a ≡ true
+names_place_nothing (Place client file index mutation) is = absurd (let no : false ≡ true = is in cc)
+names_place_nothing other is = refl
+
 all_both : (xs ys : List Action) → list_all is_of_master xs ≡ true → list_all is_of_master ys ≡ true → list_all is_of_master (xs ++ ys) ≡ true
 all_both [] ys one two = two
 all_both (x ∷ xs) ys one two =
@@ -55,13 +68,14 @@ comes_both E F G k j i a n e f one two = record {
   lawful = lawful_both k.machine one.actions two.actions one.lawful (subst (λ (m : Machine). IsLawful m two.actions) (sym one.leads) two.lawful);
   leads = after_both k.machine one.actions two.actions ∙ ap (λ (m : Machine). after_all m two.actions) one.leads ∙ two.leads;
   unseen = visible_both one.actions two.actions one.unseen two.unseen;
+  places = places_both one.actions two.actions one.places two.places;
   of_master = all_both one.actions two.actions one.of_master two.of_master;
   rounds = rounds_both E F G k j i e f one.rounds two.rounds;
   whole = two.whole;
 }
 
 pub stays_whole : (k : ChunkSides) (n : Machine) → IsWhole k n → Comes NoneEnds k k n
-stays_whole k n h = record { actions = []; lawful = tt; leads = refl; unseen = refl; of_master = refl; rounds = λ handle version s was_open. inr was_open; whole = h }
+stays_whole k n h = record { actions = []; lawful = tt; leads = refl; unseen = refl; places = refl; of_master = refl; rounds = λ handle version s was_open. inr was_open; whole = h }
 
 -- rows at one handle
 
@@ -140,6 +154,7 @@ fewer_end E F k j n f h = record {
   lawful = h.lawful;
   leads = h.leads;
   unseen = h.unseen;
+  places = h.places;
   of_master = h.of_master;
   rounds = λ handle version s was_open. elim (h.rounds handle version s was_open) [ inl over ↦ inl (f handle version s was_open over) | inr still ↦ inr still ];
   whole = h.whole;
@@ -156,6 +171,7 @@ rows_taken k n l H h apart rows lists next_file next_handle =
       lawful = tt;
       leads = refl;
       unseen = refl;
+      places = refl;
       of_master = refl;
       rounds = kept.rounds;
       whole = record { names = h.names; chunks = kept.alike; below = λ handle s is. let low = h.below handle s is in omega (arith, low, next_handle) };

@@ -1,6 +1,6 @@
 -- Actions on names that touch no file, and a file that is created.
 use Rattle.std.proofs.Common.{◌≡◌, ℕ, suc, ◌≤◌, Bool, true, cond, List, [], ◌∷◌, Option, None, refl, sym, ap, subst, ◌∙◌, inl, inr, arith}
-use Rattle.std.specs.Prelude.{IsFalse, ◌&&◌}
+use Rattle.std.specs.Prelude.{◌&&◌, IsFalse}
 use Rattle.std.specs.List.{cons_option, list_all}
 use Rattle.std.proofs.lemmas.Bool.{true≢false}
 use Rattle.gfs_types.specs.declared.call.Call.{Call}
@@ -27,7 +27,7 @@ use Rattle.protocol_machine_laws.proofs.Plain.{other_changes_keep_chunks}
 use Rattle.protocol_machine_laws.proofs.Adds.{new_files_have_no_chunk}
 use Rattle.protocol_machine_laws.proofs.Rows.{granted_of}
 use Rattle.protocol_whole_laws.specs.MasterSteps.{IsWhole, is_of_master, Comes, QuietRunsAreTaken, EndsAt, HasOpened, recorded}
-use Rattle.protocol_whole_laws.proofs.MasterKept.{keeps_both, comes_both, stays_whole}
+use Rattle.protocol_whole_laws.proofs.MasterKept.{keeps_both, comes_both, stays_whole, names_place_nothing}
 
 pub more_end : (E F : ℕ → Type 0) (k j : ChunkSides) (n : Machine) → ((handle : ℕ) → E handle → F handle) → Comes E k j n → Comes F k j n
 more_end E F k j n f h = record {
@@ -35,6 +35,7 @@ more_end E F k j n f h = record {
   lawful = h.lawful;
   leads = h.leads;
   unseen = h.unseen;
+  places = h.places;
   of_master = h.of_master;
   rounds = λ handle version s was_open. elim (h.rounds handle version s was_open) [ inl over ↦ inl (f handle over) | inr still ↦ inr still ];
   whole = h.whole;
@@ -111,6 +112,7 @@ module _ (k : ChunkSides) (n : Machine) (h : IsWhole k n) where
         lawful = (took.0, tt);
         leads = refl;
         unseen = ap (λ (o : Option Visible). cons_option o []) unseen;
+        places = ap (λ (b : Bool). b && true) (names_place_nothing action is);
         of_master = one_of_master action is unseen;
         rounds = kept.rounds;
         whole = record { names = took.1; chunks = kept.alike; below = λ handle s is. let low = h.below handle s is in omega (arith, low, next_handle) };
@@ -169,6 +171,7 @@ module _ (k : ChunkSides) (n : Machine) (h : IsWhole k n) where
         lawful = (took.0, tt);
         leads = refl;
         unseen = ap (λ (o : Option Visible). cons_option o []) unseen;
+        places = ap (λ (b : Bool). b && true) (names_place_nothing action is);
         of_master = one_of_master action is unseen;
         rounds = kept.rounds;
         whole = record { names = took.1; chunks = kept.alike; below = λ handle s is. let low = h.below handle s is in omega (arith, low, next_handle) };

@@ -1,10 +1,11 @@
 -- A snapshot: the open rounds below its source are closed, and its call takes effect.
 use Rattle.std.proofs.Common.{◌≡◌, ◌⊎◌, ℕ, suc, ◌+◌, ◌≤◌, ◌<◌, Bool, true, false, cond, List, [], ◌∷◌, ◌++◌, length, Option, Some, refl, sym, ap, subst, ◌∙◌, inl, inr, arith}
 use Rattle.std.specs.Prelude.{◌==◌, flat_map, unwrap_or, IsFalse}
+use Rattle.std.specs.List.{list_all}
+use Rattle.protocol_whole_laws.specs.Tries.{places_nothing}
 use Rattle.std.specs.FinMap as table
 use Rattle.std.proofs.lemmas.Bool.{eqb-true, cases_lt}
 use Rattle.chunk_table.specs.ChunkTable.{file_of}
-use Rattle.std.specs.List.{list_all}
 use Rattle.gfs_types.specs.Paths.{Path}
 use Rattle.gfs_types.specs.declared.call.Call.TheVariants as call
 use Rattle.log_records.specs.declared.record.Record.{Record}
@@ -47,6 +48,12 @@ rounds_keep_names (OpenRound file index round ∷ rest) m n of may h =
     rounds_keep_names rest (after m (OpenRound file index round)) n of may.1 (chunk_actions_keep_names m n (OpenRound file index round) h refl may.0)
 rounds_keep_names (CloseRound file index ∷ rest) m n of may h = rounds_keep_names rest (after m (CloseRound file index)) n of may.1 (chunk_actions_keep_names m n (CloseRound file index) h refl may.0)
 rounds_keep_names (other ∷ rest) m n of may h = absurd of
+
+pub rounds_place_nothing : (xs : List Action) → AreOfRounds xs → list_all places_nothing xs ≡ true
+rounds_place_nothing [] of = refl
+rounds_place_nothing (OpenRound file index round ∷ rest) of = rounds_place_nothing rest of
+rounds_place_nothing (CloseRound file index ∷ rest) of = rounds_place_nothing rest of
+rounds_place_nothing (other ∷ rest) of = absurd of
 
 pub rounds_unseen : (xs : List Action) → AreOfRounds xs → visible xs ≡ []
 rounds_unseen [] of = refl
@@ -242,6 +249,7 @@ module _ (k : ChunkSides) (n : Machine) (h : IsWhole k n) (named : HasNamesOf k.
         lawful = went.allowed;
         leads = refl;
         unseen = rounds_unseen closes (of_rounds closes are);
+        places = rounds_place_nothing closes (of_rounds closes are);
         of_master = rounds_of_master closes (of_rounds closes are);
         rounds = (went.keeps).rounds;
         whole = record { names = rounds_keep_names closes k.machine n (of_rounds closes are) went.allowed h.names; chunks = (went.keeps).alike; below = h.below };
@@ -266,7 +274,7 @@ module _ (k : ChunkSides) (n : Machine) (h : IsWhole k n) (named : HasNamesOf k.
       done_files closed.machine client moment outcome (call.Snapshot from to) its plain ∙ ap (λ (names : Names). (snapshot_taken closed.machine (copied_entries names from to)).files) (sym names_are) in
       let two : KeepsChunks NoneEnds done j = other_changes_keep_chunks done j one.alike (record { lists = refl; grants = λ handle. refl; next = omega arith; gone = refl; orders = refl; files = files }) in
       let kept : KeepsChunks NoneEnds closed j = keeps_both NoneEnds NoneEnds NoneEnds closed done j (λ handle none. none) (λ handle none. none) one two in
-      record { actions = action ∷ []; lawful = (took.0, tt); leads = refl; unseen = refl; of_master = refl; rounds = kept.rounds; whole = record { names = took.1; chunks = kept.alike; below = h.below } }
+      record { actions = action ∷ []; lawful = (took.0, tt); leads = refl; unseen = refl; places = refl; of_master = refl; rounds = kept.rounds; whole = record { names = took.1; chunks = kept.alike; below = h.below } }
 
   pub snapshot_taken_whole : (m : Machine) × Comes (EndsAt k.log entry) k (recorded k entry m) (after n action) × HasOpened (recorded k entry m) entry
   snapshot_taken_whole = (

@@ -24,7 +24,7 @@ use Rattle.protocol_name_laws.specs.NameTrails.{log_read, HasCall, IsActionOf, I
 use Rattle.protocol_name_laws.proofs.NameSteps.{stepped_at, look_effect, either}
 use Rattle.protocol_machine_laws.specs.ChunksAlike.{ChunkSides, NoneEnds}
 use Rattle.protocol_machine_laws.proofs.Closings.{after_both, lawful_both}
-use Rattle.protocol_whole_laws.specs.MasterSteps.{IsWhole, Comes, EndsAt, IsDueAt, recorded, RecordsAreTaken, HaveSameFiles, EndsAtChange, IsChangeDue, HasOpenedAt, AreChangesDue, WholeTrail, ChangesAreTaken, IsCopy}
+use Rattle.protocol_whole_laws.specs.MasterSteps.{IsWhole, Comes, EndsAt, IsDueAt, recorded, RecordsAreTaken, HaveSameFiles, EndsAtChange, IsChangeDue, HasOpenedAt, HasFilesOf, AreChangesDue, WholeTrail, ChangesAreTaken, IsCopy}
 use Rattle.protocol_whole_laws.proofs.MasterKept.{copies_may_come_and_go}
 use Rattle.protocol_whole_laws.proofs.MasterNames.{more_end, whole_call, ready_for, done_files, refused_files, plainly_taken, refused_taken, created, quiet_runs_are_taken}
 use Rattle.protocol_whole_laws.proofs.MasterSnapshots.{snapshot_taken_whole}
@@ -130,6 +130,21 @@ quiet_names (action ∷ rest) l n later quiet named = quiet_names rest l (after 
         (subst (λ (x : Machine). HasNamesOf l x) (sym (either (is_refused outcome) n (performed n c moment) none)) named)
     by_action other may is = absurd is
 
+quiet_files : (actions : List Action) (l : Logged) (n later : Machine) → AreQuiet n actions later → HasFilesOf l n → HasFilesOf l later
+quiet_files [] l n later same has = subst (λ (x : Machine). HasFilesOf l x) same has
+quiet_files (action ∷ rest) l n later quiet has = quiet_files rest l (after n action) later quiet.2 (by_action action quiet.0 quiet.1)
+  where
+    by_action : (a : Action) → Allows n a → IsQuiet n a → HasFilesOf l (after n a)
+    by_action (Lock client) may is = has
+    by_action (FindBusy client holder) may is = has
+    by_action (Step client moment outcome) may is =
+        let c : Call = is.0 in
+        let call = is.1 in
+        let none : performed n c moment ≡ n = (look_effect n c is.2 moment).0 in
+        stepped_at (λ (x : Machine). HasFilesOf l x) n client moment outcome call.0 c call.1 call.2
+        (subst (λ (x : Machine). HasFilesOf l x) (sym (either (is_refused outcome) n (performed n c moment) none)) has)
+    by_action other may is = absurd is
+
 -- all changes
 
 leads_then : (first m later : Machine) (actions : List Action) → LeadsTo first m → IsLawful m actions → after_all m actions ≡ later → LeadsTo first later
@@ -158,21 +173,22 @@ change_taken d (WriteCheckpoint items) k a b is h named change due =
     record { j = j; comes = subst (λ (x : Machine). Comes NoneEnds k j x) change (more_end (IsCopy l) NoneEnds k j a due.1 one); is_log = refl; same_orders = refl; opened = tt }
 
 module _ (requests : Requests) (first_names : Machine) (start : LogDisk) (later first : Machine) (orders : Table (List Placed)) where
-  all_taken : (changes : List LogChange) (d : LogDisk) (k : ChunkSides) (n : Machine) → LeadsTo first k.machine → k.orders ≡ orders → IsWhole k n → k.log ≡ log_read d → HasNamesOf k.log n → NameTrail requests first_names start d n changes later
+  all_taken : (changes : List LogChange) (d : LogDisk) (k : ChunkSides) (n : Machine) → LeadsTo first k.machine → k.orders ≡ orders → IsWhole k n → k.log ≡ log_read d → HasNamesOf k.log n → HasFilesOf k.log n → NameTrail requests first_names start d n changes later
       → AreChangesDue first orders d changes → WholeTrail requests first_names start d k changes later
-  all_taken [] d k n led same_orders h is named trail due = quiet_runs_are_taken k n later h trail
-  all_taken (x ∷ rest) d k n led same_orders h is named trail due =
+  all_taken [] d k n led same_orders h is named has trail due = quiet_runs_are_taken k n later h trail
+  all_taken (x ∷ rest) d k n led same_orders h is named has trail due =
       let a : Machine = trail.0 in
       let b : Machine = trail.1 in
       let quiet = quiet_runs_are_taken k n a h trail.2 in
       let k1 : ChunkSides = record k { machine = quiet.0 } in
       let led1 : LeadsTo first k1.machine = leads_then first k.machine k1.machine (quiet.1).actions led (quiet.1).lawful (quiet.1).leads in
       let named1 : HasNamesOf k1.log a = quiet_names (trail.2).0 k.log n a (trail.2).1 named in
-      let taken : IsTakenChange d k1 b x = change_taken d x k1 a b is (quiet.1).whole named1 trail.3 (due.0 k1 a led1 is same_orders (quiet.1).whole) in
+      let taken : IsTakenChange d k1 b x = change_taken d x k1 a b is (quiet.1).whole named1 trail.3 (due.0 k1 a led1 is same_orders (quiet.1).whole (quiet_files (trail.2).0 k.log n a (trail.2).1 has)) in
       let j : ChunkSides = taken.j in
       let named2 : HasNamesOf j.log b = subst (λ (l : Logged). HasNamesOf l b) (sym taken.is_log) (((trail.4).alike).names, ((trail.4).alike).next) in
+      let has2 : HasFilesOf j.log b = subst (λ (l : Logged). HasFilesOf l b) (sym taken.is_log) ((trail.4).alike).files in
       let led2 : LeadsTo first j.machine = leads_then first k1.machine j.machine (taken.comes).actions led1 (taken.comes).lawful (taken.comes).leads in
-      (j, quiet.0, a, b, record { quiet = quiet.1; comes = taken.comes; log = taken.is_log; orders = taken.same_orders; opened = taken.opened; beside = trail.4 }, all_taken rest (log_changed d x) j b led2 (taken.same_orders ∙ same_orders) (taken.comes).whole taken.is_log named2 trail.5 due.1)
+      (j, quiet.0, a, b, record { quiet = quiet.1; comes = taken.comes; log = taken.is_log; orders = taken.same_orders; opened = taken.opened; beside = trail.4 }, all_taken rest (log_changed d x) j b led2 (taken.same_orders ∙ same_orders) (taken.comes).whole taken.is_log named2 has2 trail.5 due.1)
 
 pub changes_are_taken : ChangesAreTaken
-changes_are_taken requests first start d changes k n later h is named trail due = all_taken requests first start later k.machine k.orders changes d k n ([], tt, refl) refl h is named trail due
+changes_are_taken requests first start d changes k n later h is named has trail due = all_taken requests first start later k.machine k.orders changes d k n ([], tt, refl) refl h is named has trail due

@@ -1,5 +1,5 @@
 -- What a server numbers and settles in a step, the machine places and settles.
-use Rattle.std.proofs.Common.{◌≡◌, ℕ, zero, suc, ◌+◌, ◌*◌, ◌<◌, ◌≤◌, Bool, true, false, List, [], ◌∷◌, length, Some, refl, sym, ap, subst, ◌∙◌, inl, inr, map, ◌++◌, ◌⊎◌, Option}
+use Rattle.std.proofs.Common.{◌≡◌, ℕ, zero, suc, ◌+◌, ◌*◌, ◌<◌, ◌≤◌, Bool, true, false, List, [], ◌∷◌, length, Some, refl, sym, ap, subst, ◌∙◌, inl, inr, map, ◌++◌, Option, None}
 use Rattle.std.specs.Prelude.{IsTrue, unwrap_or, option_map}
 use Rattle.std.specs.List.{list_all}
 use Rattle.std.specs.FinMap as table
@@ -19,7 +19,7 @@ use Rattle.messages.specs.declared.event.Input.TheVariants as input
 use Rattle.messages.specs.declared.message.Message.{Message}
 use Rattle.primary_order.specs.declared.order.SerialOrder.{SerialOrder}
 use Rattle.relaxed_file.specs.Order.{CallId, Entry}
-use Rattle.relaxed_file.specs.Machine.{Machine, chunk_size, chunk_at, OpenCall}
+use Rattle.relaxed_file.specs.Machine.{Machine, Chunk, chunk_size, chunk_at, chunk_count, OpenCall}
 use Rattle.relaxed_file.specs.Chunks.{IsPastAll, is_an_end, AsksFor, with_entry, placed as put_there_by}
 use Rattle.relaxed_file.specs.Run.{Action, Place, Settle, Visible, IsLawful, visible, after, after_all}
 use Rattle.protocol.specs.Choice.{Choice}
@@ -61,9 +61,13 @@ use Rattle.protocol_machine_laws.specs.ChunksAlike.{ChunkSides, entries_in, IsRo
 use Rattle.protocol_machine_laws.specs.EntrySteps.{StandsNowhereElse, IsWanted, IsOnlyPlace}
 use Rattle.protocol_machine_laws.proofs.Orders.{numbered_mutations_are_placed}
 use Rattle.protocol_machine_laws.proofs.OpenRounds.{counting_rounds_are_open}
+use Rattle.protocol_whole_laws.specs.HoldersApart.{KeepsStanding}
 use Rattle.protocol_whole_laws.specs.Rounds.{IsLogOf, IsMastersStep}
 use Rattle.protocol_whole_laws.specs.ServerSteps.{AreDataOf, HasPartLeft, IsForOpenCall, AreForOpenCalls, is_of_entries, ComesToOrders, EntryActionsAreUnseen, OtherEventsAreTaken, AreGoneOrdersAlike}
+use Rattle.protocol_whole_laws.specs.Tries.{IsNumberedAt, IsRise, RiseBy}
+use Rattle.protocol_whole_laws.proofs.TriesRise.{place_tries}
 use Rattle.protocol_whole_laws.proofs.EndedRounds.{masters_input, leased_chunks_stand_once}
+use Rattle.protocol_whole_laws.proofs.HoldersApart.{standing_kept, later_entries}
 use Rattle.protocol_whole_laws.proofs.Settlements.{IsSettlingDue, due_later, takes_nothing, takes_more, settles_all, counted_entry, gone_kept}
 use Rattle.protocol_machine_laws.proofs.OneChunk.{one_changed}
 
@@ -128,9 +132,12 @@ module _ (config : Config) (servers clients : ℕ) (w : WorldState) (r : IsReach
   open_under : (handle version : ℕ) (p : SerialOrder) → primary_of (server_at s moment) handle version ≡ Some p → (at : Spot) × IsRoundOpen k handle version at
   open_under handle version p counts = counting_rounds_are_open config servers clients w r k has moment clocks index s there handle version p counts
 
+  not_over_under : (handle version : ℕ) (p : SerialOrder) → primary_of (server_at s moment) handle version ≡ Some p → IsLeaseOver w handle version → ⊥
+  not_over_under handle version p counts over = none_some p (sym (over_leases_number_nothing config servers clients w r handle version over moment clocks index s there) ∙ counts)
+
   once_under : (handle version : ℕ) (p : SerialOrder) → primary_of (server_at s moment) handle version ≡ Some p → StandsNowhereElse k handle
   once_under handle version p counts = elim (leased_chunks_stand_once config servers clients w r before k log handle version) [
-    | inl over ↦ none_some p (sym (over_leases_number_nothing config servers clients w r handle version over moment clocks index s there) ∙ counts)
+    | inl over ↦ absurd (not_over_under handle version p counts over)
     | inr once ↦ once
   ]
 
@@ -157,13 +164,13 @@ module _ (config : Config) (servers clients : ℕ) (w : WorldState) (r : IsReach
           ),
         )
 
-    settling_due : IsSettlingDue k end (BecameSettled handle version serial)
+    settling_due : IsSettlingDue (IsLeaseOver w) k end (BecameSettled handle version serial)
     settling_due =
         let was_open = open_under handle.0 version.0 acknowledged.lease acknowledged.counts in
         let only = subst (λ (o : Table (List Placed)). (at : ℕ) × IsOnlyPlace (placed_in o handle.0) version.0 serial.0 at) (sym end_is) only_there in
-        (was_open.0, was_open.1, once_under handle.0 version.0 acknowledged.lease acknowledged.counts, only.0, only.1)
+        (was_open.0, was_open.1, once_under handle.0 version.0 acknowledged.lease acknowledged.counts, not_over_under handle.0 version.0 acknowledged.lease acknowledged.counts, only.0, only.1)
 
-  one_due : (place : ℕ) (x : Seen) → element_at shown place ≡ Some x → NumbersNone x → IsOfServers x → IsSettlingDue k end x
+  one_due : (place : ℕ) (x : Seen) → element_at shown place ≡ Some x → NumbersNone x → IsOfServers x → IsSettlingDue (IsLeaseOver w) k end x
   one_due place (Numbered q v n id m) seen none of = absurd none
   one_due place (CopyStarted q copy) seen none of = absurd of
   one_due place (BecameSettled q v n) seen none of = settling_due q v n place seen
@@ -210,64 +217,109 @@ module _ (config : Config) (servers clients : ℕ) (w : WorldState) (r : IsReach
     placed : Follows NoneEnds k (action ∷ []) (moved k (action ∷ []) k.log k.gone (orders_after trace k.orders (Numbered handle version serial id m)))
     placed = numbered_mutations_are_placed k trace handle version serial id m was_open.0 h was_open.1 (once_under handle.0 version.0 (for_it).lease (for_it).lease_is) wanted
 
-    placed_gone : AreGoneOrdersAlike k → AreGoneOrdersAlike (moved k (action ∷ []) k.log k.gone (orders_after trace k.orders (Numbered handle version serial id m)))
-    placed_gone =
-        gone_kept k (action ∷ []) (orders_after trace k.orders (Numbered handle version serial id m)) handle.0 version.0 was_open.0 h was_open.1 (still_open (placed.keeps.rounds handle.0 version.0 was_open.0 was_open.1))
-        (λ other differs. ap (λ (o : Option (List Placed)). map (λ (p : Placed). p.entry) (unwrap_or o [])) (put_other k.orders handle.0 (placed_in k.orders handle.0 ++ new_entry trace version.0 serial.0 id m ∷ []) other differs))
-        (λ at apart.
-        ap (λ (o : Option OpenCall). chunk_in (unwrap_or (option_map (λ (c : OpenCall). put_there_by k.machine id.client.0 c (was_open.0).file (was_open.0).index m) o) k.machine) at) alike.is_open
-        ∙ (one_changed k.machine was_open.0 (with_entry (chunk_in k.machine was_open.0) (record { client = id.client.0; number = (alike.current).number }) m)).elsewhere at apart)
-      where
-        still_open : ⊥ ⊎ IsRoundOpen (moved k (action ∷ []) k.log k.gone (orders_after trace k.orders (Numbered handle version serial id m))) handle.0 version.0 was_open.0
-            → IsRoundOpen (moved k (action ∷ []) k.log k.gone (orders_after trace k.orders (Numbered handle version serial id m))) handle.0 version.0 was_open.0
-        still_open (inl none) = absurd none
-        still_open (inr still) = still
+    abbrev ordered : Table (List Placed)
+    ordered = orders_after trace k.orders (Numbered handle version serial id m)
+
+    still_open : IsRoundOpen (moved k (action ∷ []) k.log k.gone ordered) handle.0 version.0 was_open.0
+    still_open = elim (placed.keeps.rounds handle.0 version.0 was_open.0 was_open.1) [ inl none ↦ absurd none | inr still ↦ still ]
+
+    others : (other : ℕ) → (other ≡ handle.0 → ⊥) → entries_in ordered other ≡ entries_in k.orders other
+    others other differs = ap (λ (o : Option (List Placed)). map (λ (p : Placed). p.entry) (unwrap_or o [])) (put_other k.orders handle.0 (placed_in k.orders handle.0 ++ new_entry trace version.0 serial.0 id m ∷ []) other differs)
+
+    abbrev entered : Chunk
+    entered = with_entry (chunk_in k.machine was_open.0) (record { client = id.client.0; number = (alike.current).number }) m
+
+    machine_is : after_all k.machine (action ∷ []) ≡ put_there_by k.machine id.client.0 alike.current (was_open.0).file (was_open.0).index m
+    machine_is = ap (λ (o : Option OpenCall). unwrap_or (option_map (λ (c : OpenCall). put_there_by k.machine id.client.0 c (was_open.0).file (was_open.0).index m) o) k.machine) alike.is_open
+
+    elsewhere : (at : Spot) → (at ≡ was_open.0 → ⊥) → chunk_in (after_all k.machine (action ∷ [])) at ≡ chunk_in k.machine at
+    elsewhere at apart = ap (λ (x : Machine). chunk_in x at) machine_is ∙ (one_changed k.machine was_open.0 entered).elsewhere at apart
+
+    placed_gone : AreGoneOrdersAlike k → AreGoneOrdersAlike (moved k (action ∷ []) k.log k.gone ordered)
+    placed_gone = gone_kept k (action ∷ []) ordered handle.0 version.0 was_open.0 h was_open.1 still_open others elsewhere
+
+    placed_standing : KeepsStanding (IsLeaseOver w) k (moved k (action ∷ []) k.log k.gone ordered)
+    placed_standing =
+        standing_kept (IsLeaseOver w) k (action ∷ []) ordered handle.0 version.0 was_open.0 was_open.1 still_open (not_over_under handle.0 version.0 (for_it).lease (for_it).lease_is) others
+        (λ low less. later_entries low trace k.orders (Numbered handle version serial id m) handle.0 (λ same. less)) elsewhere
+        (λ file. ap (λ (x : Machine). chunk_count x file) machine_is ∙ (one_changed k.machine was_open.0 entered).counts file)
+
+    -- the one try that comes
+    abbrev numbered_at : IsNumberedAt w then_ k
+    numbered_at =
+        record {
+          index = index;
+          moment = moment;
+          server = s;
+          input = i;
+          choice = choice;
+          handle = handle;
+          version = version;
+          id = id;
+          numbers = numbers;
+          counts = clocks;
+          step_is = refl;
+          spot = was_open.0;
+          was_open = was_open.1;
+        }
+
+    placed_tries : RiseBy (IsRise w then_ k (Some numbered_at)) k.machine (after k.machine action)
+    placed_tries =
+        place_tries k.machine id.client.0 alike.current was_open.0 m (IsRise w then_ k (Some numbered_at)) alike.is_open
+        (λ c same no_pad. (refl, same ∙ (λ q. record { client = id.client.0; number = alike.number_is q }), no_pad))
 
   -- the first thing shown may be a numbering, and each other one is a settlement
-  taken : AreForOpenCalls w k → (xs : List Seen) → shown ≡ xs → NumbersOnce xs → AllOf IsOfServers xs → ComesToOrders k (orders_after_all trace k.orders xs)
-  taken calls [] is once of = takes_nothing k h
+  taken : AreForOpenCalls w k → (xs : List Seen) → shown ≡ xs → NumbersOnce xs → AllOf IsOfServers xs → (g : Option (IsNumberedAt w then_ k)) × ComesToOrders (IsLeaseOver w) k (orders_after_all trace k.orders xs) (IsRise w then_ k g)
+  taken calls [] is once of = (None, takes_nothing (IsLeaseOver w) k (λ t c. ⊥) h)
   taken calls (CopyStarted q copy ∷ xs) is once of = absurd of.0
-  taken calls (BecameSettled q v n ∷ xs) is once of =
-      settles_all k trace (BecameSettled q v n ∷ xs) h
-      (subst (λ (ys : List Seen). AllOf (IsSettlingDue k (orders_after_all trace k.orders ys)) (BecameSettled q v n ∷ xs)) is
-      (all_placed (IsSettlingDue k end) (BecameSettled q v n ∷ xs) (λ place x at. one_due place x (ap (λ (ys : List Seen). element_at ys place) is ∙ at)
-      (all_at NumbersNone (BecameSettled q v n ∷ xs) place x (tt, once) at) (all_at IsOfServers (BecameSettled q v n ∷ xs) place x of at))))
+  taken calls (BecameSettled q v n ∷ xs) is once of = (
+    None,
+    settles_all (IsLeaseOver w) k trace (BecameSettled q v n ∷ xs) h
+        (subst (λ (ys : List Seen). AllOf (IsSettlingDue (IsLeaseOver w) k (orders_after_all trace k.orders ys)) (BecameSettled q v n ∷ xs)) is
+        (all_placed (IsSettlingDue (IsLeaseOver w) k end) (BecameSettled q v n ∷ xs) (λ place x at. one_due place x (ap (λ (ys : List Seen). element_at ys place) is ∙ at)
+        (all_at NumbersNone (BecameSettled q v n ∷ xs) place x (tt, once) at) (all_at IsOfServers (BecameSettled q v n ∷ xs) place x of at)))),
+  )
   taken calls (Numbered q v n id m ∷ xs) is once of =
-      let first = placed calls q v n id m 0 (ap (λ (ys : List Seen). element_at ys 0) is) in
-      let act : Action = action calls q v n id m 0 (ap (λ (ys : List Seen). element_at ys 0) is) in
+      let seen : element_at shown 0 ≡ Some (Numbered q v n id m) = ap (λ (ys : List Seen). element_at ys 0) is in
+      let first = placed calls q v n id m 0 seen in
+      let act : Action = action calls q v n id m 0 seen in
       let orders : Table (List Placed) = orders_after trace k.orders (Numbered q v n id m) in
-      takes_more k orders (orders_after_all trace orders xs) act refl first (placed_gone calls q v n id m 0 (ap (λ (ys : List Seen). element_at ys 0) is))
-      (settles_all (moved k (act ∷ []) k.log k.gone orders) trace xs first.keeps.alike
-      (due_later k (act ∷ []) orders (orders_after_all trace orders xs) xs first.keeps.rounds
-      (subst (λ (ys : List Seen). AllOf (IsSettlingDue k (orders_after_all trace k.orders ys)) xs) is
-      (all_placed (IsSettlingDue k end) xs (λ place x at. one_due (suc place) x (ap (λ (ys : List Seen). element_at ys (suc place)) is ∙ at) (all_at NumbersNone xs place x once at) (all_at IsOfServers xs place x of.1 at))))))
+      let g : IsNumberedAt w then_ k = numbered_at calls q v n id m 0 seen in (
+        Some g,
+        takes_more (IsLeaseOver w) k orders (orders_after_all trace orders xs) (IsRise w then_ k (Some g)) act refl first (placed_gone calls q v n id m 0 seen) (placed_standing calls q v n id m 0 seen) (placed_tries calls q v n id m 0 seen)
+            (settles_all (IsLeaseOver w) (moved k (act ∷ []) k.log k.gone orders) trace xs first.keeps.alike
+            (due_later (IsLeaseOver w) k (act ∷ []) orders (orders_after_all trace orders xs) xs first.keeps.rounds
+            (subst (λ (ys : List Seen). AllOf (IsSettlingDue (IsLeaseOver w) k (orders_after_all trace k.orders ys)) xs) is
+            (all_placed (IsSettlingDue (IsLeaseOver w) k end) xs (λ place x at. one_due (suc place) x (ap (λ (ys : List Seen). element_at ys (suc place)) is ∙ at) (all_at NumbersNone xs place x once at) (all_at IsOfServers xs place x of.1 at)))))),
+      )
 
-  step_taken : AreForOpenCalls w k → ComesToOrders k then_.observer.orders
-  step_taken calls = subst (λ (o : Table (List Placed)). ComesToOrders k o) end_is (taken calls shown refl (step_once s moment i choice) (server_shown s moment i choice))
+  step_taken : AreForOpenCalls w k → (g : Option (IsNumberedAt w then_ k)) × ComesToOrders (IsLeaseOver w) k then_.observer.orders (IsRise w then_ k g)
+  step_taken calls =
+      let it = taken calls shown refl (step_once s moment i choice) (server_shown s moment i choice) in (it.0, subst (λ (o : Table (List Placed)). ComesToOrders (IsLeaseOver w) k o (IsRise w then_ k it.0)) end_is it.1)
 
 -- an event
 
 module _ (config : Config) (servers clients : ℕ) (w : WorldState) (r : IsReached config servers clients w) (kept : IsTrue (is_kept w))
     (k : ChunkSides) (settings : k.machine.config ≡ config) (orders_are : k.orders ≡ w.observer.orders) (log : IsLogOf w.master k.log) (h : AreChunksAlike k) (has : HasRounds (IsLeaseOver w) k) (calls : AreForOpenCalls w k) where
   abbrev IsTakenAt : Event → Happened → Type 0
-  IsTakenAt e x = IsReached config servers clients x.world → IsTrue x.world.observer.are_clocks_kept → (IsMastersStep w e → ⊥) → ComesToOrders k x.world.observer.orders
+  IsTakenAt e x = IsReached config servers clients x.world → IsTrue x.world.observer.are_clocks_kept → (IsMastersStep w e → ⊥) → (g : Option (IsNumberedAt w x.world k)) × ComesToOrders (IsLeaseOver w) k x.world.observer.orders (IsRise w x.world k g)
 
-  same_taken : (o : Table (List Placed)) → o ≡ w.observer.orders → ComesToOrders k o
-  same_taken o is = subst (λ (x : Table (List Placed)). ComesToOrders k x) (orders_are ∙ sym is) (takes_nothing k h)
+  same_taken : (u : WorldState) (o : Table (List Placed)) → o ≡ w.observer.orders → (g : Option (IsNumberedAt w u k)) × ComesToOrders (IsLeaseOver w) k o (IsRise w u k g)
+  same_taken u o is = (None, subst (λ (x : Table (List Placed)). ComesToOrders (IsLeaseOver w) k x (λ t c. ⊥)) (orders_are ∙ sym is) (takes_nothing (IsLeaseOver w) k (λ t c. ⊥) h))
 
-  none_shown : (trace : List Visible) (xs : List Seen) → xs ≡ [] → ComesToOrders k (orders_after_all trace w.observer.orders xs)
-  none_shown trace xs none = same_taken (orders_after_all trace w.observer.orders xs) (ap (λ (ys : List Seen). orders_after_all trace w.observer.orders ys) none)
+  none_shown : (u : WorldState) (trace : List Visible) (xs : List Seen) → xs ≡ [] → (g : Option (IsNumberedAt w u k)) × ComesToOrders (IsLeaseOver w) k (orders_after_all trace w.observer.orders xs) (IsRise w u k g)
+  none_shown u trace xs none = same_taken u (orders_after_all trace w.observer.orders xs) (ap (λ (ys : List Seen). orders_after_all trace w.observer.orders ys) none)
 
   each_taken : HoldsAfter w IsTakenAt
   each_taken = record {
-    nothing = λ e reached clocks not. same_taken w.observer.orders refl;
+    nothing = λ e reached clocks not. same_taken w w.observer.orders refl;
     masters = λ e moment i choice given up reached clocks not. absurd (not (masters_input w e moment i given));
-    opens = λ e moment choice reached clocks not. none_shown (observed_moment w.config.skew_ms w.observer moment).trace (master_restart w.master moment choice).seen (restart_shown w.master moment choice);
+    opens = λ e moment choice reached clocks not. none_shown _ (observed_moment w.config.skew_ms w.observer moment).trace (master_restart w.master moment choice).seen (restart_shown w.master moment choice);
     serves = λ e index moment s i choice at given up reached clocks not. step_taken config servers clients w r kept index s at moment i choice (came_in w e (suc index) moment i given) clocks reached k settings orders_are log h has calls;
-    restarts = λ e index moment s choice at reached clocks not. none_shown (observed_moment w.config.skew_ms w.observer moment).trace (server_restart s moment choice).seen (restarted_shown s moment choice choice.ending);
-    steps = λ e index moment s i choice at given up reached clocks not. same_taken _ (same_orders (observed_moment w.config.skew_ms w.observer moment) (suc index) (client_step s moment i choice).out.answer);
-    calls = λ e index moment s c choice at may reached clocks not. same_taken _ (same_orders _ (suc index) (client_call s moment c choice).out.answer);
-    rots = λ e index q s x place byte is_kept at there up reached clocks not. same_taken w.observer.orders refl;
+    restarts = λ e index moment s choice at reached clocks not. none_shown _ (observed_moment w.config.skew_ms w.observer moment).trace (server_restart s moment choice).seen (restarted_shown s moment choice choice.ending);
+    steps = λ e index moment s i choice at given up reached clocks not. same_taken _ _ (same_orders (observed_moment w.config.skew_ms w.observer moment) (suc index) (client_step s moment i choice).out.answer);
+    calls = λ e index moment s c choice at may reached clocks not. same_taken _ _ (same_orders _ (suc index) (client_call s moment c choice).out.answer);
+    rots = λ e index q s x place byte is_kept at there up reached clocks not. same_taken _ w.observer.orders refl;
   }
 
 pub other_events_are_taken : OtherEventsAreTaken

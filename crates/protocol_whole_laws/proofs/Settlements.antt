@@ -1,9 +1,10 @@
 -- What a server settles: each entry has its name, its round and its serial, before and after.
-use Rattle.std.proofs.Common.{◌≡◌, ℕ, zero, suc, ◌≤◌, Bool, true, false, cond, List, [], ◌∷◌, ◌++◌, map, length, Option, Some, refl, sym, ap, subst, ◌∙◌, inl, inr, arith, ◌⊎◌}
+use Rattle.std.proofs.Common.{◌≡◌, ℕ, zero, suc, ◌≤◌, Bool, true, false, cond, List, [], ◌∷◌, ◌++◌, map, length, Option, Some, refl, sym, ap, subst, ◌∙◌, inl, inr, arith}
 use Rattle.std.specs.Prelude.{◌==◌, ◌&&◌, filter, unwrap_or}
 use Rattle.std.specs.List.{list_all}
 use Rattle.std.proofs.lemmas.Bool.{eqb-true, cases_lt}
-use Rattle.relaxed_file.specs.Run.{Action, Settle, Visible, after_all}
+use Rattle.relaxed_file.specs.Order.{CallId}
+use Rattle.relaxed_file.specs.Run.{Action, Settle, Visible, after, after_all}
 use Rattle.protocol.specs.Tables.{Table, element_at, first_numbers}
 use Rattle.protocol.specs.declared.seen.Seen.{Seen}
 use Rattle.protocol.specs.declared.seen.Seen.TheVariants.{Numbered, BecameSettled, CopyStarted}
@@ -16,7 +17,11 @@ use Rattle.protocol_invariant.specs.Actions.{Spot}
 use Rattle.protocol_machine_laws.specs.ChunksAlike.{ChunkSides, IsRoundOpen, AreChunksAlike, NoneEnds, KeepsRounds, moved, Follows, StoodAt, chunk_in, entries_in}
 use Rattle.protocol_machine_laws.specs.EntrySteps.{StandsNowhereElse, IsOnlyPlace}
 use Rattle.protocol_machine_laws.proofs.Orders.{settled_entries_are_settled}
+use Rattle.protocol_whole_laws.specs.HoldersApart.{KeepsStanding}
 use Rattle.protocol_whole_laws.specs.ServerSteps.{is_of_entries, ComesToOrders, AreGoneOrdersAlike}
+use Rattle.protocol_whole_laws.specs.Tries.{RiseBy}
+use Rattle.protocol_whole_laws.proofs.TriesRise.{settle_tries}
+use Rattle.protocol_whole_laws.proofs.HoldersApart.{standing_kept, later_entries}
 use Rattle.protocol_machine_laws.proofs.Sides.{gone_or_there}
 use Rattle.protocol_machine_laws.proofs.OneChunk.{one_changed, HasPlace, one_owner}
 use Rattle.relaxed_file.specs.Machine.{Chunk}
@@ -95,37 +100,46 @@ all_named trace orders (x ∷ xs) all handle =
     named_on (placed_in orders handle) (placed_in (orders_after trace orders x) handle) (placed_in (orders_after_all trace orders (x ∷ xs)) handle) (one_named trace orders x all.0 handle)
     (all_named trace (orders_after trace orders x) xs all.1 handle)
 
--- It is settled in a round that is open, and has one entry in the end.
-abbrev pub IsSettlingDue : ChunkSides → Table (List Placed) → Seen → Type 0
-IsSettlingDue k end (BecameSettled handle version serial) =
-    (s : Spot) × IsRoundOpen k handle.0 version.0 s × StandsNowhereElse k handle.0 × (place : ℕ) × IsOnlyPlace (placed_in end handle.0) version.0 serial.0 place
-IsSettlingDue k end other = ⊥
+-- It is settled in a round that is open, under a lease that isn't over, and has one entry in the end.
+abbrev pub IsSettlingDue : (ℕ → ℕ → Type 0) → ChunkSides → Table (List Placed) → Seen → Type 0
+IsSettlingDue IsOver k end (BecameSettled handle version serial) =
+    (s : Spot) × IsRoundOpen k handle.0 version.0 s × StandsNowhereElse k handle.0 × (IsOver handle.0 version.0 → ⊥) × (place : ℕ) × IsOnlyPlace (placed_in end handle.0) version.0 serial.0 place
+IsSettlingDue IsOver k end other = ⊥
 
-due_settling : (k : ChunkSides) (end : Table (List Placed)) (xs : List Seen) → AllOf (IsSettlingDue k end) xs → AllOf IsSettling xs
-due_settling k end [] all = tt
-due_settling k end (BecameSettled q v n ∷ xs) all = (tt, due_settling k end xs all.1)
-due_settling k end (Numbered q v n id m ∷ xs) all = absurd all.0
-due_settling k end (CopyStarted q copy ∷ xs) all = absurd all.0
+due_settling : (IsOver : ℕ → ℕ → Type 0) (k : ChunkSides) (end : Table (List Placed)) (xs : List Seen) → AllOf (IsSettlingDue IsOver k end) xs → AllOf IsSettling xs
+due_settling IsOver k end [] all = tt
+due_settling IsOver k end (BecameSettled q v n ∷ xs) all = (tt, due_settling IsOver k end xs all.1)
+due_settling IsOver k end (Numbered q v n id m ∷ xs) all = absurd all.0
+due_settling IsOver k end (CopyStarted q copy ∷ xs) all = absurd all.0
 
 -- after actions that keep each round
-pub due_later : (k : ChunkSides) (actions : List Action) (orders end : Table (List Placed)) (xs : List Seen) → KeepsRounds NoneEnds k (moved k actions k.log k.gone orders) → AllOf (IsSettlingDue k end) xs
-    → AllOf (IsSettlingDue (moved k actions k.log k.gone orders) end) xs
-due_later k actions orders end [] keeps all = tt
-due_later k actions orders end (BecameSettled q v n ∷ xs) keeps all =
+pub due_later : (IsOver : ℕ → ℕ → Type 0) (k : ChunkSides) (actions : List Action) (orders end : Table (List Placed)) (xs : List Seen) → KeepsRounds NoneEnds k (moved k actions k.log k.gone orders) → AllOf (IsSettlingDue IsOver k end) xs
+    → AllOf (IsSettlingDue IsOver (moved k actions k.log k.gone orders) end) xs
+due_later IsOver k actions orders end [] keeps all = tt
+due_later IsOver k actions orders end (BecameSettled q v n ∷ xs) keeps all =
     let it = all.0 in (
-      (it.0, elim (keeps q.0 v.0 it.0 it.1) [ inl none ↦ absurd none | inr still ↦ still ], it.2, it.3, it.4),
-      due_later k actions orders end xs keeps all.1,
+      (it.0, elim (keeps q.0 v.0 it.0 it.1) [ inl none ↦ absurd none | inr still ↦ still ], it.2, it.3, it.4, it.5),
+      due_later IsOver k actions orders end xs keeps all.1,
     )
-due_later k actions orders end (Numbered q v n id m ∷ xs) keeps all = absurd all.0
-due_later k actions orders end (CopyStarted q copy ∷ xs) keeps all = absurd all.0
+due_later IsOver k actions orders end (Numbered q v n id m ∷ xs) keeps all = absurd all.0
+due_later IsOver k actions orders end (CopyStarted q copy ∷ xs) keeps all = absurd all.0
 
-pub takes_nothing : (k : ChunkSides) → AreChunksAlike k → ComesToOrders k k.orders
-takes_nothing k h = record { actions = []; of_entries = refl; follows = record { allowed = tt; keeps = record { alike = h; rounds = λ handle version s was_open. inr was_open } }; gone = λ gone. gone }
+pub takes_nothing : (IsOver : ℕ → ℕ → Type 0) (k : ChunkSides) (Rise : Spot → CallId → Type 0) → AreChunksAlike k → ComesToOrders IsOver k k.orders Rise
+takes_nothing IsOver k Rise h =
+    record {
+      actions = [];
+      of_entries = refl;
+      follows = record { allowed = tt; keeps = record { alike = h; rounds = λ handle version s was_open. inr was_open } };
+      gone = λ gone. gone;
+      standing = λ file index handle version apart stands. (apart, stands);
+      tries = λ s c. inl (omega arith);
+    }
 
 -- one action, and then the others
-pub takes_more : (k : ChunkSides) (orders end : Table (List Placed)) (action : Action) → is_of_entries action ≡ true → Follows NoneEnds k (action ∷ []) (moved k (action ∷ []) k.log k.gone orders)
-    → (AreGoneOrdersAlike k → AreGoneOrdersAlike (moved k (action ∷ []) k.log k.gone orders)) → ComesToOrders (moved k (action ∷ []) k.log k.gone orders) end → ComesToOrders k end
-takes_more k orders end action is first first_gone rest = record {
+pub takes_more : (IsOver : ℕ → ℕ → Type 0) (k : ChunkSides) (orders end : Table (List Placed)) (Rise : Spot → CallId → Type 0) (action : Action) → is_of_entries action ≡ true → Follows NoneEnds k (action ∷ []) (moved k (action ∷ []) k.log k.gone orders)
+    → (AreGoneOrdersAlike k → AreGoneOrdersAlike (moved k (action ∷ []) k.log k.gone orders)) → KeepsStanding IsOver k (moved k (action ∷ []) k.log k.gone orders)
+    → RiseBy Rise k.machine (after k.machine action) → ComesToOrders IsOver (moved k (action ∷ []) k.log k.gone orders) end (λ s c. ⊥) → ComesToOrders IsOver k end Rise
+takes_more IsOver k orders end Rise action is first first_gone first_standing first_tries rest = record {
   actions = action ∷ rest.actions;
   of_entries = ap (λ (b : Bool). b && list_all is_of_entries rest.actions) is ∙ rest.of_entries;
   follows = record {
@@ -139,6 +153,11 @@ takes_more k orders end action is first first_gone rest = record {
     };
   };
   gone = λ gone. rest.gone (first_gone gone);
+  standing = λ file index handle version apart stands. let one = first_standing file index handle version apart stands in rest.standing file index handle version one.0 one.1;
+  tries = λ s c. elim (rest.tries s c) [
+    | inl same ↦ elim (first_tries s c) [ inl less ↦ inl (omega (arith, same, less)) | inr more ↦ inr (more.0, let one = more.1 in omega (arith, same, one)) ]
+    | inr none ↦ absurd none.0
+  ];
 }
 
 -- an entry comes or is settled in an open round: of each other chunk nothing changes
@@ -160,13 +179,13 @@ gone_kept k actions orders handle version s h was_open now others elsewhere gone
     owner same = one_owner k h q handle s (subst (λ (at : Spot). HasPlace k q at) same (inr stood)) was_open.place
 
 -- the machine settles what becomes settled
-pub settles_all : (k : ChunkSides) (trace : List Visible) (xs : List Seen) → AreChunksAlike k → AllOf (IsSettlingDue k (orders_after_all trace k.orders xs)) xs → ComesToOrders k (orders_after_all trace k.orders xs)
-settles_all k trace [] h all = takes_nothing k h
-settles_all k trace (Numbered q v n id m ∷ xs) h all = absurd all.0
-settles_all k trace (CopyStarted q copy ∷ xs) h all = absurd all.0
-settles_all k trace (BecameSettled q v n ∷ xs) h all =
-    takes_more k orders end (Settle s.file s.index place) refl follows keeps_gone
-    (settles_all (moved k (Settle s.file s.index place ∷ []) k.log k.gone orders) trace xs follows.keeps.alike (due_later k (Settle s.file s.index place ∷ []) orders end xs follows.keeps.rounds all.1))
+pub settles_all : (IsOver : ℕ → ℕ → Type 0) (k : ChunkSides) (trace : List Visible) (xs : List Seen) → AreChunksAlike k → AllOf (IsSettlingDue IsOver k (orders_after_all trace k.orders xs)) xs → ComesToOrders IsOver k (orders_after_all trace k.orders xs) (λ s c. ⊥)
+settles_all IsOver k trace [] h all = takes_nothing IsOver k (λ s c. ⊥) h
+settles_all IsOver k trace (Numbered q v n id m ∷ xs) h all = absurd all.0
+settles_all IsOver k trace (CopyStarted q copy ∷ xs) h all = absurd all.0
+settles_all IsOver k trace (BecameSettled q v n ∷ xs) h all =
+    takes_more IsOver k orders end (λ t c. ⊥) (Settle s.file s.index place) refl follows keeps_gone keeps_standing (settle_tries k.machine s place)
+    (settles_all IsOver (moved k (Settle s.file s.index place ∷ []) k.log k.gone orders) trace xs follows.keeps.alike (due_later IsOver k (Settle s.file s.index place ∷ []) orders end xs follows.keeps.rounds all.1))
   where
     end : Table (List Placed)
     end = orders_after_all trace k.orders (BecameSettled q v n ∷ xs)
@@ -178,23 +197,30 @@ settles_all k trace (BecameSettled q v n ∷ xs) h all =
     s = (all.0).0
 
     place : ℕ
-    place = (all.0).3
+    place = (all.0).4
 
     names : AreNamedAlike (placed_in end q.0) (placed_in k.orders q.0)
-    names = named_back (placed_in k.orders q.0) (placed_in end q.0) (all_named trace k.orders (BecameSettled q v n ∷ xs) (tt, due_settling k end xs all.1) q.0)
+    names = named_back (placed_in k.orders q.0) (placed_in end q.0) (all_named trace k.orders (BecameSettled q v n ∷ xs) (tt, due_settling IsOver k end xs all.1) q.0)
 
     follows : Follows NoneEnds k (Settle s.file s.index place ∷ []) (moved k (Settle s.file s.index place ∷ []) k.log k.gone orders)
-    follows = (settled_entries_are_settled k trace q v n s place h (all.0).1 (all.0).2 (only_of (placed_in end q.0) (placed_in k.orders q.0) v.0 n.0 place names (all.0).4)).1
+    follows = (settled_entries_are_settled k trace q v n s place h (all.0).1 (all.0).2 (only_of (placed_in end q.0) (placed_in k.orders q.0) v.0 n.0 place names (all.0).5)).1
+
+    still_open : IsRoundOpen (moved k (Settle s.file s.index place ∷ []) k.log k.gone orders) q.0 v.0 s
+    still_open = elim (follows.keeps.rounds q.0 v.0 s (all.0).1) [ inl none ↦ absurd none | inr still ↦ still ]
+
+    others : (other : ℕ) → (other ≡ q.0 → ⊥) → entries_in orders other ≡ entries_in k.orders other
+    others other differs = ap (λ (o : Option (List Placed)). map (λ (p : Placed). p.entry) (unwrap_or o [])) (put_other k.orders q.0 (map (settled_as v.0 n.0) (placed_in k.orders q.0)) other differs)
+
+    changed : Chunk
+    changed = record (chunk_in k.machine s) { order = settled_at place (chunk_in k.machine s).order }
 
     keeps_gone : AreGoneOrdersAlike k → AreGoneOrdersAlike (moved k (Settle s.file s.index place ∷ []) k.log k.gone orders)
-    keeps_gone =
-        gone_kept k (Settle s.file s.index place ∷ []) orders q.0 v.0 s h (all.0).1 (still_open (follows.keeps.rounds q.0 v.0 s (all.0).1))
-        (λ other differs. ap (λ (o : Option (List Placed)). map (λ (p : Placed). p.entry) (unwrap_or o [])) (put_other k.orders q.0 (map (settled_as v.0 n.0) (placed_in k.orders q.0)) other differs))
-        (one_changed k.machine s (record (chunk_in k.machine s) { order = settled_at place (chunk_in k.machine s).order })).elsewhere
-      where
-        still_open : ⊥ ⊎ IsRoundOpen (moved k (Settle s.file s.index place ∷ []) k.log k.gone orders) q.0 v.0 s → IsRoundOpen (moved k (Settle s.file s.index place ∷ []) k.log k.gone orders) q.0 v.0 s
-        still_open (inl none) = absurd none
-        still_open (inr still) = still
+    keeps_gone = gone_kept k (Settle s.file s.index place ∷ []) orders q.0 v.0 s h (all.0).1 still_open others (one_changed k.machine s changed).elsewhere
+
+    keeps_standing : KeepsStanding IsOver k (moved k (Settle s.file s.index place ∷ []) k.log k.gone orders)
+    keeps_standing =
+        standing_kept IsOver k (Settle s.file s.index place ∷ []) orders q.0 v.0 s (all.0).1 still_open (all.0).3 others (λ low less. later_entries low trace k.orders (BecameSettled q v n) q.0 (λ same. less))
+        (one_changed k.machine s changed).elsewhere (one_changed k.machine s changed).counts
 
 -- serials that are counted have their entries
 

@@ -18,11 +18,11 @@ use Rattle.protocol_laws.proofs.OrderNumbers.{state_of}
 use Rattle.protocol_version_laws.proofs.UnaskedSteps.{IsOfNames, KeepsNames, KeepsReports, IsNoAsk, IsUnasked, ready, does_kept}
 use Rattle.protocol_whole_laws.specs.WholeSteps.{IsAskedFor, AreAskedFor, IsNoAskIn, TakesNoAsk, OnlyAsksAddChunks}
 
-abbrev IsNoAddRecord : Record → Type 0
+abbrev pub IsNoAddRecord : Record → Type 0
 IsNoAddRecord (log.AddChunk file handle) = ⊥
 IsNoAddRecord other = Unit {0}
 
-abbrev IsNoAdd : LogChange → Type 0
+abbrev pub IsNoAdd : LogChange → Type 0
 IsNoAdd (AppendRecord r) = IsNoAddRecord r
 IsNoAdd (WriteCheckpoint items) = Unit {0}
 
@@ -67,7 +67,7 @@ unasked : (i : Input) → TakesNoAsk i → IsUnasked i
 unasked (input.Deliver m) is = no_ask m.body is
 unasked input.Tick is = tt
 
-nothing_asked : (first : Machine) (orders : Table (List Placed)) (changes : List LogChange) (d : LogDisk) → AllOf IsNoAdd changes → AreAskedFor first orders d changes
+pub nothing_asked : (first : Machine) (orders : Table (List Placed)) (changes : List LogChange) (d : LogDisk) → AllOf IsNoAdd changes → AreAskedFor first orders d changes
 nothing_asked first orders [] d none = tt
 nothing_asked first orders (WriteCheckpoint items ∷ rest) d none = nothing_asked first orders rest (log_changed d (WriteCheckpoint items)) none.1
 nothing_asked first orders (AppendRecord r ∷ rest) d none = (by_record r none.0, nothing_asked first orders rest (log_changed d (AppendRecord r)) none.1)

@@ -49,10 +49,12 @@ use Rattle.protocol_machine_laws.specs.ChunksAlike.{ChunkSides, moved}
 use Rattle.protocol_whole_laws.specs.FileClients.{IsFileClient, IsSaid, IsFollowed}
 use Rattle.protocol_whole_laws.specs.FileClientsStay.{IsFirm, IsFirmInput}
 use Rattle.protocol_whole_laws.specs.ServerSteps.{is_of_entries}
+use Rattle.protocol_whole_laws.specs.Tries.{AddsNumberedTries}
 use Rattle.protocol_whole_laws.specs.ChunksBeside.{AreChunksBeside, IsMastersEvent}
 use Rattle.protocol_whole_laws.specs.WholeWorlds.{AreWordsSo, AreFileClients, IsBeside, IsWholeWorld}
 use Rattle.protocol_whole_laws.specs.WholeClients.{GivesClient, AreOwnWordsSo, AreClientsTrue, FileStepsKeepWorldsWhole}
 use Rattle.protocol_whole_laws.proofs.ChunksBeside.{master_left, other_events_keep_chunks_beside, same_files_keep_chunks_beside}
+use Rattle.protocol_whole_laws.proofs.TriesRise.{same_files_add}
 use Rattle.protocol_whole_laws.proofs.ClientFiles.{clients_files_are_open}
 use Rattle.protocol_whole_laws.proofs.FileClientsStay.{other_clients_stay}
 use Rattle.protocol_whole_laws.proofs.FileSteps.{file_steps_are_followed}
@@ -181,6 +183,7 @@ module _ (config : Config) (servers clients : ℕ) (w : WorldState) (r : world.I
     number = suc (length w.sent)
 
     goes : (actions : List Action) × IsTrue (list_all is_of_entries actions) × IsLawful k.machine actions × AreChunksBeside config v (moved k actions k.log k.gone v.observer.orders)
+        × AddsNumberedTries w v k (after_all k.machine actions)
     goes = other_events_keep_chunks_beside config servers clients w r kept e choice clocks (not_masters w e index moment i given) k h.chunks (asks.numbers ss k h)
 
     abbrev placed : ChunkSides
@@ -226,6 +229,9 @@ module _ (config : Config) (servers clients : ℕ) (w : WorldState) (r : world.I
     leads : LeadsTo k.machine p.whole
     leads = leads_on k.machine placed.machine p.whole (goes.0, goes.2, refl) p.leads
 
+    adds_passed : AddsNumberedTries w v k p.whole
+    adds_passed = same_files_add w v k placed.machine p.whole p.files goes.4
+
     -- what stands once the client came to this
     record Stands (t : Taken ClientState) : Type 0 where
       pub machine : Machine
@@ -236,6 +242,8 @@ module _ (config : Config) (servers clients : ℕ) (w : WorldState) (r : world.I
       pub chunks : AreChunksBeside config v (record placed { machine = machine })
       pub files : AreFileClients (with_at w.clients index t.state) machine
       pub said : AreWordsSo w.sent (with_at w.clients index t.state) machine
+      pub leads : LeadsTo k.machine machine
+      pub adds : AddsNumberedTries w v k machine
 
     stands_still : (t : ClientState) (down : Bool) → (IsTrue t.up → IsClientBeside config trace greatest t p.names h.requests client) → (IsTrue t.up → IsFileClient p.whole client t) → (IsTrue t.up → AreOwnWordsSo w.sent p.whole index t)
         → Stands (record { state = t; out = record { sent = []; answer = None; down = down }; seen = [] })
@@ -250,6 +258,8 @@ module _ (config : Config) (servers clients : ℕ) (w : WorldState) (r : world.I
           chunks = chunks_passed;
           files = put_all (λ other z. IsTrue z.up → IsFileClient p.whole (suc other) z) w.clients index t files (λ other z apart there. files_passed other z there);
           said = put_all (λ other z. IsTrue z.up → AreOwnWordsSo w.sent p.whole other z) w.clients index t said (λ other z apart there. said_passed other z there);
+          leads = leads;
+          adds = adds_passed;
         }
 
     heard : IsSaid p.whole client s i
@@ -298,6 +308,8 @@ module _ (config : Config) (servers clients : ℕ) (w : WorldState) (r : world.I
               (λ other z apart there on. (others other z apart (files_passed other z there on)).0);
           said = put_all (λ other z. IsTrue z.up → AreOwnWordsSo w.sent (after_all p.whole f.actions) other z) w.clients index d.client (λ on. follows.1)
               (λ other z apart there on y was to firm. (others other z apart (files_passed other z there on)).1 (input.Deliver y) firm (said_passed other z there on y was to firm));
+          leads = leads_on k.machine p.whole (after_all p.whole f.actions) leads (f.actions, f.allowed, refl);
+          adds = same_files_add w v k p.whole (after_all p.whole f.actions) f.elsewhere.files adds_passed;
         }
 
     stands_down : Stands (record { state = stopped_client s; out = down_output; seen = [] })
@@ -347,7 +359,7 @@ module _ (config : Config) (servers clients : ℕ) (w : WorldState) (r : world.I
       keeps = (
         record placed { machine = stands.machine },
         refl,
-        record { names = p.names; requests = h.requests; named = parts.0; asking = parts.1; run = parts.2; same = stands.same; below = h.below; chunks = stands.chunks; files = parts.3; said = parts.4 },
+        record { names = p.names; requests = h.requests; named = parts.0; asking = parts.1; run = parts.2; same = stands.same; below = h.below; chunks = stands.chunks; files = parts.3; said = parts.4; requests_are = asks.requests ss k stands.machine h stands.leads parts.2 parts.3 (inr stands.adds) },
       )
 
 abbrev Cases : WorldState → ClientState → Happened → Happened → Type 0

@@ -25,7 +25,7 @@ use Rattle.protocol_step_laws.proofs.MasterActs.{IsRowing, rowing_keeps, core_ch
 use Rattle.protocol_name_laws.specs.Names.{HasNamesOf}
 use Rattle.protocol_name_laws.proofs.Openings.{restarts_go_by_records}
 use Rattle.protocol_machine_laws.proofs.Rows.{granted_of}
-use Rattle.protocol_whole_laws.specs.MasterSteps.{IsCopyIn, HaveSameFiles, AreChangesDue, HaveCopiesRows}
+use Rattle.protocol_whole_laws.specs.MasterSteps.{IsCopyIn, HaveSameFiles, HasFilesOf, AreChangesDue, HaveCopiesRows}
 use Rattle.protocol_whole_laws.specs.WholeSteps.{RestartsAreTaken, StatesHaveTheirLogsFiles}
 use Rattle.protocol_whole_laws.proofs.MasterSteps.{changes_are_taken}
 use Rattle.protocol_whole_laws.proofs.RecordDues.{same_granted, checkpoint_due}
@@ -114,8 +114,8 @@ opening_due first orders m found moment good =
     let n : IsRowing found (core_of d) = opening_first IsFoundRows IsRowedLog rows_kept m.config m.server_count found moment good in
     let after : IsRowing found (core_checkpointed (core_of d)) = (rowing_keeps found).checkpoint (core_of d) (λ _. good.0) n in
     let again = checkpoint_due found (core_of d) n after in
-    logs_alone (λ e. AreChangesDue first orders found e.changes) d (log.Epoch (suc d.master.logged.epoch)) tt (λ k q led is same h. tt, tt) (λ k q led is same h. again, tt)
-    (λ k q led is same h. again, (λ k q led is same h. tt, tt))
+    logs_alone (λ e. AreChangesDue first orders found e.changes) d (log.Epoch (suc d.master.logged.epoch)) tt (λ k q led is same h has. tt, tt) (λ k q led is same h has. again, tt)
+    (λ k q led is same h has. again, (λ k q led is same h has. tt, tt))
 
 pub restarts_are_taken : RestartsAreTaken
 restarts_are_taken config servers clients w r moment choice n requests k a is h =
@@ -123,4 +123,5 @@ restarts_are_taken config servers clients w r moment choice n requests k a is h 
     let known = (logged_here IsFoundRows IsRowedLog rows_kept config servers clients w r).1 in
     let names = restarts_go_by_records config servers clients w r moment choice n requests a in
     let named : HasNamesOf k.log n = subst (λ (l : Logged). HasNamesOf l n) (sym is) (a.names, a.next) in
-    changes_are_taken requests n found found (opening (started_master w.master.config w.master.server_count found moment)).changes k n n h is named names.1 (opening_due k.machine k.orders w.master found moment (known.found choice.decided))
+    let has : HasFilesOf k.log n = subst (λ (l : Logged). HasFilesOf l n) (sym is) ((names.0).alike).files in
+    changes_are_taken requests n found found (opening (started_master w.master.config w.master.server_count found moment)).changes k n n h is named has names.1 (opening_due k.machine k.orders w.master found moment (known.found choice.decided))

@@ -30,7 +30,7 @@ use Rattle.protocol_name_laws.proofs.FollowedStepsReached.{steps_go_by_records}
 use Rattle.protocol_entry_laws.proofs.RoundsPassed.{rounds_of_entries_were_issued}
 use Rattle.protocol_invariant.specs.Actions.{Spot}
 use Rattle.protocol_machine_laws.specs.ChunksAlike.{ChunkSides, entries_in}
-use Rattle.protocol_whole_laws.specs.MasterSteps.{IsWhole, IsDueAt, MayBeGranted, AreChangesDue}
+use Rattle.protocol_whole_laws.specs.MasterSteps.{IsWhole, IsDueAt, MayBeGranted, HasFilesOf, AreChangesDue}
 use Rattle.protocol_whole_laws.specs.RecordDues.{IsOwnGrant, IsCopyGrant, IsRecordDue, IsLogDue, AreLogDues}
 use Rattle.protocol_whole_laws.specs.GrantedRecords.{IsGrantOfAttempt, IsGrantedFrom, AreGrantedFrom}
 use Rattle.protocol_whole_laws.specs.WholeSteps.{IsAskedFor, AreAskedFor, MasterStepsAreTaken}
@@ -145,12 +145,12 @@ module _ (first : Machine) (orders : Table (List Placed)) (used : ℕ) (m : Mast
         },
       )
 
-  record_due : (r : Record) (k : ChunkSides) (n : Machine) → LeadsTo first k.machine → k.orders ≡ orders → IsWhole k n → used ≤ k.log.next_handle → IsRecordDue k.log r → IsGrantedFrom m k.log r → IsAskedFor first orders k.log r → IsDueAt k r
-  record_due (log.Snapshot client number from to) k n led same h low due granted cause = due
-  record_due (log.Expired file) k n led same h low due granted cause = due
-  record_due (log.AddChunk file handle) k n led same h low due granted cause =
+  record_due : (r : Record) (k : ChunkSides) (n : Machine) → LeadsTo first k.machine → k.orders ≡ orders → IsWhole k n → HasFilesOf k.log n → used ≤ k.log.next_handle → IsRecordDue k.log r → IsGrantedFrom m k.log r → IsAskedFor first orders k.log r → IsDueAt k r
+  record_due (log.Snapshot client number from to) k n led same h has low due granted cause = due
+  record_due (log.Expired file) k n led same h has low due granted cause = due
+  record_due (log.AddChunk file handle) k n led same h has low due granted cause =
       let next = due.0 in
-      let asked = cause k n led refl same h in (
+      let asked = cause k n led refl same h has in (
         record {
           no_row = due.1;
           no_spot = no_spot k n handle.0 h due.0;
@@ -162,23 +162,23 @@ module _ (first : Machine) (orders : Table (List Placed)) (used : ℕ) (m : Mast
         asked.1,
         asked.2,
       )
-  record_due (log.Grant handle version primary members) k n led same h low due granted cause = grant_due k handle.0 version.0 same due.1 (follows k.log handle.0 version.0 granted) due.0
-  record_due (log.CopyStart file index handle copy version) k n led same h low due granted cause = due
-  record_due other k n led same h low due granted cause = tt
+  record_due (log.Grant handle version primary members) k n led same h has low due granted cause = grant_due k handle.0 version.0 same due.1 (follows k.log handle.0 version.0 granted) due.0
+  record_due (log.CopyStart file index handle copy version) k n led same h has low due granted cause = due
+  record_due other k n led same h has low due granted cause = tt
 
   all_due : (requests : Requests) (first_names : Machine) (start : LogDisk) (later : Machine) (changes : List LogChange) (d : LogDisk) (n0 : Machine) → used ≤ (log_read d).next_handle → NameTrail requests first_names start d n0 changes later → AreLogDues d changes
       → AreGrantedFrom m d changes → AreAskedFor first orders d changes → AreChangesDue first orders d changes
   all_due requests first_names start later [] d n0 low trail dues granted causes = tt
   all_due requests first_names start later (AppendRecord r ∷ rest) d n0 low trail dues granted causes =
       let more = numbered_on d (AppendRecord r) trail.0 trail.1 trail.3 dues.0 in (
-        λ k n led is same h.
-            record_due r k n led same h (subst (λ (l : Logged). used ≤ l.next_handle) (sym is) low) (subst (λ (l : Logged). IsRecordDue l r) (sym is) dues.0)
+        λ k n led is same h has.
+            record_due r k n led same h has (subst (λ (l : Logged). used ≤ l.next_handle) (sym is) low) (subst (λ (l : Logged). IsRecordDue l r) (sym is) dues.0)
             (subst (λ (l : Logged). IsGrantedFrom m l r) (sym is) granted.0) (subst (λ (l : Logged). IsAskedFor first orders l r) (sym is) causes.0),
         all_due requests first_names start later rest (log_changed d (AppendRecord r)) trail.1 (omega (arith, low, more)) trail.5 dues.1 granted.1 causes.1,
       )
   all_due requests first_names start later (WriteCheckpoint items ∷ rest) d n0 low trail dues granted causes =
       let more = numbered_on d (WriteCheckpoint items) trail.0 trail.1 trail.3 dues.0 in
-      (λ k n led is same h. dues.0, all_due requests first_names start later rest (log_changed d (WriteCheckpoint items)) trail.1 (omega (arith, low, more)) trail.5 dues.1 granted causes)
+      (λ k n led is same h has. dues.0, all_due requests first_names start later rest (log_changed d (WriteCheckpoint items)) trail.1 (omega (arith, low, more)) trail.5 dues.1 granted causes)
 
 -- handles that were not used have no entry
 
@@ -202,8 +202,9 @@ master_steps_are_taken config servers clients w r clocks up moment i refused n r
     let names = steps_go_by_records config servers clients w r up moment i refused n requests at of in
     let changes : List LogChange = (master_goes w.master moment i refused).changes in
     let named : HasNamesOf k.log n = subst (λ (l : Logged). HasNamesOf l n) (sym is) (((names.4).alike).names, ((names.4).alike).next) in
+    let has : HasFilesOf k.log n = subst (λ (l : Logged). HasFilesOf l n) (sym is) ((names.4).alike).files in
     let dues : AreLogDues w.master.disk changes = steps_log_what_is_due config servers clients w r clocks up moment i refused in
     let due : AreChangesDue k.machine k.orders w.master.disk changes =
     all_due k.machine k.orders w.master.logged.next_handle w.master (no_entry config servers clients w r up k.orders same) (copy_follows config servers clients w r clocks up k.orders same) requests n w.master.disk names.0 changes w.master.disk n
     (log_handles config servers clients w r up) names.5 dues (steps_grant_what_was_attempted config servers clients w r clocks up moment i refused) causes in
-    (names.0, names.1, names.2, names.3, changes_are_taken requests n w.master.disk w.master.disk changes k n names.0 h is named names.5 due)
+    (names.0, names.1, names.2, names.3, changes_are_taken requests n w.master.disk w.master.disk changes k n names.0 h is named has names.5 due)

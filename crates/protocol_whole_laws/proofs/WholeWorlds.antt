@@ -16,7 +16,7 @@ use Rattle.messages.specs.declared.event.Input.{Input}
 use Rattle.messages.specs.declared.event.Input.TheVariants as input
 use Rattle.messages.specs.declared.message.Message.{Message}
 use Rattle.relaxed_file.specs.Machine.{Machine, new_machine}
-use Rattle.relaxed_file.specs.Run.{Action, Visible, after_all, IsLawful, IsReached, IsRunTo}
+use Rattle.relaxed_file.specs.Run.{Action, Visible, after_all, IsLawful, LeadsTo, IsReached, IsRunTo}
 use Rattle.relaxed_file.proofs.Reached.{leads_on}
 use Rattle.name_projections.specs.Laws.{AreNamesOf}
 use Rattle.protocol.specs.Tables.{moment_limit, first_numbers}
@@ -41,10 +41,13 @@ use Rattle.protocol_name_laws.proofs.Worlds.{new_one, new_clients, new_names, pa
 use Rattle.protocol_machine_laws.specs.ChunksAlike.{ChunkSides, moved}
 use Rattle.protocol_whole_laws.specs.Rounds.{log_as}
 use Rattle.protocol_whole_laws.specs.FileClients.{IsFileClient}
+use Rattle.protocol_whole_laws.specs.SentRequests.{AreRequestsNumbered}
 use Rattle.protocol_whole_laws.specs.ServerSteps.{is_of_entries}
+use Rattle.protocol_whole_laws.specs.Tries.{AddsNumberedTries}
 use Rattle.protocol_whole_laws.specs.ChunksBeside.{AreChunksBeside, IsMastersEvent}
 use Rattle.protocol_whole_laws.specs.WholeWorlds.{AreWordsSo, AreFileClients, IsBeside, HasMachine, IsWholeWorld, NewWorldsAreWhole, IsServer, IsServersEvent, AreAnswersSo, AreServersTrue, ServersEventsKeepWorldsWhole}
 use Rattle.protocol_whole_laws.proofs.ChunksBeside.{master_left, new_chunks_are_beside, other_events_keep_chunks_beside, same_files_keep_chunks_beside}
+use Rattle.protocol_whole_laws.proofs.TriesRise.{same_files_add}
 use Rattle.protocol_whole_laws.proofs.WholeMoves.{AllStay, GoesQuietly, quiet_run, entries_quiet, looks_quiet, looks_leave, run_goes_unseen, PassesBoth, both_pass}
 
 -- a new world
@@ -57,6 +60,12 @@ new_files config count = λ index s at up.
     let one = new_one config (first_numbers count) index s at in
     subst (λ (t : ClientState). IsFileClient (new_machine config) (suc index) t) one.1
     (record { settings = refl; fds = refl; descriptors = λ fd. table.get-empty nat_cmp fd; kept = tt; places = tt; call = refl })
+
+new_requests : (config : Config) (servers clients : ℕ) → AreRequestsNumbered config (new_world config servers clients) (new_machine config)
+new_requests config servers clients = (
+  record { servers = servers; clients = clients; steps = []; leads = refl; each = λ client place x at from. none_some x at },
+  λ file index client made. ([], tt, tt, omega arith),
+)
 
 pub new_worlds_are_whole : NewWorldsAreWhole
 new_worlds_are_whole config servers clients = record {
@@ -74,6 +83,7 @@ new_worlds_are_whole config servers clients = record {
       chunks = new_chunks_are_beside config servers clients;
       files = new_files config clients;
       said = λ index s at up x none. none_sent x none;
+      requests_are = new_requests config servers clients;
     },
   );
   log = λ down. absurd (true≢false down);
@@ -190,6 +200,7 @@ module _ (config : Config) (servers clients : ℕ) (w : WorldState) (r : world.I
     o = event_of w e choice of
 
     goes : (actions : List Action) × IsTrue (list_all is_of_entries actions) × IsLawful k.machine actions × AreChunksBeside config v (moved k actions k.log k.gone v.observer.orders)
+        × AddsNumberedTries w v k (after_all k.machine actions)
     goes = other_events_keep_chunks_beside config servers clients w r kept e choice clocks (not_masters w e of) k h.chunks (asks.numbers ss k h)
 
     abbrev placed : ChunkSides
@@ -258,6 +269,12 @@ module _ (config : Config) (servers clients : ℕ) (w : WorldState) (r : world.I
         (subst (λ (ms : List Message). At (passed_trace w.observer.greatest o.moment w.observer.trace) (max w.observer.greatest o.moment) ms v.clients) (sym o.sent)
         (subst (λ (cs : List ClientState). At (passed_trace w.observer.greatest o.moment w.observer.trace) (max w.observer.greatest o.moment) (w.sent ++ stamped o.number o.messages) cs) (sym o.clients) here)))
 
+    leads : LeadsTo k.machine p.whole
+    leads = leads_on k.machine placed.machine p.whole (goes.0, goes.2, refl) (leads_on placed.machine looked p.whole (answers.looks, answers.lawful, refl) p.leads)
+
+    adds : AddsNumberedTries w v k p.whole
+    adds = same_files_add w v k placed.machine p.whole (p.files ∙ (looks_leave placed.machine answers.looks answers.of_looks).1) goes.4
+
     beside : IsBeside config v ss (record placed { machine = p.whole })
     beside = record {
       names = p.names;
@@ -270,6 +287,7 @@ module _ (config : Config) (servers clients : ℕ) (w : WorldState) (r : world.I
       chunks = same_files_keep_chunks_beside config v (record placed { machine = looked }) p.whole chunks_looked p.settings p.files;
       files = there.3;
       said = there.4;
+      requests_are = asks.requests ss k p.whole h leads there.2 there.3 (inr adds);
     }
 
     keeps : (j : ChunkSides) × (j.log ≡ k.log) × IsBeside config v ss j

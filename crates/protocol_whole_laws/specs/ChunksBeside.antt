@@ -6,16 +6,18 @@ use Rattle.gfs_types.specs.declared.ids.Node.TheVariants.{Master}
 use Rattle.messages.specs.declared.event.Event.{Event}
 use Rattle.messages.specs.declared.event.Event.TheVariants as event
 use Rattle.relaxed_file.specs.Machine.{Machine, new_machine}
-use Rattle.relaxed_file.specs.Run.{Action, IsLawful}
+use Rattle.relaxed_file.specs.Run.{Action, IsLawful, after_all}
 use Rattle.protocol.specs.Choice.{Choice}
 use Rattle.protocol.specs.World.{WorldState, new_world, happens, IsReached, is_kept}
 use Rattle.protocol_step_laws.specs.Versions.{IsLeaseOver}
 use Rattle.protocol_machine_laws.specs.ChunksAlike.{ChunkSides, AreChunksAlike, KeepsRounds, HasRounds, moved}
 use Rattle.protocol_whole_laws.specs.Rounds.{IsLogOf, IsMastersStep, IsEnded, SentGrantsAreOpen}
 use Rattle.protocol_whole_laws.specs.ServerSteps.{is_of_entries, AreForOpenCalls, AreGoneOrdersAlike}
+use Rattle.protocol_whole_laws.specs.ToldHolders.{AreHoldersTold}
 use Rattle.protocol_whole_laws.specs.ToldRounds.{AreToldRounds}
+use Rattle.protocol_whole_laws.specs.Tries.{AddsNumberedTries}
 
--- The machine's chunks are those of the master's log, with the orders that are seen; also of handles that are gone; the round of each lease that isn't over is open, and so is each that was told, in the file's chunk of its index.
+-- The machine's chunks are those of the master's log, with the orders that are seen; also of handles that are gone; the round of each lease that isn't over is open, and so is each that was told, in the file's chunk of its index; and each holder that was told may be read.
 pub record AreChunksBeside (config : Config) (w : WorldState) (k : ChunkSides) : Type 0 where
   pub settings : k.machine.config ≡ config
   pub log : IsLogOf w.master k.log
@@ -24,6 +26,7 @@ pub record AreChunksBeside (config : Config) (w : WorldState) (k : ChunkSides) :
   pub rounds : HasRounds (IsLeaseOver w) k
   pub told : AreToldRounds w k
   pub gone : AreGoneOrdersAlike k
+  pub holders : AreHoldersTold w k
 
 -- So it is of a new cell and a new machine.
 abbrev pub NewChunksAreBeside : Type 0
@@ -42,7 +45,7 @@ abbrev pub IsMastersEvent : WorldState → Event → Type 0
 IsMastersEvent w (event.Restart n now) = n ≡ Master
 IsMastersEvent w e = IsMastersStep w e
 
--- At each other event the machine places and settles what was seen, and it is so again.
+-- At each other event the machine places and settles what was seen, and it is so again; what was numbered is the only try that comes.
 abbrev pub OtherEventsKeepChunksBeside : Type 0
 OtherEventsKeepChunksBeside =
     (config : Config) (servers clients : ℕ) (w : WorldState) → IsReached config servers clients w → IsTrue (is_kept w)
@@ -50,6 +53,7 @@ OtherEventsKeepChunksBeside =
     → (k : ChunkSides) → AreChunksBeside config w k → AreForOpenCalls w k
     → (actions : List Action) × IsTrue (list_all is_of_entries actions) × IsLawful k.machine actions
     × AreChunksBeside config (happens w e choice).world (moved k actions k.log k.gone (happens w e choice).world.observer.orders)
+    × AddsNumberedTries w (happens w e choice).world k (after_all k.machine actions)
 
 -- At an event of the master it is so again, where the machine followed the log: chunks are alike, also of gone handles, rounds ended only of chunks whose leases are over, and what was granted has its round open.
 abbrev pub MastersEventsKeepChunksBeside : Type 0
@@ -58,4 +62,5 @@ MastersEventsKeepChunksBeside =
     → (k j : ChunkSides) → AreChunksBeside config w k
     → j.machine.config ≡ config → IsLogOf (happens w e choice).world.master j.log → j.orders ≡ (happens w e choice).world.observer.orders → AreChunksAlike j → AreGoneOrdersAlike j
     → KeepsRounds (IsEnded w (happens w e choice).world) k j → SentGrantsAreOpen w (happens w e choice).world j
+    → AreHoldersTold (happens w e choice).world j
     → AreChunksBeside config (happens w e choice).world j

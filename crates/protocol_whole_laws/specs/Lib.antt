@@ -9,13 +9,16 @@ pub mod FileClientsStay
 pub mod FileOpenings
 pub mod FileSteps
 pub mod GrantedRecords
+pub mod HoldersApart
 pub mod MasterSteps
 pub mod OverRounds
 pub mod RecordDues
 pub mod Rounds
+pub mod SentRequests
 pub mod ServerSteps
 pub mod ToldHolders
 pub mod ToldRounds
+pub mod Tries
 pub mod WaitedNumbers
 pub mod WaitedSuccesses
 pub mod WholeClients

@@ -1,5 +1,5 @@
 -- Where the whole machine goes beside the master's log, it follows each change of the log: by the action of the record, or by actions on chunks (sections 2.6.3, 3.1 and 3.4).
-use Rattle.std.specs.Prelude.{◌≡◌, ◌⊎◌, ℕ, ◌<◌, ◌≤◌, Bool, true, false, List, [], ◌∷◌, Option, Some, None, option_map, IsTrue}
+use Rattle.std.specs.Prelude.{◌≡◌, ◌⊎◌, ℕ, ◌<◌, ◌≤◌, List, [], ◌∷◌, Option, Some, None, option_map, IsTrue, Bool, true, false}
 use Rattle.std.specs.List.{list_all}
 use Rattle.std.specs.FinMap as table
 use Rattle.log_records.specs.declared.record.Record.{Record}
@@ -16,12 +16,13 @@ use Rattle.protocol.specs.Logged.{Logged, Copy, LogDisk, LogChange, AppendRecord
 use Rattle.protocol.specs.Observer.{Placed}
 use Rattle.protocol_laws.specs.Laws.{HasAllReferences, times_in}
 use Rattle.protocol_name_laws.specs.Names.{HasNamesOf}
-use Rattle.protocol_name_laws.specs.Alike.{Requests}
+use Rattle.protocol_name_laws.specs.Alike.{Requests, is_there}
 use Rattle.protocol_name_laws.specs.NameSteps.{AreNamedFilesThere}
 use Rattle.protocol_name_laws.specs.NameTrails.{log_read, RunsQuietly, IsChangeOf, IsBesideLog, NameTrail}
 use Rattle.protocol_invariant.specs.Actions.{Spot}
 use Rattle.protocol_machine_laws.specs.ChunksAlike.{ChunkSides, StandsAt, IsRoundOpen, AreChunksAlike, KeepsRounds, NoneEnds}
 use Rattle.protocol_machine_laws.specs.ChunkRecords.{IsUnused, StandsAlone, IsCopyDue, AreFilesOnce, StandsIn, AreFilesThere, gone_after}
+use Rattle.protocol_whole_laws.specs.Tries.{places_nothing}
 
 -- The whole machine has the names of the one by names alone and the chunks of the log; where handles stood that are gone, their numbers were used.
 pub record IsWhole (k : ChunkSides) (n : Machine) : Type 0 where
@@ -41,12 +42,13 @@ is_of_master (OpenRound file index round) = true
 is_of_master (CloseRound file index) = true
 is_of_master other = false
 
--- The whole machine takes such actions, of which clients see nothing, and is then beside the log and the names again; rounds end of these handles alone.
+-- The whole machine takes such actions, of which clients see nothing and that place nothing, and is then beside the log and the names again; rounds end of these handles alone.
 pub record Comes (Ends : ℕ → Type 0) (k j : ChunkSides) (n : Machine) : Type 0 where
   pub actions : List Action
   pub lawful : IsLawful k.machine actions
   pub leads : after_all k.machine actions ≡ j.machine
   pub unseen : visible actions ≡ []
+  pub places : IsTrue (list_all places_nothing actions)
   pub of_master : IsTrue (list_all is_of_master actions)
   pub rounds : KeepsRounds Ends k j
   pub whole : IsWhole j n
@@ -145,11 +147,15 @@ abbrev pub HasOpenedAt : ChunkSides → LogChange → Type 0
 HasOpenedAt j (AppendRecord r) = HasOpened j r
 HasOpenedAt j (WriteCheckpoint items) = Unit {0}
 
+-- the machine by names alone has the files that the log has
+abbrev pub HasFilesOf : Logged → Machine → Type 0
+HasFilesOf l n = (file : ℕ) → table.contains_key l.table.files file ≡ is_there n file
+
 -- each change is due, whichever whole machine, of those that the first one leads to, goes beside the log then
 abbrev pub AreChangesDue : Machine → Table (List Placed) → LogDisk → List LogChange → Type 0
 AreChangesDue first orders d [] = Unit {0}
 AreChangesDue first orders d (x ∷ rest) =
-    ((k : ChunkSides) (n : Machine) → LeadsTo first k.machine → k.log ≡ log_read d → k.orders ≡ orders → IsWhole k n → IsChangeDue d k x)
+    ((k : ChunkSides) (n : Machine) → LeadsTo first k.machine → k.log ≡ log_read d → k.orders ≡ orders → IsWhole k n → HasFilesOf k.log n → IsChangeDue d k x)
     × AreChangesDue first orders (log_changed d x) rest
 
 -- The whole machine after a change, at the sides j, with the machine by names alone at a and then at b: it was at the machine m before the change.
@@ -171,5 +177,5 @@ WholeTrail requests first start d k (x ∷ rest) n =
 abbrev pub ChangesAreTaken : Type 0
 ChangesAreTaken =
     (requests : Requests) (first : Machine) (start d : LogDisk) (changes : List LogChange) (k : ChunkSides) (n later : Machine)
-    → IsWhole k n → k.log ≡ log_read d → HasNamesOf k.log n → NameTrail requests first start d n changes later → AreChangesDue k.machine k.orders d changes
+    → IsWhole k n → k.log ≡ log_read d → HasNamesOf k.log n → HasFilesOf k.log n → NameTrail requests first start d n changes later → AreChangesDue k.machine k.orders d changes
     → WholeTrail requests first start d k changes later

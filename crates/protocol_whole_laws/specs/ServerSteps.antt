@@ -1,5 +1,5 @@
 -- What a server's step shows of orders is what the machine places and settles (sections 3.1 and 3.3).
-use Rattle.std.specs.Prelude.{◌≡◌, ℕ, ◌<◌, Bool, true, false, List, [], length, Some, IsTrue, IsFalse}
+use Rattle.std.specs.Prelude.{◌≡◌, ℕ, ◌<◌, Bool, true, false, List, [], length, Option, Some, IsTrue, IsFalse}
 use Rattle.std.specs.List.{list_all}
 use Rattle.gfs_types.specs.declared.call.Call.{Call}
 use Rattle.gfs_types.specs.declared.call.Call.TheVariants as call
@@ -27,7 +27,9 @@ use Rattle.protocol_entry_laws.specs.Deadlines.{Numbers}
 use Rattle.protocol_step_laws.specs.Versions.{IsLeaseOver}
 use Rattle.protocol_invariant.specs.Actions.{Spot}
 use Rattle.protocol_machine_laws.specs.ChunksAlike.{ChunkSides, IsRoundOpen, AreChunksAlike, NoneEnds, HasRounds, moved, Follows, StoodAt, chunk_in, entries_in}
+use Rattle.protocol_whole_laws.specs.HoldersApart.{KeepsStanding}
 use Rattle.protocol_whole_laws.specs.Rounds.{IsLogOf, IsMastersStep}
+use Rattle.protocol_whole_laws.specs.Tries.{IsNumberedAt, IsRise, RiseBy}
 
 -- a mutation takes its place in an order, or is settled there
 abbrev pub is_of_entries : Action → Bool
@@ -74,12 +76,14 @@ AreForOpenCalls w k =
 abbrev pub AreGoneOrdersAlike : ChunkSides → Type 0
 AreGoneOrdersAlike k = (handle : ℕ) (s : Spot) → StoodAt k handle s → entries_in k.orders handle ≡ (chunk_in k.machine s).order
 
--- The machine may place and settle what makes its orders these; then all is alike again, also of gone handles, and each round stays open.
-pub record ComesToOrders (k : ChunkSides) (orders : Table (List Placed)) : Type 0 where
+-- The machine may place and settle what makes its orders these; then all is alike again, also of gone handles, each round stays open, what stands for a chunk does so still, and tries of calls rise only so.
+pub record ComesToOrders (IsOver : ℕ → ℕ → Type 0) (k : ChunkSides) (orders : Table (List Placed)) (Rise : Spot → CallId → Type 0) : Type 0 where
   pub actions : List Action
   pub of_entries : IsTrue (list_all is_of_entries actions)
   pub follows : Follows NoneEnds k actions (moved k actions k.log k.gone orders)
   pub gone : AreGoneOrdersAlike k → AreGoneOrdersAlike (moved k actions k.log k.gone orders)
+  pub standing : KeepsStanding IsOver k (moved k actions k.log k.gone orders)
+  pub tries : RiseBy Rise k.machine (after_all k.machine actions)
 
 -- At an event that is no step of the master the machine may come to the orders that are seen after it, also where a server stops: where clocks and disks are kept, the round of each lease that isn't over is open, and the clients' calls are alike.
 abbrev pub OtherEventsAreTaken : Type 0
@@ -87,4 +91,4 @@ OtherEventsAreTaken =
     (config : Config) (servers clients : ℕ) (w : WorldState) → IsReached config servers clients w → IsTrue (is_kept w)
     → (e : Event) (choice : Choice) → IsTrue (happens w e choice).world.observer.are_clocks_kept → (IsMastersStep w e → ⊥)
     → (k : ChunkSides) → k.machine.config ≡ config → k.orders ≡ w.observer.orders → IsLogOf w.master k.log → AreChunksAlike k → HasRounds (IsLeaseOver w) k → AreForOpenCalls w k
-    → ComesToOrders k (happens w e choice).world.observer.orders
+    → (g : Option (IsNumberedAt w (happens w e choice).world k)) × ComesToOrders (IsLeaseOver w) k (happens w e choice).world.observer.orders (IsRise w (happens w e choice).world k g)

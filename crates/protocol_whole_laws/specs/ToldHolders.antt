@@ -1,5 +1,5 @@
 -- What a location stands for at the machine: up to a holder's version the handle's entries are those of the file's chunk, so what its server reads is of the chunk (sections 2.4, 2.7.1 and 3.4).
-use Rattle.std.specs.Prelude.{◌≡◌, ℕ, suc, ◌<◌, ◌≤◌, List, length, Some, IsTrue, IsFalse}
+use Rattle.std.specs.Prelude.{◌≡◌, ℕ, suc, ◌≤◌, List, length, Some, IsTrue, IsFalse}
 use Rattle.gfs_types.specs.declared.config.Config.{Config}
 use Rattle.gfs_types.specs.declared.call.Call.{Call}
 use Rattle.messages.specs.declared.message.Holder.{Holder}
@@ -12,26 +12,37 @@ use Rattle.messages.specs.declared.message.Body.{Body}
 use Rattle.messages.specs.declared.message.Body.TheVariants as body
 use Rattle.client_state.specs.declared.call.CurrentCall.{CurrentCall}
 use Rattle.client_state.specs.declared.call.ToldChunk.{ToldChunk}
-use Rattle.protocol_step_laws.specs.Reads.{IsTrueOf}
-use Rattle.relaxed_file.specs.Machine.{chunk_at, chunk_count}
+use Rattle.protocol_step_laws.specs.Reads.{IsTold, IsTrueOf}
+use Rattle.protocol_step_laws.specs.Versions.{IsLeaseOver}
+use Rattle.relaxed_file.specs.Machine.{chunk_at}
 use Rattle.replica_store.specs.declared.row.Row.{Row}
 use Rattle.replica_store.specs.Replicas.{row_at}
 use Rattle.protocol.specs.Tables.{element_at}
 use Rattle.protocol.specs.ClientAttempts.{is_length}
 use Rattle.protocol.specs.Server.{ServerState}
 use Rattle.protocol.specs.World.{WorldState, IsReached, is_kept}
-use Rattle.protocol_machine_laws.specs.ChunksAlike.{ChunkSides, entries_in, AreChunksAlike}
-use Rattle.protocol_whole_laws.specs.ChunkReadings.{AgreeUpTo, IsReadAs}
+use Rattle.protocol_machine_laws.specs.ChunksAlike.{ChunkSides, AreChunksAlike}
+use Rattle.protocol_whole_laws.specs.ChunkReadings.{IsReadAs}
 use Rattle.protocol_whole_laws.specs.FileAnswers.{IsLastRound, IsSeenAt}
-
--- The entries of a handle up to a version are those of the file's chunk: also where a copy took the handle's place since, or the file was collected.
-pub record StandsUpTo (k : ChunkSides) (file index handle version : ℕ) : Type 0 where
-  pub count : index < chunk_count k.machine file
-  pub entries : AgreeUpTo version (entries_in k.orders handle) (chunk_at k.machine file index).order
+use Rattle.protocol_whole_laws.specs.HoldersApart.{StandsUpTo, IsApart}
 
 -- each holder that was told may be read: what it has of its version stands for the chunk
 abbrev pub IsToldHolder : ChunkSides → ℕ → Location → Holder → Type 0
 IsToldHolder k file l h = (l.round.0 ≤ h.version.0) × StandsUpTo k file l.index l.handle.0 h.version.0
+
+-- the handle stands for the chunk up to this version, and will, as rounds are apart
+pub record IsStandingFor (w : WorldState) (k : ChunkSides) (file index handle version : ℕ) : Type 0 where
+  pub stands : StandsUpTo k file index handle version
+  pub apart : IsApart (IsLeaseOver w) k handle version (record { file = file; index = index })
+
+-- So does what a location names: up to its round, and up to each holder's version, which is no earlier.
+pub record IsToldLocation (w : WorldState) (k : ChunkSides) (file : ℕ) (l : Location) : Type 0 where
+  pub round : IsStandingFor w k file l.index l.handle.0 l.round.0
+  pub holders : (n : ℕ) (x : Holder) → element_at l.holders n ≡ Some x → (l.round.0 ≤ x.version.0) × IsStandingFor w k file l.index l.handle.0 x.version.0
+
+-- So it is of each location that a client was told for its ask for a chunk of a file, also of one that was never granted.
+abbrev pub AreHoldersTold : WorldState → ChunkSides → Type 0
+AreHoldersTold w k = (client file : ℕ) (l : Location) → IsTold w.sent client file l → IsToldLocation w k file l
 
 -- Where clocks and disks are kept: what a server has under a version that is no earlier than the round that was told, and up to which its handle stands for the chunk, is seen of the chunk.
 abbrev pub HoldersAreSeen : Type 0

@@ -18,7 +18,7 @@ use Rattle.protocol.specs.World.{WorldState, new_world, after_events}
 use Rattle.protocol_machine_laws.specs.ChunksAlike.{ChunkSides}
 use Rattle.protocol_call_laws.specs.ToldIndexes.{has_index}
 use Rattle.protocol_whole_laws.specs.FileClients.{id_of, IsFileCall, IsWithinPlaces, IsPartSettled}
-use Rattle.protocol_whole_laws.specs.ToldHolders.{StandsUpTo}
+use Rattle.protocol_whole_laws.specs.HoldersApart.{StandsUpTo}
 
 -- In this world a client waits for the data of this number to be placed in this chunk, and this Done of them was sent.
 pub record WaitsForDone (w : WorldState) (index : ℕ) (x : CurrentCall) (chunk : ToldChunk) (number place : ℕ) : Type 0 where

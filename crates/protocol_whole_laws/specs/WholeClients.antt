@@ -23,7 +23,7 @@ use Rattle.protocol_whole_laws.specs.ServerSteps.{AreForOpenCalls}
 use Rattle.protocol_whole_laws.specs.ChunksBeside.{AreChunksBeside}
 use Rattle.protocol_whole_laws.specs.FileClients.{IsSaid, IsFollowed}
 use Rattle.protocol_whole_laws.specs.FileClientsStay.{IsFirm, IsFirmInput}
-use Rattle.protocol_whole_laws.specs.WholeWorlds.{AreWordsSo, AreFileClients, IsBeside, IsWholeWorld}
+use Rattle.protocol_whole_laws.specs.WholeWorlds.{AreWordsSo, AreFileClients, IsBeside, RequestsStayNumbered, IsWholeWorld}
 
 -- the event gives the client this input at this moment
 abbrev pub GivesClient : WorldState → Event → (index moment : ℕ) → Input → Type 0
@@ -38,6 +38,7 @@ AreOwnWordsSo sent m index s = (x : Message) → WasSent sent x → x.receiver �
 -- What a client's step asks: what it hears of a range that is too long is so; the machine follows the step so that what was sent is so for where the client's call is then; and what it sends is no false word to a client.
 pub record AreClientsTrue (config : Config) (w then_ : WorldState) (index moment : ℕ) (s : ClientState) (i : Input) : Type 0 where
   pub numbers : (ss : List PendingSnapshot) (k : ChunkSides) → IsBeside config w ss k → AreForOpenCalls w k
+  pub requests : RequestsStayNumbered config w then_
   pub heard : (ss : List PendingSnapshot) (k j : ChunkSides) → IsBeside config w ss k → LeadsTo k.machine j.machine → AreChunksBeside config then_ j → (IsFirmInput i → ⊥) → IsSaid j.machine (suc index) s i
   pub waits : (ss : List PendingSnapshot) (k : ChunkSides) (m : Machine) → IsBeside config w ss k → LeadsTo k.machine m → AreFileClients w.clients m → AreWordsSo w.sent w.clients m
       → IsFollowed m (suc index) (client_goes s moment i) → (f : IsFollowed m (suc index) (client_goes s moment i)) × AreOwnWordsSo w.sent (after_all m f.actions) index (client_goes s moment i).client

@@ -24,12 +24,12 @@ use Rattle.protocol_name_laws.specs.FollowedSteps.{ComesTo, IsAtStep, IsInputOfO
 use Rattle.protocol_name_laws.specs.NameTrails.{log_read, IsBesideLog}
 use Rattle.protocol_machine_laws.specs.ChunksAlike.{ChunkSides, IsRoundOpen}
 use Rattle.protocol_invariant.specs.Actions.{Spot}
-use Rattle.protocol_whole_laws.specs.MasterSteps.{IsWhole, Comes, EndsAtChange, HaveSameFiles, WholeTrail}
+use Rattle.protocol_whole_laws.specs.MasterSteps.{IsWhole, Comes, EndsAtChange, HaveSameFiles, HasFilesOf, WholeTrail}
 
 -- A call asks for the chunk: whichever whole machine, of those that the first one leads to, goes beside the log then, it may add it.
 abbrev pub IsChunkAskedFor : Machine → Table (List Placed) → Logged → ℕ → Type 0
 IsChunkAskedFor first orders l file =
-    (k : ChunkSides) (n : Machine) → LeadsTo first k.machine → k.log ≡ l → k.orders ≡ orders → IsWhole k n → (id : CallId) × (asked : Asked) × MayAdd k.machine id asked file
+    (k : ChunkSides) (n : Machine) → LeadsTo first k.machine → k.log ≡ l → k.orders ≡ orders → IsWhole k n → HasFilesOf k.log n → (id : CallId) × (asked : Asked) × MayAdd k.machine id asked file
 
 -- what is asked beside the log of a record
 abbrev pub IsAskedFor : Machine → Table (List Placed) → Logged → Record → Type 0

@@ -1,5 +1,5 @@
 -- The whole machine beside a world: its run shows what was seen, and names, chunks, rounds and the clients' calls are those of the cell; from each world to the next (sections 2.4, 2.7, 3.1 and 4.1).
-use Rattle.std.specs.Prelude.{◌≡◌, ℕ, suc, ◌<◌, Bool, true, false, List, [], ◌++◌, Some, IsTrue, IsFalse}
+use Rattle.std.specs.Prelude.{◌≡◌, ◌⊎◌, ℕ, suc, ◌<◌, Bool, true, false, List, [], ◌++◌, Some, IsTrue, IsFalse}
 use Rattle.std.specs.List.{list_all}
 use Rattle.gfs_types.specs.declared.config.Config.{Config}
 use Rattle.gfs_types.specs.declared.ids.Node.{Node}
@@ -27,6 +27,8 @@ use Rattle.protocol_whole_laws.specs.ServerSteps.{AreForOpenCalls}
 use Rattle.protocol_whole_laws.specs.ChunksBeside.{AreChunksBeside}
 use Rattle.protocol_whole_laws.specs.FileClients.{IsFileClient, IsSaid}
 use Rattle.protocol_whole_laws.specs.FileClientsStay.{IsFirm}
+use Rattle.protocol_whole_laws.specs.SentRequests.{AreRequestsNumbered}
+use Rattle.protocol_whole_laws.specs.Tries.{HasNoMoreTries, AddsNumberedTries}
 
 -- of each client that is up, what it was sent is so, where it waits for it
 abbrev pub AreWordsSo : List Message → List ClientState → Machine → Type 0
@@ -50,6 +52,7 @@ pub record IsBeside (config : Config) (w : WorldState) (ss : List PendingSnapsho
   pub chunks : AreChunksBeside config w k
   pub files : AreFileClients w.clients k.machine
   pub said : AreWordsSo w.sent w.clients k.machine
+  pub requests_are : AreRequestsNumbered config w k.machine
 
 abbrev pub HasMachine : Config → WorldState → Logged → List PendingSnapshot → Type 0
 HasMachine config w l ss = (k : ChunkSides) × (k.log ≡ l) × IsBeside config w ss k
@@ -88,9 +91,16 @@ pub record AreAnswersSo (w then_ : WorldState) (m : Machine) : Type 0 where
   pub lawful : IsLawful m looks
   pub said : (more : List Message) → then_.sent ≡ w.sent ++ more → AreWordsSo more w.clients (after_all m looks)
 
+-- From one world to the next requests stay of calls and tries numbered, however the machine goes on, where it places only what is numbered.
+abbrev pub RequestsStayNumbered : Config → WorldState → WorldState → Type 0
+RequestsStayNumbered config w then_ =
+    (ss : List PendingSnapshot) (k : ChunkSides) (n : Machine) → IsBeside config w ss k → LeadsTo k.machine n → IsRunTo config then_.observer.trace n → AreFileClients then_.clients n
+    → HasNoMoreTries k.machine n ⊎ AddsNumberedTries w then_ k n → AreRequestsNumbered config then_ n
+
 -- What an event of a server asks: what it may number is for an open call, and what it answers may be looked at, once the machine has placed what was numbered.
 pub record AreServersTrue (config : Config) (w then_ : WorldState) : Type 0 where
   pub numbers : (ss : List PendingSnapshot) (k : ChunkSides) → IsBeside config w ss k → AreForOpenCalls w k
+  pub requests : RequestsStayNumbered config w then_
   pub answers : (ss : List PendingSnapshot) (k j : ChunkSides) → IsBeside config w ss k → LeadsTo k.machine j.machine → IsRunTo config w.observer.trace j.machine → AreChunksBeside config then_ j
       → AreFileClients w.clients j.machine → AreWordsSo w.sent w.clients j.machine → AreAnswersSo w then_ j.machine
 

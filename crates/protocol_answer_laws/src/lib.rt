@@ -1,0 +1,4 @@
+//! Laws of what servers answer, at the whole machine beside a cell.
+#![tactic(auto)]
+
+pub mod answers;

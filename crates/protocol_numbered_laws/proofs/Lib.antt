@@ -1,0 +1,12 @@
+pub mod AddedChunks
+pub mod AskSenders
+pub mod AskedAdds
+pub mod AskedChunks
+pub mod AskedOnce
+pub mod NumberedAttempts
+pub mod NumberedCalls
+pub mod QuietTries
+pub mod RequestsNumbered
+pub mod RequestsStay
+pub mod SentNow
+pub mod TriesStay

@@ -1,0 +1,3 @@
+pub mod AskedChunks
+pub mod NumberedCalls
+pub mod NumberedTries

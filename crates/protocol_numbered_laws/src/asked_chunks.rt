@@ -1,0 +1,23 @@
+//! Laws of the chunks that are added for what clients ask.
+
+ghost use Rattle.protocol_numbered_laws.specs.AskedChunks.{AsksAddTheNextChunk, AskedChunksMayBeAdded, AsksComeFromClients, AddedChunksAreAskedFor};
+
+/// An Ask adds the next chunk of its file, or none.
+pub fn asks_add_the_next_chunk()
+    ensures { AsksAddTheNextChunk }
+{}
+
+/// A call that asked for the next chunk of a file may have it at the machine.
+pub fn asked_chunks_may_be_added()
+    ensures { AskedChunksMayBeAdded }
+{}
+
+/// Each Ask is a client's.
+pub fn asks_come_from_clients()
+    ensures { AsksComeFromClients }
+{}
+
+/// Each chunk that a step of the master adds is asked for, where the chunks past which clients asked are full.
+pub fn added_chunks_are_asked_for()
+    ensures { AddedChunksAreAskedFor }
+{}
