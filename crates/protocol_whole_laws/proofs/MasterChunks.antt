@@ -42,7 +42,7 @@ use Rattle.protocol_machine_laws.proofs.Rows.{granted_of, counted}
 use Rattle.protocol_whole_laws.specs.MasterSteps.{IsWhole, Comes, IsCopy, EndsAt, MayBeGranted, IsDueAt, HasOpened, recorded}
 use Rattle.protocol_whole_laws.proofs.MasterKept.{keeps_both, comes_both, apart_stands, no_round, fewer_end, rows_taken}
 use Rattle.protocol_whole_laws.proofs.MasterNames.{more_end}
-use Rattle.protocol_whole_laws.proofs.MasterSnapshots.{AreOfRounds, rounds_keep_names, rounds_place_nothing, rounds_unseen}
+use Rattle.protocol_whole_laws.proofs.MasterSnapshots.{AreOfRounds, rounds_keep_names, rounds_place_nothing, rounds_unseen, rounds_of_master}
 
 -- what a record comes to, and where the machine by names alone is then
 abbrev pub Taken : ChunkSides → Machine → Record → Type 0
@@ -111,6 +111,7 @@ module _ (k : ChunkSides) (n : Machine) (h : IsWhole k n) where
           leads = refl;
           unseen = refl;
           places = refl;
+          of_master = refl;
           rounds = λ q version s was_open. elim ((went.keeps).rounds q version s was_open) [ inl none ↦ absurd none | inr still ↦ inr still ];
           whole = record { names = chunk_actions_keep_names k.machine n (Add id) h.names refl (went.allowed).0; chunks = (went.keeps).alike; below = λ q s is. let low = h.below q s is in omega (arith, low, more) };
         },
@@ -132,6 +133,7 @@ module _ (k : ChunkSides) (n : Machine) (h : IsWhole k n) where
         leads = refl;
         unseen = rounds_unseen (opening k.machine version.0 s) of;
         places = rounds_place_nothing (opening k.machine version.0 s) of;
+        of_master = rounds_of_master (opening k.machine version.0 s) of;
         rounds = λ q old at was_open. elim ((went.keeps).rounds q old at was_open) [ inl over ↦ inl (more q over) | inr still ↦ inr still ];
         whole = record {
           names = rounds_keep_names (opening k.machine version.0 s) k.machine n of went.allowed h.names;
@@ -257,6 +259,7 @@ module _ (k : ChunkSides) (n : Machine) (h : IsWhole k n) (named : HasNamesOf k.
         leads = refl;
         unseen = refl;
         places = refl;
+        of_master = refl;
         rounds = kept.rounds;
         whole = record { names = took.1; chunks = kept.alike; below = λ q s is. gone_below q s (ap (λ (g : ℕ → Option Spot). g q) (sym same_gone) ∙ is) };
       }

@@ -19,7 +19,7 @@ use Rattle.protocol_machine_laws.specs.ChunksAlike.{ChunkSides, StandsAt, StoodA
 use Rattle.protocol_machine_laws.proofs.Sides.{stands_in, still_open, still_alike}
 use Rattle.protocol_machine_laws.proofs.Closings.{after_both, lawful_both}
 use Rattle.protocol_machine_laws.proofs.Rows.{granted_of}
-use Rattle.protocol_whole_laws.specs.MasterSteps.{IsWhole, Comes, IsCopyIn, CopiesMayComeAndGo, IsCopy}
+use Rattle.protocol_whole_laws.specs.MasterSteps.{IsWhole, is_of_master, Comes, IsCopyIn, CopiesMayComeAndGo, IsCopy}
 
 -- rounds through two changes
 pub rounds_both : (E F G : ℕ → Type 0) (k j i : ChunkSides) → ((handle : ℕ) → E handle → G handle) → ((handle : ℕ) → F handle → G handle) → KeepsRounds E k j → KeepsRounds F j i → KeepsRounds G k i
@@ -56,6 +56,12 @@ pub names_place_nothing : (a : Action) → is_name_action a ≡ true → places_
 names_place_nothing (Place client file index mutation) is = absurd (let no : false ≡ true = is in cc)
 names_place_nothing other is = refl
 
+all_both : (xs ys : List Action) → list_all is_of_master xs ≡ true → list_all is_of_master ys ≡ true → list_all is_of_master (xs ++ ys) ≡ true
+all_both [] ys one two = two
+all_both (x ∷ xs) ys one two =
+    let first = and_parts (is_of_master x) (list_all is_of_master xs) one in
+    ap (λ (b : Bool). b && list_all is_of_master (xs ++ ys)) first.0 ∙ all_both xs ys first.1 two
+
 pub comes_both : (E F G : ℕ → Type 0) (k j i : ChunkSides) (a n : Machine) → ((handle : ℕ) → E handle → G handle) → ((handle : ℕ) → F handle → G handle) → Comes E k j a → Comes F j i n → Comes G k i n
 comes_both E F G k j i a n e f one two = record {
   actions = one.actions ++ two.actions;
@@ -63,12 +69,13 @@ comes_both E F G k j i a n e f one two = record {
   leads = after_both k.machine one.actions two.actions ∙ ap (λ (m : Machine). after_all m two.actions) one.leads ∙ two.leads;
   unseen = visible_both one.actions two.actions one.unseen two.unseen;
   places = places_both one.actions two.actions one.places two.places;
+  of_master = all_both one.actions two.actions one.of_master two.of_master;
   rounds = rounds_both E F G k j i e f one.rounds two.rounds;
   whole = two.whole;
 }
 
 pub stays_whole : (k : ChunkSides) (n : Machine) → IsWhole k n → Comes NoneEnds k k n
-stays_whole k n h = record { actions = []; lawful = tt; leads = refl; unseen = refl; places = refl; rounds = λ handle version s was_open. inr was_open; whole = h }
+stays_whole k n h = record { actions = []; lawful = tt; leads = refl; unseen = refl; places = refl; of_master = refl; rounds = λ handle version s was_open. inr was_open; whole = h }
 
 -- rows at one handle
 
@@ -148,6 +155,7 @@ fewer_end E F k j n f h = record {
   leads = h.leads;
   unseen = h.unseen;
   places = h.places;
+  of_master = h.of_master;
   rounds = λ handle version s was_open. elim (h.rounds handle version s was_open) [ inl over ↦ inl (f handle version s was_open over) | inr still ↦ inr still ];
   whole = h.whole;
 }
@@ -164,6 +172,7 @@ rows_taken k n l H h apart rows lists next_file next_handle =
       leads = refl;
       unseen = refl;
       places = refl;
+      of_master = refl;
       rounds = kept.rounds;
       whole = record { names = h.names; chunks = kept.alike; below = λ handle s is. let low = h.below handle s is in omega (arith, low, next_handle) };
     }

@@ -1,7 +1,7 @@
 -- Actions on names that touch no file, and a file that is created.
 use Rattle.std.proofs.Common.{◌≡◌, ℕ, suc, ◌≤◌, Bool, true, cond, List, [], ◌∷◌, Option, None, refl, sym, ap, subst, ◌∙◌, inl, inr, arith}
 use Rattle.std.specs.Prelude.{◌&&◌, IsFalse}
-use Rattle.std.specs.List.{cons_option}
+use Rattle.std.specs.List.{cons_option, list_all}
 use Rattle.std.proofs.lemmas.Bool.{true≢false}
 use Rattle.gfs_types.specs.declared.call.Call.{Call}
 use Rattle.gfs_types.specs.declared.call.Call.TheVariants as call
@@ -10,13 +10,14 @@ use Rattle.log_records.specs.declared.record.Record.TheVariants as log
 use Rattle.chunk_table.specs.ChunkTable.{ChunkTable, chunk_of, add_file}
 use Rattle.relaxed_file.specs.Machine.{Machine, OpenCall, Outcome, new_file, put, IsOpen}
 use Rattle.relaxed_file.specs.NameStep.{is_look, is_refused, performed, with_outcome}
-use Rattle.relaxed_file.specs.Run.{Action, Visible, Step, FindBusy, Lock, Allows, shown, after}
+use Rattle.relaxed_file.specs.Run.{Action, Invoke, Return, ReturnFd, Step, FindBusy, FindFull, Lock, Expire, Add, OpenRound, CloseRound, Pass, Visible, Called, Answered, Passed, Allows, shown, after}
 use Rattle.relaxed_file.proofs.Tables.{from_some}
 use Rattle.name_runs.specs.Laws.{is_name_action}
 use Rattle.name_projections.specs.Laws.{IsReady, AreSourcesClosed}
 use Rattle.name_projections.proofs.Calls as calls
 use Rattle.name_projections.proofs.Actions.{name_actions_are_taken}
 use Rattle.protocol.specs.Sending.{client_id}
+use Rattle.protocol_laws.proofs.Steps.{none_some}
 use Rattle.protocol.specs.Logged.{Logged, after_record}
 use Rattle.protocol_name_laws.specs.Names.{HasNamesOf}
 use Rattle.protocol_name_laws.specs.NameTrails.{HasCall, IsQuiet, AreQuiet, IsRefusal}
@@ -25,7 +26,7 @@ use Rattle.protocol_machine_laws.specs.ChunksAlike.{ChunkSides, KeepsChunks, Non
 use Rattle.protocol_machine_laws.proofs.Plain.{other_changes_keep_chunks}
 use Rattle.protocol_machine_laws.proofs.Adds.{new_files_have_no_chunk}
 use Rattle.protocol_machine_laws.proofs.Rows.{granted_of}
-use Rattle.protocol_whole_laws.specs.MasterSteps.{IsWhole, Comes, QuietRunsAreTaken, EndsAt, HasOpened, recorded}
+use Rattle.protocol_whole_laws.specs.MasterSteps.{IsWhole, is_of_master, Comes, QuietRunsAreTaken, EndsAt, HasOpened, recorded}
 use Rattle.protocol_whole_laws.proofs.MasterKept.{keeps_both, comes_both, stays_whole, names_place_nothing}
 
 pub more_end : (E F : ℕ → Type 0) (k j : ChunkSides) (n : Machine) → ((handle : ℕ) → E handle → F handle) → Comes E k j n → Comes F k j n
@@ -35,6 +36,7 @@ more_end E F k j n f h = record {
   leads = h.leads;
   unseen = h.unseen;
   places = h.places;
+  of_master = h.of_master;
   rounds = λ handle version s was_open. elim (h.rounds handle version s was_open) [ inl over ↦ inl (f handle over) | inr still ↦ inr still ];
   whole = h.whole;
 }
@@ -69,6 +71,25 @@ looks_close : (m : Machine) (c : Call) → is_look c ≡ true → AreSourcesClos
 looks_close m (call.Snapshot p q) look = absurd (true≢false (sym look))
 looks_close m other look = tt
 
+-- an action on names that clients don't see
+named_of_master : (action : Action) → is_name_action action ≡ true → shown action ≡ None → is_of_master action ≡ true
+named_of_master (Step client moment outcome) is unseen = refl
+named_of_master (FindBusy client holder) is unseen = refl
+named_of_master (FindFull client) is unseen = refl
+named_of_master (Lock client) is unseen = refl
+named_of_master (Expire file moment) is unseen = refl
+named_of_master (Add id) is unseen = refl
+named_of_master (OpenRound file index round) is unseen = refl
+named_of_master (CloseRound file index) is unseen = refl
+named_of_master (Invoke client asked) is unseen = none_some (Called client asked) (sym unseen)
+named_of_master (Return client reply) is unseen = none_some (Answered client reply) (sym unseen)
+named_of_master (ReturnFd client fd file) is unseen = none_some (Answered client _) (sym unseen)
+named_of_master (Pass moment) is unseen = none_some (Passed moment) (sym unseen)
+named_of_master other is unseen = absurd (true≢false (sym is))
+
+one_of_master : (action : Action) → is_name_action action ≡ true → shown action ≡ None → list_all is_of_master (action ∷ []) ≡ true
+one_of_master action is unseen = ap (λ (b : Bool). b && true) (named_of_master action is unseen)
+
 module _ (k : ChunkSides) (n : Machine) (h : IsWhole k n) where
   -- an action on names that leaves the files, where the log's chunks stay
   pub plainly_taken : (l : Logged) (action : Action) → is_name_action action ≡ true → shown action ≡ None → Allows n action → IsReady k.machine action → (after k.machine action).files ≡ k.machine.files
@@ -92,6 +113,7 @@ module _ (k : ChunkSides) (n : Machine) (h : IsWhole k n) where
         leads = refl;
         unseen = ap (λ (o : Option Visible). cons_option o []) unseen;
         places = ap (λ (b : Bool). b && true) (names_place_nothing action is);
+        of_master = one_of_master action is unseen;
         rounds = kept.rounds;
         whole = record { names = took.1; chunks = kept.alike; below = λ handle s is. let low = h.below handle s is in omega (arith, low, next_handle) };
       }
@@ -150,6 +172,7 @@ module _ (k : ChunkSides) (n : Machine) (h : IsWhole k n) where
         leads = refl;
         unseen = ap (λ (o : Option Visible). cons_option o []) unseen;
         places = ap (λ (b : Bool). b && true) (names_place_nothing action is);
+        of_master = one_of_master action is unseen;
         rounds = kept.rounds;
         whole = record { names = took.1; chunks = kept.alike; below = λ handle s is. let low = h.below handle s is in omega (arith, low, next_handle) };
       }

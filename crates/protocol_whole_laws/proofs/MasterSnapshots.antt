@@ -30,7 +30,7 @@ use Rattle.protocol_machine_laws.specs.ChunkRecords.{StandsIn, AreFilesThere}
 use Rattle.protocol_machine_laws.proofs.Plain.{other_changes_keep_chunks}
 use Rattle.protocol_machine_laws.proofs.Closings.{rounds_are_closed}
 use Rattle.protocol_machine_laws.proofs.Snapshots.{snapshots_copy_chunks}
-use Rattle.protocol_whole_laws.specs.MasterSteps.{IsWhole, Comes, EndsAt, IsDueAt, HasOpened, recorded}
+use Rattle.protocol_whole_laws.specs.MasterSteps.{IsWhole, is_of_master, Comes, EndsAt, IsDueAt, HasOpened, recorded}
 use Rattle.protocol_whole_laws.proofs.MasterKept.{keeps_both, comes_both}
 use Rattle.protocol_whole_laws.proofs.MasterNames.{HasItsCall, whole_call, ready_for, done_files}
 
@@ -60,6 +60,12 @@ rounds_unseen [] of = refl
 rounds_unseen (OpenRound file index round ∷ rest) of = rounds_unseen rest of
 rounds_unseen (CloseRound file index ∷ rest) of = rounds_unseen rest of
 rounds_unseen (other ∷ rest) of = absurd of
+
+pub rounds_of_master : (xs : List Action) → AreOfRounds xs → list_all is_of_master xs ≡ true
+rounds_of_master [] of = refl
+rounds_of_master (OpenRound file index round ∷ rest) of = rounds_of_master rest of
+rounds_of_master (CloseRound file index ∷ rest) of = rounds_of_master rest of
+rounds_of_master (other ∷ rest) of = absurd of
 
 -- rounds that close
 
@@ -244,6 +250,7 @@ module _ (k : ChunkSides) (n : Machine) (h : IsWhole k n) (named : HasNamesOf k.
         leads = refl;
         unseen = rounds_unseen closes (of_rounds closes are);
         places = rounds_place_nothing closes (of_rounds closes are);
+        of_master = rounds_of_master closes (of_rounds closes are);
         rounds = (went.keeps).rounds;
         whole = record { names = rounds_keep_names closes k.machine n (of_rounds closes are) went.allowed h.names; chunks = (went.keeps).alike; below = h.below };
       }
@@ -267,7 +274,7 @@ module _ (k : ChunkSides) (n : Machine) (h : IsWhole k n) (named : HasNamesOf k.
       done_files closed.machine client moment outcome (call.Snapshot from to) its plain ∙ ap (λ (names : Names). (snapshot_taken closed.machine (copied_entries names from to)).files) (sym names_are) in
       let two : KeepsChunks NoneEnds done j = other_changes_keep_chunks done j one.alike (record { lists = refl; grants = λ handle. refl; next = omega arith; gone = refl; orders = refl; files = files }) in
       let kept : KeepsChunks NoneEnds closed j = keeps_both NoneEnds NoneEnds NoneEnds closed done j (λ handle none. none) (λ handle none. none) one two in
-      record { actions = action ∷ []; lawful = (took.0, tt); leads = refl; unseen = refl; places = refl; rounds = kept.rounds; whole = record { names = took.1; chunks = kept.alike; below = h.below } }
+      record { actions = action ∷ []; lawful = (took.0, tt); leads = refl; unseen = refl; places = refl; of_master = refl; rounds = kept.rounds; whole = record { names = took.1; chunks = kept.alike; below = h.below } }
 
   pub snapshot_taken_whole : (m : Machine) × Comes (EndsAt k.log entry) k (recorded k entry m) (after n action) × HasOpened (recorded k entry m) entry
   snapshot_taken_whole = (

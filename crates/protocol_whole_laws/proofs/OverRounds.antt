@@ -59,7 +59,7 @@ use Rattle.protocol_whole_laws.proofs.GrantedRecords.{steps_grant_what_was_attem
 use Rattle.protocol_whole_laws.proofs.GrantsLast.{grants_are_last}
 
 -- worlds with the same servers and messages, of which one is not earlier
-over_later : (v u : WorldState) → u.servers ≡ v.servers → v.observer.greatest ≤ u.observer.greatest → ((place : ℕ) (m : Message) → element_at u.sent place ≡ Some m → element_at v.sent place ≡ Some m) → (handle : ℕ) → AreLeasesOver v handle → AreLeasesOver u handle
+pub over_later : (v u : WorldState) → u.servers ≡ v.servers → v.observer.greatest ≤ u.observer.greatest → ((place : ℕ) (m : Message) → element_at u.sent place ≡ Some m → element_at v.sent place ≡ Some m) → (handle : ℕ) → AreLeasesOver v handle → AreLeasesOver u handle
 over_later v u servers later sent handle h version =
     let old : IsLeaseOver v handle version = h version in
     record {

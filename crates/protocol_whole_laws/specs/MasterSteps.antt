@@ -1,5 +1,5 @@
 -- Where the whole machine goes beside the master's log, it follows each change of the log: by the action of the record, or by actions on chunks (sections 2.6.3, 3.1 and 3.4).
-use Rattle.std.specs.Prelude.{◌≡◌, ◌⊎◌, ℕ, ◌<◌, ◌≤◌, List, [], ◌∷◌, Option, Some, None, option_map, IsTrue}
+use Rattle.std.specs.Prelude.{◌≡◌, ◌⊎◌, ℕ, ◌<◌, ◌≤◌, List, [], ◌∷◌, Option, Some, None, option_map, IsTrue, Bool, true, false}
 use Rattle.std.specs.List.{list_all}
 use Rattle.std.specs.FinMap as table
 use Rattle.log_records.specs.declared.record.Record.{Record}
@@ -9,7 +9,7 @@ use Rattle.relaxed_file.specs.Order.{CallId}
 use Rattle.relaxed_file.specs.Names.{copied_entries}
 use Rattle.relaxed_file.specs.Machine.{Machine, Asked}
 use Rattle.relaxed_file.specs.Chunks.{MayAdd}
-use Rattle.relaxed_file.specs.Run.{Action, IsLawful, after_all, visible, LeadsTo}
+use Rattle.relaxed_file.specs.Run.{Action, Step, FindBusy, FindFull, Lock, Expire, Add, OpenRound, CloseRound, IsLawful, after_all, visible, LeadsTo}
 use Rattle.name_projections.specs.Laws.{AreNamesOf}
 use Rattle.protocol.specs.Tables.{Table}
 use Rattle.protocol.specs.Logged.{Logged, Copy, LogDisk, LogChange, AppendRecord, WriteCheckpoint, after_record, log_changed}
@@ -30,13 +30,26 @@ pub record IsWhole (k : ChunkSides) (n : Machine) : Type 0 where
   pub chunks : AreChunksAlike k
   pub below : (handle : ℕ) (s : Spot) → k.gone handle ≡ Some s → handle < k.log.next_handle
 
--- The whole machine takes actions of which clients see nothing and that place nothing, and is then beside the log and the names again; rounds end of these handles alone.
+-- what the machine does for the master: names, files that expire, chunks that are added, and rounds
+abbrev pub is_of_master : Action → Bool
+is_of_master (Step client moment outcome) = true
+is_of_master (FindBusy client holder) = true
+is_of_master (FindFull client) = true
+is_of_master (Lock client) = true
+is_of_master (Expire file moment) = true
+is_of_master (Add id) = true
+is_of_master (OpenRound file index round) = true
+is_of_master (CloseRound file index) = true
+is_of_master other = false
+
+-- The whole machine takes such actions, of which clients see nothing and that place nothing, and is then beside the log and the names again; rounds end of these handles alone.
 pub record Comes (Ends : ℕ → Type 0) (k j : ChunkSides) (n : Machine) : Type 0 where
   pub actions : List Action
   pub lawful : IsLawful k.machine actions
   pub leads : after_all k.machine actions ≡ j.machine
   pub unseen : visible actions ≡ []
   pub places : IsTrue (list_all places_nothing actions)
+  pub of_master : IsTrue (list_all is_of_master actions)
   pub rounds : KeepsRounds Ends k j
   pub whole : IsWhole j n
 
