@@ -3,13 +3,13 @@
 ghost use Rattle.std.specs.Prelude.{◌≡◌, ◌%◌, [], IfOk};
 ghost use Rattle.replica_store.specs.Replicas.{new_server_disk};
 
-use crate::committing::commit;
-use crate::faults::fault_of_opening;
-use crate::finding::has_open_head;
-use crate::looking::{is_copyable, is_writable, read};
-use crate::reopening::{made_in, open_again};
-use crate::rotting::rot;
-use crate::standing::{Standing, closed};
+use store_standing::committing::commit;
+use store_standing::faults::fault_of_opening;
+use store_standing::finding::has_open_head;
+use store_standing::looking::{is_copyable, is_writable, read};
+use store_standing::reopening::{made_in, open_again};
+use store_standing::rotting::rot;
+use store_standing::standing::{Standing, closed};
 use bytes::Bytes;
 use chunk_store::{Store, open};
 use disk::Disk;
@@ -48,7 +48,7 @@ impl<D: StoppableDisk> Model for DiskStore<D> {
     ghost use Rattle.std.specs.Coded.{codes, coded_ℕ};
     ghost use Rattle.replica_store.specs.Replicas.{ServerDisk};
     ghost use Rattle.replica_store.specs.declared.change.StoreChange.{StoreChange as StoreChangeValue};
-    ghost use Rattle.disk_store.specs.Standing.{IsKept, changes_of};
+    ghost use Rattle.store_standing.specs.Standing.{IsKept, changes_of};
 
     ghost Value = { ServerDisk × List StoreChangeValue };
 

@@ -1,10 +1,10 @@
 use Rattle.std.proofs.Common.{◌≡◌, List, [], refl, sym, ap, ◌∙◌, subst}
 use Rattle.replica_store.specs.Replicas.{ServerDisk, disk_changed}
 use Rattle.replica_store.specs.declared.change.StoreChange.{StoreChange}
-use Rattle.disk_store.specs.Standing.{IsKept, changes_of}
-use Rattle.disk_store.specs.declared.standing.Standing.{Standing}
-use Rattle.disk_store.specs.declared.standing.Standing.TheVariants.{Open}
-use Rattle.disk_store.proofs.Keeping.{as_said}
+use Rattle.store_standing.specs.Standing.{IsKept, changes_of}
+use Rattle.store_standing.specs.declared.standing.Standing.{Standing}
+use Rattle.store_standing.specs.declared.standing.Standing.TheVariants.{Open}
+use Rattle.store_standing.proofs.Keeping.{as_said}
 use Rattle.disk_store.proofs.disk_store.DiskStoreReplicaStore.commit.Goals as goal
 
 pub commit-requires-clause-kept : goal.commit-requires-clause-kept
