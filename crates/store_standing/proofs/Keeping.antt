@@ -43,16 +43,6 @@ module _ {D : Type 0} (seen : D → List ℕ) (may_leave : D → List ℕ → Ty
   refused_kept (Unread other byte) change none kept = stands_as (Unread other byte) (Unread (Some change) byte) kept kept.stands
   refused_kept (Changing other) change none kept = absurd cc
 
-  pub refused_is : (standing : Standing) (change : StoreChange) → changes_of standing ≡ [] → changes_of (refused standing change) ≡ change ∷ []
-  refused_is Open change none = refl
-  refused_is (Unread other byte) change none = refl
-  refused_is (Changing other) change none = absurd cc
-
-  pub closed_is : (standing : Standing) → changes_of (closed standing) ≡ changes_of standing
-  closed_is Open = refl
-  closed_is (Unread change byte) = refl
-  closed_is (Changing change) = refl
-
   -- in a store of the same layout
   pub in_layout : (one two : Standing) (new : Store D) → new.layout ≡ store.layout → Kept one → Stands seen may_leave new rows d two → IsKept seen may_leave new order rows d two
   in_layout one two new same kept stands = record {
@@ -113,6 +103,17 @@ module _ {D : Type 0} (seen : D → List ℕ) (may_leave : D → List ℕ → Ty
       in_layout (Unread change byte) (Unread change byte) (record store { disk = disk }) refl kept (kept.stands.0, kept.stands.1, kept.stands.2, still_leaves disk stops kept.stands.0 d kept.stands.3)
   reopened_kept (Changing change) disk other stops kept =
       in_layout (Changing change) (Changing change) (record store { disk = disk }) refl kept (kept.stands.0, kept.stands.1, still_leaves disk stops d (disk_changed d change) kept.stands.2)
+
+-- what is under way in another standing
+pub refused_is : (standing : Standing) (change : StoreChange) → changes_of standing ≡ [] → changes_of (refused standing change) ≡ change ∷ []
+refused_is Open change none = refl
+refused_is (Unread other byte) change none = refl
+refused_is (Changing other) change none = absurd cc
+
+pub closed_is : (standing : Standing) → changes_of (closed standing) ≡ changes_of standing
+closed_is Open = refl
+closed_is (Unread change byte) = refl
+closed_is (Changing change) = refl
 
 -- a store that is to be read anew isn't open
 pub closed_not_open : (standing : Standing) → closed standing ≡ Open → ⊥

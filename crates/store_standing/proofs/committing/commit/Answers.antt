@@ -57,16 +57,16 @@ make-requires-2 g c =
     let some = c.requires.kept in
     told_after disk.seen disk.may_leave s n.order n.rows some.0 c.args.standing some.1 c.begins.new.store c.begins.ensures.unchanged c.begins.ensures.still_open c.in-Ok.ensures.open c.args.change c.in-Ok.ensures.told (c.in-Ok.ensures.careful some.0 (open_as disk.seen disk.may_leave s n.order n.rows some.0 c.args.standing some.1 c.in-Ok.ensures.open)) c.make.new.store c.make.ensures.layout
 
-pub returns-in-Ok-make-clause-ok : goal.returns-in-Ok-make-clause-ok
-returns-in-Ok-make-clause-ok g c d kept =
+pub returns-in-Ok-make-2-clause-ok : goal.returns-in-Ok-make-2-clause-ok
+returns-in-Ok-make-2-clause-ok g c d kept =
     let disk = g.D.Disk in
     let s = c.args.store.now in
     let n = c.args.known.now in
     made_after disk.seen disk.may_leave s n.order n.rows d c.args.standing kept c.begins.new.store c.begins.ensures.unchanged c.begins.ensures.still_open c.in-Ok.ensures.open c.args.change c.in-Ok.ensures.told (c.in-Ok.ensures.careful d (open_as disk.seen disk.may_leave s n.order n.rows d c.args.standing kept c.in-Ok.ensures.open)) c.make.new.store c.make-2.new.self.order c.make-2.new.self.rows c.make.ensures.layout (c.in-Ok-make-2.ensures.ok d kept.known)
     (c.in-Ok-make.ensures.ok d (mid_open disk.seen disk.may_leave s n.order n.rows d c.args.standing kept c.begins.new.store c.begins.ensures.unchanged c.begins.ensures.still_open c.in-Ok.ensures.open) (mid_noticed disk.seen disk.may_leave s n.order n.rows d c.args.standing kept c.begins.new.store c.begins.ensures.unchanged c.begins.ensures.still_open c.in-Ok.ensures.open))
 
-pub returns-in-Err-make-2-clause-err : goal.returns-in-Err-make-2-clause-err
-returns-in-Err-make-2-clause-err g c d kept =
+pub returns-clause-err : goal.returns-clause-err
+returns-clause-err g c d kept =
     let disk = g.D.Disk in
     let s = c.args.store.now in
     let n = c.args.known.now in
