@@ -1,5 +1,5 @@
 -- The block of a place, and its stored digest, as they are read of a slot.
-use Rattle.std.proofs.Common.{◌≡◌, ℕ, ◌+◌, ◌*◌, ◌/◌, ◌%◌, ◌<◌, ◌≤◌, Bool, true, List, length, sym, ap, ◌∙◌, subst, arith, Some}
+use Rattle.std.proofs.Common.{◌≡◌, ℕ, ◌+◌, ◌*◌, ◌/◌, ◌%◌, ◌<◌, ◌≤◌, Bool, List, length, sym, ap, ◌∙◌, subst, arith, Some}
 use Rattle.std.specs.Prelude.{IsTrue, slice_set}
 use Rattle.std.specs.FinMap as map
 use Rattle.block_digests.specs.Digests.{digests_of}
@@ -8,7 +8,7 @@ use Rattle.gated_disk.proofs.Ranges.{length_range}
 use Rattle.replica_store.specs.Replicas.{Replica, ServerDisk, replica_of}
 use Rattle.slot_index.specs.declared.held.HeldReplica.{HeldReplica}
 use Rattle.store_format.proofs.Slots.{slot_before}
-use Rattle.store_layout.specs.Places.{blocks_of, data_place, digests_place, disk_size, slot_place, slot_size}
+use Rattle.store_layout.specs.Places.{data_place, digests_place, disk_size, slot_place, slot_size}
 use Rattle.store_reads.proofs.Bounds.{bytes_room, digests_room}
 use Rattle.stored_replicas.proofs.Looked.{one_row}
 use Rattle.stored_replicas.specs.Stored.{Holds}

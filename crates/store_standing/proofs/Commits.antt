@@ -1,5 +1,5 @@
 -- What is kept when a change is committed.
-use Rattle.std.proofs.Common.{◌≡◌, ◌⊎◌, inl, inr, ℕ, ◌≤◌, Bool, true, List, [], ◌∷◌, refl, sym, ap, ◌∙◌, subst}
+use Rattle.std.proofs.Common.{◌≡◌, inl, inr, ℕ, ◌≤◌, true, List, [], sym, ap, subst}
 use Rattle.gfs_types.specs.declared.ids.OrderNo.{OrderNo}
 use Rattle.replica_store.specs.Replicas.{ServerDisk, disk_changed}
 use Rattle.replica_store.specs.declared.change.StoreChange.{StoreChange}
@@ -10,7 +10,7 @@ use Rattle.known_replicas.specs.Known.{IsKnownOf, Rows, can_be_told}
 use Rattle.noticed_replicas.specs.Noticed.{IsCareful}
 use Rattle.store_standing.specs.Standing.{AllNoticed, IsKept, IsSaid, Leaves, LeavesMade, changes_of, refused}
 use Rattle.store_standing.specs.declared.standing.Standing.{Standing}
-use Rattle.store_standing.specs.declared.standing.Standing.TheVariants.{Open, Unread, Changing}
+use Rattle.store_standing.specs.declared.standing.Standing.TheVariants.{Open, Changing}
 use Rattle.store_standing.proofs.Saying.{open_leaves}
 use Rattle.store_standing.proofs.Keeping.{after_change, all_noticed_kept, begun_kept, changing_kept, failed_leaves, read_kept, refused_kept}
 

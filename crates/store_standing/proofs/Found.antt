@@ -1,5 +1,5 @@
 -- What a stop leaves of a disk that began again and was opened.
-use Rattle.std.proofs.Common.{◌≡◌, ◌⊎◌, inl, inr, ℕ, ◌≤◌, Bool, true, false, List, sym, ap, ◌∙◌, subst}
+use Rattle.std.proofs.Common.{◌≡◌, inl, inr, ℕ, ◌≤◌, true, false, List, sym, ap, ◌∙◌, subst}
 use Rattle.disk.specs.Device.{Follows, NoMore, Only}
 use Rattle.gated_disk.specs.Moments.{LeavesOnly, OnlyReads}
 use Rattle.redo_area.specs.Redo.{stands_for}

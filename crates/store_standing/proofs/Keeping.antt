@@ -1,5 +1,5 @@
 -- What is kept of a disk, whatever its standing.
-use Rattle.std.proofs.Common.{◌≡◌, ◌⊎◌, inl, inr, ℕ, ◌≤◌, ◌%◌, Bool, true, false, if◌then◌else◌, List, [], ◌∷◌, refl, sym, ap, ◌∙◌, subst, arith, Option, None, Some}
+use Rattle.std.proofs.Common.{◌≡◌, inl, inr, ℕ, ◌≤◌, ◌%◌, Bool, true, false, if◌then◌else◌, List, [], ◌∷◌, refl, sym, ap, ◌∙◌, subst, arith, None, Some}
 use Rattle.disk.specs.Device.{Follows}
 use Rattle.gfs_types.specs.declared.ids.OrderNo.{OrderNo}
 use Rattle.replica_store.specs.Replicas.{ServerDisk, disk_changed, disk_changed_by_all}
@@ -11,10 +11,10 @@ use Rattle.known_replicas.specs.Known.{IsKnownOf, Rows, can_be_told, is_made}
 use Rattle.noticed_replicas.specs.Noticed.{AreNoticed, IsCareful}
 use Rattle.noticed_replicas.proofs.Changes.{changed_noticed}
 use Rattle.server_store.specs.Stores.{IsFound}
-use Rattle.store_standing.specs.Standing.{AllNoticed, IsKept, IsSaid, Leaves, LeavesMade, Stands, StillSays, changes_of, closed, found_made, refused}
+use Rattle.store_standing.specs.Standing.{AllNoticed, IsKept, Leaves, LeavesMade, Stands, StillSays, changes_of, closed, found_made, refused}
 use Rattle.store_standing.specs.declared.standing.Standing.{Standing}
 use Rattle.store_standing.specs.declared.standing.Standing.TheVariants.{Open, Unread, Changing}
-use Rattle.store_standing.proofs.Saying.{changed_block, either_leaves, open_leaves, open_noticed}
+use Rattle.store_standing.proofs.Saying.{changed_block, open_leaves, open_noticed}
 
 module _ {D : Type 0} (seen : D → List ℕ) (may_leave : D → List ℕ → Type 0) (store : Store D) (order : OrderNo) (rows : Rows) (d : ServerDisk) where
   abbrev Kept : Standing → Type 0

@@ -1,13 +1,11 @@
 -- What a call of the store on the disk leaves, for whoever knows that no byte has changed unnoticed.
-use Rattle.std.proofs.Common.{◌≡◌, ℕ, ◌≤◌, List, sym, subst}
-use Rattle.redo_area.specs.Redo.{StandsOnly}
-use Rattle.replica_store.specs.Replicas.{ServerDisk, disk_changed}
+use Rattle.std.proofs.Common.{◌≡◌, ℕ, List, sym, subst}
 use Rattle.replica_store.specs.declared.change.StoreChange.{StoreChange}
 use Rattle.store_writes.specs.Writing.{LeavesWritten}
-use Rattle.chunk_store.specs.Stores.{IsOpen, LeavesChange}
+use Rattle.chunk_store.specs.Stores.{LeavesChange}
 use Rattle.chunk_store.specs.declared.store.Store.{Store}
 use Rattle.chunk_store.proofs.StillOpen.{leaves_all}
-use Rattle.store_standing.specs.Standing.{AllNoticed, LeavesMade}
+use Rattle.store_standing.specs.Standing.{LeavesMade}
 
 module _ {D : Type 0} (seen : D → List ℕ) (may_leave : D → List ℕ → Type 0) (moment : D → ℕ) (left_since : D → ℕ → List ℕ → Type 0) (old new : Store D) where
   pub change_made : (change : StoreChange) → LeavesChange seen moment left_since old new change → LeavesMade seen may_leave moment left_since old new change

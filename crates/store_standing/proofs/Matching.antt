@@ -1,5 +1,5 @@
 -- A block with one other byte, and its stored digest.
-use Rattle.std.proofs.Common.{◌≡◌, inl, inr, ℕ, ◌+◌, ◌-◌, ◌*◌, ◌/◌, ◌%◌, ◌<◌, ◌≤◌, List, [], ◌∷◌, ◌++◌, length, take, drop, get_or, refl, sym, ap, ◌∙◌, arith}
+use Rattle.std.proofs.Common.{◌≡◌, inl, inr, ℕ, ◌+◌, ◌-◌, ◌*◌, ◌/◌, ◌%◌, ◌<◌, ◌≤◌, List, [], ◌∷◌, length, take, get_or, sym, ap, ◌∙◌, arith}
 use Rattle.std.specs.Prelude.{slice_set}
 use Rattle.std.proofs.lemmas.Bool.{cases_eq, cases_lt}
 use Rattle.std.proofs.lemmas.List.{ext_get_or, get_or-set_other, get_or-set_same, append-nil, length-set, take_all}
@@ -8,7 +8,7 @@ use Rattle.std.proofs.lemmas.Nat.{mul-le}
 use Rattle.sha2.specs.Sha256.{sha256}
 use Rattle.block_digests.specs.Digests.{digests_of}
 use Rattle.disk.specs.Bytes.{range_at}
-use Rattle.gated_disk.proofs.Ranges.{get_range, length_range, range_range}
+use Rattle.gated_disk.proofs.Ranges.{range_range}
 use Rattle.noticed_replicas.specs.Noticed.{block_in}
 use Rattle.noticed_replicas.proofs.Blocks.{disk_size, get_in, next_within, size_in}
 use Rattle.replica_blocks.specs.Blocks.{chunk_on_disk, written_over}

@@ -1,5 +1,5 @@
 -- A new store, and one whose disk is told when to stop.
-use Rattle.std.proofs.Common.{◌≡◌, ◌⊎◌, inl, inr, ℕ, ◌%◌, List, length, refl, sym, ap, ◌∙◌, subst, None, Some}
+use Rattle.std.proofs.Common.{◌≡◌, ℕ, ◌%◌, List, length, refl, sym, ap, ◌∙◌, subst, None, Some}
 use Rattle.std.specs.FinMap as map
 use Rattle.std.specs.Ordering.{nat_cmp}
 use Rattle.disk.specs.Device.{NoMore}
@@ -14,7 +14,7 @@ use Rattle.chunk_store.specs.declared.store.Store.{Store}
 use Rattle.chunk_store.proofs.StillOpen.{still_open}
 use Rattle.known_replicas.specs.Known.{IsKnownOf, Rows}
 use Rattle.noticed_replicas.specs.Noticed.{AreNoticed}
-use Rattle.store_standing.specs.Standing.{IsKept, IsSaid, Leaves}
+use Rattle.store_standing.specs.Standing.{IsKept, Leaves}
 use Rattle.store_standing.specs.declared.standing.Standing.{Standing}
 use Rattle.store_standing.specs.declared.standing.Standing.TheVariants.{Open, Unread, Changing}
 use Rattle.store_standing.proofs.Keeping.{in_layout}

@@ -18,7 +18,6 @@ use Rattle.noticed_replicas.specs.Noticed.{AreNoticed}
 use Rattle.noticed_replicas.proofs.Changes.{with_noticed}
 use Rattle.noticed_replicas.proofs.Rot.{rotten_noticed}
 use Rattle.store_standing.specs.Standing.{HasItsDigest, IsKept, Leaves, Stands}
-use Rattle.store_standing.specs.declared.standing.RottingByte.{RottingByte}
 use Rattle.store_standing.specs.declared.standing.Standing.{Standing}
 use Rattle.store_standing.specs.declared.standing.Standing.TheVariants.{Open, Unread}
 use Rattle.store_standing.proofs.Commits.{mid_kept}

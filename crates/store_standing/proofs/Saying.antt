@@ -1,22 +1,16 @@
 -- What a stop leaves says.
-use Rattle.std.proofs.Common.{◌≡◌, ◌⊎◌, inl, inr, ℕ, ◌≤◌, ◌%◌, Bool, true, List, length, refl, sym, ap, ◌∙◌, subst, arith, Option, None, Some}
-use Rattle.std.specs.FinMap as map
+use Rattle.std.proofs.Common.{◌≡◌, inl, inr, ℕ, ◌≤◌, ◌%◌, List, refl, sym, subst, Option, None, Some}
 use Rattle.std.specs.Prelude.{Err, Ok, OnErr, Result}
-use Rattle.disk.specs.Device.{Follows}
 use Rattle.redo_area.specs.Redo.{StandsOnly, stands_for}
-use Rattle.replica_blocks.specs.Blocks.{IsNoticed}
 use Rattle.replica_store.specs.Replicas.{Replica, ServerDisk, disk_changed, replica_becomes, replica_of}
 use Rattle.replica_store.specs.declared.change.StoreChange.{StoreChange}
 use Rattle.replica_store.specs.declared.change.StoreChange.TheVariants.{SetOrder, Put, Write, Zero, Raise, Copy, Remove}
 use Rattle.store_changes.specs.Areas.{area_of}
-use Rattle.store_layout.specs.declared.places.Layout.{Layout}
-use Rattle.store_writes.specs.Writing.{IsNoticedAt}
-use Rattle.stored_replicas.specs.Stored.{IsStored}
 use Rattle.chunk_store.specs.Stores.{IsOpen}
 use Rattle.chunk_store.specs.declared.store.Store.{Store}
 use Rattle.noticed_replicas.specs.Noticed.{AreNoticed}
 use Rattle.noticed_replicas.proofs.Blocks.{all_noticed}
-use Rattle.store_standing.specs.Standing.{AllNoticed, IsSaid, Leaves, StillSays}
+use Rattle.store_standing.specs.Standing.{AllNoticed, IsSaid, Leaves}
 
 -- what holds, holds of an error
 pub on_err : {T E P : Type 0} (r : Result T E) → P → OnErr r P

@@ -1,5 +1,5 @@
 -- What was found on a disk that was opened again, and what comes of it.
-use Rattle.std.proofs.Common.{◌≡◌, ◌⊎◌, inl, inr, ℕ, ◌<◌, ◌≤◌, ◌%◌, Bool, true, false, List, length, refl, sym, ap, ◌∙◌, subst, arith, Option, None, Some}
+use Rattle.std.proofs.Common.{◌≡◌, ◌⊎◌, inl, inr, ℕ, ◌≤◌, ◌%◌, true, false, List, length, refl, sym, ap, ◌∙◌, subst, Option, None, Some}
 use Rattle.gfs_types.specs.declared.ids.OrderNo.{OrderNo}
 use Rattle.redo_area.specs.Redo.{IsAtRest}
 use Rattle.replica_store.specs.Replicas.{ServerDisk, disk_changed}
@@ -16,7 +16,7 @@ use Rattle.known_replicas.specs.Known.{IsKnownOf, Rows, can_be_told, is_made}
 use Rattle.known_replicas.proofs.Rotten.{rotten_known}
 use Rattle.known_replicas.proofs.Told.{is_made_after, not_made}
 use Rattle.noticed_replicas.specs.Noticed.{AreNoticed, IsCareful}
-use Rattle.store_standing.specs.Standing.{IsFoundAmong, IsKept, IsRotWithin, IsSaid, Leaves, Stands, rotten_by, rotting_in}
+use Rattle.store_standing.specs.Standing.{IsFoundAmong, IsKept, IsRotWithin, IsSaid, Leaves, rotten_by, rotting_in}
 use Rattle.store_standing.specs.declared.standing.RottingByte.{RottingByte}
 use Rattle.store_standing.specs.declared.standing.Standing.{Standing}
 use Rattle.store_standing.specs.declared.standing.Standing.TheVariants.{Open, Unread, Changing}

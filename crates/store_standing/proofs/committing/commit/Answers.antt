@@ -1,4 +1,4 @@
-use Rattle.std.proofs.Common.{◌≡◌, List, sym, ap, ◌∙◌, subst}
+use Rattle.std.proofs.Common.{sym, ap, ◌∙◌, subst}
 use Rattle.known_replicas.specs.declared.known.Known.{Known}
 use Rattle.store_standing.specs.Standing.{IsKept, changes_of}
 use Rattle.store_standing.specs.declared.standing.Standing.{Standing}

@@ -1,4 +1,4 @@
-use Rattle.std.proofs.Common.{◌≡◌, sym, subst, ap, ◌∙◌, Bool, Err, Ok, Result}
+use Rattle.std.proofs.Common.{◌≡◌, sym, subst, ap, ◌∙◌, Bool, Err, Result}
 use Rattle.std.specs.Prelude.{IfOk}
 use Rattle.replica_store.specs.Replicas.{is_copyable_at}
 use Rattle.server_store.specs.declared.fault.StoreFault.{StoreFault}

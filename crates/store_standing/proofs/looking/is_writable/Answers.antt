@@ -1,4 +1,4 @@
-use Rattle.std.proofs.Common.{sym, ap, ◌∙◌, subst}
+use Rattle.std.proofs.Common.{sym, ◌∙◌}
 use Rattle.chunk_store.proofs.StillOpen.{read_open}
 use Rattle.store_standing.proofs.Looked.{edges_tell, its_slot, none_writable, nothing_over}
 use Rattle.store_standing.proofs.looking.is_writable.Goals as goal

@@ -1,4 +1,4 @@
-use Rattle.std.proofs.Common.{ℕ, ◌+◌, List, length, ap, arith, subst}
+use Rattle.std.proofs.Common.{ℕ, List, length, ap, arith, subst}
 use Rattle.std.specs.Prelude.{OnOk}
 use Rattle.replica_store.specs.Replicas.{disk_changed}
 use Rattle.replica_store.specs.declared.change.StoreChange.TheVariants.{Write}

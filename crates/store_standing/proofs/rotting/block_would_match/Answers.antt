@@ -1,4 +1,4 @@
-use Rattle.std.proofs.Common.{◌≡◌, ℕ, ◌+◌, ◌*◌, ◌/◌, List, length, sym, ap, ◌∙◌, arith}
+use Rattle.std.proofs.Common.{ℕ, ◌+◌, ◌*◌, ◌/◌, List, length, sym, ap, ◌∙◌, arith}
 use Rattle.disk.specs.Bytes.{range_at}
 use Rattle.gated_disk.proofs.Moments.{reads_both}
 use Rattle.store_standing.proofs.Blocks.{block_room, digest_room, inside, long, tells_match}

@@ -1,4 +1,4 @@
-use Rattle.std.proofs.Common.{◌≡◌, ◌<◌, true, false, refl, sym, ◌∙◌, arith}
+use Rattle.std.proofs.Common.{◌≡◌, true, false, refl, sym, ◌∙◌, arith}
 use Rattle.store_standing.proofs.Commits.{mid_kept}
 use Rattle.store_standing.proofs.Rots.{low_in, none_kept, rot_failed, rot_made}
 use Rattle.store_standing.proofs.Saying.{on_err}

@@ -1,4 +1,4 @@
-use Rattle.std.proofs.Common.{◌≡◌, sym, subst, Option, Some}
+use Rattle.std.proofs.Common.{sym, subst, Option}
 use Rattle.store_standing.specs.Standing.{IsRotWithin, Leaves, rotten_by}
 use Rattle.store_standing.specs.declared.standing.RottingByte.{RottingByte}
 use Rattle.chunk_store.specs.Stores.{IsOpen}
