@@ -3,13 +3,6 @@
 ghost use Rattle.std.specs.Prelude.{◌≡◌, ◌%◌, [], IfOk};
 ghost use Rattle.replica_store.specs.Replicas.{new_server_disk};
 
-use store_standing::committing::commit;
-use store_standing::faults::fault_of_opening;
-use store_standing::finding::has_open_head;
-use store_standing::looking::{is_copyable, is_writable, read};
-use store_standing::reopening::{made_in, open_again};
-use store_standing::rotting::rot;
-use store_standing::standing::{Standing, closed};
 use bytes::Bytes;
 use chunk_store::{Store, open};
 use disk::Disk;
@@ -29,6 +22,13 @@ use std::marker::Model;
 use std::mem;
 use stoppable_store::StoppableStore;
 use store_layout::Layout;
+use store_standing::committing::commit;
+use store_standing::faults::fault_of_opening;
+use store_standing::finding::has_open_head;
+use store_standing::looking::{is_copyable, is_writable, read};
+use store_standing::reopening::{made_in, open_again};
+use store_standing::rotting::rot;
+use store_standing::standing::{Standing, closed};
 use stored_log::stoppable::StoppableDisk;
 
 /// A server's replicas on a disk. In memory it keeps the last order's number and each replica's row, so that it answers them while its disk

@@ -1,8 +1,7 @@
-use Rattle.std.proofs.Common.{◌≡◌, List, [], refl, sym, ap, ◌∙◌, subst}
+use Rattle.std.proofs.Common.{List, refl, ap, ◌∙◌}
 use Rattle.replica_store.specs.Replicas.{ServerDisk, disk_changed}
 use Rattle.replica_store.specs.declared.change.StoreChange.{StoreChange}
-use Rattle.store_standing.specs.Standing.{IsKept, changes_of}
-use Rattle.store_standing.specs.declared.standing.Standing.{Standing}
+use Rattle.store_standing.specs.Standing.{changes_of}
 use Rattle.store_standing.specs.declared.standing.Standing.TheVariants.{Open}
 use Rattle.store_standing.proofs.Keeping.{as_said}
 use Rattle.disk_store.proofs.disk_store.DiskStoreReplicaStore.commit.Goals as goal

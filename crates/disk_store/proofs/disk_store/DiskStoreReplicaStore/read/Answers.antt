@@ -1,4 +1,4 @@
-use Rattle.std.proofs.Common.{◌≡◌, List, [], sym, ap, ◌∙◌, subst, None}
+use Rattle.std.proofs.Common.{◌≡◌, List, sym, ap, ◌∙◌, subst, None}
 use Rattle.std.specs.Prelude.{IfOk}
 use Rattle.replica_store.specs.Replicas.{ServerDisk, read_at}
 use Rattle.replica_store.specs.declared.change.StoreChange.{StoreChange}
