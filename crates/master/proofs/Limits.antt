@@ -21,7 +21,7 @@ six true true true false true s h i j = refl
 six true true false true true s h i j = refl
 six true true false false true s h i j = refl
 
-has_places : PlanState → Bool
+abbrev has_places : PlanState → Bool
 has_places p = nat_le (p.logged.next_handle * p.config.chunk) counter_limit
 
 by_sound : (p : PlanState) → IsSound (table_of p.logged) → ((nat_le p.logged.epoch counter_limit && nat_le p.order_count counter_limit) && has_places p) ≡ is_within_limits (known p)

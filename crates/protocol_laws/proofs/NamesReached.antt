@@ -174,7 +174,7 @@ module _ (G : Logged → Type 0) (R : Logged → Logged → Type 0) (b : IsKeptB
 
   within : (m : MasterState) → is_within_limits m ≡ true → m.logged.next_file ≤ counter_limit
   within m h =
-      let handles = (and_parts _ _ (and_parts _ _ (and_parts _ _ h).0).0).0 in
+      let handles = (and_parts _ _ (and_parts _ _ (and_parts _ _ (and_parts _ _ h).0).0).0).0 in
       leb-true m.logged.next_file counter_limit (and_parts _ _ handles).0
 
   running : (start : LogDisk) (d : MasterDoing) → is_within_limits d.master ≡ true → IsNaming start (core_of d) → IsNamespace d.master.logged.names d.master.snapshots

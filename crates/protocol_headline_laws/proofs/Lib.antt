@@ -1,0 +1,2 @@
+pub mod FilePlaces
+pub mod ShownFiles
