@@ -1,0 +1,43 @@
+use Rattle.std.proofs.Common.{List, refl, ap, ◌∙◌}
+use Rattle.replica_store.specs.Replicas.{ServerDisk, disk_changed}
+use Rattle.replica_store.specs.declared.change.StoreChange.{StoreChange}
+use Rattle.store_standing.specs.Standing.{changes_of}
+use Rattle.store_standing.specs.declared.standing.Standing.TheVariants.{Open}
+use Rattle.store_standing.proofs.Keeping.{as_said}
+use Rattle.disk_store.proofs.disk_store.DiskStoreReplicaStore.commit.Goals as goal
+
+pub commit-requires-clause-kept : goal.commit-requires-clause-kept
+commit-requires-clause-kept g c =
+    let was = c.self.inside in
+    (was.said, as_said g.D.Disk.seen g.D.Disk.may_leave was.store was.known.order was.known.rows was.said was.said was.standing c.replace-standing.result refl c.replace-standing.ensures.value c.self.invariant)
+
+pub commit-requires-clause-nothing : goal.commit-requires-clause-nothing
+commit-requires-clause-nothing g c = ap changes_of c.replace-standing.ensures.value ∙ ap (λ (s : ServerDisk × List StoreChange). s.1) c.self.view_is ∙ c.requires
+
+pub invariant_of-self : goal.invariant_of-self
+invariant_of-self g c =
+    let was = c.self.inside in
+    let disk = g.D.Disk in
+    let kept = as_said disk.seen disk.may_leave was.store was.known.order was.known.rows was.said was.said was.standing c.replace-standing.result refl c.replace-standing.ensures.value c.self.invariant in
+    as_said disk.seen disk.may_leave c.commit.new.store c.commit.new.known.order c.commit.new.known.rows (disk_changed was.said c.args.change) c.change.new.self Open c.replace-standing.new.dest
+    (c.change.ensures ∙ ap (disk_changed was.said) c.in-Ok.ensures.made) c.replace-standing.ensures.after (c.in-Ok.ensures.ok was.said kept)
+
+pub returns-in-Ok-clause-disk : goal.returns-in-Ok-clause-disk
+returns-in-Ok-clause-disk g c =
+    c.change.ensures ∙ ap (disk_changed c.self.inside.said) c.in-Ok.ensures.made ∙ ap (λ (s : ServerDisk × List StoreChange). disk_changed s.0 c.args.change) c.self.view_is
+
+pub returns-in-Ok-clause-nothing : goal.returns-in-Ok-clause-nothing
+returns-in-Ok-clause-nothing g c = ap changes_of c.replace-standing.ensures.after
+
+pub invariant_of-self-in-Err : goal.invariant_of-self-in-Err
+invariant_of-self-in-Err g c =
+    let was = c.self.inside in
+    let disk = g.D.Disk in
+    let kept = as_said disk.seen disk.may_leave was.store was.known.order was.known.rows was.said was.said was.standing c.replace-standing.result refl c.replace-standing.ensures.value c.self.invariant in
+    c.in-Err.ensures.err was.said kept
+
+pub returns-in-Err-clause-err : goal.returns-in-Err-clause-err
+returns-in-Err-clause-err g c = ap (λ (s : ServerDisk × List StoreChange). s.0) c.self.view_is
+
+pub returns-in-Err-clause-open : goal.returns-in-Err-clause-open
+returns-in-Err-clause-open g c = c.in-Err.ensures.open

@@ -1,0 +1,35 @@
+use Rattle.std.proofs.Common.{◌≡◌, List, sym, ap, ◌∙◌, subst, false}
+use Rattle.std.specs.Prelude.{IfOk}
+use Rattle.replica_store.specs.Replicas.{ServerDisk, is_copyable_at}
+use Rattle.replica_store.specs.declared.change.StoreChange.{StoreChange}
+use Rattle.store_standing.proofs.Commits.{looked_kept, open_as}
+use Rattle.store_standing.proofs.Looked.{none_copyable}
+use Rattle.disk_store.proofs.disk_store.DiskStoreReplicaStore.is_copyable.Goals as goal
+
+pub returns-in_default-clause-value : goal.returns-in_default-clause-value
+returns-in_default-clause-value g c =
+    let was = c.self.inside in
+    subst (λ (s : ServerDisk × List StoreChange). false ≡ is_copyable_at s.0 c.args.handle.0) c.self.view_is
+    (none_copyable was.said c.args.handle.0 (sym (c.self.invariant.known.rows_are c.args.handle.0) ∙ sym c.row.ensures ∙ c.in_default.is))
+
+pub is_copyable-requires : goal.is_copyable-requires
+is_copyable-requires g c =
+    let was = c.self.inside in
+    record { is_open = (was.said, open_as g.D.Disk.seen g.D.Disk.may_leave was.store was.known.order was.known.rows was.said was.standing c.self.invariant c.in-Open.is) }
+
+pub invariant_of-self : goal.invariant_of-self
+invariant_of-self g c =
+    let was = c.self.inside in
+    looked_kept g.D.Disk.seen g.D.Disk.may_leave was.store was.known.order was.known.rows was.said was.standing c.self.invariant c.is_copyable.new.store c.is_copyable.ensures.unchanged c.is_copyable.ensures.still_open c.in-Open.is
+
+pub returns-clause-disk : goal.returns-clause-disk
+returns-clause-disk g c = ap (λ (s : ServerDisk × List StoreChange). s.0) c.self.view_is
+
+pub returns-clause-nothing : goal.returns-clause-nothing
+returns-clause-nothing g c = ap (λ (s : ServerDisk × List StoreChange). s.1) c.self.view_is ∙ c.requires
+
+pub returns-clause-value : goal.returns-clause-value
+returns-clause-value g c =
+    let was = c.self.inside in
+    subst (λ (s : ServerDisk × List StoreChange). IfOk c.is_copyable.result (λ o. o ≡ is_copyable_at s.0 c.args.handle.0)) c.self.view_is
+    (c.is_copyable.ensures.value was.said (open_as g.D.Disk.seen g.D.Disk.may_leave was.store was.known.order was.known.rows was.said was.standing c.self.invariant c.in-Open.is))

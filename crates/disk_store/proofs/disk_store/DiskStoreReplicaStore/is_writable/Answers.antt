@@ -1,0 +1,28 @@
+use Rattle.std.proofs.Common.{◌≡◌, List, ap, ◌∙◌, subst}
+use Rattle.std.specs.Prelude.{IfOk}
+use Rattle.replica_store.specs.Replicas.{ServerDisk, is_writable_at}
+use Rattle.replica_store.specs.declared.change.StoreChange.{StoreChange}
+use Rattle.store_standing.proofs.Commits.{looked_kept, open_as}
+use Rattle.disk_store.proofs.disk_store.DiskStoreReplicaStore.is_writable.Goals as goal
+
+pub is_writable-requires : goal.is_writable-requires
+is_writable-requires g c =
+    let was = c.self.inside in
+    record { is_open = (was.said, open_as g.D.Disk.seen g.D.Disk.may_leave was.store was.known.order was.known.rows was.said was.standing c.self.invariant c.in-Open.is) }
+
+pub invariant_of-self : goal.invariant_of-self
+invariant_of-self g c =
+    let was = c.self.inside in
+    looked_kept g.D.Disk.seen g.D.Disk.may_leave was.store was.known.order was.known.rows was.said was.standing c.self.invariant c.is_writable.new.store c.is_writable.ensures.unchanged c.is_writable.ensures.still_open c.in-Open.is
+
+pub returns-clause-disk : goal.returns-clause-disk
+returns-clause-disk g c = ap (λ (s : ServerDisk × List StoreChange). s.0) c.self.view_is
+
+pub returns-clause-nothing : goal.returns-clause-nothing
+returns-clause-nothing g c = ap (λ (s : ServerDisk × List StoreChange). s.1) c.self.view_is ∙ c.requires
+
+pub returns-clause-value : goal.returns-clause-value
+returns-clause-value g c =
+    let was = c.self.inside in
+    subst (λ (s : ServerDisk × List StoreChange). IfOk c.is_writable.result (λ o. o ≡ is_writable_at s.0 c.args.handle.0 c.args.offset c.args.end)) c.self.view_is
+    (c.is_writable.ensures.value was.said (open_as g.D.Disk.seen g.D.Disk.may_leave was.store was.known.order was.known.rows was.said was.standing c.self.invariant c.in-Open.is))

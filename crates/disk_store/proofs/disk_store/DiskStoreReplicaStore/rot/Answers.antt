@@ -1,0 +1,33 @@
+use Rattle.std.proofs.Common.{List, refl, sym, ap, ◌∙◌}
+use Rattle.replica_store.specs.Replicas.{ServerDisk}
+use Rattle.replica_store.specs.declared.change.StoreChange.{StoreChange}
+use Rattle.server_store.specs.Stores.{disk_rotten}
+use Rattle.store_standing.specs.declared.standing.Standing.TheVariants.{Open}
+use Rattle.store_standing.proofs.Keeping.{as_said}
+use Rattle.disk_store.proofs.disk_store.DiskStoreReplicaStore.rot.Goals as goal
+
+pub rot-requires : goal.rot-requires
+rot-requires g c =
+    let was = c.self.inside in
+    record { kept = (was.known.order, was.known.rows, was.said, as_said g.D.Disk.seen g.D.Disk.may_leave was.store was.known.order was.known.rows was.said was.said was.standing Open refl (sym c.in-Open.is) c.self.invariant) }
+
+pub invariant_of-self : goal.invariant_of-self
+invariant_of-self g c =
+    let was = c.self.inside in
+    let disk = g.D.Disk in
+    let kept = as_said disk.seen disk.may_leave was.store was.known.order was.known.rows was.said was.said was.standing Open refl (sym c.in-Open.is) c.self.invariant in
+    as_said disk.seen disk.may_leave c.rot.new.store was.known.order was.known.rows was.said was.said Open was.standing refl c.in-Open.is (c.in_err-standing.ensures.err was.known.order was.known.rows was.said kept)
+
+pub invariant_of-self-2 : goal.invariant_of-self-2
+invariant_of-self-2 g c =
+    let was = c.self.inside in
+    let disk = g.D.Disk in
+    let kept = as_said disk.seen disk.may_leave was.store was.known.order was.known.rows was.said was.said was.standing Open refl (sym c.in-Open.is) c.self.invariant in
+    as_said disk.seen disk.may_leave c.rot.new.store was.known.order was.known.rows (disk_rotten was.said c.args.handle.0 c.args.place c.args.byte) c.change.new.self c.in_ok-standing.standing c.in_ok-standing.standing c.change.ensures refl
+    (c.in_ok-standing.ensures.ok was.known.order was.known.rows was.said kept)
+
+pub returns-clause-disk : goal.returns-clause-disk
+returns-clause-disk g c = c.change.ensures ∙ ap (λ (s : ServerDisk × List StoreChange). disk_rotten s.0 c.args.handle.0 c.args.place c.args.byte) c.self.view_is
+
+pub returns-clause-nothing : goal.returns-clause-nothing
+returns-clause-nothing g c = c.in_ok-standing.ensures.nothing

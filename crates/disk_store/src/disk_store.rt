@@ -1,0 +1,209 @@
+//! The store over its disk.
+
+ghost use Rattle.std.specs.Prelude.{◌≡◌, ◌%◌, [], IfOk};
+ghost use Rattle.replica_store.specs.Replicas.{new_server_disk};
+
+use bytes::Bytes;
+use chunk_store::{Store, open};
+use disk::Disk;
+use gfs_types::ids::{Handle, OrderNo};
+use gfs_types::no_memory::NoMemory;
+use gfs_types::torn::Torn;
+use known_replicas::known::Known;
+use messages::message_lists::ReplicaList;
+use replica_store::change::StoreChange;
+use replica_store::row::Row;
+use said_disk::change::SaidChange;
+use said_disk::said::SaidDisk;
+use server_store::fault::StoreFault;
+use server_store::store::ReplicaStore;
+use std::alloc::Global;
+use std::marker::Model;
+use std::mem;
+use stoppable_store::StoppableStore;
+use store_layout::Layout;
+use store_standing::committing::commit;
+use store_standing::faults::fault_of_opening;
+use store_standing::finding::has_open_head;
+use store_standing::looking::{is_copyable, is_writable, read};
+use store_standing::reopening::{made_in, open_again};
+use store_standing::rotting::rot;
+use store_standing::standing::{Standing, closed};
+use stored_log::stoppable::StoppableDisk;
+
+/// A server's replicas on a disk. In memory it keeps the last order's number and each replica's row, so that it answers them while its disk
+/// is to be read anew.
+#[derive(Drop)]
+pub struct DiskStore<D: StoppableDisk> {
+    alloc: Global,
+    store: Store<D>,
+    said: SaidDisk,
+    known: Known,
+    standing: Standing,
+}
+
+impl<D: StoppableDisk> Model for DiskStore<D> {
+    ghost use Rattle.std.specs.Prelude.{List};
+    ghost use Rattle.std.specs.FinMap as map;
+    ghost use Rattle.std.specs.Coded.{codes, coded_ℕ};
+    ghost use Rattle.replica_store.specs.Replicas.{ServerDisk};
+    ghost use Rattle.replica_store.specs.declared.change.StoreChange.{StoreChange as StoreChangeValue};
+    ghost use Rattle.store_standing.specs.Standing.{IsKept, changes_of};
+
+    ghost Value = { ServerDisk × List StoreChangeValue };
+
+    ghost coded = { Prim.hlevel (codes, map.code, coded_ℕ) };
+
+    ghost view = { λ s. (s.said, changes_of s.standing) };
+
+    ghost invariant = { λ s. IsKept D.seen D.may_leave s.store s.known.order s.known.rows s.said s.standing };
+}
+
+impl<D: StoppableDisk + Drop> DiskStore<D> {
+    /// A new store on a disk that holds none, for chunks of whole blocks.
+    pub fn new(alloc: Global, disk: D, layout: Layout) -> Result<DiskStore<D>, StoreFault>
+        requires { layout.chunk % layout.block ≡ 0 }
+        ensures { IfOk result (λ s. s ≡ (new_server_disk layout.block, [])) }
+    {
+        let mut disk = disk;
+        if disk.size() < layout.disk_size() {
+            return Err(StoreFault::DiskFailed);
+        }
+        if has_open_head(&mut disk)? {
+            return Err(StoreFault::DiskFailed);
+        }
+        match open(disk, alloc, layout) {
+            Ok(store) => Ok(DiskStore {
+                alloc,
+                store,
+                said: SaidDisk::new(layout.block),
+                known: Known::new(alloc),
+                standing: Standing::Open,
+            }),
+            Err((_, fault)) => Err(fault_of_opening(fault)),
+        }
+    }
+}
+
+impl<D: StoppableDisk> ReplicaStore for DiskStore<D> {
+    ghost disk = { λ s. s.0 };
+
+    ghost under_way = { λ s. s.1 };
+
+    fn row(&self, handle: Handle) -> Option<Row> {
+        self.known.row(handle)
+    }
+
+    fn order(&self) -> OrderNo {
+        self.known.order
+    }
+
+    fn len(&self) -> usize {
+        self.known.len()
+    }
+
+    fn is_full(&self, slots: u32) -> bool {
+        self.known.is_full(slots)
+    }
+
+    fn list(&self, alloc: Global) -> Result<ReplicaList, NoMemory> {
+        self.known.list(alloc)
+    }
+
+    fn is_writable(&mut self, handle: Handle, offset: u64, end: u64) -> Result<bool, StoreFault> {
+        let Standing::Open = self.standing else {
+            return Err(StoreFault::DiskFailed);
+        };
+        is_writable(self.alloc, &mut self.store, handle, offset, end)
+    }
+
+    fn is_copyable(&mut self, handle: Handle) -> Result<bool, StoreFault> {
+        let Some(row) = self.known.row(handle) else {
+            return Ok(false);
+        };
+        let Standing::Open = self.standing else {
+            return Err(StoreFault::DiskFailed);
+        };
+        is_copyable(self.alloc, &mut self.store, handle, row.version)
+    }
+
+    fn read(
+        &mut self,
+        alloc: Global,
+        handle: Handle,
+        offset: u64,
+        count: u64,
+    ) -> Result<Option<Bytes>, StoreFault> {
+        let Some(row) = self.known.row(handle) else {
+            return Ok(None);
+        };
+        let Standing::Open = self.standing else {
+            return Err(StoreFault::DiskFailed);
+        };
+        read(alloc, &mut self.store, handle, row.version, offset, count)
+    }
+
+    fn commit(&mut self, change: StoreChange) -> Result<(), StoreFault> {
+        let standing = mem::replace(&mut self.standing, Standing::Open);
+        match commit(
+            self.alloc,
+            &mut self.store,
+            &mut self.known,
+            standing,
+            change,
+        ) {
+            Ok(made) => {
+                self.said.change(&SaidChange::Made(made));
+                Ok(())
+            }
+            Err((fault, standing)) => {
+                self.standing = standing;
+                Err(fault)
+            }
+        }
+    }
+
+    fn reopen(&mut self) -> Result<(), StoreFault> {
+        let standing = closed(mem::replace(&mut self.standing, Standing::Open));
+        let known = match open_again(self.alloc, &mut self.store, &standing) {
+            Ok(known) => known,
+            Err(fault) => {
+                self.standing = standing;
+                return Err(fault);
+            }
+        };
+        let made = made_in(standing, &known);
+        self.known = known;
+        match made {
+            None => Ok(()),
+            Some(change) => {
+                self.said.change(&SaidChange::Made(change));
+                Ok(())
+            }
+        }
+    }
+
+    fn rot(&mut self, handle: Handle, place: u64, byte: u8) -> Result<(), StoreFault> {
+        let Standing::Open = self.standing else {
+            return Err(StoreFault::DiskFailed);
+        };
+        let standing = rot(self.alloc, &mut self.store, handle, place, byte)?;
+        self.standing = standing;
+        self.said.change(&SaidChange::Rotten {
+            handle,
+            place,
+            byte,
+        });
+        Ok(())
+    }
+}
+
+impl<D: StoppableDisk> StoppableStore for DiskStore<D> {
+    fn stop_after(&mut self, calls: u64, torn: Torn) {
+        self.store.disk.stop_after(calls, torn);
+    }
+
+    fn stop_after_restart(&mut self, calls: u64, torn: Torn) {
+        self.store.disk.stop_after_restart(calls, torn);
+    }
+}

@@ -1,0 +1,4 @@
+//! A chunkserver's replicas on a disk, behind the trait that servers use.
+#![tactic(auto)]
+
+pub mod disk_store;

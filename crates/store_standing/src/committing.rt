@@ -1,0 +1,49 @@
+//! Changes that a server commits.
+
+ghost use Rattle.std.specs.Prelude.{◌≡◌, [], ◌∷◌, IfErr, IfOk, OnOk};
+ghost use Rattle.replica_store.specs.Replicas.{ServerDisk, disk_changed};
+ghost use Rattle.store_standing.specs.Standing.{IsKept, changes_of};
+ghost use Rattle.store_standing.specs.declared.standing.Standing.TheVariants.{Open};
+
+use crate::faults::fault_of;
+use crate::making::{begins, make};
+use crate::standing::{Standing, refused};
+use chunk_store::Store;
+use disk::Disk;
+use known_replicas::known::Known;
+use replica_store::change::StoreChange;
+use server_store::fault::StoreFault;
+use std::alloc::Global;
+
+/// Makes a change of the disk and of what is known of it, and hands it back. An error comes with the standing that has it under way: a
+/// change that was refused wasn't begun.
+pub fn commit<D: Disk>(
+    alloc: Global,
+    store: &mut Store<D>,
+    known: &mut Known,
+    standing: Standing,
+    change: StoreChange,
+) -> Result<StoreChange, (StoreFault, Standing)>
+    requires kept { (d : ServerDisk) × IsKept D.seen D.may_leave store.old known.old.order known.old.rows d standing }
+    requires nothing { changes_of standing ≡ [] }
+    ensures made { IfOk result (λ made. made ≡ change) }
+    ensures ok { (d : ServerDisk) → IsKept D.seen D.may_leave store.old known.old.order known.old.rows d standing
+        → OnOk result (IsKept D.seen D.may_leave store.new known.new.order known.new.rows (disk_changed d change) Open) }
+    ensures open { IfErr result (λ e. changes_of e.1 ≡ change ∷ []) }
+    ensures err { (d : ServerDisk) → IsKept D.seen D.may_leave store.old known.old.order known.old.rows d standing
+        → IfErr result (λ e. IsKept D.seen D.may_leave store.new known.new.order known.new.rows d e.1) }
+{
+    match begins(alloc, store, known, &standing, &change) {
+        Ok(()) => {}
+        Err(fault) => return Err((fault, refused(standing, change))),
+    }
+    match make(alloc, store, known, &change) {
+        Ok(()) => {}
+        Err(fault) => return Err((fault_of(fault), Standing::Changing(change))),
+    }
+    let chunk = store.layout.chunk;
+    match known.make(chunk, &change) {
+        Ok(()) => Ok(change),
+        Err(_) => Err((StoreFault::NoMemory, Standing::Changing(change))),
+    }
+}

@@ -1,0 +1,235 @@
+//! Changes of the store on the disk.
+
+ghost use Rattle.std.specs.Prelude.{◌≡◌, ◌≤◌, ◌+◌, nat_le, length, replicate, true, IfOk, OnOk};
+ghost use Rattle.replica_store.specs.Replicas.{ServerDisk, disk_changed, is_writable_at};
+ghost use Rattle.replica_store.specs.declared.change.StoreChange.TheVariants.{Copy, Raise, Write, Zero};
+ghost use Rattle.known_replicas.specs.Known.{IsKnownOf, can_be_told};
+ghost use Rattle.noticed_replicas.specs.Noticed.{IsCareful};
+ghost use Rattle.chunk_store.specs.Stores.{IsOpen};
+ghost use Rattle.store_standing.specs.Standing.{AllNoticed, LeavesMade};
+ghost use Rattle.store_standing.specs.declared.standing.Standing.TheVariants.{Open};
+
+use crate::looking::is_writable;
+use crate::standing::Standing;
+use bytes::Bytes;
+use chunk_store::Store;
+use disk::Disk;
+use gfs_types::ids::{Handle, Serial, Version};
+use gfs_types::mutation::Mutation;
+use known_replicas::known::Known;
+use replica_store::change::StoreChange;
+use server_store::fault::StoreFault;
+use std::alloc::{AllocError, Global};
+use store_changes::StoreFault as MakeFault;
+
+/// A change is begun where the store is open and the change may be made. An error: nothing was begun.
+pub(crate) fn begins<D: Disk>(
+    alloc: Global,
+    store: &mut Store<D>,
+    known: &Known,
+    standing: &Standing,
+    change: &StoreChange,
+) -> Result<(), StoreFault>
+    requires is_open { standing.now ≡ Open → (d : ServerDisk) × IsOpen D.seen D.may_leave store.old d }
+    ensures open { OnOk result (standing.now ≡ Open) }
+    ensures told { OnOk result (can_be_told store.old.layout.chunk known.now.rows change.now ≡ true) }
+    ensures careful { (d : ServerDisk) → IsOpen D.seen D.may_leave store.old d → OnOk result (IsCareful store.old.layout.chunk d change.now) }
+    ensures still_open { (d : ServerDisk) → IsOpen D.seen D.may_leave store.old d → IsOpen D.seen D.may_leave store.new d }
+    ensures unchanged { store.new ≡ record store.old { disk = store.new.disk } }
+    ensures stays { (standing.now ≡ Open → ⊥) → store.new ≡ store.old }
+{
+    let Standing::Open = standing else {
+        return Err(StoreFault::DiskFailed);
+    };
+    if may_make(alloc, store, known, change)? {
+        Ok(())
+    } else {
+        Err(StoreFault::NoRoom)
+    }
+}
+
+/// Whether a change can be told from its lack, and writes over no part of a block that doesn't match.
+fn may_make<D: Disk>(
+    alloc: Global,
+    store: &mut Store<D>,
+    known: &Known,
+    change: &StoreChange,
+) -> Result<bool, StoreFault>
+    requires is_open { (d : ServerDisk) × IsOpen D.seen D.may_leave store.old d }
+    ensures told { IfOk result (λ b. b ≡ true → can_be_told store.old.layout.chunk known.now.rows change.now ≡ true) }
+    ensures careful { (d : ServerDisk) → IsOpen D.seen D.may_leave store.old d → IfOk result (λ b. b ≡ true → IsCareful store.old.layout.chunk d change.now) }
+    ensures still_open { (d : ServerDisk) → IsOpen D.seen D.may_leave store.old d → IsOpen D.seen D.may_leave store.new d }
+    ensures unchanged { store.new ≡ record store.old { disk = store.new.disk } }
+{
+    let chunk = store.layout.chunk;
+    if !known.can_be_told(chunk, change) {
+        return Ok(false);
+    }
+    match change {
+        StoreChange::Write {
+            handle,
+            offset,
+            bytes,
+            ..
+        } => is_range_writable(alloc, store, *handle, *offset, bytes.len() as u64),
+        StoreChange::Zero {
+            handle,
+            offset,
+            count,
+            ..
+        } => is_range_writable(alloc, store, *handle, *offset, *count),
+        _ => Ok(true),
+    }
+}
+
+fn is_range_writable<D: Disk>(
+    alloc: Global,
+    store: &mut Store<D>,
+    handle: Handle,
+    offset: u64,
+    count: u64,
+) -> Result<bool, StoreFault>
+    requires is_open { (d : ServerDisk) × IsOpen D.seen D.may_leave store.old d }
+    requires within { nat_le (offset + count) store.old.layout.chunk ≡ true }
+    ensures value { (d : ServerDisk) → IsOpen D.seen D.may_leave store.old d → IfOk result (λ b. b ≡ is_writable_at d handle.0 offset (offset + count)) }
+    ensures still_open { (d : ServerDisk) → IsOpen D.seen D.may_leave store.old d → IsOpen D.seen D.may_leave store.new d }
+    ensures unchanged { store.new ≡ record store.old { disk = store.new.disk } }
+{
+    let _chunk = store.layout.chunk;
+    is_writable(alloc, store, handle, offset, offset + count)
+}
+
+/// Makes a change that may be made.
+pub(crate) fn make<D: Disk>(
+    alloc: Global,
+    store: &mut Store<D>,
+    known: &Known,
+    change: &StoreChange,
+) -> Result<(), MakeFault>
+    requires is_open { (d : ServerDisk) × IsOpen D.seen D.may_leave store.old d }
+    requires told { can_be_told store.old.layout.chunk known.now.rows change.now ≡ true }
+    ensures ok { (d : ServerDisk) → IsOpen D.seen D.may_leave store.old d → AllNoticed d → OnOk result (IsOpen D.seen D.may_leave store.new (disk_changed d change.now)) }
+    ensures any_moment { LeavesMade D.seen D.may_leave D.moment D.left_since store.old store.new change.now }
+    ensures layout { store.new.layout ≡ store.old.layout }
+{
+    match change {
+        StoreChange::SetOrder(order) => store.set_order(alloc, *order),
+        StoreChange::Put {
+            handle,
+            version,
+            serial,
+            bytes,
+        } => store.install(alloc, *handle, *version, *serial, bytes),
+        StoreChange::Write {
+            handle,
+            serial,
+            offset,
+            bytes,
+        } => write(alloc, store, known, *handle, *serial, *offset, bytes),
+        StoreChange::Zero {
+            handle,
+            serial,
+            offset,
+            count,
+        } => zero(alloc, store, known, *handle, *serial, *offset, *count),
+        StoreChange::Raise { handle, version } => raise(alloc, store, known, *handle, *version),
+        StoreChange::Copy {
+            handle,
+            copy: other,
+            version,
+        } => copy(alloc, store, known, *handle, *other, *version),
+        StoreChange::Remove(handle) => store.drop_replica(alloc, *handle),
+    }
+}
+
+// The mutation of this serial puts these bytes there.
+fn write<D: Disk>(
+    alloc: Global,
+    store: &mut Store<D>,
+    known: &Known,
+    handle: Handle,
+    serial: Serial,
+    offset: u64,
+    bytes: &Bytes,
+) -> Result<(), MakeFault>
+    requires is_open { (d : ServerDisk) × IsOpen D.seen D.may_leave store.old d }
+    requires within { offset + length bytes.now ≤ store.old.layout.chunk }
+    ensures ok { (d : ServerDisk) → IsOpen D.seen D.may_leave store.old d → AllNoticed d → OnOk result (IsOpen D.seen D.may_leave store.new (disk_changed d (Write handle serial offset bytes.now))) }
+    ensures any_moment { LeavesMade D.seen D.may_leave D.moment D.left_since store.old store.new (Write handle serial offset bytes.now) }
+    ensures layout { store.new.layout ≡ store.old.layout }
+{
+    let Some(row) = known.row(handle) else {
+        return Err(MakeFault::NoChunk);
+    };
+    let mutation = Mutation::Write(offset, bytes.clone()?);
+    store.apply(alloc, handle, row.version, serial, &mutation)
+}
+
+// The mutation of this serial puts so many zeros there.
+fn zero<D: Disk>(
+    alloc: Global,
+    store: &mut Store<D>,
+    known: &Known,
+    handle: Handle,
+    serial: Serial,
+    offset: u64,
+    count: u64,
+) -> Result<(), MakeFault>
+    requires is_open { (d : ServerDisk) × IsOpen D.seen D.may_leave store.old d }
+    requires within { offset + count ≤ store.old.layout.chunk }
+    ensures ok { (d : ServerDisk) → IsOpen D.seen D.may_leave store.old d → AllNoticed d → OnOk result (IsOpen D.seen D.may_leave store.new (disk_changed d (Zero handle serial offset count))) }
+    ensures any_moment { LeavesMade D.seen D.may_leave D.moment D.left_since store.old store.new (Zero handle serial offset count) }
+    ensures layout { store.new.layout ≡ store.old.layout }
+{
+    let Some(row) = known.row(handle) else {
+        return Err(MakeFault::NoChunk);
+    };
+    let mutation = Mutation::Write(offset, zeros(alloc, count)?);
+    store.apply(alloc, handle, row.version, serial, &mutation)
+}
+
+// A new version begins.
+fn raise<D: Disk>(
+    alloc: Global,
+    store: &mut Store<D>,
+    known: &Known,
+    handle: Handle,
+    version: Version,
+) -> Result<(), MakeFault>
+    requires is_open { (d : ServerDisk) × IsOpen D.seen D.may_leave store.old d }
+    ensures ok { (d : ServerDisk) → IsOpen D.seen D.may_leave store.old d → AllNoticed d → OnOk result (IsOpen D.seen D.may_leave store.new (disk_changed d (Raise handle version))) }
+    ensures any_moment { LeavesMade D.seen D.may_leave D.moment D.left_since store.old store.new (Raise handle version) }
+    ensures layout { store.new.layout ≡ store.old.layout }
+{
+    let Some(row) = known.row(handle) else {
+        return Err(MakeFault::NoChunk);
+    };
+    store.set_version(alloc, handle, version, row.version)
+}
+
+// A new replica with the bytes of another one.
+fn copy<D: Disk>(
+    alloc: Global,
+    store: &mut Store<D>,
+    known: &Known,
+    handle: Handle,
+    other: Handle,
+    version: Version,
+) -> Result<(), MakeFault>
+    requires is_open { (d : ServerDisk) × IsOpen D.seen D.may_leave store.old d }
+    ensures ok { (d : ServerDisk) → IsOpen D.seen D.may_leave store.old d → AllNoticed d → OnOk result (IsOpen D.seen D.may_leave store.new (disk_changed d (Copy handle other version))) }
+    ensures any_moment { LeavesMade D.seen D.may_leave D.moment D.left_since store.old store.new (Copy handle other version) }
+    ensures layout { store.new.layout ≡ store.old.layout }
+{
+    let Some(row) = known.row(handle) else {
+        return Err(MakeFault::NoChunk);
+    };
+    store.copy_local(alloc, handle, row.version, other, version)
+}
+
+fn zeros(alloc: Global, count: u64) -> Result<Bytes, AllocError>
+    ensures { IfOk result (λ b. b ≡ replicate count 0) }
+{
+    let all = vec![in alloc; 0; count as usize]?;
+    Ok(Bytes::from_vec(all)?)
+}
