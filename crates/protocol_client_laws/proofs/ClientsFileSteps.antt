@@ -1,6 +1,7 @@
 -- A client's step for its open call on a file keeps a whole machine beside the world, where calls are known and refusals for length are so.
 use Rattle.std.proofs.Common.{◌≡◌, ℕ, suc, List, [], ◌∷◌, ◌++◌, length, Some, ap, subst, ◌∙◌}
 use Rattle.std.proofs.lemmas.List.{append-nil}
+use Rattle.std.proofs.lemmas.Bool.{and_parts}
 use Rattle.gfs_types.specs.declared.config.Config.{Config}
 use Rattle.messages.specs.declared.event.Event.{Event}
 use Rattle.messages.specs.declared.event.Input.{Input}
@@ -25,6 +26,7 @@ use Rattle.protocol_whole_laws.specs.FileClients.{IsSaidAt}
 use Rattle.protocol_whole_laws.specs.WholeWorlds.{AreWordsSo}
 use Rattle.protocol_whole_laws.specs.WholeClients.{GivesClient}
 use Rattle.protocol_whole_laws.proofs.WholeClients.{event_case, file_steps_keep_worlds_whole}
+use Rattle.protocol_numbered_laws.proofs.RequestsNumbered.{events_keep_requests_numbered}
 use Rattle.protocol_client_laws.specs.ClientWords.{IsNoTelling}
 use Rattle.protocol_client_laws.specs.ClientsEvents.{ClientFileStepsKeepWorldsWhole}
 use Rattle.protocol_client_laws.proofs.ClientWords.{step_asks}
@@ -83,6 +85,7 @@ client_file_steps_keep_worlds_whole config servers clients w r kept e choice clo
     file_steps_keep_worlds_whole config servers clients w r kept e choice clocks index moment s i at given x is of
     (record {
       numbers = known;
+      requests = events_keep_requests_numbered config w (and_parts _ _ kept).0 e choice;
       heard = λ up ss k j beside leads chunks run files loose. long index moment s i at up given loose ss k j beside leads chunks run files;
       waits = λ up ss k m beside leads files words f. waits_so config servers clients w r index s at up moment i m (files index s at up) (words index s at up) f;
       says = says config servers clients w r e choice index moment s i at given;

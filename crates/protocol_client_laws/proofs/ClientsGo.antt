@@ -3,7 +3,7 @@ use Rattle.gfs_types.specs.declared.answer.Answer.{Answer}
 use Rattle.std.proofs.Common.{◌≡◌, ⊎_elim, ℕ, suc, ◌≤◌, Bool, true, false, max, List, [], ◌∷◌, ◌++◌, length, Option, Some, None, refl, sym, ap, subst, ◌∙◌, arith, inl, inr, filter, option_to_list}
 use Rattle.std.specs.Prelude.{IsTrue, ◌==◌, not}
 use Rattle.std.specs.List.{list_all, cons_option}
-use Rattle.std.proofs.lemmas.Bool.{true≢false}
+use Rattle.std.proofs.lemmas.Bool.{and_parts, true≢false}
 use Rattle.std.proofs.Math.Nat.{le-max_left, le-max_right, max-le}
 use Rattle.gfs_types.specs.declared.config.Config.{Config}
 use Rattle.gfs_types.specs.declared.call.Call.{Call}
@@ -20,7 +20,7 @@ use Rattle.messages.specs.declared.message.Message.{Message}
 use Rattle.relaxed_file.specs.Machine.{Machine, Client, OpenCall, new_machine}
 use Rattle.relaxed_file.specs.Answers.{descriptors_after, returned}
 use Rattle.relaxed_file.specs.NameStep.{is_name_call}
-use Rattle.relaxed_file.specs.Run.{Action, Invoke, IsLawful, Visible, Called, after, after_all, Allows, IsReached, IsRunTo, Return, ReturnFd, Answered, visible, shown}
+use Rattle.relaxed_file.specs.Run.{Action, Invoke, IsLawful, LeadsTo, Visible, Called, after, after_all, Allows, IsReached, IsRunTo, Return, ReturnFd, Answered, visible, shown}
 use Rattle.relaxed_file.proofs.Reached.{leads_on, leads_by}
 use Rattle.relaxed_file.proofs.Tables.{put_same, put_other, at_some}
 use Rattle.name_projections.specs.Laws.{AreNamesOf, AreSameCalls, IsReady}
@@ -82,6 +82,9 @@ use Rattle.protocol_whole_laws.proofs.WholeClients.{put_all, shown_trace}
 use Rattle.protocol_whole_laws.proofs.WholeMoves.{GoesQuietly, quiet_run, entries_quiet, run_goes, run_goes_unseen, PassesBoth, both_pass}
 use Rattle.protocol_whole_laws.proofs.WholeWorlds.{files_stay, words_stay, more_words}
 use Rattle.protocol_client_laws.specs.ClientWords.{IsNoTelling}
+use Rattle.protocol_whole_laws.specs.Tries.{AddsNumberedTries}
+use Rattle.protocol_whole_laws.proofs.TriesRise.{same_files_add}
+use Rattle.protocol_numbered_laws.proofs.RequestsNumbered.{events_keep_requests_numbered}
 use Rattle.protocol_client_laws.specs.ClientsEvents.{AreOpenCallsKnown}
 use Rattle.protocol_client_laws.proofs.ClientsFileSteps.{untold_words}
 use Rattle.protocol_client_laws.proofs.FileWords.{later_client, words_at}
@@ -107,6 +110,7 @@ module _ (config : Config) (servers clients : ℕ) (w : WorldState) (r : world.I
     number = suc (length w.sent)
 
     pub goes : (actions : List Action) × IsTrue (list_all is_of_entries actions) × IsLawful k.machine actions × AreChunksBeside config v (moved k actions k.log k.gone v.observer.orders)
+        × AddsNumberedTries w v k (after_all k.machine actions)
     goes = other_events_keep_chunks_beside config servers clients w r kept e choice clocks others_event k h.chunks (known ss k h)
 
     abbrev placed : ChunkSides
@@ -149,6 +153,12 @@ module _ (config : Config) (servers clients : ℕ) (w : WorldState) (r : world.I
     reached : IsReached config p.whole
     reached = (p.run.0, p.run.1, p.run.3)
 
+    leads_passed : LeadsTo k.machine p.whole
+    leads_passed = leads_on k.machine placed.machine p.whole (goes.0, goes.2, refl) p.leads
+
+    adds_passed : AddsNumberedTries w v k p.whole
+    adds_passed = same_files_add w v k placed.machine p.whole p.files goes.4
+
     early : moment ≤ greatest
     early = le-max_right w.observer.greatest moment
 
@@ -167,6 +177,8 @@ module _ (config : Config) (servers clients : ℕ) (w : WorldState) (r : world.I
       pub chunks : AreChunksBeside config v (record placed { machine = machine })
       pub files : AreFileClients (with_at w.clients index t.state) machine
       pub said : AreWordsSo w.sent (with_at w.clients index t.state) machine
+      pub leads : LeadsTo k.machine machine
+      pub adds : AddsNumberedTries w v k machine
 
     -- the world is beside it then
     module _ (more : List Visible) (t : Taken ClientState) (g : Stands more t) where
@@ -178,7 +190,7 @@ module _ (config : Config) (servers clients : ℕ) (w : WorldState) (r : world.I
       stands_beside untold seen late sent all = (
         record placed { machine = g.machine },
         refl,
-        record { names = g.names; requests = g.requests; named = parts.0; asking = parts.1; run = parts.2; same = g.same; below = h.below; chunks = g.chunks; files = parts.3; said = parts.4 },
+        record { names = g.names; requests = g.requests; named = parts.0; asking = parts.1; run = parts.2; same = g.same; below = h.below; chunks = g.chunks; files = parts.3; said = parts.4; requests_are = events_keep_requests_numbered config w (and_parts _ _ kept).0 e choice ss k g.machine h g.leads parts.2 parts.3 (inr g.adds) },
       )
         where
           first : Parts more greatest (w.sent ++ stamped number t.out.sent) (with_at w.clients index t.state)
@@ -214,6 +226,8 @@ module _ (config : Config) (servers clients : ℕ) (w : WorldState) (r : world.I
           chunks = chunks_passed;
           files = put_all (λ other z. IsTrue z.up → IsFileClient p.whole (suc other) z) w.clients index t files (λ other z apart there. files_passed other z there);
           said = put_all (λ other z. IsTrue z.up → AreOwnWordsSo w.sent p.whole other z) w.clients index t said (λ other z apart there. said_passed other z there);
+          leads = leads_passed;
+          adds = adds_passed;
         }
 
     later : IsClientBeside config trace greatest (client_at s moment) p.names h.requests client
@@ -264,6 +278,12 @@ module _ (config : Config) (servers clients : ℕ) (w : WorldState) (r : world.I
           → IsFileClient opened (suc other) z × ((j : Input) → IsFirmInput j → IsSaid p.whole (suc other) z j → IsSaid opened (suc other) z j)
       others_opened other z apart g = file_clients_stay config p.whole reached (Invoke client c) allowed (suc other) (not_own other apart) z g
 
+      leads_opened : LeadsTo k.machine opened
+      leads_opened = leads_on k.machine p.whole opened leads_passed (leads_by p.whole (Invoke client c) allowed)
+
+      adds_opened : AddsNumberedTries w v k opened
+      adds_opened = same_files_add w v k p.whole opened refl adds_passed
+
       chunks_opened : AreChunksBeside config v (record placed { machine = opened })
       chunks_opened = same_files_keep_chunks_beside config v passed opened chunks_passed refl refl
 
@@ -284,6 +304,8 @@ module _ (config : Config) (servers clients : ℕ) (w : WorldState) (r : world.I
                 (λ other z apart there on. (others_opened other z apart (files_passed other z there on)).0);
             said = put_all (λ other z. IsTrue z.up → AreOwnWordsSo w.sent opened other z) w.clients index (stopped_client s) (λ on. absurd (true≢false (sym on)))
                 (λ other z apart there on y was to firm. (others_opened other z apart (files_passed other z there on)).1 (input.Deliver y) firm (said_passed other z there on y was to firm));
+            leads = leads_opened;
+            adds = adds_opened;
           }
 
     -- a call on a file
@@ -357,6 +379,8 @@ module _ (config : Config) (servers clients : ℕ) (w : WorldState) (r : world.I
               said = put_all (λ other z. IsTrue z.up → AreOwnWordsSo w.sent (after_all opening f.actions) other z) w.clients index d.client
                   (λ on. words_at config servers clients w r index s at up (after_all opening f.actions) d.client same_id new)
                   (λ other z apart there on y was to firm. (others other z apart (files_passed other z there on)).1 (input.Deliver y) firm (said_passed other z there on y was to firm));
+              leads = leads_on k.machine opening (after_all opening f.actions) (leads_opened c allowed) (f.actions, f.allowed, refl);
+              adds = same_files_add w v k opening (after_all opening f.actions) f.elsewhere.files (adds_opened c allowed);
             }
 
       stands_down : Stands calls (record { state = stopped_client s; out = down_output; seen = [] })
@@ -430,6 +454,8 @@ module _ (config : Config) (servers clients : ℕ) (w : WorldState) (r : world.I
             said = put_all (λ other z. IsTrue z.up → AreOwnWordsSo w.sent made other z) w.clients index d.client
                 (λ on. words_at config servers clients w r index s at up made d.client new.0 new.1)
                 (λ other z apart there on y was to firm. (others_opened c may_make other z apart (files_passed other z there on)).1 (input.Deliver y) firm (said_passed other z there on y was to firm));
+            leads = leads_opened c may_make;
+            adds = adds_opened c may_make;
           }
 
       name_stops : Stands called (record { state = stopped_client s; out = down_output; seen = [] })
@@ -482,6 +508,8 @@ module _ (config : Config) (servers clients : ℕ) (w : WorldState) (r : world.I
             said = put_all (λ other z. IsTrue z.up → AreOwnWordsSo w.sent closed other z) w.clients index refusing.client
                 (λ on. words_at config servers clients w r index s at up closed refusing.client refl tt)
                 (λ other z apart there on y was to firm. (others_closed other z apart (files_passed other z there on)).1 (input.Deliver y) firm (said_passed other z there on y was to firm));
+            leads = leads_on k.machine made closed (leads_opened c may_make) (leads_by made (Return client reply) refused_too.0);
+            adds = same_files_add w v k made closed closed_same.1 (adds_opened c may_make);
           }
 
       abbrev Names : Taken ClientState → Type 0
@@ -583,6 +611,8 @@ module _ (config : Config) (servers clients : ℕ) (w : WorldState) (r : world.I
               files = put_all (λ other z. IsTrue z.up → IsFileClient p.whole (suc other) z) w.clients index doing.client
                   (λ on. subst (λ (a : Option Answer). IsAnsweredAs p.whole client x.number i doing a) silent files_then) (λ other z apart there on. files_passed other z there on);
               said = put_all (λ other z. IsTrue z.up → AreOwnWordsSo w.sent p.whole other z) w.clients index doing.client (λ on. words_then p.whole (λ said. said)) (λ other z apart there on. said_passed other z there on);
+              leads = leads_passed;
+              adds = adds_passed;
             }
 
       -- the call is over, by this action
@@ -675,6 +705,8 @@ module _ (config : Config) (servers clients : ℕ) (w : WorldState) (r : world.I
                     (λ other z apart there on. (others_over other z apart (files_passed other z there on)).0);
                 said = put_all (λ other z. IsTrue z.up → AreOwnWordsSo w.sent then_whole other z) w.clients index doing.client (λ on. no_words)
                     (λ other z apart there on y was to firm. (others_over other z apart (files_passed other z there on)).1 (input.Deliver y) firm (said_passed other z there on y was to firm));
+                leads = leads_on k.machine p.whole then_whole leads_passed (leads_by p.whole a both_take.0);
+                adds = same_files_add w v k p.whole then_whole alone.1 adds_passed;
               }
 
       -- by its answer, or by a descriptor
