@@ -4,6 +4,4 @@
 #[cfg(test)]
 mod locks;
 #[cfg(test)]
-mod region;
-#[cfg(test)]
 mod tries;

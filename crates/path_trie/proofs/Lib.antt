@@ -1,8 +1,6 @@
-pub mod Added
 pub mod Cuts
-pub mod FrontNames
-pub mod LowerNames
-pub mod Maps
+pub mod Entries
+pub mod Lent
 pub mod Outcomes
 pub mod Rests
-pub mod Walks
+pub mod Retained

@@ -1,5 +1,3 @@
 pub mod Below
-pub mod Copies
-pub mod Counts
 pub mod Texts
-pub mod Walks
+pub mod Lends

@@ -1,37 +1,33 @@
 //! A name with what stands there.
 
-ghost use Rattle.std.specs.Prelude.{◌≡◌, string_bytes};
+ghost use Rattle.std.specs.Prelude.{◌≡◌};
 
 use gfs_types::lists::Text;
-use std::alloc::{Allocator, Global};
 use std::marker::Model;
 
-/// A name, in memory of `B`, and what stands there. Seen as that pair.
+/// A name and what stands there: of a directory's children the last part of the path, of all entries the whole path. Seen as that pair.
 #[derive(Drop)]
-pub struct Named<'a, V, B: Allocator> {
-    name: String<B>,
+pub struct Child<'a, V> {
+    name: Text,
     value: &'a V,
 }
 
-/// Of a directory's children the last part of the path, of all entries the whole path, with what stands there.
-pub type Child<'a, V> = Named<'a, V, Global>;
-
-impl<'a, V, B: Allocator> Model for Named<'a, V, B> {
-    ghost use Rattle.std.specs.Prelude.{List, ℕ, string_bytes};
+impl<'a, V> Model for Child<'a, V> {
+    ghost use Rattle.std.specs.Prelude.{List, ℕ};
     ghost use Rattle.std.specs.Coded.{coded×, coded_list, coded_ℕ};
 
     ghost Value = { List ℕ × V };
 
     ghost coded = { coded× (coded_list coded_ℕ) V.code };
 
-    ghost view = { λ c. (string_bytes c.name, c.value.now) };
+    ghost view = { λ c. (c.name, c.value.now) };
 }
 
-impl<'a, V, B: Allocator> Named<'a, V, B> {
-    pub(crate) fn new(name: String<B>, value: &'a V) -> Self
-        ensures { result ≡ (string_bytes name, value.now) }
+impl<'a, V> Child<'a, V> {
+    pub(crate) fn new(name: Text, value: &'a V) -> Self
+        ensures { result ≡ (name, value.now) }
     {
-        Named { name, value }
+        Child { name, value }
     }
 
     /// The last part of its path, or the whole path.
@@ -47,13 +43,11 @@ impl<'a, V, B: Allocator> Named<'a, V, B> {
     {
         self.value
     }
-}
 
-impl<'a, V> Named<'a, V, Global> {
     /// The same, to be kept.
     pub fn into_name(self) -> Text
         ensures { result ≡ self.entry.0 }
     {
-        Text::new(self.name)
+        self.name
     }
 }

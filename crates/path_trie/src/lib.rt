@@ -3,6 +3,5 @@
 
 pub mod child;
 pub mod copy;
-mod entries;
 pub mod parts;
 pub mod trie;
