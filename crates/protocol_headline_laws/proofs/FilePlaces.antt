@@ -84,11 +84,10 @@ apart x (y ∷ ys) h = (by_test (eqb x y) refl, apart x ys (λ place z at. h (su
 distinct : (xs : List ℕ) → ((place other x : ℕ) → element_at xs place ≡ Some x → element_at xs other ≡ Some x → place ≡ other) → IsDistinct eqb xs
 unfolding IsDistinct
 distinct [] h = tt
-distinct (x ∷ xs) h =
-    (
-      apart x xs (λ place y at same. let both : zero ≡ suc place = h 0 (suc place) x refl (at ∙ ap (λ (z : ℕ). Some z) (sym same)) in omega (arith, both)),
-      distinct xs (λ place other y at also. let next : suc place ≡ suc other = h (suc place) (suc other) y at also in omega (arith, next)),
-    )
+distinct (x ∷ xs) h = (
+  apart x xs (λ place y at same. let both : zero ≡ suc place = h 0 (suc place) x refl (at ∙ ap (λ (z : ℕ). Some z) (sym same)) in omega (arith, both)),
+  distinct xs (λ place other y at also. let next : suc place ≡ suc other = h (suc place) (suc other) y at also in omega (arith, next)),
+)
 
 all_below : (xs : List ℕ) (n : ℕ) → ((place x : ℕ) → element_at xs place ≡ Some x → x < n) → (q : ℕ) → list_any (eqb q) xs ≡ true → q < n
 all_below [] n h q some = absurd cc

@@ -118,8 +118,7 @@ module _ (config : Config) (servers clients : ℕ) (w : WorldState) (r : IsReach
         by_file None is none = none_some handle none
         by_file (Some handles) is stands =
             let order : entries_of w.observer handle ≡ (chunk_at k.machine file index).order = (shown file handles is).1 index handle stands in
-            let of_entries = (replicas_are_selections config servers clients w r kept s.index s.server s.there).0 handle s.replica s.replica_is in
-            (
+            let of_entries = (replicas_are_selections config servers clients w r kept s.index s.server s.there).0 handle s.replica s.replica_is in (
               of_entries.0,
               subst (λ (es : List Entry). IsSelection x.version es of_entries.0) order (subst (λ (n : ℕ). IsSelection n (entries_of w.observer handle) of_entries.0) (sym (ap (λ (y : StoredAt). y.version) s.shown)) of_entries.1),
               ap (λ (c : Config). image_length c.chunk (mutations_of of_entries.0)) (b.chunks.settings ∙ sym config_is) ∙ sym (length_of w.config.chunk (mutations_of of_entries.0)) ∙ ap (λ (bs : List ℕ). length bs) (sym of_entries.2)
@@ -157,9 +156,9 @@ module _ (config : Config) (servers clients : ℕ) (w : WorldState) (r : IsReach
           counts_are = λ file handles is. ((up_files file handles is).0, λ up. sym (alike_of file handles is).count);
           files_are = λ up n below there.
               ap (λ (t : Table (List ℕ)). table.contains_key t (suc n)) files ∙ b.named.alike.files (suc n)
-                  ∙ ap (λ (x : Bool). x && nat_le (suc n) b.names.file_count && not (b.names.files (suc n)).is_collected) (lt-ltb 0 (suc n) (omega arith))
-                  ∙ ap (λ (x : Bool). x && not (b.names.files (suc n)).is_collected) (le-leb (suc n) b.names.file_count (subst (λ (m : ℕ). n < m) (sym b.same.count) below))
-                  ∙ ap (λ (x : Bool). not x) (b.same.collected (suc n) ∙ there);
+              ∙ ap (λ (x : Bool). x && nat_le (suc n) b.names.file_count && not (b.names.files (suc n)).is_collected) (lt-ltb 0 (suc n) (omega arith))
+              ∙ ap (λ (x : Bool). x && not (b.names.files (suc n)).is_collected) (le-leb (suc n) b.names.file_count (subst (λ (m : ℕ). n < m) (sym b.same.count) below))
+              ∙ ap (λ (x : Bool). not x) (b.same.collected (suc n) ∙ there);
           orders_are = λ file handles is. (up_files file handles is).1;
         }
 
