@@ -11,6 +11,7 @@ pub mod FileSteps
 pub mod GrantedRecords
 pub mod HoldersApart
 pub mod MasterSteps
+pub mod MastersEvents
 pub mod OverRounds
 pub mod RecordDues
 pub mod Rounds
