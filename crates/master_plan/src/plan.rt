@@ -35,6 +35,8 @@ pub struct Plan<A: Allocator> {
     pub(crate) snapshots: Vec<Pending>,
     pub(crate) holders: NumberMap<OrderedMap<u64>>,
     pub(crate) reported: NumberMap<u64>,
+    // a moment up to which no chunk lacks replicas, as far as is known
+    pub(crate) whole_until: Option<u64>,
     pub(crate) sent: MessageList,
     pub(crate) changes: ChangeList,
     pub(crate) seen: SeenList,
@@ -54,6 +56,7 @@ impl<A: Allocator> Drop for Plan<A> {
             snapshots: _snapshots,
             holders: _holders,
             reported: _reported,
+            whole_until: _,
             sent: _sent,
             changes: _changes,
             seen: _seen,
@@ -62,12 +65,13 @@ impl<A: Allocator> Drop for Plan<A> {
 }
 
 impl<A: Allocator> Model for Plan<A> {
-    ghost use Rattle.std.specs.Prelude.{◌≤◌};
+    ghost use Rattle.std.specs.Prelude.{◌≤◌, IfSome};
     ghost use Rattle.std.specs.Coded.{codes, coded_ℕ, coded_list};
     ghost use Rattle.std.specs.FinMap as map;
     ghost use Rattle.protocol.specs.Tables.{moment_limit};
     ghost use Rattle.master_plan.specs.Changes.{changes_of};
     ghost use Rattle.master_plan.specs.Plans.{PlanState};
+    ghost use Rattle.master_plan.specs.Watched.{IsWholeAt};
 
     ghost Value = { PlanState };
 
@@ -88,7 +92,8 @@ impl<A: Allocator> Model for Plan<A> {
       seen = p.seen;
     } };
 
-    ghost invariant = { λ p. (p.clock ≤ moment_limit) × (p.config.lease_ms ≤ 3600000) };
+    ghost invariant = { λ p. ((p.clock ≤ moment_limit) × (p.config.lease_ms ≤ 3600000))
+        × IfSome p.whole_until (IsWholeAt p.config p.server_count p.state p.holders p.reported) };
 }
 
 impl<A: Allocator + Clone> Plan<A> {
