@@ -35,9 +35,9 @@ fn produced<R: Threads + Wait + Clock + Sync>(
         return None;
     }
     let mut all = new_producers(rt, alloc, cell, producers)?;
-    cell.net(rt, policy);
+    cell.net(policy);
     produce_all(rt, alloc, all.as_mut_slice(), records);
-    cell.net(rt, Policy::NONE);
+    cell.net(Policy::NONE);
     let answered = count_answered(all.as_slice())?;
     let offsets = count_offsets(alloc, all.as_slice())?;
     if offsets == answered && are_read_back(rt, alloc, &mut reader, all.as_slice()) {

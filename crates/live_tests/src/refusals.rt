@@ -140,7 +140,7 @@ fn closing_ends_calls(rt: HostRuntime) -> Result<(), Fail> {
         drop_every: 1,
         ..Policy::NONE
     };
-    cell.net(&rt, lossy);
+    cell.net(lossy);
     let waiting = waiting_call(rt, alloc, &mut cell);
     thread::sleep(&rt, Duration::from_millis(300));
     cell.close(&rt);

@@ -17,11 +17,12 @@ use std::thread;
 use std::thread::Threads;
 use std::time::{Clock, Duration};
 
-/// Holds the reads of server 1 until `answered` is set, at most for so many milliseconds; then it sets it to 2 itself.
+/// Holds the reads of server 1 until `answered` is set, at most for so many milliseconds; then it sets it to 2 itself. Counts them.
 #[derive(Drop)]
 struct ReadGate<R: Clock + Copy + Drop> {
     clock: R,
     answered: Arc<AtomicU64>,
+    held: Arc<AtomicU64>,
 }
 
 const MOST_TURNS: u64 = 10_000;
@@ -33,6 +34,7 @@ impl<R: Clock + Copy + Drop> Clone for ReadGate<R> {
         Ok(ReadGate {
             clock: self.clock,
             answered: Arc::try_clone(&self.answered)?,
+            held: Arc::try_clone(&self.held)?,
         })
     }
 }
@@ -49,13 +51,11 @@ impl<R: Clock + Copy + Drop> Gate for ReadGate<R> {
         if node != Node::Server(ServerId(1)) || !is_read(taking) {
             return;
         }
-        for _ in 0..MOST_TURNS {
-            if self.answered.load(Ordering::SeqCst) != 0 {
-                return;
-            }
-            thread::sleep(&self.clock, Duration::from_millis(1));
+        self.held.fetch_add(1, Ordering::SeqCst);
+        wait_for(&self.clock, &self.answered);
+        if self.answered.load(Ordering::SeqCst) == 0 {
+            self.answered.store(2, Ordering::SeqCst);
         }
-        self.answered.store(2, Ordering::SeqCst);
     }
 }
 
@@ -83,6 +83,16 @@ fn reads<R: Wait + Clock>(rt: &R, alloc: Global, seat: &mut ClientSeat, name: &s
     }
 }
 
+// Waits until it is no longer 0, but not for ever.
+fn wait_for<R: Clock>(rt: &R, flag: &AtomicU64) {
+    for _ in 0..MOST_TURNS {
+        if flag.load(Ordering::SeqCst) != 0 {
+            return;
+        }
+        thread::sleep(rt, Duration::from_millis(1));
+    }
+}
+
 /// A client, and whether it read what it had to.
 #[derive(Drop)]
 struct Reader {
@@ -91,11 +101,18 @@ struct Reader {
 }
 
 impl Reader {
-    // The first one reads where reads are held. The second one reads elsewhere meanwhile, and then lets the first one's pass.
-    fn read<R: Wait + Clock>(&mut self, rt: &R, alloc: Global, place: usize, answered: &AtomicU64) {
+    // The first one reads where reads are held. Once one is, the second one reads elsewhere, and then lets the first one's pass.
+    fn read<R: Wait + Clock>(
+        &mut self,
+        rt: &R,
+        alloc: Global,
+        place: usize,
+        (held, answered): (&AtomicU64, &AtomicU64),
+    ) {
         if place == 0 {
             self.has_read = reads(rt, alloc, &mut self.seat, "/a");
         } else {
+            wait_for(rt, held);
             let has_read = reads(rt, alloc, &mut self.seat, "/b");
             let before = answered.swap(1, Ordering::SeqCst);
             self.has_read = has_read && before == 0;
@@ -123,6 +140,7 @@ fn both_read<R: Threads + Wait + Clock + Sync>(
     rt: &R,
     alloc: Global,
     cell: &mut Cell,
+    held: &AtomicU64,
     answered: &AtomicU64,
 ) -> bool {
     let Some(mut readers) = new_readers(rt, alloc, cell) else {
@@ -132,7 +150,7 @@ fn both_read<R: Threads + Wait + Clock + Sync>(
         rt,
         readers.as_mut_slice(),
         2,
-        &|place, reader| reader.read(rt, alloc, place, answered),
+        &|place, reader| reader.read(rt, alloc, place, (held, answered)),
     );
     readers.iter().all(|reader| reader.has_read)
 }
@@ -148,13 +166,16 @@ fn one_server_is_held_and_another_answers(rt: HostRuntime) -> Result<(), Fail> {
         ..Config::default()
     };
     let answered = Arc::new(alloc, AtomicU64::new(0))?;
+    let held = Arc::new(alloc, AtomicU64::new(0))?;
     let gate = ReadGate {
         clock: rt,
         answered: Arc::try_clone(&answered)?,
+        held: Arc::try_clone(&held)?,
     };
     let mut cell = Cell::start(rt, alloc, config, 2, gate)?;
-    let have_read = both_read(&rt, alloc, &mut cell, &answered);
+    let have_read = both_read(&rt, alloc, &mut cell, &held, &answered);
     cell.close(&rt);
     assert!(rt; have_read);
+    assert_eq!(rt; held.load(Ordering::SeqCst), 1);
     Ok(())
 }
