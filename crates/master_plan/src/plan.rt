@@ -131,6 +131,13 @@ impl<A: Allocator + Clone> Plan<A> {
         &self.state
     }
 
+    /// All names go, so that a replay finds the room that they took. Takes no memory.
+    pub fn forget_names(&mut self, alloc: A)
+        ensures { record self.new { logged = record self.new.logged { names = map.empty } } ≡ record self.old { logged = record self.old.logged { names = map.empty } } }
+    {
+        self.state.forget_names(alloc);
+    }
+
     /// How many orders were sent in this epoch.
     pub fn order_count(&self) -> u64
         ensures { result ≡ self.now.order_count }
