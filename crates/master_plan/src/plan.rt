@@ -135,6 +135,7 @@ impl<A: Allocator + Clone> Plan<A> {
     pub fn forget_names(&mut self, alloc: A)
         ensures { record self.new { logged = record self.new.logged { names = map.empty } } ≡ record self.old { logged = record self.old.logged { names = map.empty } } }
     {
+        self.whole_until = None;
         self.state.forget_names(alloc);
     }
 
