@@ -4,3 +4,5 @@
 mod play;
 mod printing;
 pub mod run;
+#[cfg(test)]
+mod script_tests;

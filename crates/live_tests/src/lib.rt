@@ -1,4 +1,4 @@
-//! Tests of a running cell and of its scripts: how its nodes run beside each other, what it refuses, and what scripts print.
+//! Tests of a running cell: how its nodes run beside each other, and what it refuses.
 #![tactic(auto)]
 
 #[cfg(test)]
@@ -11,5 +11,3 @@ mod producers;
 mod refusals;
 #[cfg(test)]
 mod restarts;
-#[cfg(test)]
-mod scripts;

@@ -1,5 +1,5 @@
+use crate::run::run_live;
 use gfs_types::config::Config;
-use live::run::run_live;
 use script::options::Options;
 use script::script_fault::ScriptFault;
 use std::str;
