@@ -44,6 +44,7 @@ pub record IsDenied (sent : List Message) (client file index : ℕ) : Type 0 whe
   pub number : ℕ
   pub asked : HasAsked sent client number target.Append
   pub handle_is : asked.handle ≡ handle
+  pub version_is : asked.version.0 ≡ round
   pub told : Message
   pub told_is : IsAmong sent told
   pub receiver_is : told.receiver ≡ the_client client
@@ -62,6 +63,7 @@ IsFit sent client c = is_append c.asked ≡ true → IsPast sent client c.file.0
 pub record IsAttempt (sent : List Message) (client file : ℕ) (chunk : ToldChunk) (number : ℕ) : Type 0 where
   pub asked : HasAsked sent client number target.Append
   pub handle_is : asked.handle ≡ chunk.handle
+  pub version_is : asked.version ≡ chunk.round
   pub chunk_is : IsToldChunk sent client file chunk.index chunk.handle.0 chunk.round.0
 
 abbrev pub IsWay : List Message → ℕ → CurrentCall → ToldChunk → ℕ → Type 0
@@ -95,6 +97,7 @@ module _ (sent more : List Message) (client : ℕ) where
         number = h.number;
         asked = record { asked = h.asked.asked; handle = h.asked.handle; version = h.asked.version; deadline = h.asked.deadline; sent_is = among_later sent more h.asked.asked h.asked.sent_is; sender_is = h.asked.sender_is; body_is = h.asked.body_is };
         handle_is = h.handle_is;
+        version_is = h.version_is;
         told = h.told;
         told_is = among_later sent more h.told h.told_is;
         receiver_is = h.receiver_is;
@@ -110,6 +113,7 @@ module _ (sent more : List Message) (client : ℕ) where
     λ append. let was = h.1 append in record {
       asked = record { asked = was.asked.asked; handle = was.asked.handle; version = was.asked.version; deadline = was.asked.deadline; sent_is = among_later sent more was.asked.asked was.asked.sent_is; sender_is = was.asked.sender_is; body_is = was.asked.body_is };
       handle_is = was.handle_is;
+      version_is = was.version_is;
       chunk_is = located_on c.file.0 chunk.index chunk.handle.0 chunk.round.0 was.chunk_is;
     },
   )
@@ -160,6 +164,7 @@ module _ (sent : List Message) (client : ℕ) (s : ClientState) where
         number = number;
         asked = way.asked;
         handle_is = way.handle_is;
+        version_is = ap (λ (v : Version). v.0) way.version_is;
         told = came.0;
         told_is = came.1;
         receiver_is = came.2;

@@ -41,7 +41,8 @@ use Rattle.protocol_whole_laws.specs.WholeWorlds.{IsBeside}
 use Rattle.protocol_whole_laws.proofs.RecordDues.{steps_log_what_is_due}
 use Rattle.protocol_whole_laws.proofs.UnaskedAdds.{IsNoAdd, nothing_asked, only_asks_add_chunks}
 use Rattle.protocol_whole_laws.proofs.WholeLogs.{states_have_their_logs_files}
-use Rattle.protocol_numbered_laws.specs.AskedChunks.{IsForNext, AddsNoChunk, AddNoChunk, AddOneChunk, IsFullAt, AreAsksFull, AddedChunksAreAskedFor}
+use Rattle.protocol_numbered_laws.specs.AskedChunks.{IsForNext, AddsNoChunk, AddNoChunk, AddOneChunk, IsFullAt, AddedChunksAreAskedFor}
+use Rattle.protocol_numbered_laws.proofs.FullAsks.{asks_are_full}
 use Rattle.protocol_numbered_laws.proofs.AskSenders.{asks_come_from_clients}
 use Rattle.protocol_numbered_laws.proofs.AskedAdds.{asks_add_the_next_chunk}
 use Rattle.protocol_numbered_laws.proofs.AskedChunks.{asked_chunks_may_be_added}
@@ -91,7 +92,7 @@ not_true true h = absurd (true≢false (sym h))
 not_true false h = refl
 
 module _ (config : Config) (servers clients : ℕ) (w : WorldState) (r : IsReached config servers clients w) (clocks : IsTrue w.observer.are_clocks_kept) (up : IsTrue w.master.up) (ss : List PendingSnapshot) (k : ChunkSides) (beside : IsBeside config w ss k)
-    (asks : AreAsksFull w k.machine) (moment : ℕ) (refused : List Bool) (orders : Table (List Placed)) where
+    (some : 1 ≤ config.chunk) (moment : ℕ) (refused : List Bool) (orders : Table (List Placed)) where
   -- a call of this client's Ask
   ask_of : (client place number : ℕ) (x : Message) (file : FileId) (what : Wanted) (deadline : Moment) (lost : Bool) → element_at w.sent place ≡ Some x → x.sender ≡ the_client client → x.body ≡ body.Ask number file what deadline lost
       → IsAskOf k.machine client file.0 what
@@ -137,7 +138,7 @@ module _ (config : Config) (servers clients : ℕ) (w : WorldState) (r : IsReach
         full (suc past) same_what =
             let low : length handles ≤ suc past = subst (λ (q : Wanted). IsForNext q (length handles)) same_what next in
             let it : IsFullAt j.machine file.0 past =
-            full_stays k.machine j.machine file.0 past grows (asks client place number past x file deadline lost at from (is ∙ ap (λ (q : Wanted). body.Ask number file q deadline lost) same_what)) in
+            full_stays k.machine j.machine file.0 past grows (asks_are_full config servers clients w r clocks some ss k beside client place number past x file deadline lost at from (is ∙ ap (λ (q : Wanted). body.Ask number file q deadline lost) same_what)) in
             last_full j.machine file.0 past (chunk_count j.machine file.0) (omega (arith, low, count)) it.count it.full
 
     asked_for : AddNoChunk Changes ⊎ ((handles : List ℕ) × (file_of w.master.logged.table file.0 ≡ Some handles) × IsForNext what (length handles) × AddOneChunk file Changes) → AreAskedFor k.machine orders w.master.disk Changes
@@ -171,4 +172,4 @@ module _ (config : Config) (servers clients : ℕ) (w : WorldState) (r : IsReach
       ]
 
 pub added_chunks_are_asked_for : AddedChunksAreAskedFor
-added_chunks_are_asked_for config servers clients w r clocks up ss k beside asks moment i refused comes orders = by_input config servers clients w r clocks up ss k beside asks moment refused orders i comes
+added_chunks_are_asked_for config servers clients w r clocks up ss k beside some moment i refused comes orders = by_input config servers clients w r clocks up ss k beside some moment refused orders i comes
