@@ -12,7 +12,6 @@ use Rattle.gfs_types.specs.declared.ids.Handle.{Handle}
 use Rattle.gfs_types.specs.declared.ids.Version.{Version}
 use Rattle.gfs_types.specs.declared.ids.Moment.{Moment}
 use Rattle.gfs_types.specs.declared.refusal.Refusal.TheVariants.{ChunkFull}
-use Rattle.gfs_types.specs.declared.mutation.Mutation.{Mutation}
 use Rattle.gfs_types.specs.declared.mutation.Mutation.TheVariants.{Pad}
 use Rattle.gfs_types.specs.Mutations.{end_of}
 use Rattle.messages.specs.declared.event.Event.{Event}
@@ -26,12 +25,11 @@ use Rattle.primary_order.specs.declared.answer.Attempted.TheVariants.{IsNew}
 use Rattle.primary_order.specs.declared.order.SerialOrder.{SerialOrder}
 use Rattle.primary_order.specs.SerialOrder.{attempted}
 use Rattle.replica_store.specs.declared.row.Row.{Row}
-use Rattle.replica_store.specs.Replicas.{Replica, ServerDisk, new_server_disk, replica_of, row_of, row_at, with_replica, rotten_replica}
+use Rattle.replica_store.specs.Replicas.{Replica, new_server_disk, replica_of, row_of, row_at, with_replica, rotten_replica}
 use Rattle.protocol.specs.Tables.{element_at, with_at, first_numbers}
-use Rattle.protocol.specs.Sending.{data_id, version_of, serial_of, the_client}
+use Rattle.protocol.specs.Sending.{data_id, version_of, serial_of}
 use Rattle.protocol.specs.Choice.{Choice, Ending, Goes, Lost, Stops}
 use Rattle.protocol.specs.Seen.{Taken, no_step}
-use Rattle.protocol.specs.declared.seen.Seen.{Seen}
 use Rattle.protocol.specs.declared.seen.Seen.TheVariants.{Numbered}
 use Rattle.protocol.specs.Observer.{Placed, observed_moment, placed_in, order_of}
 use Rattle.protocol.specs.Client.{ClientState, ClientDoing}
@@ -41,7 +39,7 @@ use Rattle.protocol.specs.ServerWrites.{mutates_under}
 use Rattle.protocol.specs.ServerStep.{server_at, server_takes, server_goes, server_ends, server_step, server_restart}
 use Rattle.protocol.specs.MasterStep.{master_step, master_restart}
 use Rattle.protocol.specs.World.{WorldState, Happened, new_world, stamped, after_master, after_server, after_client, happens, after_events, IsReached}
-use Rattle.protocol_laws.proofs.Steps.{on_cond, none_some, same_some}
+use Rattle.protocol_laws.proofs.Steps.{none_some, same_some}
 use Rattle.protocol_laws.proofs.Entries.{AllOf}
 use Rattle.protocol_laws.proofs.RisingOrders.{set_cases}
 use Rattle.protocol_laws.proofs.MembersRecorded.{kept_place, all_at}
@@ -54,17 +52,15 @@ use Rattle.protocol_step_laws.proofs.NewCopies.{IsNotFull, step_tells, restart_t
 use Rattle.protocol_step_laws.proofs.Lengths.{servers_within, settings_stay}
 use Rattle.protocol_step_laws.proofs.HeldReplicas.{leases_have_their_replica}
 use Rattle.protocol_entry_laws.specs.Entries.{IsAmong}
-use Rattle.protocol_entry_laws.specs.ChunkOrders.{unsettled}
 use Rattle.protocol_entry_laws.proofs.Stemming.{came_in}
 use Rattle.protocol_entry_laws.proofs.OwnMutates.{IsOwn, mutates_are_own}
 use Rattle.protocol_entry_laws.proofs.RoundsPassed.{primary_there, server_shown}
 use Rattle.protocol_entry_laws.proofs.FullOrders.{IsCaused, Causes, right_on, caused_on}
 use Rattle.protocol_entry_laws.proofs.FullAnswers.{AreRight, Leaves, IsFullEnd, step_leaves, none_right, restart_leaves}
 use Rattle.protocol_entry_laws.proofs.FullPlaces.{placed_first, denied_full}
-use Rattle.protocol_invariant.specs.AttemptParts.{is_full}
 use Rattle.protocol_version_laws.proofs.ClosedVersions.{clocks_before}
 use Rattle.protocol_replica_laws.specs.CopiedEntries.{Follows}
-use Rattle.protocol_replica_laws.specs.FullOrders.{HasFullEnd, IsOfFullOrder, FullChunksHaveAFullOrder}
+use Rattle.protocol_replica_laws.specs.FullOrders.{HasFullEnd, FullChunksHaveAFullOrder}
 use Rattle.protocol_replica_laws.proofs.OrdersGrow.{IsAny, same_follows, HaveGrown, orders_grow}
 use Rattle.protocol_replica_laws.proofs.Images.{numbered_there}
 use Rattle.protocol_replica_laws.specs.EndedReplicas.{EndsAtEntry}
