@@ -1,8 +1,7 @@
 -- In each world that is reached, a client asks for a chunk past one, to append to it, only where that one was told to be full.
-use Rattle.std.proofs.Common.{IsTrue, ◌≡◌, ◌⊎◌, inl, inr, ℕ, zero, suc, Bool, true, false, true≢false, List, [], ◌∷◌, ◌++◌, length, map, Option, Some, None, refl, sym, ap, subst, ◌∙◌, arith}
+use Rattle.std.proofs.Common.{IsTrue, ◌≡◌, inl, inr, ℕ, zero, suc, true, false, true≢false, List, [], ◌∷◌, ◌++◌, length, map, Option, Some, None, refl, sym, ap, subst, ◌∙◌}
 use Rattle.std.specs.Option.{option_to_list}
 use Rattle.gfs_types.specs.declared.config.Config.{Config}
-use Rattle.gfs_types.specs.declared.ids.DataId.{DataId}
 use Rattle.gfs_types.specs.declared.ids.Handle.{Handle}
 use Rattle.gfs_types.specs.declared.ids.Version.{Version}
 use Rattle.gfs_types.specs.declared.call.Call.{Call}
@@ -18,7 +17,7 @@ use Rattle.messages.specs.declared.event.Input.{Input}
 use Rattle.client_state.specs.declared.call.CurrentCall.{CurrentCall}
 use Rattle.client_state.specs.declared.call.ToldChunk.{ToldChunk}
 use Rattle.client_state.specs.declared.call.Stage.{Stage}
-use Rattle.client_state.specs.declared.call.Stage.TheVariants.{SentData, SentMutate}
+use Rattle.client_state.specs.declared.call.Stage.TheVariants.{SentMutate}
 use Rattle.protocol.specs.Tables.{element_at, with_at, first_numbers}
 use Rattle.protocol.specs.Sending.{message, data_id, the_client, the_server, client_number}
 use Rattle.protocol.specs.Choice.{Choice}
@@ -48,12 +47,11 @@ use Rattle.protocol_entry_laws.proofs.UsedNumbers.{one_target}
 use Rattle.protocol_replica_laws.specs.FullOrders.{HasFullEnd, IsOfFullOrder}
 use Rattle.protocol_replica_laws.proofs.FullOrders.{full_chunks_have_a_full_order}
 use Rattle.protocol_call_laws.specs.AnsweredWrites.{IsToldChunk}
-use Rattle.protocol_call_laws.specs.FullBefore.{IsFullBefore, AsksPastAChunkFindItFull}
+use Rattle.protocol_call_laws.specs.FullBefore.{AsksPastAChunkFindItFull}
 use Rattle.protocol_call_laws.proofs.CallWalk.{AnyUsed, StandsNow, IsAsking}
 use Rattle.protocol_call_laws.proofs.LaterCalls.{last_at}
 use Rattle.protocol_call_laws.proofs.UsedIndexes.{came_in, no_call, used_was_told}
-use Rattle.protocol_call_laws.proofs.ToldParts.{HasAsked}
-use Rattle.protocol_call_laws.proofs.PastChunks.{IsDenied, IsPast, IsFit, IsAttempt, IsWay, AnyData, AnyReply, AnyEnd, FitAt, past_on, fit_on, stands_on, fit_of, Calm, Leaving, step_leaves, call_leaves, AskFits, ask_on, own_ask_fits}
+use Rattle.protocol_call_laws.proofs.PastChunks.{IsDenied, IsFit, IsWay, AnyData, AnyReply, AnyEnd, FitAt, fit_on, stands_on, fit_of, Calm, Leaving, step_leaves, call_leaves, AskFits, ask_on, own_ask_fits}
 
 append_target : (size index : ℕ) (asked : Call) → is_append asked ≡ true → target_of size index asked ≡ target.Append
 append_target size index (call.Append fd bytes) is = refl

@@ -1,11 +1,8 @@
 -- An open append goes for a chunk past one only where that one was told to be full, for an attempt at it. A step of the client keeps this, and asks so.
-use Rattle.std.proofs.Common.{◌≡◌, ◌⊎◌, inl, inr, ℕ, zero, suc, Bool, true, false, true≢false, List, ◌++◌, length, Option, Some, None, refl, sym, ap, subst, ◌∙◌}
-use Rattle.std.specs.Option.{option_to_list}
-use Rattle.gfs_types.specs.declared.config.Config.{Config}
+use Rattle.std.proofs.Common.{◌≡◌, ℕ, zero, suc, true, false, true≢false, List, ◌++◌, Option, Some, None, refl, sym, ap, subst, ◌∙◌}
 use Rattle.gfs_types.specs.declared.ids.FileId.{FileId}
 use Rattle.gfs_types.specs.declared.ids.Handle.{Handle}
 use Rattle.gfs_types.specs.declared.ids.Version.{Version}
-use Rattle.gfs_types.specs.declared.ids.Moment.{Moment}
 use Rattle.gfs_types.specs.declared.refusal.Refusal.TheVariants.{ChunkFull}
 use Rattle.gfs_types.specs.declared.call.Call.{Call}
 use Rattle.gfs_types.specs.declared.call.Call.TheVariants as call
@@ -13,20 +10,17 @@ use Rattle.gfs_types.specs.declared.answer.Answer.{Answer}
 use Rattle.messages.specs.declared.message.Body.{Body}
 use Rattle.messages.specs.declared.message.Body.TheVariants as body
 use Rattle.messages.specs.declared.message.Message.{Message}
-use Rattle.messages.specs.declared.message.Wanted.{Wanted}
 use Rattle.messages.specs.declared.message.Wanted.TheVariants as wanted
-use Rattle.messages.specs.declared.message.Target.{Target}
 use Rattle.messages.specs.declared.message.Target.TheVariants as target
 use Rattle.messages.specs.declared.event.Input.{Input}
 use Rattle.client_state.specs.declared.call.CurrentCall.{CurrentCall}
 use Rattle.client_state.specs.declared.call.ToldChunk.{ToldChunk}
 use Rattle.client_state.specs.declared.call.Stage.{Stage}
 use Rattle.client_state.specs.declared.call.Stage.TheVariants.{AskedNames, AskedWhere, MustAskAgain, SentData, SentMutate, SentRead, IsOver, HasAnswer}
-use Rattle.protocol.specs.Sending.{data_id, the_client}
+use Rattle.protocol.specs.Sending.{the_client}
 use Rattle.protocol.specs.Client.{ClientState, ClientDoing, client_begins}
-use Rattle.protocol.specs.ClientAttempts.{is_mutation, is_append, wanted_by, target_of}
+use Rattle.protocol.specs.ClientAttempts.{is_mutation, is_append, wanted_by}
 use Rattle.protocol.specs.ClientStep.{new_call, calls, client_does}
-use Rattle.protocol_laws.proofs.Steps.{none_some, same_some}
 use Rattle.protocol_laws.proofs.ServerMoves.{IsCameIn}
 use Rattle.protocol_entry_laws.specs.Entries.{IsAmong}
 use Rattle.protocol_step_laws.proofs.ClientReads.{Came, told_later}
