@@ -54,13 +54,13 @@ module _ (size version : ℕ) where
   or_more true b d go h = refl
   or_more false b d go h = go h
 
+  by_round : (e : Entry) (order : List Entry) (b : Bool) → (list_any ends (within order) ≡ true → list_any ends order ≡ true) → list_any ends (cond b (e ∷ within order) (within order)) ≡ true → list_any ends (e ∷ order) ≡ true
+  by_round e order true rest h = or_more (ends e) (list_any ends (within order)) (list_any ends order) rest h
+  by_round e order false rest h = or_right (ends e) (list_any ends order) (rest h)
+
   one_there : (order : List Entry) → list_any ends (within order) ≡ true → list_any ends order ≡ true
   one_there [] h = h
-  one_there (e ∷ order) h = by_round (nat_le e.round version) h
-    where
-      by_round : (b : Bool) → list_any ends (cond b (e ∷ within order) (within order)) ≡ true → list_any ends (e ∷ order) ≡ true
-      by_round true h = or_more (ends e) (list_any ends (within order)) (list_any ends order) (one_there order) h
-      by_round false h = or_right (ends e) (list_any ends order) (one_there order h)
+  one_there (e ∷ order) h = by_round e order (nat_le e.round version) (one_there order) h
 
 pub asks_are_full : AsksAreFull
 asks_are_full config servers clients w r clocks some ss k beside client place number past x file deadline lost at from is = subst (λ (n : ℕ). IsFullAt k.machine file.0 n) before.chunk.index_is (record { count = stands.count; full = full })
