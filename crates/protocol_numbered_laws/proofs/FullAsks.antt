@@ -4,28 +4,18 @@ use Rattle.std.specs.Prelude.{◌==◌, ◌||◌, nat_le, filter, map, IsTrue}
 use Rattle.std.specs.List.{list_any}
 use Rattle.std.proofs.lemmas.Bool.{eq-eqb, leb-false, or_right}
 use Rattle.gfs_types.specs.declared.config.Config.{Config}
-use Rattle.gfs_types.specs.declared.ids.FileId.{FileId}
-use Rattle.gfs_types.specs.declared.ids.Moment.{Moment}
 use Rattle.gfs_types.specs.Mutations.{end_of}
-use Rattle.messages.specs.declared.message.Body.TheVariants as body
 use Rattle.messages.specs.declared.message.Location.{Location}
-use Rattle.messages.specs.declared.message.Message.{Message}
-use Rattle.messages.specs.declared.message.Wanted.TheVariants as wanted
 use Rattle.relaxed_file.specs.Order.{Entry}
 use Rattle.relaxed_file.specs.Machine.{chunk_at}
 use Rattle.protocol.specs.Tables.{Table, element_at}
-use Rattle.protocol.specs.Sending.{the_client}
-use Rattle.protocol.specs.Master.{PendingSnapshot}
 use Rattle.protocol.specs.Observer.{Placed, placed_in, order_of}
-use Rattle.protocol.specs.World.{WorldState, IsReached}
 use Rattle.protocol_laws.proofs.Steps.{on_cond, none_some, same_some}
 use Rattle.protocol_step_laws.proofs.Lengths.{settings_stay}
 use Rattle.protocol_replica_laws.specs.FullOrders.{HasFullEnd}
 use Rattle.protocol_call_laws.specs.FullBefore.{IsFullBefore}
 use Rattle.protocol_call_laws.proofs.FullBefore.{asks_past_a_chunk_find_it_full}
-use Rattle.protocol_machine_laws.specs.ChunksAlike.{ChunkSides}
 use Rattle.protocol_whole_laws.specs.HoldersApart.{StandsUpTo}
-use Rattle.protocol_whole_laws.specs.WholeWorlds.{IsBeside}
 use Rattle.protocol_numbered_laws.specs.AskedChunks.{IsFullAt, AsksAreFull}
 
 -- entries that end at the chunk's end, of rounds up to a version
