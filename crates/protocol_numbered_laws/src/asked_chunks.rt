@@ -22,7 +22,7 @@ pub fn asks_are_full()
     ensures { AsksAreFull }
 {}
 
-/// Each chunk that a step of the master adds is asked for.
+/// Each chunk that a step of the master adds is asked for, from each machine to which the one beside the world leads.
 pub fn added_chunks_are_asked_for()
     ensures { AddedChunksAreAskedFor }
 {}
