@@ -1,5 +1,5 @@
 -- The whole machine follows the master's log, where handles are numbered on, and gone ones stand where they stood before.
-use Rattle.std.proofs.Common.{◌≡◌, ℕ, ◌≤◌, List, [], Some, sym, ap, ◌∙◌, inl, inr, arith}
+use Rattle.std.proofs.Common.{ℕ, ◌≤◌, List, [], sym, ap, ◌∙◌, inl, inr, arith}
 use Rattle.std.specs.Prelude.{unwrap_or}
 use Rattle.std.specs.FinMap as table
 use Rattle.relaxed_file.specs.Machine.{Machine}
