@@ -393,7 +393,7 @@ steps_keep_rounds config servers clients w r up e moment i event clocks choice e
     ] in
     let new : NewRoundsAreOpen w (happens w e choice).world j =
     λ handle version before now. open_at_end j handle version changes w.master.disk end.4 last (sent_grants_are_logged config servers clients w r up moment i choice.refused handle version (granted_now handle version before now)) in
-    (j, end.1, end.2, end.3, rounds_go_with_leases config servers clients w r e choice (subst (λ (v : WorldState). IsTrue v.observer.are_clocks_kept) same (clocks_of (may_end goes_now Goes))) k j rounds over new)
+    (j, end.1, end.2, end.3, rounds_go_with_leases config servers clients w r e choice (subst (λ (v : WorldState). IsTrue v.observer.are_clocks_kept) same (clocks_of (may_end goes_now Goes))) k j rounds over new, end.5)
   where
     goes_now : MasterDoing
     goes_now = master_goes w.master moment i choice.refused
