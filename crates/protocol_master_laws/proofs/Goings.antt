@@ -53,8 +53,8 @@ use Rattle.protocol_name_laws.proofs.BesideClientsBeside.{passed_trace, moved, s
 use Rattle.protocol_invariant.specs.Actions.{Spot}
 use Rattle.protocol_machine_laws.specs.ChunksAlike.{ChunkSides, IsRoundOpen, KeepsChunks, NoneEnds}
 use Rattle.protocol_machine_laws.proofs.Orders.{copies_begin_unseen}
-use Rattle.protocol_whole_laws.specs.MasterSteps.{Comes, IsCopy, HaveSameFiles}
-use Rattle.protocol_whole_laws.specs.WholeSteps.{EndsAlong, AreRoundsOpened}
+use Rattle.protocol_whole_laws.specs.MasterSteps.{Comes, IsCopy, AreGoneBy, HaveSameFiles}
+use Rattle.protocol_whole_laws.specs.WholeSteps.{EndsAlong, GoesAlong, AreRoundsOpened}
 use Rattle.protocol_whole_laws.specs.OverRounds as over
 use Rattle.protocol_whole_laws.specs.Rounds.{IsEnded}
 use Rattle.protocol_whole_laws.specs.WholeWorlds.{IsBeside}
@@ -68,7 +68,7 @@ use Rattle.protocol_whole_laws.proofs.WholeStops.{ends_are_reached}
 use Rattle.protocol_version_laws.proofs.ExtendLaws.{new_one}
 use Rattle.protocol_whole_laws.proofs.WholeLogs.{states_have_their_logs_files}
 use Rattle.protocol_whole_laws.specs.MastersEvents.{AreCopiesOver}
-use Rattle.protocol_master_laws.specs.MasterEvents.{TrailsKeepGone}
+use Rattle.protocol_copy_laws.proofs.GoneHandles.{steps_let_go_what_stood}
 use Rattle.protocol_master_laws.proofs.Arrivals.{passes, here, Arrives}
 use Rattle.protocol_master_laws.proofs.Quiet as quiet
 use Rattle.protocol_master_laws.proofs.Moves.{Moves, both_come, to_log, along}
@@ -94,7 +94,7 @@ module _ (config : Config) (servers clients : ℕ) (w : WorldState) (r : IsReach
     (ends : choice.ending ≡ Goes)
     (same : (happens w e choice).world ≡ (after_master w moment (master_ends w.master (master_goes w.master moment i choice.refused) choice Goes)).world)
     (step_is : master_step w.master moment i choice ≡ master_ends w.master (master_goes w.master moment i choice.refused) choice Goes)
-    (trails_keep_gone : TrailsKeepGone) (begun : (place : ℕ) (source copy : Handle) → element_at (master_goes w.master moment i choice.refused).seen place ≡ Some (CopyStarted source copy) → IsCopy (master_goes w.master moment i choice.refused).master.logged copy.0)
+    (begun : (place : ℕ) (source copy : Handle) → element_at (master_goes w.master moment i choice.refused).seen place ≡ Some (CopyStarted source copy) → IsCopy (master_goes w.master moment i choice.refused).master.logged copy.0)
   where
     abbrev ss : List PendingSnapshot
     ss = w.master.snapshots
@@ -143,6 +143,7 @@ module _ (config : Config) (servers clients : ℕ) (w : WorldState) (r : IsReach
 
     -- along the changes of the step
     end : (j : ChunkSides) × (j.log ≡ log_read (log_changed_by_all w.master.disk d.changes)) × (j.orders ≡ on_disk.orders) × Comes (EndsAlong w.master.disk d.changes) on_disk j taken.later × AreRoundsOpened w.master.disk d.changes j
+        × AreGoneBy (GoesAlong w.master.disk d.changes) on_disk j
     end = ends_are_reached h.requests n w.master.disk w.master.disk d.changes on_disk n taken.later to_disk.comes.whole refl taken.trail
 
     abbrev j : ChunkSides
@@ -153,13 +154,13 @@ module _ (config : Config) (servers clients : ℕ) (w : WorldState) (r : IsReach
 
     second : Moves E start j taken.later
     second =
-        along E start j n taken.later (log_read w.master.disk) to_disk (steps.same_files config servers clients w r kept e choice clocks k h is up moment timely i heard copies)
+        along E start j n taken.later (log_read w.master.disk) to_disk
         (more_end (EndsAlong w.master.disk d.changes) E on_disk j taken.later
         (λ handle ended. elim (rounds_that_end_stay_over config servers clients w r up e moment i event passed_clocks choice ends handle ended) [
           | inl before ↦ ended_before config servers clients w r e choice clocks handle before
           | inr after ↦ λ version granted. after version
         ]) end.3)
-        numbered (trails_keep_gone w.master.disk d.changes on_disk j taken.later end.3)
+        numbered (steps_let_go_what_stood config servers clients w r kept up moment i choice.refused k j is end.5)
 
     -- back to the state
 

@@ -215,7 +215,7 @@ module _ (config : Config) (servers clients : ℕ) (w : WorldState) (settings : 
           whole_up (ap (λ (m : MasterState). m.up) master_is ∙ still_up w.master s.moment s.taken choice.refused s.up)
           (subst At (sym master_is)
           (arrives s.moment s.taken s.given s.up ends w.master.snapshots k h s.moment d.master.logged d.master.snapshots
-          (went config servers clients w r kept e choice clocks k h is s.up s.moment timely s.taken s.heard asks.copies s.event_is s.was long step ends same step_is asks.gone (λ place source copy. asks.begun s.moment s.taken s.given s.up place source copy))))
+          (went config servers clients w r kept e choice clocks k h is s.up s.moment timely s.taken s.heard asks.copies s.event_is s.was long step ends same step_is (λ place source copy. asks.begun s.moment s.taken s.given s.up place source copy))))
       by_ending Lost ends step_is =
           let same = by_step (goes_through Lost) step_is in
           whole_down (ap (λ (x : WorldState). x.master.up) same)
@@ -225,7 +225,7 @@ module _ (config : Config) (servers clients : ℕ) (w : WorldState) (settings : 
           whole_down (ap (λ (x : WorldState). x.master.up) same)
           (λ decided.
           silently w.master.snapshots k h s.moment (log_as v.master decided) [] (ap (λ (y : WorldState). y.sent) same ∙ append-nil w.sent)
-          (stops.stops config servers clients w r kept e choice clocks k h is s.up s.moment timely s.taken s.heard asks.copies asks.gone s.event_is step made same decided))
+          (stops.stops config servers clients w r kept e choice clocks k h is s.up s.moment timely s.taken s.heard asks.copies s.event_is step made same decided))
 
       by_limits : (b : Bool) → may_end d choice.ending ≡ b → IsWholeWorld config v
       by_limits true may = by_ending choice.ending refl (bounded ∙ ap (λ (b : Bool). cond b (goes_through choice.ending) (no_step w.master)) may)
@@ -296,10 +296,10 @@ module _ (config : Config) (servers clients : ℕ) (w : WorldState) (settings : 
       opens_it true has is =
           let same = by_restart (opened_as o) (is ∙ ap (λ (b : Bool). cond b (opened_as o) (shut_as w.master o)) has) in
           let master_is : v.master ≡ o.master = ap (λ (y : WorldState). y.master) same in
-          whole_up (ap (λ (m : MasterState). m.up) master_is ∙ restarts.open_up config servers clients w r e choice clocks s.ss s.k s.h x.moment asks.copies choice.decided s.same_files s.named asks.gone refl (opened_as o) same refl refl)
+          whole_up (ap (λ (m : MasterState). m.up) master_is ∙ restarts.open_up config servers clients w r e choice clocks s.ss s.k s.h x.moment asks.copies choice.decided s.same_files s.named refl (opened_as o) same refl refl)
           (subst At (sym master_is)
           (silently s.ss s.k s.h x.moment o.master.logged o.master.snapshots (ap (λ (y : WorldState). y.sent) same ∙ append-nil w.sent)
-          (restarts.running config servers clients w r e choice clocks s.ss s.k s.h x.moment asks.copies choice.decided s.same_files s.named asks.gone refl (opened_as o) same refl refl master_is)))
+          (restarts.running config servers clients w r e choice clocks s.ss s.k s.h x.moment asks.copies choice.decided s.same_files s.named refl (opened_as o) same refl refl master_is)))
       opens_it false not is =
           let same = by_restart (shut_as w.master o) (is ∙ ap (λ (b : Bool). cond b (opened_as o) (shut_as w.master o)) not) in
           let master_is : v.master ≡ (shut_as w.master o).state = ap (λ (y : WorldState). y.master) same in
@@ -307,7 +307,7 @@ module _ (config : Config) (servers clients : ℕ) (w : WorldState) (settings : 
           whole_down down
           (λ decided.
           silently s.ss s.k s.h x.moment (log_as v.master decided) [] (ap (λ (y : WorldState). y.sent) same ∙ append-nil w.sent)
-          (restarts.shut config servers clients w r e choice clocks s.ss s.k s.h x.moment asks.copies choice.decided s.same_files s.named asks.gone refl (shut_as w.master o) same refl refl decided down (ap (λ (m : MasterState). m.disk) master_is)
+          (restarts.shut config servers clients w r e choice clocks s.ss s.k s.h x.moment asks.copies choice.decided s.same_files s.named refl (shut_as w.master o) same refl refl decided down (ap (λ (m : MasterState). m.disk) master_is)
           (ap (λ (m : MasterState). m.under_way) master_is)))
 
       by_end : (y : Ending) → choice.ending ≡ y → master_restart w.master x.moment choice ≡ opens y → IsWholeWorld config v
@@ -329,7 +329,7 @@ module _ (config : Config) (servers clients : ℕ) (w : WorldState) (settings : 
           whole_down down
           (λ decided.
           silently s.ss s.k s.h x.moment (log_as v.master decided) [] (ap (λ (y : WorldState). y.sent) same ∙ append-nil w.sent)
-          (restarts.left_at config servers clients w r e choice clocks s.ss s.k s.h x.moment asks.copies choice.decided s.same_files s.named asks.gone refl (opens (Stops made)) same refl refl made decided down
+          (restarts.left_at config servers clients w r e choice clocks s.ss s.k s.h x.moment asks.copies choice.decided s.same_files s.named refl (opens (Stops made)) same refl refl made decided down
           (ap (λ (m : MasterState). log_changed_by_all m.disk (decided_changes decided m.under_way)) master_is)))
 
       by_the_restart : IsWholeWorld config v

@@ -36,15 +36,11 @@ to_log E k j n l m same over =
     }
 
 -- along a trail, from another log that has the same files
-pub along : (E : ℕ → Type 0) (k j : ChunkSides) (a n : Machine) (l : Logged) → Moves E k (record k { log = l }) a → HaveSameFiles k.log l → Comes E (record k { log = l }) j n → l.next_handle ≤ j.log.next_handle → IsGoneFrom (record k { log = l }) j
-    → Moves E k j n
-along E k j a n l m same comes next gone =
+pub along : (E : ℕ → Type 0) (k j : ChunkSides) (a n : Machine) (l : Logged) → Moves E k (record k { log = l }) a → Comes E (record k { log = l }) j n → l.next_handle ≤ j.log.next_handle → IsGoneFrom k j → Moves E k j n
+along E k j a n l m comes next gone =
     let low = m.next in
     record {
       comes = both_come E k (record k { log = l }) j a n m.comes comes;
       next = omega (arith, low, next);
-      gone = λ handle s is. elim (gone handle s is) [
-        | inl before ↦ inl before
-        | inr at ↦ inr (ap (λ (fs : Table (List ℕ)). element_at (unwrap_or (table.get fs s.file) []) s.index) (sym same.lists) ∙ at)
-      ];
+      gone = gone;
     }

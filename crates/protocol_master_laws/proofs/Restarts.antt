@@ -16,16 +16,16 @@ use Rattle.protocol_name_laws.specs.Beside.{lasts, IsNamesBeside}
 use Rattle.protocol_name_laws.specs.NameTrails.{log_read, IsBesideLog, NameTrail}
 use Rattle.protocol_name_laws.proofs.BesideClientsBeside.{passed_trace, moved, relogged}
 use Rattle.protocol_machine_laws.specs.ChunksAlike.{ChunkSides}
-use Rattle.protocol_whole_laws.specs.MasterSteps.{Comes, HaveSameFiles, WholeTrail}
+use Rattle.protocol_whole_laws.specs.MasterSteps.{Comes, AreGoneBy, HaveSameFiles, WholeTrail}
 use Rattle.protocol_whole_laws.specs.MastersEvents.{AreCopiesOver}
-use Rattle.protocol_whole_laws.specs.WholeSteps.{EndsAlong, IsLeftAt}
+use Rattle.protocol_whole_laws.specs.WholeSteps.{EndsAlong, GoesAlong, IsLeftAt}
 use Rattle.protocol_whole_laws.specs.Rounds.{IsEnded, log_as}
 use Rattle.protocol_whole_laws.specs.WholeWorlds.{IsBeside}
 use Rattle.protocol_whole_laws.proofs.EndedRounds.{ended_before, ungranted_is_over}
 use Rattle.protocol_whole_laws.proofs.MasterNames.{more_end}
 use Rattle.protocol_whole_laws.proofs.WholeLogs.{states_have_their_logs_files, opening_dues, restarts_are_taken}
 use Rattle.protocol_whole_laws.proofs.WholeSteps.{all_numbered}
-use Rattle.protocol_master_laws.specs.MasterEvents.{TrailsKeepGone}
+use Rattle.protocol_copy_laws.proofs.GoneHandles.{openings_let_nothing_go}
 use Rattle.protocol_master_laws.proofs.Arrivals.{passes, here, Arrives, whole_here}
 use Rattle.protocol_master_laws.proofs.Moves.{Moves, moves_nowhere, to_log, along}
 use Rattle.protocol_laws.proofs.NamesLogged.{log_has_the_names, log_has_the_files}
@@ -140,7 +140,7 @@ module _ (config : Config) (servers clients : ℕ) (w : WorldState) (r : IsReach
 
       -- it opens
 
-      module _ (trails_keep_gone : TrailsKeepGone) (decided_is : decided0 ≡ choice.decided) (t : Taken MasterState) (same : v ≡ (after_master w moment t).world) (silent : t.out.sent ≡ []) (unseen : t.seen ≡ []) where
+      module _ (decided_is : decided0 ≡ choice.decided) (t : Taken MasterState) (same : v ≡ (after_master w moment t).world) (silent : t.out.sent ≡ []) (unseen : t.seen ≡ []) where
         abbrev d : MasterDoing
         d = opened w.master moment choice
 
@@ -156,9 +156,6 @@ module _ (config : Config) (servers clients : ℕ) (w : WorldState) (r : IsReach
         at_found : Moves E start opening_at n
         at_found = subst (λ (y : LogDisk). Moves E start (record start { log = log_read y }) n) same_found to_found
 
-        files_found : HaveSameFiles start.log (log_read log_found)
-        files_found = subst (λ (y : LogDisk). HaveSameFiles k.log (log_read y)) same_found same_files
-
         named_found : Named log_found
         named_found = subst Named same_found named
 
@@ -172,11 +169,11 @@ module _ (config : Config) (servers clients : ℕ) (w : WorldState) (r : IsReach
         numbered = all_numbered h.requests n log_found n d.changes log_found n (log_read log_found).next_handle (omega arith) by_records.1 (opening_dues config servers clients w r moment choice)
 
         -- on from what was found
-        goes_on : (x : ChunkSides) (m : Machine) → Comes (EndsAlong log_found d.changes) opening_at x m → (log_read log_found).next_handle ≤ x.log.next_handle → Moves E start x m
-        goes_on x m comes more =
-            along E start x n m (log_read log_found) at_found files_found
+        goes_on : (x : ChunkSides) (m : Machine) → Comes (EndsAlong log_found d.changes) opening_at x m → AreGoneBy (GoesAlong log_found d.changes) opening_at x → (log_read log_found).next_handle ≤ x.log.next_handle → Moves E start x m
+        goes_on x m comes gone more =
+            along E start x n m (log_read log_found) at_found
             (more_end (EndsAlong log_found d.changes) E opening_at x m (λ handle ended. absurd (openings_end_no_round w.master moment choice handle ended)) comes)
-            more (trails_keep_gone log_found d.changes opening_at x m comes)
+            more (openings_let_nothing_go w.master moment choice k x gone)
 
         abbrev started : MasterState
         started = started_master w.master.config w.master.server_count log_found moment
@@ -190,10 +187,10 @@ module _ (config : Config) (servers clients : ℕ) (w : WorldState) (r : IsReach
         pub left_at : (made : ℕ) (decided : List Bool) → v.master.up ≡ false → log_changed_by_all v.master.disk (decided_changes decided v.master.under_way) ≡ log_left log_found d.changes made decided → Here (log_as v.master decided) []
         left_at made decided down left_is =
             let left : LogDisk = log_left log_found d.changes made decided in
-            let found_left : IsLeftAt h.requests n log_found opening_at (EndsAlong log_found d.changes) left =
+            let found_left : IsLeftAt h.requests n log_found opening_at (EndsAlong log_found d.changes) (GoesAlong log_found d.changes) left =
             stops_are_taken h.requests n log_found log_found d.changes opening_at n n at_found.comes.whole by_records.0 refl trail made decided in
             let second : Moves E start found_left.sides found_left.names =
-            goes_on found_left.sides found_left.names found_left.comes
+            goes_on found_left.sides found_left.names found_left.comes found_left.gone
             (subst (λ (l : Logged). (log_read log_found).next_handle ≤ l.next_handle) (sym found_left.log)
             (found_stopped (λ l. (log_read log_found).next_handle ≤ (log_read l).next_handle) log_found d.changes made numbered decided)) in
             let third : Moves E start (record found_left.sides { log = replayed left }) found_left.names = gives_up found_left.sides found_left.names left decided left_is found_left.log second in
@@ -228,7 +225,7 @@ module _ (config : Config) (servers clients : ℕ) (w : WorldState) (r : IsReach
             let end = ends_are_reached h.requests n log_found log_found d.changes opening_at n n at_found.comes.whole refl trail in
             let j : ChunkSides = end.0 in
             let second : Moves E start j n =
-            goes_on j n end.3 (subst (λ (l : Logged). (log_read log_found).next_handle ≤ l.next_handle) (sym end.1) (last_stop (λ l. (log_read log_found).next_handle ≤ (log_read l).next_handle) log_found d.changes numbered)) in
+            goes_on j n end.3 end.5 (subst (λ (l : Logged). (log_read log_found).next_handle ≤ l.next_handle) (sym end.1) (last_stop (λ l. (log_read log_found).next_handle ≤ (log_read l).next_handle) log_found d.changes numbered)) in
             let files : HaveSameFiles (log_read d.master.disk) d.master.logged = subst (λ (m : MasterState). HaveSameFiles (log_read m.disk) m.logged) master_is ((states_have_their_logs_files config servers clients v reached_then).0 up_then).1 in
             let third : Moves E start (record j { log = d.master.logged }) n =
             to_log E start j n d.master.logged second (subst (λ (l : Logged). HaveSameFiles l d.master.logged) (sym (end.1 ∙ ap log_read disk_is)) files)

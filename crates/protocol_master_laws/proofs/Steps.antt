@@ -151,7 +151,7 @@ module _ (config : Config) (servers clients : ℕ) (w : WorldState) (r : IsReach
     input_open input.Tick same = tt
 
     -- beside the log on the disk
-    pub same_files : HaveSameFiles start.log (log_read w.master.disk)
+    same_files : HaveSameFiles start.log (log_read w.master.disk)
     same_files = subst (λ (l : Logged). HaveSameFiles l (log_read w.master.disk)) (sym is) ((states_have_their_logs_files config servers clients w r).0 up).0
 
     abbrev pub on_disk : ChunkSides

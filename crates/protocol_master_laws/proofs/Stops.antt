@@ -25,7 +25,7 @@ use Rattle.protocol_name_laws.specs.NameTrails.{log_read}
 use Rattle.protocol_name_laws.proofs.BesideClientsBeside.{passed_trace, moved, relogged}
 use Rattle.protocol_machine_laws.specs.ChunksAlike.{ChunkSides}
 use Rattle.protocol_whole_laws.specs.MasterSteps.{IsCopy, HaveSameFiles}
-use Rattle.protocol_whole_laws.specs.WholeSteps.{EndsAlong, IsLeftAt}
+use Rattle.protocol_whole_laws.specs.WholeSteps.{EndsAlong, GoesAlong, IsLeftAt}
 use Rattle.protocol_whole_laws.specs.Rounds.{IsEnded, log_as}
 use Rattle.protocol_whole_laws.specs.WholeWorlds.{IsBeside}
 use Rattle.protocol_whole_laws.proofs.MasterNames.{more_end}
@@ -33,7 +33,7 @@ use Rattle.protocol_whole_laws.proofs.OverRounds.{over_later, rounds_that_end_ar
 use Rattle.protocol_whole_laws.proofs.WholeStops.{stops_are_taken}
 use Rattle.protocol_whole_laws.proofs.WholeLogs.{states_have_their_logs_files}
 use Rattle.protocol_whole_laws.specs.MastersEvents.{AreCopiesOver}
-use Rattle.protocol_master_laws.specs.MasterEvents.{TrailsKeepGone}
+use Rattle.protocol_copy_laws.proofs.GoneHandles.{steps_let_go_what_stood}
 use Rattle.protocol_master_laws.proofs.Arrivals.{passes, here, Arrives, whole_here}
 use Rattle.protocol_master_laws.proofs.Moves.{Moves, moves_nowhere, to_log, along}
 use Rattle.protocol_master_laws.proofs.Steps.{still_up, IsTaken}
@@ -141,7 +141,7 @@ module _ (config : Config) (servers clients : ℕ) (w : WorldState) (r : IsReach
 
     -- it stops in the step
 
-    module _ (trails_keep_gone : TrailsKeepGone) (event : over.IsMastersEvent w e moment i) (taken : IsTaken config servers clients w r kept e choice clocks k h is up moment timely i heard copies) (made : ℕ)
+    module _ (event : over.IsMastersEvent w e moment i) (taken : IsTaken config servers clients w r kept e choice clocks k h is up moment timely i heard copies) (made : ℕ)
         (same : v ≡ (after_master w moment (master_ends w.master d choice (Stops made))).world) (decided : List Bool)
       where
         abbrev t : Taken MasterState
@@ -153,7 +153,7 @@ module _ (config : Config) (servers clients : ℕ) (w : WorldState) (r : IsReach
         passed_clocks : IsTrue (over.passed w moment).observer.are_clocks_kept
         passed_clocks = sym (ap (λ (x : WorldState). x.observer.are_clocks_kept) same) ∙ clocks
 
-        found : IsLeftAt h.requests n w.master.disk on_disk (EndsAlong w.master.disk d.changes) left
+        found : IsLeftAt h.requests n w.master.disk on_disk (EndsAlong w.master.disk d.changes) (GoesAlong w.master.disk d.changes) left
         found = stops_are_taken h.requests n w.master.disk w.master.disk d.changes on_disk n taken.later to_disk.comes.whole taken.first refl taken.trail made decided
 
         over_then : (handle : ℕ) → AreLeasesOver (over.passed w moment) handle → AreLeasesOver v handle
@@ -168,10 +168,10 @@ module _ (config : Config) (servers clients : ℕ) (w : WorldState) (r : IsReach
 
         second : Moves E start found.sides found.names
         second =
-            along E start found.sides n found.names (log_read w.master.disk) to_disk (steps.same_files config servers clients w r kept e choice clocks k h is up moment timely i heard copies)
+            along E start found.sides n found.names (log_read w.master.disk) to_disk
             (more_end (EndsAlong w.master.disk d.changes) E on_disk found.sides found.names
             (λ handle ended version granted. over_then handle (rounds_that_end_are_over config servers clients w r up e moment i event passed_clocks choice handle ended) version) found.comes)
-            numbered (trails_keep_gone w.master.disk d.changes on_disk found.sides found.names found.comes)
+            numbered (steps_let_go_what_stood config servers clients w r kept up moment i choice.refused k found.sides is found.gone)
 
         master_is : v.master ≡ t.state
         master_is = ap (λ (x : WorldState). x.master) same

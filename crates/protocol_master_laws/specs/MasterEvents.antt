@@ -6,7 +6,6 @@ use Rattle.messages.specs.declared.event.Input.{Input}
 use Rattle.relaxed_file.specs.Machine.{Machine, chunk_at, chunk_count}
 use Rattle.relaxed_file.specs.Run.{LeadsTo, IsRunTo}
 use Rattle.protocol.specs.Choice.{Choice, Goes}
-use Rattle.protocol.specs.Logged.{LogDisk, LogChange}
 use Rattle.protocol.specs.Master.{PendingSnapshot}
 use Rattle.protocol.specs.MasterStep.{master_goes}
 use Rattle.protocol.specs.World.{WorldState, happens, IsReached, is_kept}
@@ -16,8 +15,7 @@ use Rattle.protocol_whole_laws.specs.Rounds.{IsLogOf, IsEnded, IsMastersInput, S
 use Rattle.protocol_whole_laws.specs.ServerSteps.{AreGoneOrdersAlike}
 use Rattle.protocol_whole_laws.specs.ChunksBeside.{AreChunksBeside, IsMastersEvent}
 use Rattle.protocol_whole_laws.specs.ToldHolders.{HoldersMayGoOn}
-use Rattle.protocol_whole_laws.specs.MasterSteps.{Comes}
-use Rattle.protocol_whole_laws.specs.WholeSteps.{AreAskedFor, EndsAlong}
+use Rattle.protocol_whole_laws.specs.WholeSteps.{AreAskedFor}
 use Rattle.protocol_whole_laws.specs.WholeWorlds.{AreFileClients, IsBeside, IsWholeWorld}
 use Rattle.protocol_whole_laws.specs.MastersEvents.{AreOffersSo, AreCopiesOver, AreBegunUnderWay, IsGoneFrom}
 
@@ -31,17 +29,12 @@ HoldersGoOnWhere config w then_ =
     → k.log.next_handle ≤ j.log.next_handle
     → HoldersMayGoOn w then_ k j
 
--- Along a trail of changes a handle that is gone stood where it stood before.
-abbrev pub TrailsKeepGone : Type 0
-TrailsKeepGone = (d : LogDisk) (changes : List LogChange) (k j : ChunkSides) (n : Machine) → Comes (EndsAlong d changes) k j n → IsGoneFrom k j
-
 -- What an event of the master asks: each chunk that it adds is asked for; of copies that they have no lease and are under way once they begin; holders may go on; and the machine may offer what a step tells that goes through.
 pub record AreMastersTrue (config : Config) (w then_ : WorldState) (e : Event) (choice : Choice) : Type 0 where
   pub asked : (moment : ℕ) (i : Input) → IsMastersInput w e moment i → IsTrue w.master.up → (ss : List PendingSnapshot) (k : ChunkSides) → IsBeside config w ss k
       → (m : Machine) → LeadsTo k.machine m → AreAskedFor m w.observer.orders w.master.disk (master_goes w.master moment i choice.refused).changes
   pub copies : AreCopiesOver w
   pub begun : AreBegunUnderWay w e choice
-  pub gone : TrailsKeepGone
   pub holders : HoldersGoOnWhere config w then_
   pub offers : (moment : ℕ) (i : Input) → IsMastersInput w e moment i → IsTrue w.master.up → choice.ending ≡ Goes → (ss : List PendingSnapshot) (k j : ChunkSides) → IsBeside config w ss k → LeadsTo k.machine j.machine → IsRunTo config then_.observer.trace j.machine → AreChunksBeside config then_ j
       → AreFileClients w.clients j.machine → AreOffersSo w then_ j.machine
