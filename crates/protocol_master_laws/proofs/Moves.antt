@@ -1,9 +1,6 @@
 -- The whole machine follows the master's log, where handles are numbered on, and gone ones stand where they stood before.
-use Rattle.std.proofs.Common.{ℕ, ◌≤◌, List, [], sym, ap, ◌∙◌, inl, inr, arith}
-use Rattle.std.specs.Prelude.{unwrap_or}
-use Rattle.std.specs.FinMap as table
+use Rattle.std.proofs.Common.{ℕ, ◌≤◌, inl, arith}
 use Rattle.relaxed_file.specs.Machine.{Machine}
-use Rattle.protocol.specs.Tables.{Table, element_at}
 use Rattle.protocol.specs.Logged.{Logged}
 use Rattle.protocol_machine_laws.specs.ChunksAlike.{ChunkSides, NoneEnds}
 use Rattle.protocol_whole_laws.specs.MasterSteps.{IsWhole, Comes, IsCopy, HaveSameFiles}
