@@ -1,2 +1,3 @@
 pub mod GoneHandles
 pub mod PlainChanges
+pub mod UngrantedCopies

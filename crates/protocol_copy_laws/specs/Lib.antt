@@ -1,1 +1,2 @@
+pub mod CopiesInLog
 pub mod GoneHandles

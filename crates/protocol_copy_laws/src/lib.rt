@@ -1,4 +1,5 @@
 //! Laws of the master's log at the whole machine: where handles stood that are gone, and copies under way.
 #![tactic(auto)]
 
+pub mod copies_in_log;
 pub mod gone_handles;
