@@ -35,6 +35,7 @@ pub mod RecordTimes
 pub mod SentGrants
 pub mod ServerSteps
 pub mod Settlements
+pub mod ShownChunks
 pub mod SoundLogs
 pub mod StoppedSteps
 pub mod ToldHolders
