@@ -1,3 +1,4 @@
+pub mod BegunCopies
 pub mod GoneHandles
 pub mod PlainChanges
 pub mod UngrantedCopies

@@ -1,2 +1,3 @@
+pub mod BegunCopies
 pub mod CopiesInLog
 pub mod GoneHandles
