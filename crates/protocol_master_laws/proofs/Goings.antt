@@ -68,6 +68,7 @@ use Rattle.protocol_whole_laws.proofs.WholeStops.{ends_are_reached}
 use Rattle.protocol_version_laws.proofs.ExtendLaws.{new_one}
 use Rattle.protocol_whole_laws.proofs.WholeLogs.{states_have_their_logs_files}
 use Rattle.protocol_whole_laws.specs.MastersEvents.{AreCopiesOver}
+use Rattle.protocol_copy_laws.proofs.BegunCopies.{copies_begin_nowhere, copies_begin_without_a_round}
 use Rattle.protocol_copy_laws.proofs.GoneHandles.{steps_let_go_what_stood}
 use Rattle.protocol_master_laws.proofs.Arrivals.{passes, here, Arrives}
 use Rattle.protocol_master_laws.proofs.Quiet as quiet
@@ -94,7 +95,6 @@ module _ (config : Config) (servers clients : ℕ) (w : WorldState) (r : IsReach
     (ends : choice.ending ≡ Goes)
     (same : (happens w e choice).world ≡ (after_master w moment (master_ends w.master (master_goes w.master moment i choice.refused) choice Goes)).world)
     (step_is : master_step w.master moment i choice ≡ master_ends w.master (master_goes w.master moment i choice.refused) choice Goes)
-    (begun : (place : ℕ) (source copy : Handle) → element_at (master_goes w.master moment i choice.refused).seen place ≡ Some (CopyStarted source copy) → IsCopy (master_goes w.master moment i choice.refused).master.logged copy.0)
   where
     abbrev ss : List PendingSnapshot
     ss = w.master.snapshots
@@ -243,11 +243,12 @@ module _ (config : Config) (servers clients : ℕ) (w : WorldState) (r : IsReach
 
     shown_copy : ShowsCopy w.master t → IsShownAt
     shown_copy s =
-        let copy : IsCopy d.master.logged s.copy = begun 0 (handle_of s.source) (handle_of s.copy) (ap (λ (xs : List Seen). element_at xs 0) s.seen) in
-        let apart : (handle : ℕ) → IsCopy d.master.logged handle → times_in d.master.logged.table.files handle ≡ 0 = λ handle one. from_state.apart handle (inl one) in
+        let first : element_at d.seen 0 ≡ Some (CopyStarted (handle_of s.source) (handle_of s.copy)) = ap (λ (xs : List Seen). element_at xs 0) s.seen in
+        let nowhere = (copies_begin_nowhere config servers clients w r up moment i choice.refused 0 (handle_of s.source) (handle_of s.copy) first).1 in
+        let no_round : (version : ℕ) (spot : Spot) → IsRoundOpen js s.copy version spot → ⊥ = copies_begin_without_a_round config servers clients w r up moment i choice.refused 0 (handle_of s.source) (handle_of s.copy) first k js is h.below refl third.gone in
         let jo : ChunkSides = record js { orders = orders_after trace js.orders (CopyStarted (handle_of s.source) (handle_of s.copy)) } in
         let kept_chunks : KeepsChunks (λ ended. ended ≡ s.copy) js jo =
-        copies_begin_unseen js trace (handle_of s.source) (handle_of s.copy) back.whole.chunks (λ spot at. apart_stands d.master.logged (IsCopy d.master.logged) apart s.copy spot copy at) in
+        copies_begin_unseen js trace (handle_of s.source) (handle_of s.copy) back.whole.chunks nowhere in
         record {
           last = jo;
           log = refl;
@@ -262,7 +263,7 @@ module _ (config : Config) (servers clients : ℕ) (w : WorldState) (r : IsReach
             places = refl;
             of_master = refl;
             rounds = λ handle version spot was_open. elim (kept_chunks.rounds handle version spot was_open) [
-              | inl it ↦ absurd (no_round d.master.logged (IsCopy d.master.logged) apart js refl handle version spot was_open (subst (λ (q : ℕ). IsCopy d.master.logged q) (sym it) copy) (from_state.rows handle (subst (λ (q : ℕ). IsCopy d.master.logged q) (sym it) copy)))
+              | inl it ↦ absurd (no_round version spot (subst (λ (q : ℕ). IsRoundOpen js q version spot) it was_open))
               | inr still ↦ inr still
             ];
             whole = record { names = back.whole.names; chunks = kept_chunks.alike; below = back.whole.below };

@@ -215,7 +215,7 @@ module _ (config : Config) (servers clients : ℕ) (w : WorldState) (settings : 
           whole_up (ap (λ (m : MasterState). m.up) master_is ∙ still_up w.master s.moment s.taken choice.refused s.up)
           (subst At (sym master_is)
           (arrives s.moment s.taken s.given s.up ends w.master.snapshots k h s.moment d.master.logged d.master.snapshots
-          (went config servers clients w r kept e choice clocks k h is s.up s.moment timely s.taken s.heard asks.copies s.event_is s.was long step ends same step_is (λ place source copy. asks.begun s.moment s.taken s.given s.up place source copy))))
+          (went config servers clients w r kept e choice clocks k h is s.up s.moment timely s.taken s.heard asks.copies s.event_is s.was long step ends same step_is)))
       by_ending Lost ends step_is =
           let same = by_step (goes_through Lost) step_is in
           whole_down (ap (λ (x : WorldState). x.master.up) same)
