@@ -155,6 +155,9 @@ class Judge(simulate.Simulation):
         places += [(h, s) for h, s in self.sides[was_made][1].items() if h not in log['table']['chunks'].items]
         rounds = [(h, self.chunk(machine, s)['round'], s) for h, s in places if self.chunk(machine, s)['is_open']]
         rounds = [it for it in rounds if not self.is_over(world, it[0], it[1])]
+        for file, handles in world['observer']['files'].items.items():
+            for index, handle in enumerate(handles):
+                self.check_shown(world, machine, log, rounds, file, index, handle)
         for file, location in self.told:
             handle, version, index = number(location['handle']), number(location['round']), location['index']
             if version and not self.is_over(world, handle, version):
@@ -172,6 +175,17 @@ class Judge(simulate.Simulation):
                         self.counts['judged apart'] += 1
                         self.claim((other == handle) == (spot == (file, index)), f'apart {handle} {bound} {file} {index}: {other} {opened} {spot}')
                 self.claim([e for e in entries if e['round'] <= bound] == [e for e in order if e['round'] <= bound], f'holder of {handle} at {bound} for {file} {index}')
+
+    def check_shown(self, world, machine, log, rounds, file, index, handle):
+        """A chunk of a file that is shown stands for the machine's, whatever the version, and rounds are apart."""
+        self.counts['judged shown' if world['master']['up'] else 'judged shown while down'] += 1
+        self.counts['judged shown and gone'] += handle not in log['table']['chunks'].items
+        self.claim(handle < log['next_handle'], 'shown used')
+        state_of_file = apply(machine['files'], file)
+        self.claim(index < state_of_file['chunk_count'], 'shown count')
+        self.claim(self.entries(world, handle) == apply(state_of_file['chunks'], index)['order'], f'shown order {handle}')
+        for other, opened, spot in rounds:
+            self.claim((other == handle) == (spot == (file, index)), f'shown apart {handle} {file} {index}: {other} {opened} {spot}')
 
     def is_round_open(self, world, machine, handle, version, spot):
         chunk = self.chunk(machine, spot)

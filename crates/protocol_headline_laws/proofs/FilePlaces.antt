@@ -1,6 +1,6 @@
 -- A file has no more chunks than there are handles, since each stands at one index; and a master that is up has no handle with which a place would be too far.
-use Rattle.std.proofs.Common.{nat_cmp, ◌≡◌, ◌⊎◌, ℕ, zero, suc, ◌≤◌, ◌<◌, Bool, true, false, true≢false, List, [], ◌∷◌, length, Option, Some, None, refl, sym, ap, subst, ◌∙◌, inl, inr, arith}
-use Rattle.std.specs.Prelude.{◌*◌, ◌&&◌, ◌||◌, nat_le, unwrap_or, IsTrue}
+use Rattle.std.proofs.Common.{nat_cmp, ◌≡◌, ◌⊎◌, ℕ, zero, suc, ◌≤◌, ◌<◌, Bool, true, false, true≢false, List, [], ◌∷◌, length, Option, Some, refl, sym, ap, subst, ◌∙◌, inl, inr, arith}
+use Rattle.std.specs.Prelude.{◌*◌, ◌&&◌, ◌||◌, unwrap_or, IsTrue}
 use Rattle.std.specs.List.{AllByRecursion, IsDistinct, list_any}
 use Rattle.std.specs.FinMap as table
 use Rattle.std.proofs.Math.Nat.{mul-le-mul_right, le_trans}
@@ -14,17 +14,16 @@ use Rattle.protocol.specs.Tables.{counter_limit, element_at}
 use Rattle.protocol.specs.Choice.{Choice, Ending, Goes, Lost, Stops}
 use Rattle.protocol.specs.Seen.{Taken, no_step}
 use Rattle.protocol.specs.Master.{MasterState, MasterDoing}
-use Rattle.protocol.specs.MasterStep.{is_within_limits, master_goes, master_ends, master_bounded, master_step, may_end, started_master, opening, has_opened, opens_as, found_log, master_restart}
-use Rattle.protocol.specs.World.{WorldState, new_world, IsReached}
+use Rattle.protocol.specs.MasterStep.{is_within_limits, master_goes, master_ends, master_bounded, master_step, may_end, started_master, opening, has_opened, opens_as, found_log}
+use Rattle.protocol.specs.World.{WorldState, new_world}
 use Rattle.protocol_laws.proofs.Steps.{on_cond, none_some}
 use Rattle.protocol_laws.specs.Laws.{times_in}
 use Rattle.protocol_laws.proofs.FilesNamed.{Files}
-use Rattle.protocol_laws.proofs.Owners.{stands, chunks_at, times_at_least, placed_stands}
+use Rattle.protocol_laws.proofs.Owners.{stands, times_at_least, placed_stands}
 use Rattle.protocol_laws.proofs.MembersRecorded.{place_below}
 use Rattle.protocol_laws.proofs.SentReached.{sent_reached}
 use Rattle.protocol_laws.proofs.LoggedParts.{Parts}
 use Rattle.protocol_laws.proofs.NamesReached.{IsUpToLog}
-use Rattle.protocol_laws.proofs.OrderNumbers.{state_of}
 use Rattle.protocol_laws.proofs.RowsLogged.{IsFoundRows, IsRowedLog}
 use Rattle.protocol_laws.proofs.RowsKept.{rows_kept}
 use Rattle.protocol_laws.proofs.MasterReached.{IsKeptByMaster, reached_here}

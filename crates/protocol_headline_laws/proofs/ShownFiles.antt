@@ -1,13 +1,11 @@
 -- What is shown of names, files, orders and replicas is the machine's that is beside the world.
-use Rattle.std.proofs.Common.{◌≡◌, ℕ, zero, suc, ◌≤◌, ◌<◌, Bool, true, false, true≢false, List, [], ◌∷◌, length, Option, Some, None, refl, sym, ap, subst, ◌∙◌, arith}
-use Rattle.std.specs.Prelude.{◌&&◌, not, nat_lt, nat_le, filter_map, option_and_then, if◌then◌else◌, IsTrue, IsFalse}
+use Rattle.std.proofs.Common.{◌≡◌, ℕ, zero, suc, ◌≤◌, ◌<◌, Bool, true, false, cond, true≢false, List, [], ◌∷◌, length, Option, Some, None, refl, sym, ap, subst, ◌∙◌, arith}
+use Rattle.std.specs.Prelude.{◌+◌, ◌&&◌, not, nat_le, filter, filter_map, option_and_then, if◌then◌else◌, IsTrue, IsFalse}
 use Rattle.std.specs.List.{cons_option}
 use Rattle.std.specs.FinMap as table
 use Rattle.std.proofs.lemmas.Bool.{le-leb, lt-ltb}
 use Rattle.gfs_types.specs.declared.config.Config.{Config}
-use Rattle.gfs_types.specs.declared.answer.Answer.{Answer}
-use Rattle.gfs_types.specs.Image.{image, image_length}
-use Rattle.messages.specs.declared.event.Event.{Event}
+use Rattle.gfs_types.specs.Image.{image_length}
 use Rattle.replica_store.specs.Replicas.{Replica, replica_of}
 use Rattle.relaxed_file.specs.Order.{Entry, IsSelection, mutations_of}
 use Rattle.relaxed_file.specs.Machine.{Machine, chunk_at, chunk_count}
@@ -16,50 +14,60 @@ use Rattle.protocol.specs.Tables.{Table, element_at}
 use Rattle.protocol.specs.Lookups.{StoredAt, handle_at, stored_as, stored_on, replicas_of}
 use Rattle.protocol.specs.Logged.{Logged}
 use Rattle.protocol.specs.Server.{ServerState}
-use Rattle.protocol.specs.Master.{MasterState, PendingSnapshot}
-use Rattle.protocol.specs.MasterStep.{master_step, master_restart}
-use Rattle.protocol.specs.ClientStep.{client_step, client_call}
-use Rattle.protocol.specs.Observer.{Observer, Placed, observed_moment, observed_answer, entries_of}
+use Rattle.protocol.specs.Master.{PendingSnapshot}
+use Rattle.protocol.specs.Observer.{Placed, entries_of}
 use Rattle.protocol.specs.Conforms.{IsSelected}
-use Rattle.protocol.specs.World.{WorldState, new_world, files_seen, IsReached, is_kept}
-use Rattle.protocol_laws.proofs.Steps.{on_cond, none_some, same_some}
-use Rattle.protocol_step_laws.proofs.Events.{with_call, HoldsAfter, world_reached}
+use Rattle.protocol.specs.World.{WorldState, new_world, IsReached, is_kept}
+use Rattle.protocol_laws.proofs.Steps.{none_some, same_some}
 use Rattle.protocol_call_laws.proofs.OpenEntries.{config_stays}
 use Rattle.protocol_replica_laws.proofs.Selections.{replicas_are_selections}
 use Rattle.protocol_invariant.specs.Each.{EachEntry, EachPlace}
 use Rattle.protocol_invariant.specs.Explained.{IsShown, Explains}
 use Rattle.protocol_machine_laws.specs.ChunksAlike.{ChunkSides, IsFileAlike, entries_in}
+use Rattle.protocol_whole_laws.specs.ChunkReadings.{AgreeUpTo}
+use Rattle.protocol_whole_laws.specs.ChunksBeside.{AreChunksBeside}
 use Rattle.protocol_whole_laws.proofs.ChunkReadings.{length_of}
-use Rattle.protocol_whole_laws.specs.WholeWorlds.{IsBeside, HasMachine, IsWholeWorld}
-use Rattle.protocol_headline_laws.specs.Explanations.{FilesAreSeen, AreFilesShown, WholeWorldsAreExplained}
+use Rattle.protocol_whole_laws.proofs.ShownChunks.{files_are_seen}
+use Rattle.protocol_whole_laws.specs.WholeWorlds.{IsBeside}
+use Rattle.protocol_headline_laws.specs.Explanations.{WholeWorldsAreExplained}
 
--- while the master is up, its files are shown
+-- each file that is shown has no more chunks than the machine's, and each has the order of the machine's chunk
 
-abbrev AreSeen : WorldState → Type 0
-AreSeen w = IsTrue w.master.up → w.observer.files ≡ w.master.logged.table.files
+abbrev AreFilesShown : WorldState → Machine → Type 0
+AreFilesShown w m =
+    EachEntry w.observer.files (λ file handles. (length handles ≤ chunk_count m file) × EachPlace handles (λ index handle. entries_of w.observer handle ≡ (chunk_at m file index).order))
 
-files_of : (m : MasterState) (before : Table (List ℕ)) → IsTrue m.up → files_seen m before ≡ m.logged.table.files
-files_of m before up = ap (λ (b : Bool). if b then m.logged.table.files else before) up
+no_longer : (xs : List ℕ) (n : ℕ) → ((index x : ℕ) → element_at xs index ≡ Some x → index < n) → length xs ≤ n
+no_longer [] n below = omega arith
+no_longer (x ∷ xs) zero below = let low = below 0 x refl in absurd (omega (arith, low))
+no_longer (x ∷ xs) (suc n) below =
+    let rest = no_longer xs n (λ index y at. let low = below (suc index) y at in omega (arith, low)) in
+    omega (arith, rest)
 
-answer_files : (o : Observer) (client : ℕ) (a : Option Answer) → (observed_answer o client a).files ≡ o.files
-answer_files o client None = refl
-answer_files o client (Some reply) = refl
+-- a round that no entry is after
+past_rounds : List Entry → ℕ
+past_rounds [] = 0
+past_rounds (e ∷ es) = e.round + past_rounds es
 
-seen_on : (w : WorldState) → AreSeen w → HoldsAfter w (λ e x. AreSeen x.world)
-seen_on w h =
-    record {
-      nothing = λ e. h;
-      masters = λ e moment i choice given was up. files_of (master_step w.master moment i choice).state w.observer.files up;
-      opens = λ e moment choice up. files_of (master_restart w.master moment choice).state w.observer.files up;
-      serves = λ e index moment s i choice there given was. h;
-      restarts = λ e index moment s choice there. h;
-      steps = λ e index moment s i choice there given was up. answer_files (observed_moment w.config.skew_ms w.observer moment) (suc index) (client_step s moment i choice).out.answer ∙ h up;
-      calls = λ e index moment s c choice there may up. answer_files (observed_moment w.config.skew_ms (with_call w index moment c).observer moment) (suc index) (client_call s moment c choice).out.answer ∙ h up;
-      rots = λ e index q s x place byte is_kept there held was. h;
-    }
+all_up_to : (n : ℕ) (es : List Entry) → past_rounds es ≤ n → filter (λ (e : Entry). nat_le e.round n) es ≡ es
+unfolding past_rounds
+all_up_to n [] low = refl
+all_up_to n (e ∷ es) low =
+    ap (λ (b : Bool). cond b (e ∷ filter (λ (x : Entry). nat_le x.round n) es) (filter (λ (x : Entry). nat_le x.round n) es)) (le-leb e.round n (omega (arith, low)))
+    ∙ ap (λ (xs : List Entry). e ∷ xs) (all_up_to n es (omega (arith, low)))
 
-pub files_are_seen : FilesAreSeen
-files_are_seen config servers clients w r = world_reached AreSeen seen_on (λ c n m up. refl) config servers clients w r
+same_entries : (order other : List Entry) → ((version : ℕ) → AgreeUpTo version order other) → order ≡ other
+same_entries order other agree =
+    let n : ℕ = past_rounds order + past_rounds other in
+    sym (all_up_to n order (omega arith)) ∙ (agree n ∙ all_up_to n other (omega arith))
+
+files_shown : (config : Config) (w : WorldState) (k : ChunkSides) → AreChunksBeside config w k → AreFilesShown w k.machine
+files_shown config w k h file handles is = (
+  no_longer handles (chunk_count k.machine file) (λ index handle at. ((h.shown file handles is index handle at).1 0).stands.count),
+  λ index handle at.
+      ap (λ (orders : Table (List Placed)). entries_in orders handle) (sym h.orders)
+      ∙ same_entries (entries_in k.orders handle) (chunk_at k.machine file index).order (λ version. ((h.shown file handles is index handle at).1 version).stands.entries),
+)
 
 -- a replica that is shown
 
@@ -107,7 +115,10 @@ module _ (config : Config) (servers clients : ℕ) (w : WorldState) (r : IsReach
   config_is : w.config ≡ config
   config_is = ap (λ (v : WorldState). v.config) (sym r.1) ∙ config_stays config (new_world config servers clients) r.0 refl
 
-  module _ (ss : List PendingSnapshot) (k : ChunkSides) (b : IsBeside config w ss k) (shown : AreFilesShown w k.machine) where
+  module _ (ss : List PendingSnapshot) (k : ChunkSides) (b : IsBeside config w ss k) where
+    shown : AreFilesShown w k.machine
+    shown = files_shown config w k b.chunks
+
     selected : (file index handle place : ℕ) (x : StoredAt) → handle_at w file index ≡ Some handle → element_at (replicas_of w handle) place ≡ Some x → IsSelected k.machine file index x
     selected file index handle place x at there = by_file (table.get w.observer.files file) refl at
       where
@@ -144,33 +155,26 @@ module _ (config : Config) (servers clients : ℕ) (w : WorldState) (r : IsReach
     alike_of : (file : ℕ) (handles : List ℕ) → table.get w.observer.files file ≡ Some handles → IsFileAlike k file handles
     alike_of file handles is = b.chunks.alike.there file handles (ap (λ (t : Table (List ℕ)). table.get t file) (sym files) ∙ is)
 
-    up_files : AreFilesShown w k.machine
-    up_files file handles is =
-        let alike = alike_of file handles is in
-        (subst (λ (n : ℕ). length handles ≤ n) (sym alike.count) (omega arith), λ index handle at. ap (λ (orders : Table (List Placed)). entries_in orders handle) (sym b.chunks.orders) ∙ (alike.chunks index handle at).2.order)
-
     up_shown : IsShown w k.machine
     up_shown =
         record {
           names_are = λ up. sym b.same.names ∙ sym b.named.alike.names ∙ ap (λ (l : Logged). l.names) log_is;
-          counts_are = λ file handles is. ((up_files file handles is).0, λ up. sym (alike_of file handles is).count);
+          counts_are = λ file handles is. ((shown ss k b file handles is).0, λ up. sym (alike_of file handles is).count);
           files_are = λ up n below there.
               ap (λ (t : Table (List ℕ)). table.contains_key t (suc n)) files ∙ b.named.alike.files (suc n)
               ∙ ap (λ (x : Bool). x && nat_le (suc n) b.names.file_count && not (b.names.files (suc n)).is_collected) (lt-ltb 0 (suc n) (omega arith))
               ∙ ap (λ (x : Bool). x && not (b.names.files (suc n)).is_collected) (le-leb (suc n) b.names.file_count (subst (λ (m : ℕ). n < m) (sym b.same.count) below))
               ∙ ap (λ (x : Bool). not x) (b.same.collected (suc n) ∙ there);
-          orders_are = λ file handles is. (up_files file handles is).1;
+          orders_are = λ file handles is. (shown ss k b file handles is).1;
         }
 
 pub whole_worlds_are_explained : WholeWorldsAreExplained
-whole_worlds_are_explained config servers clients w r kept whole shown = by_up w.master.up refl
+whole_worlds_are_explained config servers clients w r kept whole = by_up w.master.up refl
   where
     by_up : (u : Bool) → w.master.up ≡ u → (m : Machine) × Explains w m
     by_up true up =
         let found = whole.state up in
-        explained config servers clients w r kept w.master.snapshots found.0 found.2 (up_files config servers clients w r kept up w.master.snapshots found.0 found.1 found.2)
-        (up_shown config servers clients w r kept up w.master.snapshots found.0 found.1 found.2)
+        explained config servers clients w r kept w.master.snapshots found.0 found.2 (up_shown config servers clients w r kept up w.master.snapshots found.0 found.1 found.2)
     by_up false down =
         let found = whole.log down [] in
-        let files = shown down [] found.0 found.2 in
-        explained config servers clients w r kept [] found.0 found.2 files (down_shown config servers clients w r kept [] found.0 found.2 files down)
+        explained config servers clients w r kept [] found.0 found.2 (down_shown config servers clients w r kept [] found.0 found.2 down)

@@ -7,7 +7,7 @@ pub fn files_are_seen()
     ensures { FilesAreSeen }
 {}
 
-/// The machine beside a world has a run with the world's calls and answers, and agrees with the names, files, orders and replicas that are shown; while the master is down, where the files that are shown then are the machine's.
+/// The machine beside a world has a run with the world's calls and answers, and agrees with the names, files, orders and replicas that are shown, also while the master is down.
 pub fn whole_worlds_are_explained()
     ensures { WholeWorldsAreExplained }
 {}

@@ -28,27 +28,29 @@ use Rattle.protocol_name_laws.specs.FollowedSteps.{IsAtStep, IsOfOpenCall, IsInp
 use Rattle.protocol_name_laws.proofs.OpenRequestsLemmas.{old_or_open_names_are_requests}
 use Rattle.protocol_name_laws.specs.Beside.{lasts, lasting, IsKnown, IsNamesBeside}
 use Rattle.protocol_name_laws.proofs.BesideClientsBeside.{all_fewer, relocked, settings_of, passed_trace}
-use Rattle.std.proofs.Common.{inl, inr}
 use Rattle.relaxed_file.specs.Run.{LeadsTo}
 use Rattle.protocol.specs.World.{happens}
 use Rattle.protocol_name_laws.specs.Beside.{WasSent}
 use Rattle.protocol_name_laws.specs.NameTrails.{log_read, IsBesideLog}
 use Rattle.protocol_name_laws.proofs.FollowedStepsReached.{steps_go_by_records}
 use Rattle.protocol_name_laws.proofs.Worlds.{beside_reached}
-use Rattle.protocol_step_laws.specs.Versions.{IsLeaseOver}
-use Rattle.protocol_machine_laws.specs.ChunksAlike.{ChunkSides, HasRounds}
-use Rattle.protocol_whole_laws.specs.MasterSteps.{Comes, IsCopy, HaveSameFiles}
+use Rattle.protocol_laws.proofs.OrderNumbers.{AllStops}
+use Rattle.protocol_machine_laws.specs.ChunksAlike.{ChunkSides}
+use Rattle.protocol_whole_laws.specs.MasterSteps.{HaveSameFiles}
 use Rattle.protocol_whole_laws.specs.WholeSteps.{AreAskedFor}
+use Rattle.protocol_whole_laws.specs.MastersEvents.{AreCopiesOver}
+use Rattle.protocol_whole_laws.specs.Rounds.{IsEnded}
 use Rattle.protocol_whole_laws.specs.WholeWorlds.{IsBeside}
-use Rattle.protocol_whole_laws.proofs.MasterKept.{copies_may_come_and_go}
+use Rattle.protocol_whole_laws.proofs.EndedRounds.{ended_before}
+use Rattle.protocol_whole_laws.proofs.RecordDues.{steps_log_what_is_due}
 use Rattle.protocol_whole_laws.proofs.WholeLogs.{states_have_their_logs_files}
-use Rattle.protocol_whole_laws.proofs.WholeSteps.{master_steps_are_taken}
+use Rattle.protocol_whole_laws.proofs.WholeSteps.{all_numbered, master_steps_are_taken}
 use Rattle.protocol_whole_laws.specs.MasterSteps.{WholeTrail}
 use Rattle.protocol_name_laws.specs.Followed.{AreKeptOn}
 use Rattle.protocol_name_laws.specs.Followed as followed
 use Rattle.protocol_name_laws.specs.FollowedSteps.{ComesTo}
-use Rattle.protocol_master_laws.specs.MasterEvents.{AreCopiesOver}
-use Rattle.protocol_master_laws.proofs.Arrivals.{passes, here, chunks_here, whole_here}
+use Rattle.protocol_master_laws.proofs.Arrivals.{passes, here, whole_here}
+use Rattle.protocol_master_laws.proofs.Moves.{Moves, moves_nowhere, to_log}
 
 -- the master stays up in its step
 up_keeps : Keeps ⊥ Nothing NoneEnded (λ c. c.up ≡ true)
@@ -155,17 +157,13 @@ module _ (config : Config) (servers clients : ℕ) (w : WorldState) (r : IsReach
     abbrev pub on_disk : ChunkSides
     on_disk = record start { log = log_read w.master.disk }
 
-    pub to_disk : Comes (IsCopy (log_read w.master.disk)) start on_disk n
-    to_disk = copies_may_come_and_go start n (log_read w.master.disk) (whole_here config servers clients w r e choice clocks ss k h moment) same_files
+    abbrev E : ℕ → Type 0
+    E = IsEnded w (happens w e choice).world
 
-    pub rounds_on_disk : HasRounds (IsLeaseOver w) on_disk
-    rounds_on_disk handle version = elim ((chunks_here config servers clients w r e choice clocks ss k h moment).rounds handle version) [
-      | inl over ↦ inl over
-      | inr was_open ↦ elim (to_disk.rounds handle version was_open.0 was_open.1) [
-        | inl copy ↦ inl (copies [] handle copy version)
-        | inr still ↦ inr (was_open.0, still)
-      ]
-    ]
+    pub to_disk : Moves E start on_disk n
+    to_disk =
+        to_log E start start n (log_read w.master.disk) (moves_nowhere E start n (whole_here config servers clients w r e choice clocks ss k h moment)) same_files
+        (λ handle copy. ended_before config servers clients w r e choice clocks handle (copies [] handle copy))
 
     -- the step is followed
     pub record IsTaken : Type 0 where
@@ -175,10 +173,20 @@ module _ (config : Config) (servers clients : ℕ) (w : WorldState) (r : IsReach
       pub beside : followed.IsBeside d later requests
       pub kept_on : AreKeptOn requests w.master.logged.kept d.master.logged.kept
       pub trail : WholeTrail requests n w.master.disk w.master.disk on_disk d.changes later
+      pub numbered : AllStops (λ l. (log_read w.master.disk).next_handle ≤ (log_read l).next_handle) w.master.disk d.changes
 
     pub step_taken : ((m : Machine) → LeadsTo k.machine m → AreAskedFor m w.observer.orders w.master.disk d.changes) → IsTaken
     step_taken asked =
         let orders = h.chunks.orders in
-        let f = master_steps_are_taken config servers clients w r kept up moment i choice.refused n requests on_disk at_step (input_open i refl) refl orders to_disk.whole
+        let f = master_steps_are_taken config servers clients w r kept up moment i choice.refused n requests on_disk at_step (input_open i refl) refl orders to_disk.comes.whole
         (subst (λ x. AreAskedFor start.machine x w.master.disk d.changes) (sym orders) (asked start.machine (passes config servers clients w r e choice clocks ss k h moment).leads)) in
-        record { first = (steps_go_by_records config servers clients w r up moment i choice.refused n requests at_step (input_open i refl)).4; later = f.0; comes = f.1; beside = f.2; kept_on = f.3; trail = f.4 }
+        let by_records = steps_go_by_records config servers clients w r up moment i choice.refused n requests at_step (input_open i refl) in
+        record {
+          first = by_records.4;
+          later = f.0;
+          comes = f.1;
+          beside = f.2;
+          kept_on = f.3;
+          trail = f.4;
+          numbered = all_numbered requests n w.master.disk by_records.0 d.changes w.master.disk n (log_read w.master.disk).next_handle (omega arith) by_records.5 (steps_log_what_is_due config servers clients w r kept up moment i choice.refused);
+        }

@@ -1,4 +1,4 @@
--- Sides that go on: to another log that has the same files, and where a step sends and shows nothing.
+-- Where a step sends and shows nothing.
 use Rattle.std.proofs.Common.{◌≡◌, ℕ, suc, ◌+◌, ◌≤◌, true, max, List, [], ◌++◌, length, sym, ap, subst, ◌∙◌, arith}
 use Rattle.std.specs.Prelude.{◌&&◌, nat_le, IsTrue}
 use Rattle.std.proofs.lemmas.Bool.{and_parts, leb-true}
@@ -17,25 +17,15 @@ use Rattle.protocol.specs.Observer.{orders_after_all}
 use Rattle.protocol.specs.Logged.{Logged}
 use Rattle.protocol.specs.Master.{MasterState, PendingSnapshot}
 use Rattle.protocol.specs.World.{WorldState, IsReached, happens, stamped, after_master}
-use Rattle.protocol_laws.specs.Laws.{grants_of}
+use Rattle.protocol.specs.Tables.{element_at}
+use Rattle.protocol_version_laws.proofs.ExtendLaws.{none_before}
 use Rattle.protocol_name_laws.specs.Beside.{IsNamesBeside}
 use Rattle.protocol_name_laws.proofs.BesideClientsBeside.{passed_trace}
 use Rattle.protocol_machine_laws.specs.ChunksAlike.{ChunkSides}
-use Rattle.protocol_machine_laws.specs.OpenRounds.{NewRoundsAreOpen}
-use Rattle.protocol_whole_laws.specs.MasterSteps.{IsWhole, Comes, IsCopy, HaveSameFiles}
-use Rattle.protocol_whole_laws.specs.Rounds.{IsLogOf, IsEnded}
+use Rattle.protocol_whole_laws.specs.Rounds.{IsLogOf, IsEnded, SentGrantsAreOpen}
 use Rattle.protocol_whole_laws.specs.WholeWorlds.{IsBeside}
-use Rattle.protocol_whole_laws.proofs.EndedRounds.{rounds_go}
-use Rattle.protocol_whole_laws.proofs.MasterKept.{comes_both, copies_may_come_and_go}
-use Rattle.protocol_whole_laws.proofs.MasterNames.{more_end}
-use Rattle.protocol_master_laws.proofs.Arrivals.{passes, here, chunks_here, Arrives}
-
--- the same handles may end
-pub both_come : (E : ℕ → Type 0) (k j i : ChunkSides) (a n : Machine) → Comes E k j a → Comes E j i n → Comes E k i n
-both_come E k j i a n one two = comes_both E E E k j i a n (λ handle over. over) (λ handle over. over) one two
-
-pub to_log : (E : ℕ → Type 0) (k : ChunkSides) (n : Machine) (l : Logged) → IsWhole k n → HaveSameFiles k.log l → ((handle : ℕ) → IsCopy l handle → E handle) → Comes E k (record k { log = l }) n
-to_log E k n l h same over = more_end (IsCopy l) E k (record k { log = l }) n over (copies_may_come_and_go k n l h same)
+use Rattle.protocol_master_laws.proofs.Arrivals.{passes, here, Arrives}
+use Rattle.protocol_master_laws.proofs.Moves.{Moves}
 
 module _ (config : Config) (servers clients : ℕ) (w : WorldState) (r : IsReached config servers clients w) (e : Event) (choice : Choice) (clocks : IsTrue (happens w e choice).world.observer.are_clocks_kept)
     (ss : List PendingSnapshot) (k : ChunkSides) (h : IsBeside config w ss k) (moment : ℕ) (t : Taken MasterState) (same : (happens w e choice).world ≡ (after_master w moment t).world)
@@ -88,20 +78,20 @@ module _ (config : Config) (servers clients : ℕ) (w : WorldState) (r : IsReach
       still_sent : v.sent ≡ w.sent
       still_sent = sent_is ∙ ap (λ (ms : List Message). w.sent ++ stamped (suc (length w.sent)) ms) silent ∙ append-nil w.sent
 
-      none_new : (j : ChunkSides) → NewRoundsAreOpen w v j
-      none_new j handle version before now = let count = ap (λ (ms : List Message). grants_of handle version ms) still_sent in absurd (omega (arith, before, now, count))
+      none_granted : (j : ChunkSides) → SentGrantsAreOpen w v j
+      none_granted j place m order handle version end_moment members from at is = none_before w.sent place m from (ap (λ (ms : List Message). element_at ms place) (sym still_sent) ∙ at)
 
-      pub quiet : (l : Logged) (others : List PendingSnapshot) (j : ChunkSides) (n : Machine) → j.log ≡ l → IsLogOf v.master l → j.orders ≡ k.orders → Comes (IsEnded w v) start j n
+      pub quiet : (l : Logged) (others : List PendingSnapshot) (j : ChunkSides) (n : Machine) → j.log ≡ l → IsLogOf v.master l → j.orders ≡ k.orders → Moves (IsEnded w v) start j n
           → IsNamesBeside config trace greatest w.sent l others n h.requests → ((q : ℕ) → IsLeft ((passes config servers clients w r e choice clocks ss k h moment).names.clients q) (n.clients q))
           → Arrives config servers clients w r e choice clocks ss k h moment l others
-      quiet l others j n log is_log orders comes named left = record {
+      quiet l others j n log is_log orders moves named left = record {
         sides = j;
         names = n;
         log = log;
         is_log = is_log;
         orders = orders ∙ h.chunks.orders ∙ sym (orders_are [] unseen);
-        comes = comes;
-        rounds = rounds_go config servers clients w r e choice clocks start j (chunks_here config servers clients w r e choice clocks ss k h moment).rounds comes.rounds (none_new j);
+        moves = moves;
+        granted = none_granted j;
         named = named_there l others n (subst (λ (ms : List Message). IsNamesBeside config trace greatest ms l others n h.requests) (sym (ap (λ (ms : List Message). w.sent ++ stamped (suc (length w.sent)) ms) silent ∙ append-nil w.sent)) named);
         left = left;
         clients_are = clients_are;

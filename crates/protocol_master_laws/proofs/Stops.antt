@@ -11,35 +11,35 @@ use Rattle.protocol.specs.Tables.{element_at}
 use Rattle.unseen_runs.specs.Laws.{IsLeft}
 use Rattle.protocol.specs.Choice.{Choice, Lost, Stops, decided_changes}
 use Rattle.protocol.specs.Seen.{Taken, no_step}
-use Rattle.protocol.specs.Logged.{Logged, LogDisk, log_changed_by_all, replayed}
+use Rattle.protocol.specs.Logged.{Logged, LogDisk, LogChange, log_changed, log_changed_by_all, replayed}
 use Rattle.protocol.specs.Master.{MasterState, MasterDoing, PendingSnapshot, stopped_master}
 use Rattle.protocol.specs.MasterStep.{master_goes, master_ends}
 use Rattle.protocol.specs.World.{WorldState, IsReached, happens, after_master}
 use Rattle.protocol_laws.proofs.Steps.{none_some}
-use Rattle.protocol_step_laws.specs.Versions.{IsLeaseOver, AreLeasesOver}
+use Rattle.protocol_step_laws.specs.Versions.{AreLeasesOver}
 use Rattle.protocol_step_laws.proofs.LeasesStayOver.{reached_later}
 use Rattle.protocol_name_laws.specs.Alike.{Requests, AreAlike}
 use Rattle.protocol_name_laws.specs.Followed.{AreKeptOn}
 use Rattle.protocol_name_laws.specs.Beside.{lasts, lasting, IsKnown, IsNamesBeside}
 use Rattle.protocol_name_laws.specs.NameTrails.{log_read}
 use Rattle.protocol_name_laws.proofs.BesideClientsBeside.{passed_trace, moved, relogged}
-use Rattle.protocol_machine_laws.specs.ChunksAlike.{ChunkSides, NoneEnds, HasRounds}
-use Rattle.protocol_whole_laws.specs.MasterSteps.{Comes, IsCopy, HaveSameFiles, IsWhole}
-use Rattle.protocol_whole_laws.specs.WholeSteps.{EndsAlong, IsLeftAt}
+use Rattle.protocol_machine_laws.specs.ChunksAlike.{ChunkSides}
+use Rattle.protocol_whole_laws.specs.MasterSteps.{IsCopy, HaveSameFiles}
+use Rattle.protocol_whole_laws.specs.WholeSteps.{EndsAlong, GoesAlong, IsLeftAt}
 use Rattle.protocol_whole_laws.specs.Rounds.{IsEnded, log_as}
 use Rattle.protocol_whole_laws.specs.WholeWorlds.{IsBeside}
-use Rattle.protocol_whole_laws.proofs.EndedRounds.{ended_before}
-use Rattle.protocol_whole_laws.proofs.MasterKept.{stays_whole}
 use Rattle.protocol_whole_laws.proofs.MasterNames.{more_end}
-use Rattle.protocol_whole_laws.proofs.OverRounds.{over_later, stopped_steps_keep_rounds, rounds_that_end_are_over}
+use Rattle.protocol_whole_laws.proofs.OverRounds.{over_later, rounds_that_end_are_over}
+use Rattle.protocol_whole_laws.proofs.WholeStops.{stops_are_taken}
 use Rattle.protocol_whole_laws.proofs.WholeLogs.{states_have_their_logs_files}
-use Rattle.protocol_master_laws.specs.MasterEvents.{AreCopiesOver}
+use Rattle.protocol_whole_laws.specs.MastersEvents.{AreCopiesOver}
+use Rattle.protocol_copy_laws.proofs.GoneHandles.{steps_let_go_what_stood}
 use Rattle.protocol_master_laws.proofs.Arrivals.{passes, here, Arrives, whole_here}
-use Rattle.protocol_master_laws.proofs.Quiet.{both_come, to_log}
+use Rattle.protocol_master_laws.proofs.Moves.{Moves, moves_nowhere, to_log, along}
 use Rattle.protocol_master_laws.proofs.Steps.{still_up, IsTaken}
 use Rattle.protocol_laws.proofs.CopiesUnderWay.{no_copies}
 use Rattle.protocol_laws.proofs.NamesLogged.{log_has_the_names, log_has_the_files}
-use Rattle.protocol_laws.proofs.OrderNumbers.{found_same}
+use Rattle.protocol_laws.proofs.OrderNumbers.{AllStops, found_same, found_stopped}
 use Rattle.protocol_name_laws.specs.FollowedSteps.{log_left}
 use Rattle.name_traces.proofs.Seen.{left_same}
 use Rattle.std.proofs.lemmas.List.{append-nil}
@@ -56,6 +56,11 @@ none_under_way d handle copy = none_some copy.0 (sym (no_copies (log_read d).cop
 -- names stay as copies are given up
 pub given_up_alike : (d : LogDisk) (n : Machine) (requests : Requests) → AreAlike (log_read d) [] n requests → AreAlike (replayed d) [] n requests
 given_up_alike d n requests a = record { names = a.names; next = a.next; files = a.files; kept = a.kept; untaken = a.untaken; locks = a.locks }
+
+-- the last of all stops
+pub last_stop : (P : LogDisk → Type 0) (d : LogDisk) (xs : List LogChange) → AllStops P d xs → P (log_changed_by_all d xs)
+last_stop P d [] h = h
+last_stop P d (x ∷ xs) h = last_stop P (log_changed d x) xs h.1
 
 module _ (config : Config) (servers clients : ℕ) (w : WorldState) (r : IsReached config servers clients w) (kept : IsTrue w.observer.are_clocks_kept) (e : Event) (choice : Choice) (clocks : IsTrue (happens w e choice).world.observer.are_clocks_kept)
     (k : ChunkSides) (h : IsBeside config w w.master.snapshots k) (is : k.log ≡ w.master.logged) (up : IsTrue w.master.up) (moment : ℕ) (timely : max w.observer.greatest moment ≤ moment + w.config.skew_ms)
@@ -85,7 +90,7 @@ module _ (config : Config) (servers clients : ℕ) (w : WorldState) (r : IsReach
     abbrev on_disk : ChunkSides
     on_disk = steps.on_disk config servers clients w r kept e choice clocks k h is up moment timely i heard copies
 
-    abbrev to_disk : Comes (IsCopy (log_read w.master.disk)) start on_disk n
+    abbrev to_disk : Moves (IsEnded w (happens w e choice).world) start on_disk n
     to_disk = steps.to_disk config servers clients w r kept e choice clocks k h is up moment timely i heard copies
 
     abbrev named : IsNamesBeside config trace greatest w.sent w.master.logged ss n h.requests
@@ -100,14 +105,11 @@ module _ (config : Config) (servers clients : ℕ) (w : WorldState) (r : IsReach
     abbrev Here : Logged → List PendingSnapshot → Type 0
     Here l others = Arrives config servers clients w r e choice clocks ss k h moment l others
 
-    first : Comes E start on_disk n
-    first = more_end (IsCopy (log_read w.master.disk)) E start on_disk n (λ handle copy. ended_before config servers clients w r e choice clocks handle (copies [] handle copy)) to_disk
-
     -- a log that is left, without its copies
-    gives_up : (x : ChunkSides) (m : Machine) (left : LogDisk) (decided : List Bool) → log_changed_by_all v.master.disk (decided_changes decided v.master.under_way) ≡ left → x.log ≡ log_read left → IsWhole x m
-        → Comes E x (record x { log = replayed left }) m
-    gives_up x m left decided is_left log whole =
-        to_log E x m (replayed left) whole
+    gives_up : (x : ChunkSides) (m : Machine) (left : LogDisk) (decided : List Bool) → log_changed_by_all v.master.disk (decided_changes decided v.master.under_way) ≡ left → x.log ≡ log_read left → Moves E start x m
+        → Moves E start (record x { log = replayed left }) m
+    gives_up x m left decided is_left log moves =
+        to_log E start x m (replayed left) moves
         (subst (λ (l : Logged). HaveSameFiles l (replayed left)) (sym log)
         (subst (λ (y : LogDisk). HaveSameFiles (log_read y) (replayed y)) is_left ((states_have_their_logs_files config servers clients v reached_then).1 (record choice { decided = decided })).0))
         (λ handle copy. absurd (none_under_way left handle copy))
@@ -116,7 +118,7 @@ module _ (config : Config) (servers clients : ℕ) (w : WorldState) (r : IsReach
     pub unchanged : (same : v ≡ (after_master w moment (no_step w.master)).world) → Here w.master.logged ss
     unchanged same =
         quiet.quiet config servers clients w r e choice clocks ss k h moment (no_step w.master) same refl refl w.master.logged ss start n is (inl (ap (λ (m : MasterState). m.up) (master_is same) ∙ up, sym (ap (λ (m : MasterState). m.logged) (master_is same)))) refl
-        (more_end NoneEnds E start start n (λ handle none. absurd none) (stays_whole start n (whole_here config servers clients w r e choice clocks ss k h moment))) named (λ q. left_same (n.clients q))
+        (moves_nowhere E start n (whole_here config servers clients w r e choice clocks ss k h moment)) named (λ q. left_same (n.clients q))
       where
         master_is : v ≡ (after_master w moment (no_step w.master)).world → v.master ≡ w.master
         master_is same = ap (λ (x : WorldState). x.master) same
@@ -131,15 +133,15 @@ module _ (config : Config) (servers clients : ℕ) (w : WorldState) (r : IsReach
         let log_is : replayed w.master.disk ≡ log_as v.master decided = sym (ap replayed left_is) in
         let names = log_has_the_names config servers clients w r up in
         let down : v.master.up ≡ false = ap (λ (m : MasterState). m.up) master_is in
-        let second : Comes E on_disk (record on_disk { log = replayed w.master.disk }) n = gives_up on_disk n w.master.disk decided left_is refl to_disk.whole in
+        let moves : Moves E start (record on_disk { log = replayed w.master.disk }) n = gives_up on_disk n w.master.disk decided left_is refl to_disk in
         subst (λ (l : Logged). Here l []) log_is
         (quiet.quiet config servers clients w r e choice clocks ss k h moment t same refl refl (replayed w.master.disk) [] (record on_disk { log = replayed w.master.disk }) n refl (inr (down, decided, log_is)) refl
-        (both_come E start on_disk (record on_disk { log = replayed w.master.disk }) n n first second)
+        moves
         (relogged config trace greatest w.sent w.master.logged ss n h.requests named (replayed w.master.disk) names.0 names.1 (log_has_the_files config servers clients w r up) names.4) (λ q. left_same (n.clients q)))
 
     -- it stops in the step
 
-    module _ (event : over.IsMastersEvent w e moment i) (taken : IsTaken config servers clients w r kept e choice clocks k h is up moment timely i heard copies) (made : ℕ) (ends : choice.ending ≡ Stops made)
+    module _ (event : over.IsMastersEvent w e moment i) (taken : IsTaken config servers clients w r kept e choice clocks k h is up moment timely i heard copies) (made : ℕ)
         (same : v ≡ (after_master w moment (master_ends w.master d choice (Stops made))).world) (decided : List Bool)
       where
         abbrev t : Taken MasterState
@@ -151,12 +153,8 @@ module _ (config : Config) (servers clients : ℕ) (w : WorldState) (r : IsReach
         passed_clocks : IsTrue (over.passed w moment).observer.are_clocks_kept
         passed_clocks = sym (ap (λ (x : WorldState). x.observer.are_clocks_kept) same) ∙ clocks
 
-        stopped : (x : IsLeftAt h.requests n w.master.disk on_disk (EndsAlong w.master.disk d.changes) left) × HasRounds (IsLeaseOver v) x.sides
-        stopped = stopped_steps_keep_rounds config servers clients w r up e moment i event passed_clocks choice made ends h.requests on_disk n taken.later to_disk.whole taken.first refl
-            (steps.rounds_on_disk config servers clients w r kept e choice clocks k h is up moment timely i heard copies) taken.trail decided
-
-        abbrev found : IsLeftAt h.requests n w.master.disk on_disk (EndsAlong w.master.disk d.changes) left
-        found = stopped.0
+        found : IsLeftAt h.requests n w.master.disk on_disk (EndsAlong w.master.disk d.changes) (GoesAlong w.master.disk d.changes) left
+        found = stops_are_taken h.requests n w.master.disk w.master.disk d.changes on_disk n taken.later to_disk.comes.whole taken.first refl taken.trail made decided
 
         over_then : (handle : ℕ) → AreLeasesOver (over.passed w moment) handle → AreLeasesOver v handle
         over_then handle ended =
@@ -164,9 +162,16 @@ module _ (config : Config) (servers clients : ℕ) (w : WorldState) (r : IsReach
             let sent : v.sent ≡ w.sent = ap (λ (x : WorldState). x.sent) same ∙ append-nil w.sent in
             over_later (over.passed w moment) v (ap (λ (x : WorldState). x.servers) same) (omega (arith, later)) (λ place m at. ap (λ (ms : List Message). element_at ms place) (sym sent) ∙ at) handle ended
 
-        second : Comes E on_disk found.sides found.names
-        second = more_end (EndsAlong w.master.disk d.changes) E on_disk found.sides found.names
-            (λ handle ended version granted. over_then handle (rounds_that_end_are_over config servers clients w r up e moment i event passed_clocks choice handle ended) version) found.comes
+        numbered : (log_read w.master.disk).next_handle ≤ found.sides.log.next_handle
+        numbered = subst (λ (l : Logged). (log_read w.master.disk).next_handle ≤ l.next_handle) (sym found.log)
+            (found_stopped (λ l. (log_read w.master.disk).next_handle ≤ (log_read l).next_handle) w.master.disk d.changes made taken.numbered decided)
+
+        second : Moves E start found.sides found.names
+        second =
+            along E start found.sides n found.names (log_read w.master.disk) to_disk
+            (more_end (EndsAlong w.master.disk d.changes) E on_disk found.sides found.names
+            (λ handle ended version granted. over_then handle (rounds_that_end_are_over config servers clients w r up e moment i event passed_clocks choice handle ended) version) found.comes)
+            numbered (steps_let_go_what_stood config servers clients w r kept up moment i choice.refused k found.sides is found.gone)
 
         master_is : v.master ≡ t.state
         master_is = ap (λ (x : WorldState). x.master) same
@@ -174,8 +179,8 @@ module _ (config : Config) (servers clients : ℕ) (w : WorldState) (r : IsReach
         left_is : log_changed_by_all v.master.disk (decided_changes decided v.master.under_way) ≡ left
         left_is = ap (λ (m : MasterState). log_changed_by_all m.disk (decided_changes decided m.under_way)) master_is
 
-        third : Comes E found.sides (record found.sides { log = replayed left }) found.names
-        third = gives_up found.sides found.names left decided left_is found.log found.comes.whole
+        third : Moves E start (record found.sides { log = replayed left }) found.names
+        third = gives_up found.sides found.names left decided left_is found.log second
 
         kept_on : AreKeptOn h.requests w.master.logged.kept (replayed left).kept
         kept_on = subst (λ x. AreKeptOn h.requests x (replayed left).kept) (sym (log_has_the_names config servers clients w r up).4) found.beside.kept_on
@@ -189,4 +194,4 @@ module _ (config : Config) (servers clients : ℕ) (w : WorldState) (r : IsReach
             subst (λ (l : Logged). Here l []) (sym (ap replayed left_is))
             (quiet.quiet config servers clients w r e choice clocks ss k h moment t same refl refl (replayed left) [] (record found.sides { log = replayed left }) found.names refl
             (inr (ap (λ (m : MasterState). m.up) master_is, decided, sym (ap replayed left_is))) found.orders
-            (both_come E start found.sides (record found.sides { log = replayed left }) found.names found.names (both_come E start on_disk found.sides n found.names first second) third) after_it.0 after_it.1)
+            third after_it.0 after_it.1)

@@ -2,6 +2,8 @@ pub mod Arrivals
 pub mod Goings
 pub mod KeptEntries
 pub mod MasterEvents
+pub mod Moves
+pub mod OrdersStay
 pub mod Quiet
 pub mod Restarts
 pub mod Steps

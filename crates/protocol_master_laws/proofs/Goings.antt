@@ -1,10 +1,13 @@
 -- Where a step of the master goes through, the whole machine is beside the master's state after it.
-use Rattle.std.proofs.Common.{◌≡◌, ℕ, zero, suc, ◌+◌, ◌≤◌, true, max, List, [], ◌∷◌, ◌++◌, length, Some, refl, sym, ap, subst, ◌∙◌, inl, inr}
+use Rattle.std.proofs.Common.{◌≡◌, ℕ, zero, suc, ◌+◌, ◌≤◌, true, max, List, [], ◌∷◌, ◌++◌, length, Option, Some, refl, sym, ap, subst, ◌∙◌, inl, inr, arith}
 use Rattle.std.specs.Prelude.{IsTrue}
 use Rattle.std.specs.List.{AllByRecursion}
 use Rattle.std.specs.FinMap as table
 use Rattle.gfs_types.specs.declared.config.Config.{Config}
 use Rattle.gfs_types.specs.declared.ids.Handle.{Handle}
+use Rattle.gfs_types.specs.declared.ids.Moment.{Moment}
+use Rattle.gfs_types.specs.declared.ids.OrderNo.{OrderNo}
+use Rattle.gfs_types.specs.declared.ids.Version.{Version}
 use Rattle.messages.specs.declared.event.Event.{Event}
 use Rattle.messages.specs.declared.event.Input.{Input}
 use Rattle.messages.specs.declared.event.Input.TheVariants as input
@@ -25,17 +28,16 @@ use Rattle.protocol.specs.Logged.{Logged, KeptCall, log_changed_by_all}
 use Rattle.protocol.specs.Master.{MasterState, MasterDoing, PendingSnapshot}
 use Rattle.protocol.specs.MasterStep.{master_goes, master_ends, master_step}
 use Rattle.protocol.specs.World.{WorldState, IsReached, happens, stamped, after_master}
-use Rattle.protocol_laws.specs.Laws.{times_in}
+use Rattle.protocol_laws.specs.Laws.{times_in, grants_of, is_grant}
 use Rattle.protocol_laws.proofs.Steps.{none_some, same_some}
 use Rattle.protocol_laws.proofs.MembersRecorded.{all_at}
-use Rattle.protocol_laws.proofs.MessagesSent.{IsSent, ordered_sent}
+use Rattle.protocol_laws.proofs.MessagesSent.{IsSent, IsSameMessage, ordered_sent}
 use Rattle.protocol_laws.proofs.MasterMoves.{NoneEnded}
 use Rattle.protocol_laws.proofs.MasterSteps.{no_input, goes_named}
 use Rattle.protocol_laws.proofs.CountsLogged.{IsFoundCounts, IsCountedLog}
 use Rattle.protocol_laws.proofs.CountsKept.{counts_kept}
 use Rattle.protocol_laws.proofs.NamesReached.{IsNaming, naming_keeps, IsUpToLog, logged_here}
 use Rattle.protocol_laws.proofs.SentReached.{sent_reached}
-use Rattle.protocol_step_laws.specs.Versions.{IsLeaseOver, AreLeasesOver}
 use Rattle.protocol_step_laws.proofs.LeasesStayOver.{reached_later}
 use Rattle.protocol_step_laws.proofs.WaitsKept.{IsOfWaits, waits_kept}
 use Rattle.protocol_entry_laws.proofs.CopiesBegun.{ShowsCopy, ShowsLittle, step_shows}
@@ -48,22 +50,29 @@ use Rattle.protocol_name_laws.specs.NameTrails.{log_read}
 use Rattle.protocol_name_laws.proofs.LocksAndFiles.{locks_go_back}
 use Rattle.protocol_name_laws.proofs.NameWords.{IsUnasked, master_asks_nothing}
 use Rattle.protocol_name_laws.proofs.BesideClientsBeside.{passed_trace, moved, says_more}
-use Rattle.protocol_machine_laws.specs.ChunksAlike.{ChunkSides, KeepsChunks, NoneEnds, HasRounds}
+use Rattle.protocol_invariant.specs.Actions.{Spot}
+use Rattle.protocol_machine_laws.specs.ChunksAlike.{ChunkSides, IsRoundOpen, KeepsChunks, NoneEnds}
 use Rattle.protocol_machine_laws.proofs.Orders.{copies_begin_unseen}
-use Rattle.protocol_whole_laws.specs.MasterSteps.{Comes, IsCopy, HaveSameFiles}
-use Rattle.protocol_whole_laws.specs.WholeSteps.{EndsAlong}
+use Rattle.protocol_whole_laws.specs.MasterSteps.{Comes, IsCopy, AreGoneBy, HaveSameFiles}
+use Rattle.protocol_whole_laws.specs.WholeSteps.{EndsAlong, GoesAlong, AreRoundsOpened}
 use Rattle.protocol_whole_laws.specs.OverRounds as over
 use Rattle.protocol_whole_laws.specs.Rounds.{IsEnded}
 use Rattle.protocol_whole_laws.specs.WholeWorlds.{IsBeside}
-use Rattle.protocol_whole_laws.proofs.EndedRounds.{ungranted_is_over, ended_before}
+use Rattle.protocol_whole_laws.proofs.EndedRounds.{some_grant, its_grant, ungranted_is_over, ended_before}
 use Rattle.protocol_whole_laws.proofs.MasterKept.{copies_may_come_and_go, apart_stands, no_round}
 use Rattle.protocol_whole_laws.proofs.MasterNames.{more_end}
-use Rattle.protocol_whole_laws.proofs.OverRounds.{rounds_that_end_stay_over, steps_keep_rounds}
+use Rattle.protocol_whole_laws.proofs.OverRounds.{rounds_that_end_stay_over, open_at_end}
+use Rattle.protocol_whole_laws.proofs.GrantsLast.{grants_are_last}
+use Rattle.protocol_whole_laws.proofs.SentGrants.{sent_grants_are_logged}
+use Rattle.protocol_whole_laws.proofs.WholeStops.{ends_are_reached}
+use Rattle.protocol_version_laws.proofs.ExtendLaws.{new_one}
 use Rattle.protocol_whole_laws.proofs.WholeLogs.{states_have_their_logs_files}
-use Rattle.protocol_master_laws.specs.MasterEvents.{AreCopiesOver}
+use Rattle.protocol_whole_laws.specs.MastersEvents.{AreCopiesOver}
+use Rattle.protocol_copy_laws.proofs.GoneHandles.{steps_let_go_what_stood}
 use Rattle.protocol_master_laws.proofs.Arrivals.{passes, here, Arrives}
 use Rattle.protocol_master_laws.proofs.Quiet as quiet
-use Rattle.protocol_master_laws.proofs.Quiet.{both_come}
+use Rattle.protocol_master_laws.proofs.Moves.{Moves, both_come, to_log, along}
+use Rattle.protocol_master_laws.proofs.Stops.{last_stop}
 use Rattle.protocol_master_laws.proofs.Steps as steps
 use Rattle.protocol_master_laws.proofs.Steps.{still_up, IsTaken}
 
@@ -114,7 +123,7 @@ module _ (config : Config) (servers clients : ℕ) (w : WorldState) (r : IsReach
     abbrev on_disk : ChunkSides
     on_disk = steps.on_disk config servers clients w r kept e choice clocks k h is up moment timely i heard copies
 
-    abbrev to_disk : Comes (IsCopy (log_read w.master.disk)) start on_disk n
+    abbrev to_disk : Moves (IsEnded w (happens w e choice).world) start on_disk n
     to_disk = steps.to_disk config servers clients w r kept e choice clocks k h is up moment timely i heard copies
 
     master_is : v.master ≡ d.master
@@ -132,22 +141,26 @@ module _ (config : Config) (servers clients : ℕ) (w : WorldState) (r : IsReach
     abbrev E : ℕ → Type 0
     E = IsEnded w v
 
-    goes : (j : ChunkSides) × (j.log ≡ log_read (log_changed_by_all w.master.disk d.changes)) × (j.orders ≡ on_disk.orders) × Comes (EndsAlong w.master.disk d.changes) on_disk j taken.later × HasRounds (IsLeaseOver v) j
-    goes = steps_keep_rounds config servers clients w r up e moment i event passed_clocks choice ends long was h.requests on_disk n taken.later to_disk.whole refl
-        (steps.rounds_on_disk config servers clients w r kept e choice clocks k h is up moment timely i heard copies) taken.trail
+    -- along the changes of the step
+    end : (j : ChunkSides) × (j.log ≡ log_read (log_changed_by_all w.master.disk d.changes)) × (j.orders ≡ on_disk.orders) × Comes (EndsAlong w.master.disk d.changes) on_disk j taken.later × AreRoundsOpened w.master.disk d.changes j
+        × AreGoneBy (GoesAlong w.master.disk d.changes) on_disk j
+    end = ends_are_reached h.requests n w.master.disk w.master.disk d.changes on_disk n taken.later to_disk.comes.whole refl taken.trail
 
     abbrev j : ChunkSides
-    j = goes.0
+    j = end.0
 
-    first : Comes E start on_disk n
-    first = more_end (IsCopy (log_read w.master.disk)) E start on_disk n (λ handle copy. ended_before config servers clients w r e choice clocks handle (copies [] handle copy)) to_disk
+    numbered : (log_read w.master.disk).next_handle ≤ j.log.next_handle
+    numbered = subst (λ (l : Logged). (log_read w.master.disk).next_handle ≤ l.next_handle) (sym end.1) (last_stop (λ l. (log_read w.master.disk).next_handle ≤ (log_read l).next_handle) w.master.disk d.changes taken.numbered)
 
-    second : Comes E on_disk j taken.later
-    second = more_end (EndsAlong w.master.disk d.changes) E on_disk j taken.later
+    second : Moves E start j taken.later
+    second =
+        along E start j n taken.later (log_read w.master.disk) to_disk
+        (more_end (EndsAlong w.master.disk d.changes) E on_disk j taken.later
         (λ handle ended. elim (rounds_that_end_stay_over config servers clients w r up e moment i event passed_clocks choice ends handle ended) [
           | inl before ↦ ended_before config servers clients w r e choice clocks handle before
           | inr after ↦ λ version granted. after version
-        ]) goes.3
+        ]) end.3)
+        numbered (steps_let_go_what_stood config servers clients w r kept up moment i choice.refused k j is end.5)
 
     -- back to the state
 
@@ -165,43 +178,67 @@ module _ (config : Config) (servers clients : ℕ) (w : WorldState) (r : IsReach
     from_state : HaveSameFiles d.master.logged (log_read d.master.disk)
     from_state = subst (λ (m : MasterState). HaveSameFiles m.logged (log_read m.disk)) master_is ((states_have_their_logs_files config servers clients v reached_then).0 up_then).0
 
-    copy_over : (handle : ℕ) → IsCopy d.master.logged handle → AreLeasesOver v handle
-    copy_over handle copy version =
+    not_granted : (handle : ℕ) → IsCopy d.master.logged handle → (version : ℕ) → grants_of handle version v.sent ≡ 0
+    not_granted handle copy version =
         let there : table.get v.master.logged.copies handle ≡ Some copy.0 = ap (λ (m : MasterState). table.get m.logged.copies handle) master_is ∙ copy.1 in
-        ungranted_is_over config servers clients v reached_then handle version ((copies_under_way_are_not_granted config servers clients v reached_then clocks up_then handle copy.0 there).granted version)
+        (copies_under_way_are_not_granted config servers clients v reached_then clocks up_then handle copy.0 there).granted version
+
+    to_state : HaveSameFiles j.log d.master.logged
+    to_state = subst (λ (l : Logged). HaveSameFiles l d.master.logged) (sym (end.1 ∙ ap log_read disk_is)) same_files
 
     back : Comes (IsCopy d.master.logged) j (record j { log = d.master.logged }) taken.later
-    back = copies_may_come_and_go j taken.later d.master.logged goes.3.whole
-        (subst (λ (l : Logged). HaveSameFiles l d.master.logged) (sym (goes.1 ∙ ap log_read disk_is)) same_files)
+    back = copies_may_come_and_go j taken.later d.master.logged end.3.whole to_state
 
     abbrev js : ChunkSides
     js = record j { log = d.master.logged }
 
-    third : Comes E j js taken.later
-    third = more_end (IsCopy d.master.logged) E j js taken.later (λ handle copy version granted. copy_over handle copy version) back
+    third : Moves E start js taken.later
+    third = to_log E start j taken.later d.master.logged second to_state (λ handle copy version granted. ungranted_is_over config servers clients v reached_then handle version (not_granted handle copy version))
 
-    rounds_js : HasRounds (IsLeaseOver v) js
-    rounds_js handle version = elim (goes.4 handle version) [
-      | inl ended ↦ inl ended
-      | inr was_open ↦ elim (back.rounds handle version was_open.0 was_open.1) [ inl copy ↦ inl (copy_over handle copy version) | inr still ↦ inr (was_open.0, still) ]
-    ]
+    -- what is granted is open
+    module _ (place : ℕ) (m : Message) (order : OrderNo) (handle : Handle) (version : Version) (end_moment : Moment) (members : List ℕ) (from : length w.sent ≤ place) (at : element_at v.sent place ≡ Some m)
+        (grants : m.body ≡ body.Grant order handle version end_moment members) where
+      new : (x : Message) × IsSent (in_order choice.order d.sent) x × IsSameMessage x m
+      new = new_one w.sent (in_order choice.order d.sent) (suc (length w.sent)) place m from
+          (ap (λ (ms : List Message). element_at ms place) (sym (quiet.sent_is config servers clients w r e choice clocks ss k h moment t same)) ∙ at)
+
+      sent_there : IsSent d.sent new.0
+      sent_there = ordered_sent choice.order d.sent new.0 new.1
+
+      sent_now : 1 ≤ grants_of handle.0 version.0 d.sent
+      sent_now = some_grant handle.0 version.0 d.sent sent_there.0 new.0 sent_there.1 (ap (is_grant handle.0 version.0) ((new.2).2 ∙ grants) ∙ its_grant handle.0 version.0)
+
+      open_then : (s : Spot) × IsRoundOpen j handle.0 version.0 s
+      open_then = open_at_end j handle.0 version.0 d.changes w.master.disk end.4 (grants_are_last config servers clients w r kept up long moment i was choice.refused)
+          (sent_grants_are_logged config servers clients w r up moment i choice.refused handle.0 version.0 sent_now)
+
+      no_copy : IsCopy d.master.logged handle.0 → ⊥
+      no_copy copy =
+          let none = not_granted handle.0 copy version.0 in
+          let some = some_grant handle.0 version.0 v.sent place m at (ap (is_grant handle.0 version.0) grants ∙ its_grant handle.0 version.0) in
+          omega (arith, none, some)
+
+      open_back : (s : Spot) × IsRoundOpen js handle.0 version.0 s
+      open_back = elim (back.rounds handle.0 version.0 open_then.0 open_then.1) [ inl copy ↦ absurd (no_copy copy) | inr still ↦ (open_then.0, still) ]
 
     -- the orders that are seen
     record IsShownAt : Type 0 where
       last : ChunkSides
       log : last.log ≡ d.master.logged
       orders : last.orders ≡ v.observer.orders
+      gone : last.gone ≡ js.gone
       comes : Comes NoneEnds js last taken.later
 
     orders_before : js.orders ≡ w.observer.orders
-    orders_before = goes.2 ∙ h.chunks.orders
+    orders_before = end.2 ∙ h.chunks.orders
 
     shown_nothing : t.seen ≡ [] → IsShownAt
     shown_nothing none = record {
       last = js;
       log = refl;
       orders = orders_before ∙ sym (quiet.orders_are config servers clients w r e choice clocks ss k h moment t same [] none);
-      comes = record { actions = []; lawful = tt; leads = refl; unseen = refl; of_master = refl; rounds = λ handle version s was_open. inr was_open; whole = back.whole };
+      gone = refl;
+      comes = record { actions = []; lawful = tt; leads = refl; unseen = refl; places = refl; of_master = refl; rounds = λ handle version s was_open. inr was_open; whole = back.whole };
     }
 
     shown_copy : ShowsCopy w.master t → IsShownAt
@@ -216,11 +253,13 @@ module _ (config : Config) (servers clients : ℕ) (w : WorldState) (r : IsReach
           log = refl;
           orders = ap (λ (o : Table (List Placed)). orders_after trace o (CopyStarted (handle_of s.source) (handle_of s.copy))) orders_before
               ∙ sym (quiet.orders_are config servers clients w r e choice clocks ss k h moment t same (CopyStarted (handle_of s.source) (handle_of s.copy) ∷ []) s.seen);
+          gone = refl;
           comes = record {
             actions = [];
             lawful = tt;
             leads = refl;
             unseen = refl;
+            places = refl;
             of_master = refl;
             rounds = λ handle version spot was_open. elim (kept_chunks.rounds handle version spot was_open) [
               | inl it ↦ absurd (no_round d.master.logged (IsCopy d.master.logged) apart js refl handle version spot was_open (subst (λ (q : ℕ). IsCopy d.master.logged q) (sym it) copy) (from_state.rows handle (subst (λ (q : ℕ). IsCopy d.master.logged q) (sym it) copy)))
@@ -266,12 +305,14 @@ module _ (config : Config) (servers clients : ℕ) (w : WorldState) (r : IsReach
       log = shown.log;
       is_log = inl (up_then, sym (ap (λ (m : MasterState). m.logged) master_is));
       orders = shown.orders;
-      comes = both_come E start j shown.last taken.later taken.later (both_come E start on_disk j n taken.later first second)
-          (both_come E j js shown.last taken.later taken.later third (more_end NoneEnds E js shown.last taken.later (λ handle none. absurd none) shown.comes));
-      rounds = λ handle version. elim (rounds_js handle version) [
-        | inl ended ↦ inl ended
-        | inr was_open ↦ elim (shown.comes.rounds handle version was_open.0 was_open.1) [ inl none ↦ absurd none | inr still ↦ inr (was_open.0, still) ]
-      ];
+      moves = record {
+        comes = both_come E start js shown.last taken.later taken.later third.comes (more_end NoneEnds E js shown.last taken.later (λ handle none. absurd none) shown.comes);
+        next = subst (λ (l : Logged). start.log.next_handle ≤ l.next_handle) (sym shown.log) third.next;
+        gone = λ handle s stood. third.gone handle s (ap (λ (f : ℕ → Option Spot). f handle) (sym shown.gone) ∙ stood);
+      };
+      granted = λ place m order handle version end_moment members from at grants.
+          let was_open = open_back place m order handle version end_moment members from at grants in
+          elim (shown.comes.rounds handle.0 version.0 was_open.0 was_open.1) [ inl none ↦ absurd none | inr still ↦ (was_open.0, still) ];
       named = quiet.named_there config servers clients w r e choice clocks ss k h moment t same d.master.logged d.master.snapshots taken.later named_after;
       left = after_it.1;
       clients_are = quiet.clients_are config servers clients w r e choice clocks ss k h moment t same;

@@ -27,13 +27,15 @@ use Rattle.protocol_name_laws.specs.FollowedSteps.{opened}
 use Rattle.protocol_machine_laws.specs.ChunksAlike.{ChunkSides}
 use Rattle.protocol_invariant.specs.Explained.{AreSettings}
 use Rattle.protocol_whole_laws.specs.OverRounds as over
-use Rattle.protocol_whole_laws.specs.Rounds.{log_as, IsMastersInput, IsEnded}
+use Rattle.protocol_whole_laws.specs.Rounds.{log_as, IsMastersInput}
 use Rattle.protocol_whole_laws.specs.ChunksBeside.{IsMastersEvent}
-use Rattle.protocol_whole_laws.specs.MasterSteps.{Comes}
+use Rattle.protocol_whole_laws.specs.MasterSteps.{HaveSameFiles}
+use Rattle.protocol_whole_laws.specs.MastersEvents.{AreOffersSo}
 use Rattle.protocol_whole_laws.specs.WholeWorlds.{IsBeside, HasMachine, IsWholeWorld}
 use Rattle.protocol_whole_laws.proofs.OverRounds.{masters_events_are_steps}
-use Rattle.protocol_master_laws.specs.MasterEvents.{AreOffersSo, AreMastersTrue, MastersEventsKeepWorldsWhole}
-use Rattle.protocol_master_laws.proofs.Arrivals.{passes, here, Arrives, arrived}
+use Rattle.protocol_master_laws.specs.MasterEvents.{AreMastersTrue, MastersEventsKeepWorldsWhole}
+use Rattle.protocol_name_laws.specs.NameTrails.{log_read}
+use Rattle.protocol_master_laws.proofs.Arrivals.{Arrives, arrived}
 use Rattle.protocol_master_laws.proofs.Quiet as quiet
 use Rattle.protocol_master_laws.proofs.Steps.{still_up, IsTaken, step_taken}
 use Rattle.protocol_master_laws.proofs.Goings.{went}
@@ -144,7 +146,7 @@ abbrev shut_as : MasterState → MasterDoing → Taken MasterState
 shut_as old d = record { state = stopped_master old d.master.disk []; out = down_output; seen = [] }
 
 module _ (config : Config) (servers clients : ℕ) (w : WorldState) (settings : AreSettings config) (r : IsReached config servers clients w) (kept : IsTrue w.observer.are_clocks_kept) (e : Event) (choice : Choice)
-    (clocks : IsTrue (happens w e choice).world.observer.are_clocks_kept) (asks : AreMastersTrue config w (happens w e choice).world e choice) (whole : IsWholeWorld config w)
+    (clocks : IsTrue (happens w e choice).world.observer.are_clocks_kept) (masters : IsMastersEvent w e) (asks : AreMastersTrue config w (happens w e choice).world e choice) (whole : IsWholeWorld config w)
   where
     abbrev v : WorldState
     v = (happens w e choice).world
@@ -160,10 +162,10 @@ module _ (config : Config) (servers clients : ℕ) (w : WorldState) (settings : 
 
     silently : (ss : List PendingSnapshot) (k : ChunkSides) (h : IsBeside config w ss k) (moment : ℕ) (l : Logged) (others : List PendingSnapshot) → v.sent ≡ w.sent → Arrives config servers clients w r e choice clocks ss k h moment l others
         → HasMachine config v l others
-    silently ss k h moment l others still a = arrived config servers clients w r e choice clocks ss k h moment l others a (λ j leads run chunks files. no_offers still j.machine)
+    silently ss k h moment l others still a = arrived config servers clients w r e choice clocks ss k h moment kept masters asks.holders l others a (λ j leads run chunks has files. no_offers still j.machine)
 
     arrives : (moment0 : ℕ) (i : Input) → IsMastersInput w e moment0 i → IsTrue w.master.up → choice.ending ≡ Goes → (ss : List PendingSnapshot) (k : ChunkSides) (h : IsBeside config w ss k) (moment : ℕ) (l : Logged) (others : List PendingSnapshot) → Arrives config servers clients w r e choice clocks ss k h moment l others → HasMachine config v l others
-    arrives moment0 i given up ends ss k h moment l others a = arrived config servers clients w r e choice clocks ss k h moment l others a (λ j. asks.offers moment0 i given up ends ss k j h)
+    arrives moment0 i given up ends ss k h moment l others a = arrived config servers clients w r e choice clocks ss k h moment kept masters asks.holders l others a (λ j. asks.offers moment0 i given up ends ss k j h)
 
     abbrev At : MasterState → Type 0
     At m = HasMachine config v m.logged m.snapshots
@@ -223,7 +225,7 @@ module _ (config : Config) (servers clients : ℕ) (w : WorldState) (settings : 
           whole_down (ap (λ (x : WorldState). x.master.up) same)
           (λ decided.
           silently w.master.snapshots k h s.moment (log_as v.master decided) [] (ap (λ (y : WorldState). y.sent) same ∙ append-nil w.sent)
-          (stops.stops config servers clients w r kept e choice clocks k h is s.up s.moment timely s.taken s.heard asks.copies s.event_is step made ends same decided))
+          (stops.stops config servers clients w r kept e choice clocks k h is s.up s.moment timely s.taken s.heard asks.copies s.event_is step made same decided))
 
       by_limits : (b : Bool) → may_end d choice.ending ≡ b → IsWholeWorld config v
       by_limits true may = by_ending choice.ending refl (bounded ∙ ap (λ (b : Bool). cond b (goes_through choice.ending) (no_step w.master)) may)
@@ -249,8 +251,7 @@ module _ (config : Config) (servers clients : ℕ) (w : WorldState) (settings : 
         ss : List PendingSnapshot
         k : ChunkSides
         h : IsBeside config w ss k
-        to_found : Comes (IsEnded w v) (here config servers clients w r e choice clocks ss k h x.moment) (restarts.on_found config servers clients w r e choice clocks ss k h x.moment asks.copies decided)
-            (passes config servers clients w r e choice clocks ss k h x.moment).names
+        same_files : HaveSameFiles k.log (log_read (found_by decided))
         named : restarts.Named config servers clients w r e choice clocks ss k h x.moment asks.copies decided (found_by decided)
 
       starts : (decided : List Bool) → StartsAt decided
@@ -263,7 +264,7 @@ module _ (config : Config) (servers clients : ℕ) (w : WorldState) (settings : 
                 ss = w.master.snapshots;
                 k = from.0;
                 h = from.2;
-                to_found = restarts.up_found config servers clients w r e choice clocks w.master.snapshots from.0 from.2 x.moment asks.copies decided up from.1;
+                same_files = restarts.up_found config servers clients w r e choice clocks w.master.snapshots from.0 from.2 x.moment asks.copies decided up from.1;
                 named = restarts.up_named config servers clients w r e choice clocks w.master.snapshots from.0 from.2 x.moment asks.copies decided up from.1;
               }
           by_up false down =
@@ -272,7 +273,7 @@ module _ (config : Config) (servers clients : ℕ) (w : WorldState) (settings : 
                 ss = [];
                 k = from.0;
                 h = from.2;
-                to_found = restarts.down_found config servers clients w r e choice clocks [] from.0 from.2 x.moment asks.copies decided from.1 refl;
+                same_files = restarts.down_found config servers clients w r e choice clocks [] from.0 from.2 x.moment asks.copies decided from.1 refl;
                 named = restarts.down_named config servers clients w r e choice clocks [] from.0 from.2 x.moment asks.copies decided from.1 refl;
               }
 
@@ -295,10 +296,10 @@ module _ (config : Config) (servers clients : ℕ) (w : WorldState) (settings : 
       opens_it true has is =
           let same = by_restart (opened_as o) (is ∙ ap (λ (b : Bool). cond b (opened_as o) (shut_as w.master o)) has) in
           let master_is : v.master ≡ o.master = ap (λ (y : WorldState). y.master) same in
-          whole_up (ap (λ (m : MasterState). m.up) master_is ∙ restarts.open_up config servers clients w r e choice clocks s.ss s.k s.h x.moment asks.copies choice.decided s.to_found s.named refl (opened_as o) same refl refl)
+          whole_up (ap (λ (m : MasterState). m.up) master_is ∙ restarts.open_up config servers clients w r e choice clocks s.ss s.k s.h x.moment asks.copies choice.decided s.same_files s.named refl (opened_as o) same refl refl)
           (subst At (sym master_is)
           (silently s.ss s.k s.h x.moment o.master.logged o.master.snapshots (ap (λ (y : WorldState). y.sent) same ∙ append-nil w.sent)
-          (restarts.running config servers clients w r e choice clocks s.ss s.k s.h x.moment asks.copies choice.decided s.to_found s.named refl (opened_as o) same refl refl master_is)))
+          (restarts.running config servers clients w r e choice clocks s.ss s.k s.h x.moment asks.copies choice.decided s.same_files s.named refl (opened_as o) same refl refl master_is)))
       opens_it false not is =
           let same = by_restart (shut_as w.master o) (is ∙ ap (λ (b : Bool). cond b (opened_as o) (shut_as w.master o)) not) in
           let master_is : v.master ≡ (shut_as w.master o).state = ap (λ (y : WorldState). y.master) same in
@@ -306,7 +307,7 @@ module _ (config : Config) (servers clients : ℕ) (w : WorldState) (settings : 
           whole_down down
           (λ decided.
           silently s.ss s.k s.h x.moment (log_as v.master decided) [] (ap (λ (y : WorldState). y.sent) same ∙ append-nil w.sent)
-          (restarts.shut config servers clients w r e choice clocks s.ss s.k s.h x.moment asks.copies choice.decided s.to_found s.named refl (shut_as w.master o) same refl refl decided down (ap (λ (m : MasterState). m.disk) master_is)
+          (restarts.shut config servers clients w r e choice clocks s.ss s.k s.h x.moment asks.copies choice.decided s.same_files s.named refl (shut_as w.master o) same refl refl decided down (ap (λ (m : MasterState). m.disk) master_is)
           (ap (λ (m : MasterState). m.under_way) master_is)))
 
       by_end : (y : Ending) → choice.ending ≡ y → master_restart w.master x.moment choice ≡ opens y → IsWholeWorld config v
@@ -319,7 +320,7 @@ module _ (config : Config) (servers clients : ℕ) (w : WorldState) (settings : 
           (λ decided.
           let at = starts decided in
           silently at.ss at.k at.h x.moment (log_as v.master decided) [] (ap (λ (y : WorldState). y.sent) same ∙ append-nil w.sent)
-          (restarts.lost config servers clients w r e choice clocks at.ss at.k at.h x.moment asks.copies decided at.to_found at.named (opens Lost) same refl refl down
+          (restarts.lost config servers clients w r e choice clocks at.ss at.k at.h x.moment asks.copies decided at.same_files at.named (opens Lost) same refl refl down
           (ap (λ (m : MasterState). log_changed_by_all m.disk (decided_changes decided m.under_way)) master_is)))
       by_end (Stops made) ends is =
           let same = by_restart (opens (Stops made)) is in
@@ -328,7 +329,7 @@ module _ (config : Config) (servers clients : ℕ) (w : WorldState) (settings : 
           whole_down down
           (λ decided.
           silently s.ss s.k s.h x.moment (log_as v.master decided) [] (ap (λ (y : WorldState). y.sent) same ∙ append-nil w.sent)
-          (restarts.left_at config servers clients w r e choice clocks s.ss s.k s.h x.moment asks.copies choice.decided s.to_found s.named refl (opens (Stops made)) same refl refl made decided down
+          (restarts.left_at config servers clients w r e choice clocks s.ss s.k s.h x.moment asks.copies choice.decided s.same_files s.named refl (opens (Stops made)) same refl refl made decided down
           (ap (λ (m : MasterState). log_changed_by_all m.disk (decided_changes decided m.under_way)) master_is)))
 
       by_the_restart : IsWholeWorld config v
@@ -340,7 +341,7 @@ masters_events_keep_worlds_whole config servers clients w settings r kept e choi
     elim (kind_of w choice e masters) [
       | inl same ↦ subst (λ (x : WorldState). IsWholeWorld config x) (sym same) whole
       | inr some ↦ elim some [
-        | inl step ↦ by_the_step config servers clients w settings r clocks_before e choice clocks asks whole step
-        | inr restart ↦ by_the_restart config servers clients w settings r clocks_before e choice clocks asks whole restart
+        | inl step ↦ by_the_step config servers clients w settings r clocks_before e choice clocks masters asks whole step
+        | inr restart ↦ by_the_restart config servers clients w settings r clocks_before e choice clocks masters asks whole restart
       ]
     ]

@@ -1,0 +1,2 @@
+pub mod GoneHandles
+pub mod PlainChanges
