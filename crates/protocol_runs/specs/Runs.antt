@@ -4,10 +4,10 @@ use Rattle.gfs_types.specs.declared.config.Config.{Config}
 use Rattle.messages.specs.declared.event.Event.{Event}
 use Rattle.protocol.specs.Choice.{Choice}
 use Rattle.protocol.specs.World.{WorldState, happens, IsReached, is_kept}
-use Rattle.protocol_invariant.specs.Explained.{AreSettings}
+use Rattle.protocol_invariant.specs.Explained.{AreSettings, IsExplained}
 use Rattle.protocol_whole_laws.specs.ChunksBeside.{IsMastersEvent}
 use Rattle.protocol_whole_laws.specs.WholeWorlds.{IsWholeWorld}
-use Rattle.protocol_answer_laws.specs.Answers.{AreToldPlacesWithin}
+use Rattle.protocol_master_laws.specs.MasterEvents.{HoldersGoOnWhere}
 use Rattle.protocol_client_laws.specs.ClientsEvents.{AreTooLong}
 
 -- An event keeps the whole machine beside each world that is reached, where clocks and disks are kept.
@@ -18,11 +18,15 @@ KeepsWorldsWhole IsOfKind =
 
 -- What is left to be shown.
 pub record AreLeft : Type 0 where
-  pub masters : KeepsWorldsWhole IsMastersEvent
+  pub holders : (config : Config) (servers clients : ℕ) (w : WorldState) → AreSettings config → IsReached config servers clients w → IsTrue (is_kept w)
+      → (e : Event) (choice : Choice) → IsTrue (happens w e choice).world.observer.are_clocks_kept → IsMastersEvent w e → HoldersGoOnWhere config w (happens w e choice).world
   pub lengths : (config : Config) (servers clients : ℕ) (w : WorldState) → AreSettings config → IsReached config servers clients w → IsTrue (is_kept w)
       → (e : Event) (choice : Choice) → IsTrue (happens w e choice).world.observer.are_clocks_kept → AreTooLong config w (happens w e choice).world e
-  pub places : (config : Config) (servers clients : ℕ) (w : WorldState) → IsReached config servers clients w → AreToldPlacesWithin config w
 
 -- Beside each world that is reached, under settings in their ranges and kept clocks and disks, goes the whole machine.
 abbrev pub ReachedWorldsAreWhole : Type 0
 ReachedWorldsAreWhole = AreLeft → (config : Config) (servers clients : ℕ) (w : WorldState) → AreSettings config → IsReached config servers clients w → IsTrue (is_kept w) → IsWholeWorld config w
+
+-- The headline: the answers of each world that a lawful list of events reaches, under settings in their ranges and kept clocks and disks, are those of a run of the machine, and that run led to what the world shows.
+abbrev pub AnswersAreARun : Type 0
+AnswersAreARun = AreLeft → (config : Config) (servers clients : ℕ) (w : WorldState) → IsExplained config servers clients w
