@@ -15,11 +15,14 @@ use Rattle.messages.specs.declared.message.Body.TheVariants as body
 use Rattle.messages.specs.declared.message.Message.{Message}
 use Rattle.messages.specs.declared.message.Wanted.{Wanted}
 use Rattle.messages.specs.declared.message.Wanted.TheVariants as wanted
+use Rattle.log_records.specs.declared.record.Record.{Record}
 use Rattle.log_records.specs.declared.record.Record.TheVariants as log
 use Rattle.chunk_table.specs.ChunkTable.{file_of}
 use Rattle.relaxed_file.specs.Order.{Entry}
 use Rattle.relaxed_file.specs.Machine.{Machine, chunk_count, chunk_size, chunk_at}
 use Rattle.relaxed_file.specs.Chunks.{is_last_chunk_full}
+use Rattle.relaxed_file.specs.Run.{LeadsTo}
+use Rattle.relaxed_file.proofs.Reached.{leads_on}
 use Rattle.relaxed_file.proofs.Grows.{Grows, OrderGrows, grows_to, known_when_reached}
 use Rattle.protocol.specs.Tables.{Table, element_at}
 use Rattle.protocol.specs.Sending.{the_client}
@@ -36,12 +39,13 @@ use Rattle.protocol_machine_laws.specs.ChunksAlike.{ChunkSides}
 use Rattle.protocol_whole_laws.specs.MasterSteps.{HaveSameFiles}
 use Rattle.protocol_whole_laws.specs.RecordDues.{AreLogDues}
 use Rattle.protocol_whole_laws.specs.SentRequests.{IsAskOf, IsRequestOf, AreRequestsOfCalls}
-use Rattle.protocol_whole_laws.specs.WholeSteps.{IsChunkAskedFor, AreAskedFor, IsNoAskIn}
+use Rattle.protocol_whole_laws.specs.WholeSteps.{IsChunkAskedFor, IsAskedFor, AreAskedFor, IsNoAskIn}
 use Rattle.protocol_whole_laws.specs.WholeWorlds.{IsBeside}
 use Rattle.protocol_whole_laws.proofs.RecordDues.{steps_log_what_is_due}
 use Rattle.protocol_whole_laws.proofs.UnaskedAdds.{IsNoAdd, nothing_asked, only_asks_add_chunks}
 use Rattle.protocol_whole_laws.proofs.WholeLogs.{states_have_their_logs_files}
-use Rattle.protocol_numbered_laws.specs.AskedChunks.{IsForNext, AddsNoChunk, AddNoChunk, AddOneChunk, IsFullAt, AreAsksFull, AddedChunksAreAskedFor}
+use Rattle.protocol_numbered_laws.specs.AskedChunks.{IsForNext, AddsNoChunk, AddNoChunk, AddOneChunk, IsFullAt, AddedChunksAreAskedFor}
+use Rattle.protocol_numbered_laws.proofs.FullAsks.{asks_are_full}
 use Rattle.protocol_numbered_laws.proofs.AskSenders.{asks_come_from_clients}
 use Rattle.protocol_numbered_laws.proofs.AskedAdds.{asks_add_the_next_chunk}
 use Rattle.protocol_numbered_laws.proofs.AskedChunks.{asked_chunks_may_be_added}
@@ -91,7 +95,7 @@ not_true true h = absurd (true≢false (sym h))
 not_true false h = refl
 
 module _ (config : Config) (servers clients : ℕ) (w : WorldState) (r : IsReached config servers clients w) (clocks : IsTrue w.observer.are_clocks_kept) (up : IsTrue w.master.up) (ss : List PendingSnapshot) (k : ChunkSides) (beside : IsBeside config w ss k)
-    (asks : AreAsksFull w k.machine) (moment : ℕ) (refused : List Bool) (orders : Table (List Placed)) where
+    (some : 1 ≤ config.chunk) (moment : ℕ) (refused : List Bool) (orders : Table (List Placed)) where
   -- a call of this client's Ask
   ask_of : (client place number : ℕ) (x : Message) (file : FileId) (what : Wanted) (deadline : Moment) (lost : Bool) → element_at w.sent place ≡ Some x → x.sender ≡ the_client client → x.body ≡ body.Ask number file what deadline lost
       → IsAskOf k.machine client file.0 what
@@ -137,7 +141,7 @@ module _ (config : Config) (servers clients : ℕ) (w : WorldState) (r : IsReach
         full (suc past) same_what =
             let low : length handles ≤ suc past = subst (λ (q : Wanted). IsForNext q (length handles)) same_what next in
             let it : IsFullAt j.machine file.0 past =
-            full_stays k.machine j.machine file.0 past grows (asks client place number past x file deadline lost at from (is ∙ ap (λ (q : Wanted). body.Ask number file q deadline lost) same_what)) in
+            full_stays k.machine j.machine file.0 past grows (asks_are_full config servers clients w r clocks some ss k beside client place number past x file deadline lost at from (is ∙ ap (λ (q : Wanted). body.Ask number file q deadline lost) same_what)) in
             last_full j.machine file.0 past (chunk_count j.machine file.0) (omega (arith, low, count)) it.count it.full
 
     asked_for : AddNoChunk Changes ⊎ ((handles : List ℕ) × (file_of w.master.logged.table file.0 ≡ Some handles) × IsForNext what (length handles) × AddOneChunk file Changes) → AreAskedFor k.machine orders w.master.disk Changes
@@ -170,5 +174,18 @@ module _ (config : Config) (servers clients : ℕ) (w : WorldState) (r : IsReach
         | inr from ↦ by_body x came.0 from.0 came.1 from.1 x.body refl
       ]
 
+-- what is asked for of a machine is so of each to which it leads
+
+module _ (first m : Machine) (way : LeadsTo first m) (orders : Table (List Placed)) where
+  one_later : (l : Logged) (x : Record) → IsAskedFor first orders l x → IsAskedFor m orders l x
+  one_later l (log.AddChunk file handle) h = λ k n led. h k n (leads_on first m k.machine way led)
+  one_later l other h = tt
+
+  pub asked_later : (d : LogDisk) (xs : List LogChange) → AreAskedFor first orders d xs → AreAskedFor m orders d xs
+  asked_later d [] h = tt
+  asked_later d (AppendRecord x ∷ xs) h = (one_later (log_read d) x h.0, asked_later (log_changed d (AppendRecord x)) xs h.1)
+  asked_later d (WriteCheckpoint items ∷ xs) h = asked_later (log_changed d (WriteCheckpoint items)) xs h
+
 pub added_chunks_are_asked_for : AddedChunksAreAskedFor
-added_chunks_are_asked_for config servers clients w r clocks up ss k beside asks moment i refused comes orders = by_input config servers clients w r clocks up ss k beside asks moment refused orders i comes
+added_chunks_are_asked_for config servers clients w r clocks up ss k beside some m way moment i refused comes orders =
+    asked_later k.machine m way orders w.master.disk (master_goes w.master moment i refused).changes (by_input config servers clients w r clocks up ss k beside some moment refused orders i comes)

@@ -3,6 +3,7 @@ pub mod AskSenders
 pub mod AskedAdds
 pub mod AskedChunks
 pub mod AskedOnce
+pub mod FullAsks
 pub mod NumberedAttempts
 pub mod NumberedCalls
 pub mod QuietTries

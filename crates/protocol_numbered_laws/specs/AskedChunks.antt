@@ -79,6 +79,12 @@ AreAsksFull w m =
     (client place number past : ℕ) (x : Message) (file : FileId) (deadline : Moment) (lost : Bool) → element_at w.sent place ≡ Some x → x.sender ≡ the_client client
     → x.body ≡ body.Ask number file (wanted.Append (suc past)) deadline lost → IsFullAt m file.0 past
 
+-- Where clocks are kept, so it is beside each whole world: the chunk that was told to the client, and is full, stands there up to the told round. A chunk has at least one byte.
+abbrev pub AsksAreFull : Type 0
+AsksAreFull =
+    (config : Config) (servers clients : ℕ) (w : WorldState) → IsReached config servers clients w → IsTrue w.observer.are_clocks_kept → 1 ≤ config.chunk → (ss : List PendingSnapshot) (k : ChunkSides) → IsBeside config w ss k
+    → AreAsksFull w k.machine
+
 -- it is no Ask, or a client's
 abbrev pub IsClients : Message → Type 0
 IsClients x = IsNoAskIn x.body ⊎ ((client : ℕ) × (x.sender ≡ the_client client))
@@ -87,9 +93,9 @@ IsClients x = IsNoAskIn x.body ⊎ ((client : ℕ) × (x.sender ≡ the_client c
 abbrev pub AsksComeFromClients : Type 0
 AsksComeFromClients = (config : Config) (servers clients : ℕ) (w : WorldState) → IsReached config servers clients w → (place : ℕ) (x : Message) → element_at w.sent place ≡ Some x → IsClients x
 
--- Each chunk that a step of the master adds is asked for.
+-- Each chunk that a step of the master adds is asked for, from each machine to which the one beside the world leads. A chunk has at least one byte.
 abbrev pub AddedChunksAreAskedFor : Type 0
 AddedChunksAreAskedFor =
     (config : Config) (servers clients : ℕ) (w : WorldState) → IsReached config servers clients w → IsTrue w.observer.are_clocks_kept → IsTrue w.master.up → (ss : List PendingSnapshot) (k : ChunkSides) → IsBeside config w ss k
-    → AreAsksFull w k.machine → (moment : ℕ) (i : Input) (refused : List Bool) → ((x : Message) → i ≡ input.Deliver x → IsAmong w.sent x) → (orders : Table (List Placed))
-    → AreAskedFor k.machine orders w.master.disk (master_goes w.master moment i refused).changes
+    → 1 ≤ config.chunk → (m : Machine) → LeadsTo k.machine m → (moment : ℕ) (i : Input) (refused : List Bool) → ((x : Message) → i ≡ input.Deliver x → IsAmong w.sent x) → (orders : Table (List Placed))
+    → AreAskedFor m orders w.master.disk (master_goes w.master moment i refused).changes

@@ -1,6 +1,6 @@
 //! Laws of the chunks that are added for what clients ask.
 
-ghost use Rattle.protocol_numbered_laws.specs.AskedChunks.{AsksAddTheNextChunk, AskedChunksMayBeAdded, AsksComeFromClients, AddedChunksAreAskedFor};
+ghost use Rattle.protocol_numbered_laws.specs.AskedChunks.{AsksAddTheNextChunk, AskedChunksMayBeAdded, AsksComeFromClients, AsksAreFull, AddedChunksAreAskedFor};
 
 /// An Ask adds the next chunk of its file, or none.
 pub fn asks_add_the_next_chunk()
@@ -17,7 +17,12 @@ pub fn asks_come_from_clients()
     ensures { AsksComeFromClients }
 {}
 
-/// Each chunk that a step of the master adds is asked for, where the chunks past which clients asked are full.
+/// Where a client asked for a chunk past one, to append to it, that one is full at the machine.
+pub fn asks_are_full()
+    ensures { AsksAreFull }
+{}
+
+/// Each chunk that a step of the master adds is asked for, from each machine to which the one beside the world leads.
 pub fn added_chunks_are_asked_for()
     ensures { AddedChunksAreAskedFor }
 {}

@@ -1,0 +1,4 @@
+//! Laws of holders that were told, over an event of the master.
+#![tactic(auto)]
+
+pub mod rounds_apart;

@@ -1,0 +1,2 @@
+pub mod DisksBefore
+pub mod Induction
