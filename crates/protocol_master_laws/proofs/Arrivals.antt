@@ -1,12 +1,13 @@
 -- Where the whole machine has followed the master to a log, it is beside the world after the event.
-use Rattle.std.proofs.Common.{◌≡◌, ℕ, ◌<◌, ◌≤◌, true, false, max, List, [], ◌∷◌, ◌++◌, refl, sym, subst, ◌∙◌, inl, inr, arith}
-use Rattle.std.specs.Prelude.{IsTrue}
+use Rattle.std.proofs.Common.{◌≡◌, ℕ, ◌<◌, ◌≤◌, Bool, true, false, not, max, List, [], ◌∷◌, ◌++◌, refl, sym, ap, subst, ◌∙◌, inl, inr, arith}
+use Rattle.std.specs.Prelude.{◌&&◌, nat_lt, nat_le, IsTrue}
 use Rattle.std.specs.List.{AllByRecursion, list_all}
 use Rattle.std.proofs.lemmas.Bool.{and_parts}
 use Rattle.std.proofs.Math.Nat.{le-max_left}
 use Rattle.gfs_types.specs.declared.config.Config.{Config}
 use Rattle.messages.specs.declared.event.Event.{Event}
 use Rattle.messages.specs.declared.message.Message.{Message}
+use Rattle.name_projections.specs.Laws.{AreNamesOf}
 use Rattle.relaxed_file.specs.Order.{CallId}
 use Rattle.relaxed_file.specs.Machine.{Machine, FileState, new_machine, chunk_at, chunk_count}
 use Rattle.relaxed_file.specs.Chunks.{tries_in}
@@ -25,7 +26,7 @@ use Rattle.protocol_name_laws.proofs.BesideClientsBeside.{passed_trace, all_on, 
 use Rattle.protocol_name_laws.proofs.Masters.{passed_last}
 use Rattle.protocol_machine_laws.specs.ChunksAlike.{ChunkSides, AreChunksAlike, KeepsRounds, NoneEnds}
 use Rattle.protocol_machine_laws.proofs.Plain.{other_changes_keep_chunks}
-use Rattle.protocol_whole_laws.specs.MasterSteps.{IsWhole, is_of_master}
+use Rattle.protocol_whole_laws.specs.MasterSteps.{IsWhole, is_of_master, HasFilesOf}
 use Rattle.protocol_whole_laws.specs.Rounds.{IsLogOf, IsEnded, SentGrantsAreOpen}
 use Rattle.protocol_whole_laws.specs.Tries.{HasNoMoreTries}
 use Rattle.protocol_whole_laws.specs.FileClientsStay.{IsOfOthers}
@@ -66,6 +67,13 @@ master_stays config m (a ∷ rest) reached lawful of =
     let one = file_clients_stay config m reached a lawful.0 client (of_others a first.0 client) s h in
     let two = more client s one.0 in
     (two.0, λ i firm said. two.1 i firm (one.1 i firm said))
+
+-- the whole machine has the log's files, as the one by names alone
+files_at_both : (l : Logged) (m n : Machine) → AreNamesOf m n → HasFilesOf l n → HasFilesOf l m
+files_at_both l m n same has file =
+    has file
+    ∙ (ap (λ (count : ℕ). nat_lt 0 file && nat_le file count && not (n.files file).is_collected) same.count
+    ∙ ap (λ (is_collected : Bool). nat_lt 0 file && nat_le file m.file_count && not is_collected) (same.collected file))
 
 -- offers
 
@@ -131,7 +139,7 @@ module _ (config : Config) (servers clients : ℕ) (w : WorldState) (r : world.I
       pub sent : v.sent ≡ w.sent ++ messages
 
     module _ (kept : IsTrue w.observer.are_clocks_kept) (masters : IsMastersEvent w e) (holders : HoldersGoOnWhere config w v) (l : Logged) (others : List PendingSnapshot) (a : Arrives l others)
-        (offers : (j : ChunkSides) → LeadsTo k.machine j.machine → IsRunTo config v.observer.trace j.machine → AreChunksBeside config v j → AreFileClients w.clients j.machine → AreOffersSo w v j.machine)
+        (offers : (j : ChunkSides) → LeadsTo k.machine j.machine → IsRunTo config v.observer.trace j.machine → AreChunksBeside config v j → HasFilesOf j.log j.machine → AreFileClients w.clients j.machine → AreOffersSo w v j.machine)
       where
         abbrev before : IsReached config k.machine
         before = (h.run.0, h.run.1, h.run.3)
@@ -198,8 +206,11 @@ module _ (config : Config) (servers clients : ℕ) (w : WorldState) (r : world.I
         files : AreFileClients w.clients j.machine
         files = files_stay k.machine j.machine w.clients stays h.files
 
+        has_files : HasFilesOf j.log j.machine
+        has_files = files_at_both j.log j.machine a.names a.moves.comes.whole.names (subst (λ (x : Logged). HasFilesOf x a.names) (sym a.log) a.named.alike.files)
+
         o : AreOffersSo w v j.machine
-        o = offers (trimmed j) leads run chunks files
+        o = offers (trimmed j) leads run chunks has_files files
 
         abbrev offered : Machine
         offered = after_all j.machine o.offers

@@ -162,7 +162,7 @@ module _ (config : Config) (servers clients : ℕ) (w : WorldState) (settings : 
 
     silently : (ss : List PendingSnapshot) (k : ChunkSides) (h : IsBeside config w ss k) (moment : ℕ) (l : Logged) (others : List PendingSnapshot) → v.sent ≡ w.sent → Arrives config servers clients w r e choice clocks ss k h moment l others
         → HasMachine config v l others
-    silently ss k h moment l others still a = arrived config servers clients w r e choice clocks ss k h moment kept masters asks.holders l others a (λ j leads run chunks files. no_offers still j.machine)
+    silently ss k h moment l others still a = arrived config servers clients w r e choice clocks ss k h moment kept masters asks.holders l others a (λ j leads run chunks has files. no_offers still j.machine)
 
     arrives : (moment0 : ℕ) (i : Input) → IsMastersInput w e moment0 i → IsTrue w.master.up → choice.ending ≡ Goes → (ss : List PendingSnapshot) (k : ChunkSides) (h : IsBeside config w ss k) (moment : ℕ) (l : Logged) (others : List PendingSnapshot) → Arrives config servers clients w r e choice clocks ss k h moment l others → HasMachine config v l others
     arrives moment0 i given up ends ss k h moment l others a = arrived config servers clients w r e choice clocks ss k h moment kept masters asks.holders l others a (λ j. asks.offers moment0 i given up ends ss k j h)

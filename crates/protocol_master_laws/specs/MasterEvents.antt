@@ -15,6 +15,7 @@ use Rattle.protocol_whole_laws.specs.Rounds.{IsLogOf, IsEnded, IsMastersInput, S
 use Rattle.protocol_whole_laws.specs.ServerSteps.{AreGoneOrdersAlike}
 use Rattle.protocol_whole_laws.specs.ChunksBeside.{AreChunksBeside, IsMastersEvent}
 use Rattle.protocol_whole_laws.specs.ToldHolders.{HoldersMayGoOn}
+use Rattle.protocol_whole_laws.specs.MasterSteps.{HasFilesOf}
 use Rattle.protocol_whole_laws.specs.WholeSteps.{AreAskedFor}
 use Rattle.protocol_whole_laws.specs.WholeWorlds.{AreFileClients, IsBeside, IsWholeWorld}
 use Rattle.protocol_whole_laws.specs.MastersEvents.{AreOffersSo, AreCopiesOver, AreBegunUnderWay, IsGoneFrom}
@@ -37,7 +38,7 @@ pub record AreMastersTrue (config : Config) (w then_ : WorldState) (e : Event) (
   pub begun : AreBegunUnderWay w e choice
   pub holders : HoldersGoOnWhere config w then_
   pub offers : (moment : ℕ) (i : Input) → IsMastersInput w e moment i → IsTrue w.master.up → choice.ending ≡ Goes → (ss : List PendingSnapshot) (k j : ChunkSides) → IsBeside config w ss k → LeadsTo k.machine j.machine → IsRunTo config then_.observer.trace j.machine → AreChunksBeside config then_ j
-      → AreFileClients w.clients j.machine → AreOffersSo w then_ j.machine
+      → HasFilesOf j.log j.machine → AreFileClients w.clients j.machine → AreOffersSo w then_ j.machine
 
 -- An event of the master keeps all so.
 abbrev pub MastersEventsKeepWorldsWhole : Type 0

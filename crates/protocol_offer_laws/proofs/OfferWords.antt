@@ -44,6 +44,7 @@ use Rattle.protocol_step_laws.proofs.Events.{IsGiven}
 use Rattle.protocol_step_laws.proofs.ReadAnswers.{one_request}
 use Rattle.protocol_step_laws.proofs.RequestsOnce.{requests_are_numbered_once}
 use Rattle.protocol_version_laws.proofs.ExtendLaws.{came_in}
+use Rattle.name_projections.specs.Laws.{AreNamesOf}
 use Rattle.protocol_name_laws.specs.Alike.{is_there}
 use Rattle.protocol_invariant.specs.ClientParts.{index_asked}
 use Rattle.protocol_machine_laws.specs.ChunksAlike.{ChunkSides}
@@ -100,6 +101,13 @@ module _ (config : Config) (w then_ : WorldState) (first n : Machine) (h : IsBes
   }
 
 -- which files are there
+
+-- the whole machine has the files of the log that the one by names alone has
+pub files_at_both : (l : Logged) (m n : Machine) → AreNamesOf m n → HasFilesOf l n → HasFilesOf l m
+files_at_both l m n same has file =
+    has file
+    ∙ (ap (λ (count : ℕ). nat_lt 0 file && nat_le file count && not (n.files file).is_collected) same.count
+    ∙ ap (λ (is_collected : Bool). nat_lt 0 file && nat_le file m.file_count && not is_collected) (same.collected file))
 
 there_is : (m : Machine) (file : ℕ) → is_there m file ≡ true → IsFalse (m.files file).is_collected
 there_is m file is = by_flag (m.files file).is_collected (and_parts (nat_lt 0 file && nat_le file m.file_count) (not (m.files file).is_collected) is).1
@@ -282,13 +290,11 @@ module _ (config : Config) (servers clients : ℕ) (w : WorldState) (r : IsReach
             above : 1 ≤ x.file.0
             above = asked_files_are_made config k.machine reached (suc index) call_before.0 call_before.1.is_open x.file.0 call_before.1.file_is
 
-            gone : is_there h.names x.file.0 ≡ false
-            gone = sym (h.named.alike.files x.file.0) ∙ (ap (λ (q : Logged). table.contains_key q.table.files x.file.0) log_before ∙ ap is_some none)
+            gone : is_there k.machine x.file.0 ≡ false
+            gone = sym (files_at_both k.log k.machine h.names h.same h.named.alike.files x.file.0) ∙ (ap (λ (q : Logged). table.contains_key q.table.files x.file.0) log_before ∙ ap is_some none)
 
             before : IsTrue (k.machine.files x.file.0).is_collected
-            before =
-                sym (h.same.collected x.file.0)
-                ∙ gone_is h.names x.file.0 above (let same = h.same.count in omega (arith, same, made)) gone
+            before = gone_is k.machine x.file.0 above made gone
 
         refused_result : (number : ℕ) (refusal : Refusal) → x.stage ≡ AskedWhere number → y.body ≡ body.Refused number refusal → Result (AskedWhere number) (body.Refused number refusal)
         refused_result number refusal stage says = by_refusal refusal (subst (λ (f : ℕ). IsRefusedIn w.master.logged f refusal) (file_is number stage a) told.1)
