@@ -28,7 +28,7 @@ use Rattle.protocol.specs.Logged.{Logged, KeptCall, log_changed_by_all}
 use Rattle.protocol.specs.Master.{MasterState, MasterDoing, PendingSnapshot}
 use Rattle.protocol.specs.MasterStep.{master_goes, master_ends, master_step}
 use Rattle.protocol.specs.World.{WorldState, IsReached, happens, stamped, after_master}
-use Rattle.protocol_laws.specs.Laws.{grants_of, is_grant}
+use Rattle.protocol_laws.specs.Laws.{times_in, grants_of, is_grant}
 use Rattle.protocol_laws.proofs.Steps.{none_some, same_some}
 use Rattle.protocol_laws.proofs.MembersRecorded.{all_at}
 use Rattle.protocol_laws.proofs.MessagesSent.{IsSent, IsSameMessage, ordered_sent}
@@ -59,7 +59,7 @@ use Rattle.protocol_whole_laws.specs.OverRounds as over
 use Rattle.protocol_whole_laws.specs.Rounds.{IsEnded}
 use Rattle.protocol_whole_laws.specs.WholeWorlds.{IsBeside}
 use Rattle.protocol_whole_laws.proofs.EndedRounds.{some_grant, its_grant, ungranted_is_over, ended_before}
-use Rattle.protocol_whole_laws.proofs.MasterKept.{copies_may_come_and_go}
+use Rattle.protocol_whole_laws.proofs.MasterKept.{copies_may_come_and_go, apart_stands, no_round}
 use Rattle.protocol_whole_laws.proofs.MasterNames.{more_end}
 use Rattle.protocol_whole_laws.proofs.OverRounds.{rounds_that_end_stay_over, open_at_end}
 use Rattle.protocol_whole_laws.proofs.GrantsLast.{grants_are_last}
@@ -70,7 +70,7 @@ use Rattle.protocol_whole_laws.proofs.WholeLogs.{states_have_their_logs_files}
 use Rattle.protocol_whole_laws.specs.MastersEvents.{AreCopiesOver}
 use Rattle.protocol_copy_laws.proofs.BegunCopies.{copies_begin_nowhere, copies_begin_without_a_round}
 use Rattle.protocol_copy_laws.proofs.GoneHandles.{steps_let_go_what_stood}
-use Rattle.protocol_master_laws.proofs.Arrivals.{whole_here, passes, here, Arrives}
+use Rattle.protocol_master_laws.proofs.Arrivals.{passes, here, Arrives}
 use Rattle.protocol_master_laws.proofs.Quiet as quiet
 use Rattle.protocol_master_laws.proofs.Moves.{Moves, both_come, to_log, along}
 use Rattle.protocol_master_laws.proofs.Stops.{last_stop}
@@ -175,6 +175,9 @@ module _ (config : Config) (servers clients : ℕ) (w : WorldState) (r : IsReach
     same_files : HaveSameFiles (log_read d.master.disk) d.master.logged
     same_files = subst (λ (m : MasterState). HaveSameFiles (log_read m.disk) m.logged) master_is ((states_have_their_logs_files config servers clients v reached_then).0 up_then).1
 
+    from_state : HaveSameFiles d.master.logged (log_read d.master.disk)
+    from_state = subst (λ (m : MasterState). HaveSameFiles m.logged (log_read m.disk)) master_is ((states_have_their_logs_files config servers clients v reached_then).0 up_then).0
+
     not_granted : (handle : ℕ) → IsCopy d.master.logged handle → (version : ℕ) → grants_of handle version v.sent ≡ 0
     not_granted handle copy version =
         let there : table.get v.master.logged.copies handle ≡ Some copy.0 = ap (λ (m : MasterState). table.get m.logged.copies handle) master_is ∙ copy.1 in
@@ -240,13 +243,12 @@ module _ (config : Config) (servers clients : ℕ) (w : WorldState) (r : IsReach
 
     shown_copy : ShowsCopy w.master t → IsShownAt
     shown_copy s =
-        let began : element_at d.seen 0 ≡ Some (CopyStarted (handle_of s.source) (handle_of s.copy)) = ap (λ (xs : List Seen). element_at xs 0) s.seen in
-        let nowhere = copies_begin_nowhere config servers clients w r up moment i choice.refused 0 (handle_of s.source) (handle_of s.copy) began in
-        let no_round =
-        copies_begin_without_a_round config servers clients w r up moment i choice.refused 0 (handle_of s.source) (handle_of s.copy) began start js is (whole_here config servers clients w r e choice clocks ss k h moment).below refl third.gone in
+        let first : element_at d.seen 0 ≡ Some (CopyStarted (handle_of s.source) (handle_of s.copy)) = ap (λ (xs : List Seen). element_at xs 0) s.seen in
+        let nowhere = (copies_begin_nowhere config servers clients w r up moment i choice.refused 0 (handle_of s.source) (handle_of s.copy) first).1 in
+        let no_round : (version : ℕ) (spot : Spot) → IsRoundOpen js s.copy version spot → ⊥ = copies_begin_without_a_round config servers clients w r up moment i choice.refused 0 (handle_of s.source) (handle_of s.copy) first k js is h.below refl third.gone in
         let jo : ChunkSides = record js { orders = orders_after trace js.orders (CopyStarted (handle_of s.source) (handle_of s.copy)) } in
         let kept_chunks : KeepsChunks (λ ended. ended ≡ s.copy) js jo =
-        copies_begin_unseen js trace (handle_of s.source) (handle_of s.copy) back.whole.chunks (λ spot at. nowhere.1 spot at) in
+        copies_begin_unseen js trace (handle_of s.source) (handle_of s.copy) back.whole.chunks nowhere in
         record {
           last = jo;
           log = refl;
