@@ -28,7 +28,7 @@ use Rattle.protocol.specs.Logged.{Logged, KeptCall, log_changed_by_all}
 use Rattle.protocol.specs.Master.{MasterState, MasterDoing, PendingSnapshot}
 use Rattle.protocol.specs.MasterStep.{master_goes, master_ends, master_step}
 use Rattle.protocol.specs.World.{WorldState, IsReached, happens, stamped, after_master}
-use Rattle.protocol_laws.specs.Laws.{times_in, grants_of, is_grant}
+use Rattle.protocol_laws.specs.Laws.{grants_of, is_grant}
 use Rattle.protocol_laws.proofs.Steps.{none_some, same_some}
 use Rattle.protocol_laws.proofs.MembersRecorded.{all_at}
 use Rattle.protocol_laws.proofs.MessagesSent.{IsSent, IsSameMessage, ordered_sent}
@@ -59,7 +59,7 @@ use Rattle.protocol_whole_laws.specs.OverRounds as over
 use Rattle.protocol_whole_laws.specs.Rounds.{IsEnded}
 use Rattle.protocol_whole_laws.specs.WholeWorlds.{IsBeside}
 use Rattle.protocol_whole_laws.proofs.EndedRounds.{some_grant, its_grant, ungranted_is_over, ended_before}
-use Rattle.protocol_whole_laws.proofs.MasterKept.{copies_may_come_and_go, apart_stands, no_round}
+use Rattle.protocol_whole_laws.proofs.MasterKept.{copies_may_come_and_go}
 use Rattle.protocol_whole_laws.proofs.MasterNames.{more_end}
 use Rattle.protocol_whole_laws.proofs.OverRounds.{rounds_that_end_stay_over, open_at_end}
 use Rattle.protocol_whole_laws.proofs.GrantsLast.{grants_are_last}

@@ -30,9 +30,10 @@ use Rattle.protocol_whole_laws.specs.OverRounds as over
 use Rattle.protocol_whole_laws.specs.Rounds.{log_as, IsMastersInput}
 use Rattle.protocol_whole_laws.specs.ChunksBeside.{IsMastersEvent}
 use Rattle.protocol_whole_laws.specs.MasterSteps.{HaveSameFiles}
-use Rattle.protocol_whole_laws.specs.MastersEvents.{AreOffersSo}
+use Rattle.protocol_whole_laws.specs.MastersEvents.{AreCopiesOver, AreOffersSo}
 use Rattle.protocol_whole_laws.specs.WholeWorlds.{IsBeside, HasMachine, IsWholeWorld}
 use Rattle.protocol_whole_laws.proofs.OverRounds.{masters_events_are_steps}
+use Rattle.protocol_copy_laws.proofs.UngrantedCopies.{copies_in_the_log_are_over}
 use Rattle.protocol_master_laws.specs.MasterEvents.{AreMastersTrue, MastersEventsKeepWorldsWhole}
 use Rattle.protocol_name_laws.specs.NameTrails.{log_read}
 use Rattle.protocol_master_laws.proofs.Arrivals.{Arrives, arrived}
@@ -151,6 +152,9 @@ module _ (config : Config) (servers clients : ℕ) (w : WorldState) (settings : 
     abbrev v : WorldState
     v = (happens w e choice).world
 
+    copies : AreCopiesOver w
+    copies = copies_in_the_log_are_over config servers clients w r kept
+
     -- where nothing is sent there is nothing to offer
     no_offers : v.sent ≡ w.sent → (m : Machine) → AreOffersSo w v m
     no_offers still m = record {
@@ -201,8 +205,8 @@ module _ (config : Config) (servers clients : ℕ) (w : WorldState) (settings : 
       timely : max w.observer.greatest s.moment ≤ s.moment + w.config.skew_ms
       timely = quiet.timely config servers clients w r e choice clocks w.master.snapshots k h s.moment (master_step w.master s.moment s.taken choice) (by_step _ refl)
 
-      step : IsTaken config servers clients w r kept e choice clocks k h is s.up s.moment timely s.taken s.heard asks.copies
-      step = step_taken config servers clients w r kept e choice clocks k h is s.up s.moment timely s.taken s.heard asks.copies (asks.asked s.moment s.taken s.given s.up w.master.snapshots k h)
+      step : IsTaken config servers clients w r kept e choice clocks k h is s.up s.moment timely s.taken s.heard copies
+      step = step_taken config servers clients w r kept e choice clocks k h is s.up s.moment timely s.taken s.heard copies (asks.asked s.moment s.taken s.given s.up w.master.snapshots k h)
 
       abbrev goes_through : Ending → Taken MasterState
       goes_through x = master_ends w.master d choice x
@@ -215,17 +219,17 @@ module _ (config : Config) (servers clients : ℕ) (w : WorldState) (settings : 
           whole_up (ap (λ (m : MasterState). m.up) master_is ∙ still_up w.master s.moment s.taken choice.refused s.up)
           (subst At (sym master_is)
           (arrives s.moment s.taken s.given s.up ends w.master.snapshots k h s.moment d.master.logged d.master.snapshots
-          (went config servers clients w r kept e choice clocks k h is s.up s.moment timely s.taken s.heard asks.copies s.event_is s.was long step ends same step_is)))
+          (went config servers clients w r kept e choice clocks k h is s.up s.moment timely s.taken s.heard copies s.event_is s.was long step ends same step_is)))
       by_ending Lost ends step_is =
           let same = by_step (goes_through Lost) step_is in
           whole_down (ap (λ (x : WorldState). x.master.up) same)
-          (λ decided. silently w.master.snapshots k h s.moment (log_as v.master decided) [] (ap (λ (y : WorldState). y.sent) same ∙ append-nil w.sent) (stops.lost config servers clients w r kept e choice clocks k h is s.up s.moment timely s.taken s.heard asks.copies same decided))
+          (λ decided. silently w.master.snapshots k h s.moment (log_as v.master decided) [] (ap (λ (y : WorldState). y.sent) same ∙ append-nil w.sent) (stops.lost config servers clients w r kept e choice clocks k h is s.up s.moment timely s.taken s.heard copies same decided))
       by_ending (Stops made) ends step_is =
           let same = by_step (goes_through (Stops made)) step_is in
           whole_down (ap (λ (x : WorldState). x.master.up) same)
           (λ decided.
           silently w.master.snapshots k h s.moment (log_as v.master decided) [] (ap (λ (y : WorldState). y.sent) same ∙ append-nil w.sent)
-          (stops.stops config servers clients w r kept e choice clocks k h is s.up s.moment timely s.taken s.heard asks.copies s.event_is step made same decided))
+          (stops.stops config servers clients w r kept e choice clocks k h is s.up s.moment timely s.taken s.heard copies s.event_is step made same decided))
 
       by_limits : (b : Bool) → may_end d choice.ending ≡ b → IsWholeWorld config v
       by_limits true may = by_ending choice.ending refl (bounded ∙ ap (λ (b : Bool). cond b (goes_through choice.ending) (no_step w.master)) may)
@@ -235,7 +239,7 @@ module _ (config : Config) (servers clients : ℕ) (w : WorldState) (settings : 
           whole_up (ap (λ (m : MasterState). m.up) master_is ∙ s.up)
           (subst At (sym master_is)
           (silently w.master.snapshots k h s.moment w.master.logged w.master.snapshots (ap (λ (y : WorldState). y.sent) same ∙ append-nil w.sent)
-          (stops.unchanged config servers clients w r kept e choice clocks k h is s.up s.moment timely s.taken s.heard asks.copies same)))
+          (stops.unchanged config servers clients w r kept e choice clocks k h is s.up s.moment timely s.taken s.heard copies same)))
 
       by_the_step : IsWholeWorld config v
       by_the_step = by_limits (may_end d choice.ending) refl
@@ -252,7 +256,7 @@ module _ (config : Config) (servers clients : ℕ) (w : WorldState) (settings : 
         k : ChunkSides
         h : IsBeside config w ss k
         same_files : HaveSameFiles k.log (log_read (found_by decided))
-        named : restarts.Named config servers clients w r e choice clocks ss k h x.moment asks.copies decided (found_by decided)
+        named : restarts.Named config servers clients w r e choice clocks ss k h x.moment copies decided (found_by decided)
 
       starts : (decided : List Bool) → StartsAt decided
       starts decided = by_up w.master.up refl
@@ -264,8 +268,8 @@ module _ (config : Config) (servers clients : ℕ) (w : WorldState) (settings : 
                 ss = w.master.snapshots;
                 k = from.0;
                 h = from.2;
-                same_files = restarts.up_found config servers clients w r e choice clocks w.master.snapshots from.0 from.2 x.moment asks.copies decided up from.1;
-                named = restarts.up_named config servers clients w r e choice clocks w.master.snapshots from.0 from.2 x.moment asks.copies decided up from.1;
+                same_files = restarts.up_found config servers clients w r e choice clocks w.master.snapshots from.0 from.2 x.moment copies decided up from.1;
+                named = restarts.up_named config servers clients w r e choice clocks w.master.snapshots from.0 from.2 x.moment copies decided up from.1;
               }
           by_up false down =
               let from = whole.log down decided in
@@ -273,8 +277,8 @@ module _ (config : Config) (servers clients : ℕ) (w : WorldState) (settings : 
                 ss = [];
                 k = from.0;
                 h = from.2;
-                same_files = restarts.down_found config servers clients w r e choice clocks [] from.0 from.2 x.moment asks.copies decided from.1 refl;
-                named = restarts.down_named config servers clients w r e choice clocks [] from.0 from.2 x.moment asks.copies decided from.1 refl;
+                same_files = restarts.down_found config servers clients w r e choice clocks [] from.0 from.2 x.moment copies decided from.1 refl;
+                named = restarts.down_named config servers clients w r e choice clocks [] from.0 from.2 x.moment copies decided from.1 refl;
               }
 
       abbrev s : StartsAt choice.decided
@@ -296,10 +300,10 @@ module _ (config : Config) (servers clients : ℕ) (w : WorldState) (settings : 
       opens_it true has is =
           let same = by_restart (opened_as o) (is ∙ ap (λ (b : Bool). cond b (opened_as o) (shut_as w.master o)) has) in
           let master_is : v.master ≡ o.master = ap (λ (y : WorldState). y.master) same in
-          whole_up (ap (λ (m : MasterState). m.up) master_is ∙ restarts.open_up config servers clients w r e choice clocks s.ss s.k s.h x.moment asks.copies choice.decided s.same_files s.named refl (opened_as o) same refl refl)
+          whole_up (ap (λ (m : MasterState). m.up) master_is ∙ restarts.open_up config servers clients w r e choice clocks s.ss s.k s.h x.moment copies choice.decided s.same_files s.named refl (opened_as o) same refl refl)
           (subst At (sym master_is)
           (silently s.ss s.k s.h x.moment o.master.logged o.master.snapshots (ap (λ (y : WorldState). y.sent) same ∙ append-nil w.sent)
-          (restarts.running config servers clients w r e choice clocks s.ss s.k s.h x.moment asks.copies choice.decided s.same_files s.named refl (opened_as o) same refl refl master_is)))
+          (restarts.running config servers clients w r e choice clocks s.ss s.k s.h x.moment copies choice.decided s.same_files s.named refl (opened_as o) same refl refl master_is)))
       opens_it false not is =
           let same = by_restart (shut_as w.master o) (is ∙ ap (λ (b : Bool). cond b (opened_as o) (shut_as w.master o)) not) in
           let master_is : v.master ≡ (shut_as w.master o).state = ap (λ (y : WorldState). y.master) same in
@@ -307,7 +311,7 @@ module _ (config : Config) (servers clients : ℕ) (w : WorldState) (settings : 
           whole_down down
           (λ decided.
           silently s.ss s.k s.h x.moment (log_as v.master decided) [] (ap (λ (y : WorldState). y.sent) same ∙ append-nil w.sent)
-          (restarts.shut config servers clients w r e choice clocks s.ss s.k s.h x.moment asks.copies choice.decided s.same_files s.named refl (shut_as w.master o) same refl refl decided down (ap (λ (m : MasterState). m.disk) master_is)
+          (restarts.shut config servers clients w r e choice clocks s.ss s.k s.h x.moment copies choice.decided s.same_files s.named refl (shut_as w.master o) same refl refl decided down (ap (λ (m : MasterState). m.disk) master_is)
           (ap (λ (m : MasterState). m.under_way) master_is)))
 
       by_end : (y : Ending) → choice.ending ≡ y → master_restart w.master x.moment choice ≡ opens y → IsWholeWorld config v
@@ -320,7 +324,7 @@ module _ (config : Config) (servers clients : ℕ) (w : WorldState) (settings : 
           (λ decided.
           let at = starts decided in
           silently at.ss at.k at.h x.moment (log_as v.master decided) [] (ap (λ (y : WorldState). y.sent) same ∙ append-nil w.sent)
-          (restarts.lost config servers clients w r e choice clocks at.ss at.k at.h x.moment asks.copies decided at.same_files at.named (opens Lost) same refl refl down
+          (restarts.lost config servers clients w r e choice clocks at.ss at.k at.h x.moment copies decided at.same_files at.named (opens Lost) same refl refl down
           (ap (λ (m : MasterState). log_changed_by_all m.disk (decided_changes decided m.under_way)) master_is)))
       by_end (Stops made) ends is =
           let same = by_restart (opens (Stops made)) is in
@@ -329,7 +333,7 @@ module _ (config : Config) (servers clients : ℕ) (w : WorldState) (settings : 
           whole_down down
           (λ decided.
           silently s.ss s.k s.h x.moment (log_as v.master decided) [] (ap (λ (y : WorldState). y.sent) same ∙ append-nil w.sent)
-          (restarts.left_at config servers clients w r e choice clocks s.ss s.k s.h x.moment asks.copies choice.decided s.same_files s.named refl (opens (Stops made)) same refl refl made decided down
+          (restarts.left_at config servers clients w r e choice clocks s.ss s.k s.h x.moment copies choice.decided s.same_files s.named refl (opens (Stops made)) same refl refl made decided down
           (ap (λ (m : MasterState). log_changed_by_all m.disk (decided_changes decided m.under_way)) master_is)))
 
       by_the_restart : IsWholeWorld config v

@@ -18,7 +18,7 @@ use Rattle.protocol_whole_laws.specs.ToldHolders.{HoldersMayGoOn}
 use Rattle.protocol_whole_laws.specs.MasterSteps.{HasFilesOf}
 use Rattle.protocol_whole_laws.specs.WholeSteps.{AreAskedFor}
 use Rattle.protocol_whole_laws.specs.WholeWorlds.{AreFileClients, IsBeside, IsWholeWorld}
-use Rattle.protocol_whole_laws.specs.MastersEvents.{AreOffersSo, AreCopiesOver, IsGoneFrom}
+use Rattle.protocol_whole_laws.specs.MastersEvents.{AreOffersSo, IsGoneFrom}
 
 -- Holders that were told may go on, wherever the machine is beside the master's log again: it left the orders of the chunks that there were, handles that are gone stood where they stood before, and no handle is used again.
 abbrev pub HoldersGoOnWhere : Config → WorldState → WorldState → Type 0
@@ -30,11 +30,10 @@ HoldersGoOnWhere config w then_ =
     → k.log.next_handle ≤ j.log.next_handle
     → HoldersMayGoOn w then_ k j
 
--- What an event of the master asks: each chunk that it adds is asked for; of copies that they have no lease; holders may go on; and the machine may offer what a step tells that goes through.
+-- What an event of the master asks: each chunk that it adds is asked for; holders may go on; and the machine may offer what a step tells that goes through.
 pub record AreMastersTrue (config : Config) (w then_ : WorldState) (e : Event) (choice : Choice) : Type 0 where
   pub asked : (moment : ℕ) (i : Input) → IsMastersInput w e moment i → IsTrue w.master.up → (ss : List PendingSnapshot) (k : ChunkSides) → IsBeside config w ss k
       → (m : Machine) → LeadsTo k.machine m → AreAskedFor m w.observer.orders w.master.disk (master_goes w.master moment i choice.refused).changes
-  pub copies : AreCopiesOver w
   pub holders : HoldersGoOnWhere config w then_
   pub offers : (moment : ℕ) (i : Input) → IsMastersInput w e moment i → IsTrue w.master.up → choice.ending ≡ Goes → (ss : List PendingSnapshot) (k j : ChunkSides) → IsBeside config w ss k → LeadsTo k.machine j.machine → IsRunTo config then_.observer.trace j.machine → AreChunksBeside config then_ j
       → HasFilesOf j.log j.machine → AreFileClients w.clients j.machine → AreOffersSo w then_ j.machine
