@@ -1,1 +1,3 @@
+pub mod GrantedRows
+pub mod GrantingSteps
 pub mod RoundsApart

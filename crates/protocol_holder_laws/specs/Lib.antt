@@ -1,1 +1,2 @@
+pub mod GrantingSteps
 pub mod RoundsApart

@@ -1,4 +1,5 @@
 //! Laws of holders that were told, over an event of the master.
 #![tactic(auto)]
 
+pub mod granting_steps;
 pub mod rounds_apart;
