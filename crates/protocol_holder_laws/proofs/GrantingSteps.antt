@@ -1,5 +1,5 @@
 -- What the master grants it grants as it takes a message that is no Ask: such a step begins no copy, and no file expires in it.
-use Rattle.std.proofs.Common.{◌≡◌, ◌⊎◌, ℕ, suc, ◌≤◌, ◌<◌, Bool, List, [], ◌∷◌, ◌++◌, length, refl, sym, subst, inl, inr, arith}
+use Rattle.std.proofs.Common.{◌≡◌, ◌⊎◌, ℕ, suc, ◌≤◌, ◌<◌, Bool, true, List, [], ◌∷◌, ◌++◌, length, refl, sym, subst, inl, inr, arith}
 use Rattle.std.specs.Prelude.{IsTrue}
 use Rattle.gfs_types.specs.declared.config.Config.{Config}
 use Rattle.gfs_types.specs.declared.ids.Node.TheVariants as node
@@ -21,7 +21,8 @@ use Rattle.protocol.specs.World.{WorldState, stamped, happens, IsReached}
 use Rattle.protocol_laws.specs.Laws.{is_grant, grants_of}
 use Rattle.protocol_laws.proofs.Steps.{on_cond}
 use Rattle.protocol_laws.proofs.Entries.{AllOf, all_joined}
-use Rattle.protocol_laws.proofs.MasterMoves.{IsNoGrantRecord}
+use Rattle.protocol_laws.proofs.MasterMoves.{IsNoGrantRecord, Keeps, Nothing, NoneEnded}
+use Rattle.protocol_laws.proofs.MasterSteps.{goes_keeps}
 use Rattle.protocol_laws.proofs.ClientMoves.{HasNoOrder, quiet_orders, client_quiet, call_quiet}
 use Rattle.protocol_laws.proofs.SentReached.{count-sent, server_quiet, server_restarts_quiet}
 use Rattle.protocol_step_laws.proofs.Events.{IsGiven, HoldsAfter, holds_after}
@@ -100,6 +101,25 @@ ungranting_names =
 -- a tick
 ticks_grant_nothing : (m : MasterState) (moment : ℕ) (refused : List Bool) → AllOf IsNoGrant (master_goes m moment input.Tick refused).changes
 ticks_grant_nothing m moment refused = ticked_kept GrantsNothing ungranting_names (λ d h. h) (master_begins (master_at m moment) refused) tt
+
+up_keeps : Keeps ⊥ Nothing NoneEnded (λ c. c.up ≡ true)
+up_keeps =
+    record {
+      sound = λ asks. absurd asks;
+      tells = λ c receiver b quiet h. h;
+      orders = λ c server b is plain h. h;
+      revokes = λ c handle row is h. h;
+      grants = λ c handle version until primary members told due names from idle h. h;
+      appends = λ c r due plain names h. h;
+      checkpoint = λ c tree h. h;
+      less = λ c handles copied h. h;
+      ends = λ c handle row is word h. h;
+      extends = λ c handle until row is left later from h. h;
+    }
+
+-- a master stays up in its step
+pub goes_up : (m : MasterState) (moment : ℕ) (i : Input) (refused : List Bool) → IsTrue m.up → IsTrue (master_goes m moment i refused).master.up
+goes_up m moment i refused up = goes_keeps (λ c. c.up ≡ true) up_keeps m moment i refused up
 
 none_has : (xs : List LogChange) (handle version : ℕ) → AllOf IsNoGrant xs → HasGrantRecord xs handle version → ⊥
 none_has [] handle version none has = has

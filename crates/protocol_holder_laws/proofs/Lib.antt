@@ -1,3 +1,5 @@
 pub mod GrantedRows
 pub mod GrantingSteps
+pub mod PinnedHandles
 pub mod RoundsApart
+pub mod TriedPlaces
