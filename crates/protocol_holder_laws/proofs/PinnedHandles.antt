@@ -164,7 +164,7 @@ module _ (config : Config) (servers clients : ℕ) (w : WorldState) (r : IsReach
       stands_somewhere w.master.logged.table q (omega (arith, some, count, here))
 
   -- what stands has a row
-  standing_row : (q : ℕ) (s : Spot) → StandsAt w.master.logged.table.files s.file s.index q → HasRow (rows_of w.master.logged) q
+  pub standing_row : (q : ℕ) (s : Spot) → StandsAt w.master.logged.table.files s.file s.index q → HasRow (rows_of w.master.logged) q
   standing_row q s at = chunk_row w.master.logged.table s.file q u.tied.base.counted (placed_stands (chunks_at w.master.logged.table.files s.file) s.index q at)
 
   -- and is no copy
@@ -187,6 +187,52 @@ module _ (config : Config) (servers clients : ℕ) (w : WorldState) (r : IsReach
 
       sides : ChunkSides
       sides = record { log = w.master.logged; gone = λ handle. None; orders = w.observer.orders; machine = new_machine config }
+
+-- a place of a file over an event, where each copy under way of a chunk of R is of R
+module _ (file index : ℕ) (R : ℕ → Type 0) (config : Config) (servers clients : ℕ) (w : WorldState) (r : IsReached config servers clients w) where
+  pub taken_here : IsTrue w.master.up → (handle : ℕ) → StandsAt w.master.logged.table.files file index handle → R handle → ArePlacesTaken file index R w.master
+  taken_here up handle stands of =
+      record {
+        found = subst (λ (xs : List LogChange). AllFound (IsLogTaken file index R) w.master.disk xs) (sym now.idle)
+            (found_same (IsLogTaken file index R) w.master.disk (taken_same file index R w.master.logged (state_of w.master.disk) now.tied.base.base.files (ap (λ (p : Parts). p.next_file) now.same) taken));
+        up = λ _. taken;
+      }
+    where
+      now : IsUpToLog IsFoundRows IsRowedLog rows_kept w.master
+      now = u config servers clients w r up
+
+      place : IsPlaceKept file index handle w.master.logged
+      place = (files_below w.master.logged now.tied.base.base.here file (stood_file w.master.logged.table.files file index handle stands), inl stands)
+
+      taken : IsTaken file index R w.master.logged
+      taken = (handle, place, of)
+
+  module _ (clocks : IsTrue w.observer.are_clocks_kept) (places : ArePlacesTaken file index R w.master) (copies : IsTrue w.master.up → AreCopiesOf file index R w.master.logged) where
+    base : IsOfWaits w.sent w.master
+    base = sent_reached IsOfWaits waits_kept config servers clients w r
+
+    kind : (moment : ℕ) (i : Input) (c : Choice) → IsTrue w.master.up → AllOf IsNoGrant (master_goes w.master moment i c.refused).changes ⊎ AllOf IsNoStart (master_goes w.master moment i c.refused).changes
+    kind moment i c up =
+        elim (asked_or_not i) [
+          | inl none ↦ inr (unasked_step config servers clients w r clocks up (free_reached config servers clients w r clocks up) moment i c.refused none).changes
+          | inr ask ↦ inl (asked_step config servers clients w r clocks up (free_reached config servers clients w r clocks up) moment i c.refused ask).changes
+        ]
+
+    each_taken : HoldsAfter w (λ e x. ArePlacesTaken file index R x.world.master)
+    each_taken =
+        record {
+          nothing = λ e. places;
+          masters = λ e moment i c is up. step_taken file index R w.master moment i c base.base.logged base.waits up (kind moment i c up) (copies up) places;
+          opens = λ e moment c. restart_taken file index R w.master moment c base.base.issued base.base.logged places;
+          serves = λ e at moment s i c there is up. places;
+          restarts = λ e at moment s c there. places;
+          steps = λ e at moment s i c there is up. places;
+          calls = λ e at moment s asked c there may. places;
+          rots = λ e at q s x place byte is_kept there held up. places;
+        }
+
+    pub taken_after : (e : Event) (choice : Choice) → ArePlacesTaken file index R (happens w e choice).world.master
+    taken_after e choice = holds_after w (λ e x. ArePlacesTaken file index R x.world.master) each_taken e choice
 
 module _ (file index handle version : ℕ) where
   abbrev here : Spot
@@ -222,21 +268,8 @@ module _ (file index handle version : ℕ) where
         low = low;
         plain = λ _. standing_plain config servers clients w r up handle here stands;
         tried = λ _ _ a at row. inr stands;
-        places = λ _. record {
-          found = subst (λ (xs : List LogChange). AllFound (IsLogTaken file index (IsFor w)) w.master.disk xs) (sym now.idle)
-              (found_same (IsLogTaken file index (IsFor w)) w.master.disk (taken_same file index (IsFor w) w.master.logged (state_of w.master.disk) now.tied.base.base.files (ap (λ (p : Parts). p.next_file) now.same) taken));
-          up = λ _. taken;
-        };
+        places = λ _. taken_here file index (IsFor w) config servers clients w r up handle stands (inl refl);
       }
-    where
-      now : IsUpToLog IsFoundRows IsRowedLog rows_kept w.master
-      now = u config servers clients w r up
-
-      place : IsPlaceKept file index handle w.master.logged
-      place = (files_below w.master.logged now.tied.base.base.here file (stood_file w.master.logged.table.files file index handle stands), inl stands)
-
-      taken : IsTaken file index (IsFor w) w.master.logged
-      taken = (handle, place, inl refl)
 
   -- one event
   module _ (config : Config) (servers clients : ℕ) (w : WorldState) (r : IsReached config servers clients w) (e : Event) (choice : Choice) (h : IsPinned w) where
@@ -304,33 +337,9 @@ module _ (file index handle version : ℕ) where
           issued row at (inl same) = (low_up config servers clients w r up h.low).1 row (ap (λ (n : ℕ). chunk_of w.master.logged.table n) (sym same) ∙ at)
           issued row at (inr passed) = (passed.up up).0.1 row at
 
-      base : IsOfWaits w.sent w.master
-      base = sent_reached IsOfWaits waits_kept config servers clients w r
-
-      kind : (moment : ℕ) (i : Input) (c : Choice) → IsTrue w.master.up → AllOf IsNoGrant (master_goes w.master moment i c.refused).changes ⊎ AllOf IsNoStart (master_goes w.master moment i c.refused).changes
-      kind moment i c up =
-          elim (asked_or_not i) [
-            | inl none ↦ inr (unasked_step config servers clients w r before up (free_reached config servers clients w r before up) moment i c.refused none).changes
-            | inr ask ↦ inl (asked_step config servers clients w r before up (free_reached config servers clients w r before up) moment i c.refused ask).changes
-          ]
-
-      each_taken : HoldsAfter w (λ e x. ArePlacesTaken file index (IsFor w) x.world.master)
-      each_taken =
-          let places : ArePlacesTaken file index (IsFor w) w.master = h.places before in
-          record {
-            nothing = λ e. places;
-            masters = λ e moment i c is up. step_taken file index (IsFor w) w.master moment i c base.base.logged base.waits up (kind moment i c up) (copies_for up) places;
-            opens = λ e moment c. restart_taken file index (IsFor w) w.master moment c base.base.issued base.base.logged places;
-            serves = λ e at moment s i c there is up. places;
-            restarts = λ e at moment s c there. places;
-            steps = λ e at moment s i c there is up. places;
-            calls = λ e at moment s asked c there may. places;
-            rots = λ e at q s x place byte is_kept there held up. places;
-          }
-
       -- what stands there after the event is the chunk, or had passed the version before
       pub places_after : ArePlacesTaken file index (IsFor w) (happens w e choice).world.master
-      places_after = holds_after w (λ e x. ArePlacesTaken file index (IsFor w) x.world.master) each_taken e choice
+      places_after = taken_after file index (IsFor w) config servers clients w r before (h.places before) copies_for e choice
 
       for_on : (q : ℕ) → IsFor w q → IsFor (happens w e choice).world q
       for_on q (inl same) = inl same

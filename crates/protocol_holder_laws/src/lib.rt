@@ -2,4 +2,5 @@
 #![tactic(auto)]
 
 pub mod granting_steps;
+pub mod holders_go_on;
 pub mod rounds_apart;

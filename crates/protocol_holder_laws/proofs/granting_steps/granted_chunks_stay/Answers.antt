@@ -1,4 +1,3 @@
-use Rattle.protocol_holder_laws.proofs.ToldSteps.{asked_post}
 use Rattle.protocol_holder_laws.proofs.GrantedRows.{granted_chunks_stay}
 use Rattle.protocol_holder_laws.proofs.granting_steps.granted_chunks_stay.Goals as goal
 
