@@ -1,22 +1,20 @@
 -- In a step that takes a message what is granted keeps its row, and files stay.
-use Rattle.std.proofs.Common.{◌≡◌, ◌⊎◌, ℕ, Bool, true, false, cond, List, [], ◌∷◌, ◌++◌, Option, Some, None, refl, sym, ap, ◌∙◌, inl, inr}
+use Rattle.std.proofs.Common.{◌≡◌, ◌⊎◌, ℕ, Bool, true, false, List, [], ◌∷◌, ◌++◌, Option, Some, None, refl, sym, ap, ◌∙◌, inl, inr}
 use Rattle.std.specs.Prelude.{nat_le, IsTrue}
 use Rattle.std.specs.List.{list_any}
 use Rattle.std.specs.Ordering.{nat_cmp, eq_by_cmp}
 use Rattle.std.specs.FinMap as table
 use Rattle.gfs_types.specs.Paths.{Path}
 use Rattle.gfs_types.specs.declared.config.Config.{Config}
-use Rattle.messages.specs.declared.event.Event.{Event}
 use Rattle.messages.specs.declared.event.Input.TheVariants as input
 use Rattle.log_records.specs.declared.record.Record.{Record}
 use Rattle.log_records.specs.declared.record.Record.TheVariants as log
-use Rattle.chunk_table.specs.ChunkTable.{ChunkTable, ChunkRow, chunk_of, handles_of, grant, changed_by, row_granted, row_shared, row_left, share_one, share_all, left_by, leave_one}
+use Rattle.chunk_table.specs.ChunkTable.{ChunkTable, ChunkRow, handles_of, changed_by, row_granted, row_left, share_one, share_all, left_by}
 use Rattle.relaxed_file.specs.Names.{Node, Dir, File, copied_entries, id_after}
-use Rattle.protocol.specs.Tables.{Table, removed_all}
+use Rattle.protocol.specs.Tables.{removed_all}
 use Rattle.protocol.specs.Logged.{Logged, Copy, LogDisk, LogChange, AppendRecord, WriteCheckpoint, after_record, checkpoint_of, copies_given_up, all_copies_given_up, swapped_in, with_copied_node, with_copied_nodes}
 use Rattle.protocol.specs.Master.{MasterState, MasterDoing}
 use Rattle.protocol.specs.MasterStep.{master_goes}
-use Rattle.protocol.specs.Choice.{Choice}
 use Rattle.protocol.specs.World.{WorldState, happens, IsReached}
 use Rattle.protocol_laws.proofs.Steps.{on_cond, same_or_not, put_there, put_other, gone_there, gone_other, kept_cases, removed_cases, none_some}
 use Rattle.protocol_laws.proofs.Entries.{AllOf}
@@ -24,7 +22,7 @@ use Rattle.protocol_laws.proofs.ChunkRows.{Rows, rows_of}
 use Rattle.protocol_laws.proofs.CopiesUnderWay.{AreCopied, keys_are_copied}
 use Rattle.protocol_laws.proofs.Owners.{HasRow, shared_row}
 use Rattle.protocol_laws.proofs.FilesNamed.{Files}
-use Rattle.protocol_laws.proofs.MasterMoves.{Core, core_of, grant_record, IsDue, IsNoGrantRecord, NoneEnded, removed_other}
+use Rattle.protocol_laws.proofs.MasterMoves.{Core, core_of, grant_record, IsNoGrantRecord, NoneEnded, removed_other}
 use Rattle.protocol_laws.proofs.RowsFit.{granted_logged}
 use Rattle.protocol_laws.proofs.RowsLogged.{IsFoundRows, IsRowedLog}
 use Rattle.protocol_laws.proofs.RowsKept.{rows_kept}
@@ -34,7 +32,7 @@ use Rattle.protocol_step_laws.proofs.MasterActs.{IsRowing, rowing_keeps, Waits, 
 use Rattle.protocol_step_laws.proofs.WaitsKept.{any_input, waits_here}
 use Rattle.protocol_step_laws.proofs.ActsOfSteps.{goes_acts}
 use Rattle.protocol_version_laws.proofs.CopiedSources.{copied_chunks_have_no_lease}
-use Rattle.protocol_version_laws.proofs.PlacesKept.{IsSourceOf, all_front, all_last, copies_left}
+use Rattle.protocol_version_laws.proofs.PlacesKept.{IsSourceOf, all_front, all_last}
 use Rattle.protocol_whole_laws.specs.GrantedRecords.{IsAttempted, IsGrantOf, HasGrantRecord}
 use Rattle.protocol_holder_laws.specs.GrantingSteps.{GrantedChunksStay}
 use Rattle.protocol_holder_laws.proofs.GrantingSteps.{IsPlainRecord, IsPlain, IsGrantingStep, messages_are_plain, granting_step}

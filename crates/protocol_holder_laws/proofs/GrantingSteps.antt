@@ -1,8 +1,7 @@
 -- What the master grants it grants as it takes a message that is no Ask: such a step begins no copy, and no file expires in it.
-use Rattle.std.proofs.Common.{◌≡◌, ◌⊎◌, ℕ, suc, ◌≤◌, ◌<◌, Bool, true, List, [], ◌∷◌, ◌++◌, length, refl, sym, subst, inl, inr, arith}
+use Rattle.std.proofs.Common.{◌≡◌, ℕ, suc, ◌<◌, Bool, true, List, [], ◌∷◌, ◌++◌, length, refl, sym, subst, inl, inr, arith}
 use Rattle.std.specs.Prelude.{IsTrue}
 use Rattle.gfs_types.specs.declared.config.Config.{Config}
-use Rattle.gfs_types.specs.declared.ids.Node.TheVariants as node
 use Rattle.messages.specs.declared.event.Event.{Event}
 use Rattle.messages.specs.declared.event.Input.{Input}
 use Rattle.messages.specs.declared.event.Input.TheVariants as input
@@ -12,7 +11,7 @@ use Rattle.log_records.specs.declared.record.Record.TheVariants as log
 use Rattle.protocol.specs.Sending.{server_id, handle_of, version_of}
 use Rattle.protocol.specs.Choice.{Choice, Ending, Goes, Lost, Stops}
 use Rattle.protocol.specs.Seen.{Taken, no_step}
-use Rattle.protocol.specs.Logged.{Logged, LogDisk, LogChange, AppendRecord, WriteCheckpoint, log_changed, checkpoint_of}
+use Rattle.protocol.specs.Logged.{LogDisk, LogChange, AppendRecord, WriteCheckpoint, log_changed, checkpoint_of}
 use Rattle.protocol.specs.Master.{MasterState, MasterDoing, master_begins}
 use Rattle.protocol.specs.MasterStep.{master_at, master_goes, master_ends, master_bounded, master_step, master_restart, may_end}
 use Rattle.protocol.specs.ServerStep.{server_step, server_restart}
@@ -25,11 +24,11 @@ use Rattle.protocol_laws.proofs.MasterMoves.{IsNoGrantRecord, Keeps, Nothing, No
 use Rattle.protocol_laws.proofs.MasterSteps.{goes_keeps}
 use Rattle.protocol_laws.proofs.ClientMoves.{HasNoOrder, quiet_orders, client_quiet, call_quiet}
 use Rattle.protocol_laws.proofs.SentReached.{count-sent, server_quiet, server_restarts_quiet}
-use Rattle.protocol_step_laws.proofs.Events.{IsGiven, HoldsAfter, holds_after}
+use Rattle.protocol_step_laws.proofs.Events.{HoldsAfter, holds_after}
 use Rattle.protocol_name_laws.specs.NameTrails.{log_read}
 use Rattle.protocol_version_laws.proofs.UnaskedSteps.{IsOfCalls, IsNoAsk, KeepsThese, KeepsNames, KeepsReports, taken_kept, ticked_kept}
 use Rattle.protocol_version_laws.proofs.AskedSteps.{IsNoGrant, names_grant_nothing}
-use Rattle.protocol_version_laws.proofs.CopiedSources.{IsAsk, asked_or_not, asked_step, free_reached}
+use Rattle.protocol_version_laws.proofs.CopiedSources.{asked_or_not, asked_step, free_reached}
 use Rattle.protocol_version_laws.proofs.ExtendLaws.{restart_silent}
 use Rattle.protocol_version_laws.proofs.SharedChunks.{quiet_sent}
 use Rattle.protocol_whole_laws.specs.GrantedRecords.{IsAttempted, IsGrantedFrom, AreGrantedFrom, IsGrantOf, HasGrantRecord}

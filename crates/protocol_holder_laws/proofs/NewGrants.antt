@@ -1,6 +1,6 @@
 -- What is granted at an event is apart from what was told before: no number up to a told version is granted of the told chunk but while it stands at its place, nor of another chunk that takes the place.
-use Rattle.std.proofs.Common.{◌≡◌, ◌⊎◌, ℕ, zero, suc, ◌≤◌, ◌<◌, Bool, true, false, List, [], ◌∷◌, length, Option, Some, None, refl, sym, ap, subst, ◌∙◌, inl, inr, arith}
-use Rattle.std.specs.Prelude.{unwrap_or, IsTrue}
+use Rattle.std.proofs.Common.{◌≡◌, ◌⊎◌, ℕ, zero, suc, ◌≤◌, true, false, List, [], ◌∷◌, Some, refl, sym, ap, subst, ◌∙◌, inl, inr, arith}
+use Rattle.std.specs.Prelude.{IsTrue}
 use Rattle.std.specs.FinMap as table
 use Rattle.gfs_types.specs.declared.config.Config.{Config}
 use Rattle.messages.specs.declared.event.Event.{Event}
@@ -10,27 +10,23 @@ use Rattle.messages.specs.declared.message.Location.{Location}
 use Rattle.chunk_table.specs.ChunkTable.{ChunkRow, chunk_of, file_of}
 use Rattle.protocol.specs.Tables.{element_at}
 use Rattle.protocol.specs.Choice.{Choice, decided_changes}
-use Rattle.protocol.specs.Logged.{Logged, Copy, log_changed_by_all}
-use Rattle.protocol.specs.Master.{MasterState, VersionAttempt}
+use Rattle.protocol.specs.Logged.{Logged, log_changed_by_all}
+use Rattle.protocol.specs.Master.{MasterState}
 use Rattle.protocol.specs.World.{WorldState, new_world, happens, after_events, IsReached}
 use Rattle.protocol_laws.specs.Laws.{grants_of}
-use Rattle.protocol_laws.proofs.Steps.{none_some, same_some, same_or_not}
-use Rattle.protocol_laws.proofs.ChunkRows.{rows_of}
+use Rattle.protocol_laws.proofs.Steps.{none_some, same_some}
 use Rattle.protocol_laws.proofs.OrderNumbers.{state_of}
-use Rattle.protocol_laws.proofs.Owners.{HasRow}
 use Rattle.protocol_step_laws.specs.Versions.{IsLeaseOver}
 use Rattle.protocol_step_laws.specs.Reads.{IsTold}
 use Rattle.protocol_step_laws.proofs.EndedLeases.{attempted_chunks_have_no_lease}
-use Rattle.protocol_step_laws.proofs.Events.{HoldsAfter, holds_after}
+use Rattle.protocol_step_laws.proofs.Events.{holds_after}
 use Rattle.protocol_step_laws.proofs.Histories.{SentIn, sent_in, after_both}
 use Rattle.protocol_step_laws.proofs.IssuedNumbers.{IsPassed}
 use Rattle.protocol_step_laws.proofs.LeasesStayOver.{reached_later}
 use Rattle.protocol_entry_laws.proofs.GrantsFollow.{HasPassed}
 use Rattle.protocol_version_laws.specs.ReplacedChunks.{IsToldAt}
-use Rattle.protocol_version_laws.specs.ToldVersions.{WasOrdered}
 use Rattle.protocol_version_laws.proofs.AskedSteps.{StandsAt, IsToldOf}
 use Rattle.protocol_version_laws.proofs.ClosedVersions.{clocks_before}
-use Rattle.protocol_version_laws.proofs.PlacesKept.{IsPlaceKept}
 use Rattle.protocol_version_laws.proofs.PlacesTaken.{IsTaken, ArePlacesTaken}
 use Rattle.protocol_version_laws.proofs.ReplacedChunks.{each_passed, kept_before}
 use Rattle.protocol_version_laws.proofs.ToldAnswers.{told_now}
@@ -41,8 +37,6 @@ use Rattle.protocol_machine_laws.specs.ChunksAlike as sides
 use Rattle.protocol_machine_laws.proofs.Sides.{listed}
 use Rattle.protocol_whole_laws.specs.Rounds.{IsLogOf}
 use Rattle.protocol_whole_laws.specs.GrantedRecords.{IsAttempted}
-use Rattle.protocol_whole_laws.specs.HoldersApart.{IsRoundAt}
-use Rattle.protocol_whole_laws.specs.ToldHolders.{IsToldVersion}
 use Rattle.protocol_whole_laws.proofs.EndedRounds.{leased_chunks_stand_once}
 use Rattle.protocol_whole_laws.proofs.PassedRounds.{passed_on, tells_passed}
 use Rattle.protocol_holder_laws.specs.RoundsApart.{IsNewGrant, AreGrantsApart}

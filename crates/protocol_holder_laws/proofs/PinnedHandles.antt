@@ -9,14 +9,14 @@ use Rattle.messages.specs.declared.event.Event.{Event}
 use Rattle.messages.specs.declared.event.Input.{Input}
 use Rattle.messages.specs.declared.message.Message.{Message}
 use Rattle.log_records.specs.declared.record.Record.TheVariants as log
-use Rattle.chunk_table.specs.ChunkTable.{ChunkRow, chunk_of, handles_of}
+use Rattle.chunk_table.specs.ChunkTable.{ChunkRow, chunk_of}
 use Rattle.relaxed_file.specs.Machine.{new_machine}
-use Rattle.protocol.specs.Tables.{element_at, removed_all}
+use Rattle.protocol.specs.Tables.{removed_all}
 use Rattle.protocol.specs.Choice.{Choice, Ending, Goes, Lost, Stops}
 use Rattle.protocol.specs.Seen.{Taken, no_step}
 use Rattle.protocol.specs.Logged.{Logged, Copy, LogDisk, LogChange}
-use Rattle.protocol.specs.Master.{MasterState, MasterDoing, VersionAttempt, master_begins, stopped_master}
-use Rattle.protocol.specs.MasterStep.{master_goes, master_ends, master_bounded, master_step, is_within_limits, may_end, found_log, started_master, opening, has_opened, opens_as, master_restart}
+use Rattle.protocol.specs.Master.{MasterState, MasterDoing, VersionAttempt, master_begins}
+use Rattle.protocol.specs.MasterStep.{master_goes, master_ends, master_bounded, master_step, is_within_limits, may_end, found_log, started_master, opening, has_opened, opens_as}
 use Rattle.protocol.specs.World.{WorldState, happens, after_events, IsReached}
 use Rattle.protocol_laws.specs.Laws.{grants_of}
 use Rattle.protocol_laws.proofs.Steps.{on_cond, none_some, same_some, removed_cases}

@@ -1,5 +1,5 @@
 -- What is told at an event stands at its place in the file after it.
-use Rattle.std.proofs.Common.{◌≡◌, ◌⊎◌, ℕ, suc, ◌≤◌, Bool, true, false, List, [], ◌∷◌, ◌++◌, length, Option, Some, None, is_some, refl, sym, ap, subst, ◌∙◌, inl, inr, arith}
+use Rattle.std.proofs.Common.{◌≡◌, ℕ, suc, ◌≤◌, Bool, true, List, [], ◌∷◌, ◌++◌, length, Some, is_some, refl, sym, ap, subst, ◌∙◌, inl, inr}
 use Rattle.std.specs.Prelude.{◌&&◌, IsTrue}
 use Rattle.gfs_types.specs.declared.config.Config.{Config}
 use Rattle.gfs_types.specs.declared.ids.FileId.{FileId}
@@ -13,7 +13,6 @@ use Rattle.messages.specs.declared.message.Body.TheVariants as body
 use Rattle.messages.specs.declared.message.Message.{Message}
 use Rattle.messages.specs.declared.message.Location.{Location}
 use Rattle.messages.specs.declared.message.Wanted.{Wanted}
-use Rattle.chunk_table.specs.ChunkTable.{file_of}
 use Rattle.protocol.specs.Tables.{element_at}
 use Rattle.protocol.specs.Sending.{the_client}
 use Rattle.protocol.specs.Choice.{Choice, Ending, Goes, Lost, Stops}
@@ -44,7 +43,6 @@ use Rattle.protocol_version_laws.proofs.AskedSteps.{StandsAt}
 use Rattle.protocol_version_laws.proofs.CopiedSources.{IsAsk, IsSilent, asked_or_not, unasked_step, free_reached}
 use Rattle.protocol_version_laws.proofs.ExtendLaws.{restart_silent, new_one, none_before, came_in}
 use Rattle.protocol_version_laws.proofs.ToldAnswers.{TellsNone, server_tells, restart_tells, client_tells, none_new}
-use Rattle.protocol_version_laws.proofs.UnaskedSteps.{IsUnasked}
 use Rattle.protocol_holder_laws.specs.HoldersGoOn.{ToldChunksStandAfter}
 use Rattle.protocol_holder_laws.proofs.GrantingSteps.{goes_up}
 use Rattle.protocol_holder_laws.proofs.ToldSteps.{IsSaid, Post, asked_post}

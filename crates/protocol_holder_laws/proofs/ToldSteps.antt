@@ -1,6 +1,6 @@
 -- As a step of the master takes an Ask, what it tells stands at its place in the file after it, also a chunk that it added.
-use Rattle.std.proofs.Common.{◌≡◌, ℕ, zero, suc, ◌≤◌, ◌<◌, Bool, true, false, true≢false, cond, List, [], ◌∷◌, ◌++◌, length, map, Option, Some, None, refl, sym, ap, subst, ◌∙◌, inl, inr, arith}
-use Rattle.std.specs.Prelude.{◌+◌, ◌==◌, ◌&&◌, not, nat_lt, nat_le, unwrap_or}
+use Rattle.std.proofs.Common.{◌≡◌, ℕ, zero, suc, ◌≤◌, ◌<◌, Bool, true, false, true≢false, cond, List, [], ◌∷◌, ◌++◌, length, map, Option, Some, None, refl, sym, ap, subst, ◌∙◌, arith}
+use Rattle.std.specs.Prelude.{◌==◌, nat_lt, nat_le, unwrap_or}
 use Rattle.std.specs.FinMap as table
 use Rattle.std.proofs.lemmas.Bool.{eqb-true}
 use Rattle.gfs_types.specs.Paths.{Path}
@@ -11,7 +11,6 @@ use Rattle.gfs_types.specs.declared.ids.Node.TheVariants as node
 use Rattle.gfs_types.specs.declared.ids.OrderNo.{OrderNo}
 use Rattle.gfs_types.specs.declared.refusal.Refusal.{Refusal}
 use Rattle.gfs_types.specs.declared.refusal.Refusal.TheVariants.{NamesFull, TooLong, Collected}
-use Rattle.messages.specs.declared.event.Input.TheVariants as input
 use Rattle.messages.specs.declared.message.Body.{Body}
 use Rattle.messages.specs.declared.message.Body.TheVariants as body
 use Rattle.messages.specs.declared.message.Message.{Message}
@@ -37,8 +36,8 @@ use Rattle.protocol.specs.Master.{MasterState, MasterDoing, PendingSnapshot, Hel
 use Rattle.protocol.specs.MasterSnapshots.{revokes_row, revokes, waits_for, first_is_true, all_but_first, lets_go, takes_snapshot, takes_ready, is_ready, reply_of, answers_name, settles_name, refuses_name, changes_names}
 use Rattle.protocol.specs.MasterVersions.{Asker, VersionTarget, holder_line, group_of, tells_location, tells_holders, tells_none, tells_to_wait, version_order, sends_versions, new_attempt, sends_issued, issues_to, targets_by, recorded_holders, issues_own, is_attempted, copy_order, sends_copies, copy_targets, sends_copy_started, copies_to, begins_copy, copy_for, is_copied, wants_own, wants_own_of, issues_copy, wants_copy, wants_by, wants_primary, holder_target}
 use Rattle.protocol.specs.MasterAsks.{looks_at_row, looks_at, mutates_row, mutates_at, adds_chunk, with_index, asks_to_write, asks_to_append, asks_for_last, asks_for, asks_of, takes_ask}
-use Rattle.protocol.specs.MasterStep.{master_takes, master_at, finishes, master_goes}
-use Rattle.protocol_laws.proofs.Steps.{on_cond, none_some, same_some, put_there, put_other}
+use Rattle.protocol.specs.MasterStep.{master_at}
+use Rattle.protocol_laws.proofs.Steps.{on_cond, same_some, put_there, put_other}
 use Rattle.protocol_laws.proofs.Entries.{AllOf, all_joined}
 use Rattle.protocol_laws.proofs.FilesNamed.{Files}
 use Rattle.protocol_version_laws.proofs.UnaskedSteps.{is_location}

@@ -1,5 +1,5 @@
 -- A step of the master moves no chunk that is attempted: one whose attempt began before the step, or is of no number above a version, stands only where it stood.
-use Rattle.std.proofs.Common.{◌≡◌, ◌⊎◌, ℕ, zero, suc, ◌≤◌, ◌<◌, Bool, true, false, List, [], ◌∷◌, ◌++◌, Option, Some, None, refl, sym, ap, subst, ◌∙◌, inl, inr, arith}
+use Rattle.std.proofs.Common.{◌≡◌, ◌⊎◌, ℕ, zero, suc, ◌<◌, Bool, List, [], ◌∷◌, ◌++◌, Option, Some, None, refl, sym, ap, subst, ◌∙◌, inl, inr, arith}
 use Rattle.std.specs.Prelude.{unwrap_or, IsTrue}
 use Rattle.std.specs.FinMap as table
 use Rattle.gfs_types.specs.Paths.{Path}
@@ -7,7 +7,7 @@ use Rattle.gfs_types.specs.declared.config.Config.{Config}
 use Rattle.messages.specs.declared.event.Input.{Input}
 use Rattle.log_records.specs.declared.record.Record.{Record}
 use Rattle.log_records.specs.declared.record.Record.TheVariants as log
-use Rattle.chunk_table.specs.ChunkTable.{ChunkTable, ChunkRow, handles_of, set_end}
+use Rattle.chunk_table.specs.ChunkTable.{ChunkTable, handles_of, set_end}
 use Rattle.relaxed_file.specs.Names.{Node, Dir, File, copied_entries, id_after}
 use Rattle.relaxed_file.proofs.NamesTree.{HasAt, copied_of, entry_is}
 use Rattle.protocol.specs.Tables.{element_at, with_at, removed_all}
@@ -16,7 +16,7 @@ use Rattle.protocol.specs.Logged.{Logged, Copy, LogDisk, after_record, copies_fo
 use Rattle.protocol.specs.Master.{MasterState, MasterDoing, VersionAttempt}
 use Rattle.protocol.specs.MasterStep.{master_goes}
 use Rattle.protocol.specs.World.{WorldState, IsReached}
-use Rattle.protocol_laws.proofs.Steps.{none_some, same_some, same_or_not, put_cases, put_there, put_other, gone_there, gone_other, gone_split, kept_cases, removed_cases}
+use Rattle.protocol_laws.proofs.Steps.{none_some, same_some, same_or_not, put_cases, put_there, put_other, gone_there, gone_other, gone_split, removed_cases}
 use Rattle.protocol_laws.proofs.ChunkRows.{rows_of}
 use Rattle.protocol_laws.proofs.FilesNamed.{Files}
 use Rattle.protocol_laws.proofs.OneName.{HasOneName}
