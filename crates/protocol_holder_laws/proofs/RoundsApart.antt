@@ -1,5 +1,5 @@
 -- Rounds stay apart over an event, but for those that are granted in it.
-use Rattle.std.proofs.Common.{◌≡◌, ◌⊎◌, ℕ, zero, suc, ◌<◌, ◌≤◌, List, [], ◌∷◌, refl, sym, ◌∙◌, subst, inl, inr, arith}
+use Rattle.std.proofs.Common.{◌≡◌, ◌⊎◌, ℕ, zero, suc, ◌≤◌, [], ◌∷◌, refl, sym, ◌∙◌, subst, inl, inr, arith}
 use Rattle.std.specs.Prelude.{IsTrue}
 use Rattle.std.proofs.lemmas.Bool.{cases_lt}
 use Rattle.gfs_types.specs.declared.config.Config.{Config}
@@ -17,7 +17,7 @@ use Rattle.protocol_whole_laws.specs.Rounds.{IsLogOf, IsEnded}
 use Rattle.protocol_whole_laws.specs.ServerSteps.{AreGoneOrdersAlike}
 use Rattle.protocol_whole_laws.specs.HoldersApart.{IsRoundAt, IsApart}
 use Rattle.protocol_whole_laws.proofs.EndedRounds.{ungranted_is_over, leased_chunks_stand_once, open_rounds_have_one_spot}
-use Rattle.protocol_holder_laws.specs.RoundsApart.{LoggedChunksAreApart, IsNewGrant, AreGrantsApart, RoundsStayApart}
+use Rattle.protocol_holder_laws.specs.RoundsApart.{LoggedChunksAreApart, AreGrantsApart, RoundsStayApart}
 
 pub logged_chunks_are_apart : LoggedChunksAreApart
 logged_chunks_are_apart config servers clients w r clocks k log h handle s stands version other round t at low = by_place at.place

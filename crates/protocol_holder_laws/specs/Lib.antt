@@ -1,1 +1,3 @@
+pub mod GrantingSteps
+pub mod HoldersGoOn
 pub mod RoundsApart
