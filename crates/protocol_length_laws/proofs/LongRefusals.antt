@@ -1,5 +1,5 @@
 -- A client that takes a refusal for its length has a call whose range is too long at the machine.
-use Rattle.std.proofs.Common.{◌≡◌, ◌⊎◌, ℕ, zero, suc, ◌+◌, ◌≤◌, Bool, true, false, true≢false, List, [], ◌∷◌, ◌++◌, length, Option, Some, None, refl, sym, ap, subst, ◌∙◌, inl, inr, arith}
+use Rattle.std.proofs.Common.{◌≡◌, ℕ, zero, suc, ◌≤◌, Bool, true, false, true≢false, List, [], ◌∷◌, ◌++◌, length, Option, Some, refl, sym, ap, subst, ◌∙◌, inl, inr, arith}
 use Rattle.std.specs.Prelude.{◌==◌, IsTrue}
 use Rattle.std.proofs.lemmas.Bool.{and_parts}
 use Rattle.gfs_types.specs.declared.config.Config.{Config}
@@ -31,12 +31,12 @@ use Rattle.protocol.specs.Sending.{data_id, the_client}
 use Rattle.protocol.specs.Choice.{Choice}
 use Rattle.protocol.specs.Client.{ClientState}
 use Rattle.protocol.specs.Master.{PendingSnapshot}
-use Rattle.protocol.specs.Observer.{Placed, order_of, observed_moment, calls_made}
+use Rattle.protocol.specs.Observer.{order_of, observed_moment, calls_made}
 use Rattle.protocol.specs.World.{WorldState, new_world, happens, after_events, IsReached, is_kept}
 use Rattle.protocol_laws.proofs.Steps.{same_some}
 use Rattle.protocol_laws.proofs.Entries.{same_number}
 use Rattle.protocol_step_laws.specs.Attempts.{is_request}
-use Rattle.protocol_step_laws.specs.FewAttempts.{EachOf, AreApart, WasAsked}
+use Rattle.protocol_step_laws.specs.FewAttempts.{EachOf, WasAsked}
 use Rattle.protocol_step_laws.specs.FileCalls.{IsOfFile}
 use Rattle.protocol_step_laws.proofs.Histories.{after_both}
 use Rattle.protocol_step_laws.proofs.ReadAnswers.{one_request}
@@ -49,7 +49,6 @@ use Rattle.protocol_call_laws.proofs.AskedIndexes.{asks_are_for_the_part_in_hand
 use Rattle.protocol_call_laws.proofs.LaterCalls.{calls_passed}
 use Rattle.protocol_call_laws.proofs.OpenEntries.{entries_were_asked_for_in_their_call}
 use Rattle.protocol_machine_laws.specs.ChunksAlike.{ChunkSides}
-use Rattle.protocol_whole_laws.specs.ChunksBeside.{AreChunksBeside}
 use Rattle.protocol_whole_laws.specs.FileClients.{IsFileCall, IsCallAlike, IsRefusedAt, IsSaid, IsSaidAt}
 use Rattle.protocol_whole_laws.specs.FileClientsStay.{IsFirm, IsFirmInput}
 use Rattle.protocol_whole_laws.specs.SentRequests.{IsAttemptOf, IsRequestOf, AreRequestsOfCalls, IsRefusedCall, IsTryAt, AreTriesNumbered}

@@ -1,10 +1,10 @@
 -- The count of a file's chunks as a call on it began is no higher than what it has come to since, while the file is there.
 use Rattle.std.proofs.Common.{◌≡◌, ℕ, ◌≤◌, Bool, true, false, true≢false, Option, Some, None, refl, sym, ap, subst, ◌∙◌, inl, inr, arith}
-use Rattle.std.specs.Prelude.{cond, option_and_then, IsTrue, IsFalse}
+use Rattle.std.specs.Prelude.{cond, option_and_then, IsFalse}
 use Rattle.gfs_types.specs.declared.config.Config.{Config}
 use Rattle.gfs_types.specs.declared.call.Call.{Call}
 use Rattle.relaxed_file.specs.Machine.{Machine, OpenCall, Asked, IsOpen, new_machine, chunk_count}
-use Rattle.relaxed_file.specs.Run.{Action, Allows, after, asked_now, file_of, shown, LeadsTo, IsReached}
+use Rattle.relaxed_file.specs.Run.{Action, Allows, after, asked_now, file_of, shown, IsReached}
 use Rattle.relaxed_file.proofs.CallSteps.{CallStep, call_step, fresh_call}
 use Rattle.relaxed_file.proofs.Grows.{Grows, grows_step, known_at_first}
 use Rattle.relaxed_file.proofs.Known.{Known, known_step}

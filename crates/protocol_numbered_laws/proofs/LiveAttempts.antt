@@ -1,6 +1,5 @@
 -- The attempts of a write that its client counts as live went to chunks that were told to it, none before the write's first one.
 use Rattle.std.proofs.Common.{◌≡◌, ◌⊎◌, ℕ, zero, suc, ◌/◌, ◌≤◌, true, false, true≢false, List, [], ◌∷◌, ◌++◌, map, Option, Some, None, refl, sym, ap, subst, ◌∙◌, inl, inr, arith}
-use Rattle.std.specs.Prelude.{IsTrue}
 use Rattle.gfs_types.specs.declared.config.Config.{Config}
 use Rattle.gfs_types.specs.declared.call.Call.{Call}
 use Rattle.gfs_types.specs.declared.call.Call.TheVariants as call
@@ -24,13 +23,13 @@ use Rattle.protocol_laws.proofs.Steps.{none_some, same_some}
 use Rattle.protocol_laws.proofs.RisingOrders.{set_cases}
 use Rattle.protocol_laws.proofs.ServerMoves.{IsCameIn}
 use Rattle.protocol_step_laws.specs.Locations.{chunk_used}
-use Rattle.protocol_step_laws.proofs.ClientReads.{Came, told_later, stepped, called}
+use Rattle.protocol_step_laws.proofs.ClientReads.{Came, stepped, called}
 use Rattle.protocol_step_laws.proofs.Events.{HoldsAfter, holds_after}
 use Rattle.protocol_step_laws.proofs.Histories.{IsGrown, step_grown}
 use Rattle.protocol_step_laws.proofs.LeasesStayOver.{reached_later}
 use Rattle.protocol_call_laws.specs.AnsweredWrites.{IsToldChunk}
 use Rattle.protocol_call_laws.specs.ToldIndexes.{has_index}
-use Rattle.protocol_call_laws.proofs.CallWalk.{IsFirst, AnyKept, AnyUsed, all_any, KeepsCall, StandsAt, StandsNow, IsCalm, IsAsking, Leaves, does_leave, begun_calm, call_calm}
+use Rattle.protocol_call_laws.proofs.CallWalk.{IsFirst, AnyKept, AnyUsed, all_any, KeepsCall, StandsAt, StandsNow, IsCalm, Leaves, does_leave, begun_calm, call_calm}
 use Rattle.protocol_call_laws.proofs.UsedIndexes.{AnyReply, AnyEnd, came_in, no_call, parts_go_to_their_chunk}
 use Rattle.protocol_numbered_laws.proofs.RequestsStay.{told_on}
 use Rattle.protocol_numbered_laws.proofs.SentNow.{pushing_reached}

@@ -1,7 +1,6 @@
 -- Where the master refuses an Ask for its length, the call's range is too long at the machine beside the world, and no attempt of the call was made.
-use Rattle.std.proofs.Common.{◌≡◌, ◌⊎◌, ℕ, zero, suc, ◌+◌, ◌-◌, ◌*◌, ◌/◌, ◌<◌, ◌≤◌, Bool, true, false, true≢false, List, [], ◌∷◌, ◌++◌, length, Option, Some, None, refl, sym, ap, subst, ◌∙◌, inl, inr, arith}
-use Rattle.std.specs.Prelude.{nat_lt, nat_le, not, ◌&&◌, ◌||◌, unwrap_or, option_map, is_some, Contains, IsTrue, IsFalse}
-use Rattle.std.specs.List.{AllByRecursion}
+use Rattle.std.proofs.Common.{◌≡◌, ℕ, zero, suc, ◌+◌, ◌-◌, ◌*◌, ◌/◌, ◌<◌, ◌≤◌, Bool, true, false, true≢false, List, [], ◌∷◌, ◌++◌, length, Option, Some, refl, sym, ap, subst, ◌∙◌, inl, inr, arith}
+use Rattle.std.specs.Prelude.{nat_lt, nat_le, not, ◌&&◌, ◌||◌, is_some, Contains, IsTrue, IsFalse}
 use Rattle.std.proofs.lemmas.Bool.{and_parts, and_from, cases_lt, ltb-true, lt-ltb}
 use Rattle.std.proofs.Math.Nat.{min-le_right}
 use Rattle.gfs_types.specs.declared.config.Config.{Config}
@@ -23,7 +22,7 @@ use Rattle.messages.specs.declared.message.Wanted.{Wanted}
 use Rattle.messages.specs.declared.message.Wanted.TheVariants as wanted
 use Rattle.relaxed_file.specs.Order.{CallId, Entry}
 use Rattle.relaxed_file.specs.Parts.{has_part, part_start, part_end, is_range_too_long}
-use Rattle.relaxed_file.specs.Machine.{Machine, Asked, Chunk, OpenCall, Piece, chunk_at, chunk_count, new_chunk}
+use Rattle.relaxed_file.specs.Machine.{Machine, Asked, Chunk, OpenCall, chunk_count}
 use Rattle.relaxed_file.specs.Answers.{is_too_long, HasSuccess, IsWrite}
 use Rattle.relaxed_file.specs.Run as run
 use Rattle.relaxed_file.proofs.AskedFor.{open_is_made}
@@ -43,12 +42,12 @@ use Rattle.protocol.specs.Logged.{Logged}
 use Rattle.protocol.specs.Master.{PendingSnapshot}
 use Rattle.protocol.specs.Observer.{calls_made}
 use Rattle.protocol.specs.World.{WorldState, new_world, stamped, happens, after_events, IsReached}
-use Rattle.protocol_laws.proofs.Steps.{none_some, same_some}
+use Rattle.protocol_laws.proofs.Steps.{same_some}
 use Rattle.protocol_laws.proofs.Entries.{same_number}
 use Rattle.protocol_laws.proofs.MembersRecorded.{kept_place}
 use Rattle.protocol_laws.proofs.MessagesSent.{IsSent, sent_after}
 use Rattle.protocol_step_laws.specs.Attempts.{is_request}
-use Rattle.protocol_step_laws.specs.FewAttempts.{IsAskedNow, WasAsked, part_of}
+use Rattle.protocol_step_laws.specs.FewAttempts.{WasAsked, part_of}
 use Rattle.protocol_step_laws.specs.FileCalls.{IsOfFile}
 use Rattle.protocol_step_laws.proofs.Events.{holds_after}
 use Rattle.protocol_step_laws.proofs.Histories.{steps_grown}
@@ -60,8 +59,7 @@ use Rattle.protocol_call_laws.proofs.AskedIndexes.{asks_are_for_the_part_in_hand
 use Rattle.protocol_name_laws.specs.Alike.{is_there}
 use Rattle.protocol_machine_laws.specs.ChunksAlike.{ChunkSides}
 use Rattle.protocol_whole_laws.specs.FileClients.{id_of, IsDoneSoFar, IsFileCall, IsCallAlike}
-use Rattle.protocol_whole_laws.specs.Rounds.{IsLogOf}
-use Rattle.protocol_whole_laws.specs.SentRequests.{IsCallOn, IsPartTo, IsAttemptOf, IsRequestOf, AreRequestsOf, IsRefusedCall}
+use Rattle.protocol_whole_laws.specs.SentRequests.{IsPartTo, IsAttemptOf, IsRequestOf, AreRequestsOf, IsRefusedCall}
 use Rattle.protocol_whole_laws.specs.WholeWorlds.{IsBeside}
 use Rattle.protocol_whole_laws.proofs.CountedCalls.{calls_are_counted}
 use Rattle.protocol_whole_laws.proofs.Parts.{none_below, none_beyond, first_there, none_of_nothing}
@@ -298,7 +296,7 @@ module _ (config : Config) (servers clients : ℕ) (steps : List (Event × Choic
         none_live : x.live ≡ []
         none_live =
             elim ((subst (λ (c : Call). LivesWereTold W.sent (suc index) m.config.chunk c x.file.0 x.index x.live) asked_is
-                (subst (λ (g : Config). LivesWereTold W.sent (suc index) g.chunk x.asked x.file.0 x.index x.live) (sym beside.chunks.settings) (lives_were_told config servers clients W r index s at x number current staged))).1) [
+            (subst (λ (g : Config). LivesWereTold W.sent (suc index) g.chunk x.asked x.file.0 x.index x.live) (sym beside.chunks.settings) (lives_were_told config servers clients W r index s at x number current staged))).1) [
               | inl none ↦ none
               | inr told ↦ absurd (let there = told_low told.0 told.1 told.2 told.4 in let past = told.3 in omega (arith, there, past, low, first))
             ]

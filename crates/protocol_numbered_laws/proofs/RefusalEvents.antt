@@ -1,8 +1,7 @@
 -- What an event does to a client that waits for the answer to an ask, and what the master refuses for its length in an event.
-use Rattle.std.proofs.Common.{◌≡◌, ◌⊎◌, ℕ, suc, ◌<◌, Bool, true, false, true≢false, List, [], ◌∷◌, length, Option, Some, None, refl, sym, ap, subst, ◌∙◌, inl, inr, arith}
-use Rattle.std.specs.Prelude.{◌==◌, ◌&&◌, is_none, IsTrue}
+use Rattle.std.proofs.Common.{◌≡◌, ◌⊎◌, ℕ, suc, ◌<◌, Bool, true, true≢false, List, [], ◌∷◌, length, Option, Some, None, refl, sym, ap, subst, ◌∙◌, inl, inr, arith}
+use Rattle.std.specs.Prelude.{◌&&◌, is_none, IsTrue}
 use Rattle.std.proofs.lemmas.Bool.{and_parts, cases_eq, ne_eqb}
-use Rattle.std.specs.Option.{option_to_list}
 use Rattle.gfs_types.specs.declared.call.Call.{Call}
 use Rattle.gfs_types.specs.declared.ids.FileId.{FileId}
 use Rattle.gfs_types.specs.declared.ids.Moment.{Moment}
@@ -10,7 +9,6 @@ use Rattle.gfs_types.specs.declared.ids.Node.{Node}
 use Rattle.gfs_types.specs.declared.ids.Node.TheVariants as node
 use Rattle.gfs_types.specs.declared.refusal.Refusal.{Refusal}
 use Rattle.gfs_types.specs.declared.refusal.Refusal.TheVariants.{TooLong}
-use Rattle.messages.specs.declared.event.Event.{Event}
 use Rattle.messages.specs.declared.event.Input.{Input}
 use Rattle.messages.specs.declared.event.Input.TheVariants as input
 use Rattle.messages.specs.declared.message.Body.{Body}
@@ -26,14 +24,14 @@ use Rattle.relaxed_file.specs.Run.{Called}
 use Rattle.protocol.specs.Tables.{element_at, with_at}
 use Rattle.protocol.specs.Sending.{the_client, the_server}
 use Rattle.protocol.specs.Choice.{Choice, Ending, Goes, Lost, Stops}
-use Rattle.protocol.specs.Client.{ClientState, ClientDoing, client_begins}
+use Rattle.protocol.specs.Client.{ClientState, ClientDoing}
 use Rattle.protocol.specs.ClientStep.{client_at, client_goes, client_call_goes, client_step, client_call, has_room_to_count}
 use Rattle.protocol.specs.MasterStep.{master_step, master_restart}
-use Rattle.protocol.specs.Observer.{observed_moment, observed_call, calls_made}
+use Rattle.protocol.specs.Observer.{observed_moment, calls_made}
 use Rattle.protocol.specs.Server.{ServerState}
 use Rattle.protocol.specs.ServerStep.{server_step, server_at, server_restarts, server_restart}
 use Rattle.protocol.specs.World.{WorldState, Happened}
-use Rattle.protocol_laws.proofs.Steps.{none_some, same_some}
+use Rattle.protocol_laws.proofs.Steps.{none_some}
 use Rattle.protocol_laws.proofs.Entries.{AllOf}
 use Rattle.protocol_laws.proofs.MembersRecorded.{all_at}
 use Rattle.protocol_laws.proofs.RisingOrders.{set_cases}
@@ -45,7 +43,7 @@ use Rattle.protocol_entry_laws.proofs.RisingRounds.{restart_silent}
 use Rattle.protocol_call_laws.proofs.Answerers.{came_to}
 use Rattle.protocol_call_laws.proofs.LaterCalls.{put_at, calls_joined, calls_passed, calls_answered}
 use Rattle.protocol_call_laws.proofs.UsedIndexes.{no_call}
-use Rattle.protocol_numbered_laws.proofs.AskAnswers.{is_no_answer, IsTakenAsk, IsRefusedWhere, MasterRefuses, master_refuses_asks}
+use Rattle.protocol_numbered_laws.proofs.AskAnswers.{is_no_answer, IsTakenAsk, IsRefusedWhere, master_refuses_asks}
 use Rattle.protocol_numbered_laws.proofs.SentNow.{step_left, call_left}
 use Rattle.protocol_numbered_laws.proofs.StepStages.{IsNewStage, IsNewCall, next_step, next_call}
 
@@ -122,21 +120,21 @@ each_waits w =
       calls = λ e here moment q k choice there may index number s c at up is staged.
           elim (at_either w.clients here q (client_call q moment k choice).state index s there at) [
             | inl both ↦ inr (record {
-                client = q;
-                is = ap (λ (n : ℕ). element_at w.clients n) both.0 ∙ there;
-                up = (and_parts q.up (is_none q.current && has_room_to_count q) may).0;
-                new = call_waits q moment k choice (no_call q may) c number (ap (λ (t : ClientState). t.current) (sym both.1) ∙ is) staged;
-              })
+              client = q;
+              is = ap (λ (n : ℕ). element_at w.clients n) both.0 ∙ there;
+              up = (and_parts q.up (is_none q.current && has_room_to_count q) may).0;
+              new = call_waits q moment k choice (no_call q may) c number (ap (λ (t : ClientState). t.current) (sym both.1) ∙ is) staged;
+            })
             | inr other ↦ inl (record {
-                client = s;
-                is = other.1;
-                up = up;
-                current_is = is;
-                calls = calls_answered (observed_moment w.config.skew_ms (with_call w here moment k).observer moment) (suc here) (suc index) (client_call q moment k choice).out.answer
-                    ∙ calls_passed w.config.skew_ms (with_call w here moment k).observer moment (suc index)
-                    ∙ calls_joined (suc index) (observed_moment w.config.skew_ms w.observer moment).trace (Called (suc here) k) (ne_eqb (suc here) (suc index) (λ same. other.0 (omega (arith, same))))
-                    ∙ calls_passed w.config.skew_ms w.observer moment (suc index);
-              })
+              client = s;
+              is = other.1;
+              up = up;
+              current_is = is;
+              calls = calls_answered (observed_moment w.config.skew_ms (with_call w here moment k).observer moment) (suc here) (suc index) (client_call q moment k choice).out.answer
+                  ∙ calls_passed w.config.skew_ms (with_call w here moment k).observer moment (suc index)
+                  ∙ calls_joined (suc index) (observed_moment w.config.skew_ms w.observer moment).trace (Called (suc here) k) (ne_eqb (suc here) (suc index) (λ same. other.0 (omega (arith, same))))
+                  ∙ calls_passed w.config.skew_ms w.observer moment (suc index);
+            })
           ];
       rots = λ e server handle q r place byte kept there at_disk awake index number s c at up is staged. inl (record { client = s; is = at; up = up; current_is = is; calls = refl });
     }

@@ -1,5 +1,5 @@
 -- What was refused for its length stays so at each event, and requests stay of calls.
-use Rattle.std.proofs.Common.{◌≡◌, ◌⊎◌, ℕ, suc, ◌≤◌, Bool, true, false, true≢false, List, [], ◌∷◌, ◌++◌, Option, Some, None, refl, sym, ap, subst, ◌∙◌, inl, inr, arith}
+use Rattle.std.proofs.Common.{◌≡◌, ◌⊎◌, ℕ, suc, ◌≤◌, Bool, true, false, true≢false, List, [], ◌∷◌, ◌++◌, Option, Some, refl, sym, ap, subst, ◌∙◌, inl, inr, arith}
 use Rattle.std.specs.Prelude.{IsTrue}
 use Rattle.gfs_types.specs.declared.config.Config.{Config}
 use Rattle.gfs_types.specs.declared.ids.Node.{Node}
@@ -9,20 +9,20 @@ use Rattle.messages.specs.declared.event.Event.{Event}
 use Rattle.messages.specs.declared.message.Body.{Body}
 use Rattle.messages.specs.declared.message.Body.TheVariants as body
 use Rattle.messages.specs.declared.message.Message.{Message}
-use Rattle.relaxed_file.specs.Machine.{Machine, Asked, new_machine}
+use Rattle.relaxed_file.specs.Machine.{Machine, Asked}
 use Rattle.relaxed_file.specs.Answers.{is_too_long}
 use Rattle.relaxed_file.specs.Run.{LeadsTo, IsRunTo}
 use Rattle.relaxed_file.proofs.Grows.{Grows, grows_to, known_when_reached}
 use Rattle.client_state.specs.declared.call.CurrentCall.{CurrentCall}
 use Rattle.client_state.specs.declared.call.Stage.{Stage}
-use Rattle.client_state.specs.declared.call.Stage.TheVariants.{AskedWhere, SentData}
+use Rattle.client_state.specs.declared.call.Stage.TheVariants.{AskedWhere}
 use Rattle.protocol.specs.Tables.{element_at}
 use Rattle.protocol.specs.Sending.{the_client}
 use Rattle.protocol.specs.Choice.{Choice}
 use Rattle.protocol.specs.Client.{ClientState}
 use Rattle.protocol.specs.Master.{PendingSnapshot}
 use Rattle.protocol.specs.Observer.{calls_made}
-use Rattle.protocol.specs.World.{WorldState, Happened, new_world, stamped, happens, after_events}
+use Rattle.protocol.specs.World.{WorldState, Happened, new_world, happens, after_events}
 use Rattle.protocol_laws.proofs.Steps.{same_some}
 use Rattle.protocol_laws.proofs.MessagesSent.{IsSent, IsSameMessage}
 use Rattle.protocol_step_laws.specs.Attempts.{IsRequestOf}

@@ -65,8 +65,7 @@ use Rattle.protocol_whole_laws.specs.ServerSteps.{AreDataOf}
 use Rattle.protocol_whole_laws.specs.FileClients.{id_of, IsDoneSoFar, IsFileCall, IsCallAlike}
 use Rattle.protocol_whole_laws.specs.WholeWorlds.{AreFileClients}
 use Rattle.protocol_whole_laws.proofs.CountedCalls.{calls_are_counted}
-use Rattle.protocol_whole_laws.specs.SentRequests.{IsCallOn, IsPartTo, IsAttemptOf, IsWantedBy, IsAskOf, IsRequestOf, AreRequestsOf, AreRequestsOfCalls}
-use Rattle.protocol_numbered_laws.specs.NumberedCalls.{RequestsStayOfCalls}
+use Rattle.protocol_whole_laws.specs.SentRequests.{IsCallOn, IsPartTo, IsAttemptOf, IsWantedBy, IsAskOf, IsRequestOf, AreRequestsOf}
 use Rattle.protocol_numbered_laws.proofs.AskedOnce.{Sends, each_sends}
 use Rattle.protocol_numbered_laws.proofs.SentNow.{IsMutateNow, IsOwn, step_left, call_left, ArePushing, pushing_reached}
 
