@@ -3,7 +3,7 @@
 
     judge_clients.py [--faults] [--seeds FROM TO] [--events N] [--minutes M]
 
-After each event: IsFileClient of each client that is up. Before each message that a client takes: IsSaid. The machine goes beside the world as under `tools/explore --simulate`.
+After each event: IsFileClient of each client that is up, and IsRefusedCall of each that waits for an ask that the master refused for its length (specs/SentRequests). Before each message that a client takes: IsSaid. The machine goes beside the world as under `tools/explore --simulate`.
 """
 import os
 import sys
@@ -33,6 +33,7 @@ class ClientJudge(simulate.Simulation):
         self.has_part, self.part_length, self.too_long = part('has_part'), part('part_length'), part('is_range_too_long')
         self.call_too_long, self.uses_chunks = answers('is_too_long'), answers('uses_chunks')
         self.tries = program.function('relaxed_file', 'Chunks', 'tries_below')
+        self.heard, self.asking, self.refused = 0, set(), set()
 
     def claim(self, holds, what):
         self.counts['claims'] += 1
@@ -49,10 +50,34 @@ class ClientJudge(simulate.Simulation):
 
     def check_parts(self, world, messages):
         super().check_parts(world, messages)
+        self.hear(world)
         for was in (False, True):
             for client, state_of in enumerate(world['clients'], 1):
                 if state_of['up']:
                     self.check_client(self.machines[was], client, state_of)
+
+    def made(self, world, client):
+        return sum(1 for seen in world['observer']['trace'] if seen[0] == 'Called' and seen[1] == client)
+
+    def hear(self, world):
+        """Notes the calls for which a primary was asked, and the numbers of asks that were refused for their length."""
+        for message in world['sent'][self.heard:]:
+            sender, body = message['sender'], message['body']
+            if sender[0] == 'Client' and body[0] == 'Mutate':
+                client = number(sender[1])
+                self.asking.add((client, self.made(world, client)))
+            elif sender[0] == 'Master' and body[0] == 'Refused' and body[2] == ('TooLong',):
+                self.refused.add((number(message['receiver'][1]), body[1]))
+        self.heard = len(world['sent'])
+        for client, s in enumerate(world['clients'], 1):
+            x = some(s['current']) if s['up'] else None
+            if x is not None and x['stage'][0] == 'AskedWhere' and (client, x['stage'][1]) in self.refused:
+                self.counts['judged refused for length'] += 1
+                self.claim(x['live'] == [] and (client, self.made(world, client)) not in self.asking, 'refused for length: attempts')
+                for was in (False, True):
+                    machine = self.machines[was]
+                    asked = some(apply(apply(machine['clients'], client)['calls'], self.made(world, client)))
+                    self.claim(apply(self.call_too_long, machine['config']['chunk'], asked['chunks_before'], asked['call']), 'refused for length: too long')
 
     # the relation
 

@@ -15,6 +15,7 @@ use Rattle.messages.specs.declared.message.Body.{Body}
 use Rattle.messages.specs.declared.message.Body.TheVariants as body
 use Rattle.messages.specs.declared.message.Message.{Message}
 use Rattle.client_state.specs.declared.call.CurrentCall.{CurrentCall}
+use Rattle.chunk_table.specs.ChunkTable.{file_of}
 use Rattle.protocol.specs.Tables.{element_at}
 use Rattle.protocol.specs.Sending.{data_id, the_server, the_client}
 use Rattle.protocol.specs.Choice.{Choice, Ending, Goes, Lost, Stops}
@@ -41,7 +42,7 @@ use Rattle.protocol_entry_laws.proofs.AnsweredAttempts.{IsSpentUp, answers_known
 use Rattle.protocol_call_laws.specs.RefusedAsks.{HasAsk}
 use Rattle.protocol_call_laws.proofs.Answerers.{came_to}
 use Rattle.protocol_client_laws.specs.ClientWords.{IsNoTelling, ClientsTellNothing, IsOfUsed, AnswersCarryUsedNumbers}
-use Rattle.protocol_client_laws.proofs.AskAnswers.{is_no_answer, master_refuses_asks}
+use Rattle.protocol_numbered_laws.proofs.AskAnswers.{is_no_answer, master_refuses_asks}
 
 -- what clients say
 
@@ -83,7 +84,7 @@ IsServers sender = (server : ℕ) × (sender ≡ the_server server)
 
 abbrev IsAnswered : List Message → Node → Node → Body → Type 0
 IsAnswered sent sender receiver (body.Told number l) = HasAsk sent receiver number
-IsAnswered sent sender receiver (body.Refused number refusal) = IsServers sender ⊎ HasAsk sent receiver number
+IsAnswered sent sender receiver (body.Refused number refusal) = IsServers sender ⊎ ((sender ≡ node.Master) × HasAsk sent receiver number)
 IsAnswered sent sender receiver (body.Bytes number bytes) = HasRead sent receiver number
 IsAnswered sent sender receiver (body.LenIs number count) = HasRead sent receiver number
 IsAnswered sent sender receiver other = Unit {0}
@@ -111,7 +112,7 @@ later_read sent more asker number h = record { asked = h.asked; sent_is = ((h.se
 
 later_answers : (sent more : List Message) (sender receiver : Node) (b : Body) → IsAnswered sent sender receiver b → IsAnswered (sent ++ more) sender receiver b
 later_answers sent more sender receiver (body.Told number l) h = later_ask sent more receiver number h
-later_answers sent more sender receiver (body.Refused number refusal) h = elim (h) [ inl from ↦ inl from | inr asked ↦ inr (later_ask sent more receiver number asked) ]
+later_answers sent more sender receiver (body.Refused number refusal) h = elim (h) [ inl from ↦ inl from | inr asked ↦ inr (asked.0, later_ask sent more receiver number asked.1) ]
 later_answers sent more sender receiver (body.Bytes number bytes) h = later_read sent more receiver number h
 later_answers sent more sender receiver (body.LenIs number count) h = later_read sent more receiver number h
 later_answers sent more sender receiver other h = tt
@@ -179,14 +180,14 @@ plain_answers sent sender receiver other is = tt
 
 mastered : (w : WorldState) (moment : ℕ) (i : Input) (choice : Choice) → ((m : Message) → i ≡ input.Deliver m → IsAmong w.sent m) → AllOf (Answers w.sent) (master_step w.master moment i choice).out.sent
 mastered w moment i choice came =
-    master_refuses_asks i w.master.holders (Answers w.sent)
+    master_refuses_asks i w.master.holders (λ file. file_of w.master.logged.table file) (Answers w.sent)
     (record {
       plain = λ receiver b is. plain_answers w.sent node.Master receiver b is;
-      refuses = λ receiver number refusal taken. inr (record { ask = taken.ask; file = taken.file; what = taken.what; deadline = taken.deadline; lost = taken.lost; sent_is = came taken.ask taken.came; sender_is = taken.sender_is; body_is = taken.body_is });
+      refuses = λ receiver number refusal taken why. inr (refl, record { ask = taken.ask; file = taken.file; what = taken.what; deadline = taken.deadline; lost = taken.lost; sent_is = came taken.ask taken.came; sender_is = taken.sender_is; body_is = taken.body_is });
       none = λ receiver number taken. record { ask = taken.ask; file = taken.file; what = taken.what; deadline = taken.deadline; lost = taken.lost; sent_is = came taken.ask taken.came; sender_is = taken.sender_is; body_is = taken.body_is };
       tells = λ receiver number l taken known.
           record { ask = taken.taken.ask; file = taken.taken.file; what = taken.taken.what; deadline = taken.taken.deadline; lost = taken.taken.lost; sent_is = came taken.taken.ask taken.taken.came; sender_is = taken.taken.sender_is; body_is = taken.taken.body_is };
-    }) w.master moment choice refl
+    }) w.master moment choice refl (λ file. refl)
 
 -- worlds
 
@@ -273,7 +274,7 @@ module _ (config : Config) (servers clients : ℕ) (w : WorldState) (r : IsReach
           | inl spent ↦ mutate_used number spent
           | inr reads ↦ read_used number reads.asked.body reads.reads (request_of reads.asked reads.sent_is reads.sender_is)
         ]
-        | inr asked ↦ asked_used number (subst (λ (n : Node). HasAsk w.sent n number) to asked)
+        | inr asked ↦ asked_used number (subst (λ (n : Node). HasAsk w.sent n number) to asked.1)
       ]
 
   read_by : (receiver : Node) → receiver ≡ the_client (suc index) → (number : ℕ) → HasRead w.sent receiver number → number ≤ s.number
@@ -293,3 +294,9 @@ module _ (config : Config) (servers clients : ℕ) (w : WorldState) (r : IsReach
 pub answers_carry_used_numbers : AnswersCarryUsedNumbers
 answers_carry_used_numbers config servers clients w r index s at up place m there to =
     used config servers clients w r index s at up place m there to m.body refl (answered_reached config servers clients w r place m there)
+
+-- a refusal that a client or a node is told is a server's, or the master's, which was asked
+pub refusals_come_from : (config : Config) (servers clients : ℕ) (w : WorldState) → IsReached config servers clients w → (place : ℕ) (m : Message) → element_at w.sent place ≡ Some m → (number : ℕ) (refusal : Refusal) → m.body ≡ body.Refused number refusal
+    → ((server : ℕ) × (m.sender ≡ the_server server)) ⊎ (m.sender ≡ node.Master)
+refusals_come_from config servers clients w r place m there number refusal is =
+    elim (subst (λ (b : Body). IsAnswered w.sent m.sender m.receiver b) is (answered_reached config servers clients w r place m there)) [ inl from ↦ inl from | inr asked ↦ inr asked.0 ]

@@ -86,7 +86,7 @@ client_file_steps_keep_worlds_whole config servers clients w r kept e choice clo
     (record {
       numbers = known;
       requests = events_keep_requests_numbered config w (and_parts _ _ kept).0 e choice;
-      heard = λ up ss k j beside leads chunks run files loose. long index moment s i at up given loose ss k j beside leads chunks run files;
+      heard = λ up ss k j beside leads chunks run files adds loose. long index moment s i at up given loose ss k j beside leads chunks run files adds;
       waits = λ up ss k m beside leads files words f. waits_so config servers clients w r index s at up moment i m (files index s at up) (words index s at up) f;
       says = says config servers clients w r e choice index moment s i at given;
     }) h

@@ -88,7 +88,7 @@ use Rattle.protocol_numbered_laws.proofs.RequestsNumbered.{events_keep_requests_
 use Rattle.protocol_client_laws.specs.ClientsEvents.{AreOpenCallsKnown}
 use Rattle.protocol_client_laws.proofs.ClientsFileSteps.{untold_words}
 use Rattle.protocol_client_laws.proofs.FileWords.{later_client, words_at}
-use Rattle.protocol_client_laws.proofs.StepStages.{IsNewCall, next_step, next_call}
+use Rattle.protocol_numbered_laws.proofs.StepStages.{IsNewCall, next_step, next_call}
 
 module _ (config : Config) (servers clients : ℕ) (w : WorldState) (r : world.IsReached config servers clients w) (kept : IsTrue (is_kept w)) (e : Event) (choice : Choice) (clocks : IsTrue (happens w e choice).world.observer.are_clocks_kept)
     (others_event : IsMastersEvent w e → ⊥) (known : AreOpenCallsKnown config w) (index moment : ℕ) (s : ClientState) (at : element_at w.clients index ≡ Some s) (up : IsTrue s.up)

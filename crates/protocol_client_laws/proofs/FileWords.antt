@@ -26,7 +26,7 @@ use Rattle.protocol_whole_laws.proofs.FileWalk.{same_elsewhere}
 use Rattle.protocol_client_laws.specs.ClientWords.{IsOfUsed}
 use Rattle.protocol_client_laws.proofs.ClientWords.{answers_carry_used_numbers}
 use Rattle.protocol_client_laws.proofs.DoneWords.{waited_data_are_not_done}
-use Rattle.protocol_client_laws.proofs.StepStages.{IsNewStage, IsNewCall, next_step}
+use Rattle.protocol_numbered_laws.proofs.StepStages.{IsNewStage, IsNewCall, next_step}
 
 -- a step that changes no more than the client's clock
 

@@ -1,4 +1,3 @@
-pub mod AskAnswers
 pub mod ClientWords
 pub mod ClientsEvents
 pub mod ClientsFileSteps
@@ -6,4 +5,3 @@ pub mod ClientsGo
 pub mod DoneWords
 pub mod EventKinds
 pub mod FileWords
-pub mod StepStages

@@ -25,6 +25,7 @@ use Rattle.protocol_whole_laws.specs.ServerSteps.{AreForOpenCalls}
 use Rattle.protocol_whole_laws.specs.ChunksBeside.{AreChunksBeside, IsMastersEvent}
 use Rattle.protocol_whole_laws.specs.FileClients.{IsSaid}
 use Rattle.protocol_whole_laws.specs.FileClientsStay.{IsFirmInput}
+use Rattle.protocol_whole_laws.specs.Tries.{AddsNumberedTries}
 use Rattle.protocol_whole_laws.specs.WholeWorlds.{AreFileClients, IsBeside, IsWholeWorld, IsServersEvent}
 use Rattle.protocol_whole_laws.specs.WholeClients.{GivesClient}
 
@@ -53,7 +54,7 @@ abbrev pub AreTooLong : Config → WorldState → WorldState → Event → Type 
 AreTooLong config w then_ e =
     (index moment : ℕ) (s : ClientState) (i : Input) → element_at w.clients index ≡ Some s → IsTrue s.up → GivesClient w e index moment i → (IsFirmInput i → ⊥)
     → (ss : List PendingSnapshot) (k j : ChunkSides) → IsBeside config w ss k → LeadsTo k.machine j.machine → AreChunksBeside config then_ j
-    → IsRunTo config (observed_moment w.config.skew_ms w.observer moment).trace j.machine → AreFileClients w.clients j.machine → IsSaid j.machine (suc index) s i
+    → IsRunTo config (observed_moment w.config.skew_ms w.observer moment).trace j.machine → AreFileClients w.clients j.machine → AddsNumberedTries w then_ k j.machine → IsSaid j.machine (suc index) s i
 
 -- A step of a client for its open call on a file keeps the whole machine beside the world.
 abbrev pub ClientFileStepsKeepWorldsWhole : Type 0

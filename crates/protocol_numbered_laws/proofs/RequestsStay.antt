@@ -65,8 +65,7 @@ use Rattle.protocol_whole_laws.specs.ServerSteps.{AreDataOf}
 use Rattle.protocol_whole_laws.specs.FileClients.{id_of, IsDoneSoFar, IsFileCall, IsCallAlike}
 use Rattle.protocol_whole_laws.specs.WholeWorlds.{AreFileClients}
 use Rattle.protocol_whole_laws.proofs.CountedCalls.{calls_are_counted}
-use Rattle.protocol_whole_laws.specs.SentRequests.{IsCallOn, IsPartTo, IsAttemptOf, IsWantedBy, IsAskOf, IsRequestOf, AreRequestsOf, AreRequestsOfCalls}
-use Rattle.protocol_numbered_laws.specs.NumberedCalls.{RequestsStayOfCalls}
+use Rattle.protocol_whole_laws.specs.SentRequests.{IsCallOn, IsPartTo, IsAttemptOf, IsWantedBy, IsAskOf, IsRequestOf, AreRequestsOf}
 use Rattle.protocol_numbered_laws.proofs.AskedOnce.{Sends, each_sends}
 use Rattle.protocol_numbered_laws.proofs.SentNow.{IsMutateNow, IsOwn, step_left, call_left, ArePushing, pushing_reached}
 
@@ -145,25 +144,25 @@ told_on sent more client file index handle round h = record { location = h.locat
 -- what is new
 
 -- a client that is up asks for its open call
-record IsNew (w : WorldState) (x : Happened) (client : ℕ) (b : Body) : Type 0 where
-  index : ℕ
-  client_is : client ≡ suc index
-  before : ClientState
-  after : ClientState
-  before_is : element_at w.clients index ≡ Some before
-  after_is : element_at x.world.clients index ≡ Some after
-  up : IsTrue after.up
-  own : IsOwn before after.current b
-  calls : (before.current ≡ None) ⊎ (calls_made x.world.observer.trace (suc index) ≡ calls_made w.observer.trace (suc index))
+pub record IsNew (w : WorldState) (x : Happened) (client : ℕ) (b : Body) : Type 0 where
+  pub index : ℕ
+  pub client_is : client ≡ suc index
+  pub before : ClientState
+  pub after : ClientState
+  pub before_is : element_at w.clients index ≡ Some before
+  pub after_is : element_at x.world.clients index ≡ Some after
+  pub up : IsTrue after.up
+  pub own : IsOwn before after.current b
+  pub calls : (before.current ≡ None) ⊎ (calls_made x.world.observer.trace (suc index) ≡ calls_made w.observer.trace (suc index))
 
-abbrev AllNew : WorldState → Happened → Type 0
+abbrev pub AllNew : WorldState → Happened → Type 0
 AllNew w x = (client place : ℕ) (m : Message) → element_at x.out.sent place ≡ Some m → m.sender ≡ the_client client → IsNew w x client m.body
 
 no_client : (w : WorldState) (x : Happened) → AreNotClients x.out.sent → AllNew w x
 no_client w x none client place m at from =
     absurd (true≢false (sym (from_itself client m.sender from) ∙ all_at (λ (y : Message). is_from_client client y.sender ≡ false) x.out.sent place m (one_client client x.out.sent none) at))
 
-each_new : (config : Config) (w : WorldState) → ArePushing config w → HoldsAfter w (λ e x. AllNew w x)
+pub each_new : (config : Config) (w : WorldState) → ArePushing config w → HoldsAfter w (λ e x. AllNew w x)
 each_new config w h =
     record {
       nothing = λ e client place m at from. none_some m at;
@@ -425,20 +424,9 @@ module _ (config : Config) (servers clients : ℕ) (steps : List (Event × Choic
       subst (λ (c : ℕ). IsRequestOf Start Steps n c x.body) (sym new.client_is)
       (own_request new.index new.before new.after new.before_is new.after_is new.up x place at (from ∙ ap (λ (c : ℕ). the_client c) new.client_is) x.body refl new.own new.calls)
 
-  all_requests : AreRequestsOf Start Steps n
+  pub all_requests : AreRequestsOf Start Steps n
   all_requests client place x at from =
       elim (later_cases W.sent sends.0 X.out.sent place x (subst (λ (ms : List Message). element_at ms place ≡ Some x) (ap (λ (u : WorldState). u.sent) path ∙ sends.1) at)) [
         | inl before ↦ request_on client x.body (requests client place x before from)
         | inr now ↦ subst (λ (b : Body). IsRequestOf Start Steps n client b) (now.2).2 (new_request client (now.1).0 now.0 (now.1).1 ((now.2).0 ∙ from))
       ]
-
-pub requests_stay_of_calls : RequestsStayOfCalls
-requests_stay_of_calls config w m n e choice requests =
-    subst (λ (u : WorldState). IsRunTo config u.observer.trace m → LeadsTo m n → IsRunTo config (happens u e choice).world.observer.trace n → AreFileClients (happens u e choice).world.clients n → AreRequestsOfCalls config (happens u e choice).world n) requests.leads
-    (λ run leads later files. record {
-      servers = requests.servers;
-      clients = requests.clients;
-      steps = requests.steps ++ (e, choice) ∷ [];
-      leads = after_both (new_world config requests.servers requests.clients) requests.steps ((e, choice) ∷ []);
-      each = all_requests config requests.servers requests.clients requests.steps m n e choice requests.each run leads later files;
-    })

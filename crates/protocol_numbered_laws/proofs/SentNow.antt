@@ -301,7 +301,7 @@ pub record ArePushing (config : Config) (w : WorldState) : Type 0 where
   pub pushed : (index : ℕ) (s : ClientState) → element_at w.clients index ≡ Some s → (c : CurrentCall) (chunk : ToldChunk) (primary : ServerId) (number : ℕ) → s.current ≡ Some c → c.stage ≡ SentData chunk primary number
       → IsPushed w.sent (data_id (suc index) number) (bytes_to_send config.chunk c.index c.asked)
 
-stamped_sent : (k : ℕ) (ms : List Message) (m : Message) (place : ℕ) → element_at ms place ≡ Some m → (x : Message) × IsSent (stamped k ms) x × IsSameMessage x m
+pub stamped_sent : (k : ℕ) (ms : List Message) (m : Message) (place : ℕ) → element_at ms place ≡ Some m → (x : Message) × IsSent (stamped k ms) x × IsSameMessage x m
 stamped_sent k [] m place is = none_some m is
 stamped_sent k (y ∷ ms) m zero is =
     let same = same_some y m is in (record y { number = k }, (zero, refl), (ap (λ (z : Message). z.sender) same, ap (λ (z : Message). z.receiver) same, ap (λ (z : Message). z.body) same))

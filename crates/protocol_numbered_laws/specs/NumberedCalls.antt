@@ -19,11 +19,11 @@ NumberedMutationsAreForOpenCalls =
     (config : Config) (servers clients : ℕ) (w : WorldState) → AreSettings config → IsReached config servers clients w → IsTrue (is_kept w) → (ss : List PendingSnapshot) (k : ChunkSides) → IsBeside config w ss k
     → AreForOpenCalls w k
 
--- At each event, however the machine goes on beside it, requests stay of their calls, and new ones are: the clients that are up have their calls at the machine.
+-- At each event, however the machine beside the world goes on, requests stay of their calls, and new ones are: the clients that are up have their calls at the machine. What was refused for its length is too long.
 abbrev pub RequestsStayOfCalls : Type 0
 RequestsStayOfCalls =
-    (config : Config) (w : WorldState) (m n : Machine) (e : Event) (choice : Choice) → AreRequestsOfCalls config w m → IsRunTo config w.observer.trace m
-    → LeadsTo m n → IsRunTo config (happens w e choice).world.observer.trace n → AreFileClients (happens w e choice).world.clients n
+    (config : Config) (w : WorldState) (ss : List PendingSnapshot) (k : ChunkSides) (n : Machine) (e : Event) (choice : Choice) → IsBeside config w ss k
+    → LeadsTo k.machine n → IsRunTo config (happens w e choice).world.observer.trace n → AreFileClients (happens w e choice).world.clients n
     → AreRequestsOfCalls config (happens w e choice).world n
 
 -- And the tries stay numbered, where the machine places only what is numbered.

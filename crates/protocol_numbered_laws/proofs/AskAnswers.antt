@@ -1,6 +1,7 @@
 -- What the master answers an Ask in a step: it refuses, and tells locations or that there is none for, only the Ask that it takes, to the one that sent it, under its number.
-use Rattle.std.proofs.Common.{◌≡◌, ℕ, zero, suc, ◌+◌, Bool, true, false, List, [], ◌∷◌, ◌++◌, length, map, Option, Some, None, true≢false, refl, sym, ap, subst, ◌∙◌}
+use Rattle.std.proofs.Common.{◌≡◌, ℕ, zero, suc, ◌+◌, ◌<◌, Bool, true, false, List, [], ◌∷◌, ◌++◌, length, map, Option, Some, None, true≢false, refl, sym, ap, subst, ◌∙◌}
 use Rattle.std.specs.Prelude.{◌==◌, ◌&&◌, nat_lt, nat_le, cond, unwrap_or}
+use Rattle.std.proofs.lemmas.Bool.{ltb-true}
 use Rattle.std.specs.List.{filter_map, cons_option}
 use Rattle.std.specs.FinMap as table
 use Rattle.gfs_types.specs.declared.ids.Node.{Node}
@@ -74,6 +75,11 @@ pub record IsTakenAskOf (i : Input) (sender : Node) (number index : ℕ) : Type 
   pub taken : IsTakenAsk i sender number
   pub index_is : IsIndexOf taken.what index
 
+-- it refuses for length only an Ask for a chunk past the next one of its file
+abbrev pub IsRefusedWhere : (ℕ → Option (List ℕ)) → ℕ → Wanted → Refusal → Type 0
+IsRefusedWhere lists file what TooLong = (index : ℕ) × (handles : List ℕ) × (what ≡ wanted.Write index) × (lists file ≡ Some handles) × (length handles < index)
+IsRefusedWhere lists file what other = Unit {0}
+
 -- some Ask came in
 abbrev pub IsAskIn : Input → Type 0
 IsAskIn i = (sender : Node) × (number : ℕ) × IsTakenAsk i sender number
@@ -115,14 +121,14 @@ no_ask i m b came is other ask =
     let one : m ≡ (ask.2).ask = same_some m (ask.2).ask (ap message_in (sym came ∙ (ask.2).came)) in
     true≢false (sym (ap is_ask (sym is ∙ ap (λ (x : Message). x.body) one ∙ (ask.2).body_is)) ∙ other)
 
--- Of what the master says as it takes an input, where this is known of replicas.
-pub record MasterRefuses (i : Input) (known : Table (Table ℕ)) (W : Message → Type 0) : Type 0 where
+-- Of what the master says as it takes an input, where this is known of replicas, and its files have these chunks.
+pub record MasterRefuses (i : Input) (known : Table (Table ℕ)) (lists : ℕ → Option (List ℕ)) (W : Message → Type 0) : Type 0 where
   pub plain : (receiver : Node) (b : Body) → is_no_answer b ≡ true → W (message node.Master receiver b)
-  pub refuses : (receiver : Node) (number : ℕ) (refusal : Refusal) → IsTakenAsk i receiver number → W (message node.Master receiver (body.Refused number refusal))
+  pub refuses : (receiver : Node) (number : ℕ) (refusal : Refusal) (taken : IsTakenAsk i receiver number) → IsRefusedWhere lists taken.file.0 taken.what refusal → W (message node.Master receiver (body.Refused number refusal))
   pub none : (receiver : Node) (number : ℕ) → IsTakenAsk i receiver number → W (message node.Master receiver (body.Told number None))
   pub tells : (receiver : Node) (number : ℕ) (l : Location) → IsTakenAskOf i receiver number l.index → AreKnown known l.handle.0 l.holders → W (message node.Master receiver (body.Told number (Some l)))
 
-module _ (i : Input) (known : Table (Table ℕ)) (W : Message → Type 0) (k : MasterRefuses i known W) where
+module _ (i : Input) (known : Table (Table ℕ)) (lists : ℕ → Option (List ℕ)) (W : Message → Type 0) (k : MasterRefuses i known lists W) where
   -- an Ask changes nothing that is known
   abbrev pub Fine : MasterDoing → Type 0
   Fine d = AllOf W d.sent × (IsAskIn i → d.master.holders ≡ known)
@@ -138,8 +144,8 @@ module _ (i : Input) (known : Table (Table ℕ)) (W : Message → Type 0) (k : M
   abbrev IsAskedAt : Asker → Type 0
   IsAskedAt a = IsTakenAskOf i a.client a.number a.index
 
-  denied : (d : MasterDoing) (a : Asker) (refusal : Refusal) → IsAsked a → Fine d → Fine (tells d a.client (body.Refused a.number refusal))
-  denied d a refusal asked h = (all_joined W d.sent (message node.Master a.client (body.Refused a.number refusal) ∷ []) h.0 (k.refuses a.client a.number refusal asked, tt), h.1)
+  denied : (d : MasterDoing) (a : Asker) (refusal : Refusal) (asked : IsAsked a) → IsRefusedWhere lists asked.file.0 asked.what refusal → Fine d → Fine (tells d a.client (body.Refused a.number refusal))
+  denied d a refusal asked why h = (all_joined W d.sent (message node.Master a.client (body.Refused a.number refusal) ∷ []) h.0 (k.refuses a.client a.number refusal asked why, tt), h.1)
 
   ordered : (d : MasterDoing) (server : ℕ) (b : OrderNo → Body) → ((o : OrderNo) → is_no_answer (b o) ≡ true) → Fine d → Fine (orders d server b)
   ordered d server b is h =
@@ -331,9 +337,9 @@ module _ (i : Input) (known : Table (Table ℕ)) (W : Message → Type 0) (k : M
       let handle : ℕ = d.master.logged.next_handle in
       logged d (log.AddChunk (file_id a.file) (handle_of handle)) (λ e. mutates_at e a lost (Some handle)) (λ e g. at_said e a lost (Some handle) asked g) h
 
-  write_said : (d : MasterDoing) (a : Asker) (lost : Bool) (handles : List ℕ) (index : ℕ) → IsAsked a → IsAskedAt (with_index a index) → Fine d → Fine (asks_to_write d a lost handles index)
-  write_said d a lost handles index asked there h =
-      on_cond Fine (nat_lt (length handles) index) (tells d a.client (body.Refused a.number TooLong)) _ (λ _. denied d a TooLong asked h)
+  write_said : (d : MasterDoing) (a : Asker) (lost : Bool) (handles : List ℕ) (index : ℕ) (asked : IsAsked a) → (nat_lt (length handles) index ≡ true → IsRefusedWhere lists asked.file.0 asked.what TooLong) → IsAskedAt (with_index a index) → Fine d → Fine (asks_to_write d a lost handles index)
+  write_said d a lost handles index asked short there h =
+      on_cond Fine (nat_lt (length handles) index) (tells d a.client (body.Refused a.number TooLong)) _ (λ low. denied d a TooLong asked (short low) h)
       (λ _. on_cond Fine (index == length handles) (adds_chunk d (with_index a index) lost) (mutates_at d (with_index a index) lost (element_at handles index)) (λ _. adds_said d (with_index a index) lost there h)
       (λ _. at_said d (with_index a index) lost (element_at handles index) there h))
 
@@ -351,20 +357,21 @@ module _ (i : Input) (known : Table (Table ℕ)) (W : Message → Type 0) (k : M
   at_index : (a : Asker) (asked : IsAsked a) (w : Wanted) → asked.what ≡ w → (index : ℕ) → IsIndexOf w index → IsAskedAt (with_index a index)
   at_index a asked w same index is = record { taken = asked; index_is = subst (λ (x : Wanted). IsIndexOf x index) (sym same) is }
 
-  asks_for_said : (d : MasterDoing) (a : Asker) (lost : Bool) (w : Wanted) (handles : List ℕ) (asked : IsAsked a) → asked.what ≡ w → Fine d → Fine (asks_for d a lost w handles)
-  asks_for_said d a lost (wanted.Read index) handles asked same h = looks_said d (with_index a index) (element_at handles index) (at_index a asked (wanted.Read index) same index refl) h
-  asks_for_said d a lost (wanted.Write index) handles asked same h = write_said d a lost handles index asked (at_index a asked (wanted.Write index) same index refl) h
-  asks_for_said d a lost (wanted.Append after) handles asked same h = append_said d a lost handles after (length handles) (λ index. at_index a asked (wanted.Append after) same index tt) h
-  asks_for_said d a lost wanted.Last handles asked same h = last_said d a handles (length handles) (λ index. at_index a asked wanted.Last same index tt) h
+  asks_for_said : (d : MasterDoing) (a : Asker) (lost : Bool) (w : Wanted) (handles : List ℕ) (asked : IsAsked a) → asked.what ≡ w → lists asked.file.0 ≡ Some handles → Fine d → Fine (asks_for d a lost w handles)
+  asks_for_said d a lost (wanted.Read index) handles asked same here h = looks_said d (with_index a index) (element_at handles index) (at_index a asked (wanted.Read index) same index refl) h
+  asks_for_said d a lost (wanted.Write index) handles asked same here h =
+      write_said d a lost handles index asked (λ low. (index, handles, same, here, ltb-true (length handles) index low)) (at_index a asked (wanted.Write index) same index refl) h
+  asks_for_said d a lost (wanted.Append after) handles asked same here h = append_said d a lost handles after (length handles) (λ index. at_index a asked (wanted.Append after) same index tt) h
+  asks_for_said d a lost wanted.Last handles asked same here h = last_said d a handles (length handles) (λ index. at_index a asked wanted.Last same index tt) h
 
-  asks_of_said : (d : MasterDoing) (a : Asker) (lost : Bool) (w : Wanted) (o : Option (List ℕ)) (asked : IsAsked a) → asked.what ≡ w → Fine d → Fine (asks_of d a lost w o)
-  asks_of_said d a lost w None asked same h = denied d a Collected asked h
-  asks_of_said d a lost w (Some handles) asked same h = asks_for_said d a lost w handles asked same h
+  asks_of_said : (d : MasterDoing) (a : Asker) (lost : Bool) (w : Wanted) (o : Option (List ℕ)) (asked : IsAsked a) → asked.what ≡ w → lists asked.file.0 ≡ o → Fine d → Fine (asks_of d a lost w o)
+  asks_of_said d a lost w None asked same here h = denied d a Collected asked tt h
+  asks_of_said d a lost w (Some handles) asked same here h = asks_for_said d a lost w handles asked same here h
 
-  ask_said : (d : MasterDoing) (client : Node) (number file : ℕ) (w : Wanted) (deadline : ℕ) (lost : Bool) (asked : IsTakenAsk i client number) → asked.what ≡ w → Fine d → Fine (takes_ask d client number file w deadline lost)
-  ask_said d client number file w deadline lost asked same h =
+  ask_said : (d : MasterDoing) (client : Node) (number file : ℕ) (w : Wanted) (deadline : ℕ) (lost : Bool) (asked : IsTakenAsk i client number) → asked.what ≡ w → lists asked.file.0 ≡ file_of d.master.logged.table file → Fine d → Fine (takes_ask d client number file w deadline lost)
+  ask_said d client number file w deadline lost asked same here h =
       let a : Asker = record { client = client; number = number; file = file; index = 0 } in
-      on_cond Fine (nat_le deadline d.master.now) d (asks_of d a lost w (file_of d.master.logged.table file)) (λ _. h) (λ _. asks_of_said d a lost w (file_of d.master.logged.table file) asked same h)
+      on_cond Fine (nat_le deadline d.master.now) d (asks_of d a lost w (file_of d.master.logged.table file)) (λ _. h) (λ _. asks_of_said d a lost w (file_of d.master.logged.table file) asked same here h)
 
   -- versions and leases
 
@@ -441,58 +448,58 @@ module _ (i : Input) (known : Table (Table ℕ)) (W : Message → Type 0) (k : M
       let c : MasterDoing = expires_old b in
       clone_said c (best_clone c.master (table.entries c.master.logged.table.chunks)) (expires_said b (expired_files b.master) h)
 
-  takes_said : (d : MasterDoing) (m : Message) (b : Body) → i ≡ input.Deliver m → m.body ≡ b → Fine d → Fine (master_takes d m b)
-  takes_said d m (body.Name number deadline c) came is h = kept_said d (client_number m.sender) number deadline.0 c (table.get d.master.logged.kept (client_number m.sender)) h
-  takes_said d m (body.Look number c) came is h = said d m.sender (body.Named number (reply_by (outcome_by d.master.logged.names c (master_refusal d.master c)))) refl h
-  takes_said d m (body.Ask number file w deadline lost) came is h = ask_said d m.sender number file.0 w deadline.0 lost (record { ask = m; file = file; what = w; deadline = deadline; lost = lost; came = came; sender_is = refl; body_is = is }) refl h
-  takes_said d m (body.Recorded handle version) came is h =
+  takes_said : (d : MasterDoing) (m : Message) (b : Body) → ((file : ℕ) → lists file ≡ file_of d.master.logged.table file) → i ≡ input.Deliver m → m.body ≡ b → Fine d → Fine (master_takes d m b)
+  takes_said d m (body.Name number deadline c) same came is h = kept_said d (client_number m.sender) number deadline.0 c (table.get d.master.logged.kept (client_number m.sender)) h
+  takes_said d m (body.Look number c) same came is h = said d m.sender (body.Named number (reply_by (outcome_by d.master.logged.names c (master_refusal d.master c)))) refl h
+  takes_said d m (body.Ask number file w deadline lost) same came is h = ask_said d m.sender number file.0 w deadline.0 lost (record { ask = m; file = file; what = w; deadline = deadline; lost = lost; came = came; sender_is = refl; body_is = is }) refl (same file.0) h
+  takes_said d m (body.Recorded handle version) same came is h =
       let held : MasterDoing = holds_now d (server_number m.sender) handle.0 version.0 in
       learns_said held (server_number m.sender) handle.0 version.0 (chunk_of held.master.logged.table handle.0) (table.get held.master.attempts handle.0) (h.0, λ ask. absurd (no_ask i m (body.Recorded handle version) came is refl ask))
-  takes_said d m (body.Revoked handle version) came is h = revoked_row_said d (server_number m.sender) handle.0 version.0 (chunk_of d.master.logged.table handle.0) h
-  takes_said d m (body.Cloned handle version) came is h = (h.0, λ ask. absurd (no_ask i m (body.Cloned handle version) came is refl ask))
-  takes_said d m (body.Report replicas leases) came is h = report_said d (server_number m.sender) replicas leases (h.0, λ ask. absurd (no_ask i m (body.Report replicas leases) came is refl ask))
-  takes_said d m (body.Named number reply) came is h = h
-  takes_said d m (body.Told number location) came is h = h
-  takes_said d m (body.Wait number) came is h = h
-  takes_said d m (body.Refused number refusal) came is h = h
-  takes_said d m (body.Push id bytes rest) came is h = h
-  takes_said d m (body.Pushed id) came is h = h
-  takes_said d m (body.Mutate id handle version t deadline) came is h = h
-  takes_said d m (body.Done id place) came is h = h
-  takes_said d m (body.Forward handle version serial id change) came is h = h
-  takes_said d m (body.Acked handle version serial) came is h = h
-  takes_said d m (body.Nacked handle version serial refusal) came is h = h
-  takes_said d m (body.Read number handle version offset count) came is h = h
-  takes_said d m (body.Len number handle version) came is h = h
-  takes_said d m (body.Bytes number bytes) came is h = h
-  takes_said d m (body.LenIs number count) came is h = h
-  takes_said d m (body.Create order handle version) came is h = h
-  takes_said d m (body.SetVersion order handle version base) came is h = h
-  takes_said d m (body.Grant order handle version end_moment members) came is h = h
-  takes_said d m (body.Extend handle version end_moment) came is h = h
-  takes_said d m (body.Revoke order handle version) came is h = h
-  takes_said d m (body.Drop order handle version) came is h = h
-  takes_said d m (body.Clone order handle version source) came is h = h
-  takes_said d m (body.CopyAsk handle version) came is h = h
-  takes_said d m (body.Image handle version serial bytes) came is h = h
-  takes_said d m (body.CopyLocal order handle version copy copy_version) came is h = h
+  takes_said d m (body.Revoked handle version) same came is h = revoked_row_said d (server_number m.sender) handle.0 version.0 (chunk_of d.master.logged.table handle.0) h
+  takes_said d m (body.Cloned handle version) same came is h = (h.0, λ ask. absurd (no_ask i m (body.Cloned handle version) came is refl ask))
+  takes_said d m (body.Report replicas leases) same came is h = report_said d (server_number m.sender) replicas leases (h.0, λ ask. absurd (no_ask i m (body.Report replicas leases) came is refl ask))
+  takes_said d m (body.Named number reply) same came is h = h
+  takes_said d m (body.Told number location) same came is h = h
+  takes_said d m (body.Wait number) same came is h = h
+  takes_said d m (body.Refused number refusal) same came is h = h
+  takes_said d m (body.Push id bytes rest) same came is h = h
+  takes_said d m (body.Pushed id) same came is h = h
+  takes_said d m (body.Mutate id handle version t deadline) same came is h = h
+  takes_said d m (body.Done id place) same came is h = h
+  takes_said d m (body.Forward handle version serial id change) same came is h = h
+  takes_said d m (body.Acked handle version serial) same came is h = h
+  takes_said d m (body.Nacked handle version serial refusal) same came is h = h
+  takes_said d m (body.Read number handle version offset count) same came is h = h
+  takes_said d m (body.Len number handle version) same came is h = h
+  takes_said d m (body.Bytes number bytes) same came is h = h
+  takes_said d m (body.LenIs number count) same came is h = h
+  takes_said d m (body.Create order handle version) same came is h = h
+  takes_said d m (body.SetVersion order handle version base) same came is h = h
+  takes_said d m (body.Grant order handle version end_moment members) same came is h = h
+  takes_said d m (body.Extend handle version end_moment) same came is h = h
+  takes_said d m (body.Revoke order handle version) same came is h = h
+  takes_said d m (body.Drop order handle version) same came is h = h
+  takes_said d m (body.Clone order handle version source) same came is h = h
+  takes_said d m (body.CopyAsk handle version) same came is h = h
+  takes_said d m (body.Image handle version serial bytes) same came is h = h
+  takes_said d m (body.CopyLocal order handle version copy copy_version) same came is h = h
 
-  does_said : (d : MasterDoing) (j : Input) → i ≡ j → Fine d → Fine (master_does d j)
-  does_said d (input.Deliver m) came h = takes_said d m m.body came refl h
-  does_said d input.Tick came h = ticks_said d h
+  does_said : (d : MasterDoing) (j : Input) → ((file : ℕ) → lists file ≡ file_of d.master.logged.table file) → i ≡ j → Fine d → Fine (master_does d j)
+  does_said d (input.Deliver m) same came h = takes_said d m m.body same came refl h
+  does_said d input.Tick same came h = ticks_said d h
 
-  goes_said : (m : MasterState) (moment : ℕ) (refusals : List Bool) → m.holders ≡ known → Fine (master_goes m moment i refusals)
-  goes_said m moment refusals held =
+  goes_said : (m : MasterState) (moment : ℕ) (refusals : List Bool) → m.holders ≡ known → ((file : ℕ) → lists file ≡ file_of m.logged.table file) → Fine (master_goes m moment i refusals)
+  goes_said m moment refusals held same =
       let d : MasterDoing = master_does (master_begins (master_at m moment) refusals) i in
-      ready d d.master.snapshots (does_said (master_begins (master_at m moment) refusals) i refl (tt, λ _. held))
+      ready d d.master.snapshots (does_said (master_begins (master_at m moment) refusals) i same refl (tt, λ _. held))
 
   ends_said : (m : MasterState) (d : MasterDoing) (choice : Choice) (e : Ending) → Fine d → AllOf W (master_ends m d choice e).out.sent
   ends_said m d choice Goes h = all_in_order W choice.order d.sent h.0
   ends_said m d choice Lost h = tt
   ends_said m d choice (Stops made) h = tt
 
-  pub master_refuses_asks : (m : MasterState) (moment : ℕ) (choice : Choice) → m.holders ≡ known → AllOf W (master_step m moment i choice).out.sent
-  master_refuses_asks m moment choice held =
+  pub master_refuses_asks : (m : MasterState) (moment : ℕ) (choice : Choice) → m.holders ≡ known → ((file : ℕ) → lists file ≡ file_of m.logged.table file) → AllOf W (master_step m moment i choice).out.sent
+  master_refuses_asks m moment choice held same =
       let d : MasterDoing = master_goes m moment i choice.refused in
       on_cond (λ (t : Taken MasterState). AllOf W t.out.sent) m.up (master_bounded m d choice) (no_step m)
-      (λ _. on_cond (λ (t : Taken MasterState). AllOf W t.out.sent) (may_end d choice.ending) (master_ends m d choice choice.ending) (no_step m) (λ _. ends_said m d choice choice.ending (goes_said m moment choice.refused held)) (λ _. tt)) (λ _. tt)
+      (λ _. on_cond (λ (t : Taken MasterState). AllOf W t.out.sent) (may_end d choice.ending) (master_ends m d choice choice.ending) (no_step m) (λ _. ends_said m d choice choice.ending (goes_said m moment choice.refused held same)) (λ _. tt)) (λ _. tt)
