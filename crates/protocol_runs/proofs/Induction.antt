@@ -27,12 +27,13 @@ use Rattle.protocol_answer_laws.proofs.AllAnswers.{answers_are_so}
 use Rattle.protocol_client_laws.specs.ClientsEvents.{IsClientsEvent}
 use Rattle.protocol_client_laws.proofs.ClientsEvents.{clients_events_keep_worlds_whole}
 use Rattle.protocol_client_laws.proofs.EventKinds.{events_are_of_one_kind}
-use Rattle.protocol_copy_laws.proofs.UngrantedCopies.{copies_in_the_log_are_over}
+use Rattle.protocol_length_laws.proofs.LongRefusals.{refusals_for_length_are_so}
+use Rattle.protocol_holder_laws.proofs.HoldersGoOn.{holders_may_go_on}
 use Rattle.protocol_offer_laws.proofs.AllOffers.{offers_are_so}
 use Rattle.protocol_offer_laws.proofs.ToldPlaces.{told_places_are_within}
 use Rattle.protocol_master_laws.proofs.MasterEvents.{masters_events_keep_worlds_whole}
 use Rattle.protocol_headline_laws.proofs.ShownFiles.{whole_worlds_are_explained}
-use Rattle.protocol_runs.specs.Runs.{KeepsWorldsWhole, AreLeft, ReachedWorldsAreWhole, AnswersAreARun}
+use Rattle.protocol_runs.specs.Runs.{KeepsWorldsWhole, ReachedWorldsAreWhole, AnswersAreARun}
 use Rattle.protocol_runs.proofs.DisksBefore.{disks_before}
 
 -- the kinds of events
@@ -44,8 +45,8 @@ abbrev IsAmongOf : WorldState → Input → Type 0
 IsAmongOf w (input.Deliver x) = IsAmong w.sent x
 IsAmongOf w input.Tick = Unit {0}
 
-servers_events : AreLeft → KeepsWorldsWhole IsServersEvent
-servers_events left config servers clients w settings r kept e choice clocks is h =
+servers_events : KeepsWorldsWhole IsServersEvent
+servers_events config servers clients w settings r kept e choice clocks is h =
     servers_events_keep_worlds_whole config servers clients w r kept e choice clocks is
     (record {
       numbers = λ ss k b. numbered_mutations_are_for_open_calls config servers clients w settings r kept ss k b;
@@ -53,10 +54,10 @@ servers_events left config servers clients w settings r kept e choice clocks is 
       answers = λ ss k j b leads run chunks files said. answers_are_so config servers clients w r kept e choice clocks is (told_places_are_within config servers clients w r) j run chunks files;
     }) h
 
-clients_events : AreLeft → KeepsWorldsWhole IsClientsEvent
-clients_events left config servers clients w settings r kept e choice clocks is h =
+clients_events : KeepsWorldsWhole IsClientsEvent
+clients_events config servers clients w settings r kept e choice clocks is h =
     clients_events_keep_worlds_whole config settings.chunk servers clients w r kept e choice clocks is (λ ss k b. numbered_mutations_are_for_open_calls config servers clients w settings r kept ss k b)
-    (left.lengths config servers clients w settings r kept e choice clocks) h
+    (refusals_for_length_are_so config servers clients w r kept e choice clocks) h
 
 sent_in : (w : WorldState) (number : ℕ) (m : Message) → numbered_from_1 w.sent number ≡ Some m → IsAmong w.sent m
 sent_in w zero m is = none_some m is
@@ -73,17 +74,16 @@ heard w (event.Restart n now) moment i given x same = absurd given
 heard w (event.Rot server handle place byte) moment i given x same = absurd given
 heard w (event.Fuse n count torn) moment i given x same = absurd given
 
-masters_events : AreLeft → KeepsWorldsWhole IsMastersEvent
-masters_events left config servers clients w settings r kept e choice clocks is h =
+masters_events : KeepsWorldsWhole IsMastersEvent
+masters_events config servers clients w settings r kept e choice clocks is h =
     masters_events_keep_worlds_whole config servers clients w settings r kept e choice clocks is
     (record {
       asked = λ moment i given up ss k b m leads. added_chunks_are_asked_for config servers clients w r (clocks_of w kept) up ss k b settings.chunk m leads moment i choice.refused (heard w e moment i given) w.observer.orders;
-      copies = copies_in_the_log_are_over config servers clients w r (clocks_of w kept);
-      holders = left.holders config servers clients w settings r kept e choice clocks is;
+      holders = λ ss k j b same log orders alike gone rounds granted from stay next. holders_may_go_on config servers clients w r e choice clocks k j b.chunks log alike gone rounds stay next;
       offers = λ moment i given up ended ss k j b leads run chunks has files. offers_are_so config servers clients w r e choice moment i given up ss k j b leads run chunks has files;
     }) h
 
-module _ (left : AreLeft) (config : Config) (servers clients : ℕ) (settings : AreSettings config) where
+module _ (config : Config) (servers clients : ℕ) (settings : AreSettings config) where
   abbrev IsWhole : WorldState → Type 0
   IsWhole w = IsTrue (is_kept w) → IsWholeWorld config w
 
@@ -94,9 +94,9 @@ module _ (left : AreLeft) (config : Config) (servers clients : ℕ) (settings : 
   next_whole : (w : WorldState) → IsReached config servers clients w → (e : Event) (choice : Choice) → IsWhole w → IsWhole (happens w e choice).world
   next_whole w r e choice h later =
       elim (events_are_of_one_kind w e) [
-        | inl server ↦ servers_events left config servers clients w settings r kept e choice both.0 server (h kept)
-        | inr (inl client) ↦ clients_events left config servers clients w settings r kept e choice both.0 client (h kept)
-        | inr (inr master) ↦ masters_events left config servers clients w settings r kept e choice both.0 master (h kept)
+        | inl server ↦ servers_events config servers clients w settings r kept e choice both.0 server (h kept)
+        | inr (inl client) ↦ clients_events config servers clients w settings r kept e choice both.0 client (h kept)
+        | inr (inr master) ↦ masters_events config servers clients w settings r kept e choice both.0 master (h kept)
       ]
     where
       both : IsTrue (happens w e choice).world.observer.are_clocks_kept × IsTrue (happens w e choice).world.observer.are_disks_kept
@@ -110,9 +110,9 @@ module _ (left : AreLeft) (config : Config) (servers clients : ℕ) (settings : 
   whole_after (step ∷ rest) w r h = whole_after rest (happens w step.0 step.1).world (once_more w r step.0 step.1) (next_whole w r step.0 step.1 h)
 
 pub reached_worlds_are_whole : ReachedWorldsAreWhole
-reached_worlds_are_whole left config servers clients w settings r =
+reached_worlds_are_whole config servers clients w settings r =
     subst (λ (v : WorldState). IsTrue (is_kept v) → IsWholeWorld config v) r.1
-    (whole_after left config servers clients settings r.0 (new_world config servers clients) ([], refl) (λ _. new_worlds_are_whole config servers clients))
+    (whole_after config servers clients settings r.0 (new_world config servers clients) ([], refl) (λ _. new_worlds_are_whole config servers clients))
 
 pub answers_are_a_run : AnswersAreARun
-answers_are_a_run left config servers clients w settings r kept = whole_worlds_are_explained config servers clients w r kept (reached_worlds_are_whole left config servers clients w settings r kept)
+answers_are_a_run config servers clients w settings r kept = whole_worlds_are_explained config servers clients w r kept (reached_worlds_are_whole config servers clients w settings r kept)

@@ -5,10 +5,7 @@ use Rattle.messages.specs.declared.event.Event.{Event}
 use Rattle.protocol.specs.Choice.{Choice}
 use Rattle.protocol.specs.World.{WorldState, happens, IsReached, is_kept}
 use Rattle.protocol_invariant.specs.Explained.{AreSettings, IsExplained}
-use Rattle.protocol_whole_laws.specs.ChunksBeside.{IsMastersEvent}
 use Rattle.protocol_whole_laws.specs.WholeWorlds.{IsWholeWorld}
-use Rattle.protocol_master_laws.specs.MasterEvents.{HoldersGoOnWhere}
-use Rattle.protocol_client_laws.specs.ClientsEvents.{AreTooLong}
 
 -- An event keeps the whole machine beside each world that is reached, where clocks and disks are kept.
 abbrev pub KeepsWorldsWhole : (WorldState → Event → Type 0) → Type 0
@@ -16,17 +13,10 @@ KeepsWorldsWhole IsOfKind =
     (config : Config) (servers clients : ℕ) (w : WorldState) → AreSettings config → IsReached config servers clients w → IsTrue (is_kept w)
     → (e : Event) (choice : Choice) → IsTrue (happens w e choice).world.observer.are_clocks_kept → IsOfKind w e → IsWholeWorld config w → IsWholeWorld config (happens w e choice).world
 
--- What is left to be shown.
-pub record AreLeft : Type 0 where
-  pub holders : (config : Config) (servers clients : ℕ) (w : WorldState) → AreSettings config → IsReached config servers clients w → IsTrue (is_kept w)
-      → (e : Event) (choice : Choice) → IsTrue (happens w e choice).world.observer.are_clocks_kept → IsMastersEvent w e → HoldersGoOnWhere config w (happens w e choice).world
-  pub lengths : (config : Config) (servers clients : ℕ) (w : WorldState) → AreSettings config → IsReached config servers clients w → IsTrue (is_kept w)
-      → (e : Event) (choice : Choice) → IsTrue (happens w e choice).world.observer.are_clocks_kept → AreTooLong config w (happens w e choice).world e
-
 -- Beside each world that is reached, under settings in their ranges and kept clocks and disks, goes the whole machine.
 abbrev pub ReachedWorldsAreWhole : Type 0
-ReachedWorldsAreWhole = AreLeft → (config : Config) (servers clients : ℕ) (w : WorldState) → AreSettings config → IsReached config servers clients w → IsTrue (is_kept w) → IsWholeWorld config w
+ReachedWorldsAreWhole = (config : Config) (servers clients : ℕ) (w : WorldState) → AreSettings config → IsReached config servers clients w → IsTrue (is_kept w) → IsWholeWorld config w
 
 -- The headline: the answers of each world that a lawful list of events reaches, under settings in their ranges and kept clocks and disks, are those of a run of the machine, and that run led to what the world shows.
 abbrev pub AnswersAreARun : Type 0
-AnswersAreARun = AreLeft → (config : Config) (servers clients : ℕ) (w : WorldState) → IsExplained config servers clients w
+AnswersAreARun = (config : Config) (servers clients : ℕ) (w : WorldState) → IsExplained config servers clients w
