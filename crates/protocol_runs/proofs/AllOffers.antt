@@ -27,7 +27,7 @@ use Rattle.protocol_laws.proofs.Entries.{AllOf}
 use Rattle.protocol_laws.proofs.MessagesSent.{IsSent, none_sent}
 use Rattle.protocol_step_laws.proofs.Histories.{step_grown}
 use Rattle.protocol_entry_laws.proofs.Placing.{all_placed}
-use Rattle.protocol_answer_laws.proofs.SaidAnswers.{later_at, cancelled}
+use Rattle.protocol_runs.proofs.SaidAnswers.{later_at, cancelled}
 use Rattle.protocol_machine_laws.specs.ChunksAlike.{ChunkSides}
 use Rattle.protocol_whole_laws.specs.ChunksBeside.{AreChunksBeside}
 use Rattle.protocol_whole_laws.specs.FileClients.{IsFileCall, IsCallAlike, IsSaid, IsSaidAt}

@@ -38,8 +38,8 @@ use Rattle.protocol_whole_laws.proofs.MasterKept.{rounds_both}
 use Rattle.protocol_whole_laws.proofs.ChunksBeside.{same_files_keep_chunks_beside, masters_events_keep_chunks_beside}
 use Rattle.protocol_whole_laws.proofs.WholeMoves.{AllStay, IsQuiet, GoesQuietly, quiet_run, run_goes_unseen, PassesBoth, both_pass}
 use Rattle.protocol_whole_laws.proofs.WholeWorlds.{files_stay, words_stay, more_words}
-use Rattle.protocol_numbered_laws.proofs.QuietTries.{quiet_actions_add_no_tries}
-use Rattle.protocol_numbered_laws.proofs.RequestsNumbered.{events_keep_requests_numbered}
+use Rattle.protocol_runs.proofs.QuietTries.{quiet_actions_add_no_tries}
+use Rattle.protocol_runs.proofs.RequestsNumbered.{events_keep_requests_numbered}
 use Rattle.protocol_runs.specs.MasterEvents.{HoldersGoOnWhere}
 use Rattle.protocol_runs.proofs.KeptEntries.{trimmed, trimmed_alike, trimmed_gone, trimmed_below, trimmed_open}
 use Rattle.protocol_runs.proofs.Moves.{Moves}

@@ -36,7 +36,7 @@ use Rattle.protocol_laws.proofs.Steps.{on_cond, same_some, put_other, put_there}
 use Rattle.protocol_laws.proofs.Entries.{AllOf, all_joined}
 use Rattle.protocol_laws.proofs.ChunkRows.{rows_of, From, same_from, then_from, removed_from, all_copied_from}
 use Rattle.protocol_laws.proofs.FilesNamed.{Files}
-use Rattle.protocol_numbered_laws.proofs.AskAnswers.{is_no_answer}
+use Rattle.protocol_runs.proofs.AskAnswers.{is_no_answer}
 
 -- what an answer says of the log
 

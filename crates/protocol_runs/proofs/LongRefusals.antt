@@ -57,10 +57,10 @@ use Rattle.protocol_whole_laws.specs.WholeWorlds.{AreFileClients, IsBeside}
 use Rattle.protocol_whole_laws.specs.WholeClients.{GivesClient}
 use Rattle.protocol_whole_laws.proofs.CountedCalls.{calls_are_counted}
 use Rattle.protocol_whole_laws.proofs.WholeClients.{came}
-use Rattle.protocol_numbered_laws.proofs.LongCalls.{call_made}
-use Rattle.protocol_numbered_laws.proofs.RefusalsStay.{asked_split, asks_no_primary}
-use Rattle.protocol_numbered_laws.proofs.TriesStay.{tries_stay_numbered}
-use Rattle.protocol_client_laws.proofs.ClientWords.{refusals_come_from}
+use Rattle.protocol_runs.proofs.LongCalls.{call_made}
+use Rattle.protocol_runs.proofs.RefusalsStay.{asked_split, asks_no_primary}
+use Rattle.protocol_runs.proofs.TriesStay.{tries_stay_numbered}
+use Rattle.protocol_runs.proofs.ClientWords.{refusals_come_from}
 use Rattle.protocol_runs.specs.LongRefusals.{RefusalsForLengthAreSo}
 
 no_tries : (chunks : ℕ → Chunk) (id : CallId) → ((index : ℕ) → tries_in id (chunks index) ≡ 0) → (count : ℕ) → tries_below chunks id count ≡ 0

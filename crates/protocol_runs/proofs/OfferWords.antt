@@ -50,7 +50,7 @@ use Rattle.protocol_invariant.specs.ClientParts.{index_asked}
 use Rattle.protocol_machine_laws.specs.ChunksAlike.{ChunkSides}
 use Rattle.protocol_call_laws.specs.ToldIndexes.{IsAskFor}
 use Rattle.protocol_call_laws.proofs.AskedIndexes.{asks_are_for_the_part_in_hand}
-use Rattle.protocol_numbered_laws.proofs.AskAnswers.{IsTakenAsk}
+use Rattle.protocol_runs.proofs.AskAnswers.{IsTakenAsk}
 use Rattle.protocol_whole_laws.specs.ChunksBeside.{AreChunksBeside}
 use Rattle.protocol_whole_laws.specs.FileAnswers.{IsLastRound}
 use Rattle.protocol_whole_laws.specs.FileClients.{IsFileCall, IsCallAlike, IsSaidAt}

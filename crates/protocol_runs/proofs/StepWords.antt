@@ -34,7 +34,7 @@ use Rattle.protocol_step_laws.proofs.WaitsKept.{IsOfWaits, waits_kept}
 use Rattle.protocol_version_laws.proofs.CopiedSources.{IsAsk, asked_or_not}
 use Rattle.protocol_version_laws.proofs.ExtendLaws.{new_one, none_before}
 use Rattle.protocol_version_laws.proofs.UnaskedSteps.{IsUnasked, IsNoAsk}
-use Rattle.protocol_numbered_laws.proofs.AskAnswers.{is_no_answer, IsTakenAsk, master_refuses_asks}
+use Rattle.protocol_runs.proofs.AskAnswers.{is_no_answer, IsTakenAsk, master_refuses_asks}
 use Rattle.protocol_whole_laws.specs.Rounds.{IsMastersInput}
 use Rattle.protocol_runs.proofs.AskedWords.{IsToldIn, IsRefusedIn, IsAnsweredBy, Fine, asked, ready}
 

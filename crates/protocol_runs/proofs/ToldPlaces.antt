@@ -22,7 +22,7 @@ use Rattle.protocol_step_laws.proofs.RequestsOnce.{AreNumbered, numbered_reached
 use Rattle.protocol_version_laws.proofs.ExtendLaws.{restart_silent, none_before}
 use Rattle.protocol_version_laws.proofs.ToldAnswers.{server_tells, restart_tells, client_tells, none_new}
 use Rattle.protocol_version_laws.proofs.UnaskedSteps.{is_location}
-use Rattle.protocol_headline_laws.proofs.FilePlaces.{files_are_within_places}
+use Rattle.protocol_runs.proofs.FilePlaces.{files_are_within_places}
 use Rattle.protocol_runs.specs.Offers.{ToldPlacesAreWithin}
 use Rattle.protocol_runs.proofs.StepWords.{IsWord, step_said}
 

@@ -4,7 +4,7 @@ use Rattle.gfs_types.specs.declared.config.Config.{Config}
 use Rattle.messages.specs.declared.event.Event.{Event}
 use Rattle.protocol.specs.Choice.{Choice}
 use Rattle.protocol.specs.World.{WorldState, happens, IsReached, is_kept}
-use Rattle.protocol_client_laws.specs.ClientsEvents.{AreTooLong}
+use Rattle.protocol_runs.specs.ClientsEvents.{AreTooLong}
 
 -- Where clocks and disks are kept: a range for which a client takes a refusal as too long is too long at the machine beside the world, with nothing of its call placed and no attempt live.
 abbrev pub RefusalsForLengthAreSo : Type 0

@@ -7,7 +7,7 @@ use Rattle.relaxed_file.specs.Run.{LeadsTo, IsRunTo}
 use Rattle.protocol.specs.Choice.{Choice}
 use Rattle.protocol.specs.Master.{PendingSnapshot}
 use Rattle.protocol.specs.World.{WorldState, happens, IsReached}
-use Rattle.protocol_answer_laws.specs.Answers.{AreToldPlacesWithin}
+use Rattle.protocol_runs.specs.Answers.{AreToldPlacesWithin}
 use Rattle.protocol_machine_laws.specs.ChunksAlike.{ChunkSides}
 use Rattle.protocol_whole_laws.specs.ChunksBeside.{AreChunksBeside}
 use Rattle.protocol_whole_laws.specs.MastersEvents.{AreOffersSo}
