@@ -1,0 +1,5 @@
+pub mod Lists
+pub mod WaitingCalls
+pub mod Descriptors
+pub mod AnswerMoments
+pub mod StandingRecords

@@ -1,0 +1,19 @@
+//! Laws of each run of the machine, in the words of calls and answers.
+
+ghost use Rattle.protocol_promises.specs.Promises.{AnsweredRecordsLieApart, AnsweredRecordsStand, DescriptorsAreOfOneFile, RecordsKeepTheirPlace};
+
+/// A client's descriptor is of one file for good.
+pub fn descriptors_are_of_one_file()
+    ensures { DescriptorsAreOfOneFile }
+{}
+
+/// A record whose append was answered stands at its place of the file of its descriptor, and keeps that place for good.
+pub fn answered_records_stand()
+    ensures stand { AnsweredRecordsStand }
+    ensures keep { RecordsKeepTheirPlace }
+{}
+
+/// Two records whose appends to one file were answered share no place of it.
+pub fn answered_records_lie_apart()
+    ensures { AnsweredRecordsLieApart }
+{}
