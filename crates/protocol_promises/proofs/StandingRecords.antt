@@ -41,8 +41,11 @@ module _ (config : Config) (trace : List Visible) (m : Machine) (run : IsRunTo c
   pub allowed : Allows then (Return client (answer.At x))
   allowed = (at.current, at.open_now, at.may)
 
+  pub ends : after_all past at.back ≡ m
+  ends = ends_there config trace m run client _ _ w.before w.rest at
+
   pub to_end : LeadsTo past m
-  to_end = (at.back, at.lawful_back, ends_there config trace m run client _ _ w.before w.rest at)
+  to_end = (at.back, at.lawful_back, ends)
 
   pub way : LeadsTo then m
   way = leads_on then past m (leads_by then (Return client (answer.At x)) allowed) to_end

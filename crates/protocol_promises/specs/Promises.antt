@@ -44,3 +44,26 @@ AnsweredRecordsLieApart =
     → (b : WasAnswered trace other (call.Append fe two) (answer.At y)) → IsOf run.0 other fe file
     → (length a.before ≡ length b.before → ⊥)
     → (x + length one ≤ y) ⊎ (y + length two ≤ x)
+
+-- A read that is made after a record was answered, and whose answer reaches past it, shows it whole; unless a later mutation covers some of it, or the read names a round of the record's chunk that is before that of the record (sections 2.7.1 and 3.3).
+abbrev pub RecordsAreRead : Type 0
+RecordsAreRead =
+    (config : Config) (trace : List Visible) (m : Machine) (run : IsRunTo config trace m)
+    (client reader file : ℕ) (fd fe : Fd) (bytes : List ℕ) (x offset count : ℕ) (found rounds : List ℕ)
+    → (one : WasAnswered trace client (call.Append fd bytes) (answer.At x)) → IsOf run.0 client fd file
+    → WasAnswered one.rest reader (call.Read fe offset count) (answer.Bytes found rounds) → IsOf run.0 reader fe file
+    → offset ≤ x → x + length bytes ≤ offset + length found
+    → (s : Stands config.chunk m file x bytes)
+    × (LeaveAlone config.chunk s.offset (length bytes) s.later → IsSomeAnd (slice_get rounds (s.index - offset / config.chunk)) (λ named. s.entry.round ≤ named)
+    → take (length bytes) (drop (x - offset) found) ≡ bytes)
+
+-- A client's later reads show its own records, whatever rounds they name (section 2.7.1).
+abbrev pub OwnRecordsAreRead : Type 0
+OwnRecordsAreRead =
+    (config : Config) (trace : List Visible) (m : Machine) (run : IsRunTo config trace m)
+    (client file : ℕ) (fd fe : Fd) (bytes : List ℕ) (x offset count : ℕ) (found rounds : List ℕ)
+    → (one : WasAnswered trace client (call.Append fd bytes) (answer.At x)) → IsOf run.0 client fd file
+    → WasAnswered one.rest client (call.Read fe offset count) (answer.Bytes found rounds) → IsOf run.0 client fe file
+    → offset ≤ x → x + length bytes ≤ offset + length found
+    → (s : Stands config.chunk m file x bytes)
+    × (LeaveAlone config.chunk s.offset (length bytes) s.later → take (length bytes) (drop (x - offset) found) ≡ bytes)

@@ -1,6 +1,6 @@
 //! Laws of each run of the machine, in the words of calls and answers.
 
-ghost use Rattle.protocol_promises.specs.Promises.{AnsweredRecordsLieApart, AnsweredRecordsStand, DescriptorsAreOfOneFile, RecordsKeepTheirPlace};
+ghost use Rattle.protocol_promises.specs.Promises.{AnsweredRecordsLieApart, AnsweredRecordsStand, DescriptorsAreOfOneFile, OwnRecordsAreRead, RecordsAreRead, RecordsKeepTheirPlace};
 
 /// A client's descriptor is of one file for good.
 pub fn descriptors_are_of_one_file()
@@ -16,4 +16,10 @@ pub fn answered_records_stand()
 /// Two records whose appends to one file were answered share no place of it.
 pub fn answered_records_lie_apart()
     ensures { AnsweredRecordsLieApart }
+{}
+
+/// A later read whose answer reaches past a record shows it whole, until a later mutation covers some of it; that of another client, where it names a round no earlier than the record's.
+pub fn records_are_read()
+    ensures any { RecordsAreRead }
+    ensures own { OwnRecordsAreRead }
 {}
