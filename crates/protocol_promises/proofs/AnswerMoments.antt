@@ -1,5 +1,5 @@
 -- The moment of a run at which a call that is seen to be answered is answered.
-use Rattle.std.proofs.Common.{◌≡◌, ℕ, List, [], ◌∷◌, ◌++◌, Option, Some, None, refl, sym, ◌∙◌, ap, subst}
+use Rattle.std.proofs.Common.{◌≡◌, ℕ, List, [], ◌∷◌, ◌++◌, append_assoc, Option, Some, None, refl, sym, ◌∙◌, ap, subst}
 use Rattle.std.specs.Prelude.{Contains}
 use Rattle.std.specs.List.{cons_option}
 use Rattle.gfs_types.specs.declared.call.Call.{Call}
@@ -8,13 +8,14 @@ use Rattle.gfs_types.specs.declared.ids.Fd.{Fd}
 use Rattle.gfs_types.specs.declared.config.Config.{Config}
 use Rattle.relaxed_file.specs.Machine.{Machine, new_machine, OpenCall, IsOpen}
 use Rattle.relaxed_file.specs.Answers.{MayReturn}
-use Rattle.relaxed_file.specs.Run.{Action, Return, ReturnFd, Visible, Answered, shown, visible, Allows, after, after_all, IsLawful, IsRunTo}
+use Rattle.relaxed_file.specs.Run.{Action, Return, ReturnFd, Visible, Answered, shown, visible, Allows, after, after_all, IsLawful, IsRunTo, LeadsTo, IsReached}
 use Rattle.relaxed_file.proofs.Tables.{from_some}
-use Rattle.relaxed_file.proofs.Reached.{after_all-append}
+use Rattle.relaxed_file.proofs.Reached.{lawful_after, after_all-append, leads_on, leads_by}
+use Rattle.relaxed_file.proofs.GoingOn.{visible-append}
 use Rattle.relaxed_file.proofs.Grows.{known_at_first}
 use Rattle.relaxed_file.proofs.Moments.{no_cons}
 use Rattle.relaxed_file.proofs.InCall.{IsNoFd, is_return_of}
-use Rattle.protocol_promises.specs.Answered.{waiting_call, WasAnswered, fd_of}
+use Rattle.protocol_promises.specs.Answered.{waiting_call, WasAnswered, IsOf, fd_of}
 use Rattle.protocol_promises.specs.Promises.{DescriptorsAreOfOneFile}
 use Rattle.protocol_promises.proofs.Lists.{parts_of, in_front}
 use Rattle.protocol_promises.proofs.WaitingCalls.{call_of, waiting_by_actions}
@@ -110,14 +111,70 @@ pub answered_at : (config : Config) (trace : List Visible) (m : Machine) (run : 
     → (w : WasAnswered trace client asked reply) → AnsweredIn (new_machine config) run.0 client asked reply w.before w.rest
 answered_at config trace m run client asked reply plain w = answered_in (new_machine config) run.0 client asked reply w.before w.rest run.1 plain (run.2 ∙ w.is) w.waited
 
--- the descriptor of an answered call is of its file
-pub file_there : (config : Config) (actions : List Action) (client : ℕ) (asked : Call) (reply : Answer) (before rest : List Visible)
-    → (a : AnsweredIn (new_machine config) actions client asked reply before rest) → (fd : Fd) (file : ℕ) → fd_of asked ≡ Some fd → (a.current).asked.file ≡ Some file → Contains actions (ReturnFd client fd.0 file)
-file_there config actions client asked reply before rest a fd file on at =
-    subst (λ l. Contains l (ReturnFd client fd.0 file)) (sym a.is)
-    (in_front a.front (Return client reply ∷ a.back) (ReturnFd client fd.0 file) (file_opened config a.front a.lawful client a.current fd file a.open_now (ap fd_of a.call_is ∙ on) at))
+-- an answer that is no descriptor, in a whole run
+module _ (config : Config) (trace : List Visible) (m : Machine) (run : IsRunTo config trace m) (client : ℕ) (asked : Call) (reply : Answer) (plain : IsNoFd reply)
+    (w : WasAnswered trace client asked reply) where
+  abbrev pub at : AnsweredIn (new_machine config) run.0 client asked reply w.before w.rest
+  at = answered_in (new_machine config) run.0 client asked reply w.before w.rest run.1 plain (run.2 ∙ w.is) w.waited
 
-pub ends_there : (config : Config) (trace : List Visible) (m : Machine) (run : IsRunTo config trace m) (client : ℕ) (asked : Call) (reply : Answer) (before rest : List Visible)
-    → (a : AnsweredIn (new_machine config) run.0 client asked reply before rest) → after_all (after (after_all (new_machine config) a.front) (Return client reply)) a.back ≡ m
-ends_there config trace m run client asked reply before rest a =
-    sym (after_all-append (new_machine config) a.front (Return client reply ∷ a.back)) ∙ ap (after_all (new_machine config)) (sym a.is) ∙ run.3
+  abbrev pub then : Machine
+  then = after_all (new_machine config) at.front
+
+  abbrev pub past : Machine
+  past = after then (Return client reply)
+
+  pub reached : IsReached config then
+  reached = (at.front, at.lawful, refl)
+
+  pub allowed : Allows then (Return client reply)
+  allowed = (at.current, at.open_now, at.may)
+
+  pub to_past : LeadsTo then past
+  to_past = leads_by then (Return client reply) allowed
+
+  pub reached_past : IsReached config past
+  reached_past = leads_on (new_machine config) then past reached to_past
+
+  pub ends : after_all past at.back ≡ m
+  ends = sym (after_all-append (new_machine config) at.front (Return client reply ∷ at.back)) ∙ ap (after_all (new_machine config)) (sym at.is) ∙ run.3
+
+  pub to_end : LeadsTo past m
+  to_end = (at.back, at.lawful_back, ends)
+
+  pub way : LeadsTo then m
+  way = leads_on then past m to_past to_end
+
+  -- the descriptor of the call is of its file
+  pub its_file : (fd : Fd) (file : ℕ) → fd_of asked ≡ Some fd → (at.current).asked.file ≡ Some file → IsOf run.0 client fd file
+  its_file fd file on is =
+      subst (λ l. Contains l (ReturnFd client fd.0 file)) (sym at.is)
+      (in_front at.front (Return client reply ∷ at.back) (ReturnFd client fd.0 file) (file_opened config at.front at.lawful client at.current fd file at.open_now (ap fd_of at.call_is ∙ on) is))
+
+  -- what was done up to the answer
+  abbrev pub to_answer : List Action
+  to_answer = at.front ++ Return client reply ∷ []
+
+  pub to_answer_lawful : IsLawful (new_machine config) to_answer
+  to_answer_lawful = lawful_after (new_machine config) at.front (Return client reply ∷ []) at.lawful (allowed, tt)
+
+  pub to_answer_ends : after_all (new_machine config) to_answer ≡ past
+  to_answer_ends = after_all-append (new_machine config) at.front (Return client reply ∷ [])
+
+  pub to_answer_seen : visible to_answer ≡ w.before ++ visible (Return client reply ∷ [])
+  to_answer_seen = visible-append at.front (Return client reply ∷ []) ∙ ap (λ l. l ++ visible (Return client reply ∷ [])) at.seen
+
+  -- and so it is of a call that is answered later
+  pub later_file : (other : ℕ) (later_asked : Call) (later_reply : Answer) (mid rest : List Visible) (b : AnsweredIn past at.back other later_asked later_reply mid rest) (fe : Fd) (f : ℕ)
+      → fd_of later_asked ≡ Some fe → (b.current).asked.file ≡ Some f → IsOf run.0 other fe f
+  later_file other later_asked later_reply mid rest b fe f on is =
+      let lawful : IsLawful (new_machine config) (to_answer ++ b.front) =
+      lawful_after (new_machine config) to_answer b.front to_answer_lawful (subst (λ n. IsLawful n b.front) (sym to_answer_ends) b.lawful) in
+      let ends_then : after_all (new_machine config) (to_answer ++ b.front) ≡ after_all past b.front =
+      after_all-append (new_machine config) to_answer b.front ∙ ap (λ n. after_all n b.front) to_answer_ends in
+      let opened : Contains (to_answer ++ b.front) (ReturnFd other fe.0 f) =
+      file_opened config (to_answer ++ b.front) lawful other b.current fe f (subst (λ n. IsOpen n other b.current) (sym ends_then) b.open_now) (ap fd_of b.call_is ∙ on) is in
+      let whole : run.0 ≡ (to_answer ++ b.front) ++ Return other later_reply ∷ b.back =
+      at.is ∙ ap (λ l. at.front ++ Return client reply ∷ l) b.is
+      ∙ sym (append_assoc at.front (Return client reply ∷ []) (b.front ++ Return other later_reply ∷ b.back))
+      ∙ sym (append_assoc to_answer b.front (Return other later_reply ∷ b.back)) in
+      subst (λ l. Contains l (ReturnFd other fe.0 f)) (sym whole) (in_front (to_answer ++ b.front) _ _ opened)

@@ -5,4 +5,6 @@ pub mod AnswerMoments
 pub mod StandingRecords
 pub mod SincePieces
 pub mod PieceBytes
+pub mod ReadPieces
+pub mod KeptRanges
 pub mod ReadRecords

@@ -21,89 +21,42 @@ use Rattle.protocol_promises.specs.Promises.{AnsweredRecordsStand, RecordsKeepTh
 use Rattle.protocol_promises.proofs.Lists.{later_part, parted, at_length, in_front}
 use Rattle.protocol_promises.proofs.WaitingCalls.{call_of, waiting_by_actions, waiting-append}
 use Rattle.protocol_promises.proofs.Descriptors.{file_opened}
-use Rattle.protocol_promises.proofs.AnswerMoments.{AnsweredIn, answered_in, answered_at, file_there, ends_there, descriptors_are_of_one_file}
+use Rattle.protocol_promises.proofs.AnswerMoments.{AnsweredIn, answered_in, at, then, past, reached, way, its_file, to_answer, to_answer_lawful, to_answer_ends, to_answer_seen, later_file, descriptors_are_of_one_file}
 
 -- a record that was answered, at the moment of the answer
 module _ (config : Config) (trace : List Visible) (m : Machine) (run : IsRunTo config trace m) (client : ℕ) (fd : Fd) (bytes : List ℕ) (x : ℕ)
     (w : WasAnswered trace client (call.Append fd bytes) (answer.At x)) where
-  abbrev pub at : AnsweredIn (new_machine config) run.0 client (call.Append fd bytes) (answer.At x) w.before w.rest
-  at = answered_at config trace m run client (call.Append fd bytes) (answer.At x) tt w
+  abbrev then_now : Machine
+  then_now = then config trace m run client (call.Append fd bytes) (answer.At x) tt w
 
-  abbrev pub then : Machine
-  then = after_all (new_machine config) at.front
+  abbrev at_now : AnsweredIn (new_machine config) run.0 client (call.Append fd bytes) (answer.At x) w.before w.rest
+  at_now = at config trace m run client (call.Append fd bytes) (answer.At x) tt w
 
-  abbrev pub past : Machine
-  past = after then (Return client (answer.At x))
+  abbrev done : IsDone then_now client at_now.current (call.Append fd bytes) (answer.At x)
+  done = subst (λ c. IsDone then_now client at_now.current c (answer.At x)) at_now.call_is at_now.may
 
-  pub reached : IsReached config then
-  reached = (at.front, at.lawful, refl)
+  abbrev pub file_now : ℕ
+  file_now = done.0
 
-  pub allowed : Allows then (Return client (answer.At x))
-  allowed = (at.current, at.open_now, at.may)
+  pub is_of : IsOf run.0 client fd file_now
+  is_of = its_file config trace m run client (call.Append fd bytes) (answer.At x) tt w fd file_now refl done.1
 
-  pub ends : after_all past at.back ≡ m
-  ends = ends_there config trace m run client _ _ w.before w.rest at
+  pub may_now : MayAnswer then_now client file_now (call.Append fd bytes) (answer.At x)
+  may_now = (at_now.current, at_now.open_now, done.1, at_now.call_is, at_now.may)
 
-  pub to_end : LeadsTo past m
-  to_end = (at.back, at.lawful_back, ends)
+  abbrev pub it : AnsweredAppend config then_now client file_now bytes x
+  it = answered config then_now client file_now fd bytes x (reached config trace m run client (call.Append fd bytes) (answer.At x) tt w) may_now
 
-  pub way : LeadsTo then m
-  way = leads_on then past m (leads_by then (Return client (answer.At x)) allowed) to_end
-
-  abbrev done : IsDone then client at.current (call.Append fd bytes) (answer.At x)
-  done = subst (λ c. IsDone then client at.current c (answer.At x)) at.call_is at.may
-
-  abbrev pub its_file : ℕ
-  its_file = done.0
-
-  pub is_of : IsOf run.0 client fd its_file
-  is_of = file_there config run.0 client _ _ w.before w.rest at fd its_file refl done.1
-
-  pub may : MayAnswer then client its_file (call.Append fd bytes) (answer.At x)
-  may = (at.current, at.open_now, done.1, at.call_is, at.may)
-
-  abbrev pub it : AnsweredAppend config then client its_file bytes x
-  it = answered config then client its_file fd bytes x reached may
-
-  pub there : (n : Machine) → LeadsTo then n → slice_get (chunk_at n its_file it.index).order (it.there).0 ≡ Some it.entry
-  there n to = settled_entries_stay config then n reached to its_file it.index (it.there).0 it.entry (found_at _ it.entry it.there) it.settled
-
-  pub stands : Stands config.chunk m its_file x bytes
+  stands : Stands config.chunk m file_now x bytes
   stands =
-      let cut = parted _ (it.there).0 it.entry (there m way) in
+      let there : slice_get (chunk_at m file_now it.index).order (it.there).0 ≡ Some it.entry =
+      settled_entries_stay config then_now m (reached config trace m run client (call.Append fd bytes) (answer.At x) tt w) (way config trace m run client (call.Append fd bytes) (answer.At x) tt w)
+      file_now it.index (it.there).0 it.entry (found_at _ it.entry it.there) it.settled in
+      let cut = parted _ (it.there).0 it.entry there in
       record { index = it.index; offset = it.offset; is = it.is; room = it.room; before = cut.0; entry = it.entry; later = cut.1; order = cut.2; what = it.what; settled = it.settled }
 
-  -- what was done up to the answer
-  abbrev pub to_answer : List Action
-  to_answer = at.front ++ Return client (answer.At x) ∷ []
-
-  pub to_answer_lawful : IsLawful (new_machine config) to_answer
-  to_answer_lawful = lawful_after (new_machine config) at.front (Return client (answer.At x) ∷ []) at.lawful (allowed, tt)
-
-  pub to_answer_ends : after_all (new_machine config) to_answer ≡ past
-  to_answer_ends = after_all-append (new_machine config) at.front (Return client (answer.At x) ∷ [])
-
-  pub to_answer_seen : visible to_answer ≡ w.before ++ Answered client (answer.At x) ∷ []
-  to_answer_seen = visible-append at.front (Return client (answer.At x) ∷ []) ∙ ap (λ l. l ++ Answered client (answer.At x) ∷ []) at.seen
-
-  -- the descriptor of a call that is answered later is of its file
-  pub later_file : (other : ℕ) (asked : Call) (reply : Answer) (mid rest : List Visible) (b : AnsweredIn past at.back other asked reply mid rest) (fe : Fd) (f : ℕ)
-      → fd_of asked ≡ Some fe → (b.current).asked.file ≡ Some f → IsOf run.0 other fe f
-  later_file other asked reply mid rest b fe f on is =
-      let lawful : IsLawful (new_machine config) (to_answer ++ b.front) =
-      lawful_after (new_machine config) to_answer b.front to_answer_lawful (subst (λ n. IsLawful n b.front) (sym to_answer_ends) b.lawful) in
-      let ends : after_all (new_machine config) (to_answer ++ b.front) ≡ after_all past b.front =
-      after_all-append (new_machine config) to_answer b.front ∙ ap (λ n. after_all n b.front) to_answer_ends in
-      let opened : Contains (to_answer ++ b.front) (ReturnFd other fe.0 f) =
-      file_opened config (to_answer ++ b.front) lawful other b.current fe f (subst (λ n. IsOpen n other b.current) (sym ends) b.open_now) (ap fd_of b.call_is ∙ on) is in
-      let whole : run.0 ≡ (to_answer ++ b.front) ++ Return other reply ∷ b.back =
-      at.is ∙ ap (λ l. at.front ++ Return client (answer.At x) ∷ l) b.is
-      ∙ sym (append_assoc at.front (Return client (answer.At x) ∷ []) (b.front ++ Return other reply ∷ b.back))
-      ∙ sym (append_assoc to_answer b.front (Return other reply ∷ b.back)) in
-      subst (λ l. Contains l (ReturnFd other fe.0 f)) (sym whole) (in_front (to_answer ++ b.front) _ _ opened)
-
 pub answered_records_stand : AnsweredRecordsStand
-answered_records_stand config trace m run client fd bytes x w = (its_file config trace m run client fd bytes x w, is_of config trace m run client fd bytes x w, stands config trace m run client fd bytes x w)
+answered_records_stand config trace m run client fd bytes x w = (file_now config trace m run client fd bytes x w, is_of config trace m run client fd bytes x w, stands config trace m run client fd bytes x w)
 
 pub records_keep_their_place : RecordsKeepTheirPlace
 records_keep_their_place config trace m n file x bytes run way s =
@@ -122,28 +75,28 @@ module _ (config : Config) (trace : List Visible) (m : Machine) (run : IsRunTo c
     (a : WasAnswered trace client (call.Append fd one) (answer.At x)) (a_of : IsOf run.0 client fd file)
     (b : WasAnswered trace other (call.Append fe two) (answer.At y)) (b_of : IsOf run.0 other fe file) (first : length a.before < length b.before) where
   abbrev then_a : Machine
-  then_a = then config trace m run client fd one x a
+  then_a = then config trace m run client (call.Append fd one) (answer.At x) tt a
 
   abbrev past_a : Machine
-  past_a = past config trace m run client fd one x a
+  past_a = past config trace m run client (call.Append fd one) (answer.At x) tt a
 
   abbrev at_a : AnsweredIn (new_machine config) run.0 client (call.Append fd one) (answer.At x) a.before a.rest
-  at_a = at config trace m run client fd one x a
+  at_a = at config trace m run client (call.Append fd one) (answer.At x) tt a
 
-  same_a : its_file config trace m run client fd one x a ≡ file
+  same_a : file_now config trace m run client fd one x a ≡ file
   same_a = descriptors_are_of_one_file config trace m run client fd _ file (is_of config trace m run client fd one x a) a_of
 
   abbrev between : (mid : List Visible) × (b.before ≡ a.before ++ Answered client (answer.At x) ∷ mid) × (a.rest ≡ mid ++ Answered other (answer.At y) ∷ b.rest)
   between = later_part a.before b.before a.rest b.rest (Answered client (answer.At x)) (Answered other (answer.At y)) (sym a.is ∙ b.is) first
 
   abbrev done_first : List Action
-  done_first = to_answer config trace m run client fd one x a
+  done_first = to_answer config trace m run client (call.Append fd one) (answer.At x) tt a
 
   waits : waiting_call other (call_of (past_a.clients other).open_call) between.0 ≡ Some (call.Append fe two)
   waits =
-      ap (λ (n : Machine). waiting_call other (call_of (n.clients other).open_call) between.0) (sym (to_answer_ends config trace m run client fd one x a))
+      ap (λ (n : Machine). waiting_call other (call_of (n.clients other).open_call) between.0) (sym (to_answer_ends config trace m run client (call.Append fd one) (answer.At x) tt a))
       ∙ ap (λ now. waiting_call other now between.0)
-          (waiting_by_actions other (new_machine config) done_first (to_answer_lawful config trace m run client fd one x a) ∙ ap (waiting_call other None) (to_answer_seen config trace m run client fd one x a))
+          (waiting_by_actions other (new_machine config) done_first (to_answer_lawful config trace m run client (call.Append fd one) (answer.At x) tt a) ∙ ap (waiting_call other None) (to_answer_seen config trace m run client (call.Append fd one) (answer.At x) tt a))
       ∙ sym (waiting-append other (a.before ++ Answered client (answer.At x) ∷ []) between.0 None)
       ∙ ap (waiting_call other None) (append_assoc a.before (Answered client (answer.At x) ∷ []) between.0 ∙ sym between.1)
       ∙ b.waited
@@ -158,11 +111,11 @@ module _ (config : Config) (trace : List Visible) (m : Machine) (run : IsRunTo c
   done_b = subst (λ c. IsDone then_b other at_b.current c (answer.At y)) at_b.call_is at_b.may
 
   same_b : done_b.0 ≡ file
-  same_b = descriptors_are_of_one_file config trace m run other fe done_b.0 file (later_file config trace m run client fd one x a other _ _ between.0 b.rest at_b fe done_b.0 refl done_b.1) b_of
+  same_b = descriptors_are_of_one_file config trace m run other fe done_b.0 file (later_file config trace m run client (call.Append fd one) (answer.At x) tt a other _ _ between.0 b.rest at_b fe done_b.0 refl done_b.1) b_of
 
   pub apart : (x + length one ≤ y) ⊎ (y + length two ≤ x)
-  apart = answered_offsets_differ config then_a then_b client other file fd fe one two x y (reached config trace m run client fd one x a)
-      (subst (λ f. MayAnswer then_a client f (call.Append fd one) (answer.At x)) same_a (may config trace m run client fd one x a)) (at_b.front, at_b.lawful, refl)
+  apart = answered_offsets_differ config then_a then_b client other file fd fe one two x y (reached config trace m run client (call.Append fd one) (answer.At x) tt a)
+      (subst (λ f. MayAnswer then_a client f (call.Append fd one) (answer.At x)) same_a (may_now config trace m run client fd one x a)) (at_b.front, at_b.lawful, refl)
       (at_b.current, at_b.open_now, done_b.1 ∙ ap Some same_b, at_b.call_is, at_b.may)
 
 pub answered_records_lie_apart : AnsweredRecordsLieApart
