@@ -16,12 +16,12 @@ use Rattle.relaxed_file.proofs.Grows.{known_at_first}
 use Rattle.relaxed_file.proofs.Moments.{no_cons}
 use Rattle.relaxed_file.proofs.InCall.{IsNoFd, is_return_of}
 use Rattle.protocol_promises.specs.Answered.{waiting_call, WasAnswered, IsOf, fd_of}
-use Rattle.protocol_promises.specs.Promises.{DescriptorsAreOfOneFile}
+use Rattle.protocol_promises.specs.Promises.{InEachRun, DescriptorsAreOfOneFile}
 use Rattle.protocol_promises.proofs.Lists.{parts_of, in_front}
 use Rattle.protocol_promises.proofs.WaitingCalls.{call_of, waiting_by_actions}
 use Rattle.protocol_promises.proofs.Descriptors.{file_opened, one_file}
 
-pub descriptors_are_of_one_file : DescriptorsAreOfOneFile
+pub descriptors_are_of_one_file : InEachRun DescriptorsAreOfOneFile
 descriptors_are_of_one_file config trace m run client fd one two a b = one_file (new_machine config) run.0 (known_at_first config) run.1 client fd.0 one two a b
 
 -- actions that are cut at something that is seen

@@ -8,3 +8,7 @@ pub mod PieceBytes
 pub mod ReadPieces
 pub mod KeptRanges
 pub mod ReadRecords
+pub mod WrittenBytes
+pub mod WrittenParts
+pub mod ReadBytes
+pub mod KeptPromises

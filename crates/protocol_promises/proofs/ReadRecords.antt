@@ -10,7 +10,7 @@ use Rattle.relaxed_file.proofs.Successes.{AnsweredAppend, found_at}
 use Rattle.relaxed_file.proofs.OwnReads.{own_rounds_are_named}
 use Rattle.relaxed_file.proofs.Records.{records_stand}
 use Rattle.protocol_promises.specs.Answered.{WasAnswered, IsOf, Stands}
-use Rattle.protocol_promises.specs.Promises.{RecordsAreRead, OwnRecordsAreRead}
+use Rattle.protocol_promises.specs.Promises.{InEachRun, RecordsAreRead, OwnRecordsAreRead}
 use Rattle.protocol_promises.proofs.AnswerMoments.{then, reached, allowed, way, descriptors_are_of_one_file}
 use Rattle.protocol_promises.proofs.StandingRecords as record_at
 use Rattle.protocol_promises.proofs.KeptRanges.{IsKept, CutAt, cut_at, is_shown, by_round}
@@ -43,7 +43,7 @@ module _ (config : Config) (trace : List Visible) (m : Machine) (run : IsRunTo c
   abbrev stands : Stands config.chunk m file x bytes
   stands = record { index = it.index; offset = it.offset; is = it.is; room = it.room; before = at_end.0; entry = it.entry; later = at_end.1; order = at_end.2; what = it.what; settled = it.settled }
 
-pub records_are_read : RecordsAreRead
+pub records_are_read : InEachRun RecordsAreRead
 records_are_read config trace m run client reader file fd fe bytes x offset count found rounds one one_of two two_of begins reach =
     let k = kept config trace m run client file fd bytes x one one_of in
     let a = it config trace m run client file fd bytes x one one_of in
@@ -55,7 +55,7 @@ records_are_read config trace m run client reader file fd fe bytes x offset coun
               (by_round config trace m run client (call.Append fd bytes) (answer.At x) tt one reader file fe offset count found rounds two two_of a.index a.offset bytes k from until named),
     )
 
-pub own_records_are_read : OwnRecordsAreRead
+pub own_records_are_read : InEachRun OwnRecordsAreRead
 own_records_are_read config trace m run client file fd fe bytes x offset count found rounds one one_of two two_of begins reach =
     let k = kept config trace m run client file fd bytes x one one_of in
     let a = it config trace m run client file fd bytes x one one_of in

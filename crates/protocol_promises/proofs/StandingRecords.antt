@@ -17,7 +17,7 @@ use Rattle.relaxed_file.proofs.Reached.{leads_on, leads_by, lawful_after, after_
 use Rattle.relaxed_file.proofs.GoingOn.{visible-append}
 use Rattle.relaxed_file.proofs.Successes.{AnsweredAppend, answered, settled_entries_stay, found_at, answered_offsets_differ}
 use Rattle.protocol_promises.specs.Answered.{waiting_call, WasAnswered, IsOf, fd_of, Stands}
-use Rattle.protocol_promises.specs.Promises.{AnsweredRecordsStand, RecordsKeepTheirPlace, AnsweredRecordsLieApart}
+use Rattle.protocol_promises.specs.Promises.{InEachRun, AnsweredRecordsStand, RecordsKeepTheirPlace, AnsweredRecordsLieApart}
 use Rattle.protocol_promises.proofs.Lists.{later_part, parted, at_length, in_front}
 use Rattle.protocol_promises.proofs.WaitingCalls.{call_of, waiting_by_actions, waiting-append}
 use Rattle.protocol_promises.proofs.Descriptors.{file_opened}
@@ -55,11 +55,11 @@ module _ (config : Config) (trace : List Visible) (m : Machine) (run : IsRunTo c
       let cut = parted _ (it.there).0 it.entry there in
       record { index = it.index; offset = it.offset; is = it.is; room = it.room; before = cut.0; entry = it.entry; later = cut.1; order = cut.2; what = it.what; settled = it.settled }
 
-pub answered_records_stand : AnsweredRecordsStand
+pub answered_records_stand : InEachRun AnsweredRecordsStand
 answered_records_stand config trace m run client fd bytes x w = (file_now config trace m run client fd bytes x w, is_of config trace m run client fd bytes x w, stands config trace m run client fd bytes x w)
 
-pub records_keep_their_place : RecordsKeepTheirPlace
-records_keep_their_place config trace m n file x bytes run way s =
+pub records_keep_their_place : InEachRun RecordsKeepTheirPlace
+records_keep_their_place config trace m run n file x bytes way s =
     let here : slice_get (chunk_at m file s.index).order (length s.before) ≡ Some s.entry = subst (λ o. slice_get o (length s.before) ≡ Some s.entry) (sym s.order) (at_length s.before s.entry s.later) in
     let later : slice_get (chunk_at n file s.index).order (length s.before) ≡ Some s.entry =
     settled_entries_stay config m n (run.0, run.1, run.3) way file s.index (length s.before) s.entry here s.settled in
@@ -118,7 +118,7 @@ module _ (config : Config) (trace : List Visible) (m : Machine) (run : IsRunTo c
       (subst (λ f. MayAnswer then_a client f (call.Append fd one) (answer.At x)) same_a (may_now config trace m run client fd one x a)) (at_b.front, at_b.lawful, refl)
       (at_b.current, at_b.open_now, done_b.1 ∙ ap Some same_b, at_b.call_is, at_b.may)
 
-pub answered_records_lie_apart : AnsweredRecordsLieApart
+pub answered_records_lie_apart : InEachRun AnsweredRecordsLieApart
 answered_records_lie_apart config trace m run client other file fd fe one two x y a a_of b b_of different = elim (cases_lt (length a.before) (length b.before)) [
   | inl first ↦ apart config trace m run client other file fd fe one two x y a a_of b b_of first
   | inr not ↦ elim (cases_lt (length b.before) (length a.before)) [

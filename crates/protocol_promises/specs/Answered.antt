@@ -4,7 +4,7 @@ use Rattle.gfs_types.specs.declared.call.Call.{Call}
 use Rattle.gfs_types.specs.declared.call.Call.TheVariants as call
 use Rattle.gfs_types.specs.declared.answer.Answer.{Answer}
 use Rattle.gfs_types.specs.declared.ids.Fd.{Fd}
-use Rattle.gfs_types.specs.declared.mutation.Mutation.TheVariants.{Append}
+use Rattle.gfs_types.specs.declared.mutation.Mutation.TheVariants.{Write, Append}
 use Rattle.relaxed_file.specs.Order.{Entry}
 use Rattle.relaxed_file.specs.Machine.{Machine, chunk_at}
 use Rattle.relaxed_file.specs.Run.{Action, ReturnFd, Visible, Called, Answered, Passed}
@@ -47,4 +47,13 @@ pub record Stands (size : ℕ) (m : Machine) (file x : ℕ) (bytes : List ℕ) :
   pub later : List Entry
   pub order : (chunk_at m file index).order ≡ before ++ entry ∷ later
   pub what : entry.mutation ≡ Append offset bytes
+  pub settled : IsTrue entry.settled
+
+-- The part of a write that was answered, in one chunk: it is settled, at one place of the chunk's order.
+pub record PartStands (m : Machine) (file index start : ℕ) (bytes : List ℕ) : Type 0 where
+  pub before : List Entry
+  pub entry : Entry
+  pub later : List Entry
+  pub order : (chunk_at m file index).order ≡ before ++ entry ∷ later
+  pub what : entry.mutation ≡ Write start bytes
   pub settled : IsTrue entry.settled

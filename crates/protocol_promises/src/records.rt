@@ -1,25 +1,25 @@
 //! Laws of each run of the machine, in the words of calls and answers.
 
-ghost use Rattle.protocol_promises.specs.Promises.{AnsweredRecordsLieApart, AnsweredRecordsStand, DescriptorsAreOfOneFile, OwnRecordsAreRead, RecordsAreRead, RecordsKeepTheirPlace};
+ghost use Rattle.protocol_promises.specs.Promises.{InEachRun, AnsweredRecordsLieApart, AnsweredRecordsStand, DescriptorsAreOfOneFile, OwnRecordsAreRead, RecordsAreRead, RecordsKeepTheirPlace};
 
 /// A client's descriptor is of one file for good.
 pub fn descriptors_are_of_one_file()
-    ensures { DescriptorsAreOfOneFile }
+    ensures { InEachRun DescriptorsAreOfOneFile }
 {}
 
 /// A record whose append was answered stands at its place of the file of its descriptor, and keeps that place for good.
 pub fn answered_records_stand()
-    ensures stand { AnsweredRecordsStand }
-    ensures keep { RecordsKeepTheirPlace }
+    ensures stand { InEachRun AnsweredRecordsStand }
+    ensures keep { InEachRun RecordsKeepTheirPlace }
 {}
 
 /// Two records whose appends to one file were answered share no place of it.
 pub fn answered_records_lie_apart()
-    ensures { AnsweredRecordsLieApart }
+    ensures { InEachRun AnsweredRecordsLieApart }
 {}
 
 /// A later read whose answer reaches past a record shows it whole, until a later mutation covers some of it; that of another client, where it names a round no earlier than the record's.
 pub fn records_are_read()
-    ensures any { RecordsAreRead }
-    ensures own { OwnRecordsAreRead }
+    ensures any { InEachRun RecordsAreRead }
+    ensures own { InEachRun OwnRecordsAreRead }
 {}
