@@ -16,7 +16,8 @@ use Rattle.protocol_promises.specs.Promises.{InEachRun, Promises, ReadsAreSelect
 use Rattle.protocol_promises.specs.ShownRecords.{AnsweredRecordsAreShown, WorldsKeepPromises}
 use Rattle.protocol_promises.proofs.AnswerMoments.{AnsweredIn, at, then, reached, way, its_file, descriptors_are_of_one_file}
 use Rattle.protocol_promises.proofs.StandingRecords as record_at
-use Rattle.protocol_promises.proofs.ReadRecords.{own_records_are_read, records_are_read}
+use Rattle.protocol_promises.proofs.ReadRecords.{appended_records_are_read_back, own_records_are_read, records_are_read, seen_rounds_suffice}
+use Rattle.protocol_promises.proofs.LeftAlone.{appends_leave_records_alone}
 use Rattle.protocol_promises.proofs.WrittenParts.{answered_writes_stand, own_writes_are_read, writes_are_read}
 use Rattle.protocol_promises.proofs.ReadBytes.{no_other_byte_is_read}
 
@@ -48,6 +49,9 @@ runs_keep_promises config trace m run = record {
   writes = answered_writes_stand config trace m run;
   own_records = own_records_are_read config trace m run;
   records_read = records_are_read config trace m run;
+  seen_rounds = seen_rounds_suffice config trace m run;
+  left_alone = appends_leave_records_alone config trace m run;
+  read_back = appended_records_are_read_back config trace m run;
   own_writes = own_writes_are_read config trace m run;
   writes_read = writes_are_read config trace m run;
   reads = reads_are_selections config trace m run;

@@ -58,7 +58,7 @@ later_grows [] (y ∷ after) e f old new same grown = absurd (omega (arith, same
 later_grows (x ∷ before) [] e f old new same grown = absurd (omega (arith, same))
 later_grows (x ∷ before) (y ∷ after) e f old new same grown = later_grows before after e f old new (omega (arith, same)) grown.1
 
-no_bytes : (bytes xs : List ℕ) → length bytes ≡ 0 → take (length bytes) xs ≡ bytes
+pub no_bytes : (bytes xs : List ℕ) → length bytes ≡ 0 → take (length bytes) xs ≡ bytes
 no_bytes [] xs is = refl
 no_bytes (b ∷ bytes) xs is = absurd (omega (arith, is))
 
@@ -160,7 +160,7 @@ module _ (config : Config) (trace : List Visible) (m : Machine) (run : IsRunTo c
   ReachRound =
       (k : Machine) (least last : ℕ) (chosen : List Entry) → LeadsTo past_one k → IsLook k reader file index least last chosen → slice_get rounds (index - first) ≡ Some least → (kept.entry).round ≤ least
 
-  module _ (some : 0 < length bytes) (alone : LeaveAlone size o (length bytes) at_end.1) (rounds_reach : ReachRound) where
+  module _ (some : 0 < length bytes) where
     long : length found ≡ length (bytes_of done.2)
     long = ap (λ l. length l) done.4
 
@@ -172,42 +172,68 @@ module _ (config : Config) (trace : List Visible) (m : Machine) (run : IsRunTo c
     place : IsFound size offset count (at_two.current).pieces done.2 first index o (length bytes) (x - begin size offset first)
     place = find size offset count _ fair index o (length bytes) x some kept.room refl far done.2 first pieces_are (omega (arith, begin_is, begins)) (omega (arith, begin_is, long, reach))
 
-    -- by the look that gave the piece
-    shown_by : (k : Machine) (c : OpenCall) → LeadsTo past_one k → LeadsTo k m → c.asked ≡ (at_two.current).asked → IsPieceOf k reader c place.piece
-        → take (length bytes) (drop (o - part_start size offset index) (place.piece).bytes) ≡ bytes
-    shown_by k c to on same (by_none i gone is) = absurd (none-some place.named (ap (λ (p : Piece). p.round) (sym is) ∙ place.round_is))
-    shown_by k c to on same (by_look f i least last chosen may is) =
+    piece_since : Since place.piece
+    piece_since = contained Since (at_two.current).pieces place.piece since place.there
+
+    abbrev look_since : Machine
+    look_since = after_all past_one piece_since.0
+
+    to_look : LeadsTo past_one look_since
+    to_look = on_the_way piece_since.0 piece_since.1 piece_since.2
+
+    look_to_end : LeadsTo look_since m
+    look_to_end = leads_on _ then_two m (leads_from past_one then_two at_two.front piece_since.0 piece_since.1 at_two.lawful piece_since.2 refl) two_to_end
+
+    -- the round that the read names of the chunk is the one of the look that gave the piece
+    record IsLookOf : Type 0 where
+      last : ℕ
+      chosen : List Entry
+      look : IsLook look_since reader file index place.named last chosen
+      named_is : slice_get rounds (index - first) ≡ Some place.named
+      gave : (place.piece).bytes ≡ image_slice size (mutations_of chosen) (part_start size offset index) (part_length size offset count index)
+
+    looked_by : (c : OpenCall) → c.asked ≡ (at_two.current).asked → IsPieceOf look_since reader c place.piece → IsLookOf
+    looked_by c same (by_none i gone is) = absurd (none-some place.named (ap (λ (p : Piece). p.round) (sym is) ∙ place.round_is))
+    looked_by c same (by_look f i least last chosen may is) =
         let index_is : i ≡ index = ap (λ (p : Piece). p.index) (sym is) ∙ place.index_is in
         let round_is : least ≡ place.named = from_some (ap (λ (p : Piece). p.round) (sym is) ∙ place.round_is) in
         let file_is : f ≡ file = from_some (sym may.0 ∙ ap (λ (a : Asked). a.file) same ∙ done.1) ∙ same_two in
         let call_is : c.asked.call ≡ call.Read fe offset count = ap (λ (a : Asked). a.call) same ∙ at_two.call_is in
-        let look : IsLook k reader file index least last chosen = subst (λ g. IsLook k reader g index least last chosen) file_is (subst (λ j. IsLook k reader f j least last chosen) index_is may.2) in
-        let named : slice_get rounds (index - first) ≡ Some least = ap (λ l. slice_get l (index - first)) done.5 ∙ place.place ∙ ap Some (sym round_is) in
-        let reaches : (kept.entry).round ≤ least = rounds_reach k least last chosen to look named in
-        let up_to : (kept.entry).round ≤ last = let l : least ≤ last = look.2 in omega (arith, reaches, l) in
-        let known : Known k = known_when_reached config k (leads_on (new_machine config) past_one k reached_past_one to) in
-        let cut : CutAt k file index kept.entry kept.place = cut_at config then_one k file index o bytes reached_one (leads_on then_one past_one k to_past_one to) kept in
-        let grown : OrderGrows (chunk_at k file index).order (chunk_at m file index).order = (((grows_to k m on known).files file).chunks index).order in
+        let look : IsLook look_since reader file index least last chosen =
+        subst (λ g. IsLook look_since reader g index least last chosen) file_is (subst (λ j. IsLook look_since reader f j least last chosen) index_is may.2) in
+        record {
+          last = last;
+          chosen = chosen;
+          look = subst (λ r. IsLook look_since reader file index r last chosen) round_is look;
+          named_is = ap (λ l. slice_get l (index - first)) done.5 ∙ place.place;
+          gave = ap (λ (p : Piece). p.bytes) is ∙ (λ j. read_slice (sized look_since to_look j) (index_is j) (call_is j) chosen);
+        }
+
+    looked : IsLookOf
+    looked = looked_by piece_since.3 piece_since.5 piece_since.6
+
+    reaches : ReachRound → (kept.entry).round ≤ place.named
+    reaches rounds_reach = rounds_reach look_since place.named looked.last looked.chosen to_look looked.look looked.named_is
+
+    shown_whole : LeaveAlone size o (length bytes) at_end.1 → ReachRound → take (length bytes) (drop (x - offset) found) ≡ bytes
+    shown_whole alone rounds_reach =
+        let up_to : (kept.entry).round ≤ looked.last = let l : place.named ≤ looked.last = (looked.look).2 in omega (arith, reaches rounds_reach, l) in
+        let known : Known look_since = known_when_reached config look_since (leads_on (new_machine config) past_one look_since reached_past_one to_look) in
+        let cut : CutAt look_since file index kept.entry kept.place = cut_at config then_one look_since file index o bytes reached_one (leads_on then_one past_one look_since to_past_one to_look) kept in
+        let grown : OrderGrows (chunk_at look_since file index).order (chunk_at m file index).order = (((grows_to look_since m look_to_end known).files file).chunks index).order in
         let parts : OrderGrows (cut.0 ++ kept.entry ∷ cut.1) (at_end.0 ++ kept.entry ∷ at_end.1) =
-        subst (λ l. OrderGrows l (at_end.0 ++ kept.entry ∷ at_end.1)) cut.2 (subst (OrderGrows (chunk_at k file index).order) at_end.2 grown) in
+        subst (λ l. OrderGrows l (at_end.0 ++ kept.entry ∷ at_end.1)) cut.2 (subst (OrderGrows (chunk_at look_since file index).order) at_end.2 grown) in
         let later : OrderGrows cut.1 at_end.1 = later_grows cut.0 at_end.0 kept.entry kept.entry cut.1 at_end.1 (cut.3 ∙ sym at_end.3) parts in
-        let there : image_slice size (mutations_of chosen) o (length bytes) ≡ bytes =
-        kept.keeps last cut.0 cut.1 chosen up_to (λ p from until. none_covers size p cut.1 at_end.1 later (alone p from until)) (subst (λ l. IsSelection last l chosen) cut.2 look.3) in
-        let given : (place.piece).bytes ≡ image_slice size (mutations_of chosen) (part_start size offset index) (part_length size offset count index) =
-        ap (λ (p : Piece). p.bytes) is ∙ (λ j. read_slice (sized k to j) (index_is j) (call_is j) chosen) in
-        ap (λ l. take (length bytes) (drop (o - part_start size offset index) l)) given
-        ∙ slice_there size o (part_start size offset index) (part_length size offset count index) (length bytes) (mutations_of chosen) bytes place.starts
-            (subst (λ l. (o - part_start size offset index) + length bytes ≤ length l) given place.long) refl there
-
-    piece_since : Since place.piece
-    piece_since = contained Since (at_two.current).pieces place.piece since place.there
-
-    shown_whole : take (length bytes) (drop (x - offset) found) ≡ bytes
-    shown_whole =
-        let to_look : LeadsTo past_one (after_all past_one piece_since.0) = on_the_way piece_since.0 piece_since.1 piece_since.2 in
-        let to_answer : LeadsTo (after_all past_one piece_since.0) then_two = leads_from past_one then_two at_two.front piece_since.0 piece_since.1 at_two.lawful piece_since.2 refl in
+        let there : image_slice size (mutations_of looked.chosen) o (length bytes) ≡ bytes =
+        kept.keeps looked.last cut.0 cut.1 looked.chosen up_to (λ p from until. none_covers size p cut.1 at_end.1 later (alone p from until)) (subst (λ l. IsSelection looked.last l looked.chosen) cut.2 (looked.look).3) in
         ap (λ l. take (length bytes) (drop (x - offset) l)) done.4 ∙ ap (λ k. take (length bytes) (drop (x - k) (bytes_of done.2))) (sym begin_is) ∙ place.bytes_are
-        ∙ shown_by (after_all past_one piece_since.0) piece_since.3 to_look (leads_on _ then_two m to_answer two_to_end) piece_since.5 piece_since.6
+        ∙ ap (λ l. take (length bytes) (drop (o - part_start size offset index) l)) looked.gave
+        ∙ slice_there size o (part_start size offset index) (part_length size offset count index) (length bytes) (mutations_of looked.chosen) bytes place.starts
+            (subst (λ l. (o - part_start size offset index) + length bytes ≤ length l) looked.gave place.long) refl there
+
+    -- the read names a round of the chunk that is no earlier than the entry's
+    pub round_named : ReachRound → (named : ℕ) × (slice_get rounds (index - first) ≡ Some named) × ((kept.entry).round ≤ named)
+    round_named rounds_reach = (place.named, looked.named_is, reaches rounds_reach)
 
   pub is_shown : LeaveAlone size o (length bytes) at_end.1 → ReachRound → take (length bytes) (drop (x - offset) found) ≡ bytes
   is_shown alone rounds_reach = elim (cases_lt 0 (length bytes)) [

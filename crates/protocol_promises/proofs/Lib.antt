@@ -12,3 +12,4 @@ pub mod WrittenBytes
 pub mod WrittenParts
 pub mod ReadBytes
 pub mod KeptPromises
+pub mod LeftAlone

@@ -47,7 +47,7 @@ passes : {A : Type 0} (test : A → Bool) (b : Bool) (x y : A) → test x ≡ b 
 passes test true x y same is = ap test (sym (from_some is)) ∙ same
 passes test false x y same is = absurd (none-some y is)
 
-last_passes : {A : Type 0} (test : A → Bool) (xs : List A) (y : A) → last_that test xs ≡ Some y → test y ≡ true
+pub last_passes : {A : Type 0} (test : A → Bool) (xs : List A) (y : A) → last_that test xs ≡ Some y → test y ≡ true
 last_passes test [] y is = absurd (none-some y is)
 last_passes test (x ∷ xs) y is =
     elim (last_that test xs) as (λ o. last_that test xs ≡ o → newer (cond (test x) (Some x) None) o ≡ Some y → test y ≡ true) [

@@ -67,6 +67,38 @@ OwnRecordsAreRead config trace m run =
     → (s : Stands config.chunk m file x bytes)
     × (LeaveAlone config.chunk s.offset (length bytes) s.later → take (length bytes) (drop (x - offset) found) ≡ bytes)
 
+-- Once the appender of a record read it, each read that names that round of the record's chunk or a later one shows it, whoever reads; unless a later mutation covers some of it (section 2.7.1).
+abbrev pub SeenRoundsSuffice : (config : Config) (trace : List Visible) (m : Machine) → IsRunTo config trace m → Type 0
+SeenRoundsSuffice config trace m run =
+    (client reader file : ℕ) (fd fe ff : Fd) (bytes : List ℕ) (x offset count : ℕ) (found rounds : List ℕ) (from many : ℕ) (read named : List ℕ)
+    → (one : WasAnswered trace client (call.Append fd bytes) (answer.At x)) → IsOf run.0 client fd file
+    → WasAnswered one.rest client (call.Read fe offset count) (answer.Bytes found rounds) → IsOf run.0 client fe file → offset ≤ x → x + length bytes ≤ offset + length found
+    → WasAnswered one.rest reader (call.Read ff from many) (answer.Bytes read named) → IsOf run.0 reader ff file → from ≤ x → x + length bytes ≤ from + length read
+    → (s : Stands config.chunk m file x bytes)
+    × (LeaveAlone config.chunk s.offset (length bytes) s.later
+    → (seen later : ℕ) → slice_get rounds (s.index - offset / config.chunk) ≡ Some seen → slice_get named (s.index - from / config.chunk) ≡ Some later → seen ≤ later
+    → take (length bytes) (drop (x - from) read) ≡ bytes)
+
+-- Nobody asks to write into the file, or into one that it goes back to by snapshots: what is put there is appended.
+abbrev pub IsOnlyAppended : (config : Config) (trace : List Visible) (m : Machine) → IsRunTo config trace m → ℕ → Type 0
+IsOnlyAppended config trace m run file =
+    (client from : ℕ) (fd : Fd) (offset : ℕ) (bytes : List ℕ)
+    → Contains trace (Called client (call.Write fd offset bytes)) → IsOf run.0 client fd from → Contains (sources_of config run.0 file) from → ⊥
+
+-- In such a file no record that was answered is ever covered (section 3.3).
+abbrev pub AppendsLeaveRecordsAlone : (config : Config) (trace : List Visible) (m : Machine) → IsRunTo config trace m → Type 0
+AppendsLeaveRecordsAlone config trace m run =
+    (file x : ℕ) (bytes : List ℕ) → IsOnlyAppended config trace m run file → (s : Stands config.chunk m file x bytes) → LeaveAlone config.chunk s.offset (length bytes) s.later
+
+-- And so a client reads back each record that it appended to such a file, at the place that it was answered.
+abbrev pub AppendedRecordsAreReadBack : (config : Config) (trace : List Visible) (m : Machine) → IsRunTo config trace m → Type 0
+AppendedRecordsAreReadBack config trace m run =
+    (client file : ℕ) (fd fe : Fd) (bytes : List ℕ) (x offset count : ℕ) (found rounds : List ℕ)
+    → (one : WasAnswered trace client (call.Append fd bytes) (answer.At x)) → IsOf run.0 client fd file
+    → WasAnswered one.rest client (call.Read fe offset count) (answer.Bytes found rounds) → IsOf run.0 client fe file
+    → IsOnlyAppended config trace m run file → offset ≤ x → x + length bytes ≤ offset + length found
+    → take (length bytes) (drop (x - offset) found) ≡ bytes
+
 -- Each part of a write that was answered stands in its chunk of the descriptor's file (section 3.1).
 abbrev pub AnsweredWritesStand : (config : Config) (trace : List Visible) (m : Machine) → IsRunTo config trace m → Type 0
 AnsweredWritesStand config trace m run =
@@ -153,6 +185,9 @@ pub record Promises (config : Config) (trace : List Visible) (m : Machine) (run 
   -- and is read
   pub own_records : OwnRecordsAreRead config trace m run
   pub records_read : RecordsAreRead config trace m run
+  pub seen_rounds : SeenRoundsSuffice config trace m run
+  pub left_alone : AppendsLeaveRecordsAlone config trace m run
+  pub read_back : AppendedRecordsAreReadBack config trace m run
   pub own_writes : OwnWritesAreRead config trace m run
   pub writes_read : WritesAreRead config trace m run
   -- and nothing else

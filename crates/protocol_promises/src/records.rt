@@ -1,6 +1,6 @@
 //! Laws of each run of the machine, in the words of calls and answers.
 
-ghost use Rattle.protocol_promises.specs.Promises.{InEachRun, AnsweredRecordsLieApart, AnsweredRecordsStand, DescriptorsAreOfOneFile, OwnRecordsAreRead, RecordsAreRead, RecordsKeepTheirPlace};
+ghost use Rattle.protocol_promises.specs.Promises.{InEachRun, AnsweredRecordsLieApart, AnsweredRecordsStand, AppendedRecordsAreReadBack, AppendsLeaveRecordsAlone, DescriptorsAreOfOneFile, OwnRecordsAreRead, RecordsAreRead, RecordsKeepTheirPlace, SeenRoundsSuffice};
 
 /// A client's descriptor is of one file for good.
 pub fn descriptors_are_of_one_file()
@@ -22,4 +22,11 @@ pub fn answered_records_lie_apart()
 pub fn records_are_read()
     ensures any { InEachRun RecordsAreRead }
     ensures own { InEachRun OwnRecordsAreRead }
+    ensures seen { InEachRun SeenRoundsSuffice }
+{}
+
+/// In a file that nobody writes into, each record stands uncovered, and its client reads it back.
+pub fn appended_records_are_read_back()
+    ensures alone { InEachRun AppendsLeaveRecordsAlone }
+    ensures back { InEachRun AppendedRecordsAreReadBack }
 {}
