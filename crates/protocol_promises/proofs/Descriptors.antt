@@ -1,6 +1,6 @@
 -- How a client's calls and descriptors change by one action, and where in a run they come from.
-use Rattle.std.proofs.Common.{◌≡◌, ℕ, suc, ◌<◌, ◌≤◌, ◌⊎◌, true, false, cond, List, [], ◌∷◌, ◌++◌, Option, Some, None, refl, sym, ◌∙◌, ap, subst, inl, inr, arith}
-use Rattle.std.specs.Prelude.{Contains, ◌==◌}
+use Rattle.std.proofs.Common.{◌≡◌, ℕ, suc, ◌<◌, ◌≤◌, ◌⊎◌, true, false, cond, List, [], ◌∷◌, Option, Some, None, refl, sym, ◌∙◌, ap, subst, inl, inr, arith}
+use Rattle.std.specs.Prelude.{Contains}
 use Rattle.std.specs.List.{cons_option}
 use Rattle.std.proofs.lemmas.Option.{none-some}
 use Rattle.gfs_types.specs.declared.call.Call.{Call}
@@ -17,7 +17,7 @@ use Rattle.relaxed_file.specs.Answers.{descriptors_after, returned}
 use Rattle.relaxed_file.specs.Run.{Action, Invoke, Return, ReturnFd, Step, FindBusy, FindFull, Lock, Add, Place, Tell, Note, Look, LookPast, Measure, MeasureNone, Visible, Called, shown, visible, Allows, after, after_all, IsLawful, asked_now, asked_file, file_of}
 use Rattle.relaxed_file.proofs.Tables.{put_look, put_same, at_some, from_some}
 use Rattle.relaxed_file.proofs.Known.{Known, known_step, asked_is}
-use Rattle.relaxed_file.proofs.Grows.{grows_step, known_when_reached, known_at_first}
+use Rattle.relaxed_file.proofs.Grows.{grows_step, known_when_reached}
 use Rattle.relaxed_file.proofs.AskedFor.{open_is_made}
 use Rattle.relaxed_file.proofs.OwnReads.{performed_clients}
 use Rattle.protocol_promises.specs.Answered.{fd_of}
@@ -161,9 +161,9 @@ calls_since m (x ∷ xs) lawful client number asked is = elim (calls_since (afte
   | inl now ↦ elim (call_from m client x _ number asked (table_step m client x lawful.0) now) [
     | inl old ↦ inl old
     | inr new ↦ inr (
-        seen_now x xs (Called client asked.call) (ap shown new.1 ∙ ap (λ (a : Asked). Some (Called client a.call)) (sym new.2)),
-        λ fd file on at. inl (file_by_fd (m.clients client) new.0 fd file (ap (λ (a : Asked). fd_of a.call) (sym new.2) ∙ on) (ap (λ (a : Asked). a.file) (sym new.2) ∙ at)),
-      )
+      seen_now x xs (Called client asked.call) (ap shown new.1 ∙ ap (λ (a : Asked). Some (Called client a.call)) (sym new.2)),
+      λ fd file on at. inl (file_by_fd (m.clients client) new.0 fd file (ap (λ (a : Asked). fd_of a.call) (sym new.2) ∙ on) (ap (λ (a : Asked). a.file) (sym new.2) ∙ at)),
+    )
   ]
 ]
 

@@ -1,10 +1,10 @@
 -- All that users rely on, of each run, and so of each world that one explains.
-use Rattle.std.proofs.Common.{◌≡◌, ℕ, zero, suc, ◌/◌, ◌<◌, ◌≤◌, List, [], ◌∷◌, length, Some, refl, sym, ◌∙◌, ap, subst, arith}
+use Rattle.std.proofs.Common.{◌≡◌, ℕ, zero, suc, ◌<◌, ◌≤◌, List, [], ◌∷◌, length, Some, refl, sym, ◌∙◌, ap, subst, arith}
 use Rattle.std.specs.Prelude.{slice_get, IsTrue, IsSomeAnd}
 use Rattle.gfs_types.specs.declared.call.Call.TheVariants as call
 use Rattle.gfs_types.specs.declared.answer.Answer.TheVariants as answer
 use Rattle.gfs_types.specs.declared.mutation.Mutation.TheVariants.{Append}
-use Rattle.relaxed_file.specs.Machine.{Machine, new_machine, chunk_at, chunk_count}
+use Rattle.relaxed_file.specs.Machine.{Machine, chunk_at, chunk_count}
 use Rattle.relaxed_file.specs.Answers.{IsDone}
 use Rattle.relaxed_file.specs.RunLaws.{MayAnswer}
 use Rattle.relaxed_file.proofs.Grows.{grows_to, known_when_reached}
@@ -14,7 +14,7 @@ use Rattle.protocol.specs.Tables.{element_at}
 use Rattle.protocol.specs.Observer.{entries_of}
 use Rattle.protocol_promises.specs.Promises.{InEachRun, Promises, ReadsAreSelections}
 use Rattle.protocol_promises.specs.ShownRecords.{AnsweredRecordsAreShown, WorldsKeepPromises}
-use Rattle.protocol_promises.proofs.AnswerMoments.{AnsweredIn, at, then, reached, way, its_file, descriptors_are_of_one_file}
+use Rattle.protocol_promises.proofs.AnswerMoments.{at, then, reached, way, its_file, descriptors_are_of_one_file}
 use Rattle.protocol_promises.proofs.StandingRecords as record_at
 use Rattle.protocol_promises.proofs.ReadRecords.{appended_records_are_read_back, own_records_are_read, records_are_read, seen_rounds_suffice}
 use Rattle.protocol_promises.proofs.LeftAlone.{appends_leave_records_alone}

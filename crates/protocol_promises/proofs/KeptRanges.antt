@@ -1,6 +1,6 @@
 -- A range of a chunk whose bytes a settled entry keeps, and what a read that is answered later shows of it.
 use Rattle.std.proofs.Common.{◌≡◌, ℕ, ◌+◌, ◌-◌, ◌*◌, ◌/◌, ◌<◌, ◌≤◌, Bool, true, false, cond, List, [], ◌∷◌, ◌++◌, length, take, drop, Option, Some, None, refl, sym, ◌∙◌, ap, subst, inl, inr, arith}
-use Rattle.std.specs.Prelude.{Contains, slice_get, IsTrue, IsSomeAnd}
+use Rattle.std.specs.Prelude.{slice_get, IsTrue, IsSomeAnd}
 use Rattle.std.specs.List.{AllByRecursion}
 use Rattle.std.proofs.lemmas.Bool.{cases_lt}
 use Rattle.std.proofs.lemmas.Option.{none-some}
@@ -19,7 +19,7 @@ use Rattle.relaxed_file.specs.Parts.{part_start, part_length}
 use Rattle.relaxed_file.specs.Machine.{Machine, new_machine, Asked, OpenCall, Piece, chunk_at}
 use Rattle.relaxed_file.specs.Reads.{IsLook, read_slice}
 use Rattle.relaxed_file.specs.Answers.{IsDone, ArePieces}
-use Rattle.relaxed_file.specs.Run.{Action, Return, Visible, visible, after, after_all, IsLawful, IsRunTo, LeadsTo, IsReached}
+use Rattle.relaxed_file.specs.Run.{Action, Return, Visible, after, after_all, IsRunTo, LeadsTo, IsReached}
 use Rattle.relaxed_file.proofs.Tables.{from_some, contained, all_more}
 use Rattle.relaxed_file.proofs.Reached.{leads_on}
 use Rattle.relaxed_file.proofs.Known.{Known}
@@ -30,7 +30,7 @@ use Rattle.relaxed_file.proofs.InCall.{IsNoFd}
 use Rattle.protocol_promises.specs.Answered.{waiting_call, WasAnswered, IsOf}
 use Rattle.protocol_promises.proofs.Lists.{parted}
 use Rattle.protocol_promises.proofs.WaitingCalls.{waiting_since}
-use Rattle.protocol_promises.proofs.AnswerMoments.{AnsweredIn, answered_in, at, then, past, reached, to_past, reached_past, ends, to_end, way, later_file, descriptors_are_of_one_file}
+use Rattle.protocol_promises.proofs.AnswerMoments.{AnsweredIn, answered_in, at, then, past, reached, to_past, reached_past, ends, way, later_file, descriptors_are_of_one_file}
 use Rattle.protocol_promises.proofs.SincePieces.{ReadSince, pieces_since}
 use Rattle.protocol_promises.proofs.PieceBytes.{IsFair, IsFound, begin, within, find, bytes_of}
 use Rattle.protocol_promises.proofs.ReadPieces.{leads_from, leads_to, settings, fair_piece, slice_there}
@@ -229,7 +229,7 @@ module _ (config : Config) (trace : List Visible) (m : Machine) (run : IsRunTo c
         ap (λ l. take (length bytes) (drop (x - offset) l)) done.4 ∙ ap (λ k. take (length bytes) (drop (x - k) (bytes_of done.2))) (sym begin_is) ∙ place.bytes_are
         ∙ ap (λ l. take (length bytes) (drop (o - part_start size offset index) l)) looked.gave
         ∙ slice_there size o (part_start size offset index) (part_length size offset count index) (length bytes) (mutations_of looked.chosen) bytes place.starts
-            (subst (λ l. (o - part_start size offset index) + length bytes ≤ length l) looked.gave place.long) refl there
+        (subst (λ l. (o - part_start size offset index) + length bytes ≤ length l) looked.gave place.long) refl there
 
     -- the read names a round of the chunk that is no earlier than the entry's
     pub round_named : ReachRound → (named : ℕ) × (slice_get rounds (index - first) ≡ Some named) × ((kept.entry).round ≤ named)

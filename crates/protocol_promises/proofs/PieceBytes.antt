@@ -1,13 +1,13 @@
 -- Where in a read's answer the bytes of a piece stand.
-use Rattle.std.proofs.Common.{◌≡◌, ℕ, zero, suc, ◌+◌, ◌-◌, ◌*◌, ◌/◌, ◌<◌, ◌≤◌, min, Bool, true, false, List, [], ◌∷◌, ◌++◌, length, take, drop, Option, Some, None, refl, sym, ◌∙◌, ap, subst, inl, inr, ⊎_elim, arith, length-append, mul-le-mul_right}
-use Rattle.std.specs.Prelude.{Contains, MatchBool, nat_lt, slice_get, flat_map, filter_map, IsTrue}
+use Rattle.std.proofs.Common.{◌≡◌, ℕ, zero, suc, ◌+◌, ◌-◌, ◌*◌, ◌<◌, ◌≤◌, true, false, List, [], ◌∷◌, ◌++◌, length, take, drop, Some, None, refl, ◌∙◌, ap, subst, inl, inr, arith, length-append, mul-le-mul_right}
+use Rattle.std.specs.Prelude.{Contains, MatchBool, nat_lt, slice_get, flat_map, filter_map}
 use Rattle.std.specs.List.{AllByRecursion, cons_option}
-use Rattle.std.proofs.lemmas.Bool.{cases_lt, cases_eq, ltb-true, ltb-false}
+use Rattle.std.proofs.lemmas.Bool.{cases_lt, ltb-true, ltb-false}
 use Rattle.std.proofs.lemmas.List.{take-append-le, drop-append-le, length-drop}
 use Rattle.std.proofs.Math.Seq.{drop-append-add}
 use Rattle.gfs_types.specs.declared.mutation.Mutation.{Mutation}
 use Rattle.gfs_types.specs.Image.{byte_at, bytes_from}
-use Rattle.relaxed_file.specs.Parts.{has_part, part_start, part_end, part_length}
+use Rattle.relaxed_file.specs.Parts.{part_start, part_end, part_length}
 use Rattle.relaxed_file.specs.Machine.{Piece}
 use Rattle.relaxed_file.specs.Answers.{ArePieces}
 use Rattle.relaxed_file.proofs.Tables.{contained}
@@ -79,10 +79,10 @@ module _ (size offset count : ℕ) (found : List Piece) (fair : AllByRecursion (
       let short : length piece.bytes ≤ part_length size offset count index = fair_at piece index are.1 are.2 in
       let whole : length (piece.bytes ++ bytes_of rest) ≡ length piece.bytes + length (bytes_of rest) = length-append piece.bytes (bytes_of rest) in
       elim (nat_lt (length piece.bytes) (part_length size offset count index)) as
-          (λ b. MatchBool b (rest ≡ []) (ArePieces size offset count found (suc index) rest) → length (piece.bytes ++ bytes_of rest) ≤ (offset + count) - begin size offset index) [
-            | true ↦ λ last. let none : length (bytes_of rest) ≡ 0 = ap (λ l. length (bytes_of l)) last in omega (arith, has, short, whole, none)
-            | false ↦ λ more. let left : length (bytes_of rest) ≤ (offset + count) - begin size offset (suc index) = within rest (suc index) more in omega (arith, has, short, whole, left)
-          ] are.3
+      (λ b. MatchBool b (rest ≡ []) (ArePieces size offset count found (suc index) rest) → length (piece.bytes ++ bytes_of rest) ≤ (offset + count) - begin size offset index) [
+        | true ↦ λ last. let none : length (bytes_of rest) ≡ 0 = ap (λ l. length (bytes_of l)) last in omega (arith, has, short, whole, none)
+        | false ↦ λ more. let left : length (bytes_of rest) ≤ (offset + count) - begin size offset (suc index) = within rest (suc index) more in omega (arith, has, short, whole, left)
+      ] are.3
 
   module _ (t o len x : ℕ) (some : 0 < len) (room : o + len ≤ size) (x_is : x ≡ t * size + o) (far : x + len ≤ offset + count) where
     here : (piece : Piece) (rest : List Piece) (index : ℕ) → Contains found piece → piece.index ≡ index → index ≡ t → begin size offset index ≤ x → (o - part_start size offset index) + len ≤ length piece.bytes
@@ -103,8 +103,8 @@ module _ (size offset count : ℕ) (found : List Piece) (fair : AllByRecursion (
           named = named.0;
           round_is = named.1;
           place =
-            let none : t - index ≡ 0 = omega (arith, same) in
-            ap (λ k. slice_get (rounds_of (piece ∷ rest)) k) none ∙ ap (λ r. slice_get (cons_option r (rounds_of rest)) 0) named.1;
+              let none : t - index ≡ 0 = omega (arith, same) in
+              ap (λ k. slice_get (rounds_of (piece ∷ rest)) k) none ∙ ap (λ r. slice_get (cons_option r (rounds_of rest)) 0) named.1;
         }
 
     past : (piece : Piece) (rest : List Piece) (index : ℕ) → Contains found piece → index < t → 0 < length piece.bytes → x - begin size offset index ≡ length piece.bytes + (x - begin size offset (suc index))
@@ -135,14 +135,14 @@ module _ (size offset count : ℕ) (found : List Piece) (fair : AllByRecursion (
           | inl before ↦
               let step : suc index * size ≤ t * size = mul-le-mul_right size before in
               elim (nat_lt (length piece.bytes) (part_length size offset count index)) as
-                  (λ b. nat_lt (length piece.bytes) (part_length size offset count index) ≡ b → MatchBool b (rest ≡ []) (ArePieces size offset count found (suc index) rest)
-                  → IsFound size offset count found (piece ∷ rest) index t o len (x - begin size offset index)) [
-                    | true ↦ λ is last. let none : length (bytes_of rest) ≡ 0 = ap (λ l. length (bytes_of l)) last in absurd (omega (arith, has, short, whole, none, step, x_is, reach, some))
-                    | false ↦ λ is more.
-                        let full : part_length size offset count index ≤ length piece.bytes = ltb-false _ _ is in
-                        past piece rest index are.1 before (omega (arith, has, full)) (omega (arith, has, short, full, step, x_is, far, some, begins))
-                        (find rest (suc index) more (omega (arith, has, step, x_is)) (omega (arith, has, short, full, whole, step, x_is, far, some, reach)))
-                  ] refl are.3
+              (λ b. nat_lt (length piece.bytes) (part_length size offset count index) ≡ b → MatchBool b (rest ≡ []) (ArePieces size offset count found (suc index) rest)
+              → IsFound size offset count found (piece ∷ rest) index t o len (x - begin size offset index)) [
+                | true ↦ λ is last. let none : length (bytes_of rest) ≡ 0 = ap (λ l. length (bytes_of l)) last in absurd (omega (arith, has, short, whole, none, step, x_is, reach, some))
+                | false ↦ λ is more.
+                    let full : part_length size offset count index ≤ length piece.bytes = ltb-false _ _ is in
+                    past piece rest index are.1 before (omega (arith, has, full)) (omega (arith, has, short, full, step, x_is, far, some, begins))
+                    (find rest (suc index) more (omega (arith, has, step, x_is)) (omega (arith, has, short, full, whole, step, x_is, far, some, reach)))
+              ] refl are.3
           | inr not ↦ elim (cases_lt t index) [
             | inl after ↦ let step : suc t * size ≤ index * size = mul-le-mul_right size after in absurd (omega (arith, step, x_is, begins, room, some))
             | inr also ↦
@@ -150,12 +150,12 @@ module _ (size offset count : ℕ) (found : List Piece) (fair : AllByRecursion (
                 let prod : index * size ≡ t * size = ap (λ k. k * size) same in
                 here piece rest index are.1 are.2 same begins
                 (elim (nat_lt (length piece.bytes) (part_length size offset count index)) as
-                  (λ b. nat_lt (length piece.bytes) (part_length size offset count index) ≡ b → MatchBool b (rest ≡ []) (ArePieces size offset count found (suc index) rest)
-                  → (o - part_start size offset index) + len ≤ length piece.bytes) [
-                    | true ↦ λ is last. let none : length (bytes_of rest) ≡ 0 = ap (λ l. length (bytes_of l)) last in omega (arith, whole, none, prod, x_is, reach, begins)
-                    | false ↦ λ is more.
-                        let full : part_length size offset count index ≤ length piece.bytes = ltb-false _ _ is in
-                        omega (arith, has, full, prod, x_is, room, far, begins)
-                  ] refl are.3)
+                (λ b. nat_lt (length piece.bytes) (part_length size offset count index) ≡ b → MatchBool b (rest ≡ []) (ArePieces size offset count found (suc index) rest)
+                → (o - part_start size offset index) + len ≤ length piece.bytes) [
+                  | true ↦ λ is last. let none : length (bytes_of rest) ≡ 0 = ap (λ l. length (bytes_of l)) last in omega (arith, whole, none, prod, x_is, reach, begins)
+                  | false ↦ λ is more.
+                      let full : part_length size offset count index ≤ length piece.bytes = ltb-false _ _ is in
+                      omega (arith, has, full, prod, x_is, room, far, begins)
+                ] refl are.3)
           ]
         ]

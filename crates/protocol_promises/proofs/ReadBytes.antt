@@ -1,8 +1,8 @@
 -- Each byte that a read was answered is zero, or one that a call put there.
-use Rattle.std.proofs.Common.{◌≡◌, ℕ, zero, suc, ◌+◌, ◌-◌, ◌*◌, ◌/◌, ◌<◌, ◌≤◌, ◌⊎◌, min, Bool, true, false, cond, List, [], ◌∷◌, ◌++◌, append_assoc, length, get_or, take, drop, Option, Some, None, refl, sym, ◌∙◌, ap, subst, inl, inr, arith, length-take, length-drop}
-use Rattle.std.specs.Prelude.{Contains, slice_get, IsTrue}
+use Rattle.std.proofs.Common.{◌≡◌, ℕ, zero, suc, ◌+◌, ◌-◌, ◌*◌, ◌/◌, ◌<◌, ◌≤◌, ◌⊎◌, min, Bool, true, false, cond, List, [], ◌∷◌, ◌++◌, append_assoc, length, get_or, take, drop, Some, None, refl, sym, ◌∙◌, ap, subst, inl, inr, arith, length-take, length-drop}
+use Rattle.std.specs.Prelude.{Contains, slice_get}
 use Rattle.std.specs.List.{AllByRecursion}
-use Rattle.std.proofs.lemmas.Bool.{cases_lt, and_parts, ltb-true, leb-true, false≢true}
+use Rattle.std.proofs.lemmas.Bool.{cases_lt, and_parts, ltb-true, leb-true}
 use Rattle.std.proofs.lemmas.Option.{none-some, slice_get-get_or, get_or_from_slice_get, slice_get_within}
 use Rattle.std.proofs.lemmas.List.{get_or-take, get_or-drop}
 use Rattle.std.proofs.Math.Nat.{div-mul-le_self, lt-div-mul-add}
@@ -15,14 +15,14 @@ use Rattle.gfs_types.specs.declared.mutation.Mutation.{Mutation}
 use Rattle.gfs_types.specs.declared.mutation.Mutation.TheVariants.{Write, Append, Pad}
 use Rattle.gfs_types.specs.Mutations.{covers, byte_of}
 use Rattle.gfs_types.specs.Image.{newer, last_that, byte_at, image_slice}
-use Rattle.relaxed_file.specs.Order.{Entry, IsSelection, mutations_of, last_cover}
-use Rattle.relaxed_file.specs.Parts.{has_part, part_start, part_end, part_length, part_bytes}
+use Rattle.relaxed_file.specs.Order.{Entry, IsSelection, mutations_of}
+use Rattle.relaxed_file.specs.Parts.{part_start, part_end, part_length, part_bytes}
 use Rattle.relaxed_file.specs.Machine.{Machine, new_machine, Asked, OpenCall, Piece, chunk_at}
 use Rattle.relaxed_file.specs.Reads.{read_slice}
 use Rattle.relaxed_file.specs.Answers.{IsDone, ArePieces}
 use Rattle.relaxed_file.specs.Sources.{sources_of}
-use Rattle.relaxed_file.specs.Run.{Action, Return, ReturnFd, Visible, Called, visible, after_all, IsLawful, IsRunTo, LeadsTo, IsReached}
-use Rattle.relaxed_file.specs.RunLaws.{IsAskedOf, WasPutBy, ComesFrom}
+use Rattle.relaxed_file.specs.Run.{Action, Return, Visible, Called, visible, after_all, IsLawful, IsRunTo}
+use Rattle.relaxed_file.specs.RunLaws.{IsAskedOf, ComesFrom}
 use Rattle.relaxed_file.proofs.Tables.{from_some, contained, all_more}
 use Rattle.relaxed_file.proofs.GoingOn.{visible-append}
 use Rattle.relaxed_file.proofs.CallSteps.{IsPieceOf, by_look, by_none}
@@ -31,7 +31,7 @@ use Rattle.protocol_promises.specs.Answered.{waiting_call, WasAnswered, IsOf, fd
 use Rattle.protocol_promises.specs.Promises.{InEachRun, Puts, WasPut, NoOtherByteIsRead}
 use Rattle.protocol_promises.proofs.Lists.{parts_of, in_front}
 use Rattle.protocol_promises.proofs.Descriptors.{was_called, was_opened}
-use Rattle.protocol_promises.proofs.AnswerMoments.{AnsweredIn, at, then, reached, its_file, lawful_parts, descriptors_are_of_one_file}
+use Rattle.protocol_promises.proofs.AnswerMoments.{AnsweredIn, at, then, its_file, lawful_parts, descriptors_are_of_one_file}
 use Rattle.protocol_promises.proofs.SincePieces.{ReadSince, pieces_since}
 use Rattle.protocol_promises.proofs.PieceBytes.{IsFair, IsFound, begin, within, find, bytes_of}
 use Rattle.protocol_promises.proofs.ReadPieces.{leads_to, settings, fair_piece, slice_from}
@@ -188,21 +188,21 @@ module _ (config : Config) (trace : List Visible) (m : Machine) (run : IsRunTo c
         elim (put_there (after_all first_machine d).config.chunk t o asked.call e.mutation put.5 covered) [
           | inl zeros ↦ inl (same ∙ zeros)
           | inr puts ↦ inr (record {
-              client = e.call.client;
-              asked = asked.call;
-              fd = puts.0;
-              from = put.2;
-              so_far = d;
-              left = left ++ Return client (answer.Bytes found rounds) ∷ at_read.back;
-              called = subst (λ l. Contains l (Called e.call.client asked.call)) (sym (visible-append d left) ∙ ap visible (sym is) ∙ at_read.seen)
-                  (in_front (visible d) (visible left) _ (was_called config d parts.0 e.call.client e.call.number asked put.1));
-              on = puts.1;
-              goes = at_read.is ∙ ap (λ l. l ++ Return client (answer.Bytes found rounds) ∷ at_read.back) is ∙ append_assoc d left (Return client (answer.Bytes found rounds) ∷ at_read.back);
-              is_of = was_opened config d parts.0 e.call.client e.call.number asked put.1 puts.0 put.2 puts.1 put.3;
-              source = put.4;
-              puts = subst (λ b. Puts asked.call x b) (sym same) (subst (λ y. Puts asked.call y (byte_of o e.mutation))
-                  (ap (λ s. t * s + o) (sized d left is) ∙ sym x_is) puts.2);
-            })
+            client = e.call.client;
+            asked = asked.call;
+            fd = puts.0;
+            from = put.2;
+            so_far = d;
+            left = left ++ Return client (answer.Bytes found rounds) ∷ at_read.back;
+            called = subst (λ l. Contains l (Called e.call.client asked.call)) (sym (visible-append d left) ∙ ap visible (sym is) ∙ at_read.seen)
+                (in_front (visible d) (visible left) _ (was_called config d parts.0 e.call.client e.call.number asked put.1));
+            on = puts.1;
+            goes = at_read.is ∙ ap (λ l. l ++ Return client (answer.Bytes found rounds) ∷ at_read.back) is ∙ append_assoc d left (Return client (answer.Bytes found rounds) ∷ at_read.back);
+            is_of = was_opened config d parts.0 e.call.client e.call.number asked put.1 puts.0 put.2 puts.1 put.3;
+            source = put.4;
+            puts = subst (λ b. Puts asked.call x b) (sym same) (subst (λ y. Puts asked.call y (byte_of o e.mutation))
+                (ap (λ s. t * s + o) (sized d left is) ∙ sym x_is) puts.2);
+          })
         ]
 
     by_piece : (d left : List Action) → at_read.front ≡ d ++ left → (c : OpenCall) → c.asked ≡ (at_read.current).asked → IsPieceOf (after_all first_machine d) client c piece_at.piece → Comes
@@ -216,7 +216,7 @@ module _ (config : Config) (trace : List Visible) (m : Machine) (run : IsRunTo c
         let slice : take 1 (drop (o - part_start size offset t) (piece_at.piece).bytes) ≡ byte_at size (mutations_of chosen) o ∷ [] =
         ap (λ l. take 1 (drop (o - part_start size offset t) l)) given
         ∙ slice_from size o (part_start size offset t) (part_length size offset count t) 1 (mutations_of chosen) piece_at.starts
-            (subst (λ l. (o - part_start size offset t) + 1 ≤ length l) given piece_at.long) in
+        (subst (λ l. (o - part_start size offset t) + 1 ≤ length l) given piece_at.long) in
         let byte_is : byte ≡ byte_at (after_all first_machine d).config.chunk (mutations_of chosen) o =
         (parts_of byte (byte_at size (mutations_of chosen) o) [] [] (sym byte_there ∙ slice)).0 ∙ ap (λ s. byte_at s (mutations_of chosen) o) (sym (sized d left is)) in
         let lawful = (lawful_parts first_machine d left (subst (IsLawful first_machine) is at_read.lawful)).0 in

@@ -1,6 +1,6 @@
 -- What a read that is answered later shows of a record.
-use Rattle.std.proofs.Common.{◌≡◌, ℕ, ◌+◌, ◌-◌, ◌*◌, ◌<◌, ◌≤◌, List, length, take, drop, Some, sym, ◌∙◌, ap, subst, inl, inr, arith}
-use Rattle.std.specs.Prelude.{slice_get, IsSomeAnd}
+use Rattle.std.proofs.Common.{◌≡◌, ℕ, ◌+◌, ◌-◌, ◌*◌, ◌≤◌, List, length, take, drop, sym, ◌∙◌, ap, subst, inl, inr, arith}
+use Rattle.std.specs.Prelude.{IsSomeAnd}
 use Rattle.std.proofs.lemmas.Bool.{cases_lt}
 use Rattle.gfs_types.specs.declared.call.Call.TheVariants as call
 use Rattle.gfs_types.specs.declared.answer.Answer.TheVariants as answer
@@ -56,7 +56,7 @@ records_are_read config trace m run client reader file fd fe bytes x offset coun
       stands config trace m run client file fd bytes x one one_of,
       λ alone named. ap (λ y. take (length bytes) (drop (y - offset) found)) a.is
           ∙ is_shown config trace m run client (call.Append fd bytes) (answer.At x) tt one reader file fe offset count found rounds two two_of a.index a.offset bytes k from until alone
-              (by_round config trace m run client (call.Append fd bytes) (answer.At x) tt one reader file fe offset count found rounds two two_of a.index a.offset bytes k from until named),
+          (by_round config trace m run client (call.Append fd bytes) (answer.At x) tt one reader file fe offset count found rounds two two_of a.index a.offset bytes k from until named),
     )
 
 pub own_records_are_read : InEachRun OwnRecordsAreRead
@@ -68,9 +68,9 @@ own_records_are_read config trace m run client file fd fe bytes x offset count f
       stands config trace m run client file fd bytes x one one_of,
       λ alone. ap (λ y. take (length bytes) (drop (y - offset) found)) a.is
           ∙ is_shown config trace m run client (call.Append fd bytes) (answer.At x) tt one client file fe offset count found rounds two two_of a.index a.offset bytes k from until alone
-              (λ n least last chosen to look named. own_rounds_are_named config (then config trace m run client (call.Append fd bytes) (answer.At x) tt one) n client file a.index a.entry (answer.At x) least last chosen
-              (reached config trace m run client (call.Append fd bytes) (answer.At x) tt one) (a.current, a.open_now, a.there, a.noted, a.note_is, a.success)
-              (allowed config trace m run client (call.Append fd bytes) (answer.At x) tt one) to look),
+          (λ n least last chosen to look named. own_rounds_are_named config (then config trace m run client (call.Append fd bytes) (answer.At x) tt one) n client file a.index a.entry (answer.At x) least last chosen
+          (reached config trace m run client (call.Append fd bytes) (answer.At x) tt one) (a.current, a.open_now, a.there, a.noted, a.note_is, a.success)
+          (allowed config trace m run client (call.Append fd bytes) (answer.At x) tt one) to look),
     )
 
 pub seen_rounds_suffice : InEachRun SeenRoundsSuffice
@@ -80,8 +80,7 @@ seen_rounds_suffice config trace m run client reader file fd fe ff bytes x offse
     let here : offset ≤ a.index * config.chunk + a.offset = subst (λ y. offset ≤ y) a.is begins in
     let until : a.index * config.chunk + a.offset + length bytes ≤ offset + length found = subst (λ y. y + length bytes ≤ offset + length found) a.is reach in
     let there : from ≤ a.index * config.chunk + a.offset = subst (λ y. from ≤ y) a.is starts in
-    let past : a.index * config.chunk + a.offset + length bytes ≤ from + length read = subst (λ y. y + length bytes ≤ from + length read) a.is gets in
-    (
+    let past : a.index * config.chunk + a.offset + length bytes ≤ from + length read = subst (λ y. y + length bytes ≤ from + length read) a.is gets in (
       stands config trace m run client file fd bytes x one one_of,
       λ alone seen later first second le. elim (cases_lt 0 (length bytes)) [
         | inl some ↦
@@ -93,8 +92,8 @@ seen_rounds_suffice config trace m run client reader file fd fe ff bytes x offse
             let enough : (a.entry).round ≤ later = omega (arith, own.2, same, le) in
             ap (λ y. take (length bytes) (drop (y - from) read)) a.is
             ∙ is_shown config trace m run client (call.Append fd bytes) (answer.At x) tt one reader file ff from many read named three three_of a.index a.offset bytes k there past alone
-                (by_round config trace m run client (call.Append fd bytes) (answer.At x) tt one reader file ff from many read named three three_of a.index a.offset bytes k there past
-                (subst (λ o. IsSomeAnd o (λ r. (a.entry).round ≤ r)) (sym second) enough))
+            (by_round config trace m run client (call.Append fd bytes) (answer.At x) tt one reader file ff from many read named three three_of a.index a.offset bytes k there past
+            (subst (λ o. IsSomeAnd o (λ r. (a.entry).round ≤ r)) (sym second) enough))
         | inr none ↦ no_bytes bytes _ (omega (arith, none))
       ],
     )

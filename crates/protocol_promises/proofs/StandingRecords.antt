@@ -1,26 +1,20 @@
 -- Answered records stand, keep their places and lie apart.
-use Rattle.std.proofs.Common.{◌≡◌, ℕ, ◌+◌, ◌*◌, ◌<◌, ◌≤◌, ◌⊎◌, List, [], ◌∷◌, ◌++◌, append_assoc, length, Option, Some, None, refl, sym, ◌∙◌, ap, subst, inl, inr, ⊎_elim, arith}
-use Rattle.std.specs.Prelude.{Contains, slice_get}
+use Rattle.std.proofs.Common.{◌≡◌, ℕ, ◌+◌, ◌<◌, ◌≤◌, ◌⊎◌, List, [], ◌∷◌, ◌++◌, append_assoc, length, Some, None, refl, sym, ◌∙◌, ap, subst, inl, inr, ⊎_elim, arith}
+use Rattle.std.specs.Prelude.{slice_get}
 use Rattle.std.proofs.lemmas.Bool.{cases_lt}
-use Rattle.gfs_types.specs.declared.call.Call.{Call}
 use Rattle.gfs_types.specs.declared.call.Call.TheVariants as call
-use Rattle.gfs_types.specs.declared.answer.Answer.{Answer}
 use Rattle.gfs_types.specs.declared.answer.Answer.TheVariants as answer
 use Rattle.gfs_types.specs.declared.ids.Fd.{Fd}
 use Rattle.gfs_types.specs.declared.config.Config.{Config}
-use Rattle.relaxed_file.specs.Order.{Entry}
-use Rattle.relaxed_file.specs.Machine.{Machine, new_machine, IsOpen, OpenCall, chunk_at}
+use Rattle.relaxed_file.specs.Machine.{Machine, new_machine, chunk_at}
 use Rattle.relaxed_file.specs.Answers.{IsDone}
-use Rattle.relaxed_file.specs.Run.{Action, Return, ReturnFd, Visible, Answered, visible, Allows, after, after_all, IsLawful, IsRunTo, LeadsTo, IsReached}
+use Rattle.relaxed_file.specs.Run.{Action, Visible, Answered, after_all, IsRunTo}
 use Rattle.relaxed_file.specs.RunLaws.{MayAnswer}
-use Rattle.relaxed_file.proofs.Reached.{leads_on, leads_by, lawful_after, after_all-append}
-use Rattle.relaxed_file.proofs.GoingOn.{visible-append}
 use Rattle.relaxed_file.proofs.Successes.{AnsweredAppend, answered, settled_entries_stay, found_at, answered_offsets_differ}
-use Rattle.protocol_promises.specs.Answered.{waiting_call, WasAnswered, IsOf, fd_of, Stands}
+use Rattle.protocol_promises.specs.Answered.{waiting_call, WasAnswered, IsOf, Stands}
 use Rattle.protocol_promises.specs.Promises.{InEachRun, AnsweredRecordsStand, RecordsKeepTheirPlace, AnsweredRecordsLieApart}
-use Rattle.protocol_promises.proofs.Lists.{later_part, parted, at_length, in_front}
+use Rattle.protocol_promises.proofs.Lists.{later_part, parted, at_length}
 use Rattle.protocol_promises.proofs.WaitingCalls.{call_of, waiting_by_actions, waiting-append}
-use Rattle.protocol_promises.proofs.Descriptors.{file_opened}
 use Rattle.protocol_promises.proofs.AnswerMoments.{AnsweredIn, answered_in, at, then, past, reached, way, its_file, to_answer, to_answer_lawful, to_answer_ends, to_answer_seen, later_file, descriptors_are_of_one_file}
 
 -- a record that was answered, at the moment of the answer
@@ -96,7 +90,7 @@ module _ (config : Config) (trace : List Visible) (m : Machine) (run : IsRunTo c
   waits =
       ap (λ (n : Machine). waiting_call other (call_of (n.clients other).open_call) between.0) (sym (to_answer_ends config trace m run client (call.Append fd one) (answer.At x) tt a))
       ∙ ap (λ now. waiting_call other now between.0)
-          (waiting_by_actions other (new_machine config) done_first (to_answer_lawful config trace m run client (call.Append fd one) (answer.At x) tt a) ∙ ap (waiting_call other None) (to_answer_seen config trace m run client (call.Append fd one) (answer.At x) tt a))
+      (waiting_by_actions other (new_machine config) done_first (to_answer_lawful config trace m run client (call.Append fd one) (answer.At x) tt a) ∙ ap (waiting_call other None) (to_answer_seen config trace m run client (call.Append fd one) (answer.At x) tt a))
       ∙ sym (waiting-append other (a.before ++ Answered client (answer.At x) ∷ []) between.0 None)
       ∙ ap (waiting_call other None) (append_assoc a.before (Answered client (answer.At x) ∷ []) between.0 ∙ sym between.1)
       ∙ b.waited

@@ -1,6 +1,6 @@
 -- The parts of a write that was answered stand, and what a read that is answered later shows of them.
-use Rattle.std.proofs.Common.{◌≡◌, ℕ, ◌+◌, ◌-◌, ◌*◌, ◌<◌, ◌≤◌, min, true, List, length, take, drop, Option, Some, None, refl, sym, ◌∙◌, ap, subst, arith, length-take, length-drop}
-use Rattle.std.specs.Prelude.{Contains, IsTrue, IsSome, IfSome, is_some}
+use Rattle.std.proofs.Common.{◌≡◌, ℕ, ◌+◌, ◌-◌, ◌*◌, ◌<◌, ◌≤◌, min, List, length, drop, Option, Some, None, refl, sym, ◌∙◌, ap, subst, arith, length-take}
+use Rattle.std.specs.Prelude.{IsTrue, IsSome, IfSome}
 use Rattle.std.proofs.lemmas.Bool.{false≢true, ltb-true}
 use Rattle.gfs_types.specs.declared.call.Call.TheVariants as call
 use Rattle.gfs_types.specs.declared.answer.Answer.TheVariants as answer
@@ -8,10 +8,10 @@ use Rattle.gfs_types.specs.declared.ids.Fd.{Fd}
 use Rattle.gfs_types.specs.declared.config.Config.{Config}
 use Rattle.gfs_types.specs.declared.mutation.Mutation.{Mutation}
 use Rattle.gfs_types.specs.declared.mutation.Mutation.TheVariants.{Write, Append, Pad}
-use Rattle.relaxed_file.specs.Order.{CallId, Entry}
+use Rattle.relaxed_file.specs.Order.{CallId}
 use Rattle.relaxed_file.specs.Parts.{has_part, part_start, part_end, part_length, part_bytes}
-use Rattle.relaxed_file.specs.Machine.{Machine, new_machine, OpenCall, chunk_at}
-use Rattle.relaxed_file.specs.Answers.{HasSuccess, IsSuccess, IsWrite, IsDone}
+use Rattle.relaxed_file.specs.Machine.{Machine, new_machine}
+use Rattle.relaxed_file.specs.Answers.{HasSuccess, IsWrite, IsDone}
 use Rattle.relaxed_file.specs.Run.{Visible, IsRunTo}
 use Rattle.relaxed_file.specs.RunLaws.{IsAskedOf}
 use Rattle.relaxed_file.proofs.Successes.{found_at, success_asked}

@@ -1,5 +1,5 @@
 -- What users of the files rely on, of each run of the machine, in the words of the calls and answers that they see (sections 2.7 and 3.3).
-use Rattle.std.specs.Prelude.{◌≡◌, ℕ, ◌+◌, ◌-◌, ◌*◌, ◌/◌, ◌≤◌, ◌⊎◌, List, ◌++◌, length, take, drop, slice_get, flat_map, filter_map, Contains, Option, Some, IsSomeAnd, IsTrue}
+use Rattle.std.specs.Prelude.{◌≡◌, ℕ, ◌+◌, ◌-◌, ◌*◌, ◌/◌, ◌≤◌, ◌⊎◌, List, ◌++◌, length, take, drop, slice_get, flat_map, filter_map, Contains, Some, IsSomeAnd, IsTrue}
 use Rattle.gfs_types.specs.declared.call.Call.{Call}
 use Rattle.gfs_types.specs.declared.call.Call.TheVariants as call
 use Rattle.gfs_types.specs.declared.answer.Answer.TheVariants as answer
