@@ -7,10 +7,11 @@ use Rattle.messages.specs.declared.event.Event.{Event}
 use Rattle.protocol.specs.Choice.{Choice}
 use Rattle.protocol.specs.World.{WorldState, happens, new_world, after_events, IsReached}
 use Rattle.protocol_runs.proofs.Induction.{answers_are_a_run}
+use Rattle.protocol_promises.proofs.KeptPromises.{worlds_keep_promises}
 use Rattle.cell_world.specs.Held.{HeldCell, HasEffect}
 use Rattle.cell_world.specs.Runs.{Runs}
 use Rattle.cell_world.specs.Standing.{Stands}
-use Rattle.cell_headline.specs.Headline.{IsMachineRun, AreAnswersARun, RunsAsMachine, StepsAsMachine, HasMachineRun}
+use Rattle.cell_headline.specs.Headline.{IsMachineRun, AreAnswersARun, RunsAsMachine, StepsAsMachine, HasMachineRun, KeepsPromises}
 
 explained : (config : Config) (servers clients : ℕ) (w : WorldState) → IsReached config servers clients w → IsMachineRun config w
 explained config servers clients w r settings kept = answers_are_a_run config servers clients w settings r kept
@@ -40,3 +41,8 @@ all_explained h config servers clients w r held = explained config servers clien
 
 pub some_explained : (h : HeldCell) → Stands h → HasMachineRun h
 some_explained h s = record { config = s.config; servers = s.servers; clients = s.clients; world = s.world; reached = s.reached; held = s.held; explained = explained s.config s.servers s.clients s.world s.reached }
+
+pub promises_kept : (h : HeldCell) → KeepsPromises h
+promises_kept h config servers clients w r held settings kept =
+    let it = explained config servers clients w r settings kept in
+    (it.0, it.1, worlds_keep_promises w it.0 it.1)

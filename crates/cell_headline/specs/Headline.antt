@@ -7,6 +7,7 @@ use Rattle.relaxed_file.specs.Machine.{Machine}
 use Rattle.protocol.specs.Choice.{Choice}
 use Rattle.protocol.specs.Conforms.{WorldRuns}
 use Rattle.protocol.specs.World.{WorldState, happens, IsReached, is_kept}
+use Rattle.protocol_promises.specs.Promises.{Promises}
 use Rattle.protocol_invariant.specs.Explained.{AreSettings, Explains}
 use Rattle.cell_world.specs.Held.{HeldCell, IsHeldAs}
 
@@ -39,3 +40,9 @@ pub record HasMachineRun (h : HeldCell) : Type 0 where
   pub reached : IsReached config servers clients world
   pub held : IsHeldAs world h
   pub explained : IsMachineRun config world
+
+-- What users rely on: in each such world a run that explains it keeps all promises, in the words of the calls and answers so far.
+abbrev pub KeepsPromises : HeldCell → Type 0
+KeepsPromises h =
+    (config : Config) (servers clients : ℕ) (w : WorldState) → IsReached config servers clients w → IsHeldAs w h → AreSettings config → IsTrue (is_kept w)
+    → (m : Machine) × (e : Explains w m) × Promises w.config w.observer.trace m (e.run)
