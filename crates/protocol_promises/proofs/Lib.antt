@@ -1,0 +1,15 @@
+pub mod Lists
+pub mod WaitingCalls
+pub mod Descriptors
+pub mod AnswerMoments
+pub mod StandingRecords
+pub mod SincePieces
+pub mod PieceBytes
+pub mod ReadPieces
+pub mod KeptRanges
+pub mod ReadRecords
+pub mod WrittenBytes
+pub mod WrittenParts
+pub mod ReadBytes
+pub mod KeptPromises
+pub mod LeftAlone
