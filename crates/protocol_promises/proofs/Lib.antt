@@ -13,3 +13,5 @@ pub mod WrittenParts
 pub mod ReadBytes
 pub mod KeptPromises
 pub mod LeftAlone
+pub mod SinceLengths
+pub mod Lengths
