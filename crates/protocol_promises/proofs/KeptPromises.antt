@@ -13,7 +13,7 @@ use Rattle.relaxed_file.proofs.Successes.{AnsweredAppend, settled_entries_stay, 
 use Rattle.protocol.specs.Tables.{element_at}
 use Rattle.protocol.specs.Observer.{entries_of}
 use Rattle.protocol_promises.specs.Promises.{InEachRun, Promises, AnsweredReadsHaveAFile, ReadsAreSelections}
-use Rattle.protocol_promises.specs.ShownRecords.{AnsweredRecordsAreShown, WorldsKeepPromises}
+use Rattle.protocol_promises.specs.ExplainedWorlds.{AnsweredRecordsAreShown, ExplainedWorldsArePromised, RunsOfWorldsKeepPromises}
 use Rattle.protocol_promises.proofs.AnswerMoments.{at, then, reached, way, its_file, descriptors_are_of_one_file}
 use Rattle.protocol_promises.proofs.StandingRecords as record_at
 use Rattle.protocol_promises.proofs.ReadRecords.{appended_records_are_read_back, own_records_are_read, records_are_read, seen_rounds_suffice}
@@ -68,8 +68,12 @@ runs_keep_promises config trace m run = record {
   bytes = no_other_byte_is_read config trace m run;
 }
 
-pub worlds_keep_promises : WorldsKeepPromises
-worlds_keep_promises w m e = runs_keep_promises w.config w.observer.trace m e.run
+pub runs_of_worlds_keep_promises : RunsOfWorldsKeepPromises
+runs_of_worlds_keep_promises w m e = runs_keep_promises w.config w.observer.trace m e.run
+
+pub explained_worlds_are_promised : ExplainedWorldsArePromised
+explained_worlds_are_promised config servers clients w explained settings reached kept =
+    let it = explained settings reached kept in (it.0, it.1, runs_of_worlds_keep_promises w it.0 it.1)
 
 element_there : {A : Type 0} (xs : List A) (k : ℕ) → k < length xs → (x : A) × (element_at xs k ≡ Some x)
 element_there [] k l = absurd (omega (arith, l))

@@ -4,7 +4,6 @@ use Rattle.std.specs.Prelude.{Contains, slice_get, nat_lt}
 use Rattle.std.specs.List.{AllByRecursion}
 use Rattle.std.proofs.lemmas.Bool.{cases_lt, ltb-false}
 use Rattle.std.proofs.lemmas.Option.{none-some}
-use Rattle.gfs_types.specs.declared.call.Call.{Call}
 use Rattle.gfs_types.specs.declared.call.Call.TheVariants as call
 use Rattle.gfs_types.specs.declared.answer.Answer.TheVariants as answer
 use Rattle.gfs_types.specs.declared.ids.Fd.{Fd}
@@ -12,7 +11,7 @@ use Rattle.gfs_types.specs.declared.config.Config.{Config}
 use Rattle.gfs_types.specs.Mutations.{end_of}
 use Rattle.gfs_types.specs.Image.{image_length}
 use Rattle.relaxed_file.specs.Order.{Entry, IsSelection, mutations_of}
-use Rattle.relaxed_file.specs.Machine.{Machine, new_machine, Asked, OpenCall, Offer, Told, NoSuchChunk, chunk_at, chunk_count, chunk_size}
+use Rattle.relaxed_file.specs.Machine.{Machine, new_machine, Asked, OpenCall, Offer, Told, NoSuchChunk, chunk_at, chunk_count}
 use Rattle.relaxed_file.specs.Reads.{MayOffer, offer_of}
 use Rattle.relaxed_file.specs.Answers.{IsDone}
 use Rattle.relaxed_file.specs.Run.{Action, Visible, after_all, IsRunTo, LeadsTo, IsReached}
@@ -23,7 +22,7 @@ use Rattle.relaxed_file.proofs.Rounds.{IsWithin, every_order}
 use Rattle.relaxed_file.proofs.Apart.{below_top}
 use Rattle.relaxed_file.proofs.CallSteps.{IsLengthOf, by_measure, by_no_chunk}
 use Rattle.relaxed_file.proofs.Successes.{AnsweredAppend, settled_entries_stay, found_at}
-use Rattle.relaxed_file.proofs.OwnReads.{Has, selected, has_place}
+use Rattle.relaxed_file.proofs.OwnReads.{selected, has_place}
 use Rattle.relaxed_file.proofs.StaleReads.{reaches_end}
 use Rattle.protocol_promises.specs.Answered.{waiting_call, WasAnswered, IsOf}
 use Rattle.protocol_promises.specs.Promises.{InEachRun, LengthsReachRecords}

@@ -15,3 +15,4 @@ pub mod KeptPromises
 pub mod LeftAlone
 pub mod SinceLengths
 pub mod Lengths
+pub mod WorkedTrace
