@@ -58,7 +58,7 @@ use Rattle.protocol_whole_laws.proofs.Decided.{decided_world, over_in, counted_i
 
 -- what was never granted is over
 
-some_grant : (handle version : ℕ) (sent : List Message) (place : ℕ) (g : Message) → element_at sent place ≡ Some g → is_grant handle version g.body ≡ true → 1 ≤ grants_of handle version sent
+pub some_grant : (handle version : ℕ) (sent : List Message) (place : ℕ) (g : Message) → element_at sent place ≡ Some g → is_grant handle version g.body ≡ true → 1 ≤ grants_of handle version sent
 some_grant handle version [] place g at is = none_some g at
 some_grant handle version (m ∷ sent) zero g at is =
     let whole = count-cons (λ (x : Message). is_grant handle version x.body) m sent in
@@ -69,7 +69,7 @@ some_grant handle version (m ∷ sent) (suc place) g at is =
     let more = some_grant handle version sent place g at is in
     omega (arith, whole, more)
 
-its_grant : (handle version : ℕ) → (handle == handle) && (version == version) ≡ true
+pub its_grant : (handle version : ℕ) → (handle == handle) && (version == version) ≡ true
 its_grant handle version = ap (λ (b : Bool). b && (version == version)) (eq-eqb handle handle refl) ∙ eq-eqb version version refl
 
 pub ungranted_is_over : (config : Config) (servers clients : ℕ) (w : WorldState) → IsReached config servers clients w → (handle version : ℕ) → grants_of handle version w.sent ≡ 0 → IsLeaseOver w handle version

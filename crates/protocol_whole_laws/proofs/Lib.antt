@@ -11,6 +11,7 @@ pub mod FileClientsStay
 pub mod FileOpenings
 pub mod FileSteps
 pub mod FileWalk
+pub mod GoneHandles
 pub mod GrantedRecords
 pub mod GrantedSources
 pub mod GrantsLast
