@@ -12,13 +12,14 @@ use Rattle.relaxed_file.proofs.GivenReads.{reads_give_selections}
 use Rattle.relaxed_file.proofs.Successes.{AnsweredAppend, settled_entries_stay, found_at}
 use Rattle.protocol.specs.Tables.{element_at}
 use Rattle.protocol.specs.Observer.{entries_of}
-use Rattle.protocol_promises.specs.Promises.{InEachRun, Promises, ReadsAreSelections}
-use Rattle.protocol_promises.specs.ShownRecords.{AnsweredRecordsAreShown, WorldsKeepPromises}
+use Rattle.protocol_promises.specs.Promises.{InEachRun, Promises, AnsweredReadsHaveAFile, ReadsAreSelections}
+use Rattle.protocol_promises.specs.ExplainedWorlds.{AnsweredRecordsAreShown, ExplainedWorldsArePromised, RunsOfWorldsKeepPromises}
 use Rattle.protocol_promises.proofs.AnswerMoments.{at, then, reached, way, its_file, descriptors_are_of_one_file}
 use Rattle.protocol_promises.proofs.StandingRecords as record_at
 use Rattle.protocol_promises.proofs.ReadRecords.{appended_records_are_read_back, own_records_are_read, records_are_read, seen_rounds_suffice}
 use Rattle.protocol_promises.proofs.LeftAlone.{appends_leave_records_alone}
 use Rattle.protocol_promises.proofs.WrittenParts.{answered_writes_stand, own_writes_are_read, writes_are_read}
+use Rattle.protocol_promises.proofs.Lengths.{lengths_reach_records}
 use Rattle.protocol_promises.proofs.ReadBytes.{no_other_byte_is_read}
 
 pub reads_are_selections : InEachRun ReadsAreSelections
@@ -40,6 +41,13 @@ reads_are_selections config trace m run client file fd offset count found rounds
       given.3,
     )
 
+pub answered_reads_have_a_file : InEachRun AnsweredReadsHaveAFile
+answered_reads_have_a_file config trace m run client fd offset count found rounds w =
+    let now = at config trace m run client (call.Read fd offset count) (answer.Bytes found rounds) tt w in
+    let then_now : Machine = then config trace m run client (call.Read fd offset count) (answer.Bytes found rounds) tt w in
+    let done : IsDone then_now client now.current (call.Read fd offset count) (answer.Bytes found rounds) = subst (λ c. IsDone then_now client now.current c (answer.Bytes found rounds)) now.call_is now.may in
+    (done.0, its_file config trace m run client (call.Read fd offset count) (answer.Bytes found rounds) tt w fd done.0 refl done.1)
+
 pub runs_keep_promises : InEachRun Promises
 runs_keep_promises config trace m run = record {
   one_file = descriptors_are_of_one_file config trace m run;
@@ -54,12 +62,18 @@ runs_keep_promises config trace m run = record {
   read_back = appended_records_are_read_back config trace m run;
   own_writes = own_writes_are_read config trace m run;
   writes_read = writes_are_read config trace m run;
+  lengths = lengths_reach_records config trace m run;
+  read_files = answered_reads_have_a_file config trace m run;
   reads = reads_are_selections config trace m run;
   bytes = no_other_byte_is_read config trace m run;
 }
 
-pub worlds_keep_promises : WorldsKeepPromises
-worlds_keep_promises w m e = runs_keep_promises w.config w.observer.trace m e.run
+pub runs_of_worlds_keep_promises : RunsOfWorldsKeepPromises
+runs_of_worlds_keep_promises w m e = runs_keep_promises w.config w.observer.trace m e.run
+
+pub explained_worlds_are_promised : ExplainedWorldsArePromised
+explained_worlds_are_promised config servers clients w explained settings reached kept =
+    let it = explained settings reached kept in (it.0, it.1, runs_of_worlds_keep_promises w it.0 it.1)
 
 element_there : {A : Type 0} (xs : List A) (k : ℕ) → k < length xs → (x : A) × (element_at xs k ≡ Some x)
 element_there [] k l = absurd (omega (arith, l))

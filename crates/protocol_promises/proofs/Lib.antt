@@ -13,3 +13,6 @@ pub mod WrittenParts
 pub mod ReadBytes
 pub mod KeptPromises
 pub mod LeftAlone
+pub mod SinceLengths
+pub mod Lengths
+pub mod WorkedTrace

@@ -1,3 +1,4 @@
 pub mod Answered
+pub mod Examples
 pub mod Promises
-pub mod ShownRecords
+pub mod ExplainedWorlds

@@ -174,6 +174,20 @@ ReadsAreSelections config trace m run =
     × (pieces : List Piece) × WereGiven config then client file offset count (offset / chunk_size then file) pieces
     × (found ≡ flat_map (λ piece. piece.bytes) pieces) × (rounds ≡ filter_map (λ piece. piece.round) pieces)
 
+-- A Length that is asked after a record was answered reaches the record's end, whoever asks (section 2.4).
+abbrev pub LengthsReachRecords : (config : Config) (trace : List Visible) (m : Machine) → IsRunTo config trace m → Type 0
+LengthsReachRecords config trace m run =
+    (client reader file : ℕ) (fd fe : Fd) (bytes : List ℕ) (x found : ℕ)
+    → (one : WasAnswered trace client (call.Append fd bytes) (answer.At x)) → IsOf run.0 client fd file
+    → WasAnswered one.rest reader (call.Length fe) (answer.Length found) → IsOf run.0 reader fe file
+    → x + length bytes ≤ found
+
+-- A read that was answered is of the file of its descriptor.
+abbrev pub AnsweredReadsHaveAFile : (config : Config) (trace : List Visible) (m : Machine) → IsRunTo config trace m → Type 0
+AnsweredReadsHaveAFile config trace m run =
+    (client : ℕ) (fd : Fd) (offset count : ℕ) (found rounds : List ℕ)
+    → WasAnswered trace client (call.Read fd offset count) (answer.Bytes found rounds) → (file : ℕ) × IsOf run.0 client fd file
+
 -- All that users rely on.
 pub record Promises (config : Config) (trace : List Visible) (m : Machine) (run : IsRunTo config trace m) : Type 0 where
   pub one_file : DescriptorsAreOfOneFile config trace m run
@@ -190,6 +204,8 @@ pub record Promises (config : Config) (trace : List Visible) (m : Machine) (run 
   pub read_back : AppendedRecordsAreReadBack config trace m run
   pub own_writes : OwnWritesAreRead config trace m run
   pub writes_read : WritesAreRead config trace m run
+  pub lengths : LengthsReachRecords config trace m run
   -- and nothing else
+  pub read_files : AnsweredReadsHaveAFile config trace m run
   pub reads : ReadsAreSelections config trace m run
   pub bytes : NoOtherByteIsRead config trace m run

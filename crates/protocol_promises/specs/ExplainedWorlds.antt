@@ -4,18 +4,31 @@ use Rattle.std.specs.FinMap as table
 use Rattle.gfs_types.specs.declared.call.Call.TheVariants as call
 use Rattle.gfs_types.specs.declared.answer.Answer.TheVariants as answer
 use Rattle.gfs_types.specs.declared.ids.Fd.{Fd}
+use Rattle.gfs_types.specs.declared.config.Config.{Config}
 use Rattle.gfs_types.specs.declared.mutation.Mutation.TheVariants.{Append}
 use Rattle.relaxed_file.specs.Machine.{Machine}
 use Rattle.protocol.specs.Tables.{element_at}
 use Rattle.protocol.specs.Observer.{entries_of}
-use Rattle.protocol.specs.World.{WorldState}
-use Rattle.protocol_invariant.specs.Explained.{Explains}
+use Rattle.protocol.specs.World.{WorldState, IsReached, is_kept}
+use Rattle.protocol_invariant.specs.Explained.{AreSettings, Explains, IsExplained}
 use Rattle.protocol_promises.specs.Answered.{WasAnswered, IsOf}
 use Rattle.protocol_promises.specs.Promises.{Promises}
 
--- Each world that a run explains keeps its promises.
-abbrev pub WorldsKeepPromises : Type 0
-WorldsKeepPromises = (w : WorldState) (m : Machine) (e : Explains w m) → Promises w.config w.observer.trace m (e.run)
+-- Whichever run explains a world, it keeps all promises.
+abbrev pub RunsOfWorldsKeepPromises : Type 0
+RunsOfWorldsKeepPromises = (w : WorldState) (m : Machine) (e : Explains w m) → Promises w.config w.observer.trace m (e.run)
+
+-- There is a run with this world's calls and answers, which agrees with all that the world shows and keeps all promises.
+abbrev pub KeepsPromises : WorldState → Type 0
+KeepsPromises w = (m : Machine) × (e : Explains w m) × Promises w.config w.observer.trace m (e.run)
+
+-- the same under the conditions of the theorem that each world is explained
+abbrev pub IsPromised : Config → ℕ → ℕ → WorldState → Type 0
+IsPromised config servers clients w = AreSettings config → IsReached config servers clients w → IsTrue (is_kept w) → KeepsPromises w
+
+-- So what the theorem explains is promised.
+abbrev pub ExplainedWorldsArePromised : Type 0
+ExplainedWorldsArePromised = (config : Config) (servers clients : ℕ) (w : WorldState) → IsExplained config servers clients w → IsPromised config servers clients w
 
 -- The world shows the record in one of these chunks: settled, at one place of the chunk's order.
 pub record IsShownAt (w : WorldState) (handles : List ℕ) (x : ℕ) (bytes : List ℕ) : Type 0 where
