@@ -6,15 +6,16 @@ use Rattle.gfs_types.specs.declared.config.Config.{Config}
 use Rattle.messages.specs.declared.event.Event.{Event}
 use Rattle.protocol.specs.Choice.{Choice}
 use Rattle.protocol.specs.World.{WorldState, happens, new_world, after_events, IsReached}
+use Rattle.protocol_runs.proofs.SettingsInRange.{settings_in_range_are_so}
 use Rattle.protocol_runs.proofs.Induction.{answers_are_a_run}
-use Rattle.protocol_promises.proofs.KeptPromises.{worlds_keep_promises}
+use Rattle.protocol_promises.proofs.KeptPromises.{explained_worlds_are_promised}
 use Rattle.cell_world.specs.Held.{HeldCell, HasEffect}
 use Rattle.cell_world.specs.Runs.{Runs}
 use Rattle.cell_world.specs.Standing.{Stands}
-use Rattle.cell_headline.specs.Headline.{IsMachineRun, AreAnswersARun, RunsAsMachine, StepsAsMachine, HasMachineRun, KeepsPromises}
+use Rattle.cell_headline.specs.Headline.{IsMachineRun, AreAnswersARun, RunsAsMachine, StepsAsMachine, HasMachineRun, ArePromisesKept}
 
 explained : (config : Config) (servers clients : ℕ) (w : WorldState) → IsReached config servers clients w → IsMachineRun config w
-explained config servers clients w r settings kept = answers_are_a_run config servers clients w settings r kept
+explained config servers clients w r in_range kept = answers_are_a_run config servers clients w (settings_in_range_are_so config in_range) r kept
 
 after_more : (w : WorldState) (steps more : List (Event × Choice)) → after_events w (steps ++ more) ≡ after_events (after_events w steps) more
 after_more w [] more = refl
@@ -42,7 +43,5 @@ all_explained h config servers clients w r held = explained config servers clien
 pub some_explained : (h : HeldCell) → Stands h → HasMachineRun h
 some_explained h s = record { config = s.config; servers = s.servers; clients = s.clients; world = s.world; reached = s.reached; held = s.held; explained = explained s.config s.servers s.clients s.world s.reached }
 
-pub promises_kept : (h : HeldCell) → KeepsPromises h
-promises_kept h config servers clients w r held settings kept =
-    let it = explained config servers clients w r settings kept in
-    (it.0, it.1, worlds_keep_promises w it.0 it.1)
+pub promises_kept : (h : HeldCell) → ArePromisesKept h
+promises_kept h config servers clients w r held in_range = explained_worlds_are_promised config servers clients w (answers_are_a_run config servers clients w) (settings_in_range_are_so config in_range) r

@@ -1,19 +1,20 @@
 -- The headline, of a cell as its code holds it: what its clients were answered is a run of the relaxed-file machine (sections 2.7.1 and 3).
-use Rattle.std.specs.Prelude.{◌≡◌, ℕ, List, Option, IsTrue}
+use Rattle.std.specs.Prelude.{◌≡◌, ℕ, List, Option, None, IsTrue}
 use Rattle.gfs_types.specs.declared.answer.Answer.{Answer}
 use Rattle.gfs_types.specs.declared.config.Config.{Config}
+use Rattle.gfs_types.specs.Settings.{first_out_of_range}
 use Rattle.messages.specs.declared.event.Event.{Event}
 use Rattle.relaxed_file.specs.Machine.{Machine}
 use Rattle.protocol.specs.Choice.{Choice}
 use Rattle.protocol.specs.Conforms.{WorldRuns}
 use Rattle.protocol.specs.World.{WorldState, happens, IsReached, is_kept}
-use Rattle.protocol_promises.specs.Promises.{Promises}
-use Rattle.protocol_invariant.specs.Explained.{AreSettings, Explains}
+use Rattle.protocol_promises.specs.ExplainedWorlds.{KeepsPromises}
+use Rattle.protocol_invariant.specs.Explained.{Explains}
 use Rattle.cell_world.specs.Held.{HeldCell, IsHeldAs}
 
 -- Under settings in their ranges, and where clocks and disks were kept, a run of the machine has the world's calls and answers, and led to what it shows.
 abbrev pub IsMachineRun : Config → WorldState → Type 0
-IsMachineRun config w = AreSettings config → IsTrue (is_kept w) → (m : Machine) × Explains w m
+IsMachineRun config w = first_out_of_range config ≡ None → IsTrue (is_kept w) → (m : Machine) × Explains w m
 
 -- So it is of each world that lawful events led to from a new one and that the cell stands for.
 abbrev pub AreAnswersARun : HeldCell → Type 0
@@ -42,7 +43,6 @@ pub record HasMachineRun (h : HeldCell) : Type 0 where
   pub explained : IsMachineRun config world
 
 -- What users rely on: in each such world a run that explains it keeps all promises, in the words of the calls and answers so far.
-abbrev pub KeepsPromises : HeldCell → Type 0
-KeepsPromises h =
-    (config : Config) (servers clients : ℕ) (w : WorldState) → IsReached config servers clients w → IsHeldAs w h → AreSettings config → IsTrue (is_kept w)
-    → (m : Machine) × (e : Explains w m) × Promises w.config w.observer.trace m (e.run)
+abbrev pub ArePromisesKept : HeldCell → Type 0
+ArePromisesKept h =
+    (config : Config) (servers clients : ℕ) (w : WorldState) → IsReached config servers clients w → IsHeldAs w h → first_out_of_range config ≡ None → IsTrue (is_kept w) → KeepsPromises w

@@ -1,7 +1,7 @@
 //! Events of a cell, with the headline as their contract.
 
 ghost use Rattle.std.specs.Prelude.{◌≡◌, IfErr, IfOk, OnErr};
-ghost use Rattle.cell_headline.specs.Headline.{AreAnswersARun, HasMachineRun, KeepsPromises, RunsAsMachine, StepsAsMachine};
+ghost use Rattle.cell_headline.specs.Headline.{AreAnswersARun, ArePromisesKept, HasMachineRun, RunsAsMachine, StepsAsMachine};
 ghost use Rattle.cell_world.specs.Events.{MayBeRefused};
 ghost use Rattle.cell_world.specs.Runs.{RanUntil};
 
@@ -51,7 +51,7 @@ pub fn answers_are_a_run<M: CellMaster, S: ReplicaStore>(world: &World<M, S>)
 /// What users rely on, of every cell: answered records and writes stand and are read, answered records share no place, a client reads its own
 /// successes, and nobody reads a byte that nobody wrote.
 pub fn promises_are_kept<M: CellMaster, S: ReplicaStore>(world: &World<M, S>)
-    ensures { KeepsPromises world.now }
+    ensures { ArePromisesKept world.now }
 {
     let _cell = world;
 }
