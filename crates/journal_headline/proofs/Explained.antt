@@ -1,12 +1,11 @@
 -- A lawful journal is a list of a world's events, in which no byte rots.
-use Rattle.std.proofs.Common.{◌≡◌, ℕ, Bool, List, Option, None, refl, sym, ap, subst, ◌∙◌}
+use Rattle.std.proofs.Common.{◌≡◌, List, ap, subst, ◌∙◌}
 use Rattle.std.specs.Prelude.{IsTrue}
 use Rattle.gfs_types.specs.declared.config.Config.{Config}
-use Rattle.gfs_types.specs.declared.ids.Node.{Node}
 use Rattle.relaxed_file.specs.Machine.{Machine}
 use Rattle.relaxed_file.specs.Run.{Visible, IsRunTo}
-use Rattle.protocol.specs.World.{WorldState, IsReached, is_kept}
-use Rattle.protocol_journal.specs.Journal.{Entry, NodeState, IsLawful, observer_of}
+use Rattle.protocol.specs.World.{WorldState, is_kept}
+use Rattle.protocol_journal.specs.Journal.{observer_of}
 use Rattle.protocol_journal.specs.Laws.{Shows}
 use Rattle.protocol_journal.proofs.Journals.{journals_are_runs}
 use Rattle.protocol_replica_laws.proofs.AppliedReached.{kept_both}

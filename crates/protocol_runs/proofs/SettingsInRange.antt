@@ -1,14 +1,12 @@
 -- Settings within their ranges are those that the headline asks for.
-use Rattle.std.proofs.Common.{◌≡◌, ℕ, ◌≤◌, ◌<◌, Bool, true, false, List, ◌∷◌, drop, Option, Some, None, refl, sym, ◌∙◌, arith}
-use Rattle.std.specs.Prelude.{◌*◌, ◌/◌, ◌%◌, ◌&&◌, ◌==◌, nat_le, nat_lt, IsTrue}
+use Rattle.std.proofs.Common.{◌≡◌, ℕ, ◌≤◌, Bool, true, false, List, ◌∷◌, drop, None, refl, sym, arith}
+use Rattle.std.specs.Prelude.{◌/◌, ◌%◌, ◌&&◌, ◌==◌, nat_le, nat_lt, IsTrue}
 use Rattle.std.proofs.Math.Nat.{mod-add-div'}
 use Rattle.std.proofs.lemmas.Bool.{and_parts, leb-true, eqb-true, ltb-true}
-use Rattle.gfs_types.specs.declared.config.Config.{Config}
 use Rattle.gfs_types.specs.declared.config.ConfigFault.{ConfigFault}
 use Rattle.gfs_types.specs.declared.config.ConfigFault.TheVariants.{Chunk, Block, Goal, LeaseMs, SkewMs, AttemptMs, Attempts}
-use Rattle.gfs_types.specs.Settings.{is_within, largest_chunk, first_that_fails, first_out_of_range, ranges}
+use Rattle.gfs_types.specs.Settings.{is_within, largest_chunk, first_that_fails, ranges}
 use Rattle.protocol_laws.proofs.Steps.{none_some}
-use Rattle.protocol_invariant.specs.Explained.{AreSettings}
 use Rattle.protocol_runs.specs.Runs.{SettingsInRangeAreSo}
 
 passes : (f : ConfigFault) (b : Bool) (rest : List (ConfigFault × Bool)) → first_that_fails ((f, b) ∷ rest) ≡ None → IsTrue b × (first_that_fails rest ≡ None)
