@@ -1,9 +1,9 @@
 -- In each world that is reached, a client asks for a chunk past one, to append to it, only where that one was told to be full.
-use Rattle.std.proofs.Common.{IsTrue, ◌≡◌, ◌⊎◌, inl, inr, ℕ, zero, suc, Bool, true, false, true≢false, List, [], ◌∷◌, ◌++◌, length, map, Option, Some, None, refl, sym, ap, subst, ◌∙◌, arith}
+use Rattle.std.proofs.Common.{IsTrue, ◌≡◌, inl, inr, ℕ, zero, suc, true, false, true≢false, List, [], ◌∷◌, ◌++◌, length, map, Option, Some, None, refl, sym, ap, subst, ◌∙◌}
 use Rattle.std.specs.Option.{option_to_list}
 use Rattle.gfs_types.specs.declared.config.Config.{Config}
-use Rattle.gfs_types.specs.declared.ids.DataId.{DataId}
 use Rattle.gfs_types.specs.declared.ids.Handle.{Handle}
+use Rattle.gfs_types.specs.declared.ids.Version.{Version}
 use Rattle.gfs_types.specs.declared.call.Call.{Call}
 use Rattle.gfs_types.specs.declared.call.Call.TheVariants as call
 use Rattle.messages.specs.declared.message.Body.{Body}
@@ -17,10 +17,11 @@ use Rattle.messages.specs.declared.event.Input.{Input}
 use Rattle.client_state.specs.declared.call.CurrentCall.{CurrentCall}
 use Rattle.client_state.specs.declared.call.ToldChunk.{ToldChunk}
 use Rattle.client_state.specs.declared.call.Stage.{Stage}
-use Rattle.client_state.specs.declared.call.Stage.TheVariants.{SentData, SentMutate}
+use Rattle.client_state.specs.declared.call.Stage.TheVariants.{SentMutate}
 use Rattle.protocol.specs.Tables.{element_at, with_at, first_numbers}
 use Rattle.protocol.specs.Sending.{message, data_id, the_client, the_server, client_number}
 use Rattle.protocol.specs.Choice.{Choice}
+use Rattle.protocol.specs.Observer.{order_of}
 use Rattle.protocol.specs.Client.{file_chunk, ClientState, ClientDoing, client_begins, new_client, stopped_client}
 use Rattle.protocol.specs.ClientAttempts.{is_append, chunk_of, target_of}
 use Rattle.protocol.specs.ClientStep.{client_at, client_step, client_call, client_does, calls}
@@ -43,15 +44,14 @@ use Rattle.protocol_step_laws.proofs.LeasesStayOver.{reached_later}
 use Rattle.protocol_step_laws.proofs.RequestsOnce.{AreNumbered, from_itself, each_event, numbered_reached, later_cases}
 use Rattle.protocol_step_laws.proofs.Senders.{AreNotClients, server_sends, server_restart_sends, master_sends, master_restart_sends, one_client}
 use Rattle.protocol_entry_laws.proofs.UsedNumbers.{one_target}
-use Rattle.protocol_replica_laws.specs.FullOrders.{IsOfFullOrder}
+use Rattle.protocol_replica_laws.specs.FullOrders.{HasFullEnd, IsOfFullOrder}
 use Rattle.protocol_replica_laws.proofs.FullOrders.{full_chunks_have_a_full_order}
 use Rattle.protocol_call_laws.specs.AnsweredWrites.{IsToldChunk}
-use Rattle.protocol_call_laws.specs.FullBefore.{IsFullBefore, AsksPastAChunkFindItFull}
+use Rattle.protocol_call_laws.specs.FullBefore.{AsksPastAChunkFindItFull}
 use Rattle.protocol_call_laws.proofs.CallWalk.{AnyUsed, StandsNow, IsAsking}
 use Rattle.protocol_call_laws.proofs.LaterCalls.{last_at}
 use Rattle.protocol_call_laws.proofs.UsedIndexes.{came_in, no_call, used_was_told}
-use Rattle.protocol_call_laws.proofs.ToldParts.{HasAsked}
-use Rattle.protocol_call_laws.proofs.PastChunks.{IsDenied, IsPast, IsFit, IsAttempt, IsWay, AnyData, AnyReply, AnyEnd, FitAt, past_on, fit_on, stands_on, fit_of, Calm, Leaving, step_leaves, call_leaves, AskFits, ask_on, own_ask_fits}
+use Rattle.protocol_call_laws.proofs.PastChunks.{IsDenied, IsFit, IsWay, AnyData, AnyReply, AnyEnd, FitAt, fit_on, stands_on, fit_of, Calm, Leaving, step_leaves, call_leaves, AskFits, ask_on, own_ask_fits}
 
 append_target : (size index : ℕ) (asked : Call) → is_append asked ≡ true → target_of size index asked ≡ target.Append
 append_target size index (call.Append fd bytes) is = refl
@@ -170,6 +170,7 @@ module _ (config : Config) (servers clients : ℕ) (w : WorldState) (r : IsReach
                 ∙ ap (λ (t : Target). body.Mutate (data_id (suc index) g.number) g.chunk.handle g.chunk.round t g.current.deadline) (append_target (file_chunk (client_at s moment) g.current.file.0) g.current.index g.current.asked append);
           };
           handle_is = refl;
+          version_is = refl;
           chunk_is = record {
             location = located.location;
             told = told_later w.sent Later (suc index) g.current.file.0 located.location located.told;
@@ -278,7 +279,8 @@ asks_past_a_chunk_find_it_full config servers clients w r kept some place client
       handle = denied.handle.0;
       round = denied.round;
       chunk = denied.chunk;
-      full = subst (λ (n : ℕ). IsTrue (is_full w n)) (ap (λ (x : Handle). x.0) (same ∙ denied.handle_is)) full.full;
+      full = subst (λ (n : ℕ). IsTrue (is_full w n)) handle_is full.full;
+      ends = subst (λ (n : ℕ). HasFullEnd w.config.chunk (order_of w.observer n) denied.round) handle_is (subst (λ (v : ℕ). HasFullEnd w.config.chunk (order_of w.observer full.handle.0) v) version_is full.ends);
     }
   where
     denied : IsDenied w.sent client file.0 past
@@ -287,8 +289,14 @@ asks_past_a_chunk_find_it_full config servers clients w r kept some place client
     full : IsOfFullOrder w (data_id client denied.number)
     full = full_chunks_have_a_full_order config servers clients w r kept some (denied.told_is).0 client denied.number denied.told (denied.told_is).1 denied.receiver_is denied.body_is
 
-    same : full.handle ≡ denied.asked.handle
+    same : (full.handle ≡ denied.asked.handle) × (full.version ≡ denied.asked.version)
     same =
-        (one_target config servers clients w r (data_id client denied.number) full.handle denied.asked.handle full.version denied.asked.version
+        one_target config servers clients w r (data_id client denied.number) full.handle denied.asked.handle full.version denied.asked.version
         (record { asked = full.asked; aim = full.aim; deadline = full.deadline; sent_is = full.sent_is; sender_is = full.sender_is; body_is = full.body_is })
-        (record { asked = denied.asked.asked; aim = target.Append; deadline = denied.asked.deadline; sent_is = denied.asked.sent_is; sender_is = denied.asked.sender_is; body_is = denied.asked.body_is })).0
+        (record { asked = denied.asked.asked; aim = target.Append; deadline = denied.asked.deadline; sent_is = denied.asked.sent_is; sender_is = denied.asked.sender_is; body_is = denied.asked.body_is })
+
+    handle_is : full.handle.0 ≡ denied.handle.0
+    handle_is = ap (λ (x : Handle). x.0) (same.0 ∙ denied.handle_is)
+
+    version_is : full.version.0 ≡ denied.round
+    version_is = ap (λ (v : Version). v.0) same.1 ∙ denied.version_is

@@ -1,11 +1,8 @@
 -- An open append goes for a chunk past one only where that one was told to be full, for an attempt at it. A step of the client keeps this, and asks so.
-use Rattle.std.proofs.Common.{◌≡◌, ◌⊎◌, inl, inr, ℕ, zero, suc, Bool, true, false, true≢false, List, ◌++◌, length, Option, Some, None, refl, sym, ap, subst, ◌∙◌}
-use Rattle.std.specs.Option.{option_to_list}
-use Rattle.gfs_types.specs.declared.config.Config.{Config}
+use Rattle.std.proofs.Common.{◌≡◌, ℕ, zero, suc, true, false, true≢false, List, ◌++◌, Option, Some, None, refl, sym, ap, subst, ◌∙◌}
 use Rattle.gfs_types.specs.declared.ids.FileId.{FileId}
 use Rattle.gfs_types.specs.declared.ids.Handle.{Handle}
 use Rattle.gfs_types.specs.declared.ids.Version.{Version}
-use Rattle.gfs_types.specs.declared.ids.Moment.{Moment}
 use Rattle.gfs_types.specs.declared.refusal.Refusal.TheVariants.{ChunkFull}
 use Rattle.gfs_types.specs.declared.call.Call.{Call}
 use Rattle.gfs_types.specs.declared.call.Call.TheVariants as call
@@ -13,20 +10,17 @@ use Rattle.gfs_types.specs.declared.answer.Answer.{Answer}
 use Rattle.messages.specs.declared.message.Body.{Body}
 use Rattle.messages.specs.declared.message.Body.TheVariants as body
 use Rattle.messages.specs.declared.message.Message.{Message}
-use Rattle.messages.specs.declared.message.Wanted.{Wanted}
 use Rattle.messages.specs.declared.message.Wanted.TheVariants as wanted
-use Rattle.messages.specs.declared.message.Target.{Target}
 use Rattle.messages.specs.declared.message.Target.TheVariants as target
 use Rattle.messages.specs.declared.event.Input.{Input}
 use Rattle.client_state.specs.declared.call.CurrentCall.{CurrentCall}
 use Rattle.client_state.specs.declared.call.ToldChunk.{ToldChunk}
 use Rattle.client_state.specs.declared.call.Stage.{Stage}
 use Rattle.client_state.specs.declared.call.Stage.TheVariants.{AskedNames, AskedWhere, MustAskAgain, SentData, SentMutate, SentRead, IsOver, HasAnswer}
-use Rattle.protocol.specs.Sending.{data_id, the_client}
+use Rattle.protocol.specs.Sending.{the_client}
 use Rattle.protocol.specs.Client.{ClientState, ClientDoing, client_begins}
-use Rattle.protocol.specs.ClientAttempts.{is_mutation, is_append, wanted_by, target_of}
+use Rattle.protocol.specs.ClientAttempts.{is_mutation, is_append, wanted_by}
 use Rattle.protocol.specs.ClientStep.{new_call, calls, client_does}
-use Rattle.protocol_laws.proofs.Steps.{none_some, same_some}
 use Rattle.protocol_laws.proofs.ServerMoves.{IsCameIn}
 use Rattle.protocol_entry_laws.specs.Entries.{IsAmong}
 use Rattle.protocol_step_laws.proofs.ClientReads.{Came, told_later}
@@ -44,6 +38,7 @@ pub record IsDenied (sent : List Message) (client file index : ℕ) : Type 0 whe
   pub number : ℕ
   pub asked : HasAsked sent client number target.Append
   pub handle_is : asked.handle ≡ handle
+  pub version_is : asked.version.0 ≡ round
   pub told : Message
   pub told_is : IsAmong sent told
   pub receiver_is : told.receiver ≡ the_client client
@@ -62,6 +57,7 @@ IsFit sent client c = is_append c.asked ≡ true → IsPast sent client c.file.0
 pub record IsAttempt (sent : List Message) (client file : ℕ) (chunk : ToldChunk) (number : ℕ) : Type 0 where
   pub asked : HasAsked sent client number target.Append
   pub handle_is : asked.handle ≡ chunk.handle
+  pub version_is : asked.version ≡ chunk.round
   pub chunk_is : IsToldChunk sent client file chunk.index chunk.handle.0 chunk.round.0
 
 abbrev pub IsWay : List Message → ℕ → CurrentCall → ToldChunk → ℕ → Type 0
@@ -95,6 +91,7 @@ module _ (sent more : List Message) (client : ℕ) where
         number = h.number;
         asked = record { asked = h.asked.asked; handle = h.asked.handle; version = h.asked.version; deadline = h.asked.deadline; sent_is = among_later sent more h.asked.asked h.asked.sent_is; sender_is = h.asked.sender_is; body_is = h.asked.body_is };
         handle_is = h.handle_is;
+        version_is = h.version_is;
         told = h.told;
         told_is = among_later sent more h.told h.told_is;
         receiver_is = h.receiver_is;
@@ -110,6 +107,7 @@ module _ (sent more : List Message) (client : ℕ) where
     λ append. let was = h.1 append in record {
       asked = record { asked = was.asked.asked; handle = was.asked.handle; version = was.asked.version; deadline = was.asked.deadline; sent_is = among_later sent more was.asked.asked was.asked.sent_is; sender_is = was.asked.sender_is; body_is = was.asked.body_is };
       handle_is = was.handle_is;
+      version_is = was.version_is;
       chunk_is = located_on c.file.0 chunk.index chunk.handle.0 chunk.round.0 was.chunk_is;
     },
   )
@@ -160,6 +158,7 @@ module _ (sent : List Message) (client : ℕ) (s : ClientState) where
         number = number;
         asked = way.asked;
         handle_is = way.handle_is;
+        version_is = ap (λ (v : Version). v.0) way.version_is;
         told = came.0;
         told_is = came.1;
         receiver_is = came.2;

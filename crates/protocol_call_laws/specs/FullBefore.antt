@@ -8,16 +8,19 @@ use Rattle.messages.specs.declared.message.Message.{Message}
 use Rattle.messages.specs.declared.message.Wanted.TheVariants as wanted
 use Rattle.protocol.specs.Tables.{element_at}
 use Rattle.protocol.specs.Sending.{the_client}
+use Rattle.protocol.specs.Observer.{order_of}
 use Rattle.protocol.specs.World.{WorldState, IsReached}
 use Rattle.protocol_invariant.specs.AttemptParts.{is_full}
+use Rattle.protocol_replica_laws.specs.FullOrders.{HasFullEnd}
 use Rattle.protocol_call_laws.specs.AnsweredWrites.{IsToldChunk}
 
--- The client was told a chunk of this index of the file, and that chunk's order has an entry that ends at the chunk's end.
+-- The client was told a chunk of this index of the file, and that chunk's order has an entry that ends at the chunk's end, of a round up to the told one.
 pub record IsFullBefore (w : WorldState) (client file index : ℕ) : Type 0 where
   pub handle : ℕ
   pub round : ℕ
   pub chunk : IsToldChunk w.sent client file index handle round
   pub full : IsTrue (is_full w handle)
+  pub ends : HasFullEnd w.config.chunk (order_of w.observer handle) round
 
 -- Where clocks are kept, a client asks for a chunk past one, to append to it, only where that one is full in this sense (section 3.3). A chunk has at least one byte.
 abbrev pub AsksPastAChunkFindItFull : Type 0

@@ -1,6 +1,7 @@
 -- In each world that is reached with kept clocks, each attempt whose chunk is told to be full, or kept as such, was sent for a chunk whose order has an entry that ends at the chunk's end.
 use Rattle.std.proofs.Common.{◌≡◌, ℕ, zero, suc, ◌+◌, ◌≤◌, Bool, true, false, cond, List, [], ◌∷◌, ◌++◌, length, map, Option, Some, None, refl, sym, ap, subst, ◌∙◌, inl, inr, arith}
 use Rattle.std.specs.Prelude.{◌||◌, ◌==◌, IsTrue}
+use Rattle.std.specs.FinMap as table
 use Rattle.std.specs.List.{list_any}
 use Rattle.std.specs.Option.{option_to_list}
 use Rattle.std.proofs.lemmas.Bool.{eq-eqb, or_right}
@@ -11,7 +12,6 @@ use Rattle.gfs_types.specs.declared.ids.Handle.{Handle}
 use Rattle.gfs_types.specs.declared.ids.Version.{Version}
 use Rattle.gfs_types.specs.declared.ids.Moment.{Moment}
 use Rattle.gfs_types.specs.declared.refusal.Refusal.TheVariants.{ChunkFull}
-use Rattle.gfs_types.specs.declared.mutation.Mutation.{Mutation}
 use Rattle.gfs_types.specs.declared.mutation.Mutation.TheVariants.{Pad}
 use Rattle.gfs_types.specs.Mutations.{end_of}
 use Rattle.messages.specs.declared.event.Event.{Event}
@@ -25,12 +25,11 @@ use Rattle.primary_order.specs.declared.answer.Attempted.TheVariants.{IsNew}
 use Rattle.primary_order.specs.declared.order.SerialOrder.{SerialOrder}
 use Rattle.primary_order.specs.SerialOrder.{attempted}
 use Rattle.replica_store.specs.declared.row.Row.{Row}
-use Rattle.replica_store.specs.Replicas.{Replica, ServerDisk, new_server_disk, replica_of, row_of, row_at, with_replica, rotten_replica}
+use Rattle.replica_store.specs.Replicas.{Replica, new_server_disk, replica_of, row_of, row_at, with_replica, rotten_replica}
 use Rattle.protocol.specs.Tables.{element_at, with_at, first_numbers}
-use Rattle.protocol.specs.Sending.{data_id, version_of, serial_of, the_client}
+use Rattle.protocol.specs.Sending.{data_id, version_of, serial_of}
 use Rattle.protocol.specs.Choice.{Choice, Ending, Goes, Lost, Stops}
 use Rattle.protocol.specs.Seen.{Taken, no_step}
-use Rattle.protocol.specs.declared.seen.Seen.{Seen}
 use Rattle.protocol.specs.declared.seen.Seen.TheVariants.{Numbered}
 use Rattle.protocol.specs.Observer.{Placed, observed_moment, placed_in, order_of}
 use Rattle.protocol.specs.Client.{ClientState, ClientDoing}
@@ -40,7 +39,7 @@ use Rattle.protocol.specs.ServerWrites.{mutates_under}
 use Rattle.protocol.specs.ServerStep.{server_at, server_takes, server_goes, server_ends, server_step, server_restart}
 use Rattle.protocol.specs.MasterStep.{master_step, master_restart}
 use Rattle.protocol.specs.World.{WorldState, Happened, new_world, stamped, after_master, after_server, after_client, happens, after_events, IsReached}
-use Rattle.protocol_laws.proofs.Steps.{on_cond, none_some, same_some}
+use Rattle.protocol_laws.proofs.Steps.{none_some, same_some}
 use Rattle.protocol_laws.proofs.Entries.{AllOf}
 use Rattle.protocol_laws.proofs.RisingOrders.{set_cases}
 use Rattle.protocol_laws.proofs.MembersRecorded.{kept_place, all_at}
@@ -51,26 +50,21 @@ use Rattle.protocol_step_laws.proofs.MasterTalks.{is_masters, MasterTalks, maste
 use Rattle.protocol_step_laws.proofs.LeasesStayOver.{reached_later}
 use Rattle.protocol_step_laws.proofs.NewCopies.{IsNotFull, step_tells, restart_tells}
 use Rattle.protocol_step_laws.proofs.Lengths.{servers_within, settings_stay}
+use Rattle.protocol_step_laws.proofs.HeldReplicas.{leases_have_their_replica}
 use Rattle.protocol_entry_laws.specs.Entries.{IsAmong}
-use Rattle.protocol_entry_laws.specs.ChunkOrders.{unsettled}
 use Rattle.protocol_entry_laws.proofs.Stemming.{came_in}
 use Rattle.protocol_entry_laws.proofs.OwnMutates.{IsOwn, mutates_are_own}
-use Rattle.protocol_entry_laws.proofs.RoundsPassed.{server_shown}
+use Rattle.protocol_entry_laws.proofs.RoundsPassed.{primary_there, server_shown}
 use Rattle.protocol_entry_laws.proofs.FullOrders.{IsCaused, Causes, right_on, caused_on}
 use Rattle.protocol_entry_laws.proofs.FullAnswers.{AreRight, Leaves, IsFullEnd, step_leaves, none_right, restart_leaves}
 use Rattle.protocol_entry_laws.proofs.FullPlaces.{placed_first, denied_full}
-use Rattle.protocol_invariant.specs.AttemptParts.{is_full}
 use Rattle.protocol_version_laws.proofs.ClosedVersions.{clocks_before}
 use Rattle.protocol_replica_laws.specs.CopiedEntries.{Follows}
-use Rattle.protocol_replica_laws.specs.FullOrders.{IsOfFullOrder, FullChunksHaveAFullOrder}
+use Rattle.protocol_replica_laws.specs.FullOrders.{HasFullEnd, FullChunksHaveAFullOrder}
 use Rattle.protocol_replica_laws.proofs.OrdersGrow.{IsAny, same_follows, HaveGrown, orders_grow}
 use Rattle.protocol_replica_laws.proofs.Images.{numbered_there}
 use Rattle.protocol_replica_laws.specs.EndedReplicas.{EndsAtEntry}
 use Rattle.protocol_replica_laws.proofs.EndedReached.{replicas_end_at_entries}
-
--- an entry of this order ends at the end of a chunk of this size
-abbrev HasFullEnd : ℕ → List Placed → Type 0
-HasFullEnd size order = (place : ℕ) × (p : Placed) × (element_at order place ≡ Some p) × (end_of size p.entry.mutation ≡ size)
 
 -- a row is of a replica
 row_there : (o : Option Replica) (row : Row) → row_of o ≡ Some row → (r : Replica) × (o ≡ Some r) × (length r.bytes ≡ row.count)
@@ -93,10 +87,12 @@ record IsEnded (size : ℕ) (w : WorldState) (id : DataId) : Type 0 where
   deadline : Moment
   sent_is : IsAmong w.sent asked
   body_is : asked.body ≡ body.Mutate id handle version aim deadline
-  ends : HasFullEnd size (order_of w.observer handle.0)
+  ends : HasFullEnd size (order_of w.observer handle.0) version.0
 
-ends_on : (size : ℕ) (from to : List Placed) → Follows IsAny from to → HasFullEnd size from → HasFullEnd size to
-ends_on size from to follows h = let there = follows h.0 h.1 h.2 tt in (h.0, there.0, there.1, ap (λ (x : Placed). end_of size x.entry.mutation) there.2 ∙ h.3)
+ends_on : (size version : ℕ) (from to : List Placed) → Follows IsAny from to → HasFullEnd size from version → HasFullEnd size to version
+ends_on size version from to follows h =
+    let there = follows h.0 h.1 h.2 tt in
+    (h.0, there.0, there.1, subst (λ (n : ℕ). n ≤ version) (sym (ap (λ (x : Placed). x.entry.round) there.2)) h.3, ap (λ (x : Placed). end_of size x.entry.mutation) there.2 ∙ h.4)
 
 ended_on : (size : ℕ) (w v : WorldState) (more : List Message) → v.sent ≡ w.sent ++ more → HaveGrown w v → (id : DataId) → IsEnded size w id → IsEnded size v id
 ended_on size w v more sent grown id h =
@@ -108,7 +104,7 @@ ended_on size w v more sent grown id h =
       deadline = h.deadline;
       sent_is = ((h.sent_is).0, ap (λ (ms : List Message). element_at ms (h.sent_is).0) sent ∙ kept_place w.sent more (h.sent_is).0 h.asked (h.sent_is).1);
       body_is = h.body_is;
-      ends = ends_on size (order_of w.observer h.handle.0) (order_of v.observer h.handle.0) (grown h.handle.0) h.ends;
+      ends = ends_on size h.version.0 (order_of w.observer h.handle.0) (order_of v.observer h.handle.0) (grown h.handle.0) h.ends;
     }
 
 -- words that tell of no full chunk
@@ -182,8 +178,8 @@ module _ (config : Config) (servers clients : ℕ) (some : 1 ≤ config.chunk) w
 
       module _ (grown : HaveGrown w (after_server w index moment (server_step s moment i choice)).world) where
         -- the replica was full
-        by_replica : (handle : Handle) → (row : Row) × (row_at s.disk handle.0 ≡ Some row) × (row.count ≡ config.chunk) → HasFullEnd config.chunk (order_of w.observer handle.0)
-        by_replica handle found = there ends
+        by_replica : (handle : Handle) (version : ℕ) (p : SerialOrder) → primary_of (server_at s moment) handle.0 version ≡ Some p → (row : Row) × (row_at s.disk handle.0 ≡ Some row) × (row.count ≡ config.chunk) → HasFullEnd config.chunk (order_of w.observer handle.0) version
+        by_replica handle version p primary found = there ends
           where
             one : (x : Replica) × (replica_of s.disk handle.0 ≡ Some x) × (length x.bytes ≡ found.0.count)
             one = row_there (replica_of s.disk handle.0) found.0 found.1
@@ -194,16 +190,23 @@ module _ (config : Config) (servers clients : ℕ) (some : 1 ≤ config.chunk) w
             long : length one.0.bytes ≡ config.chunk
             long = one.2 ∙ found.2
 
-            there : EndsAtEntry config.chunk (order_of w.observer handle.0) one.0.version (length one.0.bytes) → HasFullEnd config.chunk (order_of w.observer handle.0)
+            version_is : one.0.version ≡ version
+            version_is =
+                let held = primary_there (server_at s moment) version (table.get s.leases handle.0) p primary in
+                let has = leases_have_their_replica config servers clients w r index s at handle.0 p held.0 in
+                ap (λ (x : Replica). x.version) (same_some one.0 has.0 (sym one.1 ∙ has.1)) ∙ (has.2 ∙ held.1)
+
+            there : EndsAtEntry config.chunk (order_of w.observer handle.0) one.0.version (length one.0.bytes) → HasFullEnd config.chunk (order_of w.observer handle.0) version
             there (inl none) = absurd (omega (arith, none, long, some))
-            there (inr entry) = (entry.0, entry.1, entry.2, entry.4 ∙ long)
+            there (inr entry) = (entry.0, entry.1, entry.2, subst (λ (n : ℕ). (entry.1).entry.round ≤ n) version_is entry.3, entry.4 ∙ long)
 
         -- a pad is placed
-        by_pad : (handle : ℕ) (p : SerialOrder) (id : DataId) (offset : ℕ) (handle_is : Handle) → handle_is.0 ≡ handle → (place : ℕ) → element_at (server_step s moment i choice).seen place ≡ Some (Numbered handle_is (version_of p.held.version) (serial_of (p.serial + 1)) id (Pad offset))
-            → HasFullEnd config.chunk (order_of After.world.observer handle)
-        by_pad handle p id offset named same place shown =
+        by_pad : (handle version : ℕ) (p : SerialOrder) (id : DataId) (offset : ℕ) (handle_is : Handle) → handle_is.0 ≡ handle → p.held.version ≡ version → (place : ℕ) → element_at (server_step s moment i choice).seen place ≡ Some (Numbered handle_is (version_of p.held.version) (serial_of (p.serial + 1)) id (Pad offset))
+            → HasFullEnd config.chunk (order_of After.world.observer handle) version
+        by_pad handle version p id offset named same under place shown =
             let there = numbered_there (observed_moment w.config.skew_ms w.observer moment).trace w.observer.orders (server_step s moment i choice).seen place named (version_of p.held.version) (serial_of (p.serial + 1)) id (Pad offset) (server_shown s moment i choice) shown in
-            subst (λ (n : ℕ). HasFullEnd config.chunk (order_of After.world.observer n)) same (there.0, there.1, there.2, ap (λ (x : Placed). end_of config.chunk x.entry.mutation) there.3)
+            let round : (there.1).entry.round ≡ version = ap (λ (x : Placed). x.entry.round) there.3 ∙ under in
+            subst (λ (n : ℕ). HasFullEnd config.chunk (order_of After.world.observer n) version) same (there.0, there.1, there.2, omega (arith, round), ap (λ (x : Placed). end_of config.chunk x.entry.mutation) there.3)
 
         whole_step : server_step s moment i choice ≡ server_ends s (server_goes s moment i) choice choice.ending
         whole_step = ap (λ (b : Bool). cond b (server_ends s (server_goes s moment i) choice choice.ending) (no_step s)) up
@@ -223,8 +226,8 @@ module _ (config : Config) (servers clients : ℕ) (some : 1 ≤ config.chunk) w
               ends = elim (end) [
                 | inl denied ↦
                     let found = denied_full (server_at s moment) handle.0 p id t deadline.0 (primary_of (server_at s moment) handle.0 version.0) primary new denied in
-                    ends_on config.chunk (order_of w.observer handle.0) (order_of After.world.observer handle.0) (grown handle.0) (by_replica handle (found.0, found.1, found.2 ∙ chunk_is))
-                | inr placed ↦ by_pad handle.0 p id placed.0 handle refl 0 (shown ∙ (ap (λ (e : ServerDoing). element_at e.seen 0) (goes_is ∙ placed.1) ∙ placed_first (server_at s moment) handle.0 p id (Pad placed.0) placed.2))
+                    ends_on config.chunk version.0 (order_of w.observer handle.0) (order_of After.world.observer handle.0) (grown handle.0) (by_replica handle version.0 p primary (found.0, found.1, found.2 ∙ chunk_is))
+                | inr placed ↦ by_pad handle.0 version.0 p id placed.0 handle refl (primary_there (server_at s moment) version.0 (table.get s.leases handle.0) p primary).1 0 (shown ∙ (ap (λ (e : ServerDoing). element_at e.seen 0) (goes_is ∙ placed.1) ∙ placed_first (server_at s moment) handle.0 p id (Pad placed.0) placed.2))
               ];
             }
           where
@@ -352,7 +355,8 @@ full_chunks_have_a_full_order config servers clients w r kept some place client 
       sender_is = subst (λ (b : Body). IsOwn (one.asked).sender b) one.body_is (mutates_are_own config servers clients w r (one.sent_is).0 one.asked (one.sent_is).1);
       body_is = one.body_is;
       full = subst (λ (n : ℕ). IsTrue (list_any (λ (q : Placed). end_of n q.entry.mutation == n) (order_of w.observer one.handle.0))) (sym (ap (λ (c : Config). c.chunk) (settings_stay config servers clients w r)))
-          (listed config.chunk (order_of w.observer one.handle.0) (one.ends).0 (one.ends).1 (one.ends).2 (one.ends).3);
+          (listed config.chunk (order_of w.observer one.handle.0) (one.ends).0 (one.ends).1 (one.ends).2 (one.ends).4);
+      ends = subst (λ (n : ℕ). HasFullEnd n (order_of w.observer one.handle.0) one.version.0) (sym (ap (λ (c : Config). c.chunk) (settings_stay config servers clients w r))) one.ends;
     }
   where
     one : IsEnded config.chunk w (data_id client number)

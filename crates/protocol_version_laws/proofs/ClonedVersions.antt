@@ -319,7 +319,7 @@ clones_are_of_closed_versions config servers clients w r clocks place m at handl
     version_over w handle version clocks (clones_shut config servers clients w r handle version (copied_sent config servers clients w r m (place, at) handle version is))
 
 -- what was ordered was issued
-ordered_passed : (config : Config) (servers clients : ℕ) (w : WorldState) → IsReached config servers clients w → IsTrue w.master.up → (server handle version : ℕ) → WasOrdered w.sent server handle version → IsPassed handle version w.master.logged
+pub ordered_passed : (config : Config) (servers clients : ℕ) (w : WorldState) → IsReached config servers clients w → IsTrue w.master.up → (server handle version : ℕ) → WasOrdered w.sent server handle version → IsPassed handle version w.master.logged
 ordered_passed config servers clients w r up server handle version (inl given) = ((given_reached handle version config servers clients w r).words given.1 (given.0, given.2) (inl given.4)).1 up
 ordered_passed config servers clients w r up server handle version (inr cloned) = ((clones_shut config servers clients w r handle version (sent_of_cloned w.sent server handle version cloned)).up up).0
 

@@ -17,7 +17,7 @@ use Rattle.protocol.specs.Choice.{Choice, Ending, Goes, Lost, Stops}
 use Rattle.protocol.specs.Seen.{Taken, no_step}
 use Rattle.protocol.specs.Logged.{Logged, Copy, first_logged, copies_given_up, LogDisk, LogChange, AppendRecord, WriteCheckpoint, log_changed, log_changed_by_all, after_record, checkpoint_of, copies_for_file, swapped_in, with_copied_node, with_copied_nodes}
 use Rattle.protocol.specs.Master.{MasterState, MasterDoing, stopped_master, master_begins, writes_checkpoint}
-use Rattle.protocol.specs.MasterStep.{master_goes, master_ends, master_bounded, master_step, is_within_limits, may_end, found_log, started_master, opening, has_opened, opens_as, master_restart}
+use Rattle.protocol.specs.MasterStep.{master_goes, master_ends, master_bounded, master_step, is_within_limits, may_end, found_log, started_master, opening, has_opened, opens_as}
 use Rattle.protocol_laws.proofs.Steps.{on_cond, none_some, same_some, same_or_not, put_split, put_there, put_other, gone_there, gone_other, kept_cases, removed_cases, stays_gone}
 use Rattle.protocol_laws.proofs.FilesNamed.{Files}
 use Rattle.protocol_laws.proofs.Owners.{chunks_at}

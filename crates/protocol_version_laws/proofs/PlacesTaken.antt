@@ -1,26 +1,20 @@
 -- A place in a file over a step of the master: what stands there stays of R, where each copy under way of a chunk of R is of R; or the file goes.
-use Rattle.std.proofs.Common.{◌≡◌, ◌⊎◌, ℕ, zero, suc, ◌<◌, true, false, true≢false, List, [], ◌∷◌, ◌++◌, take, drop, Option, Some, None, is_some, refl, sym, ap, subst, ◌∙◌, inl, inr, arith}
-use Rattle.std.specs.Prelude.{◌+◌, ◌&&◌, unwrap_or, IsTrue}
+use Rattle.std.proofs.Common.{◌≡◌, ◌⊎◌, ℕ, zero, suc, true, false, List, [], ◌∷◌, ◌++◌, take, drop, Option, Some, None, refl, sym, ap, subst, ◌∙◌, inl, inr}
+use Rattle.std.specs.Prelude.{◌&&◌, unwrap_or, IsTrue}
 use Rattle.std.specs.FinMap as table
-use Rattle.std.proofs.Math.Nat.{le-max_left}
 use Rattle.gfs_types.specs.declared.config.Config.{Config}
-use Rattle.gfs_types.specs.Paths.{Path}
 use Rattle.messages.specs.declared.event.Input.{Input}
 use Rattle.log_records.specs.declared.record.Record.{Record}
 use Rattle.log_records.specs.declared.record.Record.TheVariants as log
-use Rattle.relaxed_file.specs.Names.{Node, Dir, File, copied_entries, id_after}
-use Rattle.relaxed_file.proofs.Known.{ids_rise}
-use Rattle.chunk_table.specs.ChunkTable.{ChunkTable, handles_of, grant}
+use Rattle.chunk_table.specs.ChunkTable.{handles_of, grant}
 use Rattle.protocol.specs.Tables.{element_at, with_at}
 use Rattle.protocol.specs.Choice.{Choice, Ending, Goes, Lost, Stops, decided_changes}
 use Rattle.protocol.specs.Seen.{Taken, no_step}
-use Rattle.protocol.specs.Logged.{Logged, Copy, LogDisk, LogChange, AppendRecord, WriteCheckpoint, log_changed, log_changed_by_all, after_record, checkpoint_of, copies_for_file, swapped_in, with_copied_node, with_copied_nodes}
+use Rattle.protocol.specs.Logged.{Logged, Copy, LogDisk, LogChange, AppendRecord, WriteCheckpoint, log_changed, log_changed_by_all, after_record, checkpoint_of, swapped_in}
 use Rattle.protocol.specs.Master.{MasterState, MasterDoing, stopped_master, master_begins, writes_checkpoint}
 use Rattle.protocol.specs.MasterStep.{master_goes, master_ends, master_bounded, master_step, is_within_limits, may_end, found_log, started_master, opening, has_opened, opens_as, master_restart}
-use Rattle.protocol_laws.proofs.Steps.{on_cond, none_some, same_some, same_or_not, put_there, put_other, gone_there, gone_other, kept_cases, removed_cases}
+use Rattle.protocol_laws.proofs.Steps.{on_cond, none_some, same_some, same_or_not, put_there, removed_cases}
 use Rattle.protocol_laws.proofs.Entries.{AllOf}
-use Rattle.protocol_laws.proofs.MembersRecorded.{kept_place}
-use Rattle.protocol_laws.proofs.FilesNamed.{Files}
 use Rattle.protocol_laws.proofs.Owners.{chunks_at}
 use Rattle.protocol_laws.proofs.CountsLogged.{IsPlacedIn}
 use Rattle.protocol_laws.proofs.LoggedParts.{Parts}
@@ -34,8 +28,8 @@ use Rattle.protocol_step_laws.proofs.Awaited.{Attempts}
 use Rattle.protocol_step_laws.proofs.MasterActs.{IsRowing, rowing_keeps, core_checkpointed, Waits, Acts}
 use Rattle.protocol_step_laws.proofs.WaitsKept.{WaitsHere, any_input}
 use Rattle.protocol_step_laws.proofs.ActsOfSteps.{goes_acts}
-use Rattle.protocol_version_laws.proofs.AskedSteps.{StandsAt, IsNoGrant}
-use Rattle.protocol_version_laws.proofs.CopiedSources.{IsNoStartRecord, IsNoStart}
+use Rattle.protocol_version_laws.proofs.AskedSteps.{IsNoGrant}
+use Rattle.protocol_version_laws.proofs.CopiedSources.{IsNoStart}
 use Rattle.protocol_version_laws.proofs.PlacesKept.{IsPlaceKept, place_same, place_put, place_after, other_place, all_front, all_last, copies_before, copies_left}
 
 -- what was put in a list is there

@@ -31,7 +31,7 @@ use Rattle.protocol.specs.MasterNames.{master_refusal, reply_by, performs, names
 use Rattle.protocol.specs.MasterVersions.{sends_grant, grants_to, is_complete, with_recorded, learns_attempt, learns}
 use Rattle.protocol.specs.MasterReports.{holds_now, revoked_row, is_useless, drops_useless, learns_all, may_extend, extends_row, extends_all, hears, takes_report}
 use Rattle.protocol.specs.MasterClones.{CloneOrder, orders_clone, best_clone}
-use Rattle.protocol.specs.MasterStep.{master_ticks, gives_up_attempts, gives_up_lost_copies, lost_copies, expires_all, expires_old, expired_files, master_takes, master_does}
+use Rattle.protocol.specs.MasterStep.{master_ticks, gives_up_attempts, gives_up_lost_copies, lost_copies, expires_all, expires_old, expired_files, master_takes, master_does, finishes}
 use Rattle.protocol_laws.proofs.Steps.{on_cond, put_there}
 use Rattle.protocol_laws.proofs.MasterMoves.{removed_other}
 use Rattle.protocol_laws.proofs.VersionAttempts.{both_of}
@@ -54,19 +54,44 @@ IsOfNames (log.Refused client n refusal) = Unit {0}
 IsOfNames (log.Expired file) = Unit {0}
 IsOfNames other = ⊥
 
--- What name calls, snapshots and files that expire keep.
-pub record KeepsNames (P : MasterDoing → Type 0) : Type 0 where
+-- one of a name call, or a snapshot that is taken
+abbrev pub IsOfCalls : Record → Type 0
+IsOfCalls (log.Mkdir client n path) = Unit {0}
+IsOfCalls (log.Rmdir client n path) = Unit {0}
+IsOfCalls (log.Create client n file path) = Unit {0}
+IsOfCalls (log.Delete client n moment path) = Unit {0}
+IsOfCalls (log.Rename client n from to) = Unit {0}
+IsOfCalls (log.Snapshot client n from to) = Unit {0}
+IsOfCalls (log.Refused client n refusal) = Unit {0}
+IsOfCalls other = ⊥
+
+pub calls_are_of_names : (r : Record) → IsOfCalls r → IsOfNames r
+calls_are_of_names (log.Mkdir client n path) is = tt
+calls_are_of_names (log.Rmdir client n path) is = tt
+calls_are_of_names (log.Create client n file path) is = tt
+calls_are_of_names (log.Delete client n moment path) is = tt
+calls_are_of_names (log.Rename client n from to) is = tt
+calls_are_of_names (log.Snapshot client n from to) is = tt
+calls_are_of_names (log.Refused client n refusal) is = tt
+calls_are_of_names other is = absurd is
+
+-- What is kept by a step with these records, and by all else that name calls, snapshots and files that expire do.
+pub record KeepsThese (Of : Record → Type 0) (P : MasterDoing → Type 0) : Type 0 where
   pub said : (d : MasterDoing) (receiver : Node) (b : Body) → is_location b ≡ false → P d → P (tells d receiver b)
   pub ordered : (d : MasterDoing) (server : ℕ) (b : OrderNo → Body) → ((o : OrderNo) → is_location (b o) ≡ false) → P d → P (orders d server b)
-  pub recorded : (d : MasterDoing) (r : Record) → IsOfNames r → P d → P (appends d r)
+  pub recorded : (d : MasterDoing) (r : Record) → Of r → P d → P (appends d r)
   pub checkpointed : (d : MasterDoing) → P d → P (writes_checkpoint d)
   pub less : (d : MasterDoing) (handles : List ℕ) → P d → P (gives_up_copies d handles)
   pub fewer : (d : MasterDoing) (handles : List ℕ) → P d → P (without_attempts d handles)
   pub waiting : (d : MasterDoing) (ss : List PendingSnapshot) → P d → P (record d { master = record d.master { snapshots = ss } })
   pub refusing : (d : MasterDoing) (bs : List Bool) → P d → P (record d { refused = bs })
 
-module _ (P : MasterDoing → Type 0) (k : KeepsNames P) where
-  logged : (d : MasterDoing) (r : Record) (then_ : MasterDoing → MasterDoing) → IsOfNames r → ((e : MasterDoing) → P e → P (then_ e)) → P d → P (logs d r then_)
+-- What name calls, snapshots and files that expire keep.
+abbrev pub KeepsNames : (MasterDoing → Type 0) → Type 0
+KeepsNames P = KeepsThese IsOfNames P
+
+module _ (Of : Record → Type 0) (calls : (r : Record) → IsOfCalls r → Of r) (P : MasterDoing → Type 0) (k : KeepsThese Of P) where
+  logged : (d : MasterDoing) (r : Record) (then_ : MasterDoing → MasterDoing) → Of r → ((e : MasterDoing) → P e → P (then_ e)) → P d → P (logs d r then_)
   logged d r then_ names go h =
       on_cond P (fits d r) (then_ (appends d r)) _ (λ _. go (appends d r) (k.recorded d r names h))
       (λ _. on_cond P (checkpoint_fits d.master.config.log_bytes (checkpoint_of d.master.logged)) (logs_after_checkpoint (writes_checkpoint d) r (is_of_copy d.master.logged r) then_) d
@@ -75,13 +100,13 @@ module _ (P : MasterDoing → Type 0) (k : KeepsNames P) where
   answered : (client number : ℕ) (o : Option Refusal) (d : MasterDoing) → P d → P (answers_name d client number o)
   answered client number o d h = k.said d (the_client client) (body.Named number (Answered (reply_of o))) refl h
 
-  settled : (d : MasterDoing) (client number : ℕ) (r : Record) (o : Option Refusal) → IsOfNames r → P d → P (settles_name d client number r o)
+  settled : (d : MasterDoing) (client number : ℕ) (r : Record) (o : Option Refusal) → Of r → P d → P (settles_name d client number r o)
   settled d client number r o names h = logged d r (λ e. answers_name e client number o) names (answered client number o) h
 
   refused : (d : MasterDoing) (client number : ℕ) (refusal : Refusal) → P d → P (refuses_name d client number refusal)
-  refused d client number refusal h = settled d client number (log.Refused (client_id client) number refusal) (Some refusal) tt h
+  refused d client number refusal h = settled d client number (log.Refused (client_id client) number refusal) (Some refusal) (calls (log.Refused (client_id client) number refusal) tt) h
 
-  changed : (d : MasterDoing) (client number : ℕ) (c : Call) (r : Record) → IsOfNames r → P d → P (changes_names d client number c r)
+  changed : (d : MasterDoing) (client number : ℕ) (c : Call) (r : Record) → Of r → P d → P (changes_names d client number c r)
   changed d client number c r names h =
       let tried : MasterDoing = record d { refused = all_but_first d.refused } in
       let less : P tried = k.refusing d (all_but_first d.refused) h in
@@ -106,18 +131,18 @@ module _ (P : MasterDoing → Type 0) (k : KeepsNames P) where
       let files : List ℕ = copies_for_files d.master.logged (snapshot_files d.master s) in
       revoked_all (gives_up_copies (without_attempts locked handles) files) handles (k.less (without_attempts locked handles) files (k.fewer locked handles (k.waiting d (d.master.snapshots ++ s ∷ []) h)))
 
-  pub ready : (d : MasterDoing) (ss : List PendingSnapshot) → P d → P (takes_ready d ss)
-  ready d [] h = h
-  ready d (s ∷ ss) h =
+  ready_kept : (d : MasterDoing) (ss : List PendingSnapshot) → P d → P (takes_ready d ss)
+  ready_kept d [] h = h
+  ready_kept d (s ∷ ss) h =
       on_cond (λ (e : MasterDoing). P (takes_ready e ss)) (is_ready d.master s) (takes_snapshot d s) d
-      (λ _. ready (takes_snapshot d s) ss (changed (lets_go d s) s.client s.number (call.Snapshot s.from s.to) (log.Snapshot (client_id s.client) s.number s.from s.to) tt (k.waiting d (lets_go d s).master.snapshots h))) (λ _. ready d ss h)
+      (λ _. ready_kept (takes_snapshot d s) ss (changed (lets_go d s) s.client s.number (call.Snapshot s.from s.to) (log.Snapshot (client_id s.client) s.number s.from s.to) (calls (log.Snapshot (client_id s.client) s.number s.from s.to) tt) (k.waiting d (lets_go d s).master.snapshots h))) (λ _. ready_kept d ss h)
 
   performed : (d : MasterDoing) (client number deadline : ℕ) (c : Call) → P d → P (performs d client number deadline c)
-  performed d client number deadline (call.Mkdir p) h = changed d client number (call.Mkdir p) (log.Mkdir (client_id client) number p) tt h
-  performed d client number deadline (call.Rmdir p) h = changed d client number (call.Rmdir p) (log.Rmdir (client_id client) number p) tt h
-  performed d client number deadline (call.Create p) h = changed d client number (call.Create p) (log.Create (client_id client) number (file_id d.master.logged.next_file) p) tt h
-  performed d client number deadline (call.Delete p) h = changed d client number (call.Delete p) (log.Delete (client_id client) number (moment_of d.master.now) p) tt h
-  performed d client number deadline (call.Rename p q) h = changed d client number (call.Rename p q) (log.Rename (client_id client) number p q) tt h
+  performed d client number deadline (call.Mkdir p) h = changed d client number (call.Mkdir p) (log.Mkdir (client_id client) number p) (calls (log.Mkdir (client_id client) number p) tt) h
+  performed d client number deadline (call.Rmdir p) h = changed d client number (call.Rmdir p) (log.Rmdir (client_id client) number p) (calls (log.Rmdir (client_id client) number p) tt) h
+  performed d client number deadline (call.Create p) h = changed d client number (call.Create p) (log.Create (client_id client) number (file_id d.master.logged.next_file) p) (calls (log.Create (client_id client) number (file_id d.master.logged.next_file) p) tt) h
+  performed d client number deadline (call.Delete p) h = changed d client number (call.Delete p) (log.Delete (client_id client) number (moment_of d.master.now) p) (calls (log.Delete (client_id client) number (moment_of d.master.now) p) tt) h
+  performed d client number deadline (call.Rename p q) h = changed d client number (call.Rename p q) (log.Rename (client_id client) number p q) (calls (log.Rename (client_id client) number p q) tt) h
   performed d client number deadline (call.Snapshot p q) h = begun d (record { client = client; number = number; deadline = deadline; from = p; to = q }) h
   performed d client number deadline other h = h
 
@@ -136,9 +161,13 @@ module _ (P : MasterDoing → Type 0) (k : KeepsNames P) where
       on_cond P (kept.number == number) (answers_name d client number kept.refusal) _ (λ _. answered client number kept.refusal d h)
       (λ _. on_cond P (nat_lt number kept.number) d (names_anew d client number deadline c) (λ _. h) (λ _. anew d client number deadline c h))
 
-  expires_kept : (d : MasterDoing) (files : List ℕ) → P d → P (expires_all d files)
-  expires_kept d [] h = h
-  expires_kept d (file ∷ rest) h = expires_kept (logs d (log.Expired (file_id file)) (λ e. e)) rest (logged d (log.Expired (file_id file)) (λ e. e) tt (λ e g. g) h)
+  expires_kept : ((file : ℕ) → Of (log.Expired (file_id file))) → (d : MasterDoing) (files : List ℕ) → P d → P (expires_all d files)
+  expires_kept expired d [] h = h
+  expires_kept expired d (file ∷ rest) h = expires_kept expired (logs d (log.Expired (file_id file)) (λ e. e)) rest (logged d (log.Expired (file_id file)) (λ e. e) (expired file) (λ e g. g) h)
+
+-- snapshots that are ready
+pub ready : (P : MasterDoing → Type 0) → KeepsNames P → (d : MasterDoing) (ss : List PendingSnapshot) → P d → P (takes_ready d ss)
+ready P k d ss h = ready_kept IsOfNames calls_are_of_names P k d ss h
 
 -- a message that is no Ask
 abbrev pub IsNoAsk : Body → Type 0
@@ -161,7 +190,7 @@ pub record KeepsReports (P : MasterDoing → Type 0) : Type 0 where
   pub ended : (d : MasterDoing) (handle : ℕ) → P d → P (ends_at d handle 0)
   pub lengthened : (d : MasterDoing) (handle until : ℕ) (row : ChunkRow) → chunk_of d.master.logged.table handle ≡ Some row → d.master.now < row.lease_end → P d → P (ends_at d handle until)
 
-module _ (P : MasterDoing → Type 0) (k : KeepsNames P) (more : KeepsReports P) where
+module _ (Of : Record → Type 0) (calls : (r : Record) → IsOfCalls r → Of r) (P : MasterDoing → Type 0) (k : KeepsThese Of P) (more : KeepsReports P) where
   grants_kept : (d : MasterDoing) (handle : ℕ) (a : VersionAttempt) (servers : List ℕ) → table.get d.master.attempts handle ≡ Some a → P d → P (grants_to d handle a servers)
   grants_kept d handle a [] at h = h
   grants_kept d handle a (primary ∷ rest) at h =
@@ -241,15 +270,15 @@ module _ (P : MasterDoing → Type 0) (k : KeepsNames P) (more : KeepsReports P)
   clone_kept d None h = h
   clone_kept d (Some c) h = k.ordered d c.target (λ order. body.Clone order (handle_of c.handle) (version_of c.version) (server_id c.source)) (λ o. refl) h
 
-  ticks_kept : (d : MasterDoing) → P d → P (master_ticks d)
-  ticks_kept d h =
+  ticks_kept : ((file : ℕ) → Of (log.Expired (file_id file))) → (d : MasterDoing) → P d → P (master_ticks d)
+  ticks_kept expired d h =
       let a : MasterDoing = gives_up_attempts d in
       let b : MasterDoing = gives_up_lost_copies a in
       let c : MasterDoing = expires_old b in
-      clone_kept c (best_clone c.master (table.entries c.master.logged.table.chunks)) (expires_kept P k b (expired_files b.master) (k.less a (lost_copies a.master) (more.in_time d h)))
+      clone_kept c (best_clone c.master (table.entries c.master.logged.table.chunks)) (expires_kept Of calls P k expired b (expired_files b.master) (k.less a (lost_copies a.master) (more.in_time d h)))
 
   takes_kept : (d : MasterDoing) (m : Message) (b : Body) → IsNoAsk b → P d → P (master_takes d m b)
-  takes_kept d m (body.Name number deadline c) none h = kept_said P k d (client_number m.sender) number deadline.0 c (table.get d.master.logged.kept (client_number m.sender)) h
+  takes_kept d m (body.Name number deadline c) none h = kept_said Of calls P k d (client_number m.sender) number deadline.0 c (table.get d.master.logged.kept (client_number m.sender)) h
   takes_kept d m (body.Look number c) none h = k.said d m.sender (body.Named number (reply_by (outcome_by d.master.logged.names c (master_refusal d.master c)))) refl h
   takes_kept d m (body.Ask number file w deadline lost) none h = absurd none
   takes_kept d m (body.Recorded handle version) none h =
@@ -284,6 +313,30 @@ module _ (P : MasterDoing → Type 0) (k : KeepsNames P) (more : KeepsReports P)
   takes_kept d m (body.Image handle version serial bytes) none h = h
   takes_kept d m (body.CopyLocal order handle version copy copy_version) none h = h
 
-  pub does_kept : (d : MasterDoing) (i : Input) → IsUnasked i → P d → P (master_does d i)
-  does_kept d (input.Deliver m) none h = takes_kept d m m.body none h
-  does_kept d input.Tick none h = ticks_kept d h
+  -- a message, at which no file expires, and the snapshots that are ready then
+  pub taken_kept : (d : MasterDoing) (m : Message) → IsNoAsk m.body → P d → P (finishes (master_does d (input.Deliver m)))
+  taken_kept d m none h = let e : MasterDoing = master_does d (input.Deliver m) in ready_kept Of calls P k e e.master.snapshots (takes_kept d m m.body none h)
+
+pub does_kept : (P : MasterDoing → Type 0) → KeepsNames P → KeepsReports P → (d : MasterDoing) (i : Input) → IsUnasked i → P d → P (master_does d i)
+does_kept P k more d (input.Deliver m) none h = takes_kept IsOfNames calls_are_of_names P k more d m m.body none h
+does_kept P k more d input.Tick none h = ticks_kept IsOfNames calls_are_of_names P k more (λ file. tt) d h
+
+-- a tick, which grants nothing, and the snapshots that are ready then
+pub ticked_kept : (P : MasterDoing → Type 0) → KeepsNames P → ((d : MasterDoing) → P d → P (gives_up_attempts d)) → (d : MasterDoing) → P d → P (finishes (master_does d input.Tick))
+ticked_kept P k in_time d h = ready P k c c.master.snapshots (clone_kept (best_clone e.master (table.entries e.master.logged.table.chunks)) (expires_kept IsOfNames calls_are_of_names P k (λ file. tt) b (expired_files b.master) (k.less a (lost_copies a.master) (in_time d h))))
+  where
+    a : MasterDoing
+    a = gives_up_attempts d
+
+    b : MasterDoing
+    b = gives_up_lost_copies a
+
+    e : MasterDoing
+    e = expires_old b
+
+    c : MasterDoing
+    c = master_does d input.Tick
+
+    clone_kept : (o : Option CloneOrder) → P e → P (orders_clone e o)
+    clone_kept None g = g
+    clone_kept (Some o) g = k.ordered e o.target (λ order. body.Clone order (handle_of o.handle) (version_of o.version) (server_id o.source)) (λ o. refl) g

@@ -35,6 +35,7 @@ use Rattle.protocol_whole_laws.specs.Tries.{IsNumberedAt, IsRise}
 use Rattle.protocol_whole_laws.specs.HoldersApart.{IsRoundAt}
 use Rattle.protocol_whole_laws.specs.ToldHolders.{IsStandingFor, AreHoldersTold}
 use Rattle.protocol_whole_laws.specs.ToldRounds.{AreToldRounds}
+use Rattle.protocol_whole_laws.specs.ShownChunks.{AreShownStanding}
 use Rattle.protocol_invariant.specs.Actions.{Spot}
 use Rattle.relaxed_file.specs.Order.{Entry}
 use Rattle.protocol_whole_laws.specs.ChunksBeside.{AreChunksBeside, NewChunksAreBeside, SameFilesKeepChunksBeside, IsMastersEvent, OtherEventsKeepChunksBeside, MastersEventsKeepChunksBeside}
@@ -42,6 +43,7 @@ use Rattle.protocol_whole_laws.proofs.EndedRounds.{ungranted_is_over, other_even
 use Rattle.protocol_whole_laws.proofs.HoldersOn.{holders_go_on}
 use Rattle.protocol_whole_laws.proofs.MasterHolders.{masters_events_keep_holders}
 use Rattle.protocol_whole_laws.proofs.ServerSteps.{other_events_are_taken}
+use Rattle.protocol_whole_laws.proofs.ShownChunks.{shown_goes_on, masters_events_keep_shown}
 use Rattle.protocol_whole_laws.proofs.ToldRounds.{no_round_is_told_at_first, told_rounds_go_on}
 
 -- an event that isn't the master's leaves the master
@@ -134,6 +136,7 @@ other_events_keep_chunks_beside config servers clients w r kept e choice clocks 
     rounds = other_events_keep_rounds config servers clients w r e choice clocks no_step k j h.rounds none_ended;
     told = told_rounds_go_on config servers clients w r e choice clocks k j h.log h.alike h.rounds none_ended h.told;
     holders = holders_go_on config servers clients w r e choice clocks no_step k j (omega arith) comes.standing h.holders;
+    shown = shown_goes_on config servers clients w r e choice clocks no_step (master_left w e choice not) k j refl comes.standing h.shown;
   },
   (came.0, comes.tries),
 )
@@ -160,6 +163,7 @@ pub masters_events_keep_chunks_beside : MastersEventsKeepChunksBeside
 masters_events_keep_chunks_beside config servers clients w r e choice clocks k j h settings log orders alike gone keeps sent is may = record {
   gone = gone;
   holders = masters_events_keep_holders config servers clients w r e choice is k j h.log h.orders orders h.holders may;
+  shown = masters_events_keep_shown config servers clients w r e choice clocks is k j h.log h.orders h.rounds h.holders log orders alike gone keeps may h.shown;
   settings = settings;
   log = log;
   orders = orders;
@@ -215,6 +219,11 @@ module _ (config : Config) (w : WorldState) (k : ChunkSides) (m : Machine) (h : 
       let it = h.holders client file l t in
       record { used = it.used; round = still_standing file l.index l.handle.0 l.round.0 it.round; holders = λ n x there. let one = it.holders n x there in (one.0, still_standing file l.index l.handle.0 x.version.0 one.1) }
 
+  still_shown : AreShownStanding w later
+  still_shown file handles is index handle at =
+      let it = h.shown file handles is index handle at in
+      (it.0, λ version. still_standing file index handle version (it.1 version))
+
   still_alike : AreChunksAlike later
   still_alike = (other_changes_keep_chunks k later h.alike (record { lists = refl; grants = λ handle. refl; next = omega arith; gone = refl; orders = refl; files = files })).alike
 
@@ -228,6 +237,7 @@ same_files_keep_chunks_beside config w k m h settings files = record {
   rounds = still_rounds config w k m h files;
   told = still_told config w k m h files;
   holders = still_held config w k m h files;
+  shown = still_shown config w k m h files;
 }
 
 -- a new cell
@@ -245,5 +255,6 @@ new_chunks_are_beside config servers clients = record {
   rounds = λ handle version. inl (ungranted_is_over config servers clients (new_world config servers clients) ([], refl) handle version refl);
   told = no_round_is_told_at_first config servers clients _;
   holders = λ client file l t. none_some t.told (t.sent_is).1;
+  shown = λ file handles is. none_some handles (sym (table.get-empty nat_cmp file) ∙ is);
   gone = λ handle s stood. none_some s stood.0;
 }

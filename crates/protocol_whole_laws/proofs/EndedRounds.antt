@@ -1,6 +1,6 @@
 -- Which rounds may end at an event, and that their leases are over.
-use Rattle.std.proofs.Common.{◌≡◌, ◌⊎◌, ℕ, zero, suc, ◌≤◌, Bool, true, false, List, [], ◌∷◌, ◌++◌, length, Option, Some, None, is_some, refl, sym, ap, subst, ◌∙◌, inl, inr, arith}
-use Rattle.std.specs.Prelude.{◌==◌, ◌&&◌, IsTrue}
+use Rattle.std.proofs.Common.{◌≡◌, ◌⊎◌, ℕ, zero, suc, ◌≤◌, Bool, true, false, List, [], ◌∷◌, ◌++◌, length, Option, Some, None, is_some, true≢false, refl, sym, ap, subst, ◌∙◌, inl, inr, arith}
+use Rattle.std.specs.Prelude.{◌==◌, ◌&&◌, IsTrue, IsFalse}
 use Rattle.std.proofs.lemmas.Bool.{and_parts, eq-eqb, eqb-true, cases_lt}
 use Rattle.gfs_types.specs.declared.config.Config.{Config}
 use Rattle.gfs_types.specs.declared.ids.Handle.{Handle}
@@ -16,16 +16,20 @@ use Rattle.messages.specs.declared.message.Message.{Message}
 use Rattle.messages.specs.declared.message.Body.{Body}
 use Rattle.messages.specs.declared.message.Body.TheVariants as body
 use Rattle.chunk_table.specs.ChunkTable.{ChunkRow, handles_of, chunk_of}
-use Rattle.protocol.specs.Choice.{Choice}
+use Rattle.protocol.specs.Choice.{Choice, Ending, Goes, Lost, Stops}
+use Rattle.protocol.specs.Seen.{Taken, no_step}
+use Rattle.protocol.specs.Master.{MasterState, MasterDoing}
 use Rattle.protocol.specs.Tables.{element_at}
 use Rattle.protocol.specs.Sending.{handle_of, version_of}
 use Rattle.protocol.specs.Logged.{Logged}
 use Rattle.protocol.specs.ServerStep.{server_step, server_restart}
-use Rattle.protocol.specs.MasterStep.{master_restart}
+use Rattle.protocol.specs.MasterStep.{master_goes, master_ends, may_end, master_bounded, master_step, master_restart}
 use Rattle.protocol.specs.ClientStep.{client_step, client_call}
 use Rattle.protocol.specs.World.{WorldState, stamped, happens, IsReached}
 use Rattle.protocol_laws.specs.Laws.{HasAllReferences, is_grant, grants_of}
-use Rattle.protocol_laws.proofs.Steps.{none_some, same_some, tally, count-cons}
+use Rattle.protocol_laws.proofs.Steps.{on_cond, none_some, same_some, tally, count-cons}
+use Rattle.protocol_laws.proofs.MasterMoves.{Nothing, NoneEnded, Keeps}
+use Rattle.protocol_laws.proofs.MasterSteps.{goes_keeps}
 use Rattle.protocol_laws.proofs.ClientMoves.{HasNoOrder, quiet_orders, client_quiet, call_quiet}
 use Rattle.protocol_laws.proofs.SentReached.{server_quiet, server_restarts_quiet}
 use Rattle.protocol_laws.proofs.LeasesTold.{leases_are_told}
@@ -54,7 +58,7 @@ use Rattle.protocol_whole_laws.proofs.Decided.{decided_world, over_in, counted_i
 
 -- what was never granted is over
 
-some_grant : (handle version : ℕ) (sent : List Message) (place : ℕ) (g : Message) → element_at sent place ≡ Some g → is_grant handle version g.body ≡ true → 1 ≤ grants_of handle version sent
+pub some_grant : (handle version : ℕ) (sent : List Message) (place : ℕ) (g : Message) → element_at sent place ≡ Some g → is_grant handle version g.body ≡ true → 1 ≤ grants_of handle version sent
 some_grant handle version [] place g at is = none_some g at
 some_grant handle version (m ∷ sent) zero g at is =
     let whole = count-cons (λ (x : Message). is_grant handle version x.body) m sent in
@@ -65,7 +69,7 @@ some_grant handle version (m ∷ sent) (suc place) g at is =
     let more = some_grant handle version sent place g at is in
     omega (arith, whole, more)
 
-its_grant : (handle version : ℕ) → (handle == handle) && (version == version) ≡ true
+pub its_grant : (handle version : ℕ) → (handle == handle) && (version == version) ≡ true
 its_grant handle version = ap (λ (b : Bool). b && (version == version)) (eq-eqb handle handle refl) ∙ eq-eqb version version refl
 
 pub ungranted_is_over : (config : Config) (servers clients : ℕ) (w : WorldState) → IsReached config servers clients w → (handle version : ℕ) → grants_of handle version w.sent ≡ 0 → IsLeaseOver w handle version
@@ -138,26 +142,26 @@ module _ (config : Config) (servers clients : ℕ) (w : WorldState) (r : IsReach
   ended_before handle over version granted = still_over handle version granted (over version)
 
   module _ (k j : ChunkSides) (has : HasRounds (IsLeaseOver w) k) (keeps : KeepsRounds (IsEnded w next) k j) (new : NewRoundsAreOpen w next j) where
-    abbrev Goes : ℕ → ℕ → Type 0
-    Goes handle version = IsLeaseOver next handle version ⊎ ((s : Spot) × IsRoundOpen j handle version s)
+    abbrev IsOverOrOpen : ℕ → ℕ → Type 0
+    IsOverOrOpen handle version = IsLeaseOver next handle version ⊎ ((s : Spot) × IsRoundOpen j handle version s)
 
-    open_still : (handle version : ℕ) → 1 ≤ grants_of handle version w.sent → (s : Spot) → IsRoundOpen k handle version s → Goes handle version
+    open_still : (handle version : ℕ) → 1 ≤ grants_of handle version w.sent → (s : Spot) → IsRoundOpen k handle version s → IsOverOrOpen handle version
     open_still handle version granted s was_open = elim (keeps handle version s was_open) [
       | inl ended ↦ inl (ended version granted)
       | inr still ↦ inr (s, still)
     ]
 
-    granted_before : (handle version : ℕ) → 1 ≤ grants_of handle version w.sent → Goes handle version
+    granted_before : (handle version : ℕ) → 1 ≤ grants_of handle version w.sent → IsOverOrOpen handle version
     granted_before handle version granted = elim (has handle version) [
       | inl over ↦ inl (still_over handle version granted over)
       | inr was_open ↦ open_still handle version granted was_open.0 was_open.1
     ]
 
-    by_before : (handle version : ℕ) → 1 ≤ grants_of handle version next.sent → (count : ℕ) → grants_of handle version w.sent ≡ count → Goes handle version
+    by_before : (handle version : ℕ) → 1 ≤ grants_of handle version next.sent → (count : ℕ) → grants_of handle version w.sent ≡ count → IsOverOrOpen handle version
     by_before handle version some zero is = inr (new handle version is some)
     by_before handle version some (suc count) is = granted_before handle version (omega (arith, is))
 
-    by_count : (handle version : ℕ) (count : ℕ) → grants_of handle version next.sent ≡ count → Goes handle version
+    by_count : (handle version : ℕ) (count : ℕ) → grants_of handle version next.sent ≡ count → IsOverOrOpen handle version
     by_count handle version zero is = inl (ungranted_is_over config servers clients next (reached_later config servers clients w ((e, choice) ∷ []) r) handle version is)
     by_count handle version (suc count) is = by_before handle version (omega (arith, is)) (grants_of handle version w.sent) refl
 
@@ -176,6 +180,37 @@ masters_input w (event.Restart n now) moment i given = absurd given
 masters_input w (event.Rot server q place byte) moment i given = absurd given
 masters_input w (event.Fuse n count torn) moment i given = absurd given
 
+-- the master stays up in a step that goes through
+up_keeps : Keeps ⊥ Nothing NoneEnded (λ c. c.up ≡ true)
+up_keeps =
+    record {
+      sound = λ asks. absurd asks;
+      tells = λ c receiver b quiet h. h;
+      orders = λ c server b is plain h. h;
+      revokes = λ c handle row is h. h;
+      grants = λ c handle version until primary members told due names from idle h. h;
+      appends = λ c r due plain names h. h;
+      checkpoint = λ c tree h. h;
+      less = λ c handles copied h. h;
+      ends = λ c handle row is word h. h;
+      extends = λ c handle until row is left later from h. h;
+    }
+
+-- one that stops says nothing
+abbrev IsSilent : Taken MasterState → Type 0
+IsSilent t = IsFalse t.state.up → t.out.sent ≡ []
+
+ends_silent : (m : MasterState) (d : MasterDoing) (choice : Choice) (ending : Ending) → IsTrue d.master.up → IsSilent (master_ends m d choice ending)
+ends_silent m d choice Goes up down = absurd (true≢false (sym up ∙ down))
+ends_silent m d choice Lost up down = refl
+ends_silent m d choice (Stops made) up down = refl
+
+stopped_silent : (m : MasterState) (moment : ℕ) (i : Input) (choice : Choice) → IsTrue m.up → IsSilent (master_step m moment i choice)
+stopped_silent m moment i choice up =
+    let d : MasterDoing = master_goes m moment i choice.refused in
+    on_cond IsSilent m.up (master_bounded m d choice) (no_step m)
+    (λ _. on_cond IsSilent (may_end d choice.ending) (master_ends m d choice choice.ending) (no_step m) (λ _. ends_silent m d choice choice.ending (goes_keeps (λ c. c.up ≡ true) up_keeps m moment i choice.refused up)) (λ _ down. refl)) (λ _ down. refl)
+
 module _ (w : WorldState) (handle version : ℕ) where
   abbrev pub GrantsNoMore : WorldState → Type 0
   GrantsNoMore v = grants_of handle version v.sent ≤ grants_of handle version w.sent
@@ -183,10 +218,12 @@ module _ (w : WorldState) (handle version : ℕ) where
   quiet : (ms : List Message) → HasNoOrder ms → grants_of handle version (w.sent ++ stamped (suc (length w.sent)) ms) ≤ grants_of handle version w.sent
   quiet ms none = quiet_sent w.sent (suc (length w.sent)) ms handle version none
 
-  pub none_granted : HoldsAfter w (λ e x. (IsMastersStep w e → ⊥) → GrantsNoMore x.world)
+  -- but for a step of the master that leaves it up
+  pub none_granted : HoldsAfter w (λ e x. (IsMastersStep w e → IsFalse x.world.master.up) → GrantsNoMore x.world)
   none_granted = record {
     nothing = λ e not. omega arith;
-    masters = λ e moment i choice given up not. absurd (not (masters_input w e moment i given));
+    masters = λ e moment i choice given up not.
+        quiet (master_step w.master moment i choice).out.sent (subst HasNoOrder (sym (stopped_silent w.master moment i choice up (not (masters_input w e moment i given)))) (λ epoch count. refl));
     opens = λ e moment choice not. quiet (master_restart w.master moment choice).out.sent (subst HasNoOrder (sym (restart_silent w.master moment choice)) (λ epoch count. refl));
     serves = λ e index moment s i choice at given up not. quiet (server_step s moment i choice).out.sent (server_quiet s moment i choice);
     restarts = λ e index moment s choice at not. quiet (server_restart s moment choice).out.sent (server_restarts_quiet s moment choice choice.ending);
@@ -198,7 +235,7 @@ module _ (w : WorldState) (handle version : ℕ) where
 pub other_events_keep_rounds : OtherEventsKeepRounds
 other_events_keep_rounds config servers clients w r e choice clocks not k j has keeps =
     rounds_go config servers clients w r e choice clocks k j has keeps
-    (λ handle version none some. let few = holds_after w (λ e x. (IsMastersStep w e → ⊥) → GrantsNoMore w handle version x.world) (none_granted w handle version) e choice not in absurd (omega (arith, none, some, few)))
+    (λ handle version none some. let few = holds_after w (λ e x. (IsMastersStep w e → IsFalse x.world.master.up) → GrantsNoMore w handle version x.world) (none_granted w handle version) e choice (λ is. absurd (not is)) in absurd (omega (arith, none, some, few)))
 
 -- chunks whose rounds may end
 

@@ -1,6 +1,6 @@
 -- Holders that were told, over an event that is no step of the master: nothing is told, no lease comes back, and what stands for a chunk does so still.
 use Rattle.std.proofs.Common.{◌≡◌, ℕ, zero, suc, ◌<◌, ◌≤◌, Bool, List, [], ◌∷◌, length, Some, refl, sym, ap, subst, ◌∙◌, inl, inr, arith}
-use Rattle.std.specs.Prelude.{◌&&◌, IsTrue}
+use Rattle.std.specs.Prelude.{◌&&◌, IsTrue, IsFalse}
 use Rattle.std.proofs.lemmas.Bool.{cases_lt}
 use Rattle.gfs_types.specs.declared.config.Config.{Config}
 use Rattle.gfs_types.specs.declared.ids.Node.{Node}
@@ -120,21 +120,21 @@ module _ (config : Config) (servers clients : ℕ) (w : WorldState) (r : IsReach
     pub told_before : IsTold w.sent client file l
     told_before = record { number = t.number; asked = asked_before; told = t.told; sent_is = ((t.sent_is).0, stood); receiver_is = t.receiver_is; body_is = t.body_is }
 
-  -- at an event that is no step of the master
+  -- at an event that is no step of the master, or one that stops
 
-  module _ (clocks : IsTrue then_.observer.are_clocks_kept) (not : IsMastersStep w e → ⊥) where
-    over_on : (handle version : ℕ) → IsLeaseOver w handle version → IsLeaseOver then_ handle version
+  module _ (clocks : IsTrue then_.observer.are_clocks_kept) (quiet : IsMastersStep w e → IsFalse then_.master.up) where
+    pub over_on : (handle version : ℕ) → IsLeaseOver w handle version → IsLeaseOver then_ handle version
     over_on handle version over = by_count (grants_of handle version w.sent) refl
       where
         few : GrantsNoMore w handle version then_
-        few = holds_after w (λ e x. (IsMastersStep w e → ⊥) → GrantsNoMore w handle version x.world) (none_granted w handle version) e choice not
+        few = holds_after w (λ e x. (IsMastersStep w e → IsFalse x.world.master.up) → GrantsNoMore w handle version x.world) (none_granted w handle version) e choice quiet
 
         by_count : (count : ℕ) → grants_of handle version w.sent ≡ count → IsLeaseOver then_ handle version
         by_count zero none = ungranted_is_over config servers clients then_ later handle version (omega (arith, none, few))
         by_count (suc count) some = leases_stay_over config servers clients w r handle version (omega (arith, some)) over ((e, choice) ∷ []) clocks
 
-    module _ (k j : ChunkSides) (next : k.log.next_handle ≤ j.log.next_handle) (keeps : KeepsStanding (IsLeaseOver w) k j) where
-      standing_on : (file index handle version : ℕ) → IsStandingFor w k file index handle version → IsStandingFor then_ j file index handle version
+    module _ (k j : ChunkSides) (keeps : KeepsStanding (IsLeaseOver w) k j) where
+      pub standing_on : (file index handle version : ℕ) → IsStandingFor w k file index handle version → IsStandingFor then_ j file index handle version
       standing_on file index handle version x =
           let on = keeps file index handle version x.apart x.stands in
           record {
@@ -145,15 +145,21 @@ module _ (config : Config) (servers clients : ℕ) (w : WorldState) (r : IsReach
             ];
           }
 
-      location_on : (file : ℕ) (l : Location) → IsToldLocation w k file l → IsToldLocation then_ j file l
-      location_on file l it = record {
-        used = (let low = it.used in omega (arith, low, next));
-        round = standing_on file l.index l.handle.0 l.round.0 it.round;
-        holders = λ n x there. let one = it.holders n x there in (one.0, standing_on file l.index l.handle.0 x.version.0 one.1);
-      }
+  -- at an event that is no step of the master
 
-      pub holders_go_on : AreHoldersTold w k → AreHoldersTold then_ j
-      holders_go_on told client file l t = elim (cases_lt (t.sent_is).0 (length w.sent)) [
-        | inl early ↦ location_on file l (told client file l (told_before client file l t early))
-        | inr from ↦ absurd (holds_after w (λ e x. (IsMastersStep w e → ⊥) → TellsNoneNew w x.world) (each_silent config servers clients w r) e choice not (t.sent_is).0 t.told from (t.sent_is).1 t.number l t.body_is)
-      ]
+  module _ (clocks : IsTrue then_.observer.are_clocks_kept) (not : IsMastersStep w e → ⊥) (k j : ChunkSides) (next : k.log.next_handle ≤ j.log.next_handle) (keeps : KeepsStanding (IsLeaseOver w) k j) where
+    still_standing : (file index handle version : ℕ) → IsStandingFor w k file index handle version → IsStandingFor then_ j file index handle version
+    still_standing = standing_on clocks (λ is. absurd (not is)) k j keeps
+
+    location_on : (file : ℕ) (l : Location) → IsToldLocation w k file l → IsToldLocation then_ j file l
+    location_on file l it = record {
+      used = (let low = it.used in omega (arith, low, next));
+      round = still_standing file l.index l.handle.0 l.round.0 it.round;
+      holders = λ n x there. let one = it.holders n x there in (one.0, still_standing file l.index l.handle.0 x.version.0 one.1);
+    }
+
+    pub holders_go_on : AreHoldersTold w k → AreHoldersTold then_ j
+    holders_go_on told client file l t = elim (cases_lt (t.sent_is).0 (length w.sent)) [
+      | inl early ↦ location_on file l (told client file l (told_before client file l t early))
+      | inr from ↦ absurd (holds_after w (λ e x. (IsMastersStep w e → ⊥) → TellsNoneNew w x.world) (each_silent config servers clients w r) e choice not (t.sent_is).0 t.told from (t.sent_is).1 t.number l t.body_is)
+    ]

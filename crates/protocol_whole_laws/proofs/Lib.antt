@@ -11,6 +11,7 @@ pub mod FileClientsStay
 pub mod FileOpenings
 pub mod FileSteps
 pub mod FileWalk
+pub mod GoneHandles
 pub mod GrantedRecords
 pub mod GrantedSources
 pub mod GrantsLast
@@ -34,6 +35,7 @@ pub mod RecordTimes
 pub mod SentGrants
 pub mod ServerSteps
 pub mod Settlements
+pub mod ShownChunks
 pub mod SoundLogs
 pub mod StoppedSteps
 pub mod ToldHolders

@@ -91,7 +91,7 @@ module _ (config : Config) (servers clients : ℕ) (w : WorldState) (r : IsReach
         (each_same config servers clients w r handle (λ up. subst (λ (l : Logged). handle < l.next_handle) (log_is up) used)) e choice is in
         ap (λ (os : Table (List Placed)). entries_in os handle) after ∙ (ap (λ (ps : List Placed). map (λ (p : Placed). p.entry) ps) same ∙ ap (λ (os : Table (List Placed)). entries_in os handle) (sym before))
 
-    standing_on : (file index handle version : ℕ) → handle < k.log.next_handle
+    pub standing_on : (file index handle version : ℕ) → handle < k.log.next_handle
         → (IsApart (IsLeaseOver w) k handle version (record { file = file; index = index }) → IsApart (IsLeaseOver then_) j handle version (record { file = file; index = index }))
         → IsStandingFor w k file index handle version → IsStandingFor then_ j file index handle version
     standing_on file index handle version used apart x =

@@ -24,7 +24,8 @@ use Rattle.protocol_name_laws.specs.NameTrails.{log_read, HasCall, IsActionOf, I
 use Rattle.protocol_name_laws.proofs.NameSteps.{stepped_at, look_effect, either}
 use Rattle.protocol_machine_laws.specs.ChunksAlike.{ChunkSides, NoneEnds}
 use Rattle.protocol_machine_laws.proofs.Closings.{after_both, lawful_both}
-use Rattle.protocol_whole_laws.specs.MasterSteps.{IsWhole, Comes, EndsAt, IsDueAt, recorded, RecordsAreTaken, HaveSameFiles, EndsAtChange, IsChangeDue, HasOpenedAt, HasFilesOf, AreChangesDue, WholeTrail, ChangesAreTaken, IsCopy}
+use Rattle.protocol_whole_laws.specs.MasterSteps.{IsWhole, Comes, EndsAt, IsDueAt, recorded, GoesAt, AreGoneBy, RecordsAreTaken, HaveSameFiles, EndsAtChange, GoesAtChange, IsChangeDue, HasOpenedAt, HasFilesOf, AreChangesDue, WholeTrail, ChangesAreTaken, IsCopy}
+use Rattle.protocol_whole_laws.proofs.GoneHandles.{goes_at, none_goes}
 use Rattle.protocol_whole_laws.proofs.MasterKept.{copies_may_come_and_go}
 use Rattle.protocol_whole_laws.proofs.MasterNames.{more_end, whole_call, ready_for, done_files, refused_files, plainly_taken, refused_taken, created, quiet_runs_are_taken}
 use Rattle.protocol_whole_laws.proofs.MasterSnapshots.{snapshot_taken_whole}
@@ -160,17 +161,25 @@ record IsTakenChange (d : LogDisk) (k : ChunkSides) (b : Machine) (x : LogChange
   comes : Comes (EndsAtChange d x) k j b
   is_log : j.log ≡ log_read (log_changed d x)
   same_orders : j.orders ≡ k.orders
+  goes : AreGoneBy (GoesAtChange d x) k j
   opened : HasOpenedAt j x
 
 change_taken : (d : LogDisk) (x : LogChange) (k : ChunkSides) (a b : Machine) → k.log ≡ log_read d → IsWhole k a → HasNamesOf k.log a → IsChangeOf a b x → IsChangeDue d k x → IsTakenChange d k b x
 change_taken d (AppendRecord r) k a b is h named change due =
     let taken : Taken k b r = records_are_taken k a b r h named change due in
-    record { j = recorded k r taken.0; comes = subst (λ (l : Logged). Comes (EndsAt l r) k (recorded k r taken.0) b) is taken.1; is_log = ap (λ (l : Logged). after_record l r) is ∙ sym (state-appended d r); same_orders = refl; opened = taken.2 }
+    record {
+      j = recorded k r taken.0;
+      comes = subst (λ (l : Logged). Comes (EndsAt l r) k (recorded k r taken.0) b) is taken.1;
+      is_log = ap (λ (l : Logged). after_record l r) is ∙ sym (state-appended d r);
+      same_orders = refl;
+      goes = subst (λ (l : Logged). AreGoneBy (GoesAt l r) k (recorded k r taken.0)) is (goes_at k.log k.gone r);
+      opened = taken.2;
+    }
 change_taken d (WriteCheckpoint items) k a b is h named change due =
     let l : Logged = log_read (log_changed d (WriteCheckpoint items)) in
     let j : ChunkSides = record k { log = l } in
     let one : Comes (IsCopy l) k j a = copies_may_come_and_go k a l h (subst (λ (x : Logged). HaveSameFiles x l) (sym is) due.0) in
-    record { j = j; comes = subst (λ (x : Machine). Comes NoneEnds k j x) change (more_end (IsCopy l) NoneEnds k j a due.1 one); is_log = refl; same_orders = refl; opened = tt }
+    record { j = j; comes = subst (λ (x : Machine). Comes NoneEnds k j x) change (more_end (IsCopy l) NoneEnds k j a due.1 one); is_log = refl; same_orders = refl; goes = none_goes (GoesAtChange d (WriteCheckpoint items)) k; opened = tt }
 
 module _ (requests : Requests) (first_names : Machine) (start : LogDisk) (later first : Machine) (orders : Table (List Placed)) where
   all_taken : (changes : List LogChange) (d : LogDisk) (k : ChunkSides) (n : Machine) → LeadsTo first k.machine → k.orders ≡ orders → IsWhole k n → k.log ≡ log_read d → HasNamesOf k.log n → HasFilesOf k.log n → NameTrail requests first_names start d n changes later
@@ -188,7 +197,7 @@ module _ (requests : Requests) (first_names : Machine) (start : LogDisk) (later 
       let named2 : HasNamesOf j.log b = subst (λ (l : Logged). HasNamesOf l b) (sym taken.is_log) (((trail.4).alike).names, ((trail.4).alike).next) in
       let has2 : HasFilesOf j.log b = subst (λ (l : Logged). HasFilesOf l b) (sym taken.is_log) ((trail.4).alike).files in
       let led2 : LeadsTo first j.machine = leads_then first k1.machine j.machine (taken.comes).actions led1 (taken.comes).lawful (taken.comes).leads in
-      (j, quiet.0, a, b, record { quiet = quiet.1; comes = taken.comes; log = taken.is_log; orders = taken.same_orders; opened = taken.opened; beside = trail.4 }, all_taken rest (log_changed d x) j b led2 (taken.same_orders ∙ same_orders) (taken.comes).whole taken.is_log named2 has2 trail.5 due.1)
+      (j, quiet.0, a, b, record { quiet = quiet.1; comes = taken.comes; log = taken.is_log; orders = taken.same_orders; gone = taken.goes; opened = taken.opened; beside = trail.4 }, all_taken rest (log_changed d x) j b led2 (taken.same_orders ∙ same_orders) (taken.comes).whole taken.is_log named2 has2 trail.5 due.1)
 
 pub changes_are_taken : ChangesAreTaken
 changes_are_taken requests first start d changes k n later h is named has trail due = all_taken requests first start later k.machine k.orders changes d k n ([], tt, refl) refl h is named has trail due

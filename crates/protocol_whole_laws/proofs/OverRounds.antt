@@ -368,7 +368,7 @@ rounds_that_end_stay_over config servers clients w r up e moment i event clocks 
     by_attempt (Some a) (Some row) at is = inl (attempted_chunks_have_no_lease config servers clients w r (kept config servers clients w r up e moment i event clocks choice) up handle a at row is).1
 
 -- what was granted is open in the end
-open_at_end : (j : ChunkSides) (handle version : ℕ) (xs : List LogChange) (d : LogDisk) → AreRoundsOpened d xs j → AreGrantsLast d xs → HasGrantRecord xs handle version → (s : Spot) × IsRoundOpen j handle version s
+pub open_at_end : (j : ChunkSides) (handle version : ℕ) (xs : List LogChange) (d : LogDisk) → AreRoundsOpened d xs j → AreGrantsLast d xs → HasGrantRecord xs handle version → (s : Spot) × IsRoundOpen j handle version s
 open_at_end j handle version [] d opened last has = absurd has
 open_at_end j handle version (x ∷ xs) d opened last (inr later) = open_at_end j handle version xs (log_changed d x) opened.1 last.1 later
 open_at_end j handle version (x ∷ xs) d opened last (inl now) = by_change x opened.0 last.0 now
@@ -393,7 +393,7 @@ steps_keep_rounds config servers clients w r up e moment i event clocks choice e
     ] in
     let new : NewRoundsAreOpen w (happens w e choice).world j =
     λ handle version before now. open_at_end j handle version changes w.master.disk end.4 last (sent_grants_are_logged config servers clients w r up moment i choice.refused handle version (granted_now handle version before now)) in
-    (j, end.1, end.2, end.3, rounds_go_with_leases config servers clients w r e choice (subst (λ (v : WorldState). IsTrue v.observer.are_clocks_kept) same (clocks_of (may_end goes_now Goes))) k j rounds over new)
+    (j, end.1, end.2, end.3, rounds_go_with_leases config servers clients w r e choice (subst (λ (v : WorldState). IsTrue v.observer.are_clocks_kept) same (clocks_of (may_end goes_now Goes))) k j rounds over new, end.5)
   where
     goes_now : MasterDoing
     goes_now = master_goes w.master moment i choice.refused

@@ -265,7 +265,7 @@ module _ (config : Config) (servers clients : ℕ) (w : WorldState) (r : world.I
     heard : IsSaid p.whole client s i
     heard = elim (firm_or_not i) [
       | inl firm ↦ by_input i refl firm
-      | inr loose ↦ asks.heard up ss k passed h leads chunks_passed p.run files_passed loose
+      | inr loose ↦ asks.heard up ss k passed h leads chunks_passed p.run files_passed adds_passed loose
     ]
       where
         by_input : (j : Input) → i ≡ j → IsFirmInput j → IsSaid p.whole client s j

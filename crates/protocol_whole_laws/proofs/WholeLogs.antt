@@ -9,6 +9,11 @@ use Rattle.protocol.specs.Logged.{Logged, Copy, LogDisk, all_copies_given_up}
 use Rattle.protocol.specs.Observer.{Placed}
 use Rattle.protocol.specs.Master.{MasterState, MasterDoing, master_begins}
 use Rattle.protocol.specs.MasterStep.{found_log, started_master, opening}
+use Rattle.gfs_types.specs.declared.config.Config.{Config}
+use Rattle.protocol.specs.Choice.{Choice}
+use Rattle.protocol.specs.World.{WorldState, IsReached}
+use Rattle.protocol_name_laws.specs.FollowedSteps.{opened}
+use Rattle.protocol_whole_laws.specs.RecordDues.{AreLogDues}
 use Rattle.protocol_laws.proofs.Steps.{none_some}
 use Rattle.protocol_laws.proofs.CopiesUnderWay.{no_copies}
 use Rattle.protocol_laws.proofs.ChunkRows.{rows_of}
@@ -116,6 +121,17 @@ opening_due first orders m found moment good =
     let again = checkpoint_due found (core_of d) n after in
     logs_alone (λ e. AreChangesDue first orders found e.changes) d (log.Epoch (suc d.master.logged.epoch)) tt (λ k q led is same h has. tt, tt) (λ k q led is same h has. again, tt)
     (λ k q led is same h has. again, (λ k q led is same h has. tt, tt))
+
+-- what it logs
+pub opening_dues : (config : Config) (servers clients : ℕ) (w : WorldState) → IsReached config servers clients w → (moment : ℕ) (choice : Choice) → AreLogDues (found_log w.master choice) (opened w.master moment choice).changes
+opening_dues config servers clients w r moment choice =
+    let found : LogDisk = found_log w.master choice in
+    let good : IsGood IsFoundRows IsRowedLog rows_kept found = (logged_here IsFoundRows IsRowedLog rows_kept config servers clients w r).1.found choice.decided in
+    let d : MasterDoing = master_begins (started_master w.master.config w.master.server_count found moment) [] in
+    let n : IsRowing found (core_of d) = opening_first IsFoundRows IsRowedLog rows_kept w.master.config w.master.server_count found moment good in
+    let after : IsRowing found (core_checkpointed (core_of d)) = (rowing_keeps found).checkpoint (core_of d) (λ _. good.0) n in
+    let again = checkpoint_due found (core_of d) n after in
+    logs_alone (λ e. AreLogDues found e.changes) d (log.Epoch (suc d.master.logged.epoch)) tt (tt, tt) (again, tt) (again, (tt, tt))
 
 pub restarts_are_taken : RestartsAreTaken
 restarts_are_taken config servers clients w r moment choice n requests k a is h =

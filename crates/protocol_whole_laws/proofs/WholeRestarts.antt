@@ -13,11 +13,12 @@ use Rattle.protocol_laws.specs.Laws.{grants_of}
 use Rattle.protocol_laws.proofs.Steps.{on_cond}
 use Rattle.protocol_laws.proofs.MasterMoves.{logs_alone}
 use Rattle.protocol_step_laws.specs.Versions.{AreLeasesOver}
+use Rattle.protocol_invariant.specs.Actions.{Spot}
 use Rattle.protocol_machine_laws.specs.ChunksAlike.{KeepsRounds}
 use Rattle.protocol_machine_laws.specs.OpenRounds.{NewRoundsAreOpen}
 use Rattle.protocol_machine_laws.proofs.OpenRounds.{rounds_go_with_leases}
-use Rattle.protocol_whole_laws.specs.WholeSteps.{EndsAlong}
-use Rattle.protocol_whole_laws.specs.OverRounds.{OpeningsEndNoRound, RestartsKeepRounds}
+use Rattle.protocol_whole_laws.specs.WholeSteps.{EndsAlong, GoesAlong}
+use Rattle.protocol_whole_laws.specs.OverRounds.{OpeningsEndNoRound, OpeningsExpireNothing, RestartsKeepRounds}
 use Rattle.protocol_whole_laws.proofs.OverRounds.{append_nil}
 
 pub openings_end_no_round : OpeningsEndNoRound
@@ -26,6 +27,13 @@ openings_end_no_round m moment choice =
     let d : MasterDoing = master_begins (started_master m.config m.server_count found moment) [] in
     logs_alone (λ e. (handle : ℕ) → EndsAlong found e.changes handle → ⊥) d (log.Epoch (suc d.master.logged.epoch)) (λ handle over. over) (λ handle over. elim over [ inl now ↦ now | inr none ↦ none ]) (λ handle over. elim over [ inl now ↦ now | inr none ↦ none ])
     (λ handle over. elim over [ inl now ↦ now | inr later ↦ elim later [ inl now ↦ now | inr none ↦ none ] ])
+
+pub openings_expire_nothing : OpeningsExpireNothing
+openings_expire_nothing m moment choice =
+    let found : LogDisk = found_log m choice in
+    let d : MasterDoing = master_begins (started_master m.config m.server_count found moment) [] in
+    logs_alone (λ e. (handle : ℕ) (s : Spot) → GoesAlong found e.changes handle s → ⊥) d (log.Epoch (suc d.master.logged.epoch)) (λ handle s goes. goes) (λ handle s goes. elim goes [ inl now ↦ now | inr none ↦ none ])
+    (λ handle s goes. elim goes [ inl now ↦ now | inr none ↦ none ]) (λ handle s goes. elim goes [ inl now ↦ now | inr later ↦ elim later [ inl now ↦ now | inr none ↦ none ] ])
 
 -- what opens sends nothing
 opening_quiet : (old m : MasterState) (d : MasterDoing) (choice : Choice) (e : Ending) → (opens_as old m d choice e).out.sent ≡ []

@@ -17,7 +17,7 @@ use Rattle.protocol.specs.Observer.{Placed, placed_in}
 use Rattle.protocol.specs.MasterStep.{master_goes}
 use Rattle.protocol.specs.World.{WorldState, IsReached}
 use Rattle.protocol_laws.proofs.Steps.{none_some}
-use Rattle.protocol_laws.proofs.OrderNumbers.{state-appended}
+use Rattle.protocol_laws.proofs.OrderNumbers.{AllStops, state-appended}
 use Rattle.protocol_laws.proofs.LoggedParts.{Parts}
 use Rattle.protocol_laws.proofs.NamesReached.{logged_reached}
 use Rattle.protocol_laws.proofs.RowsLogged.{IsFoundRows, IsRowedLog}
@@ -84,6 +84,14 @@ numbered_on : (d : LogDisk) (x : LogChange) (m n : Machine) → IsChangeOf m n x
 numbered_on d (AppendRecord r) m n (inl about) due = subst (λ (l : Logged). (log_read d).next_handle ≤ l.next_handle) (sym (state-appended d r)) (chunk_handles (log_read d) r about.0)
 numbered_on d (AppendRecord r) m n (inr action) due = subst (λ (l : Logged). (log_read d).next_handle ≤ l.next_handle) (sym (state-appended d r)) (action_handles (log_read d) m r action.0 action.2)
 numbered_on d (WriteCheckpoint items) m n is due = (due.0).next_handle
+
+-- so along a step, wherever it stops
+pub all_numbered : (requests : Requests) (first : Machine) (start : LogDisk) (later : Machine) (changes : List LogChange) (d : LogDisk) (n : Machine) (low : ℕ) → low ≤ (log_read d).next_handle → NameTrail requests first start d n changes later → AreLogDues d changes
+    → AllStops (λ l. low ≤ (log_read l).next_handle) d changes
+all_numbered requests first start later [] d n low is trail dues = is
+all_numbered requests first start later (x ∷ rest) d n low is trail dues =
+    let more = numbered_on d x trail.0 trail.1 trail.3 dues.0 in
+    (is, all_numbered requests first start later rest (log_changed d x) trail.1 low (omega (arith, is, more)) trail.5 dues.1)
 
 -- a copy that is granted comes after its source, whose entries it has
 abbrev DoesCopyFollow : Table (List Placed) → Logged → ℕ → ℕ → Type 0

@@ -63,7 +63,7 @@ new_files config count = λ index s at up.
 
 new_requests : (config : Config) (servers clients : ℕ) → AreRequestsNumbered config (new_world config servers clients) (new_machine config)
 new_requests config servers clients = (
-  record { servers = servers; clients = clients; steps = []; leads = refl; each = λ client place x at from. none_some x at },
+  record { servers = servers; clients = clients; steps = []; leads = refl; each = λ client place x at from. none_some x at; refused = λ index number place s x y at up current staged none. none_some y none },
   λ file index client made. ([], tt, tt, omega arith),
 )
 

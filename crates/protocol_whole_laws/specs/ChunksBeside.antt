@@ -13,11 +13,12 @@ use Rattle.protocol_step_laws.specs.Versions.{IsLeaseOver}
 use Rattle.protocol_machine_laws.specs.ChunksAlike.{ChunkSides, AreChunksAlike, KeepsRounds, HasRounds, moved}
 use Rattle.protocol_whole_laws.specs.Rounds.{IsLogOf, IsMastersStep, IsEnded, SentGrantsAreOpen}
 use Rattle.protocol_whole_laws.specs.ServerSteps.{is_of_entries, AreForOpenCalls, AreGoneOrdersAlike}
+use Rattle.protocol_whole_laws.specs.ShownChunks.{AreShownStanding}
 use Rattle.protocol_whole_laws.specs.ToldHolders.{AreHoldersTold, HoldersMayGoOn}
 use Rattle.protocol_whole_laws.specs.ToldRounds.{AreToldRounds}
 use Rattle.protocol_whole_laws.specs.Tries.{AddsNumberedTries}
 
--- The machine's chunks are those of the master's log, with the orders that are seen; also of handles that are gone; the round of each lease that isn't over is open, and so is each that was told, in the file's chunk of its index; and each holder that was told may be read.
+-- The machine's chunks are those of the master's log, with the orders that are seen; also of handles that are gone; the round of each lease that isn't over is open, and so is each that was told, in the file's chunk of its index; each holder that was told may be read; and each chunk that is shown stands for the machine's.
 pub record AreChunksBeside (config : Config) (w : WorldState) (k : ChunkSides) : Type 0 where
   pub settings : k.machine.config ≡ config
   pub log : IsLogOf w.master k.log
@@ -27,6 +28,7 @@ pub record AreChunksBeside (config : Config) (w : WorldState) (k : ChunkSides) :
   pub told : AreToldRounds w k
   pub gone : AreGoneOrdersAlike k
   pub holders : AreHoldersTold w k
+  pub shown : AreShownStanding w k
 
 -- So it is of a new cell and a new machine.
 abbrev pub NewChunksAreBeside : Type 0

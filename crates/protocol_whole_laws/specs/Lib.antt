@@ -17,6 +17,7 @@ pub mod RecordDues
 pub mod Rounds
 pub mod SentRequests
 pub mod ServerSteps
+pub mod ShownChunks
 pub mod ToldHolders
 pub mod ToldRounds
 pub mod Tries

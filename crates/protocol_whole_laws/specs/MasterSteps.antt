@@ -98,6 +98,15 @@ abbrev pub gone_at : Logged → (ℕ → Option Spot) → Record → (ℕ → Op
 gone_at l gone (log.Expired file) = gone_after file.0 (handles_of l.table file.0) gone
 gone_at l gone other = gone
 
+-- where a handle stands that may go at a record: as a file expires
+abbrev pub GoesAt : Logged → Record → ℕ → Spot → Type 0
+GoesAt l (log.Expired file) handle s = StandsAt l.table handle s
+GoesAt l other handle s = ⊥
+
+-- each handle that is gone was gone from its spot before, or goes from there
+abbrev pub AreGoneBy : (ℕ → Spot → Type 0) → ChunkSides → ChunkSides → Type 0
+AreGoneBy Goes k j = (handle : ℕ) (s : Spot) → j.gone handle ≡ Some s → (k.gone handle ≡ Some s) ⊎ Goes handle s
+
 -- the round of a Grant is open
 abbrev pub HasOpened : ChunkSides → Record → Type 0
 HasOpened j (log.Grant handle version primary members) = (s : Spot) × IsRoundOpen j handle.0 version.0 s
@@ -138,6 +147,11 @@ abbrev pub EndsAtChange : LogDisk → LogChange → ℕ → Type 0
 EndsAtChange d (AppendRecord r) = EndsAt (log_read d) r
 EndsAtChange d (WriteCheckpoint items) = NoneEnds
 
+-- where handles stand that may go at a change of the log
+abbrev pub GoesAtChange : LogDisk → LogChange → ℕ → Spot → Type 0
+GoesAtChange d (AppendRecord r) handle s = GoesAt (log_read d) r handle s
+GoesAtChange d (WriteCheckpoint items) handle s = ⊥
+
 -- what a change asks of the sides; of a checkpoint, that the log says the same after it
 abbrev pub IsChangeDue : LogDisk → ChunkSides → LogChange → Type 0
 IsChangeDue d k (AppendRecord r) = IsDueAt k r
@@ -164,6 +178,7 @@ pub record IsTaken (requests : Requests) (first : Machine) (start d : LogDisk) (
   pub comes : Comes (EndsAtChange d x) (record k { machine = m }) j b
   pub log : j.log ≡ log_read (log_changed d x)
   pub orders : j.orders ≡ k.orders
+  pub gone : AreGoneBy (GoesAtChange d x) k j
   pub opened : HasOpenedAt j x
   pub beside : IsBesideLog requests first start (log_changed d x) b
 

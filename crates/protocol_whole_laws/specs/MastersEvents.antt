@@ -1,23 +1,16 @@
 -- What an event of the master asks beside the log: of chunks that it offers, of copies, and of handles that are gone (sections 2.7, 3.1 and 3.4).
 use Rattle.std.specs.Prelude.{◌≡◌, ◌⊎◌, ℕ, Bool, true, false, List, ◌++◌, Some, IsTrue}
 use Rattle.std.specs.List.{list_all}
-use Rattle.gfs_types.specs.declared.ids.Handle.{Handle}
-use Rattle.messages.specs.declared.event.Event.{Event}
-use Rattle.messages.specs.declared.event.Input.{Input}
 use Rattle.messages.specs.declared.message.Message.{Message}
 use Rattle.relaxed_file.specs.Machine.{Machine}
 use Rattle.relaxed_file.specs.Run.{Action, Tell, IsLawful, after_all}
-use Rattle.protocol.specs.Choice.{Choice, decided_changes}
-use Rattle.protocol.specs.declared.seen.Seen.TheVariants.{CopyStarted}
-use Rattle.protocol.specs.Tables.{element_at}
+use Rattle.protocol.specs.Choice.{decided_changes}
 use Rattle.protocol.specs.Logged.{log_changed_by_all}
-use Rattle.protocol.specs.MasterStep.{master_goes}
 use Rattle.protocol.specs.World.{WorldState}
 use Rattle.protocol_step_laws.specs.Versions.{AreLeasesOver}
 use Rattle.protocol_name_laws.specs.NameTrails.{log_read}
 use Rattle.protocol_invariant.specs.Actions.{Spot}
 use Rattle.protocol_machine_laws.specs.ChunksAlike.{ChunkSides, StandsAt}
-use Rattle.protocol_whole_laws.specs.Rounds.{IsMastersInput}
 use Rattle.protocol_whole_laws.specs.MasterSteps.{IsCopy}
 use Rattle.protocol_whole_laws.specs.WholeWorlds.{AreWordsSo}
 
@@ -37,12 +30,6 @@ pub record AreOffersSo (w then_ : WorldState) (m : Machine) : Type 0 where
 abbrev pub AreCopiesOver : WorldState → Type 0
 AreCopiesOver w =
     (decided : List Bool) (handle : ℕ) → IsCopy (log_read (log_changed_by_all w.master.disk (decided_changes decided w.master.under_way))) handle → AreLeasesOver w handle
-
--- A copy that begins in a step is under way after it.
-abbrev pub AreBegunUnderWay : WorldState → Event → Choice → Type 0
-AreBegunUnderWay w e choice =
-    (moment : ℕ) (i : Input) → IsMastersInput w e moment i → IsTrue w.master.up → (place : ℕ) (source copy : Handle)
-    → element_at (master_goes w.master moment i choice.refused).seen place ≡ Some (CopyStarted source copy) → IsCopy (master_goes w.master moment i choice.refused).master.logged copy.0
 
 -- Where a handle stood that is gone, it stood so before already, or stands in the log before.
 abbrev pub IsGoneFrom : ChunkSides → ChunkSides → Type 0

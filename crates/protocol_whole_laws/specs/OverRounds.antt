@@ -21,9 +21,10 @@ use Rattle.protocol_step_laws.specs.Versions.{IsLeaseOver, AreLeasesOver}
 use Rattle.protocol_name_laws.specs.Alike.{Requests}
 use Rattle.protocol_name_laws.specs.FollowedSteps.{log_left, opened}
 use Rattle.protocol_name_laws.specs.NameTrails.{log_read, IsBesideLog}
+use Rattle.protocol_invariant.specs.Actions.{Spot}
 use Rattle.protocol_machine_laws.specs.ChunksAlike.{ChunkSides, HasRounds}
-use Rattle.protocol_whole_laws.specs.MasterSteps.{IsWhole, Comes, WholeTrail}
-use Rattle.protocol_whole_laws.specs.WholeSteps.{EndsAlong, IsLeftAt}
+use Rattle.protocol_whole_laws.specs.MasterSteps.{IsWhole, Comes, AreGoneBy, WholeTrail}
+use Rattle.protocol_whole_laws.specs.WholeSteps.{EndsAlong, GoesAlong, IsLeftAt}
 
 -- the event is a step of the master that takes this
 abbrev pub IsMastersEvent : WorldState → Event → ℕ → Input → Type 0
@@ -60,7 +61,7 @@ StoppedStepsKeepRounds =
     → IsTrue (passed w moment).observer.are_clocks_kept → (choice : Choice) (made : ℕ) → choice.ending ≡ Stops made
     → (requests : Requests) (k : ChunkSides) (n later : Machine) → IsWhole k n → IsBesideLog requests n w.master.disk w.master.disk n → k.log ≡ log_read w.master.disk → HasRounds (IsLeaseOver w) k
     → WholeTrail requests n w.master.disk w.master.disk k (master_goes w.master moment i choice.refused).changes later → (decided : List Bool)
-    → (left : IsLeftAt requests n w.master.disk k (EndsAlong w.master.disk (master_goes w.master moment i choice.refused).changes) (log_left w.master.disk (master_goes w.master moment i choice.refused).changes made decided))
+    → (left : IsLeftAt requests n w.master.disk k (EndsAlong w.master.disk (master_goes w.master moment i choice.refused).changes) (GoesAlong w.master.disk (master_goes w.master moment i choice.refused).changes) (log_left w.master.disk (master_goes w.master moment i choice.refused).changes made decided))
     × HasRounds (IsLeaseOver (happens w e choice).world) left.sides
 
 -- what is granted by a change doesn't end along those that follow
@@ -92,10 +93,15 @@ StepsKeepRounds =
     → WholeTrail requests n w.master.disk w.master.disk k (master_goes w.master moment i choice.refused).changes later
     → (j : ChunkSides) × (j.log ≡ log_read (log_changed_by_all w.master.disk (master_goes w.master moment i choice.refused).changes)) × (j.orders ≡ k.orders)
     × Comes (EndsAlong w.master.disk (master_goes w.master moment i choice.refused).changes) k j later × HasRounds (IsLeaseOver (happens w e choice).world) j
+    × AreGoneBy (GoesAlong w.master.disk (master_goes w.master moment i choice.refused).changes) k j
 
 -- The opening of a restart ends no round.
 abbrev pub OpeningsEndNoRound : Type 0
 OpeningsEndNoRound = (m : MasterState) (moment : ℕ) (choice : Choice) (handle : ℕ) → EndsAlong (found_log m choice) (opened m moment choice).changes handle → ⊥
+
+-- Nor does it let a file expire.
+abbrev pub OpeningsExpireNothing : Type 0
+OpeningsExpireNothing = (m : MasterState) (moment : ℕ) (choice : Choice) (handle : ℕ) (s : Spot) → GoesAlong (found_log m choice) (opened m moment choice).changes handle s → ⊥
 
 -- the event is a restart of the master
 abbrev pub IsRestart : WorldState → Event → ℕ → Choice → Type 0

@@ -1,12 +1,14 @@
 -- What clients asked of the master and of primaries is of their calls at the machine, also of clients that are down since: for which call, in which file, and for which part of it (sections 2.4, 3.1 and 3.3).
-use Rattle.std.specs.Prelude.{◌≡◌, ℕ, suc, ◌*◌, ◌≤◌, List, length, Some, IsTrue, IsFalse}
+use Rattle.std.specs.Prelude.{◌≡◌, ℕ, suc, ◌*◌, ◌≤◌, List, [], length, Option, Some, IsTrue, IsFalse}
 use Rattle.gfs_types.specs.declared.call.Call.{Call}
 use Rattle.gfs_types.specs.declared.call.Call.TheVariants as call
 use Rattle.gfs_types.specs.declared.config.Config.{Config}
 use Rattle.gfs_types.specs.declared.ids.DataId.{DataId}
 use Rattle.gfs_types.specs.declared.ids.Handle.{Handle}
 use Rattle.gfs_types.specs.declared.ids.Moment.{Moment}
+use Rattle.gfs_types.specs.declared.ids.Node.TheVariants.{Master}
 use Rattle.gfs_types.specs.declared.ids.Version.{Version}
+use Rattle.gfs_types.specs.declared.refusal.Refusal.TheVariants.{TooLong}
 use Rattle.messages.specs.declared.event.Event.{Event}
 use Rattle.messages.specs.declared.message.Body.{Body}
 use Rattle.messages.specs.declared.message.Body.TheVariants as body
@@ -19,10 +21,14 @@ use Rattle.relaxed_file.specs.Order.{CallId}
 use Rattle.relaxed_file.specs.Parts.{has_part, part_start, is_range_too_long}
 use Rattle.relaxed_file.specs.Machine.{Machine, Asked, chunk_size, chunk_at}
 use Rattle.relaxed_file.specs.Chunks.{AreEarlierPartsSettled, tries_in}
+use Rattle.relaxed_file.specs.Answers.{is_too_long}
+use Rattle.client_state.specs.declared.call.CurrentCall.{CurrentCall}
+use Rattle.client_state.specs.declared.call.Stage.TheVariants.{AskedWhere}
 use Rattle.protocol.specs.Tables.{element_at}
 use Rattle.protocol.specs.Sending.{the_client}
 use Rattle.protocol.specs.Choice.{Choice}
-use Rattle.protocol.specs.Observer.{Placed, order_of}
+use Rattle.protocol.specs.Client.{ClientState}
+use Rattle.protocol.specs.Observer.{Placed, order_of, calls_made}
 use Rattle.protocol.specs.World.{WorldState, new_world, after_events}
 use Rattle.protocol_step_laws.specs.FewAttempts.{WasAsked, part_of, EachOf, AreApart}
 use Rattle.protocol_entry_laws.specs.Entries.{IsAmong, IsPushed}
@@ -84,13 +90,26 @@ IsRequestOf start steps m client other = Unit {0}
 abbrev pub AreRequestsOf : WorldState → List (Event × Choice) → Machine → Type 0
 AreRequestsOf start steps m = (client place : ℕ) (x : Message) → element_at (after_events start steps).sent place ≡ Some x → x.sender ≡ the_client client → IsRequestOf start steps m client x.body
 
--- A world with a list of events that led to it, in which all that clients asked for is of their calls at the machine. A client that is down has nothing of its call any more, and its attempts may still be numbered.
+-- The range of a call that was refused for its length is too long at the machine; none of its attempts is live, and in these steps its client asked no primary for it.
+pub record IsRefusedCall (start : WorldState) (steps : List (Event × Choice)) (m : Machine) (index : ℕ) (x : CurrentCall) : Type 0 where
+  pub long : (asked : Asked) → (m.clients (suc index)).calls (calls_made (after_events start steps).observer.trace (suc index)) ≡ Some asked → IsTrue (is_too_long m.config.chunk asked.chunks_before asked.call)
+  pub none_live : x.live ≡ []
+  pub none_asked : (part : Option ℕ) (number : ℕ) → WasAsked index start steps (calls_made (after_events start steps).observer.trace (suc index)) part number → ⊥
+
+-- So it is where a client that is up waits for the answer to an ask, and the master refused the ask for its length.
+abbrev pub AreRefusalsFor : WorldState → List (Event × Choice) → Machine → Type 0
+AreRefusalsFor start steps m =
+    (index number place : ℕ) (s : ClientState) (x : CurrentCall) (y : Message) → element_at (after_events start steps).clients index ≡ Some s → IsTrue s.up → s.current ≡ Some x → x.stage ≡ AskedWhere number
+    → element_at (after_events start steps).sent place ≡ Some y → y.sender ≡ Master → y.receiver ≡ the_client (suc index) → y.body ≡ body.Refused number TooLong → IsRefusedCall start steps m index x
+
+-- A world with a list of events that led to it, in which all that clients asked for is of their calls at the machine, and what was refused for its length is too long. A client that is down has nothing of its call any more, and its attempts may still be numbered.
 pub record AreRequestsOfCalls (config : Config) (w : WorldState) (m : Machine) : Type 0 where
   pub servers : ℕ
   pub clients : ℕ
   pub steps : List (Event × Choice)
   pub leads : after_events (new_world config servers clients) steps ≡ w
   pub each : AreRequestsOf (new_world config servers clients) steps m
+  pub refused : AreRefusalsFor (new_world config servers clients) steps m
 
 -- An entry of this number in some chunk's order, no pad, of this call of the client: placed by its Mutate for a chunk that was told at this index.
 pub record IsTryAt (w : WorldState) (client made index number : ℕ) : Type 0 where

@@ -24,6 +24,7 @@ use Rattle.protocol_whole_laws.specs.ServerSteps.{AreForOpenCalls}
 use Rattle.protocol_whole_laws.specs.ChunksBeside.{AreChunksBeside}
 use Rattle.protocol_whole_laws.specs.FileClients.{IsSaid, IsFollowed}
 use Rattle.protocol_whole_laws.specs.FileClientsStay.{IsFirm, IsFirmInput}
+use Rattle.protocol_whole_laws.specs.Tries.{AddsNumberedTries}
 use Rattle.protocol_whole_laws.specs.WholeWorlds.{AreWordsSo, AreFileClients, IsBeside, RequestsStayNumbered, IsWholeWorld}
 
 -- the event gives the client this input at this moment
@@ -41,7 +42,8 @@ pub record AreClientsTrue (config : Config) (w then_ : WorldState) (index moment
   pub numbers : (ss : List PendingSnapshot) (k : ChunkSides) → IsBeside config w ss k → AreForOpenCalls w k
   pub requests : RequestsStayNumbered config w then_
   pub heard : IsTrue s.up → (ss : List PendingSnapshot) (k j : ChunkSides) → IsBeside config w ss k → LeadsTo k.machine j.machine → AreChunksBeside config then_ j
-      → IsRunTo config (observed_moment w.config.skew_ms w.observer moment).trace j.machine → AreFileClients w.clients j.machine → (IsFirmInput i → ⊥) → IsSaid j.machine (suc index) s i
+      → IsRunTo config (observed_moment w.config.skew_ms w.observer moment).trace j.machine → AreFileClients w.clients j.machine → AddsNumberedTries w then_ k j.machine → (IsFirmInput i → ⊥)
+      → IsSaid j.machine (suc index) s i
   pub waits : IsTrue s.up → (ss : List PendingSnapshot) (k : ChunkSides) (m : Machine) → IsBeside config w ss k → LeadsTo k.machine m → AreFileClients w.clients m → AreWordsSo w.sent w.clients m
       → IsFollowed m (suc index) (client_goes s moment i) → (f : IsFollowed m (suc index) (client_goes s moment i)) × AreOwnWordsSo w.sent (after_all m f.actions) index (client_goes s moment i).client
   pub says : (more : List Message) → then_.sent ≡ w.sent ++ more → (m : Machine) → AreWordsSo more then_.clients m

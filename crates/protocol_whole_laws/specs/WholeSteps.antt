@@ -24,7 +24,7 @@ use Rattle.protocol_name_laws.specs.FollowedSteps.{ComesTo, IsAtStep, IsInputOfO
 use Rattle.protocol_name_laws.specs.NameTrails.{log_read, IsBesideLog}
 use Rattle.protocol_machine_laws.specs.ChunksAlike.{ChunkSides, IsRoundOpen}
 use Rattle.protocol_invariant.specs.Actions.{Spot}
-use Rattle.protocol_whole_laws.specs.MasterSteps.{IsWhole, Comes, EndsAtChange, HaveSameFiles, HasFilesOf, WholeTrail}
+use Rattle.protocol_whole_laws.specs.MasterSteps.{IsWhole, Comes, EndsAtChange, GoesAtChange, AreGoneBy, HaveSameFiles, HasFilesOf, WholeTrail}
 
 -- A call asks for the chunk: whichever whole machine, of those that the first one leads to, goes beside the log then, it may add it.
 abbrev pub IsChunkAskedFor : Machine → Table (List Placed) → Logged → ℕ → Type 0
@@ -81,6 +81,11 @@ abbrev pub EndsAlong : LogDisk → List LogChange → ℕ → Type 0
 EndsAlong d [] handle = ⊥
 EndsAlong d (x ∷ rest) handle = EndsAtChange d x handle ⊎ EndsAlong (log_changed d x) rest handle
 
+-- where handles stand that may go at some of these changes, as the log is then
+abbrev pub GoesAlong : LogDisk → List LogChange → ℕ → Spot → Type 0
+GoesAlong d [] handle s = ⊥
+GoesAlong d (x ∷ rest) handle s = GoesAtChange d x handle s ⊎ GoesAlong (log_changed d x) rest handle s
+
 -- the round of each Grant among these is open, or may end at a later one
 abbrev pub IsOpenOrEnds : ChunkSides → LogDisk → List LogChange → LogChange → Type 0
 IsOpenOrEnds j d rest (AppendRecord (log.Grant handle version primary members)) = EndsAlong d rest handle.0 ⊎ ((s : Spot) × IsRoundOpen j handle.0 version.0 s)
@@ -91,28 +96,29 @@ AreRoundsOpened d [] j = Unit {0}
 AreRoundsOpened d (x ∷ rest) j = IsOpenOrEnds j (log_changed d x) rest x × AreRoundsOpened (log_changed d x) rest j
 
 -- The whole machine beside a log that a stop leaves, with the machine by names alone there.
-pub record IsLeftAt (requests : Requests) (first : Machine) (start : LogDisk) (k : ChunkSides) (Ends : ℕ → Type 0) (left : LogDisk) : Type 0 where
+pub record IsLeftAt (requests : Requests) (first : Machine) (start : LogDisk) (k : ChunkSides) (Ends : ℕ → Type 0) (Goes : ℕ → Spot → Type 0) (left : LogDisk) : Type 0 where
   pub names : Machine
   pub beside : IsBesideLog requests first start left names
   pub sides : ChunkSides
   pub log : sides.log ≡ log_read left
   pub orders : sides.orders ≡ k.orders
   pub comes : Comes Ends k sides names
+  pub gone : AreGoneBy Goes k sides
 
 -- Wherever the step stops, and however it is decided what was under way, the whole machine goes beside the log that is left.
 abbrev pub StopsAreTaken : Type 0
 StopsAreTaken =
     (requests : Requests) (first : Machine) (start d : LogDisk) (changes : List LogChange) (k : ChunkSides) (n later : Machine)
     → IsWhole k n → IsBesideLog requests first start d n → k.log ≡ log_read d → WholeTrail requests first start d k changes later
-    → (made : ℕ) (decided : List Bool) → IsLeftAt requests first start k (EndsAlong d changes) (log_left d changes made decided)
+    → (made : ℕ) (decided : List Bool) → IsLeftAt requests first start k (EndsAlong d changes) (GoesAlong d changes) (log_left d changes made decided)
 
--- After all changes the whole machine is beside the last log, and each round that was granted on the way is open, or ends later on the way.
+-- After all changes the whole machine is beside the last log, each round that was granted on the way is open, or ends later on the way, and handles that are gone went on the way or before.
 abbrev pub EndsAreReached : Type 0
 EndsAreReached =
     (requests : Requests) (first : Machine) (start d : LogDisk) (changes : List LogChange) (k : ChunkSides) (n later : Machine)
     → IsWhole k n → k.log ≡ log_read d → WholeTrail requests first start d k changes later
     → (j : ChunkSides) × (j.log ≡ log_read (log_changed_by_all d changes)) × (j.orders ≡ k.orders) × Comes (EndsAlong d changes) k j later
-    × AreRoundsOpened d changes j
+    × AreRoundsOpened d changes j × AreGoneBy (GoesAlong d changes) k j
 
 -- At a restart the whole machine that is beside the log which was decided goes beside each log that the opening makes of it.
 abbrev pub RestartsAreTaken : Type 0

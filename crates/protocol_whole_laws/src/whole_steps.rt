@@ -1,6 +1,6 @@
 //! Laws of the whole machine beside a whole step of the master in a reached world, its stops and its restarts.
 
-ghost use Rattle.protocol_whole_laws.specs.OverRounds.{GrantsAreLast, MastersEventsAreSteps, OpeningsEndNoRound, RestartsKeepRounds, RoundsThatEndAreOver, RoundsThatEndStayOver, StepsKeepRounds, StoppedStepsKeepRounds};
+ghost use Rattle.protocol_whole_laws.specs.OverRounds.{GrantsAreLast, MastersEventsAreSteps, OpeningsEndNoRound, OpeningsExpireNothing, RestartsKeepRounds, RoundsThatEndAreOver, RoundsThatEndStayOver, StepsKeepRounds, StoppedStepsKeepRounds};
 ghost use Rattle.protocol_whole_laws.specs.WholeSteps.{EndsAreReached, MasterStepsAreTaken, OnlyAsksAddChunks, RestartsAreTaken, StatesHaveTheirLogsFiles, StopsAreTaken};
 
 /// A step of the master: the whole machine follows each change of its log, where calls asked for the chunks that are added.
@@ -61,6 +61,11 @@ pub fn masters_events_are_steps()
 /// The opening of a restart ends no round.
 pub fn openings_end_no_round()
     ensures { OpeningsEndNoRound }
+{}
+
+/// Nor does it let a file expire.
+pub fn openings_expire_nothing()
+    ensures { OpeningsExpireNothing }
 {}
 
 /// So the round of each lease that isn't over stays open at a restart of the master.
