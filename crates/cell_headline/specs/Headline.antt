@@ -32,16 +32,6 @@ StepsAsMachine old event answer new =
     (config : Config) (servers clients : ℕ) (w : WorldState) → IsReached config servers clients w → IsHeldAs w old
     → (choice : Choice) × ((happens w event choice).out.answer ≡ answer) × IsHeldAs (happens w event choice).world new × IsMachineRun config (happens w event choice).world
 
--- There is such a world: each cell has come from a new one by lawful events.
-pub record HasMachineRun (h : HeldCell) : Type 0 where
-  pub config : Config
-  pub servers : ℕ
-  pub clients : ℕ
-  pub world : WorldState
-  pub reached : IsReached config servers clients world
-  pub held : IsHeldAs world h
-  pub explained : IsMachineRun config world
-
 -- What users rely on: in each such world a run that explains it keeps all promises, in the words of the calls and answers so far.
 abbrev pub ArePromisesKept : HeldCell → Type 0
 ArePromisesKept h =
