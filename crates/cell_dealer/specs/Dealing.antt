@@ -30,9 +30,3 @@ pub record IsDealt (config : Config) (servers : ℕ) (node : Node) (v : View) (n
   pub clients_are : w.of.clients ≡ 64
   pub mine : w.mine ≡ []
   pub seen : w.seen ≡ v.seen
-
--- the journal was seen, and has no step of the nodes that are still to come
-pub record IsSeenBy (servers dealt : ℕ) (v : View) (beginning : Listed Entry) (count : ℕ) : Type 0 where
-  pub seen : IsSeen v beginning count
-  pub lawful : IsJournalOf v.of v.seen
-  pub none : (n : Node) → dealt ≤ number_of servers n → own n v.seen ≡ []

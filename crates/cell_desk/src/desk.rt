@@ -22,13 +22,23 @@ use std::sync::{Arc, Wait};
 use std::time::Clock;
 
 /// A place at the journal, and the node that it writes for.
-#[derive(Drop)]
 pub struct Desk {
     pub hall: Arc<Hall>,
     pub node: Node,
     pub place: Place,
     pub ghost here: { IsAt (arc_value hall).table.shared.table_id place.table_id },
     pub ghost own: { IsPlaceOf node place.me },
+}
+
+// Stands here, once, so that no crate above proves the drops of all that the nodes share.
+impl Drop for Desk {
+    fn drop(self) {
+        let Self {
+            hall: _hall,
+            node: _,
+            place: _place,
+        } = self;
+    }
 }
 
 impl Desk {
@@ -105,11 +115,12 @@ impl Desk {
 
 // Gives the network the numbers of a step's messages, which follow those that were sent before.
 fn post_all(rt: &impl Wait, hall: &Hall, receivers: &Vec<Node>, sent_before: u128) {
+    let policy = hall.asked.policy();
     let mut number = sent_before;
     for to in receivers.as_slice() {
         number = number.saturating_add(1);
         if let Ok(number) = u64::try_from(number) {
-            hall.post.deliver(rt, *to, number);
+            hall.post.deliver(rt, policy, *to, number);
         }
     }
 }

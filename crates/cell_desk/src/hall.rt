@@ -3,6 +3,7 @@
 ghost use Rattle.std.specs.Prelude.{◌≡◌, ◌≤◌, IfSome};
 ghost use Rattle.protocol.specs.Tables.{moment_limit};
 
+use crate::asked::Asked;
 use crate::post::Post;
 use gfs_types::ids::{MAX_MOMENT, Moment};
 use journal_calls::JournalTable;
@@ -12,17 +13,31 @@ use std::time::{Clock, Duration};
 /// How many clients a cell may have.
 pub const MOST_CLIENTS: u64 = 64;
 
-/// The journal, the mailboxes, and the moment at which the cell began.
-#[derive(Drop)]
+/// The journal, the mailboxes, what is asked from outside, and the moment at which the cell began.
 pub struct Hall {
     pub table: JournalTable,
     pub post: Post,
+    pub asked: Asked,
     pub began: Duration,
     /// Which clients are in a call, by their bits.
     pub calling: AtomicU64,
     /// 1 once the cell closes.
     pub closing: AtomicU64,
     pub ghost one: { (table.shared.table_id.words ≡ 1) × (table.shared.table_id.slots ≡ 1) },
+}
+
+// Stands here, once, so that no crate above proves the drops of all that the nodes share.
+impl Drop for Hall {
+    fn drop(self) {
+        let Self {
+            table: _table,
+            post: _post,
+            asked: _asked,
+            began: _,
+            calling: _calling,
+            closing: _closing,
+        } = self;
+    }
 }
 
 impl Hall {

@@ -1,5 +1,8 @@
 //! The nodes' mailboxes, and the network between them.
 
+ghost use Rattle.std.specs.Prelude.{◌≡◌, None, IfOk, vec_len};
+ghost use Rattle.cell_desk.specs.Networks.{is_due, passage_of, network_after};
+
 use crossbeam_channel::{Receiver, Sender, unbounded};
 use gfs_types::ids::Node;
 use gfs_types::no_memory::NoMemory;
@@ -39,40 +42,65 @@ impl Policy {
     };
 }
 
-/// The network: its policy, how many messages it was given, and the one that it holds up.
+/// A message for a node, by its number.
+#[derive(Clone, Copy)]
+pub(crate) struct Parcel {
+    pub(crate) to: Node,
+    pub(crate) number: u64,
+}
+
+/// The network: how many messages it was given, and the one that it holds up.
 #[derive(Drop)]
-struct Network {
-    policy: Policy,
-    count: u64,
-    held: Option<(Node, u64)>,
+pub(crate) struct Network {
+    pub(crate) count: u64,
+    pub(crate) held: Option<Parcel>,
 }
 
 /// What the network does with a message.
-enum Passage {
+pub(crate) enum Passage {
     Lost,
     Once,
     Twice,
-    /// It waits for the next one that is held up, which this one was.
-    Held(Option<(Node, u64)>),
+    /// It is held up, and the one that was held up before it, if there is one, goes on.
+    Held(Option<Parcel>),
 }
 
 impl Network {
-    fn passage(&mut self, to: Node, number: u64) -> Passage {
+    fn new() -> Network
+        ensures { result ≡ record { count = 0; held = None } }
+    {
+        Network {
+            count: 0,
+            held: None,
+        }
+    }
+
+    /// What is done with the next message by this policy.
+    fn passage(&mut self, policy: Policy, parcel: Parcel) -> Passage
+        ensures passage { result ≡ passage_of policy self.old }
+        ensures network { self.new ≡ network_after policy self.old parcel }
+    {
         self.count = self.count.wrapping_add(1);
-        let is_due = |every: u64, count: u64| every != 0 && count % every == 0;
-        if is_due(self.policy.drop_every, self.count) {
+        if is_due(policy.drop_every, self.count) {
             return Passage::Lost;
         }
-        if is_due(self.policy.hold_every, self.count) {
+        if is_due(policy.hold_every, self.count) {
             let before = self.held;
-            self.held = Some((to, number));
+            self.held = Some(parcel);
             return Passage::Held(before);
         }
-        if is_due(self.policy.repeat_every, self.count) {
+        if is_due(policy.repeat_every, self.count) {
             return Passage::Twice;
         }
         Passage::Once
     }
+}
+
+// Whether the message of a number is one of each so many.
+fn is_due(every: u64, number: u64) -> bool
+    ensures { result ≡ is_due every number }
+{
+    every != 0 && number % every == 0
 }
 
 /// The ways into all mailboxes.
@@ -94,7 +122,9 @@ pub struct Mailboxes {
 
 type Boxes = (Vec<Sender<Letter>>, Vec<Receiver<Letter>>);
 
-fn make_boxes(alloc: Global, count: u64) -> Result<Boxes, NoMemory> {
+fn make_boxes(alloc: Global, count: u64) -> Result<Boxes, NoMemory>
+    ensures { IfOk result (λ b. vec_len b.1 ≡ count) }
+{
     let mut ways = Vec::new(alloc);
     let mut boxes = Vec::new(alloc);
     for _ in 0..count {
@@ -106,20 +136,18 @@ fn make_boxes(alloc: Global, count: u64) -> Result<Boxes, NoMemory> {
 }
 
 impl Post {
-    pub fn new(alloc: Global, servers: u16, clients: u64) -> Result<(Post, Mailboxes), NoMemory> {
+    /// The mailboxes of a master, so many servers and so many clients, and the ways into them.
+    pub fn new(alloc: Global, servers: u16, clients: u64) -> Result<(Post, Mailboxes), NoMemory>
+        ensures { IfOk result (λ p. vec_len p.1.clients ≡ clients) }
+    {
         let (master, masters) = unbounded(alloc)?;
         let (to_servers, servers) = make_boxes(alloc, u64::from(servers))?;
         let (to_clients, clients) = make_boxes(alloc, clients)?;
-        let network = Network {
-            policy: Policy::NONE,
-            count: 0,
-            held: None,
-        };
         let post = Post {
             master,
             servers: to_servers,
             clients: to_clients,
-            network: Mutex::new(network),
+            network: Mutex::new(Network::new()),
         };
         let boxes = Mailboxes {
             master: masters,
@@ -129,13 +157,10 @@ impl Post {
         Ok((post, boxes))
     }
 
-    pub fn set_policy(&self, rt: &impl Wait, policy: Policy) {
-        self.network.lock(rt).policy = policy;
-    }
-
-    /// The network is given the message of a number. It may never come, or come twice, or late.
-    pub fn deliver(&self, rt: &impl Wait, to: Node, number: u64) {
-        let passage = self.network.lock(rt).passage(to, number);
+    /// The network is given the message of a number. By its policy it may never come, or come twice, or late.
+    pub fn deliver(&self, rt: &impl Wait, policy: Policy, to: Node, number: u64) {
+        let parcel = Parcel { to, number };
+        let passage = self.network.lock(rt).passage(policy, parcel);
         let letter = Letter::Take(Input::Deliver(number));
         match passage {
             Passage::Lost => {}
@@ -144,8 +169,8 @@ impl Post {
                 self.put(rt, to, letter);
                 self.put(rt, to, letter);
             }
-            Passage::Held(Some((node, before))) => {
-                self.put(rt, node, Letter::Take(Input::Deliver(before)))
+            Passage::Held(Some(before)) => {
+                self.put(rt, before.to, Letter::Take(Input::Deliver(before.number)))
             }
             Passage::Held(None) => {}
         }

@@ -24,6 +24,7 @@ IsOfMaster f = (f ≡ NoMemory) ⊎ (f ≡ Log)
 
 -- it deals out places of the same cell, and saw no more of the journal
 pub record IsSame (old new : Dealer) : Type 0 where
+  pub hall_is : new.hall ≡ old.hall
   pub config_is : new.config ≡ old.config
   pub servers_are : new.servers ≡ old.servers
   pub of : new.place.me.0.of ≡ old.place.me.0.of

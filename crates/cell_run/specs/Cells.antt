@@ -1,22 +1,29 @@
 -- A running cell.
-use Rattle.std.specs.Prelude.{◌≡◌, ◌≤◌, ◌<◌, ◌+◌, ℕ, [], false}
+use Rattle.std.specs.Prelude.{◌≡◌, ◌≤◌, ◌<◌, ◌+◌, ℕ, List, [], false, replicate}
 use Rattle.logbook.specs.Pages.{Book}
 use Rattle.gfs_types.specs.declared.config.Config.{Config}
+use Rattle.gfs_types.specs.declared.ids.Node.{Node}
 use Rattle.gfs_types.specs.declared.ids.Node.TheVariants.{Client}
 use Rattle.protocol_journal.specs.Journal.{Entry}
 use Rattle.journal_list.specs.Log.{Listed, listed}
 use Rattle.journal_pages.specs.Identity.{Identity}
+use Rattle.cell_desk.specs.declared.asked.Asked.{Asked}
+use Rattle.cell_desk.specs.declared.asked.Asker.{Asker}
+use Rattle.cell_desk.specs.declared.post.Policy.{Policy}
+use Rattle.cell_desk.specs.Asked.{AsksOf, no_policy, restarted}
 use Rattle.cell_seat.specs.Seats.{SeatState, seat_state}
 use Rattle.cell_run.specs.declared.fault.SeatFault.{SeatFault}
 use Rattle.cell_run.specs.declared.fault.SeatFault.TheVariants.{Many, NoMemory}
 
--- which cell it is, and how many clients were made
+-- which cell it is, how many clients were made, the network's policy, and how often each server, by its number, and the master, last, was asked to begin again
 pub record CellState : Type 0 where
   pub of : Identity
   pub made : ℕ
+  pub policy : Policy
+  pub restarts : List ℕ
 
-abbrev pub cell_state : Identity → ℕ → CellState
-cell_state of made = record { of = of; made = made }
+abbrev pub cell_state : Identity → ℕ → Policy → List ℕ → CellState
+cell_state of made policy restarts = record { of = of; made = made; policy = policy; restarts = restarts }
 
 -- it has these settings and so many servers, and may have 64 clients
 pub record IsCellOf (config : Config) (servers : ℕ) (cell : Identity) : Type 0 where
@@ -25,11 +32,18 @@ pub record IsCellOf (config : Config) (servers : ℕ) (cell : Identity) : Type 0
   pub clients_are : cell.clients ≡ 64
 
 abbrev pub IsNewCell : Config → ℕ → CellState → Type 0
-IsNewCell config servers c = IsCellOf config servers c.of × (c.made ≡ 0)
+IsNewCell config servers c = IsCellOf config servers c.of × (c.made ≡ 0) × (c.policy ≡ no_policy) × (c.restarts ≡ replicate 66 0)
 
 -- one client more was made
 abbrev pub more : CellState → CellState
-more c = cell_state c.of (c.made + 1)
+more c = record c { made = c.made + 1 }
+
+abbrev pub with_policy : CellState → Policy → CellState
+with_policy c policy = record c { policy = policy }
+
+-- a node was asked once more to begin again
+abbrev pub asked_again : CellState → Node → CellState
+asked_again c node = record c { restarts = restarted c.restarts node }
 
 -- the cell's next client, which has seen nothing yet
 abbrev pub IsNewSeat : CellState → SeatState → Type 0
@@ -40,9 +54,10 @@ abbrev pub IsSeatFault : CellState → SeatFault → Type 0
 IsSeatFault c Many = 64 ≤ c.made
 IsSeatFault c NoMemory = c.made < 64
 
--- the master, the servers and so many clients have their places, the other clients their mailboxes
-pub record HasMade (config : Config) (servers dealt made boxes : ℕ) (name : Book) (nothing : Listed Entry) : Type 0 where
+-- the master, the servers and so many clients have their places, the other clients their mailboxes; what it asks is asked of its own nodes
+pub record HasMade (config : Config) (servers dealt made boxes : ℕ) (name : Book) (nothing : Listed Entry) (asked : Asked) (asker : Asker) : Type 0 where
   pub least : 64 ≤ config.chunk
   pub next : dealt ≡ servers + 1 + made
   pub waiting : boxes + made ≡ 64
   pub nothing_is : nothing ≡ listed name []
+  pub asks : AsksOf asked asker

@@ -1,13 +1,16 @@
 //! A running cell.
 
-ghost use Rattle.std.specs.Prelude.{◌≡◌, ◌+◌, ◌≤◌, ◌<◌, [], IfOk, IfErr, OnOk, OnErr, vec_len};
+ghost use Rattle.std.specs.Prelude.{◌≡◌, ◌+◌, ◌≤◌, ◌<◌, [], IfOk, IfErr, OnOk, OnErr, vec_len, replicate};
+ghost use Rattle.std.specs.Arc.{arc_value};
 ghost use Rattle.journal_list.specs.Log.{listed};
 ghost use Rattle.cell_making.specs.Making.{IsFitting, IsSame};
-ghost use Rattle.cell_run.specs.Cells.{IsCellOf, IsNewCell, IsNewSeat, IsSeatFault, more};
+ghost use Rattle.cell_desk.specs.Asked.{AsksOf, no_policy, policy_in};
+ghost use Rattle.cell_run.specs.Cells.{IsCellOf, IsNewCell, IsNewSeat, IsSeatFault, more, with_policy, asked_again};
 
 use crate::fault::SeatFault;
 use crate::threads::{CLOSING, ENDED, serve, stop_all, tick, wait_for_clients};
 use cell_dealer::dealer::Dealer;
+use cell_desk::asked::{Asker, nothing_asked};
 use cell_desk::hall::{Hall, MOST_CLIENTS};
 use cell_desk::post::{Input, Letter, Mailboxes, Policy, Post};
 use cell_making::fault::StartFault;
@@ -51,6 +54,8 @@ pub struct Cell {
     inboxes: Vec<Receiver<Letter>>,
     /// How many clients were made.
     made: u64,
+    /// What asks something of the network and the nodes.
+    asker: Asker,
     ticker: Thread,
     nodes: Vec<Thread>,
 }
@@ -64,6 +69,7 @@ impl Drop for Cell {
             nothing: _nothing,
             inboxes: _inboxes,
             made: _,
+            asker: _asker,
             ticker: _ticker,
             nodes: _nodes,
         } = self;
@@ -72,13 +78,15 @@ impl Drop for Cell {
 
 impl Model for Cell {
     ghost use Rattle.std.specs.Prelude.{vec_len};
+    ghost use Rattle.std.specs.Arc.{arc_value};
+    ghost use Rattle.cell_desk.specs.Asked.{policy_in};
     ghost use Rattle.cell_run.specs.Cells.{CellState, cell_state, HasMade};
 
     ghost Value = { CellState };
 
-    ghost view = { λ c. cell_state c.dealer.place.me.0.of c.made };
+    ghost view = { λ c. cell_state c.dealer.place.me.0.of c.made (policy_in c.asker.policy.me.0) c.asker.restarts.me.0 };
 
-    ghost invariant = { λ c. HasMade c.dealer.config c.dealer.servers c.dealer.dealt c.made (vec_len c.inboxes) c.dealer.place.me.0.of.name c.nothing };
+    ghost invariant = { λ c. HasMade c.dealer.config c.dealer.servers c.dealer.dealt c.made (vec_len c.inboxes) c.dealer.place.me.0.of.name c.nothing (arc_value c.dealer.hall).asked c.asker };
 }
 
 impl Cell {
@@ -132,20 +140,23 @@ impl Cell {
         }
     }
 
-    /// The network does so from now on.
-    pub fn net(&self, rt: &impl Wait, policy: Policy) {
-        self.dealer.hall.post.set_policy(rt, policy);
+    /// The network's policy is this from now on.
+    pub fn net(&mut self, policy: Policy)
+        ensures { self.new ≡ with_policy self.old policy }
+    {
+        self.asker.set_policy(&self.dealer.hall.asked, policy);
     }
 
-    /// The master or a server begins again. A client never does. It is left where there is no memory for the word.
-    pub fn restart(&self, rt: &impl Wait, node: Node) {
+    /// The master or a server is asked once more to begin again, which it does before it takes the next message or tick. A client never
+    /// does.
+    pub fn restart(&mut self, rt: &impl Wait, node: Node)
+        ensures { self.new ≡ asked_again self.old node }
+    {
+        self.asker.ask_restart(&self.dealer.hall.asked, node);
         if let Node::Client(_) = node {
             return;
         }
-        self.dealer
-            .hall
-            .post
-            .put(rt, node, Letter::Take(Input::Restart));
+        self.dealer.hall.post.put(rt, node, Letter::Take(Input::Tick));
     }
 
     /// Ends the cell: no step is begun any more, each call that waits is refused, and the threads end. No step follows.
@@ -158,6 +169,7 @@ impl Cell {
             nothing: _nothing,
             inboxes: _inboxes,
             made: _,
+            asker: _asker,
             ticker,
             nodes,
         } = self;
@@ -172,6 +184,7 @@ struct Parts {
     dealer: Dealer,
     nothing: Beginning<Entry>,
     boxes: Mailboxes,
+    asker: Asker,
 }
 
 // A cell whose ticker runs.
@@ -183,12 +196,16 @@ fn start_with<
     requires first { parts.dealer.dealt ≡ 0 }
     requires nothing { parts.nothing ≡ listed parts.dealer.place.me.0.of.name [] }
     requires boxes { vec_len parts.boxes.clients ≡ 64 }
+    requires asks { AsksOf (arc_value parts.dealer.hall).asked parts.asker }
+    requires policy { policy_in parts.asker.policy.me.0 ≡ no_policy }
+    requires restarts { parts.asker.restarts.me.0 ≡ replicate 66 0 }
     ensures { IfOk result (λ cell. IsNewCell parts.dealer.config parts.dealer.servers cell) }
 {
     let Parts {
         mut dealer,
         nothing,
         boxes,
+        asker,
     } = parts;
     let mut nodes = Vec::new(alloc);
     let Mailboxes {
@@ -206,6 +223,7 @@ fn start_with<
                 nothing,
                 inboxes,
                 made: 0,
+                asker,
                 ticker,
                 nodes,
             })
@@ -236,15 +254,18 @@ fn start_nodes<
     ensures ok { OnOk result (dealer.new.dealt ≡ dealer.old.servers + 1) }
 {
     let slot = master_slot(alloc, dealer)?;
-    keep(nodes, runs(rt, slot, master, gate.clone()?)?)?;
+    let theirs = Arc::try_clone(&dealer.hall)?;
+    keep(nodes, runs(rt, theirs, Node::Master, slot, master, gate.clone()?)?)?;
     let mut inboxes = servers;
     inboxes.reverse();
     for before in 0..dealer.servers {
         let Some(inbox) = inboxes.pop() else {
             return Err(StartFault::Count);
         };
-        let slot = server_slot(alloc, dealer, ServerId(before + 1))?;
-        keep(nodes, runs(rt, slot, inbox, gate.clone()?)?)?;
+        let id = ServerId(before + 1);
+        let slot = server_slot(alloc, dealer, id)?;
+        let theirs = Arc::try_clone(&dealer.hall)?;
+        keep(nodes, runs(rt, theirs, Node::Server(id), slot, inbox, gate.clone()?)?)?;
     }
     Ok(())
 }
@@ -276,6 +297,9 @@ fn new_dealer(
     ensures dealer { IfOk result (λ p. (p.dealer.config ≡ config) × (p.dealer.servers ≡ servers) × (p.dealer.dealt ≡ 0)) }
     ensures nothing { IfOk result (λ p. p.nothing ≡ listed p.dealer.place.me.0.of.name []) }
     ensures boxes { IfOk result (λ p. vec_len p.boxes.clients ≡ 64) }
+    ensures asks { IfOk result (λ p. AsksOf (arc_value p.dealer.hall).asked p.asker) }
+    ensures policy { IfOk result (λ p. policy_in p.asker.policy.me.0 ≡ no_policy) }
+    ensures restarts { IfOk result (λ p. p.asker.restarts.me.0 ≡ replicate 66 0) }
 {
     let Some(pages) = Pages::new(alloc, config, u64::from(servers), MOST_CLIENTS) else {
         return Err(StartFault::NoMemory);
@@ -283,12 +307,11 @@ fn new_dealer(
     let nothing = pages.beginning();
     let (table, place) = open(alloc, pages)?;
     let (post, boxes) = Post::new(alloc, servers, MOST_CLIENTS)?;
-    if boxes.clients.len() as u64 != MOST_CLIENTS {
-        return Err(StartFault::NoMemory);
-    }
+    let (asked, asker) = nothing_asked(alloc)?;
     let hall = Hall {
         table,
         post,
+        asked,
         began,
         calling: AtomicU64::new(0),
         closing: AtomicU64::new(0),
@@ -304,6 +327,7 @@ fn new_dealer(
             },
             nothing,
             boxes,
+            asker,
         }),
         Err(_) => Err(StartFault::NoMemory),
     }
@@ -320,9 +344,16 @@ fn runs<
     R: Threads + Wait + Clock + Copy + Send + 'static,
     N: Stepper + Send + Drop + 'static,
     G: Gate + Send + Drop + 'static,
->(rt: R, slot: Slot<N>, inbox: Receiver<Letter>, gate: G) -> Result<Thread, StartFault> {
+>(
+    rt: R,
+    hall: Arc<Hall>,
+    node: Node,
+    slot: Slot<N>,
+    inbox: Receiver<Letter>,
+    gate: G,
+) -> Result<Thread, StartFault> {
     let slot = Mutex::new(slot);
-    let job = move || serve(&rt, &slot, &inbox, &gate);
+    let job = move || serve(&rt, &hall, node, &slot, &inbox, &gate);
     match thread::spawn(&rt, job) {
         Ok(thread) => Ok(thread),
         Err(_) => Err(StartFault::Thread),

@@ -20,13 +20,17 @@ pub const CLOSING: u64 = 1;
 
 pub const ENDED: u64 = 2;
 
-/// Takes each letter of a node, until it is told to stop.
+/// Takes each letter of a node, until it is told to stop. Before a letter the node begins again once, where it was asked to do so more
+/// often than it did.
 pub fn serve<R: Wait + Clock, N: Stepper + Drop, G: Gate>(
     rt: &R,
+    hall: &Hall,
+    node: Node,
     slot: &Mutex<Slot<N>>,
     inbox: &Receiver<Letter>,
     gate: &G,
 ) {
+    let mut restarts: u64 = 0;
     for _ in rt.forever() {
         let Ok(letter) = inbox.recv(rt) else {
             break;
@@ -34,6 +38,9 @@ pub fn serve<R: Wait + Clock, N: Stepper + Drop, G: Gate>(
         let Letter::Take(input) = letter else {
             break;
         };
+        if hall.asked.restarts(node) != restarts && slot.lock(rt).act(rt, Input::Restart, gate) {
+            restarts = restarts.wrapping_add(1);
+        }
         slot.lock(rt).act(rt, input, gate);
     }
 }

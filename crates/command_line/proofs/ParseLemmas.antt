@@ -1,5 +1,5 @@
 -- What a parse's answer says of the words.
-use Rattle.std.proofs.Common.{◌≡◌, ◌∙◌, inl, inr, Bool, true, false, true≢false, cond, List, [], ◌∷◌, refl, sym, ap, ap₂, subst, Option, Some, None, option_map, codes, ok_or, Result, Ok, Err}
+use Rattle.std.proofs.Common.{◌≡◌, ◌∙◌, ◌&&◌, ℕ, inl, inr, Bool, true, false, true≢false, cond, List, [], ◌∷◌, refl, sym, ap, ap₂, subst, Option, Some, None, option_map, codes, ok_or, Result, Ok, Err}
 use Rattle.std.specs.Prelude.{IsErrAnd, option_and_then}
 use Rattle.clap.specs.Walk.{Row, Text, first_of}
 use Rattle.clap.specs.Simple.{App, HasMatchesOf, is_simple, subcommand_of, subcommand_rows_of}
@@ -12,9 +12,9 @@ use Rattle.clap.specs.declared.parser.matches.ArgMatches.TheViews.{out-ArgMatche
 use Rattle.clap.specs.Matches.{subcommand_name_of}
 use Rattle.clap.specs.declared.error.kind.ErrorKind.{ErrorKind}
 use Rattle.clap.proofs.OnLiterals.{clap_on_literals}
-use Rattle.command_line.specs.Program.{option_names, program}
+use Rattle.command_line.specs.Program.{names_heap, option_names, program}
 use Rattle.command_line.proofs.FaultLemmas.{are_alike, faults_are_alike, first_tells}
-use Rattle.command_line.specs.Asking.{asked, asked_by, to_run, to_be_shown, nothing, Answers, Becomes, Runs, all_numbered, faults, is_live, is_shown, options_of, run_asked, run_by, run_of}
+use Rattle.command_line.specs.Asking.{asked, asked_by, Wanted, to_run, to_simulate, to_play, to_be_shown, nothing, Answers, Becomes, Runs, all_numbered, faults, is_live, is_numbered, is_shown, names_heap_of, options_of, run_asked, run_by, run_of}
 use Rattle.script.specs.declared.options.Options.{Options}
 use Rattle.command_line.specs.declared.command.CommandFault.{CommandFault}
 use Rattle.command_line.specs.declared.command.CommandFault.TheVariants.{Bad, NoMemory}
@@ -57,33 +57,42 @@ run_found a words m name rows is has n e =
 
 -- where the rows give nothing to run
 pub run_none : (name : Text) (rows : List Row) → run_of rows ≡ None → run_by (name, rows) ≡ None
-run_none name rows none = ap (option_map (λ (run : Text × Options). (is_live name, run))) none
+run_none name rows none = ap (option_map (λ (run : Text × Wanted). (is_live name, run))) none
 
 -- where they do
-pub run_some : (name : Text) (rows : List Row) (live : Bool) (file : Text) (options : Options) → is_live name ≡ live → run_of rows ≡ Some (file, options) → run_by (name, rows) ≡ Some (live, (file, options))
-run_some name rows live file options is run = ap₂ (λ (b : Bool) (o : Option (Text × Options)). option_map (λ (r : Text × Options). (b, r)) o) is run
+pub run_some : (name : Text) (rows : List Row) (live : Bool) (file : Text) (wanted : Wanted) → is_live name ≡ live → run_of rows ≡ Some (file, wanted) → run_by (name, rows) ≡ Some (live, (file, wanted))
+run_some name rows live file wanted is run = ap₂ (λ (b : Bool) (o : Option (Text × Wanted)). option_map (λ (r : Text × Wanted). (b, r)) o) is run
 
-pub run_is : (rows : List Row) (file : Text) → true ≡ all_numbered rows option_names → Some file ≡ first_of (codes "FILE") rows → run_of rows ≡ Some (file, options_of rows)
-run_is rows file all is =
-    ap (λ b. cond b (option_map (λ (f : Text). (f, options_of rows)) (first_of (codes "FILE") rows)) None) (sym all) ∙ ap (option_map (λ (f : Text). (f, options_of rows))) (sym is)
+abbrev given : List Row → Bool → Option Text → Option (Text × Wanted)
+given rows b file = cond b (option_map (λ (f : Text). (f, (names_heap_of rows, options_of rows))) file) None
+
+pub run_is : (rows : List Row) (file : Text) → true ≡ is_numbered rows names_heap → true ≡ all_numbered rows option_names → Some file ≡ first_of (codes "FILE") rows → run_of rows ≡ Some (file, (names_heap_of rows, options_of rows))
+run_is rows file heap all is =
+    ap (λ b. given rows (b && all_numbered rows option_names) (first_of (codes "FILE") rows)) (sym heap)
+    ∙ ap (λ b. given rows b (first_of (codes "FILE") rows)) (sym all) ∙ ap (given rows true) (sym is)
 
 pub no_file : (rows : List Row) → None ≡ first_of (codes "FILE") rows → run_of rows ≡ None
-no_file rows is = ap (λ o. cond (all_numbered rows option_names) (option_map (λ (f : Text). (f, options_of rows)) o) None) (sym is) ∙ go (all_numbered rows option_names)
+no_file rows is = ap (given rows (all_numbered rows (names_heap ∷ option_names))) (sym is) ∙ go (all_numbered rows (names_heap ∷ option_names))
   where
-    go : (b : Bool) → ◌≡◌ {A = Option (Text × Options)} (cond b None None) None
+    go : (b : Bool) → ◌≡◌ {A = Option (Text × Wanted)} (cond b None None) None
     go true = refl
     go false = refl
 
-pub no_number : (rows : List Row) → false ≡ all_numbered rows option_names → run_of rows ≡ None
-no_number rows all = ap (λ b. cond b (option_map (λ (f : Text). (f, options_of rows)) (first_of (codes "FILE") rows)) None) (sym all)
+pub no_heap : (rows : List Row) → false ≡ is_numbered rows names_heap → run_of rows ≡ None
+no_heap rows heap = ap (λ b. given rows (b && all_numbered rows option_names) (first_of (codes "FILE") rows)) (sym heap)
 
-by_fault : (kinds : Kinds) (run : Option (Bool × (Text × Options))) (k : ErrorKind) (b : Bool) → are_alike kinds ≡ true → IsAmong k kinds → is_shown k ≡ b
+pub no_number : (rows : List Row) → true ≡ is_numbered rows names_heap → false ≡ all_numbered rows option_names → run_of rows ≡ None
+no_number rows heap all =
+    ap (λ b. given rows (b && all_numbered rows option_names) (first_of (codes "FILE") rows)) (sym heap)
+    ∙ ap (λ b. given rows b (first_of (codes "FILE") rows)) (sym all)
+
+by_fault : (kinds : Kinds) (run : Option (Bool × (Text × Wanted))) (k : ErrorKind) (b : Bool) → are_alike kinds ≡ true → IsAmong k kinds → is_shown k ≡ b
     → asked_by kinds run ≡ cond b to_be_shown nothing
 by_fault [] run k b alike among is = absurd among
 by_fault (first ∷ rest) run k b alike among is = ap (λ b. cond b to_be_shown nothing) (sym (first_tells k first rest alike among) ∙ is)
 
 pub of_fault : (words : List Text) (e : Error) (r : Result Request CommandFault) → HasKind (faults words) e → Becomes (kind_of e) r → Answers words r
-of_fault words e (Ok (Sim file options)) h b = absurd b
+of_fault words e (Ok (Sim file bytes options)) h b = absurd b
 of_fault words e (Ok (Live file options)) h b = absurd b
 of_fault words e (Ok (Show text)) (inl is) b = absurd (true≢false (sym b ∙ ap is_shown is))
 of_fault words e (Ok (Show text)) (inr among) b = by_fault (faults words) (run_asked words) (kind_of e) true (faults_are_alike words) among b
@@ -104,9 +113,9 @@ pub of_bad : (words : List Text) (r : Result Request CommandFault) (fault : Comm
 of_bad words (Ok x) fault is bad none run = absurd is
 of_bad words (Err e) fault is bad none run = subst (λ e. Answers words (Err e)) (sym (is ∙ bad)) (ap₂ asked_by none run)
 
-pub of_run : (words : List Text) (live : Bool) (file : Text) (options : Options) (r : Request) → asked words ≡ to_run live file options → Runs live file options r → Answers words (Ok r)
-of_run words live file options (Sim f o) is runs =
-    is ∙ ap (λ (b : Bool). to_run b file options) runs.0 ∙ ap₂ (λ (g : Text) (p : Options). to_run false g p) (sym runs.1) (sym runs.2)
-of_run words live file options (Live f o) is runs =
-    is ∙ ap (λ (b : Bool). to_run b file options) runs.0 ∙ ap₂ (λ (g : Text) (p : Options). to_run true g p) (sym runs.1) (sym runs.2)
-of_run words live file options (Show text) is runs = absurd runs
+pub of_run : (words : List Text) (live : Bool) (file : Text) (bytes : Option ℕ) (options : Options) (r : Request) → asked words ≡ to_run (live, (file, (bytes, options))) → Runs live file bytes options r → Answers words (Ok r)
+of_run words live file bytes options (Sim f b o) is runs =
+    is ∙ ap (λ (l : Bool). to_run (l, (file, (bytes, options)))) runs.0 ∙ ap₂ (λ (g : Text) (w : Wanted). to_simulate g w.0 w.1) (sym runs.1) (λ i. (sym runs.2 i, sym runs.3 i))
+of_run words live file bytes options (Live f o) is runs =
+    is ∙ ap (λ (l : Bool). to_run (l, (file, (bytes, options)))) runs.0 ∙ ap₂ to_play (sym runs.1) (sym runs.2)
+of_run words live file bytes options (Show text) is runs = absurd runs

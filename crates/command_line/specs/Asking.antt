@@ -12,7 +12,7 @@ use Rattle.clap.specs.declared.error.kind.ErrorKind.TheVariants.{DisplayHelp, Di
 use Rattle.gfs_types.specs.Settings.{block_for, default_settings}
 use Rattle.gfs_types.specs.declared.config.Config.{Config}
 use Rattle.script.specs.Numbers.{number_of}
-use Rattle.command_line.specs.Program.{option_names, program}
+use Rattle.command_line.specs.Program.{names_heap, option_names, program}
 use Rattle.script.specs.declared.options.Options.{Options}
 use Rattle.command_line.specs.declared.command.CommandFault.{CommandFault}
 use Rattle.command_line.specs.declared.command.CommandFault.TheVariants.{Bad, NoMemory}
@@ -58,26 +58,34 @@ options_of rows = record {
   config = config_of rows;
 }
 
+-- the bytes of the names' region, where some are given
+abbrev pub names_heap_of : List Row → Option ℕ
+names_heap_of rows = option_map (λ text. unwrap_or (number_of text) 0) (first_of names_heap rows)
+
 -- each value that is given to one of these options is a number
 abbrev pub all_numbered : List Row → List Text → Bool
 all_numbered rows names = list_all (is_numbered rows) names
 
 -- ---- the command line
 
--- the file and the options that the rows of a subcommand give
-abbrev pub run_of : List Row → Option (Text × Options)
-run_of rows = if all_numbered rows option_names then option_map (λ file. (file, options_of rows)) (first_of (codes "FILE") rows) else None
+-- the bytes of the names' region, and the options
+abbrev pub Wanted : Type 0
+Wanted = Option ℕ × Options
+
+-- the file, and what the rows of a subcommand say of the run
+abbrev pub run_of : List Row → Option (Text × Wanted)
+run_of rows = if all_numbered rows (names_heap ∷ option_names) then option_map (λ file. (file, (names_heap_of rows, options_of rows))) (first_of (codes "FILE") rows) else None
 
 -- the subcommand runs the script on threads; the other one runs it by the simulator
 abbrev pub is_live : Text → Bool
 is_live name = bytes_eq name (codes "live")
 
--- whether on threads, the file, and the options
-abbrev pub run_by : Text × List Row → Option (Bool × (Text × Options))
+-- whether on threads, the file, and what is said of the run
+abbrev pub run_by : Text × List Row → Option (Bool × (Text × Wanted))
 run_by sub = option_map (λ run. (is_live sub.0, run)) (run_of sub.1)
 
 -- what the words would run, where they have no fault
-abbrev pub run_asked : List Text → Option (Bool × (Text × Options))
+abbrev pub run_asked : List Text → Option (Bool × (Text × Wanted))
 run_asked words = option_and_then run_by (subcommand_of program words)
 
 -- the faults that a parse of the words may name: the first step that fails has one kind, or a few that may come
@@ -90,15 +98,19 @@ is_shown DisplayHelp = true
 is_shown DisplayVersion = true
 is_shown _ = false
 
--- to run a script's file with options, on threads or by the simulator, to be shown the help or the version, or nothing
+-- to run a script's file by the simulator, with a region for the names or none, or on threads, to be shown the help or the version, or nothing
 pub data Asked : Type 0 where
-  to_run : Bool → Text → Options → Asked
+  to_simulate : Text → Option ℕ → Options → Asked
+  to_play : Text → Options → Asked
   to_be_shown : Asked
   nothing : Asked
 
+abbrev pub to_run : Bool × (Text × Wanted) → Asked
+to_run run = if run.0 then to_play run.1.0 run.1.1.1 else to_simulate run.1.0 run.1.1.0 run.1.1.1
+
 -- faults come first; of the kinds that the first fault may have, all are to be shown or none is
-abbrev pub asked_by : Kinds → Option (Bool × (Text × Options)) → Asked
-asked_by [] (Some run) = to_run run.0 run.1.0 run.1.1
+abbrev pub asked_by : Kinds → Option (Bool × (Text × Wanted)) → Asked
+asked_by [] (Some run) = to_run run
 asked_by [] None = nothing
 asked_by (kind ∷ kinds) run = if is_shown kind then to_be_shown else nothing
 
@@ -107,22 +119,22 @@ asked words = asked_by (faults words) (run_asked words)
 
 -- the answer says what the words ask for, or memory ran out
 abbrev pub Answers : List Text → Result Request CommandFault → Type 0
-Answers words (Ok (Sim file options)) = asked words ≡ to_run false file.now options
-Answers words (Ok (Live file options)) = asked words ≡ to_run true file.now options
+Answers words (Ok (Sim file bytes options)) = asked words ≡ to_simulate file.now bytes options
+Answers words (Ok (Live file options)) = asked words ≡ to_play file.now options
 Answers words (Ok (Show text)) = asked words ≡ to_be_shown
 Answers words (Err Bad) = asked words ≡ nothing
 Answers words (Err NoMemory) = ⊤
 
 -- what a fault of a parse becomes; a text to be shown may take memory
 abbrev pub Becomes : ErrorKind → Result Request CommandFault → Type 0
-Becomes kind (Ok (Sim file options)) = ⊥
+Becomes kind (Ok (Sim file bytes options)) = ⊥
 Becomes kind (Ok (Live file options)) = ⊥
 Becomes kind (Ok (Show text)) = is_shown kind ≡ true
 Becomes kind (Err Bad) = (is_shown kind ≡ false) × (kind ≡ OutOfMemory → ⊥)
 Becomes kind (Err NoMemory) = (is_shown kind ≡ true) ⊎ (kind ≡ OutOfMemory)
 
 -- to run a script on threads or by the simulator
-abbrev pub Runs : Bool → Text → Options → Request → Type 0
-Runs live file options (Sim f o) = (live ≡ false) × (f.now ≡ file) × (o ≡ options)
-Runs live file options (Live f o) = (live ≡ true) × (f.now ≡ file) × (o ≡ options)
-Runs live file options (Show text) = ⊥
+abbrev pub Runs : Bool → Text → Option ℕ → Options → Request → Type 0
+Runs live file bytes options (Sim f b o) = (live ≡ false) × (f.now ≡ file) × (b ≡ bytes) × (o ≡ options)
+Runs live file bytes options (Live f o) = (live ≡ true) × (f.now ≡ file) × (o ≡ options)
+Runs live file bytes options (Show text) = ⊥

@@ -33,6 +33,13 @@ file = record (new_rule (codes "FILE")) { required = true }
 abbrev pub runner : Text → Shape
 runner name = record (new_shape name) { rules = file ∷ map option_named option_names }
 
+-- the option of the simulator alone
+abbrev pub names_heap : Text
+names_heap = codes "names-heap"
+
+abbrev pub simulator : Shape
+simulator = record (runner (codes "sim")) { rules = (runner (codes "sim")).rules ++ (option_named names_heap ∷ []) }
+
 abbrev pub gfscell : Shape
 gfscell = record (new_shape (codes "gfscell")) {
   is_leaf = false;
@@ -42,4 +49,4 @@ gfscell = record (new_shape (codes "gfscell")) {
 }
 
 abbrev pub program : App
-program = record { top = gfscell; subs = runner (codes "sim") ∷ runner (codes "live") ∷ [] }
+program = record { top = gfscell; subs = simulator ∷ runner (codes "live") ∷ [] }

@@ -2,8 +2,8 @@
 
 ghost use Rattle.std.specs.Prelude.{◌≡◌, Some, IfOk, IfErr, is_ok, map, string_bytes, false};
 ghost use Rattle.clap.specs.Words.{app_of, shape_of, found_of, kind_of, rows_of, rule_of};
-ghost use Rattle.command_line.specs.Program.{names, option_named, option_names, program, runner, setting_names, with_options};
-ghost use Rattle.command_line.specs.Asking.{Answers, Becomes, Runs, all_numbered, config_of, is_live, is_numbered, narrow_for, number_for, options_of};
+ghost use Rattle.command_line.specs.Program.{names, names_heap, option_named, option_names, program, runner, setting_names, simulator, with_options};
+ghost use Rattle.command_line.specs.Asking.{Answers, Becomes, Runs, all_numbered, config_of, is_live, is_numbered, names_heap_of, narrow_for, number_for, options_of};
 ghost use Rattle.command_line.specs.Faults.{fault_text};
 ghost use Rattle.command_line.specs.declared.command.CommandFault.TheVariants.{Bad, NoMemory};
 
@@ -20,10 +20,17 @@ use std::fmt;
 /// What a command line asks for.
 #[derive(Debug, Drop)]
 pub enum Request<'a> {
-    /// To run the script of a file by the simulator, where `-` is standard input.
-    Sim { file: &'a str, options: Options },
+    /// To run the script of a file by the simulator, where `-` is standard input, with the names in a region of so many bytes.
+    Sim {
+        file: &'a str,
+        names_heap: Option<u64>,
+        options: Options,
+    },
     /// To run it on a cell with threads.
-    Live { file: &'a str, options: Options },
+    Live {
+        file: &'a str,
+        options: Options,
+    },
     /// To print this text: the help or the version.
     Show(String),
 }
@@ -99,6 +106,12 @@ const OPTIONS: [(&str, &str); 16] = [
     ("journal", "Events of a running cell [default: 1048576]"),
 ];
 
+/// The option of the simulator alone.
+const REGION: [(&str, &str); 1] = [(
+    "names-heap",
+    "Bytes of a region for the names [default: none, they share the memory of all]",
+)];
+
 /// An option by a long name, which takes one number.
 fn option<'a>(alloc: Global, name: &'a str, help: &'a str) -> Arg<'a>
     ensures rule { rule_of result ≡ option_named name.entry.now }
@@ -136,6 +149,14 @@ fn runner<'a>(alloc: Global, name: &'a str, about: &'a str) -> Result<Command<'a
     with_options(alloc, command, &OPTIONS)
 }
 
+/// The subcommand that runs a script by the simulator.
+fn simulator<'a>(alloc: Global) -> Result<Command<'a>, AllocError>
+    ensures { IfOk result (λ command. shape_of command ≡ simulator) }
+{
+    let command = runner(alloc, "sim", "Runs a script on a simulated cell")?;
+    with_options(alloc, command, &REGION)
+}
+
 fn command<'a>(alloc: Global) -> Result<Command<'a>, AllocError>
     ensures { IfOk result (λ command. app_of command ≡ program) }
 {
@@ -144,7 +165,7 @@ fn command<'a>(alloc: Global) -> Result<Command<'a>, AllocError>
         .about("A Google File System cell")
         .disable_help_subcommand(true)
         .subcommand_required(true)
-        .subcommand(runner(alloc, "sim", "Runs a script on a simulated cell")?)?
+        .subcommand(simulator(alloc)?)?
         .subcommand(runner(alloc, "live", "Runs a script on a cell with threads")?)
 }
 
@@ -193,6 +214,20 @@ fn config(matches: &ArgMatches<'_>) -> Result<Config, CommandFault>
     })
 }
 
+fn names_heap(matches: &ArgMatches<'_>) -> Result<Option<u64>, CommandFault>
+    ensures ok { IfOk result (λ bytes. bytes ≡ names_heap_of (rows_of (found_of matches.now))) }
+    ensures all { is_ok result ≡ is_numbered (rows_of (found_of matches.now)) names_heap }
+    ensures err { IfErr result (λ fault. fault ≡ Bad) }
+{
+    let Some(text) = matches.get_str("names-heap") else {
+        return Ok(None);
+    };
+    match number(text.as_bytes()) {
+        Some(bytes) => Ok(Some(bytes)),
+        None => Err(CommandFault::Bad),
+    }
+}
+
 fn options(matches: &ArgMatches<'_>) -> Result<Options, CommandFault>
     ensures ok { IfOk result (λ options. options ≡ options_of (rows_of (found_of matches.now))) }
     ensures all { is_ok result ≡ all_numbered (rows_of (found_of matches.now)) option_names }
@@ -232,17 +267,27 @@ pub fn parse<'a>(alloc: Global, words: &'a [String]) -> Result<Request<'a>, Comm
         return Err(CommandFault::Bad);
     };
     let file = given.get_str("FILE").ok_or(CommandFault::Bad)?;
+    let names_heap = names_heap(given)?;
     let options = options(given)?;
-    Ok(request_for(name, file, options))
+    Ok(request_for(name, file, names_heap, options))
 }
 
 /// What the subcommand of a name asks for.
-fn request_for<'a>(name: &str, file: &'a str, options: Options) -> Request<'a>
-    ensures { Runs (is_live name.now) file.now options result }
+fn request_for<'a>(
+    name: &str,
+    file: &'a str,
+    names_heap: Option<u64>,
+    options: Options,
+) -> Request<'a>
+    ensures { Runs (is_live name.now) file.now names_heap options result }
 {
     if name == "live" {
         Request::Live { file, options }
     } else {
-        Request::Sim { file, options }
+        Request::Sim {
+            file,
+            names_heap,
+            options,
+        }
     }
 }

@@ -91,7 +91,13 @@ fn words(alloc: Global, line: &str) -> Result<Vec<String>, AllocError> {
 fn asked(alloc: Global, line: &str, file: &str) -> Result<Option<[u64; 16]>, AllocError> {
     let words = words(alloc, line)?;
     Ok(match parse(alloc, words.as_slice()) {
-        Ok(Request::Sim { file: f, options }) if f == file => Some(numbers(&options)),
+        Ok(
+            Request::Sim {
+                file: f,
+                names_heap: None,
+                options,
+            },
+        ) if f == file => Some(numbers(&options)),
         _ => None,
     })
 }
@@ -110,6 +116,24 @@ fn sets_each_option(rt: HostRuntime) -> Result<(), Fail> {
         let asked = asked(alloc, line.as_str(), "a.gfs")?;
         assert_eq!(rt; asked, Some(expected), "{line}");
     }
+    Ok(())
+}
+
+#[test]
+fn asks_for_a_region(rt: HostRuntime) -> Result<(), Fail> {
+    let alloc = rt.alloc();
+    let words = words(alloc, "gfscell sim a.gfs --names-heap 16384 --servers 5")?;
+    let is_asked = match parse(alloc, words.as_slice()) {
+        Ok(
+            Request::Sim {
+                file: "a.gfs",
+                names_heap: Some(16_384),
+                options,
+            },
+        ) => numbers(&options) == changed(&[("servers", 5)]),
+        _ => false,
+    };
+    assert!(rt; is_asked);
     Ok(())
 }
 
@@ -182,7 +206,8 @@ fn refuses_other_words(rt: HostRuntime) -> Result<(), Fail> {
         "gfscell a.gfs",
         "gfscell sim a.gfs b.gfs",
         "gfscell sim a.gfs --fast",
-        "gfscell sim a.gfs --names-heap 16384",
+        "gfscell live a.live --names-heap 16384",
+        "gfscell sim a.gfs --names-heap 16k",
         "gfscell sim a.gfs --serv 3",
         "gfscell sim a.gfs -s 3",
         "gfscell sim a.gfs --servers",

@@ -11,7 +11,7 @@ use command_line::command::{CommandFault, Request, parse};
 use live::run::run_live;
 use script::options::Options;
 use script::script_fault::ScriptFault;
-use shell::run::run_script;
+use shell::run::{run_script, run_script_in_region};
 use std::error::Error;
 use std::fs::File;
 use std::io::{self, BufReader, BufWriter, ErrorKind, Read};
@@ -70,16 +70,20 @@ impl From<ScriptFault> for ProgramFault {
     }
 }
 
-/// Runs the script that a source gives by the simulator.
+/// Runs the script that a source gives by the simulator, with the names in a region of so many bytes, where it is given.
 fn simulate<S: Read + Drop>(
     rt: &HostRuntime,
+    names_heap: Option<u64>,
     options: &Options,
     source: S,
 ) -> Result<(), ScriptFault> {
     let alloc = rt.alloc();
     let mut reader = BufReader::new(alloc, source).map_err(|e| ScriptFault::of_read(&e))?;
     let mut writer = BufWriter::new(alloc, io::writer(rt)).map_err(|e| ScriptFault::of_write(&e))?;
-    run_script(alloc, options, &mut reader, &mut writer)
+    match names_heap {
+        Some(bytes) => run_script_in_region(alloc, bytes, options, &mut reader, &mut writer),
+        None => run_script(alloc, options, &mut reader, &mut writer),
+    }
 }
 
 /// Runs the script that a source gives on a cell with threads.
@@ -114,10 +118,18 @@ fn run<T: Threads + Wait + Clock + Copy + Send + Sync + 'static>(
         Request::Show(text) => rt
             .print(text.as_str())
             .map_err(|e| ScriptFault::of_write(&e))?,
-        Request::Sim { file: "-", options } => simulate(rt, &options, rt.reader())?,
-        Request::Sim { file, options } => {
+        Request::Sim {
+            file: "-",
+            names_heap,
+            options,
+        } => simulate(rt, names_heap, &options, rt.reader())?,
+        Request::Sim {
+            file,
+            names_heap,
+            options,
+        } => {
             let script = File::open(rt, file).map_err(|e| ScriptFault::of_read(&e))?;
-            simulate(rt, &options, script)?;
+            simulate(rt, names_heap, &options, script)?;
         }
         Request::Live { file: "-", options } => play(threads, rt, &options, rt.reader())?,
         Request::Live { file, options } => {

@@ -20,7 +20,7 @@ use Rattle.std.specs.Prelude.{Result, Ok, Err, IfOk, OnErr}
 use Rattle.protocol_journal.specs.Journal.{sent_after}
 use Rattle.atomic_table.specs.Table.{rest}
 use Rattle.journal_calls.proofs.Lending.{lent, left}
-use Rattle.journal_steps.specs.Places.{IsPlaceOf, IsLater, IsRead, GoesOn, IsSeen, Looked, Prepares, IsWaiting}
+use Rattle.journal_steps.specs.Places.{IsPlaceOf, IsLater, IsRead, GoesOn, IsSeen, Prepares, IsWaiting}
 
 pub when_true : (A B : Type 0) (b : Bool) → b ≡ true → MatchBool b A B → A
 when_true A B true is h = h
@@ -58,11 +58,6 @@ same v m y z t cell e room = subst (λ (x : View). IsSame x z) (sym t.is) (refl,
 
 pub rooms_after : (v m : View) (y z : Filled) → Took v m y → (gave m z).rooms ≡ v.rooms + z.reserved - y.reserved
 rooms_after v m y z t = ap (λ (x : View). (gave x z).rooms) t.is
-
-pub seen_looked : (v m : View) (y : Filled) (beginning : Listed Entry) (count : ℕ) → Took v m y → beginning ≡ listed y.cell.name y.entries → count ≡ length y.entries → Looked v (gave m y) beginning count
-seen_looked v m y beginning count t b k =
-    subst (λ (x : View). Looked v (gave x y) beginning count) (sym t.is)
-    (record { seen = (b ∙ ap (λ c. listed c.name y.entries) t.cell, k); lawful = t.lawful; own_is = t.mine })
 
 pub step_later : (v m : View) (y : Filled) (e : Entry) → Took v m y → IsStepOf v e → IsStepOf m e
 step_later v m y e t s =
@@ -253,22 +248,13 @@ module _ (n : Node) (old mid ready final : Mine) (y : Filled) (place : IsPlaceOf
     pub less_later : IsLater old.0 final.0
     less_later = subst (λ (m : Mine). IsLater old.0 m.0) (sym less_is) (later old.0 mid.0 y less t refl)
 
--- a place that looks
+-- a place that gives the journal back as it was
 module _ (n : Node) (old mid final : Mine) (y : Filled) (t : Took old.0 mid.0 y) (is : final ≡ (gave mid.0 y, [])) where
-  pub looked_free : final.1 ≡ []
-  looked_free = ap (λ (m : Mine). m.1) is
+  gave_later : IsLater old.0 final.0
+  gave_later = subst (λ (m : Mine). IsLater old.0 m.0) (sym is) (later old.0 mid.0 y y t refl)
 
-  pub looked_later : IsLater old.0 final.0
-  looked_later = subst (λ (m : Mine). IsLater old.0 m.0) (sym is) (later old.0 mid.0 y y t refl)
-
-  pub looked_rooms : final.0.rooms ≡ old.0.rooms
-  looked_rooms = let rooms = ap (λ (m : Mine). m.0.rooms) is ∙ rooms_after old.0 mid.0 y y t in omega (arith, rooms)
-
-  pub looked_seen : (beginning : Listed Entry) (count : ℕ) → beginning ≡ listed y.cell.name y.entries → count ≡ length y.entries → Looked old.0 final.0 beginning count
-  looked_seen beginning count b k = subst (λ (m : Mine). Looked old.0 m.0 beginning count) (sym is) (seen_looked old.0 mid.0 y beginning count t b k)
-
-  pub looked_waits : IsWaiting old.0 final
-  looked_waits = record { free = looked_free; of = looked_later.of; role = looked_later.role }
+  pub gave_waits : IsWaiting old.0 final
+  gave_waits = record { free = ap (λ (m : Mine). m.1) is; of = gave_later.of; role = gave_later.role }
 
 pub waits_still : (old final : Mine) → old.1 ≡ [] → final ≡ old → IsWaiting old.0 final
 waits_still old final free is = record { free = ap (λ (m : Mine). m.1) is ∙ free; of = ap (λ (m : Mine). m.0.of) is; role = ap (λ (m : Mine). m.0.role) is }

@@ -12,7 +12,7 @@ use Rattle.journal_list.specs.Log.{Listed, listed}
 use Rattle.journal_pages.specs.Identity.{Filled}
 use Rattle.cell_journal.specs.declared.view.View.{View}
 use Rattle.cell_journal.specs.declared.view.Role.TheVariants.{Only}
-use Rattle.cell_journal.specs.Rules.{IsJournalOf, Writes}
+use Rattle.cell_journal.specs.Rules.{IsJournalOf}
 
 -- a place at this table, which has one word and one slot
 abbrev pub IsAt : TableId → TableId → Type 0
@@ -50,12 +50,6 @@ pub record GoesOn (v w : View) (e : Entry) : Type 0 where
 -- the journal that a place saw last, under its name, and its length
 abbrev pub IsSeen : View → Listed Entry → ℕ → Type 0
 IsSeen v beginning count = (beginning ≡ listed v.of.name v.seen) × (count ≡ length v.seen)
-
--- the journal was seen, and what it has of each node that the place writes for
-pub record Looked (v w : View) (beginning : Listed Entry) (count : ℕ) : Type 0 where
-  pub seen : IsSeen w beginning count
-  pub lawful : IsJournalOf w.of w.seen
-  pub own_is : (n : Node) → Writes v n → own n w.seen ≡ v.mine
 
 -- what whoever has a journal makes of it for a step: room for one entry more and the step's message, or nothing
 pub record Prepares (v : View) (y : Filled) (n : Node) (number : Option ℕ) (found : Result (Option Message) Refusal) (me : Me (Option Filled) View) : Type 0 where

@@ -3,3 +3,4 @@ pub mod LogBytes
 pub mod Empty
 pub mod Reported
 pub mod FirstReports
+pub mod StillWhole

@@ -1,10 +1,10 @@
 -- How a record gets into the log, by cases.
-use Rattle.std.proofs.Common.{◌≡◌, ℕ, Bool, true, false, cond, ◌&&◌, ◌||◌, List, [], ◌∷◌, ◌++◌, refl, sym, ap, ◌∙◌, subst}
+use Rattle.std.proofs.Common.{◌≡◌, Bool, true, false, cond, ◌&&◌, ◌||◌, List, [], ◌∷◌, ◌++◌, refl, sym, ap, ◌∙◌}
 use Rattle.std.specs.Prelude.{not}
 use Rattle.log_records.specs.declared.record.Record.{Record}
 use Rattle.protocol.specs.LogSizes.{checkpoint_fits}
 use Rattle.protocol.specs.Logged.{LogDisk, LogChange, AppendRecord, WriteCheckpoint, log_changed, log_changed_by_all, checkpoint_of}
-use Rattle.protocol.specs.Master.{MasterDoing, appends, fits, is_of_copy, writes_checkpoint, logs, logs_after_checkpoint}
+use Rattle.protocol.specs.Master.{MasterDoing, appends, fits, is_of_copy, writes_checkpoint, logs}
 use Rattle.master_plan.specs.Logging.{was_logged, tried}
 use Rattle.master_plan.specs.Plans.{PlanState, doing, appended, with_checkpoint}
 

@@ -2,6 +2,7 @@ pub mod Faults
 pub mod Coding
 pub mod Changes
 pub mod Plans
+pub mod Watched
 pub mod Sizes
 pub mod Logging
 pub mod Reports

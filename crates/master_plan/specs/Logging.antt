@@ -1,5 +1,5 @@
 -- Whether a record gets into the log.
-use Rattle.std.specs.Prelude.{Bool, true, ◌&&◌, ◌||◌, not}
+use Rattle.std.specs.Prelude.{Bool, ◌&&◌, ◌||◌, not}
 use Rattle.log_records.specs.declared.record.Record.{Record}
 use Rattle.protocol.specs.LogSizes.{checkpoint_fits}
 use Rattle.protocol.specs.Logged.{checkpoint_of}

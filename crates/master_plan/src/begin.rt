@@ -48,6 +48,7 @@ impl<A: Allocator + Clone> Plan<A> {
             snapshots: Vec::new(alloc),
             holders: NumberMap::new(alloc),
             reported: first_reports(alloc, server_count, now)?,
+            whole_until: None,
             sent: Sequence::empty(alloc),
             changes: Sequence::empty(alloc),
             seen: Sequence::empty(alloc),

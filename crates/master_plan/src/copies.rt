@@ -19,6 +19,7 @@ impl<A: Allocator + Clone> Plan<A> {
     pub fn give_up_copies(&mut self, handles: &[u64]) -> Result<(), PlanFault>
         ensures { OnOk result (self.new ≡ without_copies self.old handles.now) }
     {
+        self.whole_until = None;
         self.state.give_up_copies(handles)?;
         self.remove_attempts(handles);
         Ok(())
@@ -35,6 +36,7 @@ impl<A: Allocator + Clone> Plan<A> {
     pub fn end_lease_at(&mut self, handle: Handle, moment: Moment)
         ensures { self.new ≡ with_end self.old handle.0 moment.0 }
     {
+        self.whole_until = None;
         self.state.set_lease_end(handle, moment);
     }
 }

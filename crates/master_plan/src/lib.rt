@@ -14,3 +14,4 @@ pub mod room;
 pub mod sizes;
 pub mod snapshots;
 pub mod waiting;
+pub mod whole;

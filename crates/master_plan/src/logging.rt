@@ -69,6 +69,7 @@ impl<A: Allocator + Clone> Plan<A> {
     fn append(&mut self, entry: Record) -> Result<(), PlanFault>
         ensures { OnOk result (self.new ≡ appended self.old entry) }
     {
+        self.whole_until = None;
         replay(&mut self.state, &entry)?;
         self.changes.push(Change::Append(entry))?;
         Ok(())

@@ -35,6 +35,8 @@ pub struct Plan<A: Allocator> {
     pub(crate) snapshots: Vec<Pending>,
     pub(crate) holders: NumberMap<OrderedMap<u64>>,
     pub(crate) reported: NumberMap<u64>,
+    // a moment up to which no chunk lacks replicas, as far as is known
+    pub(crate) whole_until: Option<u64>,
     pub(crate) sent: MessageList,
     pub(crate) changes: ChangeList,
     pub(crate) seen: SeenList,
@@ -54,6 +56,7 @@ impl<A: Allocator> Drop for Plan<A> {
             snapshots: _snapshots,
             holders: _holders,
             reported: _reported,
+            whole_until: _,
             sent: _sent,
             changes: _changes,
             seen: _seen,
@@ -62,12 +65,13 @@ impl<A: Allocator> Drop for Plan<A> {
 }
 
 impl<A: Allocator> Model for Plan<A> {
-    ghost use Rattle.std.specs.Prelude.{◌≤◌};
+    ghost use Rattle.std.specs.Prelude.{◌≤◌, IfSome};
     ghost use Rattle.std.specs.Coded.{codes, coded_ℕ, coded_list};
     ghost use Rattle.std.specs.FinMap as map;
     ghost use Rattle.protocol.specs.Tables.{moment_limit};
     ghost use Rattle.master_plan.specs.Changes.{changes_of};
     ghost use Rattle.master_plan.specs.Plans.{PlanState};
+    ghost use Rattle.master_plan.specs.Watched.{IsWholeAt};
 
     ghost Value = { PlanState };
 
@@ -88,7 +92,8 @@ impl<A: Allocator> Model for Plan<A> {
       seen = p.seen;
     } };
 
-    ghost invariant = { λ p. (p.clock ≤ moment_limit) × (p.config.lease_ms ≤ 3600000) };
+    ghost invariant = { λ p. ((p.clock ≤ moment_limit) × (p.config.lease_ms ≤ 3600000))
+        × IfSome p.whole_until (IsWholeAt p.config p.server_count p.state p.holders p.reported) };
 }
 
 impl<A: Allocator + Clone> Plan<A> {
@@ -124,6 +129,14 @@ impl<A: Allocator + Clone> Plan<A> {
         ensures { result.now ≡ self.now.logged }
     {
         &self.state
+    }
+
+    /// All names go, so that a replay finds the room that they took. Takes no memory.
+    pub fn forget_names(&mut self, alloc: A)
+        ensures { record self.new { logged = record self.new.logged { names = map.empty } } ≡ record self.old { logged = record self.old.logged { names = map.empty } } }
+    {
+        self.whole_until = None;
+        self.state.forget_names(alloc);
     }
 
     /// How many orders were sent in this epoch.

@@ -1,6 +1,6 @@
 //! How the master puts down what servers tell it (sections 2.6.2 and 4.5).
 
-ghost use Rattle.std.specs.Prelude.{◌≡◌, unwrap_or, OnOk, IfOk};
+ghost use Rattle.std.specs.Prelude.{◌≡◌, ◌==◌, ◌&&◌, true, Some, nat_lt, unwrap_or, OnOk, IfOk};
 ghost use Rattle.std.specs.FinMap as map;
 ghost use Rattle.master_plan.specs.Reports.{with_holder, with_report, table_of_lines};
 
@@ -24,6 +24,7 @@ impl<A: Allocator + Clone> Plan<A> {
         ensures { OnOk result (self.new ≡ with_holder self.old server.0 handle.0 version.0) }
     {
         let server = u64::from(server.0);
+        self.whole_until = None;
         note_version(self.alloc, &mut self.holders, server, handle.0, version.0)?;
         Ok(())
     }
@@ -36,10 +37,36 @@ impl<A: Allocator + Clone> Plan<A> {
     ) -> Result<(), PlanFault>
         ensures { OnOk result (self.new ≡ with_report self.old server.0 replicas.now) }
     {
-        let held = table_of_lines(self.alloc, replicas)?;
-        self.holders.insert(u64::from(server.0), held)?;
-        self.reported.insert(u64::from(server.0), self.clock)?;
+        let server = u64::from(server.0);
+        self.note_replicas(server, replicas)?;
+        if self.reported_after(server) {
+            self.whole_until = None;
+        }
+        self.reported.insert(server, self.clock)?;
         Ok(())
+    }
+
+    // A server holds these replicas and nothing else. Takes no memory where that is known.
+    fn note_replicas(&mut self, server: u64, replicas: &[ReplicaLine]) -> Result<(), PlanFault>
+        ensures { OnOk result (self.new ≡ record self.old { holders = map.insert self.old.holders server (table_of_lines replicas.now) }) }
+    {
+        if are_known(&self.holders, server, replicas) {
+            return Ok(());
+        }
+        self.whole_until = None;
+        let held = table_of_lines(self.alloc, replicas)?;
+        self.holders.insert(server, held)?;
+        Ok(())
+    }
+
+    // Whether a server reported at a later moment than that of this step.
+    fn reported_after(&self, server: u64) -> bool
+        ensures { result ≡ nat_lt self.now.now (unwrap_or (map.get self.now.reported server) 0) }
+    {
+        match self.reported.get(server) {
+            Some(last) => self.clock < *last,
+            None => false,
+        }
     }
 
     /// The version numbers that are under way, by the handles of their chunks.
@@ -66,6 +93,42 @@ fn note_version(
     let mut held = OrderedMap::new(alloc);
     held.insert(handle, version)?;
     holders.insert(server, held)
+}
+
+// Whether a server is known to hold just these replicas, which it reports in rising number.
+fn are_known(
+    holders: &NumberMap<OrderedMap<u64>>,
+    server: u64,
+    replicas: &[ReplicaLine],
+) -> bool
+    ensures { result ≡ true → map.get holders.now server ≡ Some (table_of_lines replicas.now) }
+{
+    match holders.get(server) {
+        Some(held) => are_same(held, replicas),
+        None => false,
+    }
+}
+
+fn are_same(held: &OrderedMap<u64>, replicas: &[ReplicaLine]) -> bool
+    ensures { result ≡ true → held.now ≡ table_of_lines replicas.now }
+{
+    if held.len() != replicas.len() {
+        return false;
+    }
+    let mut index = 0;
+    for (handle, version) in held.iter() {
+        if index >= replicas.len() || !is_line(replicas[index], *handle, *version) {
+            return false;
+        }
+        index += 1;
+    }
+    true
+}
+
+fn is_line(line: ReplicaLine, handle: u64, version: u64) -> bool
+    ensures { result ≡ ((line.handle.0 == handle) && (line.version.0 == version)) }
+{
+    line.handle.0 == handle && line.version.0 == version
 }
 
 // The versions of reported replicas by handle. The first line of a handle counts.

@@ -5,6 +5,7 @@ ghost use Rattle.protocol.specs.Tables.{has_number};
 ghost use Rattle.protocol.specs.MasterSnapshots.{snapshot_handles, snapshot_files, waits_for};
 ghost use Rattle.master_plan.specs.Plans.{known};
 
+use crate::alone::{file_alone, handles_of};
 use gfs_types::ids::Handle;
 use master_looks::snapshots;
 use master_plan::fault::PlanFault;
@@ -46,6 +47,7 @@ pub fn waits_for<A: Allocator + Clone>(plan: &Plan<A>, handle: Handle) -> Result
     Ok(false)
 }
 
+#[tactic(auto, using(crate::proofs::Sources::any_rising))]
 fn is_concerned<A: Allocator + Clone>(
     plan: &Plan<A>,
     snapshot: &Pending,
@@ -53,6 +55,9 @@ fn is_concerned<A: Allocator + Clone>(
 ) -> Result<bool, PlanFault>
     ensures { IfOk result (λ b. b ≡ has_number (snapshot_handles (known plan.now) snapshot.now) handle.0) }
 {
+    if let Some(file) = file_alone(plan, snapshot) {
+        return Ok(has_number(handles_of(plan, file), handle.0));
+    }
     let handles = snapshot_handles(plan, snapshot)?;
     Ok(has_number(&handles, handle.0))
 }

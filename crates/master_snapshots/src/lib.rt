@@ -1,6 +1,7 @@
 //! Snapshots at the master: they wait under their locks until leases have ended (GFS paper, section 3.4).
 #![tactic(auto)]
 
+pub mod alone;
 pub mod begins;
 pub mod concerned;
 pub mod ready;

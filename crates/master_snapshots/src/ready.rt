@@ -6,6 +6,7 @@ ghost use Rattle.chunk_table.specs.ChunkTable.{chunk_of};
 ghost use Rattle.protocol.specs.MasterSnapshots.{is_ready, row_has_ended};
 ghost use Rattle.master_plan.specs.Plans.{known};
 
+use crate::alone::{file_alone, handles_of};
 use crate::concerned::snapshot_handles;
 use gfs_types::ids::Handle;
 use leases::master::ended;
@@ -15,9 +16,13 @@ use master_plan::waiting::Pending;
 use std::alloc::Allocator;
 
 /// Whether no lease of the chunks concerned is left to end.
+#[tactic(auto, using(crate::proofs::Sources::all_rising))]
 pub fn is_ready<A: Allocator + Clone>(plan: &Plan<A>, snapshot: &Pending) -> Result<bool, PlanFault>
     ensures { IfOk result (λ b. b ≡ is_ready (known plan.now) snapshot.now) }
 {
+    if let Some(file) = file_alone(plan, snapshot) {
+        return Ok(have_ended(plan, handles_of(plan, file)));
+    }
     let handles = snapshot_handles(plan, snapshot)?;
     Ok(have_ended(plan, &handles))
 }

@@ -85,6 +85,15 @@ impl<A: Allocator + Clone> State<A> {
         })
     }
 
+    /// All names go, so that a replay finds the room that they took. What else is kept stays. Takes no memory.
+    pub fn forget_names(&mut self, alloc: A)
+        ensures { record self.new { names = map.empty } ≡ record self.old { names = map.empty } }
+    {
+        if let Ok(none) = Trie::new(alloc) {
+            self.names = none;
+        }
+    }
+
     /// What stands at a path.
     pub fn node(&self, path: &Path) -> Option<&NameNode>
         ensures { option_copied result ≡ node_at self.now.names path.now }

@@ -20,6 +20,9 @@ pub fn gives_up_lost_copies<A: Allocator + Clone>(plan: &mut Plan<A>) -> Result<
     ensures { OnOk result ((disk : LogDisk) → gives_up_lost_copies (doing disk plan.old) ≡ doing disk plan.new) }
 {
     let handles = lost_copies(plan)?;
+    if handles.is_empty() {
+        return Ok(());
+    }
     plan.give_up_copies(&handles)
 }
 

@@ -4,4 +4,6 @@
 #[cfg(test)]
 mod locks;
 #[cfg(test)]
+mod region;
+#[cfg(test)]
 mod tries;

@@ -64,8 +64,8 @@ fn one_file(alloc: Global, path: &Path) -> Result<Trie<u64, Global>, Fail> {
 fn a_value_is_changed(rt: HostRuntime) -> Result<(), Fail> {
     let path = Path::parse("/a", rt.alloc())?;
     let mut trie = one_file(rt.alloc(), &path)?;
-    if let Some(value) = trie.get_mut(&path) {
-        *value = 50;
+    if trie.insert(&path, 50).is_err() {
+        return Err(Fail::new("memory was refused"));
     }
     assert!(rt; trie.get(&path).copied() == Some(50));
     Ok(())

@@ -1,6 +1,8 @@
+pub mod Added
 pub mod Cuts
-pub mod Entries
-pub mod Lent
+pub mod FrontNames
+pub mod LowerNames
+pub mod Maps
 pub mod Outcomes
 pub mod Rests
-pub mod Retained
+pub mod Walks

@@ -6,6 +6,10 @@ pub if_ok_along : {T E : Type 0} (r : Result T E) (P Q : T → Type 0) → ((t :
 if_ok_along (Ok t) P Q follows h = follows t refl h
 if_ok_along (Err e) P Q follows h = tt
 
+pub on_ok_along : {T E P Q : Type 0} (r : Result T E) → (P → Q) → OnOk r P → OnOk r Q
+on_ok_along (Ok t) follows h = follows h
+on_ok_along (Err e) follows h = tt
+
 pub err_given : {T E : Type 0} (r : Result T E) (P : Type 0) → is_err r ≡ true → OnErr r P → P
 err_given (Ok t) P err h = absurd (false≢true err)
 err_given (Err e) P err h = h

@@ -1,3 +1,5 @@
 pub mod Below
+pub mod Copies
+pub mod Counts
 pub mod Texts
-pub mod Lends
+pub mod Walks

@@ -1,33 +1,37 @@
 //! A name with what stands there.
 
-ghost use Rattle.std.specs.Prelude.{◌≡◌};
+ghost use Rattle.std.specs.Prelude.{◌≡◌, string_bytes};
 
 use gfs_types::lists::Text;
+use std::alloc::{Allocator, Global};
 use std::marker::Model;
 
-/// A name and what stands there: of a directory's children the last part of the path, of all entries the whole path. Seen as that pair.
+/// A name, in memory of `B`, and what stands there. Seen as that pair.
 #[derive(Drop)]
-pub struct Child<'a, V> {
-    name: Text,
+pub struct Named<'a, V, B: Allocator> {
+    name: String<B>,
     value: &'a V,
 }
 
-impl<'a, V> Model for Child<'a, V> {
-    ghost use Rattle.std.specs.Prelude.{List, ℕ};
+/// Of a directory's children the last part of the path, of all entries the whole path, with what stands there.
+pub type Child<'a, V> = Named<'a, V, Global>;
+
+impl<'a, V, B: Allocator> Model for Named<'a, V, B> {
+    ghost use Rattle.std.specs.Prelude.{List, ℕ, string_bytes};
     ghost use Rattle.std.specs.Coded.{coded×, coded_list, coded_ℕ};
 
     ghost Value = { List ℕ × V };
 
     ghost coded = { coded× (coded_list coded_ℕ) V.code };
 
-    ghost view = { λ c. (c.name, c.value.now) };
+    ghost view = { λ c. (string_bytes c.name, c.value.now) };
 }
 
-impl<'a, V> Child<'a, V> {
-    pub(crate) fn new(name: Text, value: &'a V) -> Self
-        ensures { result ≡ (name, value.now) }
+impl<'a, V, B: Allocator> Named<'a, V, B> {
+    pub(crate) fn new(name: String<B>, value: &'a V) -> Self
+        ensures { result ≡ (string_bytes name, value.now) }
     {
-        Child { name, value }
+        Named { name, value }
     }
 
     /// The last part of its path, or the whole path.
@@ -43,11 +47,13 @@ impl<'a, V> Child<'a, V> {
     {
         self.value
     }
+}
 
+impl<'a, V> Named<'a, V, Global> {
     /// The same, to be kept.
     pub fn into_name(self) -> Text
         ensures { result ≡ self.entry.0 }
     {
-        self.name
+        Text::new(self.name)
     }
 }

@@ -3,5 +3,6 @@
 
 pub mod child;
 pub mod copy;
+mod entries;
 pub mod parts;
 pub mod trie;

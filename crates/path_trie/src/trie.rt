@@ -1,75 +1,68 @@
 //! The map itself.
 
-ghost use Rattle.std.specs.Prelude.{◌≡◌, Option, Some, None, IsSome, IfSome, IsOk, IfOk, IfErr, OnOk, OnErr, option_copied, string_bytes};
-ghost use Rattle.std.specs.Option.{option_copied_mut};
-ghost use Rattle.std.specs.Borrow.{sem};
+ghost use Rattle.std.specs.Prelude.{◌≡◌, ◌≤◌, None, length, IfOk, IfErr, OnOk, OnErr, option_copied};
 ghost use Rattle.std.specs.FinMap as map;
-ghost use Rattle.std.specs.BTreeMap.{IsOrdered, keys};
-ghost use Rattle.std.specs.List.{list_any};
-ghost use Rattle.std.specs.String.{string_cmp};
-ghost use Rattle.gfs_types.specs.Paths.{last_part, is_below, is_at_or_below};
-ghost use Rattle.path_trie.specs.Below.{children_by_part, child_entries, has_below, has_at_or_below};
-ghost use Rattle.path_trie.specs.Texts.{by_bytes};
+ghost use Rattle.gfs_types.specs.Paths.{front_below};
+ghost use Rattle.path_trie.specs.Below.{children_by_part, has_below, has_at_or_below};
 
 use crate::child::Child;
-use crate::parts::{is_at_or_below, is_below, is_child, last_part};
-use gfs_types::lists::Text;
+use crate::entries::{add_behind, add_names};
 use gfs_types::no_memory::NoMemory;
 use gfs_types::path::Path;
-use std::alloc::{AllocFailed, Allocator, Global};
-use std::collections::BTreeMap;
+use label_tree::below::{has_more, has_slash_behind};
+use label_tree::tree::Tree;
+use label_tree_changes::insert::insert;
+use label_tree_changes::remove::remove;
+use std::alloc::{Allocator, Global};
 use std::marker::Model;
 
-/// A finite map from full paths to values, seen in the order of the paths' bytes. Its memory, the paths' text too, lies in `A`.
+/// A finite map from full paths to values, seen in the order of the paths' bytes. What paths begin with alike is kept once. All its memory lies in `A`.
 #[derive(Drop)]
 pub struct Trie<V, A: Allocator> {
-    pub(crate) names: BTreeMap<String<A>, V, A>,
+    pub(crate) names: Tree<V, A>,
+    count: usize,
     pub(crate) alloc: A,
 }
 
 impl<V, A: Allocator> Model for Trie<V, A> {
     ghost use Rattle.std.specs.Coded.{coded_ℕ, coded_list};
     ghost use Rattle.std.specs.FinMap.{code, from_entries};
-    ghost use Rattle.path_trie.specs.Texts.{Names, by_bytes};
+    ghost use Rattle.path_trie.specs.Texts.{Names};
+    ghost use Rattle.path_trie.specs.Counts.{IsCounted};
 
     ghost Value = { Names V };
 
     ghost coded = { code (coded_list coded_ℕ) V.code };
 
-    ghost view = { λ t. from_entries (by_bytes t.names.entries) };
+    ghost view = { λ t. from_entries t.names };
+
+    ghost invariant = { λ t. IsCounted t.names t.count };
 }
 
 impl<V: Drop, A: Allocator + Clone> Trie<V, A> {
-    ghost use Rattle.path_trie.specs.Lends.{lends_get};
-
     /// An empty map.
     pub fn new(alloc: A) -> Result<Self, NoMemory>
         ensures { IfOk result (λ t. t ≡ map.empty) }
     {
-        let names = BTreeMap::new(alloc.clone()?);
-        Ok(Trie { names, alloc })
+        Ok(Trie {
+            names: Tree::new(),
+            count: 0,
+            alloc,
+        })
     }
 
     /// How many names it has.
     pub fn len(&self) -> usize
         ensures { result ≡ map.len self.now }
     {
-        self.names.len()
+        self.count
     }
 
     /// What stands at the path.
     pub fn get(&self, path: &Path) -> Option<&V>
         ensures { option_copied result ≡ map.get self.now path.now }
     {
-        self.names.get(path.as_str())
-    }
-
-    /// What stands at the path, to be changed in place.
-    pub fn get_mut(&mut self, path: &Path) -> Option<&mut V>
-        ensures* writes_back { sem 𝓛 (lends_get V.row A.row A.Allocator self.entry path.now result) }
-        ensures value { option_copied_mut result ≡ map.get self.old path.now }
-    {
-        self.names.get_mut(path.as_str())
+        self.names.get(path.as_str().as_bytes())
     }
 
     /// Puts the value at the path, in place of what stands there. A path that is there needs no memory. NoMemory hands the value back and leaves the map as it was.
@@ -79,24 +72,28 @@ impl<V: Drop, A: Allocator + Clone> Trie<V, A> {
         ensures back { IfErr result (λ e. e.0 ≡ value) }
         ensures absent { OnErr result (map.get self.old path.now ≡ None) }
     {
-        if let Some(old) = self.get_mut(path) {
-            *old = value;
-            return Ok(());
-        }
-        let Some(name) = self.name_of(path) else {
-            return Err((value, NoMemory));
-        };
-        self.add(name, value)
+        self.add(path.as_str(), value)
     }
 
-    pub(crate) fn add(&mut self, name: String<A>, value: V) -> Result<(), (V, NoMemory)>
-        ensures ok { OnOk result (self.new ≡ map.insert self.old (string_bytes name) value) }
+    // The same at a text that has some byte.
+    pub(crate) fn add(&mut self, name: &str, value: V) -> Result<(), (V, NoMemory)>
+        requires { 1 ≤ length name.now }
+        ensures ok { OnOk result (self.new ≡ map.insert self.old name.now value) }
         ensures err { OnErr result (self.new ≡ self.old) }
         ensures back { IfErr result (λ e. e.0 ≡ value) }
+        ensures absent { OnErr result (map.get self.old name.now ≡ None) }
     {
-        match self.names.insert(name, value) {
-            Ok(_) => Ok(()),
-            Err(AllocFailed { value: (_, value) }) => Err((value, NoMemory)),
+        let bytes = name.as_bytes();
+        let is_new = self.names.get(bytes).is_none();
+        if is_new && self.count == usize::MAX {
+            return Err((value, NoMemory));
+        }
+        match insert(&mut self.names, &self.alloc, bytes, value) {
+            Ok(()) => {
+                self.count += usize::from(is_new);
+                Ok(())
+            }
+            Err(back) => Err(back),
         }
     }
 
@@ -105,96 +102,67 @@ impl<V: Drop, A: Allocator + Clone> Trie<V, A> {
         ensures value { result ≡ map.get self.old path.now }
         ensures rest { self.new ≡ map.remove self.old path.now }
     {
-        self.names.remove(path.as_str())
+        self.take(path.as_str())
+    }
+
+    pub(crate) fn take(&mut self, name: &str) -> Option<V>
+        ensures value { result ≡ map.get self.old name.now }
+        ensures rest { self.new ≡ map.remove self.old name.now }
+    {
+        let taken = remove(&mut self.names, name.as_bytes());
+        self.count -= usize::from(taken.is_some());
+        taken
     }
 
     /// What stands right below a directory, in the order of the last parts' bytes. NoMemory: the list found no room in `alloc`.
     pub fn children(&self, alloc: Global, directory: &Path) -> Result<Vec<Child<'_, V>>, NoMemory>
         ensures { IfOk result (λ c. c.items ≡ children_by_part self.now directory.now) }
     {
-        children_of(alloc, &self.names, directory.as_str())
+        let directory = directory.as_str();
+        let mut front = front_below(alloc, directory)?;
+        let mut found = Vec::new(alloc);
+        add_behind(&alloc, &mut found, Some(directory), &mut front, &self.names)?;
+        Ok(found)
     }
 
     /// Every name under its whole path, in the order of the paths' bytes. NoMemory: the list found no room in `alloc`.
     pub fn entries(&self, alloc: Global) -> Result<Vec<Child<'_, V>>, NoMemory>
         ensures { IfOk result (λ c. c.items ≡ map.entries self.now) }
     {
-        entries_of(alloc, &self.names)
+        let mut front = Vec::new(alloc);
+        let mut found = Vec::new(alloc);
+        add_names(&alloc, &mut found, None, &mut front, &self.names)?;
+        Ok(found)
     }
 
     /// Whether a name lies below the directory, at any depth. It needs no memory.
     pub fn has_below(&self, directory: &Path) -> bool
         ensures { result ≡ has_below self.now directory.now }
     {
-        any_below(&self.names, directory.as_str())
+        let front = directory.as_str().as_bytes();
+        if front == b"/".as_slice() {
+            return has_more(&self.names, front);
+        }
+        has_slash_behind(&self.names, front)
     }
 
     /// Whether a name lies at the path or below it, at any depth. It needs no memory.
     pub fn has_at_or_below(&self, path: &Path) -> bool
         ensures { result ≡ has_at_or_below self.now path.now }
     {
-        any_at_or_below(&self.names, path.as_str())
-    }
-
-    // The path's text in the map's own memory, or None where it is refused.
-    fn name_of(&self, path: &Path) -> Option<String<A>>
-        ensures { IfSome result (λ name. string_bytes name ≡ path.now) }
-    {
-        let alloc = self.alloc.clone().ok()?;
-        String::from_str(alloc, path.as_str()).ok()
+        self.names.get(path.as_str().as_bytes()).is_some() || self.has_below(path)
     }
 }
 
-fn children_of<'a, V, A: Allocator>(
-    alloc: Global,
-    names: &'a BTreeMap<String<A>, V, A>,
-    directory: &str,
-) -> Result<Vec<Child<'a, V>>, NoMemory>
-    ensures all { IfOk result (λ c. c.items ≡ child_entries directory.now (by_bytes names.now.entries)) }
-    ensures ordered { IsOk result → IsOrdered string_cmp names.now }
+// What all paths below a directory begin with.
+fn front_below(alloc: Global, directory: &str) -> Result<Vec<u8>, NoMemory>
+    ensures { IfOk result (λ front. front.items ≡ front_below directory.now) }
 {
-    let mut found = Vec::new(alloc);
-    for (name, value) in names {
-        if is_child(directory, name.as_str()) {
-            let child = child_at(alloc, name.as_str(), value)?;
-            found.push(child)?;
-        }
+    let mut front = Vec::new(alloc);
+    front.extend_from_slice(directory.as_bytes())?;
+    if directory == "/" {
+        return Ok(front);
     }
-    Ok(found)
-}
-
-fn entries_of<V, A: Allocator>(
-    alloc: Global,
-    names: &BTreeMap<String<A>, V, A>,
-) -> Result<Vec<Child<'_, V>>, NoMemory>
-    ensures all { IfOk result (λ c. c.items ≡ by_bytes names.now.entries) }
-    ensures ordered { IsOk result → IsOrdered string_cmp names.now }
-{
-    let mut found = Vec::new(alloc);
-    for (name, value) in names {
-        let path = Text::from_str(name.as_str(), alloc)?;
-        found.push(Child::new(path, value))?;
-    }
-    Ok(found)
-}
-
-fn any_below<V, A: Allocator>(names: &BTreeMap<String<A>, V, A>, directory: &str) -> bool
-    ensures any { result ≡ list_any (λ k. is_below directory.now (string_bytes k)) (keys names.now) }
-    ensures ordered { IsOrdered string_cmp names.now }
-{
-    names.keys().any(|name| is_below(directory, name.as_str()))
-}
-
-fn any_at_or_below<V, A: Allocator>(names: &BTreeMap<String<A>, V, A>, top: &str) -> bool
-    ensures any { result ≡ list_any (λ k. is_at_or_below top.now (string_bytes k)) (keys names.now) }
-    ensures ordered { IsOrdered string_cmp names.now }
-{
-    names.keys().any(|name| is_at_or_below(top, name.as_str()))
-}
-
-fn child_at<'a, V>(alloc: Global, path: &str, value: &'a V) -> Result<Child<'a, V>, NoMemory>
-    ensures { IfOk result (λ c. c ≡ (last_part path.now, value.now)) }
-{
-    let part = Text::from_str(last_part(path), alloc)?;
-    Ok(Child::new(part, value))
+    front.push(b'/')?;
+    Ok(front)
 }

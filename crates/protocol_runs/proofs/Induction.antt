@@ -20,19 +20,19 @@ use Rattle.protocol_whole_laws.specs.ChunksBeside.{IsMastersEvent}
 use Rattle.protocol_whole_laws.specs.Rounds.{IsMastersInput}
 use Rattle.protocol_whole_laws.specs.WholeWorlds.{IsWholeWorld, IsServersEvent}
 use Rattle.protocol_whole_laws.proofs.WholeWorlds.{new_worlds_are_whole, servers_events_keep_worlds_whole}
-use Rattle.protocol_numbered_laws.proofs.AddedChunks.{added_chunks_are_asked_for}
-use Rattle.protocol_numbered_laws.proofs.NumberedCalls.{numbered_mutations_are_for_open_calls}
-use Rattle.protocol_numbered_laws.proofs.RequestsNumbered.{events_keep_requests_numbered}
-use Rattle.protocol_answer_laws.proofs.AllAnswers.{answers_are_so}
-use Rattle.protocol_client_laws.specs.ClientsEvents.{IsClientsEvent}
-use Rattle.protocol_client_laws.proofs.ClientsEvents.{clients_events_keep_worlds_whole}
-use Rattle.protocol_client_laws.proofs.EventKinds.{events_are_of_one_kind}
-use Rattle.protocol_length_laws.proofs.LongRefusals.{refusals_for_length_are_so}
-use Rattle.protocol_holder_laws.proofs.HoldersGoOn.{holders_may_go_on}
-use Rattle.protocol_offer_laws.proofs.AllOffers.{offers_are_so}
-use Rattle.protocol_offer_laws.proofs.ToldPlaces.{told_places_are_within}
-use Rattle.protocol_master_laws.proofs.MasterEvents.{masters_events_keep_worlds_whole}
-use Rattle.protocol_headline_laws.proofs.ShownFiles.{whole_worlds_are_explained}
+use Rattle.protocol_runs.proofs.AddedChunks.{added_chunks_are_asked_for}
+use Rattle.protocol_runs.proofs.NumberedCalls.{numbered_mutations_are_for_open_calls}
+use Rattle.protocol_runs.proofs.RequestsNumbered.{events_keep_requests_numbered}
+use Rattle.protocol_runs.proofs.AllAnswers.{answers_are_so}
+use Rattle.protocol_runs.specs.ClientsEvents.{IsClientsEvent}
+use Rattle.protocol_runs.proofs.ClientsEvents.{clients_events_keep_worlds_whole}
+use Rattle.protocol_runs.proofs.EventKinds.{events_are_of_one_kind}
+use Rattle.protocol_runs.proofs.LongRefusals.{refusals_for_length_are_so}
+use Rattle.protocol_runs.proofs.HoldersGoOn.{holders_may_go_on}
+use Rattle.protocol_runs.proofs.AllOffers.{offers_are_so}
+use Rattle.protocol_runs.proofs.ToldPlaces.{told_places_are_within}
+use Rattle.protocol_runs.proofs.MasterEvents.{masters_events_keep_worlds_whole}
+use Rattle.protocol_runs.proofs.ShownFiles.{whole_worlds_are_explained}
 use Rattle.protocol_runs.specs.Runs.{KeepsWorldsWhole, ReachedWorldsAreWhole, AnswersAreARun}
 use Rattle.protocol_runs.proofs.DisksBefore.{disks_before}
 

@@ -46,13 +46,13 @@ abbrev pub best_from : (ℕ → Option CloneOrder) → ℕ → ℕ → Option Cl
 best_from at start zero = None
 best_from at start (suc count) = better_clone (at start) (best_from at (start + 1) count)
 
-best_alike : (f g : ℕ → Option CloneOrder) (start count : ℕ) → ((k : ℕ) → start ≤ k → f k ≡ g k) → best_from f start count ≡ best_from g start count
+pub best_alike : (f g : ℕ → Option CloneOrder) (start count : ℕ) → ((k : ℕ) → start ≤ k → f k ≡ g k) → best_from f start count ≡ best_from g start count
 best_alike f g start zero h = refl
 best_alike f g start (suc count) h =
     ap (λ x. better_clone x (best_from f (start + 1) count)) (h start (omega arith))
     ∙ ap (better_clone (g start)) (best_alike f g (start + 1) count (λ k le. h k (omega arith)))
 
-best_none : (start count : ℕ) → best_from (λ _. None) start count ≡ None
+pub best_none : (start count : ℕ) → best_from (λ _. None) start count ≡ None
 best_none start zero = refl
 best_none start (suc count) = best_none (start + 1) count
 

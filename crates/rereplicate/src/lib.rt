@@ -5,3 +5,4 @@ pub mod clone_order;
 pub mod holders;
 pub mod next;
 mod servers;
+pub mod whole;

@@ -18,18 +18,18 @@ use operation_log::fault::LogFault;
 use script::options::Options;
 use script::script_fault::ScriptFault;
 use simulated_world::world::SimulatedWorld;
-use std::alloc::Global;
+use std::alloc::{Allocator, Global};
 use stored_log::disk_log::DiskLog;
 use stored_log::node_disk::NodeDisk;
 
 /// A master's log on a disk.
 pub type ScriptLog = DiskLog<NodeDisk>;
 
-/// A master over a log on a disk.
-pub type ScriptMaster = SeatedMaster<ScriptLog, Global>;
+/// A master over a log on a disk, whose names lie in `A`.
+pub type ScriptMaster<A> = SeatedMaster<ScriptLog, A>;
 
 /// A cell over a log on a disk, and stores in memory.
-pub type ScriptCell = SimulatedWorld<ScriptMaster, MemoryStore>;
+pub type ScriptCell<A> = SimulatedWorld<ScriptMaster<A>, MemoryStore>;
 
 /// The servers that a cell may have, and the clients.
 pub const MAX_NODES: u64 = 64;
@@ -72,27 +72,36 @@ fn new_log(alloc: Global, log_bytes: u64) -> Result<ScriptLog, ScriptFault>
     }
 }
 
-fn new_master(alloc: Global, config: Config, servers: u16) -> Result<ScriptMaster, ScriptFault>
+fn new_master<A: Allocator + Clone>(
+    alloc: Global,
+    config: Config,
+    servers: u16,
+    names: A,
+) -> Result<ScriptMaster<A>, ScriptFault>
     requires log { IsDiskSize config.log_bytes }
     requires lease { config.lease_ms ≤ 3600000 }
     requires skew { config.skew_ms ≤ 60000 }
-    ensures state { IfOk result (λ m. ⟦<ScriptMaster as CellMaster>⟧.state m ≡ new_master config servers) }
-    ensures files { IfOk result (λ m. ⟦<ScriptMaster as CellMaster>⟧.files m ≡ table.empty) }
+    ensures state { IfOk result (λ m. ⟦<ScriptMaster<A> as CellMaster>⟧.state m ≡ new_master config servers) }
+    ensures files { IfOk result (λ m. ⟦<ScriptMaster<A> as CellMaster>⟧.files m ≡ table.empty) }
     ensures fault { IfErr result IsOfStart }
 {
     let log = new_log(alloc, config.log_bytes)?;
-    match SeatedMaster::new(alloc, config, servers, log, alloc) {
+    match SeatedMaster::new(alloc, config, servers, log, names) {
         Ok(master) => Ok(master),
         Err(MasterFault::NoMemory) => Err(ScriptFault::NoMemory),
         Err(MasterFault::Log(_)) => Err(ScriptFault::Start),
     }
 }
 
-/// A new cell.
+/// A new cell, whose names lie in `A`.
 ///
 /// - `Start`: a setting or a count is out of its range, or the log didn't take the master's first epoch.
 /// - `NoMemory`: memory was refused.
-pub fn new_cell(alloc: Global, options: &Options) -> Result<ScriptCell, ScriptFault>
+pub fn new_cell<A: Allocator + Clone>(
+    alloc: Global,
+    names: A,
+    options: &Options,
+) -> Result<ScriptCell<A>, ScriptFault>
     ensures new { IfOk result (λ cell. IsNew options.now cell.world) }
     ensures fault { IfErr result IsOfStart }
     ensures range { IsFalse (are_in_range options.now) → result ≡ Err ScriptFault.Start }
@@ -105,7 +114,7 @@ pub fn new_cell(alloc: Global, options: &Options) -> Result<ScriptCell, ScriptFa
     if !are_fitting(&config) || !is_count(servers.into()) || !is_count(clients) {
         return Err(ScriptFault::Start);
     }
-    let master = new_master(alloc, config, servers)?;
+    let master = new_master(alloc, config, servers, names)?;
     let world = World::new(alloc, config, master, servers, clients)?;
     Ok(SimulatedWorld { world })
 }

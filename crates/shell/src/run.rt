@@ -8,6 +8,7 @@ use crate::making::{ScriptCell, new_cell};
 use cell_simulator::cell::SimulatedCell;
 use cell_simulator::run::run_lines;
 use cell_simulator::simulator::Simulator;
+use linked_list_allocator::LocalHeap;
 use script::options::Options;
 use script::script_fault::ScriptFault;
 use std::alloc::Global;
@@ -31,11 +32,36 @@ pub fn run_script<R: BufRead, W: Write>(
     reader: &mut R,
     writer: &mut W,
 ) -> Result<(), ScriptFault>
-    ensures runs { OnOk result (RunsOnNew ⟦<ScriptCell as SimulatedCell>⟧.meaning (λ cell. IsNew options.now cell.world) (R.remaining reader.old) (W.contents writer.old) (W.contents writer.new)) }
-    ensures stops { IfErr result (Stops ⟦<ScriptCell as SimulatedCell>⟧.meaning (λ cell. IsNew options.now cell.world) (R.remaining reader.old) (R.remaining reader.new) (W.contents writer.old) (W.contents writer.new)) }
+    ensures runs { OnOk result (RunsOnNew ⟦<ScriptCell<Global> as SimulatedCell>⟧.meaning (λ cell. IsNew options.now cell.world) (R.remaining reader.old) (W.contents writer.old) (W.contents writer.new)) }
+    ensures stops { IfErr result (Stops ⟦<ScriptCell<Global> as SimulatedCell>⟧.meaning (λ cell. IsNew options.now cell.world) (R.remaining reader.old) (R.remaining reader.new) (W.contents writer.old) (W.contents writer.new)) }
     ensures range { IsFalse (are_in_range options.now) → result ≡ Err ScriptFault.Start }
 {
-    let cell = new_cell(alloc, options)?;
+    let cell = new_cell(alloc, alloc, options)?;
+    let mut simulator = Simulator::new(alloc, cell);
+    run_lines(alloc, &mut simulator, reader, writer)
+}
+
+/// A cell whose names lie in a region.
+pub type RegionCell = ScriptCell<&'static LocalHeap>;
+
+/// The same with the names in a region of so many bytes, in which nothing else of the cell lies. `Start` too where the cell can't be made in it.
+pub fn run_script_in_region<R: BufRead, W: Write>(
+    alloc: Global,
+    bytes: u64,
+    options: &Options,
+    reader: &mut R,
+    writer: &mut W,
+) -> Result<(), ScriptFault>
+    ensures runs { OnOk result (RunsOnNew ⟦<RegionCell as SimulatedCell>⟧.meaning (λ cell. IsNew options.now cell.world) (R.remaining reader.old) (W.contents writer.old) (W.contents writer.new)) }
+    ensures stops { IfErr result (Stops ⟦<RegionCell as SimulatedCell>⟧.meaning (λ cell. IsNew options.now cell.world) (R.remaining reader.old) (R.remaining reader.new) (W.contents writer.old) (W.contents writer.new)) }
+    ensures range { IsFalse (are_in_range options.now) → result ≡ Err ScriptFault.Start }
+{
+    let Ok(heap) = LocalHeap::new(alloc, bytes as usize) else {
+        return Err(ScriptFault::Start);
+    };
+    let Ok(cell) = new_cell(alloc, &heap, options) else {
+        return Err(ScriptFault::Start);
+    };
     let mut simulator = Simulator::new(alloc, cell);
     run_lines(alloc, &mut simulator, reader, writer)
 }

@@ -14,3 +14,5 @@ mod outcome;
 mod random;
 #[cfg(test)]
 mod refused;
+#[cfg(test)]
+mod region;

@@ -2,7 +2,7 @@ use Rattle.std.proofs.Common.{◌∙◌, Some, map, ap, ap₂, refl, sym, string
 use Rattle.clap.specs.Words.{app_of, found_of, rows_of}
 use Rattle.clap.proofs.WalkLemmas.{first_value-rows}
 use Rattle.command_line.specs.Asking.{asked_by, is_live}
-use Rattle.command_line.proofs.ParseLemmas.{a_fault, fault_of_none, no_fault, no_file, no_number, of_bad, of_fault, of_run, run_found, run_is, run_none, run_some}
+use Rattle.command_line.proofs.ParseLemmas.{a_fault, fault_of_none, no_fault, no_file, no_heap, no_number, of_bad, of_fault, of_run, run_found, run_is, run_none, run_some}
 use Rattle.command_line.proofs.command.parse.Goals as goal
 
 pub returns-in-Err : goal.returns-in-Err
@@ -23,6 +23,17 @@ returns-in_err-file c =
     let bad = fault_of_none c.get_str.result c.in_err-file.field-0.0 c.in_err-file.ensures.ok_part c.in_err-file.ensures.value in
     of_bad words c.from_residual-in_err-file.result c.in_err-file.field-0.0 c.from_residual-in_err-file.ensures.1 bad none (run ∙ run_none name rows (no_file rows file))
 
+pub returns-in_err-names_heap : goal.returns-in_err-names_heap
+returns-in_err-names_heap c =
+    let words = map string_bytes c.args.words.now in
+    let app = app_of c.in_ok-command.field-0 in
+    let name = c.in-Some.name.now in
+    let rows = rows_of (found_of c.in-Some.given.now) in
+    let none = no_fault app words c.in_ok-command.ensures c.in-Ok.ensures.kinds in
+    let run = run_found app words c.in-Ok.matches name rows c.in_ok-command.ensures c.in-Ok.ensures.matches c.in-Some.ensures.name c.in-Some.ensures.rows in
+    of_bad words c.from_residual-in_err-names_heap.result c.in_err-names_heap.field-0.0 c.from_residual-in_err-names_heap.ensures.1 c.in_err-names_heap.ensures.err none
+    (run ∙ run_none name rows (no_heap rows c.in_err-names_heap.ensures.all))
+
 pub returns-in_err-options : goal.returns-in_err-options
 returns-in_err-options c =
     let words = map string_bytes c.args.words.now in
@@ -32,7 +43,7 @@ returns-in_err-options c =
     let none = no_fault app words c.in_ok-command.ensures c.in-Ok.ensures.kinds in
     let run = run_found app words c.in-Ok.matches name rows c.in_ok-command.ensures c.in-Ok.ensures.matches c.in-Some.ensures.name c.in-Some.ensures.rows in
     of_bad words c.from_residual-in_err-options.result c.in_err-options.field-0.0 c.from_residual-in_err-options.ensures.1 c.in_err-options.ensures.err none
-    (run ∙ run_none name rows (no_number rows c.in_err-options.ensures.all))
+    (run ∙ run_none name rows (no_number rows c.in_ok-names_heap.ensures.all c.in_err-options.ensures.all))
 
 pub returns : goal.returns
 returns c =
@@ -43,6 +54,8 @@ returns c =
     let none = no_fault app words c.in_ok-command.ensures c.in-Ok.ensures.kinds in
     let run = run_found app words c.in-Ok.matches name rows c.in_ok-command.ensures c.in-Ok.ensures.matches c.in-Some.ensures.name c.in-Some.ensures.rows in
     let file = ap (option_map (λ s. s.now)) (sym c.in_ok-file.ensures.ok_part) ∙ c.get_str.ensures ∙ first_value-rows (found_of c.in-Some.given.now) (codes "FILE") in
-    let found = run_is rows c.in_ok-file.file.now c.in_ok-options.ensures.all file ∙ ap (λ o. Some (c.in_ok-file.file.now, o)) (sym c.in_ok-options.ensures.ok) in
-    of_run words (is_live name) c.in_ok-file.file.now c.in_ok-options.options c.request_for.result
-    (ap₂ asked_by none (run ∙ run_some name rows (is_live name) c.in_ok-file.file.now c.in_ok-options.options refl found)) c.request_for.ensures
+    let heap = c.in_ok-names_heap.names_heap in
+    let options = c.in_ok-options.options in
+    let found = run_is rows c.in_ok-file.file.now c.in_ok-names_heap.ensures.all c.in_ok-options.ensures.all file ∙ ap₂ (λ b o. Some (c.in_ok-file.file.now, (b, o))) (sym c.in_ok-names_heap.ensures.ok) (sym c.in_ok-options.ensures.ok) in
+    of_run words (is_live name) c.in_ok-file.file.now heap options c.request_for.result
+    (ap₂ asked_by none (run ∙ run_some name rows (is_live name) c.in_ok-file.file.now (heap, options) refl found)) c.request_for.ensures

@@ -1,6 +1,6 @@
 use Rattle.std.proofs.Common.{[], refl, sym, ap, subst, ◌∙◌, arith}
 use Rattle.cell_journal.specs.Rules.{Writes, IsSame, IsJournalOf, gave}
-use Rattle.journal_steps.proofs.Placing.{when_true, when_false, same, still_writes, looked_waits, waits_still}
+use Rattle.journal_steps.proofs.Placing.{when_true, when_false, same, still_writes, gave_waits, waits_still}
 use Rattle.journal_steps.proofs.closing.try_close.Goals as goal
 
 pub returns-then-not-acquire : goal.returns-then-not-acquire
@@ -57,5 +57,5 @@ returns g c =
     record {
       some = tt;
       none = c.release.ensures.same.0 ∙ (c.is_quiet_at.ensures.same.0 ∙ c.acquire.ensures.same.0);
-      waits = looked_waits c.requires.writes.0 old mid final t.0 t.2 is;
+      waits = gave_waits c.requires.writes.0 old mid final t.0 t.2 is;
     }

@@ -1,11 +1,11 @@
-use Rattle.std.proofs.Common.{◌≡◌, Bool, List, true, false, sym, ◌∙◌, ap, rules}
+use Rattle.std.proofs.Common.{◌≡◌, List, true, false, sym, ◌∙◌, rules}
 use Rattle.std.specs.Prelude.{not, ◌&&◌}
 use Rattle.log_records.specs.declared.record.Record.{Record}
 use Rattle.protocol.specs.LogSizes.{checkpoint_fits}
 use Rattle.protocol.specs.Logged.{checkpoint_of}
 use Rattle.protocol.specs.Master.{fits, is_of_copy}
 use Rattle.master_plan.specs.Plans.{doing}
-use Rattle.master_plan.proofs.Logs.{fits_first, no_checkpoint, fits_never, fits_later}
+use Rattle.master_plan.proofs.Logs.{fits_first, fits_never, fits_later}
 use Rattle.master_plan.proofs.logging.logs.Goals as goal
 
 pub returns-then-branch-clause-goes : goal.returns-then-branch-clause-goes

@@ -1,16 +1,16 @@
-use Rattle.std.proofs.Common.{◌≡◌, not, true}
-use Rattle.std.specs.List.{list_all}
+use Rattle.std.proofs.Common.{◌≡◌, ◌+◌, false, take, drop, length}
 use Rattle.std.specs.Vec.Iter.{into_iter_items}
-use Rattle.std.specs.FinMap.{retain_keys}
-use Rattle.gfs_types.specs.Paths.{is_at_or_below}
+use Rattle.std.specs.FinMap.{get}
+use Rattle.gfs_types.specs.Paths.{Path}
 use Rattle.path_trie.specs.Below.{with_entries}
-use Rattle.path_trie.specs.Texts.{by_bytes}
+use Rattle.path_trie.specs.Copies.{paired, texts_of}
+use Rattle.path_trie.proofs.Added.{is_among}
 use Rattle.path_trie.proofs.trie.Trie.add_all.Given as goal
 
--- Adding the rest gives what is asked for, the other names are the ones at the start, and the rest lies at `top` or below it.
-abbrev pub invariant-loop-name : goal.invariant-loop-name
-invariant-loop-name g l = record {
-  rest_to_add : with_entries l.self (by_bytes (into_iter_items l.name-iterator)) ≡ with_entries l.fn.self (by_bytes l.fn.added.items);
-  others_kept : retain_keys l.self (λ path. not (is_at_or_below l.top path)) ≡ l.fn.self;
-  rest_there : list_all (λ e. is_at_or_below l.top e.0) (by_bytes (into_iter_items l.name-iterator)) ≡ true;
+-- Adding the rest gives what is asked for, a name is left for each value, and other names stand as at the start.
+abbrev pub invariant-loop-value : goal.invariant-loop-value
+invariant-loop-value g l = record {
+  rest_to_add : with_entries l.self (paired (drop l.count (texts_of l.names)) (into_iter_items l.value-iterator)) ≡ with_entries l.fn.self (paired (texts_of l.names) l.fn.values.items);
+  as_many : l.count + length (into_iter_items l.value-iterator) ≡ length (texts_of l.names);
+  others : (q : Path) → is_among q (take l.count (texts_of l.names)) ≡ false → get l.self q ≡ get l.fn.self q;
 }

@@ -1,16 +1,21 @@
-use Rattle.std.proofs.Common.{◌≡◌, sym, ap, ◌∙◌}
+use Rattle.std.proofs.Common.{ℕ, List, map, ap, ◌∙◌}
 use Rattle.std.specs.FinMap.{entries}
-use Rattle.path_trie.specs.Below.{copies_of, copied_entries}
-use Rattle.path_trie.specs.Texts.{by_bytes}
-use Rattle.path_trie.proofs.Entries.{entries_by_bytes}
-use Rattle.path_trie.proofs.Outcomes.{if_ok_along}
+use Rattle.path_trie.specs.Below.{copies_of}
+use Rattle.path_trie.specs.Copies.{entries_at}
+use Rattle.path_trie.proofs.FrontNames.{names_behind, values_behind}
 use Rattle.path_trie.proofs.trie.Trie.copies.Goals as goal
 
-pub returns : goal.returns
-returns g c =
-    let es = c.self.inside.names.entries in
+pub returns-clause-names : goal.returns-clause-names
+returns-clause-names g c =
     let from = c.args.from.now in
     let to = c.args.to.now in
-    if_ok_along c.copies_of.result (λ v. by_bytes v.items ≡ copies_of from to (by_bytes es)) (λ v. by_bytes v.items ≡ copied_entries c.args.self.now from to)
-    (λ v ok all. all ∙ ap (copies_of from to) (sym (entries_by_bytes es (c.copies_of.ensures.ordered ok))) ∙ ap (λ m. copies_of from to (entries m)) c.self.view_is)
-    c.copies_of.ensures.all
+    c.in_ok-names.ensures
+    ∙ ap (λ es. map (λ (e : List ℕ × g.row.V.Denot). e.0) (copies_of from to es)) (c.as_slice.ensures.value ∙ c.in_ok-found.ensures)
+    ∙ names_behind from to (entries c.args.self.now)
+
+pub returns-clause-values : goal.returns-clause-values
+returns-clause-values g c =
+    let from = c.args.from.now in
+    c.in_ok-values.ensures
+    ∙ ap (λ es. map (λ (e : List ℕ × g.row.V.Denot). e.1) (entries_at from es)) (c.as_slice-2.ensures.value ∙ c.in_ok-found.ensures)
+    ∙ values_behind from (entries c.args.self.now)

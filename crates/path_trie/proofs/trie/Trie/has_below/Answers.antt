@@ -1,17 +1,26 @@
-use Rattle.std.proofs.Common.{sym, ap, ◌∙◌}
-use Rattle.std.specs.List.{list_any}
-use Rattle.gfs_types.specs.Paths.{is_below}
-use Rattle.path_trie.specs.Texts.{by_bytes}
-use Rattle.path_trie.specs.Below.{has_below}
-use Rattle.path_trie.proofs.Entries.{any_by_bytes, entries_by_bytes}
+use Rattle.std.proofs.Common.{◌≡◌, true, false, not, ◌++◌, sym, ap, ◌∙◌}
+use Rattle.std.specs.Str.{bytes_eq}
+use Rattle.std.proofs.lemmas.Slice.Eq.{bytes_eq-Decides}
+use Rattle.gfs_types.specs.Paths.{root}
+use Rattle.label_tree.specs.Entries.{is_nothing}
+use Rattle.label_tree.specs.Behind.{behind, has_more}
+use Rattle.path_trie.proofs.LowerNames.{any_below_root, any_below}
 use Rattle.path_trie.proofs.trie.Trie.has_below.Goals as goal
+
+pub returns-then-eq : goal.returns-then-eq
+returns-then-eq g c =
+    let es = c.self.inside.names in
+    let front = c.as_bytes-front.result.now in
+    let d = c.args.directory.now in
+    let same : front ≡ d = c.as_bytes-front.ensures.value ∙ c.as_str.ensures.text in
+    let at : bytes_eq front root ≡ true = ap (bytes_eq front) (sym c.as_slice.ensures) ∙ sym c.eq.ensures ∙ c.if-eq.true in
+    c.has_more.ensures ∙ ap (λ q. has_more q es) same ∙ any_below_root es c.self.inside.count c.args.self.now d c.self.invariant c.self.view_is (sym same ∙ (bytes_eq-Decides front root).0 at)
 
 pub returns : goal.returns
 returns g c =
-    let es = c.self.inside.names.entries in
+    let es = c.self.inside.names in
+    let front = c.as_bytes-front.result.now in
     let d = c.args.directory.now in
-    c.any_below.ensures.any
-    ∙ any_by_bytes (is_below c.as_str.result.now) es
-    ∙ ap (λ p. list_any (λ e. is_below p e.0) (by_bytes es)) c.as_str.ensures.text
-    ∙ ap (list_any (λ e. is_below d e.0)) (sym (entries_by_bytes es c.any_below.ensures.ordered))
-    ∙ ap (λ m. has_below m d) c.self.view_is
+    let same : front ≡ d = c.as_bytes-front.ensures.value ∙ c.as_str.ensures.text in
+    let other : bytes_eq d root ≡ false = ap (λ q. bytes_eq q root) (sym same) ∙ ap (bytes_eq front) (sym c.as_slice.ensures) ∙ sym c.eq.ensures ∙ c.if-eq.false in
+    c.has_slash_behind.ensures ∙ ap (λ q. not (is_nothing (behind (q ++ root) es))) same ∙ any_below es c.self.inside.count c.args.self.now d c.self.invariant c.self.view_is other

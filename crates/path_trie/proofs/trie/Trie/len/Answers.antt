@@ -1,7 +1,7 @@
-use Rattle.std.proofs.Common.{sym, ap, ◌∙◌}
+use Rattle.std.proofs.Common.{ap, ◌∙◌}
 use Rattle.std.specs.FinMap as map
-use Rattle.path_trie.proofs.Entries.{len_by_bytes}
+use Rattle.path_trie.proofs.Maps.{len_names}
 use Rattle.path_trie.proofs.trie.Trie.len.Goals as goal
 
 pub returns : goal.returns
-returns g c = c.len.ensures.len ∙ sym (len_by_bytes c.self.inside.names.entries c.len.ensures.ordered) ∙ ap map.len c.self.view_is
+returns g c = len_names c.self.inside.names c.self.inside.count c.self.invariant ∙ ap map.len c.self.view_is

@@ -1,0 +1,78 @@
+use crate::producers::{
+    are_read_back, count_answered, count_offsets, make_log, new_producers, produce_all,
+};
+use cell_desk::post::Policy;
+use cell_run::cell::Cell;
+use cell_slot::gate::OpenGate;
+use gfs_types::config::Config;
+use std::alloc::Global;
+use std::sync::Wait;
+use std::test::*;
+use std::thread::Threads;
+use std::time::Clock;
+
+fn small() -> Config {
+    Config {
+        chunk: 64,
+        block: 16,
+        slots: 64,
+        attempt_ms: 60_000,
+        ..Config::default()
+    }
+}
+
+// How many records were answered by so many producers with so many records each; none where two have one offset, one isn't read back, or
+// a call was refused for another reason than that nobody could serve.
+fn produced<R: Threads + Wait + Clock + Sync>(
+    rt: &R,
+    alloc: Global,
+    cell: &mut Cell,
+    policy: Policy,
+    (producers, records): (u64, u64),
+) -> Option<usize> {
+    let mut reader = cell.client().ok()?;
+    if !make_log(rt, alloc, &mut reader) {
+        return None;
+    }
+    let mut all = new_producers(rt, alloc, cell, producers)?;
+    cell.net(policy);
+    produce_all(rt, alloc, all.as_mut_slice(), records);
+    cell.net(Policy::NONE);
+    let answered = count_answered(all.as_slice())?;
+    let offsets = count_offsets(alloc, all.as_slice())?;
+    if offsets == answered && are_read_back(rt, alloc, &mut reader, all.as_slice()) {
+        Some(answered)
+    } else {
+        None
+    }
+}
+
+#[test]
+fn four_producers(rt: HostRuntime) -> Result<(), Fail> {
+    let alloc = rt.alloc();
+    let mut cell = Cell::start(rt, alloc, small(), 3, OpenGate)?;
+    let count = produced(&rt, alloc, &mut cell, Policy::NONE, (4, 100));
+    cell.close(&rt);
+    assert_eq!(rt; count, Some(400));
+    Ok(())
+}
+
+#[test]
+fn losses_and_repeats(rt: HostRuntime) -> Result<(), Fail> {
+    let alloc = rt.alloc();
+    let hasty = Config {
+        attempt_ms: 300,
+        skew_ms: 0,
+        ..small()
+    };
+    let lossy = Policy {
+        drop_every: 7,
+        repeat_every: 5,
+        hold_every: 0,
+    };
+    let mut cell = Cell::start(rt, alloc, hasty, 3, OpenGate)?;
+    let count = produced(&rt, alloc, &mut cell, lossy, (2, 20));
+    cell.close(&rt);
+    assert!(rt; count.is_some());
+    Ok(())
+}

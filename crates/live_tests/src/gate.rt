@@ -1,0 +1,181 @@
+//! One server's read is held up until another's was answered.
+
+use bytes::Bytes;
+use cell_run::cell::{Cell, ClientSeat};
+use cell_slot::gate::Gate;
+use gfs_types::config::Config;
+use gfs_types::ids::{Fd, Node, ServerId};
+use gfs_types::lists::Text;
+use journal_pages::entry::Taking;
+use messages::event::Input;
+use messages::message::Body;
+use std::alloc::{AllocError, Global};
+use std::sync::atomic::{AtomicU64, Ordering};
+use std::sync::{Arc, Wait};
+use std::test::*;
+use std::thread;
+use std::thread::Threads;
+use std::time::{Clock, Duration};
+
+/// Holds the reads of server 1 until `answered` is set, at most for so many milliseconds; then it sets it to 2 itself. Counts them.
+#[derive(Drop)]
+struct ReadGate<R: Clock + Copy + Drop> {
+    clock: R,
+    answered: Arc<AtomicU64>,
+    held: Arc<AtomicU64>,
+}
+
+const MOST_TURNS: u64 = 10_000;
+
+const RECORD: [u8; 8] = *b"a record";
+
+impl<R: Clock + Copy + Drop> Clone for ReadGate<R> {
+    fn clone(&self) -> Result<ReadGate<R>, AllocError> {
+        Ok(ReadGate {
+            clock: self.clock,
+            answered: Arc::try_clone(&self.answered)?,
+            held: Arc::try_clone(&self.held)?,
+        })
+    }
+}
+
+fn is_read(taking: &Taking) -> bool {
+    match taking {
+        Taking::Takes(Input::Deliver(message)) => matches!(message.body, Body::Read { .. }),
+        _ => false,
+    }
+}
+
+impl<R: Clock + Copy + Drop> Gate for ReadGate<R> {
+    fn before(&self, node: Node, taking: &Taking) {
+        if node != Node::Server(ServerId(1)) || !is_read(taking) {
+            return;
+        }
+        self.held.fetch_add(1, Ordering::SeqCst);
+        wait_for(&self.clock, &self.answered);
+        if self.answered.load(Ordering::SeqCst) == 0 {
+            self.answered.store(2, Ordering::SeqCst);
+        }
+    }
+}
+
+fn open<R: Wait + Clock>(rt: &R, alloc: Global, seat: &mut ClientSeat, name: &str) -> Option<Fd> {
+    let path = Text::from_str(name, alloc).ok()?;
+    seat.open(rt, path).ok()
+}
+
+// Makes a file with one record.
+fn fill<R: Wait + Clock>(rt: &R, alloc: Global, seat: &mut ClientSeat, name: &str) -> Option<u64> {
+    let path = Text::from_str(name, alloc).ok()?;
+    seat.create(rt, path).ok()?;
+    let fd = open(rt, alloc, seat, name)?;
+    let bytes = Bytes::copy_from_slice(alloc, &RECORD).ok()?;
+    seat.append(rt, fd, bytes).ok()
+}
+
+fn reads<R: Wait + Clock>(rt: &R, alloc: Global, seat: &mut ClientSeat, name: &str) -> bool {
+    let Some(fd) = open(rt, alloc, seat, name) else {
+        return false;
+    };
+    match seat.read(rt, fd, 0, 8) {
+        Ok((bytes, _)) => bytes.as_slice() == RECORD.as_slice(),
+        Err(_) => false,
+    }
+}
+
+// Waits until it is no longer 0, but not for ever.
+fn wait_for<R: Clock>(rt: &R, flag: &AtomicU64) {
+    for _ in 0..MOST_TURNS {
+        if flag.load(Ordering::SeqCst) != 0 {
+            return;
+        }
+        thread::sleep(rt, Duration::from_millis(1));
+    }
+}
+
+/// A client, and whether it read what it had to.
+#[derive(Drop)]
+struct Reader {
+    seat: ClientSeat,
+    has_read: bool,
+}
+
+impl Reader {
+    // The first one reads where reads are held. Once one is, the second one reads elsewhere, and then lets the first one's pass.
+    fn read<R: Wait + Clock>(
+        &mut self,
+        rt: &R,
+        alloc: Global,
+        place: usize,
+        (held, answered): (&AtomicU64, &AtomicU64),
+    ) {
+        if place == 0 {
+            self.has_read = reads(rt, alloc, &mut self.seat, "/a");
+        } else {
+            wait_for(rt, held);
+            let has_read = reads(rt, alloc, &mut self.seat, "/b");
+            let before = answered.swap(1, Ordering::SeqCst);
+            self.has_read = has_read && before == 0;
+        }
+    }
+}
+
+// Two readers, and a file on each server.
+fn new_readers<R: Wait + Clock>(rt: &R, alloc: Global, cell: &mut Cell) -> Option<Vec<Reader>> {
+    let mut seat = cell.client().ok()?;
+    fill(rt, alloc, &mut seat, "/a")?;
+    fill(rt, alloc, &mut seat, "/b")?;
+    let mut all = Vec::new(alloc);
+    for _ in 0..2 {
+        let reader = Reader {
+            seat: cell.client().ok()?,
+            has_read: false,
+        };
+        all.push(reader).ok()?;
+    }
+    Some(all)
+}
+
+fn both_read<R: Threads + Wait + Clock + Sync>(
+    rt: &R,
+    alloc: Global,
+    cell: &mut Cell,
+    held: &AtomicU64,
+    answered: &AtomicU64,
+) -> bool {
+    let Some(mut readers) = new_readers(rt, alloc, cell) else {
+        return false;
+    };
+    thread::for_each_mut(
+        rt,
+        readers.as_mut_slice(),
+        2,
+        &|place, reader| reader.read(rt, alloc, place, (held, answered)),
+    );
+    readers.iter().all(|reader| reader.has_read)
+}
+
+#[test]
+fn one_server_is_held_and_another_answers(rt: HostRuntime) -> Result<(), Fail> {
+    let alloc = rt.alloc();
+    let config = Config {
+        chunk: 64,
+        block: 16,
+        goal: 1,
+        attempt_ms: 60_000,
+        ..Config::default()
+    };
+    let answered = Arc::new(alloc, AtomicU64::new(0))?;
+    let held = Arc::new(alloc, AtomicU64::new(0))?;
+    let gate = ReadGate {
+        clock: rt,
+        answered: Arc::try_clone(&answered)?,
+        held: Arc::try_clone(&held)?,
+    };
+    let mut cell = Cell::start(rt, alloc, config, 2, gate)?;
+    let have_read = both_read(&rt, alloc, &mut cell, &held, &answered);
+    cell.close(&rt);
+    assert!(rt; have_read);
+    assert_eq!(rt; held.load(Ordering::SeqCst), 1);
+    Ok(())
+}

@@ -1,0 +1,13 @@
+//! Tests of a running cell: how its nodes run beside each other, and what it refuses.
+#![tactic(auto)]
+
+#[cfg(test)]
+mod appends;
+#[cfg(test)]
+mod gate;
+#[cfg(test)]
+mod producers;
+#[cfg(test)]
+mod refusals;
+#[cfg(test)]
+mod restarts;

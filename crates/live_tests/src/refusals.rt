@@ -1,0 +1,150 @@
+//! What a running cell itself refuses.
+
+use cell_desk::post::Policy;
+use cell_run::cell::{Cell, ClientSeat};
+use cell_slot::gate::OpenGate;
+use gfs_types::config::Config;
+use gfs_types::lists::Text;
+use gfs_types::refusal::Refusal;
+use std::alloc::Global;
+use std::sync::Wait;
+use std::test::*;
+use std::thread::{JoinHandle, Threads};
+use std::time::{Clock, Duration};
+use std::{io, thread};
+
+/// A clock that can't be read.
+#[derive(Clone, Copy)]
+struct NoClock<R> {
+    rt: R,
+}
+
+impl<R: Wait> Wait for NoClock<R> {}
+
+impl<R> Clock for NoClock<R> {
+    fn monotonic(&self) -> io::Result<Duration> {
+        Err(io::Error::from(io::ErrorKind::Unsupported))
+    }
+
+    fn since_1970(&self) -> io::Result<Duration> {
+        Err(io::Error::from(io::ErrorKind::Unsupported))
+    }
+}
+
+fn small() -> Config {
+    Config {
+        chunk: 64,
+        block: 16,
+        attempt_ms: 60_000,
+        ..Config::default()
+    }
+}
+
+fn mkdir<R: Wait + Clock>(
+    rt: &R,
+    alloc: Global,
+    seat: &mut ClientSeat,
+    name: &str,
+) -> Result<(), Refusal> {
+    match Text::from_str(name, alloc) {
+        Ok(path) => seat.mkdir(rt, path),
+        Err(_) => Err(Refusal::NoMemory),
+    }
+}
+
+// How many of a hundred calls were refused since the journal is full, if none after the first such was not.
+fn full_calls<R: Wait + Clock>(rt: &R, alloc: Global, cell: &mut Cell) -> Option<u64> {
+    let mut seat = cell.client().ok()?;
+    let mut full: u64 = 0;
+    for _ in 0..100 {
+        match mkdir(rt, alloc, &mut seat, "/d") {
+            Err(Refusal::JournalFull) => full = full.wrapping_add(1),
+            _ if full > 0 => return None,
+            _ => {}
+        }
+    }
+    Some(full)
+}
+
+#[test]
+fn a_full_journal_is_refused(rt: HostRuntime) -> Result<(), Fail> {
+    let alloc = rt.alloc();
+    let config = Config {
+        journal: 16,
+        ..small()
+    };
+    let mut cell = Cell::start(rt, alloc, config, 3, OpenGate)?;
+    let full = full_calls(&rt, alloc, &mut cell);
+    let journal = cell.close(&rt);
+    assert_eq!(rt; journal.len(), 16);
+    assert!(rt; full > Some(90));
+    Ok(())
+}
+
+// Whether a call by a clock that can't be read is refused so, and so is each later one, whatever its clock.
+fn is_refused_for_its_clock<R: Wait + Clock + Copy>(
+    rt: &R,
+    alloc: Global,
+    cell: &mut Cell,
+) -> bool {
+    let Ok(mut seat) = cell.client() else {
+        return false;
+    };
+    let first = mkdir(&NoClock { rt: *rt }, alloc, &mut seat, "/d");
+    let later = mkdir(rt, alloc, &mut seat, "/d");
+    first == Err(Refusal::ClockBroken) && later == first
+}
+
+#[test]
+fn a_broken_clock_is_refused(rt: HostRuntime) -> Result<(), Fail> {
+    let alloc = rt.alloc();
+    let mut cell = Cell::start(rt, alloc, small(), 1, OpenGate)?;
+    let is_refused = is_refused_for_its_clock(&rt, alloc, &mut cell);
+    cell.close(&rt);
+    assert!(rt; is_refused);
+    Ok(())
+}
+
+#[test]
+fn there_are_64_clients(rt: HostRuntime) -> Result<(), Fail> {
+    let alloc = rt.alloc();
+    let mut cell = Cell::start(rt, alloc, small(), 1, OpenGate)?;
+    let mut made: u64 = 0;
+    for _ in 0..66 {
+        if cell.client().is_ok() {
+            made = made.wrapping_add(1);
+        }
+    }
+    cell.close(&rt);
+    assert_eq!(rt; made, 64);
+    Ok(())
+}
+
+// A call that waits on a thread of its own; then its client is dropped. Tells whether it was refused since the cell closes.
+fn waiting_call<R: Threads + Wait + Clock + Copy + Send + 'static>(
+    rt: R,
+    alloc: Global,
+    cell: &mut Cell,
+) -> Option<JoinHandle<bool>> {
+    let mut seat = cell.client().ok()?;
+    let job = move || mkdir(&rt, alloc, &mut seat, "/d") == Err(Refusal::Closed);
+    thread::spawn(&rt, job).ok()
+}
+
+#[test]
+fn closing_ends_calls(rt: HostRuntime) -> Result<(), Fail> {
+    let alloc = rt.alloc();
+    let mut cell = Cell::start(rt, alloc, small(), 3, OpenGate)?;
+    // All messages are lost, so a call comes back only when the cell closes.
+    let lossy = Policy {
+        drop_every: 1,
+        ..Policy::NONE
+    };
+    cell.net(lossy);
+    let waiting = waiting_call(rt, alloc, &mut cell);
+    thread::sleep(&rt, Duration::from_millis(300));
+    cell.close(&rt);
+    let is_refused = waiting.map(|thread| thread.join(&rt));
+    assert_eq!(rt; is_refused, Some(true));
+    Ok(())
+}

@@ -1,4 +1,0 @@
-pub mod AllAnswers
-pub mod PushedMutates
-pub mod SaidAnswers
-pub mod ServerWords

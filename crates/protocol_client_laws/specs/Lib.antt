@@ -1,2 +1,0 @@
-pub mod ClientWords
-pub mod ClientsEvents

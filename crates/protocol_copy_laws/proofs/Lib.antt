@@ -1,4 +1,0 @@
-pub mod BegunCopies
-pub mod GoneHandles
-pub mod PlainChanges
-pub mod UngrantedCopies

@@ -1,5 +1,0 @@
-use Rattle.protocol_copy_laws.proofs.GoneHandles.{steps_let_go_what_stood}
-use Rattle.protocol_copy_laws.proofs.gone_handles.steps_let_go_what_stood.Goals as goal
-
-pub returns : goal.returns
-returns c = steps_let_go_what_stood

@@ -1,3 +1,0 @@
-pub mod BegunCopies
-pub mod CopiesInLog
-pub mod GoneHandles

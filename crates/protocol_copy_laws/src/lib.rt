@@ -1,6 +1,0 @@
-//! Laws of the master's log at the whole machine: where handles stood that are gone, and copies under way.
-#![tactic(auto)]
-
-pub mod begun_copies;
-pub mod copies_in_log;
-pub mod gone_handles;

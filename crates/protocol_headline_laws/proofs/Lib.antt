@@ -1,2 +1,0 @@
-pub mod FilePlaces
-pub mod ShownFiles

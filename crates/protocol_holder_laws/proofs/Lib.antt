@@ -1,9 +1,0 @@
-pub mod GrantedRows
-pub mod GrantingSteps
-pub mod HoldersGoOn
-pub mod NewGrants
-pub mod PinnedHandles
-pub mod RoundsApart
-pub mod ToldStands
-pub mod ToldSteps
-pub mod TriedPlaces

@@ -1,5 +1,0 @@
-use Rattle.protocol_holder_laws.proofs.ToldStands.{told_chunks_stand_after}
-use Rattle.protocol_holder_laws.proofs.holders_go_on.told_chunks_stand_after.Goals as goal
-
-pub returns : goal.returns
-returns c = told_chunks_stand_after

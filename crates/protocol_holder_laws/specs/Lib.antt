@@ -1,3 +1,0 @@
-pub mod GrantingSteps
-pub mod HoldersGoOn
-pub mod RoundsApart

@@ -1,5 +1,0 @@
-use Rattle.protocol_master_laws.proofs.MasterEvents.{masters_events_keep_worlds_whole}
-use Rattle.protocol_master_laws.proofs.master_events.masters_events_keep_worlds_whole.Goals as goal
-
-pub returns : goal.returns
-returns c = masters_events_keep_worlds_whole

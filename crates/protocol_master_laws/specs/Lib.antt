@@ -1,2 +1,0 @@
-pub mod KeptEntries
-pub mod MasterEvents

@@ -1,5 +1,0 @@
-use Rattle.protocol_numbered_laws.proofs.AddedChunks.{added_chunks_are_asked_for}
-use Rattle.protocol_numbered_laws.proofs.asked_chunks.added_chunks_are_asked_for.Goals as goal
-
-pub returns : goal.returns
-returns c = added_chunks_are_asked_for

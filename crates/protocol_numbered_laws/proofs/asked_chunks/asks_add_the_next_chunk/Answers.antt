@@ -1,5 +1,0 @@
-use Rattle.protocol_numbered_laws.proofs.AskedAdds.{asks_add_the_next_chunk}
-use Rattle.protocol_numbered_laws.proofs.asked_chunks.asks_add_the_next_chunk.Goals as goal
-
-pub returns : goal.returns
-returns c = asks_add_the_next_chunk

@@ -1,3 +1,0 @@
-pub mod AskedChunks
-pub mod NumberedCalls
-pub mod NumberedTries

@@ -1,6 +1,0 @@
-pub mod AskedWords
-pub mod MadeFiles
-pub mod AllOffers
-pub mod OfferWords
-pub mod StepWords
-pub mod ToldPlaces
