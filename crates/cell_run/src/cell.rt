@@ -13,7 +13,7 @@ use cell_dealer::dealer::Dealer;
 use cell_desk::asked::{Asker, nothing_asked};
 use cell_desk::hall::{Hall, MOST_CLIENTS};
 use cell_desk::post::{Input, Letter, Mailboxes, Policy, Post};
-use cell_making::fault::StartFault;
+pub use cell_making::fault::StartFault;
 use cell_making::making::{are_fitting, client_slot, master_slot, server_slot};
 use cell_seat::journal::Journal;
 use cell_seat::seat::Seat;

@@ -6,8 +6,7 @@ ghost use Rattle.live.specs.Faults.{IsOfRun};
 
 use crate::play::Player;
 use crate::printing::print_all;
-use cell_making::fault::StartFault;
-use cell_run::cell::Cell;
+use cell_run::cell::{Cell, StartFault};
 use cell_slot::gate::OpenGate;
 use gfs_types::ids::ClientId;
 use live_script::lines::LiveLine;

@@ -190,7 +190,10 @@ impl<L: OperationLog, A: Allocator + Clone> Master<L, A> {
         ensures files { shown_in shown.new ≡ files_seen self.new (shown_in shown.old) }
     {
         self.up = false;
-        let (Ok(names), Ok(none)) = (self.names.clone(), self.names.clone()) else {
+        let Ok(names) = self.names.clone() else {
+            return goes_down(alloc);
+        };
+        let Ok(none) = self.names.clone() else {
             return goes_down(alloc);
         };
         self.plan.forget_names(none);

@@ -1,6 +1,6 @@
 -- Where disks are kept after an event, they were kept before.
-use Rattle.std.proofs.Common.{◌≡◌, ℕ, suc, Option, Some, None}
-use Rattle.std.specs.Prelude.{◌&&◌, not, IsTrue}
+use Rattle.std.proofs.Common.{ℕ, suc, Option, Some, None}
+use Rattle.std.specs.Prelude.{not, IsTrue}
 use Rattle.std.proofs.lemmas.Bool.{and_parts}
 use Rattle.gfs_types.specs.declared.answer.Answer.{Answer}
 use Rattle.messages.specs.declared.event.Event.{Event}

@@ -52,6 +52,7 @@ pub mod RoundsApart
 pub mod SaidAnswers
 pub mod SentNow
 pub mod ServerWords
+pub mod SettingsInRange
 pub mod ShownFiles
 pub mod StepStages
 pub mod StepWords

@@ -1,6 +1,7 @@
 -- Each lawful list of events is a run of the relaxed-file machine (sections 2.7.1, 3.1 and 4.1).
-use Rattle.std.specs.Prelude.{ℕ, IsTrue}
+use Rattle.std.specs.Prelude.{◌≡◌, ℕ, None, IsTrue}
 use Rattle.gfs_types.specs.declared.config.Config.{Config}
+use Rattle.gfs_types.specs.Settings.{first_out_of_range}
 use Rattle.messages.specs.declared.event.Event.{Event}
 use Rattle.protocol.specs.Choice.{Choice}
 use Rattle.protocol.specs.World.{WorldState, happens, IsReached, is_kept}
@@ -20,3 +21,7 @@ ReachedWorldsAreWhole = (config : Config) (servers clients : ℕ) (w : WorldStat
 -- The headline: the answers of each world that a lawful list of events reaches, under settings in their ranges and kept clocks and disks, are those of a run of the machine, and that run led to what the world shows.
 abbrev pub AnswersAreARun : Type 0
 AnswersAreARun = (config : Config) (servers clients : ℕ) (w : WorldState) → IsExplained config servers clients w
+
+-- Settings that are within their ranges are such settings.
+abbrev pub SettingsInRangeAreSo : Type 0
+SettingsInRangeAreSo = (c : Config) → first_out_of_range c ≡ None → AreSettings c

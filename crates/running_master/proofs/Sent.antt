@@ -7,7 +7,6 @@ use Rattle.std.proofs.alloc.Global.TheSendSync as heap
 use Rattle.std.proofs.option.Option.TheSendSync as option
 use Rattle.std.specs.contracts.alloc.Global as Heap
 use Rattle.std.specs.contracts.impls.GlobalAllocator.TheImpl.{ghosts}
-use Rattle.trie_labels.proofs.label.Label.TheSendSync as label
 use Rattle.label_tree.proofs.tree.Tree.TheLaws.TheKnot as knot
 use Rattle.label_tree.proofs.node.Node.TheSendSync as node
 use Rattle.namespace.proofs.node.NameNode.TheSendSync as name
@@ -35,10 +34,10 @@ use Rattle.cell_nodes.specs.contracts.master.MasterNode as Node
 use Rattle.running_master.specs.contracts.RunningMaster as Running
 
 state_send : IsSend (State.the_row Heap.the_row ghosts)
-state_send = search (sendable, crosses, maps.crosses, heap.the_send, heap.the_field_send, knot.crosses, knot.send-Tree, knot.send-Link, node.the_send, node.the_field_send, label.the_send, option.the_send, option.the_field_send, name.the_send, table.the_send, ordered.the_send, kept.the_send, copy.the_send) depth 60
+state_send = search (sendable, crosses, maps.crosses, heap.the_send, heap.the_field_send, knot.crosses, knot.send-Tree, knot.send-Link, node.the_send, node.the_field_send, name.the_send, table.the_send, ordered.the_send, kept.the_send, copy.the_send) depth 60
 
 plan_send : IsSend (Plan.the_row Heap.the_row ghosts)
-plan_send = search (sendable, crosses, maps.crosses, state_send, heap.the_send, heap.the_field_send, config.the_send, config.the_field_send, number.the_send, ordered.the_send, option.the_send, option.the_field_send, sequence.the_send, change.the_send, attempt.the_send, pending.the_send, message.the_send, seen.the_send) depth 40
+plan_send = search (sendable, crosses, maps.crosses, state_send, heap.the_field_send, config.the_field_send, number.the_send, ordered.the_send, option.the_field_send, sequence.the_send, change.the_send, attempt.the_send, pending.the_send, message.the_send, seen.the_send) depth 40
 
 log_send : IsSend Log.the_row
 log_send = memory.the_send

@@ -1,5 +1,4 @@
-"""What both judges run on: random lists of events, in a thread with a large stack, in which the definitions may recur deeply. The tools' folder is on the path of
-who imports it."""
+"""What `judge` and `judge_clients` run on: random lists of events, in a thread with a large stack, in which the definitions may recur deeply."""
 import argparse
 import collections
 import threading

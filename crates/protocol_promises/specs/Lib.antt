@@ -1,0 +1,4 @@
+pub mod Answered
+pub mod Examples
+pub mod Promises
+pub mod ExplainedWorlds

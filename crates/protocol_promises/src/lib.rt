@@ -1,0 +1,8 @@
+//! What users of the files rely on, of each run of the machine and so of each world that one explains.
+#![tactic(auto)]
+
+pub mod examples;
+pub mod reads;
+pub mod records;
+pub mod worlds;
+pub mod writes;
