@@ -42,8 +42,8 @@ def edits_of(path):
                 old = text
             elif word == 'new':
                 found.append((target, old, text))
-            elif word and word not in ('seed', 'row', 'facts'):
-                raise StaleEdit(f'{path}: a line begins with none of file, old, new, seed, row and facts: {line}')
+            elif word and word not in ('seed', 'row', 'facts', 'branch', 'becomes'):
+                raise StaleEdit(f'{path}: a line begins with none of file, old, new, branch, becomes, seed, row and facts: {line}')
     return found
 
 
