@@ -156,7 +156,10 @@ impl Cell {
         if let Node::Client(_) = node {
             return;
         }
-        self.dealer.hall.post.put(rt, node, Letter::Take(Input::Tick));
+        self.dealer
+            .hall
+            .post
+            .put(rt, node, Letter::Take(Input::Tick));
     }
 
     /// Ends the cell: no step is begun any more, each call that waits is refused, and the threads end. No step follows.
@@ -255,7 +258,10 @@ fn start_nodes<
 {
     let slot = master_slot(alloc, dealer)?;
     let theirs = Arc::try_clone(&dealer.hall)?;
-    keep(nodes, runs(rt, theirs, Node::Master, slot, master, gate.clone()?)?)?;
+    keep(
+        nodes,
+        runs(rt, theirs, Node::Master, slot, master, gate.clone()?)?,
+    )?;
     let mut inboxes = servers;
     inboxes.reverse();
     for before in 0..dealer.servers {
@@ -265,7 +271,10 @@ fn start_nodes<
         let id = ServerId(before + 1);
         let slot = server_slot(alloc, dealer, id)?;
         let theirs = Arc::try_clone(&dealer.hall)?;
-        keep(nodes, runs(rt, theirs, Node::Server(id), slot, inbox, gate.clone()?)?)?;
+        keep(
+            nodes,
+            runs(rt, theirs, Node::Server(id), slot, inbox, gate.clone()?)?,
+        )?;
     }
     Ok(())
 }

@@ -82,18 +82,18 @@ fn a_region_of_sixteen_kilobytes(rt: HostRuntime) -> Result<(), Fail> {
     Ok(())
 }
 
-// The log is replayed into the region.
+// The log is replayed into the region, which the names of before fill.
 #[test]
 fn names_after_a_restart(rt: HostRuntime) -> Result<(), Fail> {
     let alloc = rt.alloc();
-    let mut script = mkdirs(alloc, "/d", 60)?;
+    let mut script = mkdirs(alloc, "/d", 600)?;
     let mut restarted = script.clone()?;
     script.push_str("c1 list /\n")?;
     restarted.push_str("restart master\nc1 list /\n")?;
     let (first, _) = outcome(alloc, 16_384, script.as_str());
     let (second, result) = outcome(alloc, 16_384, restarted.as_str());
     assert_eq!(rt; result, Ok(()));
-    assert_eq!(rt; first.lines().filter(|line| *line == "c1 done").count(), 60);
+    assert!(rt; first.lines().filter(|line| *line == "c1 done").count() > 100);
     assert_eq!(rt; second.as_str(), first.as_str());
     Ok(())
 }
