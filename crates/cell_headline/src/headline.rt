@@ -3,6 +3,7 @@
 ghost use Rattle.std.specs.Prelude.{◌≡◌, IfErr, IfOk, OnErr};
 ghost use Rattle.cell_headline.specs.Headline.{AreAnswersARun, ArePromisesKept, RunsAsMachine, StepsAsMachine};
 ghost use Rattle.cell_world.specs.Events.{MayBeRefused};
+ghost use Rattle.cell_world.specs.Held.{HeldCell};
 ghost use Rattle.cell_world.specs.Runs.{RanUntil};
 
 use cell_world::fault::RunFault;
@@ -39,18 +40,14 @@ pub fn step<M: CellMaster, S: ReplicaStore>(
     world.step(event)
 }
 
-/// A law of every cell: of each world that it stands for and that lawful events led to, a run of the machine has the calls and answers, and
-/// led to what it shows.
-pub fn answers_are_a_run<M: CellMaster, S: ReplicaStore>(world: &World<M, S>)
-    ensures { AreAnswersARun world.now }
-{
-    let _cell = world;
-}
+/// A law of all that a cell may hold: of each world that it stands for and that lawful events led to, a run of the machine has the calls and
+/// answers, and led to what it shows.
+pub fn answers_are_a_run()
+    ensures { (h : HeldCell) → AreAnswersARun h }
+{}
 
-/// What users rely on, of every cell: answered records and writes stand and are read, answered records share no place, a client reads its own
-/// successes, and nobody reads a byte that nobody wrote.
-pub fn promises_are_kept<M: CellMaster, S: ReplicaStore>(world: &World<M, S>)
-    ensures { ArePromisesKept world.now }
-{
-    let _cell = world;
-}
+/// What users rely on, of all that a cell may hold: answered records and writes stand and are read, answered records share no place, a client
+/// reads its own successes, and nobody reads a byte that nobody wrote.
+pub fn promises_are_kept()
+    ensures { (h : HeldCell) → ArePromisesKept h }
+{}
