@@ -96,11 +96,7 @@ fn note_version(
 }
 
 // Whether a server is known to hold just these replicas, which it reports in rising number.
-fn are_known(
-    holders: &NumberMap<OrderedMap<u64>>,
-    server: u64,
-    replicas: &[ReplicaLine],
-) -> bool
+fn are_known(holders: &NumberMap<OrderedMap<u64>>, server: u64, replicas: &[ReplicaLine]) -> bool
     ensures { result ≡ true → map.get holders.now server ≡ Some (table_of_lines replicas.now) }
 {
     match holders.get(server) {
