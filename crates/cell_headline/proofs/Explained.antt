@@ -11,14 +11,11 @@ use Rattle.protocol_runs.proofs.Induction.{answers_are_a_run}
 use Rattle.protocol_promises.proofs.KeptPromises.{explained_worlds_are_promised}
 use Rattle.cell_world.specs.Held.{HeldCell, HasEffect}
 use Rattle.cell_world.specs.Runs.{Runs}
+use Rattle.cell_world.proofs.Running.{after_more}
 use Rattle.cell_headline.specs.Headline.{IsMachineRun, AreAnswersARun, RunsAsMachine, StepsAsMachine, ArePromisesKept}
 
 explained : (config : Config) (servers clients : ℕ) (w : WorldState) → IsReached config servers clients w → IsMachineRun config w
 explained config servers clients w r in_range kept = answers_are_a_run config servers clients w (settings_in_range_are_so config in_range) r kept
-
-after_more : (w : WorldState) (steps more : List (Event × Choice)) → after_events w (steps ++ more) ≡ after_events (after_events w steps) more
-after_more w [] more = refl
-after_more w (s ∷ steps) more = after_more (happens w s.0 s.1).world steps more
 
 reached_on : (config : Config) (servers clients : ℕ) (w next : WorldState) → IsReached config servers clients w → (steps : List (Event × Choice)) → after_events w steps ≡ next → IsReached config servers clients next
 reached_on config servers clients w next r steps leads = (r.0 ++ steps, after_more (new_world config servers clients) r.0 steps ∙ (ap (λ (v : WorldState). after_events v steps) r.1 ∙ leads))

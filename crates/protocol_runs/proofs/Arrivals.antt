@@ -1,13 +1,12 @@
 -- Where the whole machine has followed the master to a log, it is beside the world after the event.
-use Rattle.std.proofs.Common.{◌≡◌, ℕ, ◌<◌, ◌≤◌, Bool, true, false, not, max, List, [], ◌∷◌, ◌++◌, refl, sym, ap, subst, ◌∙◌, inl, inr, arith}
-use Rattle.std.specs.Prelude.{◌&&◌, nat_lt, nat_le, IsTrue}
+use Rattle.std.proofs.Common.{◌≡◌, ℕ, ◌<◌, ◌≤◌, true, false, max, List, [], ◌∷◌, ◌++◌, refl, sym, subst, ◌∙◌, inl, inr, arith}
+use Rattle.std.specs.Prelude.{IsTrue}
 use Rattle.std.specs.List.{AllByRecursion, list_all}
 use Rattle.std.proofs.lemmas.Bool.{and_parts}
 use Rattle.std.proofs.Math.Nat.{le-max_left}
 use Rattle.gfs_types.specs.declared.config.Config.{Config}
 use Rattle.messages.specs.declared.event.Event.{Event}
 use Rattle.messages.specs.declared.message.Message.{Message}
-use Rattle.name_projections.specs.Laws.{AreNamesOf}
 use Rattle.relaxed_file.specs.Order.{CallId}
 use Rattle.relaxed_file.specs.Machine.{Machine, FileState, new_machine, chunk_at, chunk_count}
 use Rattle.relaxed_file.specs.Chunks.{tries_in}
@@ -38,6 +37,7 @@ use Rattle.protocol_whole_laws.proofs.MasterKept.{rounds_both}
 use Rattle.protocol_whole_laws.proofs.ChunksBeside.{same_files_keep_chunks_beside, masters_events_keep_chunks_beside}
 use Rattle.protocol_whole_laws.proofs.WholeMoves.{AllStay, IsQuiet, GoesQuietly, quiet_run, run_goes_unseen, PassesBoth, both_pass}
 use Rattle.protocol_whole_laws.proofs.WholeWorlds.{files_stay, words_stay, more_words}
+use Rattle.protocol_runs.proofs.OfferWords.{files_at_both}
 use Rattle.protocol_runs.proofs.QuietTries.{quiet_actions_add_no_tries}
 use Rattle.protocol_runs.proofs.RequestsNumbered.{events_keep_requests_numbered}
 use Rattle.protocol_runs.specs.MasterEvents.{HoldersGoOnWhere}
@@ -67,13 +67,6 @@ master_stays config m (a ∷ rest) reached lawful of =
     let one = file_clients_stay config m reached a lawful.0 client (of_others a first.0 client) s h in
     let two = more client s one.0 in
     (two.0, λ i firm said. two.1 i firm (one.1 i firm said))
-
--- the whole machine has the log's files, as the one by names alone
-files_at_both : (l : Logged) (m n : Machine) → AreNamesOf m n → HasFilesOf l n → HasFilesOf l m
-files_at_both l m n same has file =
-    has file
-    ∙ (ap (λ (count : ℕ). nat_lt 0 file && nat_le file count && not (n.files file).is_collected) same.count
-    ∙ ap (λ (is_collected : Bool). nat_lt 0 file && nat_le file m.file_count && not is_collected) (same.collected file))
 
 -- offers
 
