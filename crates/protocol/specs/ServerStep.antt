@@ -16,7 +16,7 @@ use Rattle.replica_store.specs.Replicas.{Replica, ServerDisk, disk_changed_by_al
 use Rattle.leases.specs.LeaseHeld.{counts_at}
 use Rattle.primary_order.specs.declared.order.SerialOrder.{SerialOrder}
 use Rattle.protocol.specs.Seen.{is_numbering, Taken, no_output, down_output, no_step}
-use Rattle.protocol.specs.Server.{ServerState, ServerDoing, started_server, stopped_server, server_begins, says}
+use Rattle.protocol.specs.Server.{ServerState, ServerDoing, started_server, stopped_server, server_begins, sends}
 use Rattle.protocol.specs.ServerReads.{takes_read, takes_len, takes_copy_ask}
 use Rattle.protocol.specs.ServerWrites.{takes_push, takes_mutate, takes_forward, takes_acked, takes_nacked}
 use Rattle.protocol.specs.ServerOrders.{on_order, takes_create, takes_set_version, takes_grant, takes_extend, takes_revoke, takes_drop, takes_clone, takes_image, takes_copy_local}
@@ -38,7 +38,7 @@ counting_leases s = kept_where (λ e. counts_at s.config.skew_ms e.1.held s.now)
 abbrev pub server_ticks : ServerDoing → ServerDoing
 server_ticks d =
     let leases : Table SerialOrder = counting_leases d.server in
-    record (says d Master (body.Report (map replica_line (table.entries d.server.disk.replicas)) (map lease_line (table.entries leases)))) {
+    record (sends d Master (body.Report (map replica_line (table.entries d.server.disk.replicas)) (map lease_line (table.entries leases)))) {
       server = record d.server { leases = map_values asks_no_more leases };
     }
 

@@ -52,7 +52,7 @@ use Rattle.protocol.specs.PushBuffer.{next_hop, hops_after}
 use Rattle.protocol.specs.Choice.{Choice, Ending, Goes, Lost, Stops}
 use Rattle.protocol.specs.Seen.{Taken, no_step}
 use Rattle.protocol.specs.declared.seen.Seen.TheVariants.{Numbered, BecameSettled}
-use Rattle.protocol.specs.Server.{ServerState, ServerDoing, server_begins, chunk_limit, says, refuses, stores, shows, with_primary, without_lease, takes_data, drops_corrupt, primary_of}
+use Rattle.protocol.specs.Server.{ServerState, ServerDoing, server_begins, chunk_limit, sends, refuses, stores, shows, with_primary, without_lease, takes_data, drops_corrupt, primary_of}
 use Rattle.protocol.specs.ServerReads.{answers_bytes, reads_from, measures, sends_image, copies_out}
 use Rattle.protocol.specs.ServerWrites.{passes_on, refuses_attempt, answers_settled, denies, forward_to, forwards, settles, acknowledges, change_of, stored_as, primary_applies, places, appends_as, mutates_with, mutates_new, mutates_as, mutates_under, nacks, member_stores, member_applies, applies_data, applies_change, forwarded_to, acked_under, refuses_waiting, nacked_under}
 use Rattle.protocol.specs.ServerOrders.{on_order, records, can_take, takes_create, raises, takes_set_version, holds_version, takes_grant, extends_held, ends_held, takes_revoke, drops_old, takes_drop, takes_clone, takes_image, copies_locally, takes_copy_local}
@@ -74,7 +74,7 @@ module _ (F : DataId → Type 0) where
   abbrev pub Fine : ServerDoing → Type 0
   Fine d = AreRight F d.server.leases × AllOf (Causes F) d.sent
 
-  said : (d : ServerDoing) (receiver : Node) (b : Body) → IsCaused F b receiver → Fine d → Fine (says d receiver b)
+  said : (d : ServerDoing) (receiver : Node) (b : Body) → IsCaused F b receiver → Fine d → Fine (sends d receiver b)
   said d receiver b cause h = (h.0, all_joined (Causes F) d.sent (message (the_server d.server.id) receiver b ∷ []) h.1 (cause, tt))
 
   refused : (d : ServerDoing) (receiver : Node) (number : ℕ) (refusal : Refusal) → IsCaused F (body.Refused number refusal) receiver → Fine d → Fine (refuses d receiver number refusal)
@@ -114,7 +114,7 @@ module _ (F : DataId → Type 0) where
   length_fine : (d : ServerDoing) (receiver : Node) (number v : ℕ) (o : Option Row) → Fine d → Fine (measures d receiver number v o)
   length_fine d receiver number v None h = refused d receiver number NoChunk tt h
   length_fine d receiver number v (Some r) h =
-      on_cond Fine (r.version.0 == v) (says d receiver (body.LenIs number r.count)) (refuses d receiver number Version) (λ _. said d receiver (body.LenIs number r.count) tt h) (λ _. refused d receiver number Version tt h)
+      on_cond Fine (r.version.0 == v) (sends d receiver (body.LenIs number r.count)) (refuses d receiver number Version) (λ _. said d receiver (body.LenIs number r.count) tt h) (λ _. refused d receiver number Version tt h)
 
   image_fine : (d : ServerDoing) (receiver : Node) (q : ℕ) (r : Row) (o : Option (List ℕ)) → Fine d → Fine (sends_image d receiver q r o)
   image_fine d receiver q r None h = lost d q h
@@ -327,7 +327,7 @@ module _ (F : DataId → Type 0) where
   imaged d q v serial bytes h =
       let stored : ServerDoing = stores d (Put (handle_of q) (version_of v) (serial_of serial) bytes) in
       let cleared : ServerDoing = record stored { server = record stored.server { clones = table.remove stored.server.clones q } } in
-      on_cond Fine _ (says cleared Master (body.Cloned (handle_of q) (version_of v))) d (λ _. said cleared Master (body.Cloned (handle_of q) (version_of v)) tt h) (λ _. h)
+      on_cond Fine _ (sends cleared Master (body.Cloned (handle_of q) (version_of v))) d (λ _. said cleared Master (body.Cloned (handle_of q) (version_of v)) tt h) (λ _. h)
 
   locally : (d : ServerDoing) (q v copy copy_version : ℕ) (o : Option Row) → Fine d → Fine (copies_locally d q v copy copy_version o)
   locally d q v copy copy_version None h = h
@@ -383,7 +383,7 @@ module _ (F : DataId → Type 0) where
     ticks_fine : Fine (server_begins s) → Fine (server_ticks (server_begins s))
     ticks_fine h = (right, both.1)
       where
-        both : Fine (says D Master (body.Report (map replica_line (table.entries D.server.disk.replicas)) (map lease_line (table.entries (counting_leases D.server)))))
+        both : Fine (sends D Master (body.Report (map replica_line (table.entries D.server.disk.replicas)) (map lease_line (table.entries (counting_leases D.server)))))
         both = said D Master (body.Report (map replica_line (table.entries D.server.disk.replicas)) (map lease_line (table.entries (counting_leases D.server)))) tt h
 
         right : AreRight F (map_values asks_no_more (counting_leases D.server))

@@ -48,7 +48,7 @@ use Rattle.protocol.specs.Choice.{Choice, Ending, Goes, Lost, Stops}
 use Rattle.protocol.specs.Seen.{is_numbering, Taken, no_step}
 use Rattle.protocol.specs.declared.seen.Seen.{Seen}
 use Rattle.protocol.specs.declared.seen.Seen.TheVariants.{Numbered, BecameSettled}
-use Rattle.protocol.specs.Server.{ServerState, ServerDoing, server_begins, chunk_limit, says, refuses, stores, shows, with_primary, without_lease, takes_data, drops_corrupt, primary_of}
+use Rattle.protocol.specs.Server.{ServerState, ServerDoing, server_begins, chunk_limit, sends, refuses, stores, shows, with_primary, without_lease, takes_data, drops_corrupt, primary_of}
 use Rattle.protocol.specs.ServerReads.{answers_bytes, reads_from, measures, sends_image, copies_out}
 use Rattle.protocol.specs.ServerWrites.{passes_on, refuses_attempt, answers_settled, denies, forward_to, forwards, settles, acknowledges, change_of, stored_as, primary_applies, places, appends_as, mutates_with, mutates_new, mutates_as, mutates_under, nacks, member_stores, member_applies, applies_data, applies_change, forwarded_to, acked_under, refuses_waiting, nacked_under}
 use Rattle.protocol.specs.ServerOrders.{on_order, records, can_take, takes_create, raises, takes_set_version, holds_version, takes_grant, extends_held, ends_held, takes_revoke, drops_old, takes_drop, takes_clone, takes_image, copies_locally, takes_copy_local}
@@ -91,7 +91,7 @@ module _ (K : Seen → Type 0) where
   all_right : (seen : List Seen) (x : Seen) (leases : Table SerialOrder) → AreRight (Since K seen) leases → AreRight (Since K (seen ++ x ∷ [])) leases
   all_right seen x leases h q p at = right_on (Since K seen) (Since K (seen ++ x ∷ [])) (still seen x) q p (h q p at)
 
-  said : (d : ServerDoing) (receiver : Node) (b : Body) → IsCaused (Since K d.seen) b → Fine d → Fine (says d receiver b)
+  said : (d : ServerDoing) (receiver : Node) (b : Body) → IsCaused (Since K d.seen) b → Fine d → Fine (sends d receiver b)
   said d receiver b cause h = (h.0, all_joined (λ m. IsCaused (Since K d.seen) m.body) d.sent (message (the_server d.server.id) receiver b ∷ []) h.1 (cause, tt))
 
   refused : (d : ServerDoing) (receiver : Node) (number : ℕ) (refusal : Refusal) → Fine d → Fine (refuses d receiver number refusal)
@@ -131,7 +131,7 @@ module _ (K : Seen → Type 0) where
   length_fine : (d : ServerDoing) (receiver : Node) (number v : ℕ) (o : Option Row) → Fine d → Fine (measures d receiver number v o)
   length_fine d receiver number v None h = refused d receiver number NoChunk h
   length_fine d receiver number v (Some r) h =
-      on_cond Fine (r.version.0 == v) (says d receiver (body.LenIs number r.count)) (refuses d receiver number Version) (λ _. said d receiver (body.LenIs number r.count) tt h) (λ _. refused d receiver number Version h)
+      on_cond Fine (r.version.0 == v) (sends d receiver (body.LenIs number r.count)) (refuses d receiver number Version) (λ _. said d receiver (body.LenIs number r.count) tt h) (λ _. refused d receiver number Version h)
 
   image_fine : (d : ServerDoing) (receiver : Node) (q : ℕ) (r : Row) (o : Option (List ℕ)) → Fine d → Fine (sends_image d receiver q r o)
   image_fine d receiver q r None h = lost d q h
@@ -347,7 +347,7 @@ module _ (K : Seen → Type 0) where
   imaged d q v serial bytes h =
       let stored : ServerDoing = stores d (Put (handle_of q) (version_of v) (serial_of serial) bytes) in
       let cleared : ServerDoing = record stored { server = record stored.server { clones = table.remove stored.server.clones q } } in
-      on_cond Fine _ (says cleared Master (body.Cloned (handle_of q) (version_of v))) d (λ _. said cleared Master (body.Cloned (handle_of q) (version_of v)) tt h) (λ _. h)
+      on_cond Fine _ (sends cleared Master (body.Cloned (handle_of q) (version_of v))) d (λ _. said cleared Master (body.Cloned (handle_of q) (version_of v)) tt h) (λ _. h)
 
   locally : (d : ServerDoing) (q v copy copy_version : ℕ) (o : Option Row) → Fine d → Fine (copies_locally d q v copy copy_version o)
   locally d q v copy copy_version None h = h
@@ -397,7 +397,7 @@ module _ (K : Seen → Type 0) where
   ticks_fine : (d : ServerDoing) → Fine d → Fine (server_ticks d)
   ticks_fine d h = (right, both.1)
     where
-      both : Fine (says d Master (body.Report (map replica_line (table.entries d.server.disk.replicas)) (map lease_line (table.entries (counting_leases d.server)))))
+      both : Fine (sends d Master (body.Report (map replica_line (table.entries d.server.disk.replicas)) (map lease_line (table.entries (counting_leases d.server)))))
       both = said d Master (body.Report (map replica_line (table.entries d.server.disk.replicas)) (map lease_line (table.entries (counting_leases d.server)))) tt h
 
       right : AreRight (Since K d.seen) (map_values asks_no_more (counting_leases d.server))

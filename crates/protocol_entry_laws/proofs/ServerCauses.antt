@@ -7,7 +7,7 @@ use Rattle.std.proofs.lemmas.Bool.{eqb-true}
 use Rattle.gfs_types.specs.declared.ids.Serial.{Serial}
 use Rattle.replica_store.specs.Replicas.{ServerDisk}
 use Rattle.protocol.specs.Sending.{message, the_server, the_client}
-use Rattle.protocol.specs.Server.{says, without_lease}
+use Rattle.protocol.specs.Server.{sends, without_lease}
 use Rattle.gfs_types.specs.declared.ids.Node.TheVariants.{Master}
 use Rattle.protocol.specs.ServerWrites.{forward_to, nacks}
 use Rattle.protocol.specs.ServerOrders.{records, is_pending_clone}
@@ -101,10 +101,10 @@ module _ (disk : ServerDisk) where
   fine : (d : ServerDoing) → Quiet d → Fine d
   fine d q = subst (λ (ms : List Message). AllOf (λ m. IsCaused disk d.changes d.seen m.body) ms) (sym q) tt
 
-  said : (d : ServerDoing) (receiver : Node) (b : Body) → IsCaused disk d.changes d.seen b → Fine d → Fine (says d receiver b)
+  said : (d : ServerDoing) (receiver : Node) (b : Body) → IsCaused disk d.changes d.seen b → Fine d → Fine (sends d receiver b)
   said d receiver b cause h = all_joined (λ m. IsCaused disk d.changes d.seen m.body) d.sent (message (the_server d.server.id) receiver b ∷ []) h (cause, tt)
 
-  spoke : (d : ServerDoing) (receiver : Node) (b : Body) → IsCaused disk d.changes d.seen b → Quiet d → Fine (says d receiver b)
+  spoke : (d : ServerDoing) (receiver : Node) (b : Body) → IsCaused disk d.changes d.seen b → Quiet d → Fine (sends d receiver b)
   spoke d receiver b cause q = said d receiver b cause (fine d q)
 
   bytes_fine : (d : ServerDoing) (receiver : Node) (number q : ℕ) (o : Option (List ℕ)) → Quiet d → Fine (answers_bytes d receiver number q o)
@@ -272,7 +272,7 @@ module _ (disk : ServerDisk) where
   imaged d q v serial bytes h =
       let stored : ServerDoing = stores d (Put (handle_of q) (version_of v) (serial_of serial) bytes) in
       let less : ServerDoing = record stored { server = record stored.server { clones = table.remove stored.server.clones q } } in
-      on_cond Fine (is_pending_clone v (table.get d.server.clones q) && nat_le (length bytes) (chunk_limit d.server q) && can_take d q) (says less Master (body.Cloned (handle_of q) (version_of v))) d
+      on_cond Fine (is_pending_clone v (table.get d.server.clones q) && nat_le (length bytes) (chunk_limit d.server q) && can_take d q) (sends less Master (body.Cloned (handle_of q) (version_of v))) d
       (λ _. spoke less Master (body.Cloned (handle_of q) (version_of v)) tt h) (λ _. fine d h)
 
   locally : (d : ServerDoing) (q v copy copy_version : ℕ) (o : Option Row) → Quiet d → Fine (copies_locally d q v copy copy_version o)

@@ -43,7 +43,7 @@ use Rattle.record_append.specs.declared.placing.Placing.{Placing}
 use Rattle.record_append.specs.declared.placing.Placing.TheVariants.{At, Pad, Full, TooLong}
 use Rattle.record_append.specs.Placing.{placing}
 use Rattle.protocol.specs.declared.seen.Seen.TheVariants.{Numbered, BecameSettled}
-use Rattle.protocol.specs.Server.{ServerState, ServerDoing, server_begins, chunk_limit, says, refuses, stores, shows, with_primary, without_lease, takes_data, drops_corrupt, counting_primary, primary_of}
+use Rattle.protocol.specs.Server.{ServerState, ServerDoing, server_begins, chunk_limit, sends, refuses, stores, shows, with_primary, without_lease, takes_data, drops_corrupt, counting_primary, primary_of}
 use Rattle.protocol.specs.ServerReads.{answers_bytes, reads_from, measures, sends_image, copies_out}
 use Rattle.protocol.specs.ServerWrites.{passes_on, refuses_attempt, answers_settled, denies, forward_to, forwards, settles, acknowledges, change_of, stored_as, primary_applies, places, appends_as, mutates_with, mutates_new, mutates_as, mutates_under, nacks, member_stores, member_applies, applies_data, applies_pad, applies_change, forwarded_to, acked_under, refuses_waiting, nacked_under}
 use Rattle.protocol.specs.ServerOrders.{on_order, records, can_take, takes_create, raises, takes_set_version, holds_version, takes_grant, extends_held, ends_held, takes_revoke, drops_old, takes_drop, takes_clone, takes_image, copies_locally, takes_copy_local}
@@ -200,7 +200,7 @@ module _ (Came : Body → Type 0) (P : ServerCore → Type 0) (k : KeepsServer C
   less_holds : (d : ServerDoing) (handle : ℕ) → Holds d → Holds (without_lease d handle)
   less_holds d handle h = k.holds (server_core d) (table.remove d.server.leases handle) (removed_held d.server.leases handle) h
 
-  says_holds : (d : ServerDoing) (receiver : Node) (b : Body) → is_of_lease b ≡ false → Holds d → Holds (says d receiver b)
+  says_holds : (d : ServerDoing) (receiver : Node) (b : Body) → is_of_lease b ≡ false → Holds d → Holds (sends d receiver b)
   says_holds d receiver b e h = k.says (server_core d) receiver b e h
 
   refuses_holds : (d : ServerDoing) (receiver : Node) (number : ℕ) (refusal : Refusal) → Holds d → Holds (refuses d receiver number refusal)
@@ -229,7 +229,7 @@ module _ (Came : Body → Type 0) (P : ServerCore → Type 0) (k : KeepsServer C
   measure_holds : (d : ServerDoing) (client : Node) (number version : ℕ) (o : Option Row) → Holds d → Holds (measures d client number version o)
   measure_holds d client number version None h = refuses_holds d client number NoChunk h
   measure_holds d client number version (Some r) h =
-      on_cond Holds (r.version.0 == version) (says d client (body.LenIs number r.count)) (refuses d client number Version)
+      on_cond Holds (r.version.0 == version) (sends d client (body.LenIs number r.count)) (refuses d client number Version)
       (λ _. says_holds d client (body.LenIs number r.count) refl h) (λ _. refuses_holds d client number Version h)
 
   image_sent_holds : (d : ServerDoing) (receiver : Node) (handle : ℕ) (r : Row) (o : Option (List ℕ)) → Holds d → Holds (sends_image d receiver handle r o)
@@ -266,7 +266,7 @@ module _ (Came : Body → Type 0) (P : ServerCore → Type 0) (k : KeepsServer C
   forwards_holds d (m ∷ rest) handle version serial id c h =
       let said : Body = body.Forward (handle_of handle) (version_of version) (serial_of serial) id c in
       subst (λ (sent : List Message). P (record (server_core d) { sent = sent })) (append-two d.sent (message (the_server d.server.id) (the_server m) said) (map (forward_to d.server.id handle version serial id c) rest))
-      (forwards_holds (says d (the_server m) said) rest handle version serial id c (says_holds d (the_server m) said refl h))
+      (forwards_holds (sends d (the_server m) said) rest handle version serial id c (says_holds d (the_server m) said refl h))
 
   settles_holds : (d : ServerDoing) (handle version serial : ℕ) (o : Option Settled) → Holds d → Holds (settles d handle version serial o)
   settles_holds d handle version serial None h = h
@@ -438,10 +438,10 @@ module _ (Came : Body → Type 0) (P : ServerCore → Type 0) (k : KeepsServer C
       taken : ServerDoing
       taken = stores (server_begins s) (SetOrder order)
 
-      by_lease : is_new_order s.disk order.epoch order.count ≡ true → (o : Option SerialOrder) → table.get s.leases handle.0 ≡ o → Holds (says (ends_held taken handle.0 version.0 o) Master (body.Revoked handle version))
+      by_lease : is_new_order s.disk order.epoch order.count ≡ true → (o : Option SerialOrder) → table.get s.leases handle.0 ≡ o → Holds (sends (ends_held taken handle.0 version.0 o) Master (body.Revoked handle version))
       by_lease new None at = k.revokes (server_core (server_begins s)) order handle version s.leases came new (same_held s.leases) (λ p is. none_some p (sym at ∙ is)) h
       by_lease new (Some q) at =
-          on_cond (λ (e : ServerDoing). Holds (says e Master (body.Revoked handle version))) (q.held.version == version.0) (without_lease taken handle.0) taken
+          on_cond (λ (e : ServerDoing). Holds (sends e Master (body.Revoked handle version))) (q.held.version == version.0) (without_lease taken handle.0) taken
           (λ _. k.revokes (server_core (server_begins s)) order handle version (table.remove s.leases handle.0) came new (removed_held s.leases handle.0)
           (λ p is. none_some p (sym (gone_there s.leases handle.0 handle.0 refl) ∙ is)) h)
           (λ other. k.revokes (server_core (server_begins s)) order handle version s.leases came new (same_held s.leases)
@@ -464,7 +464,7 @@ module _ (Came : Body → Type 0) (P : ServerCore → Type 0) (k : KeepsServer C
       let x : StoreChange = Put (handle_of handle) (version_of version) (serial_of serial) bytes in
       let stored : ServerDoing = stores d x in
       let cleared : ServerDoing = record stored { server = record stored.server { clones = table.remove stored.server.clones handle } } in
-      on_cond Holds _ (says cleared Master (body.Cloned (handle_of handle) (version_of version))) d
+      on_cond Holds _ (sends cleared Master (body.Cloned (handle_of handle) (version_of version))) d
       (λ _. says_holds cleared Master (body.Cloned (handle_of handle) (version_of version)) refl (stores_holds d x tt h)) (λ _. h)
 
   locally_holds : (d : ServerDoing) (handle version copy copy_version : ℕ) (o : Option Row) → Holds d → Holds (copies_locally d handle version copy copy_version o)
@@ -487,7 +487,7 @@ module _ (Came : Body → Type 0) (P : ServerCore → Type 0) (k : KeepsServer C
   tick_holds d h =
       let left : Table SerialOrder = counting_leases d.server in
       let report : Body = body.Report (map replica_line (table.entries d.server.disk.replicas)) (map lease_line (table.entries left)) in
-      k.holds (server_core (says d Master report)) (map_values asks_no_more left)
+      k.holds (server_core (sends d Master report)) (map_values asks_no_more left)
       (λ handle p is. let was = mapped_cases asks_no_more left handle p is in (was.0, kept_where_cases (λ e. counts_at d.server.config.skew_ms e.1.held d.server.now) d.server.leases handle was.0 was.1, ap (λ (x : SerialOrder). x.held) was.2))
       (says_holds d Master report refl h)
 

@@ -43,7 +43,7 @@ use Rattle.protocol.specs.PushBuffer.{next_hop, hops_after}
 use Rattle.protocol.specs.Choice.{Choice, Ending, Goes, Lost, Stops}
 use Rattle.protocol.specs.Seen.{Taken, no_step}
 use Rattle.protocol.specs.declared.seen.Seen.TheVariants.{Numbered, BecameSettled}
-use Rattle.protocol.specs.Server.{ServerState, ServerDoing, server_begins, chunk_limit, says, refuses, stores, shows, with_primary, without_lease, takes_data, drops_corrupt, primary_of}
+use Rattle.protocol.specs.Server.{ServerState, ServerDoing, server_begins, chunk_limit, sends, refuses, stores, shows, with_primary, without_lease, takes_data, drops_corrupt, primary_of}
 use Rattle.protocol.specs.ServerReads.{answers_bytes, reads_from, measures, sends_image, copies_out}
 use Rattle.protocol.specs.ServerWrites.{passes_on, refuses_attempt, answers_settled, denies, forward_to, forwards, settles, acknowledges, change_of, stored_as, primary_applies, places, appends_as, mutates_with, mutates_new, mutates_as, mutates_under, nacks, member_stores, member_applies, applies_data, applies_change, forwarded_to, acked_under, refuses_waiting, nacked_under}
 use Rattle.protocol.specs.ServerOrders.{on_order, records, can_take, takes_create, raises, takes_set_version, holds_version, takes_grant, extends_held, ends_held, takes_revoke, drops_old, takes_drop, takes_clone, takes_image, copies_locally, takes_copy_local}
@@ -68,7 +68,7 @@ Silent d = AreSilent d.sent
 either : (b : Bool) (x y : ServerDoing) → Silent x → Silent y → Silent (cond b x y)
 either b x y f g = on_cond Silent b x y (λ _. f) (λ _. g)
 
-said : (d : ServerDoing) (receiver : Node) (b : Body) → IsSilent b → Silent d → Silent (says d receiver b)
+said : (d : ServerDoing) (receiver : Node) (b : Body) → IsSilent b → Silent d → Silent (sends d receiver b)
 said d receiver b is h = all_joined (λ m. IsSilent m.body) d.sent (message (the_server d.server.id) receiver b ∷ []) h (is, tt)
 
 refused : (d : ServerDoing) (receiver : Node) (number : ℕ) (refusal : Refusal) → Silent d → Silent (refuses d receiver number refusal)
@@ -92,7 +92,7 @@ read_said d receiver number handle version offset count (Some r) h =
 length_said : (d : ServerDoing) (receiver : Node) (number version : ℕ) (o : Option Row) → Silent d → Silent (measures d receiver number version o)
 length_said d receiver number version None h = refused d receiver number NoChunk h
 length_said d receiver number version (Some r) h =
-    either (r.version.0 == version) (says d receiver (body.LenIs number r.count)) (refuses d receiver number Version) (said d receiver (body.LenIs number r.count) tt h) (refused d receiver number Version h)
+    either (r.version.0 == version) (sends d receiver (body.LenIs number r.count)) (refuses d receiver number Version) (said d receiver (body.LenIs number r.count) tt h) (refused d receiver number Version h)
 
 image_said : (d : ServerDoing) (receiver : Node) (handle : ℕ) (r : Row) (o : Option (List ℕ)) → Silent d → Silent (sends_image d receiver handle r o)
 image_said d receiver handle r None h = h
@@ -263,7 +263,7 @@ imaged : (d : ServerDoing) (handle version serial : ℕ) (bytes : List ℕ) → 
 imaged d handle version serial bytes h =
     let stored : ServerDoing = stores d (Put (handle_of handle) (version_of version) (serial_of serial) bytes) in
     let cleared : ServerDoing = record stored { server = record stored.server { clones = table.remove stored.server.clones handle } } in
-    either _ (says cleared Master (body.Cloned (handle_of handle) (version_of version))) d (said cleared Master (body.Cloned (handle_of handle) (version_of version)) tt h) h
+    either _ (sends cleared Master (body.Cloned (handle_of handle) (version_of version))) d (said cleared Master (body.Cloned (handle_of handle) (version_of version)) tt h) h
 
 locally : (d : ServerDoing) (handle version copy copy_version : ℕ) (o : Option Row) → Silent d → Silent (copies_locally d handle version copy copy_version o)
 locally d handle version copy copy_version None h = h

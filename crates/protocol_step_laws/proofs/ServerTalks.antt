@@ -50,7 +50,7 @@ use Rattle.protocol.specs.Choice.{Choice, Ending, Goes, Lost, Stops}
 use Rattle.protocol.specs.Seen.{is_numbering, Taken, no_step}
 use Rattle.protocol.specs.declared.seen.Seen.{Seen}
 use Rattle.protocol.specs.declared.seen.Seen.TheVariants.{Numbered, BecameSettled}
-use Rattle.protocol.specs.Server.{ServerState, ServerDoing, server_begins, chunk_limit, says, refuses, stores, shows, with_primary, without_lease, takes_data, drops_corrupt, primary_of}
+use Rattle.protocol.specs.Server.{ServerState, ServerDoing, server_begins, chunk_limit, sends, refuses, stores, shows, with_primary, without_lease, takes_data, drops_corrupt, primary_of}
 use Rattle.protocol.specs.ServerReads.{answers_bytes, reads_from, measures, sends_image, copies_out}
 use Rattle.protocol.specs.ServerWrites.{passes_on, refuses_attempt, answers_settled, denies, forward_to, forwards, settles, acknowledges, change_of, stored_as, primary_applies, places, appends_as, mutates_with, mutates_new, mutates_as, mutates_under, nacks, member_stores, member_applies, applies_data, applies_change, forwarded_to, acked_under, refuses_waiting, nacked_under}
 use Rattle.protocol.specs.ServerOrders.{on_order, records, can_take, takes_create, raises, takes_set_version, holds_version, takes_grant, extends_held, ends_held, takes_revoke, drops_old, takes_drop, takes_clone, takes_image, copies_locally, takes_copy_local}
@@ -99,10 +99,10 @@ module _ (s : ServerState) (i : Input) (W : Node → Body → Type 0) (V : Seen 
   abbrev pub Fine : ServerDoing → Type 0
   Fine d = AllOf Said d.sent × AllOf V d.seen × AllOf B d.server.pushed.entries
 
-  said : (d : ServerDoing) (receiver : Node) (b : Body) → W receiver b → Fine d → Fine (says d receiver b)
+  said : (d : ServerDoing) (receiver : Node) (b : Body) → W receiver b → Fine d → Fine (sends d receiver b)
   said d receiver b w h = (all_joined Said d.sent (message (the_server d.server.id) receiver b ∷ []) h.0 (w, tt), h.1, h.2)
 
-  calm : (d : ServerDoing) (receiver : Node) (b : Body) → is_quiet b ≡ true → Fine d → Fine (says d receiver b)
+  calm : (d : ServerDoing) (receiver : Node) (b : Body) → is_quiet b ≡ true → Fine d → Fine (sends d receiver b)
   calm d receiver b is h = said d receiver b (k.quiet receiver b is) h
 
   refused : (d : ServerDoing) (receiver : Node) (number : ℕ) (refusal : Refusal) → Fine d → Fine (refuses d receiver number refusal)
@@ -143,7 +143,7 @@ module _ (s : ServerState) (i : Input) (W : Node → Body → Type 0) (V : Seen 
       → row_at s.disk handle.0 ≡ o → Fine (server_begins s) → Fine (measures (server_begins s) m.sender number version.0 o)
   length_said m number handle version None came is at h = refused (server_begins s) m.sender number NoChunk h
   length_said m number handle version (Some r) came is at h =
-      on_cond Fine (r.version.0 == version.0) (says (server_begins s) m.sender (body.LenIs number r.count)) (refuses (server_begins s) m.sender number Version)
+      on_cond Fine (r.version.0 == version.0) (sends (server_begins s) m.sender (body.LenIs number r.count)) (refuses (server_begins s) m.sender number Version)
       (λ same. said (server_begins s) m.sender (body.LenIs number r.count) (k.lengths m number handle version r came is at (eqb-true r.version.0 version.0 same)) h)
       (λ _. refused (server_begins s) m.sender number Version h)
 
@@ -339,7 +339,7 @@ module _ (s : ServerState) (i : Input) (W : Node → Body → Type 0) (V : Seen 
   imaged d handle version serial bytes h =
       let stored : ServerDoing = stores d (Put (handle_of handle) (version_of version) (serial_of serial) bytes) in
       let cleared : ServerDoing = record stored { server = record stored.server { clones = table.remove stored.server.clones handle } } in
-      on_cond Fine _ (says cleared Master (body.Cloned (handle_of handle) (version_of version))) d (λ _. calm cleared Master (body.Cloned (handle_of handle) (version_of version)) refl h) (λ _. h)
+      on_cond Fine _ (sends cleared Master (body.Cloned (handle_of handle) (version_of version))) d (λ _. calm cleared Master (body.Cloned (handle_of handle) (version_of version)) refl h) (λ _. h)
 
   locally : (d : ServerDoing) (handle version copy copy_version : ℕ) (o : Option Row) → Fine d → Fine (copies_locally d handle version copy copy_version o)
   locally d handle version copy copy_version None h = h

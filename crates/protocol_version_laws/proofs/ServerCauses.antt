@@ -43,7 +43,7 @@ use Rattle.primary_order.specs.SerialOrder.{attempted, denied, numbered, settled
 use Rattle.record_append.specs.declared.placing.Placing.{Placing}
 use Rattle.record_append.specs.declared.placing.Placing.TheVariants.{At, Pad, Full, TooLong}
 use Rattle.record_append.specs.Placing.{placing}
-use Rattle.protocol.specs.Server.{ServerState, ServerDoing, server_begins, chunk_limit, says, refuses, stores, shows, with_primary, without_lease, takes_data, drops_corrupt, primary_of}
+use Rattle.protocol.specs.Server.{ServerState, ServerDoing, server_begins, chunk_limit, sends, refuses, stores, shows, with_primary, without_lease, takes_data, drops_corrupt, primary_of}
 use Rattle.protocol.specs.ServerReads.{answers_bytes, reads_from, measures, sends_image, copies_out}
 use Rattle.protocol.specs.ServerWrites.{refuses_attempt, denies, forward_to, nacks, passes_on, answers_settled, forwards, settles, acknowledges, change_of, stored_as, primary_applies, places, appends_as, mutates_with, mutates_new, mutates_as, mutates_under, member_stores, member_applies, applies_data, applies_change, forwarded_to, acked_under, refuses_waiting, nacked_under}
 use Rattle.protocol.specs.ServerOrders.{on_order, records, can_take, takes_create, raises, takes_set_version, holds_version, takes_grant, extends_held, ends_held, takes_revoke, drops_old, takes_drop, is_pending_clone, takes_clone, takes_image, copies_locally, takes_copy_local}
@@ -77,10 +77,10 @@ module _ (server now : ℕ) (W : Body → Type 0) (plain : (b : Body) → is_pla
   abbrev pub Says : ServerDoing → Type 0
   Says d = ((d.server.id ≡ server) × (d.server.now ≡ now)) × AllOf Said d.sent
 
-  says_true : (d : ServerDoing) (receiver : Node) (b : Body) → W b → Says d → Says (says d receiver b)
+  says_true : (d : ServerDoing) (receiver : Node) (b : Body) → W b → Says d → Says (sends d receiver b)
   says_true d receiver b is h = (h.0, all_joined Said d.sent (message (the_server d.server.id) receiver b ∷ []) h.1 ((ap the_server h.0.0, is), tt))
 
-  calm : (d : ServerDoing) (receiver : Node) (b : Body) → is_plain b ≡ true → Says d → Says (says d receiver b)
+  calm : (d : ServerDoing) (receiver : Node) (b : Body) → is_plain b ≡ true → Says d → Says (sends d receiver b)
   calm d receiver b is h = says_true d receiver b (plain b is) h
 
   refuses_true : (d : ServerDoing) (client : Node) (number : ℕ) (refusal : Refusal) → Says d → Says (refuses d client number refusal)

@@ -66,7 +66,7 @@ impl<S: ReplicaStore> Server<S> {
             serial,
             refusal,
         };
-        self.says(effects, primary, body)
+        self.send(effects, primary, body)
     }
 
     fn applies_change(
@@ -169,7 +169,7 @@ impl<S: ReplicaStore> Server<S> {
             version,
             serial,
         };
-        self.says(effects, primary, body)
+        self.send(effects, primary, body)
     }
 
     /// Whether so many bytes lie within the chunk.

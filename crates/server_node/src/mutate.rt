@@ -106,7 +106,7 @@ impl<S: ReplicaStore> Server<S> {
                 data: id,
                 change,
             };
-            self.says(effects, Node::Server(ServerId(*member)), body)?;
+            self.send(effects, Node::Server(ServerId(*member)), body)?;
         }
         Ok(())
     }

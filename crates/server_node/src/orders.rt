@@ -44,7 +44,7 @@ impl<S: ReplicaStore> Server<S> {
     ) -> Result<(), StoreFault>
         ensures { OnOk result (records (doing self.now effects.old) handle.0 version.0 ≡ doing self.now effects.new) }
     {
-        self.says(effects, Node::Master, Body::Recorded { handle, version })
+        self.send(effects, Node::Master, Body::Recorded { handle, version })
     }
 
     // Whether one more replica, under this handle, can be taken.
@@ -153,7 +153,7 @@ impl<S: ReplicaStore> Server<S> {
         if self.holds(handle, version) {
             self.leases.remove(handle.0);
         }
-        self.says(effects, Node::Master, Body::Revoked { handle, version })
+        self.send(effects, Node::Master, Body::Revoked { handle, version })
     }
 
     fn holds(&self, handle: Handle, version: Version) -> bool
@@ -197,7 +197,7 @@ impl<S: ReplicaStore> Server<S> {
         ensures frame { frame self.new ≡ frame self.old }
     {
         self.clones.insert(handle.0, version.0)?;
-        self.says(
+        self.send(
             effects,
             Node::Server(source),
             Body::CopyAsk { handle, version },
@@ -231,7 +231,7 @@ impl<S: ReplicaStore> Server<S> {
             bytes: bytes.clone()?,
         })?;
         self.clones.remove(handle.0);
-        self.says(effects, Node::Master, Body::Cloned { handle, version })
+        self.send(effects, Node::Master, Body::Cloned { handle, version })
     }
 
     /// CopyLocal: a replica of a shared chunk is copied on the same disk, under a new handle.

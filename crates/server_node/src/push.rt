@@ -46,14 +46,14 @@ impl<S: ReplicaStore> Server<S> {
         ensures { OnOk result (passes_on (doing self.now effects.old) id bytes.now rest.now (next_hop rest.now self.now.id) ≡ doing self.now effects.new) }
     {
         match hop_after(self.alloc, rest, self.id)? {
-            None => self.says(effects, Node::Client(id.client), Body::Pushed { data: id }),
+            None => self.send(effects, Node::Client(id.client), Body::Pushed { data: id }),
             Some(next) => {
                 let body = Body::Push {
                     data: id,
                     bytes: bytes.clone()?,
                     rest: hops_after(self.alloc, rest, next)?,
                 };
-                self.says(effects, Node::Server(next), body)
+                self.send(effects, Node::Server(next), body)
             }
         }
     }

@@ -51,7 +51,7 @@ impl<S: ReplicaStore> Server<S> {
             self.drops_corrupt(effects, handle)?;
             return self.refuses(effects, client, number, Refusal::Corrupt);
         };
-        self.says(effects, client, Body::Bytes { number, bytes })
+        self.send(effects, client, Body::Bytes { number, bytes })
     }
 
     /// A Len.
@@ -71,7 +71,7 @@ impl<S: ReplicaStore> Server<S> {
             return self.refuses(effects, client, number, Refusal::Version);
         }
         let count = row.count;
-        self.says(effects, client, Body::LenIs { number, count })
+        self.send(effects, client, Body::LenIs { number, count })
     }
 
     /// A CopyAsk: another server is to have a replica (section 4.3).
@@ -101,6 +101,6 @@ impl<S: ReplicaStore> Server<S> {
             serial: row.serial,
             bytes,
         };
-        self.says(effects, target, body)
+        self.send(effects, target, body)
     }
 }

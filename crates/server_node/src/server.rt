@@ -7,7 +7,7 @@ ghost use Rattle.gfs_types.specs.Settings.{largest_chunk};
 ghost use Rattle.data_push.specs.Buffers.{data_of};
 ghost use Rattle.replica_store.specs.Replicas.{row_at, is_writable_at};
 ghost use Rattle.protocol.specs.Tables.{moment_limit};
-ghost use Rattle.protocol.specs.Server.{says, refuses, drops_corrupt, primary_of, frame};
+ghost use Rattle.protocol.specs.Server.{sends, refuses, drops_corrupt, primary_of, frame};
 ghost use Rattle.protocol.specs.ServerStep.{server_at};
 ghost use Rattle.protocol.specs.ServerWrites.{refuses_attempt, answers_settled};
 ghost use Rattle.server_node.specs.Doing.{doing};
@@ -143,8 +143,8 @@ impl<S: ReplicaStore> Server<S> {
     }
 
     /// A message is sent.
-    pub fn says(&self, effects: &mut Effects, receiver: Node, body: Body) -> Result<(), StoreFault>
-        ensures { OnOk result (says (doing self.now effects.old) receiver body ≡ doing self.now effects.new) }
+    pub fn send(&self, effects: &mut Effects, receiver: Node, body: Body) -> Result<(), StoreFault>
+        ensures { OnOk result (sends (doing self.now effects.old) receiver body ≡ doing self.now effects.new) }
     {
         effects.send(Message {
             number: 0,
@@ -164,7 +164,7 @@ impl<S: ReplicaStore> Server<S> {
     ) -> Result<(), StoreFault>
         ensures { OnOk result (refuses (doing self.now effects.old) receiver number refusal ≡ doing self.now effects.new) }
     {
-        self.says(effects, receiver, Body::Refused { number, refusal })
+        self.send(effects, receiver, Body::Refused { number, refusal })
     }
 
     /// The client of an attempt is refused.
@@ -192,7 +192,7 @@ impl<S: ReplicaStore> Server<S> {
             None => self.refuses_attempt(effects, id, Refusal::ChunkFull),
             Some(place) => {
                 let body = Body::Done { data: id, place };
-                self.says(effects, Node::Client(id.client), body)
+                self.send(effects, Node::Client(id.client), body)
             }
         }
     }

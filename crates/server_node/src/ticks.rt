@@ -22,6 +22,6 @@ impl<S: ReplicaStore> Server<S> {
         let now = Moment(self.clock);
         let leases = report(self.alloc, &mut self.leases, self.config.skew_ms, now)?;
         let replicas = self.store.list(self.alloc)?;
-        self.says(effects, Node::Master, Body::Report { replicas, leases })
+        self.send(effects, Node::Master, Body::Report { replicas, leases })
     }
 }
