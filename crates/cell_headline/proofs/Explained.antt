@@ -14,10 +14,10 @@ use Rattle.cell_world.specs.Runs.{Runs}
 use Rattle.cell_world.proofs.Running.{after_more}
 use Rattle.cell_headline.specs.Headline.{IsMachineRun, AreAnswersARun, RunsAsMachine, StepsAsMachine, ArePromisesKept}
 
-explained : (config : Config) (servers clients : ℕ) (w : WorldState) → IsReached config servers clients w → IsMachineRun config w
+pub explained : (config : Config) (servers clients : ℕ) (w : WorldState) → IsReached config servers clients w → IsMachineRun config w
 explained config servers clients w r in_range kept = answers_are_a_run config servers clients w (settings_in_range_are_so config in_range) r kept
 
-reached_on : (config : Config) (servers clients : ℕ) (w next : WorldState) → IsReached config servers clients w → (steps : List (Event × Choice)) → after_events w steps ≡ next → IsReached config servers clients next
+pub reached_on : (config : Config) (servers clients : ℕ) (w next : WorldState) → IsReached config servers clients w → (steps : List (Event × Choice)) → after_events w steps ≡ next → IsReached config servers clients next
 reached_on config servers clients w next r steps leads = (r.0 ++ steps, after_more (new_world config servers clients) r.0 steps ∙ (ap (λ (v : WorldState). after_events v steps) r.1 ∙ leads))
 
 pub runs_explained : {V : Type 0} {E : Type 0} (old new : HeldCell) (events : List Event) (items : V → List Answer) (result : Result V E) → IfOk result (λ v. Runs old events (items v) new) → IfOk result (λ v. RunsAsMachine old events (items v) new)

@@ -9,7 +9,7 @@ use Rattle.cell_world.specs.Held.{HeldCell, IsHeldAs, HasEffect}
 use Rattle.cell_world.specs.Runs.{Runs, RanUntil}
 use Rattle.cell_world.specs.declared.fault.RunFault.{RunFault}
 use Rattle.cell_world.specs.declared.fault.RunFault.TheVariants.{NoMemory, Rot}
-use Rattle.cell_world.specs.Standing.{Stands}
+use Rattle.cell_headline.specs.Standing.{Stands}
 use Rattle.cell_world.proofs.Running.{after_more, runs_none, runs_more}
 
 pub stands_new : (config : Config) (servers clients : ℕ) (h : HeldCell) → IsHeldAs (new_world config servers clients) h → Stands h
