@@ -1,5 +1,5 @@
 -- Runs and steps of a cell are explained, since each reached world is.
-use Rattle.std.proofs.Common.{◌≡◌, ℕ, List, [], ◌∷◌, ◌++◌, Option, Result, Ok, Err, refl, ap, ◌∙◌}
+use Rattle.std.proofs.Common.{◌≡◌, ℕ, List, [], ◌∷◌, ◌++◌, Option, Result, Ok, Err, refl, subst, ap, ◌∙◌}
 use Rattle.std.specs.Prelude.{IfOk}
 use Rattle.gfs_types.specs.declared.answer.Answer.{Answer}
 use Rattle.gfs_types.specs.declared.config.Config.{Config}
@@ -12,6 +12,8 @@ use Rattle.protocol_promises.proofs.KeptPromises.{explained_worlds_are_promised}
 use Rattle.cell_world.specs.Held.{HeldCell, HasEffect}
 use Rattle.cell_world.specs.Runs.{Runs}
 use Rattle.cell_world.proofs.Running.{after_more}
+use Rattle.cell_headline.specs.Traced.{AddsToTrace}
+use Rattle.cell_headline.proofs.Traced.{events_add_to_the_trace}
 use Rattle.cell_headline.specs.Headline.{IsMachineRun, AreAnswersARun, RunsAsMachine, StepsAsMachine, ArePromisesKept}
 
 pub explained : (config : Config) (servers clients : ℕ) (w : WorldState) → IsReached config servers clients w → IsMachineRun config w
@@ -29,8 +31,13 @@ runs_explained old new events items (Err e) runs = tt
 pub step_explained : {E : Type 0} (old new : HeldCell) (event : Event) (result : Result (Option Answer) E) → IfOk result (λ answer. HasEffect old (λ w choice. happens w event choice) answer new)
     → IfOk result (λ answer. StepsAsMachine old event answer new)
 step_explained old new event (Ok answer) has = λ config servers clients w r held.
-    let it = has w held in
-    (it.0, it.1, it.2, explained config servers clients (happens w event it.0).world (reached_on config servers clients w (happens w event it.0).world r ((event, it.0) ∷ []) refl))
+    let it = has w held in (
+      it.0,
+      it.1,
+      subst (λ (a : Option Answer). AddsToTrace w event a (happens w event it.0).world) it.1 (events_add_to_the_trace w event it.0),
+      it.2,
+      explained config servers clients (happens w event it.0).world (reached_on config servers clients w (happens w event it.0).world r ((event, it.0) ∷ []) refl),
+    )
 step_explained old new event (Err e) has = tt
 
 pub all_explained : (h : HeldCell) → AreAnswersARun h

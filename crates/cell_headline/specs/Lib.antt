@@ -1,2 +1,3 @@
+pub mod Traced
 pub mod Headline
 pub mod Standing
