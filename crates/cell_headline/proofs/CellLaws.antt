@@ -1,5 +1,5 @@
 -- What is true of each reached world is true of what a cell holds that stands for it.
-use Rattle.std.proofs.Common.{◌≡◌, ◌≤◌, ℕ, List, Option, Some, sym, subst, ap, ◌∙◌}
+use Rattle.std.proofs.Common.{◌≡◌, ◌≤◌, ℕ, List, sym, subst, ap, ◌∙◌}
 use Rattle.std.specs.Prelude.{IsTrue}
 use Rattle.relaxed_file.specs.Names.{IsTree}
 use Rattle.messages.specs.declared.message.Message.{Message}
