@@ -8,7 +8,7 @@ use Rattle.cell_script.specs.declared.lines.ClientCall.{ClientCall}
 use Rattle.cell_script.specs.declared.lines.Line.{Line}
 use Rattle.cell_script.specs.declared.lines.Line.TheVariants as line
 use Rattle.cell_simulator.specs.Cells.{Meaning}
-use Rattle.cell_simulator.specs.Steps.{Step, Simulated, Lead, Rise, lines_of, Only, Just, First, Goes, is_delivery, is_of_round, later, after_rounds}
+use Rattle.cell_simulator.specs.Steps.{Step, Simulated, Lead, Rise, lines_of, Only, Just, First, Goes, is_delivery, is_of_round, later, after_rounds, most_rounds}
 use Rattle.cell_simulator.specs.Shown.{regions_shown, replicas_shown, handle_shown, has_node, has_client, NoneOpen, IsWaiting, call_event}
 use Rattle.cell_simulator.specs.declared.lines.LineEnd.{LineEnd}
 use Rattle.cell_simulator.specs.declared.lines.LineEnd.TheVariants as ends
@@ -85,7 +85,7 @@ pub record IsEndless {C : Type 0} (m : Meaning C) (old : Simulated C) (l : Line)
   pub is_good : is_bad m old.cell l ≡ false
   pub goes : Goes m old new (Makes m old l) before after
   pub waits : StillWaits m l new.cell
-  pub rounds : new.clock ≡ after_rounds old.clock 1000000
+  pub rounds : new.clock ≡ after_rounds old.clock most_rounds
 
 -- a line that can't be run, and changes nothing
 pub record IsRefused {C : Type 0} (m : Meaning C) (old : Simulated C) (l : Line) (new : Simulated C) (before after : Option (List ℕ)) : Type 0 where

@@ -112,3 +112,7 @@ later clock count = min (clock + count) 18446744073709551615
 -- the clock after so many rounds of ticks
 abbrev pub after_rounds : ℕ → ℕ → ℕ
 after_rounds clock rounds = later clock (100 * rounds)
+
+-- the rounds of ticks that a line may need
+abbrev pub most_rounds : ℕ
+most_rounds = 1000000

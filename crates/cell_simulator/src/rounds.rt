@@ -2,7 +2,7 @@
 
 ghost use Rattle.std.specs.Prelude.{◌≡◌, ◌≤◌, IfOk, IfErr, OnOk, IsTrue, IsFalse, IfSome, IfNone, not, true};
 ghost use Rattle.script.specs.ScriptFaults.{IsOfWrite};
-ghost use Rattle.cell_simulator.specs.Steps.{First, Goes, Only, after_rounds, is_delivery, is_of_round, later};
+ghost use Rattle.cell_simulator.specs.Steps.{First, Goes, Only, after_rounds, is_delivery, is_of_round, later, most_rounds};
 ghost use Rattle.cell_simulator.specs.Shown.{call_event, NoneOpen, IsWaiting, state_of};
 
 use crate::cell::SimulatedCell;
@@ -101,7 +101,7 @@ impl<C: SimulatedCell> Simulator<C> {
     /// all the rounds of ticks that a line may need.
     pub fn call<W: Write>(&mut self, asked: ClientCall, writer: &mut W) -> Result<bool, ScriptFault>
         ensures is_over { IfOk result (λ is_over. is_over ≡ not (C.meaning.is_open self.new.cell asked.client)) }
-        ensures rounds { IfOk result (λ is_over. IsFalse is_over → self.new.clock.0 ≡ after_rounds self.old.clock.0 1000000) }
+        ensures rounds { IfOk result (λ is_over. IsFalse is_over → self.new.clock.0 ≡ after_rounds self.old.clock.0 most_rounds) }
         ensures goes { OnOk result (Goes C.meaning (state_of self.old) (state_of self.new) (First (call_event asked self.old.clock) is_of_round) (W.contents writer.old) (W.contents writer.new)) }
         ensures fault { IfErr result IsOfWrite }
     {
@@ -136,7 +136,7 @@ impl<C: SimulatedCell> Simulator<C> {
     pub fn finish<W: Write>(&mut self, writer: &mut W) -> Result<bool, ScriptFault>
         ensures is_over { IfOk result (λ is_over. IsTrue is_over → NoneOpen C.meaning self.new.cell) }
         ensures waits { IfOk result (λ is_over. IsFalse is_over → IsWaiting C.meaning self.new.cell) }
-        ensures rounds { IfOk result (λ is_over. IsFalse is_over → self.new.clock.0 ≡ after_rounds self.old.clock.0 1000000) }
+        ensures rounds { IfOk result (λ is_over. IsFalse is_over → self.new.clock.0 ≡ after_rounds self.old.clock.0 most_rounds) }
         ensures goes { OnOk result (Goes C.meaning (state_of self.old) (state_of self.new) (Only is_of_round) (W.contents writer.old) (W.contents writer.new)) }
         ensures fault { IfErr result IsOfWrite }
     {

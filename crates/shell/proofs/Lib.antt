@@ -1,2 +1,4 @@
 pub mod Settings
+pub mod Clocks
+pub mod Explained
 pub mod Running

@@ -1,7 +1,7 @@
 -- New cells that scripts run on.
 use Rattle.std.specs.Prelude.{◌≡◌, ◌⊎◌, ℕ, Bool, ◌&&◌, is_none}
 use Rattle.gfs_types.specs.Settings.{is_within, first_out_of_range}
-use Rattle.protocol.specs.World.{new_world}
+use Rattle.protocol.specs.World.{WorldState, new_world}
 use Rattle.cell_world.specs.Held.{HeldCell, IsHeldAs}
 use Rattle.script.specs.declared.options.Options.{Options}
 use Rattle.script.specs.declared.script_fault.ScriptFault.{ScriptFault}
@@ -15,9 +15,13 @@ is_count count = is_within 1 64 count
 abbrev pub are_in_range : Options → Bool
 are_in_range o = is_none (first_out_of_range o.config) && is_count o.servers && is_count o.clients
 
--- a cell that stands for the new world of these options
+-- the new world of these options
+abbrev pub world_of : Options → WorldState
+world_of o = new_world o.config o.servers o.clients
+
+-- a cell that stands for it
 abbrev pub IsNew : Options → HeldCell → Type 0
-IsNew o cell = IsHeldAs (new_world o.config o.servers o.clients) cell
+IsNew o cell = IsHeldAs (world_of o) cell
 
 -- a fault of a new cell
 abbrev pub IsOfStart : ScriptFault → Type 0

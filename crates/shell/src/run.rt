@@ -1,7 +1,7 @@
 //! Runs a script on a new cell.
 
 ghost use Rattle.std.specs.Prelude.{◌≡◌, Err, IfErr, IsFalse, OnOk};
-ghost use Rattle.shell.specs.Cells.{IsNew, are_in_range};
+ghost use Rattle.shell.specs.Cells.{are_in_range};
 ghost use Rattle.shell.specs.Scripts.{RunsOnNew, Stops};
 
 use crate::making::{ScriptCell, new_cell};
@@ -32,8 +32,8 @@ pub fn run_script<R: BufRead, W: Write>(
     reader: &mut R,
     writer: &mut W,
 ) -> Result<(), ScriptFault>
-    ensures runs { OnOk result (RunsOnNew ⟦<ScriptCell<Global> as SimulatedCell>⟧.meaning (λ cell. IsNew options.now cell.world) (R.remaining reader.old) (W.contents writer.old) (W.contents writer.new)) }
-    ensures stops { IfErr result (Stops ⟦<ScriptCell<Global> as SimulatedCell>⟧.meaning (λ cell. IsNew options.now cell.world) (R.remaining reader.old) (R.remaining reader.new) (W.contents writer.old) (W.contents writer.new)) }
+    ensures runs { OnOk result (RunsOnNew ⟦<ScriptCell<Global> as SimulatedCell>⟧.meaning (λ cell. cell.world) options.now (R.remaining reader.old) (W.contents writer.old) (W.contents writer.new)) }
+    ensures stops { IfErr result (Stops ⟦<ScriptCell<Global> as SimulatedCell>⟧.meaning (λ cell. cell.world) options.now (R.remaining reader.old) (R.remaining reader.new) (W.contents writer.old) (W.contents writer.new)) }
     ensures range { IsFalse (are_in_range options.now) → result ≡ Err ScriptFault.Start }
 {
     let cell = new_cell(alloc, alloc, options)?;
@@ -52,8 +52,8 @@ pub fn run_script_in_region<R: BufRead, W: Write>(
     reader: &mut R,
     writer: &mut W,
 ) -> Result<(), ScriptFault>
-    ensures runs { OnOk result (RunsOnNew ⟦<RegionCell as SimulatedCell>⟧.meaning (λ cell. IsNew options.now cell.world) (R.remaining reader.old) (W.contents writer.old) (W.contents writer.new)) }
-    ensures stops { IfErr result (Stops ⟦<RegionCell as SimulatedCell>⟧.meaning (λ cell. IsNew options.now cell.world) (R.remaining reader.old) (R.remaining reader.new) (W.contents writer.old) (W.contents writer.new)) }
+    ensures runs { OnOk result (RunsOnNew ⟦<RegionCell as SimulatedCell>⟧.meaning (λ cell. cell.world) options.now (R.remaining reader.old) (W.contents writer.old) (W.contents writer.new)) }
+    ensures stops { IfErr result (Stops ⟦<RegionCell as SimulatedCell>⟧.meaning (λ cell. cell.world) options.now (R.remaining reader.old) (R.remaining reader.new) (W.contents writer.old) (W.contents writer.new)) }
     ensures range { IsFalse (are_in_range options.now) → result ≡ Err ScriptFault.Start }
 {
     let Ok(heap) = LocalHeap::new(alloc, bytes as usize) else {

@@ -1,0 +1,61 @@
+-- What a script's lines come to in the protocol's worlds, and that a run of the relaxed-file machine explains it.
+use Rattle.std.specs.Prelude.{◌≡◌, ◌⊎◌, ⊤, ℕ, IsTrue, List, [], ◌∷◌, Option, None}
+use Rattle.script.specs.declared.script_fault.ScriptFault.{ScriptFault}
+use Rattle.script.specs.declared.script_fault.ScriptFault.TheVariants as fault
+use Rattle.relaxed_file.specs.Machine.{Machine}
+use Rattle.protocol.specs.Choice.{Choice}
+use Rattle.protocol.specs.World.{WorldState, happens}
+use Rattle.protocol_invariant.specs.Explained.{Explains}
+use Rattle.cell_world.specs.Events.{MayBeRefused}
+use Rattle.cell_world.specs.Held.{HeldCell, IsHeldAs}
+use Rattle.cell_headline.specs.Traced.{AddsToTrace}
+use Rattle.cell_script.specs.declared.lines.Line.{Line}
+use Rattle.cell_simulator.specs.Cells.{Meaning}
+use Rattle.cell_simulator.specs.Steps.{Step, Simulated}
+use Rattle.cell_simulator.specs.Lines.{IsEndless}
+use Rattle.cell_simulator.specs.Scripts.{ComeTo, RunsOn, StopsWith}
+
+-- the event leads from one world to the other, for some choice, with just this answer, which it adds to the trace
+pub record LeadsTo (w : WorldState) (s : Step) (v : WorldState) : Type 0 where
+  pub choice : Choice
+  pub answer_is : (happens w s.event choice).out.answer ≡ s.answer
+  pub world_is : (happens w s.event choice).world ≡ v
+  pub traced : AddsToTrace w s.event s.answer v
+
+-- a byte didn't rot, since a server's store found no memory for it
+pub record DoesNotRot (w : WorldState) (s : Step) (v : WorldState) : Type 0 where
+  pub is_rot : MayBeRefused s.event
+  pub unanswered : s.answer ≡ None
+  pub same : v ≡ w
+
+-- steps lead from one world to the other
+abbrev pub LeadTo : WorldState → List Step → WorldState → Type 0
+LeadTo w [] v = v ≡ w
+LeadTo w (s ∷ rest) v = (u : WorldState) × (LeadsTo w s u ⊎ DoesNotRot w s u) × LeadTo u rest v
+
+-- A line's steps lead from one world to the other, which the cell stands for then. Where disks were kept, a run of the machine has all calls and answers so far, and led to what that world shows.
+pub record IsRunOfMachine (w : WorldState) (steps : List Step) (cell : HeldCell) (v : WorldState) : Type 0 where
+  pub lead : LeadTo w steps v
+  pub held_as : IsHeldAs v cell
+  pub explained : IsTrue v.observer.are_disks_kept → (m : Machine) × Explains v m
+
+-- So do the steps of lines that came to what they print, one line after another, up to the last world.
+abbrev pub AreRunsOfMachine : {C : Type 0} (m : Meaning C) (held : C → HeldCell) (w : WorldState) (old : Simulated C) (lines : List Line) (new : Simulated C) (printed : List ℕ) → ComeTo m old lines new printed → WorldState → Type 0
+AreRunsOfMachine m held w old [] new printed come v = v ≡ w
+AreRunsOfMachine m held w old (l ∷ rest) new printed come v =
+    (u : WorldState) × IsRunOfMachine w come.3.steps (held come.0.cell) u × AreRunsOfMachine m held u come.0 rest new come.2 come.4 v
+
+-- the lines that ran, from one world to the other
+abbrev pub AreExplained : {C : Type 0} {m : Meaning C} {old new : Simulated C} {before after : Option (List ℕ)} {lines : List Line} → (C → HeldCell) → WorldState → RunsOn m old new before after lines → WorldState → Type 0
+AreExplained {m} {old} {new} {lines} held w r v = AreRunsOfMachine m held w old lines new r.printed r.come v
+
+-- a line that went on without an end, from this world on
+abbrev pub IsEndlessExplained : {C : Type 0} (m : Meaning C) (held : C → HeldCell) (w : WorldState) (old : Simulated C) (before after : Option (List ℕ)) → Type 0
+IsEndlessExplained {C} m held w old before after = (l : Line) (new : Simulated C) (endless : IsEndless m old l new before after) → (v : WorldState) × IsRunOfMachine w endless.goes.steps (held new.cell) v
+
+-- The lines that ran before a script stopped, where something is known of them, and the one that had no end.
+abbrev pub AreExplainedUntil : {C : Type 0} (m : Meaning C) (held : C → HeldCell) (w : WorldState) (first : Simulated C) (script before after : Option (List ℕ)) (f : ScriptFault) → StopsWith m first script before after f → Type 0
+AreExplainedUntil m held w first script before after (fault.Line number) stops = (v : WorldState) × AreExplained held w stops.runs v
+AreExplainedUntil m held w first script before after (fault.NoEnd number) stops = (v : WorldState) × AreExplained held w stops.runs v × IsEndlessExplained m held v stops.world stops.middle after
+AreExplainedUntil m held w first script before after fault.Read stops = (v : WorldState) × AreExplained held w stops.1.runs v
+AreExplainedUntil m held w first script before after other stops = ⊤
