@@ -1,4 +1,5 @@
 pub mod Settings
 pub mod Clocks
+pub mod Printed
 pub mod Explained
 pub mod Running

@@ -1,8 +1,6 @@
 -- From the first cell of a run on, and what it was made for.
 use Rattle.std.proofs.Common.{◌≡◌, ℕ, List, Option, subst}
 use Rattle.std.specs.Prelude.{Result, Ok, Err, OnOk, IfErr, IsFalse}
-use Rattle.gfs_types.specs.declared.answer.Answer.{Answer}
-use Rattle.messages.specs.declared.event.Event.{Event}
 use Rattle.script.specs.declared.options.Options.{Options}
 use Rattle.script.specs.declared.script_fault.ScriptFault.{ScriptFault}
 use Rattle.script.specs.declared.script_fault.ScriptFault.TheVariants as fault
@@ -10,13 +8,12 @@ use Rattle.cell_world.specs.Held.{HeldCell}
 use Rattle.cell_simulator.specs.Cells.{Meaning}
 use Rattle.cell_simulator.specs.Steps.{Simulated}
 use Rattle.cell_simulator.specs.Scripts.{RunsScript, StopsWith}
-use Rattle.simulated_world.specs.Worlds.{Steps}
 use Rattle.shell.specs.Cells.{IsNew, are_in_range}
 use Rattle.shell.specs.Scripts.{RunsOnNew, StopsOnNew, Stops, at_0}
-use Rattle.shell.proofs.Explained.{settings_in_range, all_explained, explained_until}
+use Rattle.shell.proofs.Explained.{IsOfHeld, settings_in_range, all_explained, explained_until}
 
 -- a cell that was made for these options
-module _ {C : Type 0} (m : Meaning C) (held : C → HeldCell) (so : (old new : C) (e : Event) (answer : Option Answer) → m.steps old e answer new → Steps (held old) e answer (held new)) (o : Options) (first : C) (new : IsNew o (held first))
+module _ {C : Type 0} (m : Meaning C) (held : C → HeldCell) (so : IsOfHeld m held) (o : Options) (first : C) (new : IsNew o (held first))
     (range : IsFalse (are_in_range o) → Ok first ≡ Err fault.Start) (old : Simulated C) (begins : old ≡ at_0 first) where
   pub runs_on_new : (last : Simulated C) (script before after : Option (List ℕ)) (r : Result (Unit {0}) ScriptFault) → OnOk r (RunsScript m old last before after script) → OnOk r (RunsOnNew m held o script before after)
   runs_on_new last script before after (Ok x) h =

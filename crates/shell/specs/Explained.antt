@@ -1,8 +1,11 @@
 -- What a script's lines come to in the protocol's worlds, and that a run of the relaxed-file machine explains it.
-use Rattle.std.specs.Prelude.{◌≡◌, ◌⊎◌, ⊤, ℕ, IsTrue, List, [], ◌∷◌, Option, None}
+use Rattle.std.specs.Prelude.{◌≡◌, ◌⊎◌, ⊤, ℕ, IsTrue, List, [], ◌∷◌, ◌++◌, Option, None}
+use Rattle.std.specs.List.{flat_map}
+use Rattle.script.specs.Answers.{answer_line}
 use Rattle.script.specs.declared.script_fault.ScriptFault.{ScriptFault}
 use Rattle.script.specs.declared.script_fault.ScriptFault.TheVariants as fault
 use Rattle.relaxed_file.specs.Machine.{Machine}
+use Rattle.relaxed_file.specs.Run.{Visible, Called, Answered, Passed}
 use Rattle.protocol.specs.Choice.{Choice}
 use Rattle.protocol.specs.World.{WorldState, happens}
 use Rattle.protocol_invariant.specs.Explained.{Explains}
@@ -11,7 +14,7 @@ use Rattle.cell_world.specs.Held.{HeldCell, IsHeldAs}
 use Rattle.cell_headline.specs.Traced.{AddsToTrace}
 use Rattle.cell_script.specs.declared.lines.Line.{Line}
 use Rattle.cell_simulator.specs.Cells.{Meaning}
-use Rattle.cell_simulator.specs.Steps.{Step, Simulated}
+use Rattle.cell_simulator.specs.Steps.{Step, Simulated, lines_of, with_feed}
 use Rattle.cell_simulator.specs.Lines.{IsEndless}
 use Rattle.cell_simulator.specs.Scripts.{ComeTo, RunsOn, StopsWith}
 
@@ -33,10 +36,19 @@ abbrev pub LeadTo : WorldState → List Step → WorldState → Type 0
 LeadTo w [] v = v ≡ w
 LeadTo w (s ∷ rest) v = (u : WorldState) × (LeadsTo w s u ⊎ DoesNotRot w s u) × LeadTo u rest v
 
--- A line's steps lead from one world to the other, which the cell stands for then. Where disks were kept, a run of the machine has all calls and answers so far, and led to what that world shows.
+-- what is printed of what clients see: each answer
+abbrev pub shown_of : Visible → List ℕ
+shown_of (Called client asked) = []
+shown_of (Answered client reply) = with_feed (answer_line client reply)
+shown_of (Passed moment) = []
+
+-- A line's steps lead from one world to the other, which the cell stands for then, and clients see just the answers that are printed. Where disks were kept, a run of the machine has all calls and answers so far, and led to what that world shows.
 pub record IsRunOfMachine (w : WorldState) (steps : List Step) (cell : HeldCell) (v : WorldState) : Type 0 where
   pub lead : LeadTo w steps v
   pub held_as : IsHeldAs v cell
+  pub seen : List Visible
+  pub trace_is : v.observer.trace ≡ w.observer.trace ++ seen
+  pub answers_are : flat_map shown_of seen ≡ lines_of steps
   pub explained : IsTrue v.observer.are_disks_kept → (m : Machine) × Explains v m
 
 -- So do the steps of lines that came to what they print, one line after another, up to the last world.
