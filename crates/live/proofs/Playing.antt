@@ -1,5 +1,5 @@
 -- What a client was answered goes on with each call.
-use Rattle.std.proofs.Common.{◌≡◌, ℕ, zero, suc, ◌+◌, Bool, true, false, List, [], ◌∷◌, ◌++◌, length, refl, sym, ap, subst, ◌∙◌, append_assoc, arith}
+use Rattle.std.proofs.Common.{◌≡◌, ℕ, zero, suc, ◌+◌, Bool, true, false, List, [], ◌∷◌, ◌++◌, length, refl, sym, ap, ◌∙◌, append_assoc, arith}
 use Rattle.std.specs.Prelude.{IsTrue, replicate}
 use Rattle.std.proofs.lemmas.List.{append-nil}
 use Rattle.gfs_types.specs.declared.answer.Answer.{Answer}
@@ -28,6 +28,12 @@ shown_one_more (c ∷ cs) (r ∷ rs) call reply h = ap (λ l. Asked c ∷ Answer
 refused_one_more : (replies : List Answer) (refusal : Refusal) → AreOfTheCell replies → IsTrue (is_the_cells refusal) → AreOfTheCell (replies ++ answer.Refused refusal ∷ [])
 refused_one_more [] refusal all one = (one, tt)
 refused_one_more (answer.Refused r ∷ rest) refusal all one = (all.0, refused_one_more rest refusal all.1 one)
+refused_one_more (answer.Done ∷ rest) refusal all one = elim all [ ]
+refused_one_more (answer.Fd _ ∷ rest) refusal all one = elim all [ ]
+refused_one_more (answer.Names _ ∷ rest) refusal all one = elim all [ ]
+refused_one_more (answer.Length _ ∷ rest) refusal all one = elim all [ ]
+refused_one_more (answer.At _ ∷ rest) refusal all one = elim all [ ]
+refused_one_more (answer.Bytes _ _ ∷ rest) refusal all one = elim all [ ]
 
 pub nothing_played : HasPlayed [] false [] []
 nothing_played = record {
@@ -38,7 +44,7 @@ nothing_played = record {
 -- a call that was answered
 pub answered_one_more : (seen : List Visible) (was : Bool) (calls : List Call) (replies : List Answer) (call : Call) (reply : Answer) (now : List Visible) (lost : Bool) → was ≡ false → now ≡ seen ++ Asked call ∷ Answered reply ∷ []
     → HasPlayed seen was calls replies → HasPlayed now lost (calls ++ call ∷ []) (replies ++ reply ∷ [])
-answered_one_more seen was calls replies call reply now lost open shows h = record {
+answered_one_more seen was calls replies call reply now lost was_open shows h = record {
   answered = record {
     heard = a.heard ++ call ∷ [];
     answers = a.answers ++ reply ∷ [];
@@ -56,8 +62,10 @@ answered_one_more seen was calls replies call reply now lost open shows h = reco
   where
     a : AreAnswered seen calls replies
     a = h.answered
+
     none : a.refused ≡ []
-    none = h.none_refused open
+    none = h.none_refused was_open
+
     no_refusals : a.refusals ≡ []
     no_refusals = none_is a.refusals (a.all ∙ ap length none)
 
@@ -77,15 +85,18 @@ refused_more seen was calls replies call refusal now lost is same own h = record
     all = longer a.refusals (answer.Refused refusal) ∙ (ap (λ (k : ℕ). suc k) a.all ∙ sym (longer a.refused call));
     of_the_cell = refused_one_more a.refusals refusal a.of_the_cell own;
   };
-  none_refused = λ (open : lost ≡ false). absurd (let both : true ≡ false = sym is ∙ open in cc);
+  none_refused = λ (still_open : lost ≡ false). absurd (let both : true ≡ false = sym is ∙ still_open in cc);
 }
   where
     a : AreAnswered seen calls replies
     a = h.answered
 
+replicate_suc : {X : Type 0} (n : ℕ) (x : X) → replicate (suc n) x ≡ replicate n x ++ x ∷ []
+replicate_suc zero x = refl
+replicate_suc (suc n) x = ap (λ l. x ∷ l) (replicate_suc n x)
+
 pub replicate_one_more : {X : Type 0} (n : ℕ) (x : X) → replicate (n + 1) x ≡ replicate n x ++ x ∷ []
-replicate_one_more zero x = refl
-replicate_one_more (suc n) x = ap (λ l. x ∷ l) (replicate_one_more n x)
+replicate_one_more n x = let next : n + 1 ≡ suc n = omega arith in ap (λ (m : ℕ). replicate m x) next ∙ replicate_suc n x
 
 pub calls_append : (n : ℕ) (xs ys : List LiveLine) → calls_of n (xs ++ ys) ≡ calls_of n xs ++ calls_of n ys
 calls_append n [] ys = refl

@@ -1,9 +1,9 @@
 -- All clients of a script, from their first calls to their last.
-use Rattle.std.proofs.Common.{◌≡◌, ℕ, zero, suc, ◌+◌, ◌-◌, ◌<◌, ◌≤◌, Bool, true, false, List, [], ◌∷◌, ◌++◌, length, get_or, take, drop, map, Option, Some, None, refl, sym, ap, subst, ◌∙◌, append_assoc, arith}
-use Rattle.std.specs.Prelude.{slice_get, slice_range, replicate, nat_lt}
+use Rattle.std.proofs.Common.{◌≡◌, ℕ, zero, suc, ◌+◌, ◌-◌, ◌<◌, ◌≤◌, Bool, true, false, List, [], ◌∷◌, ◌++◌, length, get_or, take, drop, map, Some, None, refl, sym, ap, subst, ◌∙◌, append_assoc, length-append, arith}
+use Rattle.std.specs.Prelude.{slice_get, slice_range, replicate, nat_lt, ◌==◌, if◌then◌else◌, Result, Ok, Err, is_err, OnOk}
 use Rattle.std.proofs.lemmas.Bool.Decides.{nat_tests}
 use Rattle.std.proofs.Math.Seq.{take-suc, take-nil}
-use Rattle.std.proofs.lemmas.Option.{slice_get-get_or, slice_get_within}
+use Rattle.std.proofs.lemmas.Option.{slice_get-get_or, slice_get_within, get_or_from_slice_get}
 use Rattle.std.proofs.lemmas.List.{append-nil}
 use mathlib.Core.List.{IsPrefix}
 use Rattle.gfs_types.specs.declared.answer.Answer.{Answer}
@@ -11,8 +11,9 @@ use Rattle.gfs_types.specs.declared.answer.Answer.TheVariants as answer
 use Rattle.gfs_types.specs.declared.refusal.Refusal.{Refusal}
 use Rattle.gfs_types.specs.declared.call.Call.{Call}
 use Rattle.gfs_types.specs.declared.ids.ClientId.{ClientId}
+use Rattle.gfs_types.specs.declared.no_memory.NoMemory.{NoMemory}
+use Rattle.cell_script.specs.declared.lines.ClientCall.{ClientCall}
 use Rattle.gfs_types.specs.declared.ids.Node.{Node}
-use Rattle.gfs_types.specs.declared.ids.Node.TheVariants.{Client}
 use Rattle.live_script.specs.declared.lines.LiveLine.{LiveLine}
 use Rattle.live_script.specs.declared.lines.LiveLine.TheVariants as lines
 use Rattle.live_script.specs.Lines.{is_barrier}
@@ -20,11 +21,11 @@ use Rattle.script.specs.declared.options.Options.{Options}
 use Rattle.protocol_journal.specs.Journal.{Entry, own}
 use Rattle.journal_pages.specs.Identity.{Identity}
 use Rattle.cell_journal.specs.Rules.{IsJournalOf}
-use Rattle.cell_asking.specs.Seen.{Visible, visible_of}
-use Rattle.cell_seat.specs.Seats.{SeatState, seat_state, shown, IsAnswered, IsLost}
+use Rattle.cell_asking.specs.Seen.{visible_of}
+use Rattle.cell_seat.specs.Seats.{SeatState, shown, IsAnswered, IsLost}
 use Rattle.cell_run.specs.Cells.{IsCellOf}
 use Rattle.live.specs.declared.play.Player.{Player}
-use Rattle.live.specs.Live.{HasAnswers, AreAnswersOf}
+use Rattle.live.specs.Live.{AreAnswersOf}
 use Rattle.live.specs.Playing.{calls_on, calls_of, AreAnswered, HasPlayed, IsSamePlayer, HasMade, PlaysOn, Plays, IsNewPlayer, IsPlayed, Each, AllPlay}
 use Rattle.live.proofs.Playing.{nothing_played, answered_one_more, refused_more, replicate_one_more, calls_append}
 
@@ -41,6 +42,9 @@ pub each_more : (Holds : ℕ → Player → Type 0) (xs : List Player) (x : Play
 each_more Holds xs x n count all one =
     let next : n + 1 ≡ suc (length xs) = omega (arith, count) in
     each_more_from (λ k p. Holds (suc k) p) xs x all (subst (λ (m : ℕ). Holds m x) next one)
+
+pub count_more : (xs ys : List Player) (x : Player) (n : ℕ) → length xs ≡ n → ys ≡ xs ++ x ∷ [] → length ys ≡ n + 1
+count_more xs ys x n count is = omega (arith, ap length is, length-append xs (x ∷ []), count)
 
 pub each_of_none : (Holds : ℕ → Player → Type 0) → Each Holds []
 each_of_none Holds k p h = absurd (let none : None ≡ Some p = h in cc)
@@ -77,18 +81,29 @@ first_all Holds ps n past all k p here = all k p (let w : k < length ps = slice_
 
 -- parts of a script
 
-drop_none : {X : Type 0} (k : ℕ) → drop k ([] : List X) ≡ []
+drop_none : {X : Type 0} (k : ℕ) → ◌≡◌ {A = List X} (drop k []) []
 drop_none zero = refl
 drop_none (suc k) = refl
 
 less_none : (n : ℕ) → n - 0 ≡ n
 less_none n = omega arith
 
+both_less : (n f : ℕ) → suc n - suc f ≡ n - f
+both_less n f = omega arith
+
 taken_in_parts : {X : Type 0} (xs : List X) (first next : ℕ) → first ≤ next → take next xs ≡ take first xs ++ slice_range xs first next
 taken_in_parts [] f n h = take-nil n ∙ sym (ap (λ l. l ++ take (n - f) (drop f [])) (take-nil f) ∙ (ap (take (n - f)) (drop_none f) ∙ take-nil (n - f)))
 taken_in_parts (x ∷ xs) zero n h = ap (λ (m : ℕ). take m (x ∷ xs)) (sym (less_none n))
 taken_in_parts (x ∷ xs) (suc f) zero h = absurd (omega (arith, h))
-taken_in_parts (x ∷ xs) (suc f) (suc n) h = ap (λ l. x ∷ l) (taken_in_parts xs f n (let e : f ≤ n = omega (arith, h) in e))
+taken_in_parts (x ∷ xs) (suc f) (suc n) h = ap (λ l. x ∷ l) (taken_in_parts xs f n (let e : f ≤ n = omega (arith, h) in e)) ∙ ap (λ (m : ℕ). x ∷ (take f xs ++ take m (drop f xs))) (sym (both_less n f))
+
+take_front : {X : Type 0} (xs ys : List X) → take (length xs) (xs ++ ys) ≡ xs
+take_front [] ys = refl
+take_front (x ∷ xs) ys = ap (λ l. x ∷ l) (take_front xs ys)
+
+-- all places of a list were written
+pub written_back : (n : ℕ) (news olds : List Player) → length news ≡ n → take n (news ++ drop (length news) olds) ≡ news
+written_back n news olds h = subst (λ (m : ℕ). take m (news ++ drop (length news) olds) ≡ news) h (take_front news (drop (length news) olds))
 
 take_past : {X : Type 0} (xs : List X) (k : ℕ) → length xs ≤ k → take k xs ≡ xs
 take_past [] zero h = refl
@@ -117,7 +132,7 @@ up_to_barrier n xs first next within barrier =
 
 -- going on
 
-same_player : (p : Player) → IsSamePlayer p p
+pub same_player : (p : Player) → IsSamePlayer p p
 same_player p = record { id = refl; node = refl; cell = refl }
 
 pub still_same : (p q r : Player) → IsSamePlayer p q → IsSamePlayer q r → IsSamePlayer p r
@@ -126,8 +141,8 @@ still_same p q r a b = record { id = b.id ∙ a.id; node = b.node ∙ a.node; ce
 pub plays_none : (p : Player) → PlaysOn p p []
 plays_none p before h = subst (HasMade p) (sym (append-nil before)) h
 
-pub plays_then : (p q r : Player) (first then : List Call) → PlaysOn p q first → PlaysOn q r then → PlaysOn p r (first ++ then)
-plays_then p q r first then a b before h = subst (HasMade r) (append_assoc before first then) (b (before ++ first) (a before h))
+pub plays_then : (p q r : Player) (first later : List Call) → PlaysOn p q first → PlaysOn q r later → PlaysOn p r (first ++ later)
+plays_then p q r first later a b before h = subst (HasMade r) (append_assoc before first later) (b (before ++ first) (a before h))
 
 -- one call more
 pub made_answered : (p q : Player) (call : Call) (reply : Answer) → IsAnswered p.seat q.seat call reply → q.answers.items ≡ p.answers.items ++ reply ∷ [] → PlaysOn p q (call ∷ [])
@@ -143,6 +158,30 @@ made_refused p q call refusal is replies before h =
 
 pub made_again : (p q r : Player) (n : ℕ) (call : Call) → PlaysOn p q (replicate n call) → PlaysOn q r (call ∷ []) → PlaysOn p r (replicate (n + 1) call)
 made_again p q r n call a b = subst (PlaysOn p r) (sym (replicate_one_more n call)) (plays_then p q r (replicate n call) (call ∷ []) a b)
+
+-- lines with no call of it
+none_on : (n : ℕ) (line : LiveLine) → ((times : ℕ) (asked : ClientCall) → line ≡ lines.Calls times asked → ⊥) → calls_on n line ≡ []
+none_on n lines.Nothing h = refl
+none_on n lines.Barrier h = refl
+none_on n (lines.Calls times asked) h = absurd (h times asked refl)
+
+pub plays_no_call : (p : Player) (line : LiveLine) → ((times : ℕ) (asked : ClientCall) → line ≡ lines.Calls times asked → ⊥) → PlaysOn p p (calls_on p.id.0 line)
+plays_no_call p line h = subst (PlaysOn p p) (sym (none_on p.id.0 line h)) (plays_none p)
+
+pub plays_no_other : (p : Player) (line : LiveLine) (times : ℕ) (asked : ClientCall) → line ≡ lines.Calls times asked → (asked.client.0 ≡ p.id.0 → ⊥) → PlaysOn p p (calls_on p.id.0 line)
+plays_no_other p line times asked is other =
+    let no : (asked.client.0 == p.id.0) ≡ false = grind (arith, nat_tests, other) in
+    subst (PlaysOn p p) (sym (ap (calls_on p.id.0) is ∙ ap (λ (b : Bool). if b then replicate times asked.call else []) no)) (plays_none p)
+
+-- and with calls of it
+pub its_calls : (n : ℕ) (line : LiveLine) (times : ℕ) (asked : ClientCall) → line ≡ lines.Calls times asked → asked.client.0 ≡ n → replicate times asked.call ≡ calls_on n line
+its_calls n line times asked is own_one =
+    let yes : (asked.client.0 == n) ≡ true = grind (arith, nat_tests, own_one) in
+    sym (ap (calls_on n) is ∙ ap (λ (b : Bool). if b then replicate times asked.call else []) yes)
+
+pub where_ok : {P : Type 0} (r : Result (Unit {0}) NoMemory) → is_err r ≡ false → OnOk r P → P
+where_ok (Ok x) none h = h
+where_ok (Err e) none h = absurd (let both : true ≡ false = none in cc)
 
 pub one_line : (p q : Player) (line : LiveLine) → IsSamePlayer p q → (q.lacked_memory ≡ false → p.lacked_memory ≡ false) → (q.lacked_memory ≡ false → PlaysOn p q (calls_on p.id.0 line)) → Plays (line ∷ []) p q
 one_line p q line same lacked played = record {
@@ -177,14 +216,20 @@ pub plays_all : (p q : Player) (xs : List LiveLine) (k : ℕ) → length xs ≤ 
 plays_all p q xs k past h = subst (λ l. Plays l p q) (take_past xs k past) h
 
 pub all_none : (olds : List Player) → AllPlay [] olds olds
-all_none olds = (refl, λ k p q at_p at_q.
-    let same : p ≡ q = (let both : Some p ≡ Some q = sym at_p ∙ at_q in cc) in
-    subst (Plays [] p) same (nothing_to_play p))
+all_none olds = (
+  refl,
+  λ k p q at_p at_q.
+      let same : p ≡ q = (let both : Some p ≡ Some q = sym at_p ∙ at_q in cc) in
+      subst (Plays [] p) same (nothing_to_play p),
+)
 
 pub all_then : (olds mids news : List Player) (xs ys zs : List LiveLine) → ((n : ℕ) → calls_of n (xs ++ ys) ≡ calls_of n zs) → AllPlay xs olds mids → AllPlay ys mids news → AllPlay zs olds news
-all_then olds mids news xs ys zs same a b = (b.0 ∙ a.0, λ k p r at_p at_r.
-    let mid = was_there mids news k r b.0 at_r in
-    plays_lines p mid.0 r xs ys zs same (a.1 k p mid.0 at_p mid.1) (b.1 k mid.0 r mid.1 at_r))
+all_then olds mids news xs ys zs same a b = (
+  b.0 ∙ a.0,
+  λ k p r at_p at_r.
+      let mid = was_there mids news k r b.0 at_r in
+      plays_lines p mid.0 r xs ys zs same (a.1 k p mid.0 at_p mid.1) (b.1 k mid.0 r mid.1 at_r),
+)
 
 pub all_part : (olds mids news : List Player) (xs : List LiveLine) (first next : ℕ) → first ≤ next → ((line : LiveLine) → slice_get xs next ≡ Some line → is_barrier line ≡ true)
     → AllPlay (take first xs) olds mids → AllPlay (slice_range xs first next) mids news → AllPlay (take (next + 1) xs) olds news
@@ -193,6 +238,19 @@ all_part olds mids news xs first next within barrier a b =
 
 pub all_lines : (olds news : List Player) (xs : List LiveLine) (k : ℕ) → length xs ≤ k → AllPlay (take k xs) olds news → AllPlay xs olds news
 all_lines olds news xs k past all = subst (λ l. AllPlay l olds news) (take_past xs k past) all
+
+-- each thread's calls
+pub all_by_threads : (olds news : List Player) (xs : List LiveLine) → length news ≡ length olds → ((k : ℕ) (d : Player) → k < length olds → Plays xs (get_or olds k d) (get_or news k d)) → AllPlay xs olds news
+all_by_threads olds news xs same each = (
+  same,
+  λ k p q at_p at_q.
+      subst (λ (x : Player). Plays xs x q) (get_or_from_slice_get olds k p p at_p)
+      (subst (λ (y : Player). Plays xs (get_or olds k p) y) (get_or_from_slice_get news k q p at_q) (each k p (slice_get_within olds k p at_p))),
+)
+
+-- a call of one thread
+pub by_thread : (xs : List LiveLine) (p q before after : Player) → before ≡ p → after ≡ q → Plays xs before after → Plays xs p q
+by_thread xs p q before after was is h = subst (λ (x : Player). Plays xs x q) was (subst (λ (y : Player). Plays xs before y) is h)
 
 -- from the first call to the last
 

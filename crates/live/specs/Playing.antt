@@ -1,5 +1,5 @@
 -- A client of a script: the calls that it makes, and what it is answered.
-use Rattle.std.specs.Prelude.{◌≡◌, ⊤, ℕ, suc, ◌==◌, Bool, true, false, if◌then◌else◌, List, [], ◌∷◌, ◌++◌, length, replicate, slice_get, Some, IsTrue}
+use Rattle.std.specs.Prelude.{◌≡◌, ⊤, ℕ, suc, ◌==◌, Bool, false, if◌then◌else◌, List, [], ◌∷◌, ◌++◌, length, replicate, slice_get, Some, IsTrue}
 use Rattle.gfs_types.specs.declared.answer.Answer.{Answer}
 use Rattle.gfs_types.specs.declared.answer.Answer.TheVariants as answer
 use Rattle.gfs_types.specs.declared.call.Call.{Call}
@@ -8,7 +8,7 @@ use Rattle.live_script.specs.declared.lines.LiveLine.{LiveLine}
 use Rattle.live_script.specs.declared.lines.LiveLine.TheVariants as lines
 use Rattle.journal_pages.specs.Identity.{Identity}
 use Rattle.cell_asking.specs.Seen.{Visible, Asked, Answered}
-use Rattle.cell_seat.specs.Seats.{SeatState, seat_state, is_the_cells, shown}
+use Rattle.cell_seat.specs.Seats.{seat_state, is_the_cells, shown}
 use Rattle.live.specs.declared.play.Player.{Player}
 
 -- the calls of the client of this number, in order
