@@ -11,6 +11,7 @@ use Rattle.protocol.specs.World.{WorldState, happens, IsReached, is_kept}
 use Rattle.protocol_promises.specs.ExplainedWorlds.{KeepsPromises}
 use Rattle.protocol_invariant.specs.Explained.{Explains}
 use Rattle.cell_world.specs.Held.{HeldCell, IsHeldAs}
+use Rattle.cell_headline.specs.Traced.{AddsToTrace}
 
 -- Under settings in their ranges, and where clocks and disks were kept, a run of the machine has the world's calls and answers, and led to what it shows.
 abbrev pub IsMachineRun : Config → WorldState → Type 0
@@ -26,11 +27,12 @@ RunsAsMachine old events answers new =
     (config : Config) (servers clients : ℕ) (w : WorldState) → IsReached config servers clients w → IsHeldAs w old
     → (next : WorldState) × WorldRuns w events answers next × IsHeldAs next new × IsMachineRun config next
 
--- One event leads to one, with just this answer.
+-- One event leads to one, with just this answer, which it adds to the trace.
 abbrev pub StepsAsMachine : HeldCell → Event → Option Answer → HeldCell → Type 0
 StepsAsMachine old event answer new =
     (config : Config) (servers clients : ℕ) (w : WorldState) → IsReached config servers clients w → IsHeldAs w old
-    → (choice : Choice) × ((happens w event choice).out.answer ≡ answer) × IsHeldAs (happens w event choice).world new × IsMachineRun config (happens w event choice).world
+    → (choice : Choice) × ((happens w event choice).out.answer ≡ answer) × AddsToTrace w event answer (happens w event choice).world
+    × IsHeldAs (happens w event choice).world new × IsMachineRun config (happens w event choice).world
 
 -- What users rely on: in each such world a run that explains it keeps all promises, in the words of the calls and answers so far.
 abbrev pub ArePromisesKept : HeldCell → Type 0

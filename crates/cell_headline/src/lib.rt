@@ -1,4 +1,7 @@
-//! The headline: whatever is lost, repeated, delayed or reordered, the answers of a cell are a run of the relaxed-file machine.
+//! The cell with the headline as its contract: whatever is lost, repeated, delayed or reordered, its answers are a run of the relaxed-file
+//! machine.
 #![tactic(auto)]
 
 pub mod headline;
+pub mod laws;
+pub mod world;

@@ -8,5 +8,4 @@ pub mod Moved
 pub mod Happened
 pub mod Regions
 pub mod Running
-pub mod Reached
 pub mod Looked

@@ -2,7 +2,7 @@ pub mod Events
 pub mod Held
 pub mod Runs
 pub mod FileNames
-pub mod Standing
 pub mod Steps
 pub mod AsStored
 pub mod Looks
+pub mod Faults

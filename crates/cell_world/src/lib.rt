@@ -13,4 +13,3 @@ mod numbered;
 mod run;
 mod servers;
 mod shown;
-pub mod world;

@@ -8,9 +8,9 @@ ghost use Rattle.protocol.specs.MasterStep.{new_master};
 ghost use Rattle.shell.specs.Cells.{IsNew, IsOfStart, are_in_range, is_count};
 ghost use Rattle.stored_log.specs.Kept.{IsDiskSize};
 
+use cell_headline::world::World;
 use cell_master::SeatedMaster;
 use cell_world::master::CellMaster;
-use cell_world::world::World;
 use gfs_types::config::Config;
 use master::fault::MasterFault;
 use memory_store::MemoryStore;

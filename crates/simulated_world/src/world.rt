@@ -2,9 +2,9 @@
 
 ghost use Rattle.simulated_world.specs.Worlds.{meaning_of};
 
+use cell_headline::world::World;
 use cell_simulator::cell::SimulatedCell;
 use cell_world::master::CellMaster;
-use cell_world::world::World;
 use chunk_lines::stored::StoredReplica;
 use gfs_types::answer::Answer;
 use gfs_types::ids::{ClientId, FileId, Handle};

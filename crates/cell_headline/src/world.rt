@@ -1,4 +1,4 @@
-//! A cell that a list of events led to.
+//! A cell that a list of events led to, with the headline as the contract of its steps and runs.
 
 ghost use Rattle.std.specs.Prelude.{◌≡◌, ◌≤◌, length, map, option_map, IfOk, IfErr, OnErr};
 ghost use Rattle.std.specs.Option.{option_copied};
@@ -8,15 +8,16 @@ ghost use Rattle.protocol.specs.Lookups.{file_named, regions_at, replicas_at};
 ghost use Rattle.protocol.specs.MasterStep.{new_master};
 ghost use Rattle.protocol.specs.Sending.{file_id};
 ghost use Rattle.protocol.specs.World.{WorldState, happens, new_world, numbered_from_1};
+ghost use Rattle.cell_headline.specs.Headline.{RunsAsMachine, StepsAsMachine};
 ghost use Rattle.cell_world.specs.AsStored.{as_stored};
 ghost use Rattle.cell_world.specs.Events.{MayBeRefused};
 ghost use Rattle.cell_world.specs.Held.{HasEffect, IsHeldAs};
 ghost use Rattle.cell_world.specs.Looks.{file_held, has_open_call, regions_held, replicas_held, server_count};
 ghost use Rattle.cell_world.specs.Runs.{Runs, RanUntil};
 
-use crate::cell::Cell;
-use crate::fault::RunFault;
-use crate::master::CellMaster;
+use cell_world::cell::Cell;
+use cell_world::fault::RunFault;
+use cell_world::master::CellMaster;
 use chunk_lines::stored::StoredReplica;
 use gfs_types::answer::Answer;
 use gfs_types::config::Config;
@@ -43,7 +44,7 @@ impl<M: CellMaster, S: ReplicaStore> Model for World<M, S> {
     ghost use Rattle.std.specs.FinMap as map;
     ghost use Rattle.lru.specs.LruCache.{lru_cache_code};
     ghost use Rattle.cell_world.specs.Held.{HeldCell};
-    ghost use Rattle.cell_world.specs.Standing.{Stands};
+    ghost use Rattle.cell_headline.specs.Standing.{HasReachedWorld};
 
     ghost Value = { HeldCell };
 
@@ -51,7 +52,7 @@ impl<M: CellMaster, S: ReplicaStore> Model for World<M, S> {
 
     ghost view = { λ w. w.cell };
 
-    ghost invariant = { λ w. Stands w.cell };
+    ghost invariant = { λ w. HasReachedWorld w.cell };
 }
 
 impl<M: CellMaster + Drop> World<M, MemoryStore> {
@@ -78,18 +79,24 @@ impl<M: CellMaster + Drop> World<M, MemoryStore> {
 
 impl<M: CellMaster, S: ReplicaStore> World<M, S> {
     /// One event, and what it answers. One that names no such node, message, replica, place or moment, or a node that is down, changes
-    /// nothing. An error: the store of a server found no memory for a byte that rots, and nothing has changed.
+    /// nothing. A run of the machine has the calls and answers so far, and led to what the cell shows. An error: the store of a server found
+    /// no memory for a byte that rots, and nothing has changed.
     pub fn step(&mut self, event: Event) -> Result<Option<Answer>, NoMemory>
         ensures ok { IfOk result (λ answer. HasEffect self.old (λ w choice. happens w event choice) answer self.new) }
+        ensures explained { IfOk result (λ answer. StepsAsMachine self.old event answer self.new) }
         ensures err { OnErr result (self.new ≡ self.old) }
         ensures refused { OnErr result (MayBeRefused event) }
     {
         self.cell.step(event)
     }
 
-    /// The events in order, and their answers.
+    /// The events in order, and their answers: a run of the machine has the calls and answers so far, and led to what the cell shows.
+    ///
+    /// - `NoMemory`: memory was refused before the first event, and nothing has changed.
+    /// - `Rot`: a byte couldn't rot for want of memory. The events before it happened, as many as it says.
     pub fn run(&mut self, alloc: Global, events: &[Event]) -> Result<Vec<Answer>, RunFault>
         ensures ok { IfOk result (λ answers. Runs self.old events.now answers.items self.new) }
+        ensures explained { IfOk result (λ answers. RunsAsMachine self.old events.now answers.items self.new) }
         ensures err { IfErr result (λ fault. RanUntil self.old events.now fault self.new) }
     {
         self.cell.run(alloc, events)
