@@ -54,14 +54,40 @@ fn go_on_alike<S: ReplicaStore, T: ReplicaStore>(
     Ok(open && opened_again)
 }
 
+// Whether both show the same after each change.
+fn are_always_alike<S: ReplicaStore, T: ReplicaStore>(
+    alloc: Global,
+    store: &mut S,
+    model: &mut T,
+) -> Result<bool, StoreFault>
+    requires store { S.under_way store.old ≡ [] }
+    requires model { T.under_way model.old ≡ [] }
+{
+    for number in 0..CHANGES {
+        if !go_on_alike(alloc, store, model, number)? {
+            return Ok(false);
+        }
+    }
+    Ok(true)
+}
+
+// Whether a store shows what one in memory does.
+fn is_as_in_memory<S: ReplicaStore>(alloc: Global, store: &mut S) -> Result<bool, StoreFault>
+    requires { S.under_way store.old ≡ [] }
+{
+    let mut model = MemoryStore::new(alloc, 16);
+    are_always_alike(alloc, store, &mut model)
+}
+
+fn new_is_as_in_memory(alloc: Global) -> Result<bool, StoreFault> {
+    let mut store = new_store(alloc)?;
+    is_as_in_memory(alloc, &mut store)
+}
+
 #[test]
 fn it_says_what_a_store_in_memory_says(rt: HostRuntime) -> Result<(), Fail> {
     let alloc = rt.alloc();
-    let mut store = new_store(alloc)?;
-    let mut model = MemoryStore::new(alloc, 16);
-    for number in 0..CHANGES {
-        assert!(rt; go_on_alike(alloc, &mut store, &mut model, number)?);
-    }
+    assert!(rt; new_is_as_in_memory(alloc)?);
     Ok(())
 }
 
@@ -117,16 +143,37 @@ fn refuses_past<S: ReplicaStore>(store: &mut S) -> bool
     past == Err(StoreFault::NoRoom) && empty == Ok(true)
 }
 
+// Whether it is so once a byte of both is rotten, and both show the same once the first one is opened again.
+fn is_rotten_alike<S: ReplicaStore, T: ReplicaStore>(
+    alloc: Global,
+    store: &mut S,
+    model: &mut T,
+) -> Result<bool, StoreFault>
+    requires store { S.under_way store.old ≡ [] }
+    requires model { T.under_way model.old ≡ [] }
+{
+    let is_alike = rot_alike(alloc, store, model)?;
+    let is_shut = is_shut(alloc, store)?;
+    let refuses = refuses_rot(store) && refuses_past(store);
+    store.reopen()?;
+    Ok(is_alike && is_shut && refuses && are_same(alloc, store, model)?)
+}
+
+fn is_rotten_as_in_memory<S: ReplicaStore>(alloc: Global, store: &mut S) -> Result<bool, StoreFault>
+    requires { S.under_way store.old ≡ [] }
+{
+    let mut model = MemoryStore::new(alloc, 16);
+    is_rotten_alike(alloc, store, &mut model)
+}
+
+fn new_is_rotten_as_in_memory(alloc: Global) -> Result<bool, StoreFault> {
+    let mut store = new_store(alloc)?;
+    is_rotten_as_in_memory(alloc, &mut store)
+}
+
 #[test]
 fn a_byte_rots(rt: HostRuntime) -> Result<(), Fail> {
     let alloc = rt.alloc();
-    let mut store = new_store(alloc)?;
-    let mut model = MemoryStore::new(alloc, 16);
-    assert!(rt; rot_alike(alloc, &mut store, &mut model)?);
-    assert!(rt; is_shut(alloc, &mut store)?);
-    assert!(rt; refuses_rot(&mut store));
-    assert!(rt; refuses_past(&mut store));
-    store.reopen()?;
-    assert!(rt; are_same(alloc, &mut store, &mut model)?);
+    assert!(rt; new_is_rotten_as_in_memory(alloc)?);
     Ok(())
 }
