@@ -1,4 +1,4 @@
-//! A store whose disk stops at each of its calls.
+//! A store whose disk stops at each of its calls, and at each call of the opening after that.
 
 ghost use Rattle.std.specs.Prelude.{◌≡◌, [], OnOk};
 
@@ -13,10 +13,35 @@ use std::alloc::Global;
 use std::test::Fail;
 use stoppable_store::StoppableStore;
 
-const WAYS: [Torn; 3] = [Torn::Old, Torn::New, Torn::Byte(1)];
+const WAYS: [Torn; 5] = [
+    Torn::Old,
+    Torn::New,
+    Torn::Byte(0),
+    Torn::Byte(1),
+    Torn::Byte(7),
+];
 
 // One change takes fewer calls of the disk.
-const CALLS: u64 = 40;
+const CALLS: u64 = 30;
+
+// And so does an opening.
+const OPENING_CALLS: u64 = 24;
+
+// After how many calls the disk stops, after how many in the opening after that, and what it makes of what wasn't synced.
+#[derive(Clone, Copy)]
+struct Stop {
+    calls: u64,
+    more: u64,
+    torn: Torn,
+}
+
+// What came of a call: whether it succeeded, whether the first opening after it did, and what is seen after the second.
+#[derive(Clone, Copy)]
+struct Stopped {
+    is_ok: bool,
+    is_open: bool,
+    found: Shown,
+}
 
 // What a store in memory shows after so many changes.
 fn after(alloc: Global, count: u64) -> Result<Shown, StoreFault> {
@@ -25,64 +50,139 @@ fn after(alloc: Global, count: u64) -> Result<Shown, StoreFault> {
     seen(alloc, &mut model)
 }
 
-// The store is opened again, and stops in that first.
-fn open_twice<S: StoppableStore>(store: &mut S, calls: u64, torn: Torn) -> Result<(), StoreFault>
+// The store is opened twice, and its disk stops in the first opening. Whether that succeeded.
+fn open_twice<S: StoppableStore>(store: &mut S, stop: Stop) -> Result<bool, StoreFault>
     ensures { OnOk result (S.under_way store.new ≡ []) }
 {
-    store.stop_after_restart(calls / 2, torn);
-    let _ = store.reopen();
-    store.reopen()
+    store.stop_after_restart(stop.more, stop.torn);
+    let is_open = store.reopen().is_ok();
+    store.reopen()?;
+    Ok(is_open)
 }
 
-// Whether a change was answered as made while the disk stopped, and what is seen once the store is opened again.
+// A change, after those before it, while the disk stops.
 fn stop_within<S: StoppableStore>(
     alloc: Global,
     store: &mut S,
     number: u64,
-    calls: u64,
-    torn: Torn,
-) -> Result<(bool, Shown), StoreFault>
+    stop: Stop,
+) -> Result<Stopped, StoreFault>
     requires { S.under_way store.old ≡ [] }
 {
     commit_first(alloc, store, number)?;
     let change = change_of(alloc, number)?;
-    store.stop_after(calls, torn);
+    store.stop_after(stop.calls, stop.torn);
     let is_ok = store.commit(change).is_ok();
-    open_twice(store, calls, torn)?;
-    Ok((is_ok, seen(alloc, store)?))
+    let is_open = open_twice(store, stop)?;
+    let found = seen(alloc, store)?;
+    Ok(Stopped {
+        is_ok,
+        is_open,
+        found,
+    })
 }
 
-fn stopped(
-    alloc: Global,
-    number: u64,
-    calls: u64,
-    torn: Torn,
-) -> Result<(bool, Shown), StoreFault> {
+fn stop_new_store(alloc: Global, number: u64, stop: Stop) -> Result<Stopped, StoreFault> {
     let mut store = new_store(alloc)?;
-    stop_within(alloc, &mut store, number, calls, torn)
+    stop_within(alloc, &mut store, number, stop)
 }
 
-// Whether some change that failed was found made, and some change not made.
+// What is seen before a change and after it; and whether one that failed was found made, and one not made.
 #[derive(Clone, Copy)]
 struct Tally {
+    before: Shown,
+    done: Shown,
     made: bool,
     lacking: bool,
 }
 
-// Whether a change is found made or not, and made where it was answered so.
-fn is_decided(tally: &mut Tally, before: Shown, done: Shown, is_ok: bool, found: Shown) -> bool {
-    tally.made = tally.made || !is_ok && found == done;
-    tally.lacking = tally.lacking || found == before;
-    found == done || !is_ok && found == before
+// Whether the change is found made or not, and made where it was answered so.
+fn is_decided(tally: &mut Tally, ran: Stopped) -> bool {
+    let is_done = ran.found == tally.done;
+    let is_before = ran.found == tally.before;
+    tally.made = tally.made || !ran.is_ok && is_done;
+    tally.lacking = tally.lacking || is_before;
+    is_done || !ran.is_ok && is_before
 }
 
-fn are_decided(alloc: Global, tally: &mut Tally, number: u64) -> Result<bool, StoreFault> {
-    let before = after(alloc, number)?;
-    let done = after(alloc, number.saturating_add(1))?;
-    for calls in 0..CALLS {
+// The same for each stop within the opening, and each tear.
+fn are_decided_at(
+    alloc: Global,
+    tally: &mut Tally,
+    number: u64,
+    calls: u64,
+) -> Result<bool, StoreFault> {
+    for more in 0..OPENING_CALLS {
         for torn in WAYS {
-            let (is_ok, found) = stopped(alloc, number, calls, torn)?;
-            if !is_decided(tally, before, done, is_ok, found) {
+            let stop = Stop { calls, more, torn };
+            if !is_decided(tally, stop_new_store(alloc, number, stop)?) {
+                return Ok(false);
+            }
+        }
+    }
+    Ok(true)
+}
+
+// The same for each call of the change; and whether neither it nor the opening has more calls than were tried.
+fn are_decided(alloc: Global, tally: &mut Tally, number: u64) -> Result<bool, StoreFault> {
+    for calls in 0..CALLS {
+        if !are_decided_at(alloc, tally, number, calls)? {
+            return Ok(false);
+        }
+    }
+    let last = Stop {
+        calls: CALLS,
+        more: OPENING_CALLS,
+        torn: Torn::New,
+    };
+    let ran = stop_new_store(alloc, number, last)?;
+    Ok(ran.is_ok && ran.is_open)
+}
+
+#[test]
+fn each_change_is_made_or_not(rt: HostRuntime) -> Result<(), Fail> {
+    let alloc = rt.alloc();
+    for number in 0..CHANGES {
+        let mut tally = Tally {
+            before: after(alloc, number)?,
+            done: after(alloc, number + 1)?,
+            made: false,
+            lacking: false,
+        };
+        assert!(rt; are_decided(alloc, &mut tally, number)?);
+        assert!(rt; tally.made && tally.lacking);
+    }
+    Ok(())
+}
+
+// A byte that is to rot while the disk stops: it is rotten once the store is opened again, where it was answered so, and nothing has changed
+// where it wasn't.
+fn stop_within_rot<S: StoppableStore>(
+    alloc: Global,
+    store: &mut S,
+    stop: Stop,
+) -> Result<bool, StoreFault>
+    requires { S.under_way store.old ≡ [] }
+{
+    commit_first(alloc, store, 4)?;
+    let before = seen(alloc, store)?;
+    store.stop_after(stop.calls, stop.torn);
+    let is_ok = store.rot(Handle(7), 3, 99).is_ok();
+    open_twice(store, stop)?;
+    let found = seen(alloc, store)?;
+    let is_rotten = store.read(alloc, Handle(7), 0, 64)?.is_none();
+    Ok(if is_ok { is_rotten } else { found == before })
+}
+
+fn is_rotten_or_not(alloc: Global, stop: Stop) -> Result<bool, StoreFault> {
+    let mut store = new_store(alloc)?;
+    stop_within_rot(alloc, &mut store, stop)
+}
+
+fn are_rotten_or_not(alloc: Global, calls: u64) -> Result<bool, StoreFault> {
+    for more in 0..OPENING_CALLS {
+        for torn in WAYS {
+            if !is_rotten_or_not(alloc, Stop { calls, more, torn })? {
                 return Ok(false);
             }
         }
@@ -91,51 +191,10 @@ fn are_decided(alloc: Global, tally: &mut Tally, number: u64) -> Result<bool, St
 }
 
 #[test]
-fn each_change_is_made_or_not(rt: HostRuntime) -> Result<(), Fail> {
-    let alloc = rt.alloc();
-    let mut tally = Tally {
-        made: false,
-        lacking: false,
-    };
-    for number in 0..CHANGES {
-        assert!(rt; are_decided(alloc, &mut tally, number)?);
-    }
-    assert!(rt; tally.made && tally.lacking);
-    Ok(())
-}
-
-// Whether a byte that was to rot while the disk stopped is rotten once the store is opened again, where it was answered so, and nothing has
-// changed where it wasn't.
-fn stop_within_rot<S: StoppableStore>(
-    alloc: Global,
-    store: &mut S,
-    calls: u64,
-    torn: Torn,
-) -> Result<bool, StoreFault>
-    requires { S.under_way store.old ≡ [] }
-{
-    commit_first(alloc, store, 4)?;
-    let before = seen(alloc, store)?;
-    store.stop_after(calls, torn);
-    let is_ok = store.rot(Handle(7), 3, 99).is_ok();
-    open_twice(store, calls, torn)?;
-    let found = seen(alloc, store)?;
-    let is_rotten = store.read(alloc, Handle(7), 0, 64)?.is_none();
-    Ok(if is_ok { is_rotten } else { found == before })
-}
-
-fn is_rotten_or_not(alloc: Global, calls: u64, torn: Torn) -> Result<bool, StoreFault> {
-    let mut store = new_store(alloc)?;
-    stop_within_rot(alloc, &mut store, calls, torn)
-}
-
-#[test]
 fn a_byte_that_was_to_rot_is_rotten(rt: HostRuntime) -> Result<(), Fail> {
     let alloc = rt.alloc();
     for calls in 0..CALLS {
-        for torn in WAYS {
-            assert!(rt; is_rotten_or_not(alloc, calls, torn)?);
-        }
+        assert!(rt; are_rotten_or_not(alloc, calls)?);
     }
     Ok(())
 }
