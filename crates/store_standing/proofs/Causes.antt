@@ -1,6 +1,6 @@
 -- What a fault is answered as, and its cause.
 use Rattle.std.proofs.Common.{◌≡◌, ℕ, refl, sym, ap, ◌∙◌, None, Some, Result, Ok, Err}
-use Rattle.std.specs.Prelude.{◌↔◌, ◌≢◌, IsErrAnd, IsErrOf}
+use Rattle.std.specs.Prelude.{◌↔◌, ◌≢◌, IsErrOf}
 use Rattle.disk.specs.Device.{HasCause as IsOfDisk}
 use Rattle.disk.specs.declared.device.DiskFault.{DiskFault}
 use Rattle.disk.specs.declared.device.DiskFault.TheVariants as disk
@@ -9,7 +9,7 @@ use Rattle.replica_store.specs.declared.row.Row.{Row}
 use Rattle.replica_store.specs.Replicas.{ServerDisk, row_at}
 use Rattle.server_store.specs.declared.fault.StoreFault.{StoreFault}
 use Rattle.server_store.specs.declared.fault.StoreFault.TheVariants as store
-use Rattle.store_changes.specs.Faults.{MayFail}
+use Rattle.store_changes.specs.Faults.{IsRefused, MayFail, is_refusal}
 use Rattle.store_changes.specs.declared.fault.StoreFault.{StoreFault as ChangeFault}
 use Rattle.store_changes.specs.declared.fault.StoreFault.TheVariants as change
 use Rattle.stored_replicas.proofs.Looked.{no_row, one_row}
@@ -23,15 +23,6 @@ disk_has_room disk.NoMemory x is e = absurd cc
 pub disk_cause : {T U : Type 0} (before now : ℕ) (f : DiskFault) (x : StoreFault) → x ≡ of_disk f → IsOfDisk {T = T} before now (Err f) → HasCause {T = U} before now (Err x)
 disk_cause before now disk.Device x is h = record { later = h.later; failed = λ e. h.failed refl }
 disk_cause before now disk.NoMemory x is h = record { later = h.later; failed = λ e. absurd cc }
-
--- a fault that is handed on
-pub cause_on : {T U : Type 0} (before now : ℕ) (f : StoreFault) (r : Result U StoreFault) → IsErrAnd r (λ e. e ≡ f) → HasCause {T = T} before now (Err f) → HasCause before now r
-cause_on before now f (Ok x) is h = absurd is
-cause_on before now f (Err x) is h = record { later = h.later; failed = λ e. h.failed (let same : x ≡ store.DiskFailed = cc in ap (λ (y : StoreFault). Err y) (sym is ∙ same)) }
-
-pub room_on : {T U : Type 0} (f : StoreFault) (r : Result U StoreFault) → IsErrAnd r (λ e. e ≡ f) → (IsErrOf {T = T} (Err f) store.NoRoom → ⊥) → IsErrOf r store.NoRoom → ⊥
-room_on f (Ok x) is room e = absurd is
-room_on f (Err x) is room e = let same : x ≡ store.NoRoom = cc in room (ap (λ (y : StoreFault). Err y) (sym is ∙ same))
 
 -- a change's fault that is none of these is the disk's, or want of memory or room
 pub change_cause : {T U : Type 0} (before now : ℕ) (f : ChangeFault) (x : StoreFault) → x ≡ of_change f → (f ≡ change.NoChunk → ⊥) → (f ≡ change.Version → ⊥) → (f ≡ change.OldSerial → ⊥) → (f ≡ change.Corrupt → ⊥)
@@ -60,3 +51,23 @@ pub look_cause : {T U : Type 0} (before now : ℕ) (d : ServerDisk) (h : ℕ) (v
 look_cause before now d h version row f x is chunk other serial intact at same may =
     change_cause before now f x is (λ e. no_row (row_at d h) row (chunk.0 (ap (λ (y : ChangeFault). Err y) e)) at)
     (λ e. let p = other.0 (ap (λ (y : ChangeFault). Err y) e) in p.2 (ap (λ (r : Row). r.version) (one_row (row_at d h) p.0 row p.1 at) ∙ same)) (λ e. serial (ap (λ (y : ChangeFault). Err y) e)) intact may
+
+-- want of room is a change's own
+pub only_room : (f : ChangeFault) (x : StoreFault) → x ≡ of_change f → x ≡ store.NoRoom → f ≡ change.NoRoom
+only_room change.NoChunk x is e = absurd cc
+only_room change.Version x is e = absurd cc
+only_room change.OldSerial x is e = absurd cc
+only_room change.Corrupt x is e = absurd cc
+only_room change.NoRoom x is e = refl
+only_room change.Device x is e = absurd cc
+only_room change.NoMemory x is e = absurd cc
+
+-- what is refused for want of a replica alone isn't refused for want of room
+pub rot_has_room : {T : Type 0} (r : Result T ChangeFault) → (IsRefused r → IsErrOf r change.NoChunk) → IsErrOf r change.NoRoom → ⊥
+rot_has_room (Ok x) only e = absurd cc
+rot_has_room (Err f) only e =
+    let is : f ≡ change.NoRoom = cc in
+    let none = only (ap is_refusal is) in
+    let other : f ≡ change.NoChunk = cc in
+    let both : change.NoRoom ≡ change.NoChunk = sym is ∙ other in
+    absurd cc

@@ -1,5 +1,5 @@
 -- How a store stands to its disk.
-use Rattle.std.specs.Prelude.{◌≡◌, ◌⊎◌, ⊤, ℕ, ◌<◌, ◌≤◌, ◌/◌, ◌%◌, true, if◌then◌else◌, List, [], ◌∷◌, Option, None, Some}
+use Rattle.std.specs.Prelude.{◌≡◌, ◌⊎◌, ⊤, ℕ, ◌<◌, ◌≤◌, ◌/◌, ◌%◌, true, false, if◌then◌else◌, List, [], ◌∷◌, Option, None, Some}
 use Rattle.std.specs.Option.{option_to_list}
 use Rattle.gfs_types.specs.declared.ids.OrderNo.{OrderNo}
 use Rattle.sha2.specs.Sha256.{sha256}
@@ -73,6 +73,10 @@ rotten_by d (Some b) = disk_rotten d b.handle.0 b.place b.byte
 abbrev pub HasItsDigest : ℕ → ℕ → Replica → ℕ → ℕ → Type 0
 HasItsDigest chunk block r place byte =
     sha256 (block_in block (place / block) (written_over (chunk_on_disk chunk r) place (byte ∷ []))) ≡ sha256 (block_in block (place / block) (filled_to chunk r.bytes))
+
+-- A change that isn't begun: it can't be told from its lack, or it isn't careful.
+abbrev pub IsUnfit : ℕ → Rows → ServerDisk → StoreChange → Type 0
+IsUnfit chunk rows d change = (can_be_told chunk rows change ≡ false) ⊎ (IsCareful chunk d change → ⊥)
 
 -- A byte of a replica that can't be told to rot: it lies past the chunk, or with it its block would have that digest.
 abbrev pub CantRot : ℕ → ServerDisk → ℕ → ℕ → ℕ → Type 0

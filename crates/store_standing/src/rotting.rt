@@ -177,6 +177,7 @@ pub(crate) fn rots<D: Disk>(
     ensures ok { (d : ServerDisk) → IsOpen D.seen D.may_leave store.old d → OnOk result (IsOpen D.seen D.may_leave store.new (rotten_by d rotting)) }
     ensures any_moment { (d : ServerDisk) → IsOpen D.seen D.may_leave store.old d → OnErr result (Leaves D.may_leave store.new d (rotten_by d rotting)) }
     ensures layout { store.new.layout ≡ store.old.layout }
+    ensures no_room { IsErrOf result faults.NoRoom → ⊥ }
 {
     match rotting {
         None => Ok(()),
