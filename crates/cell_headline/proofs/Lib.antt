@@ -1,3 +1,4 @@
 pub mod Traced
 pub mod Explained
 pub mod Reached
+pub mod CellLaws

@@ -14,7 +14,7 @@ use Rattle.messages.specs.declared.event.Event.{Event}
 use Rattle.messages.specs.declared.event.Event.TheVariants as event
 use Rattle.messages.specs.declared.event.Input.{Input}
 use Rattle.messages.specs.declared.event.Input.TheVariants as input
-use Rattle.relaxed_file.specs.Run.{Visible, Called, Answered, Passed}
+use Rattle.relaxed_file.specs.Run.{Visible, Called, Passed}
 use Rattle.replica_store.specs.Replicas.{Replica, replica_of}
 use Rattle.protocol.specs.Tables.{moment_limit}
 use Rattle.protocol.specs.Choice.{Choice}
@@ -22,7 +22,6 @@ use Rattle.protocol.specs.Seen.{Taken}
 use Rattle.protocol.specs.Observer.{Observer, observed_moment, observed_call, observed_answer}
 use Rattle.protocol.specs.Server.{ServerState}
 use Rattle.protocol.specs.ServerStep.{server_step, server_restart}
-use Rattle.protocol.specs.Master.{MasterState}
 use Rattle.protocol.specs.MasterStep.{master_step, master_restart}
 use Rattle.protocol.specs.Client.{ClientState}
 use Rattle.protocol.specs.ClientStep.{may_call, client_step, client_call}

@@ -1,3 +1,4 @@
 pub mod Traced
 pub mod Headline
 pub mod Standing
+pub mod CellLaws

@@ -5,7 +5,7 @@ use Rattle.protocol.specs.World.{WorldState, IsReached}
 use Rattle.cell_world.specs.Held.{HeldCell, IsHeldAs}
 
 -- it stands for a world that lawful events lead to
-pub record Stands (h : HeldCell) : Type 0 where
+pub record HasReachedWorld (h : HeldCell) : Type 0 where
   pub config : Config
   pub servers : ℕ
   pub clients : ℕ

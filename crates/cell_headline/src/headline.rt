@@ -10,7 +10,7 @@ pub fn answers_are_a_run()
 {}
 
 /// What users rely on, of all that a cell may hold: answered records and writes stand and are read, answered records share no place, a client
-/// reads its own successes, and nobody reads a byte that nobody wrote.
+/// reads its own successes, and nobody reads a byte that nobody wrote, but for zeros.
 pub fn promises_are_kept()
     ensures { (h : HeldCell) → ArePromisesKept h }
 {}

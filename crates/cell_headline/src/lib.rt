@@ -3,4 +3,5 @@
 #![tactic(auto)]
 
 pub mod headline;
+pub mod laws;
 pub mod world;

@@ -44,7 +44,7 @@ impl<M: CellMaster, S: ReplicaStore> Model for World<M, S> {
     ghost use Rattle.std.specs.FinMap as map;
     ghost use Rattle.lru.specs.LruCache.{lru_cache_code};
     ghost use Rattle.cell_world.specs.Held.{HeldCell};
-    ghost use Rattle.cell_headline.specs.Standing.{Stands};
+    ghost use Rattle.cell_headline.specs.Standing.{HasReachedWorld};
 
     ghost Value = { HeldCell };
 
@@ -52,7 +52,7 @@ impl<M: CellMaster, S: ReplicaStore> Model for World<M, S> {
 
     ghost view = { λ w. w.cell };
 
-    ghost invariant = { λ w. Stands w.cell };
+    ghost invariant = { λ w. HasReachedWorld w.cell };
 }
 
 impl<M: CellMaster + Drop> World<M, MemoryStore> {

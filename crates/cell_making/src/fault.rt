@@ -1,10 +1,13 @@
 //! Why a running cell, or a node of it, is not to be had.
 
-ghost use Rattle.std.specs.Prelude.{◌≡◌};
+ghost use Rattle.std.specs.Prelude.{◌≡◌, Some};
+ghost use Rattle.cell_making.specs.Faults.{fault_text};
 ghost use Rattle.cell_making.specs.declared.fault.StartFault.TheVariants.{NoMemory as OutOfMemory};
 
 use gfs_types::no_memory::NoMemory;
 use std::alloc::AllocError;
+use std::error::Error;
+use std::fmt;
 
 /// Why a cell was not started.
 #[derive(Clone, Copy, Debug, PartialEq, Eq)]
@@ -21,6 +24,23 @@ pub enum StartFault {
     /// There is no clock.
     Clock,
 }
+
+impl fmt::Display for StartFault {
+    ghost output = { λ fault. Some (fault_text fault) };
+
+    fn fmt<W: fmt::Write>(&self, f: &mut fmt::Formatter<W>) -> fmt::Result {
+        match self {
+            StartFault::Config => write!(f, "a setting is out of its range"),
+            StartFault::Count => write!(f, "no servers"),
+            StartFault::NoMemory => write!(f, "no memory"),
+            StartFault::Log => write!(f, "the log took no record"),
+            StartFault::Thread => write!(f, "no thread"),
+            StartFault::Clock => write!(f, "no clock"),
+        }
+    }
+}
+
+impl Error for StartFault {}
 
 impl From<NoMemory> for StartFault {
     ghost from_gives = { λ _ e. e ≡ OutOfMemory };

@@ -5,3 +5,4 @@ pub mod FileNames
 pub mod Steps
 pub mod AsStored
 pub mod Looks
+pub mod Faults

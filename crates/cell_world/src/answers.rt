@@ -47,7 +47,7 @@ impl Answers {
         ensures items { self.new.items ≡ self.old.items ++ answer ∷ [] }
         ensures room { self.old.room ≤ self.new.room + 1 }
     {
-        let _ = self.items.push(answer);
+        self.items.push_reserved(answer);
     }
 
     pub(crate) fn into_vec(self) -> Vec<Answer>

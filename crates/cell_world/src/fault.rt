@@ -1,9 +1,12 @@
 //! Why a list of events was not run to its end.
 
-ghost use Rattle.std.specs.Prelude.{◌≡◌};
+ghost use Rattle.std.specs.Prelude.{◌≡◌, Some};
+ghost use Rattle.cell_world.specs.Faults.{fault_text};
 ghost use Rattle.cell_world.specs.declared.fault.RunFault.TheVariants.{NoMemory as OutOfMemory};
 
 use gfs_types::no_memory::NoMemory;
+use std::error::Error;
+use std::fmt;
 
 /// Why a list of events was not run to its end.
 #[derive(Clone, Copy, Debug, PartialEq, Eq)]
@@ -13,6 +16,19 @@ pub enum RunFault {
     /// After so many events a byte was to rot, for which a server's store found no memory.
     Rot(usize),
 }
+
+impl fmt::Display for RunFault {
+    ghost output = { λ fault. Some (fault_text fault) };
+
+    fn fmt<W: fmt::Write>(&self, f: &mut fmt::Formatter<W>) -> fmt::Result {
+        match self {
+            RunFault::NoMemory => write!(f, "no memory"),
+            RunFault::Rot(_) => write!(f, "no memory for a byte that rots"),
+        }
+    }
+}
+
+impl Error for RunFault {}
 
 impl From<NoMemory> for RunFault {
     ghost from_gives = { λ _ fault. fault ≡ OutOfMemory };
