@@ -33,3 +33,11 @@ def copy_with(folder, source, crates):
         out.writelines(lines.values())
         out.writelines('%s: %s\n' % it for it in crates.items())
     shutil.copy(os.path.join(TOP, 'HANDLES'), folder)
+
+
+def take_libraries(folder):
+    """Copies into such a copy the libraries that stand built in this checkout. Each counts there while nothing that it is made of differs."""
+    for name in os.listdir(os.path.join(folder, 'crates')):
+        built = os.path.join(TOP, 'crates', name, 'out', 'rlib')
+        if os.path.isdir(built):
+            shutil.copytree(built, os.path.join(folder, 'crates', name, 'out', 'rlib'))

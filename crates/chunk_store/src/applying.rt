@@ -38,6 +38,7 @@ impl<D: Disk> Store<D> {
             → (IsErrOf result faults.OldSerial ↔ (row : Row) × (row_at d handle.0 ≡ Some row) × (row.version ≡ version) × (serial.0 ≤ row.serial.0)) }
         ensures corrupt { (d : ServerDisk) → IsOpen D.seen D.may_leave self.old d → IsErrOf result faults.Corrupt
             → is_writable_at d handle.0 (place_value mutation.now) (place_value mutation.now + length (bytes_value self.old.layout.chunk mutation.now)) ≡ false }
+        ensures no_room { IsErrOf result faults.NoRoom → ⊥ }
         ensures refused { (d : ServerDisk) → IsOpen D.seen D.may_leave self.old d → IsRefused result → IsOpen D.seen D.may_leave self.new d }
         ensures any_moment { LeavesWritten D.seen D.moment D.left_since self.old.layout.chunk self.old.layout.block self.old.layout.slots self.old.disk self.new.disk self.old.index handle.0 (change_of self.old.layout.chunk handle serial mutation.now) }
         ensures layout { self.new.layout ≡ self.old.layout }

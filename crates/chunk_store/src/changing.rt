@@ -1,6 +1,6 @@
 //! Changes of the store. Each is on the disk for good at `Ok`; a stop at any moment of a call, and `Device` and `NoMemory`, leave the disk as it was before the change or after it.
 
-ghost use Rattle.std.specs.Prelude.{◌≡◌, ◌≢◌, ◌↔◌, OnOk, IsErrOf, None, Some};
+ghost use Rattle.std.specs.Prelude.{◌≡◌, ◌≢◌, ◌⊎◌, ◌↔◌, OnOk, IsErrOf, None, Some};
 ghost use Rattle.replica_store.specs.declared.change.StoreChange.TheVariants.{Raise, Remove, SetOrder};
 ghost use Rattle.replica_store.specs.declared.row.Row.{Row};
 ghost use Rattle.replica_store.specs.Replicas.{ServerDisk, disk_changed, row_at};
@@ -19,6 +19,7 @@ impl<D: Disk> Store<D> {
     pub fn set_order(&mut self, alloc: Global, order: OrderNo) -> Result<(), StoreFault>
         requires is_open { (d : ServerDisk) × IsOpen D.seen D.may_leave self.old d }
         ensures ok { (d : ServerDisk) → IsOpen D.seen D.may_leave self.old d → OnOk result (IsOpen D.seen D.may_leave self.new (disk_changed d (SetOrder order))) }
+        ensures unrefused { IsRefused result → ⊥ }
         ensures any_moment { LeavesChange D.seen D.moment D.left_since self.old self.new (SetOrder order) }
         ensures layout { self.new.layout ≡ self.old.layout }
         ensures cause { MayFail (D.failed self.old.disk) (D.failed self.new.disk) result }
@@ -40,6 +41,7 @@ impl<D: Disk> Store<D> {
         ensures ok { (d : ServerDisk) → IsOpen D.seen D.may_leave self.old d → OnOk result (IsOpen D.seen D.may_leave self.new (disk_changed d (Raise handle version))) }
         ensures no_chunk { (d : ServerDisk) → IsOpen D.seen D.may_leave self.old d → (IsErrOf result faults.NoChunk ↔ row_at d handle.0 ≡ None) }
         ensures version { (d : ServerDisk) → IsOpen D.seen D.may_leave self.old d → (IsErrOf result faults.Version ↔ (row : Row) × (row_at d handle.0 ≡ Some row) × (row.version ≢ base)) }
+        ensures only { IsRefused result → IsErrOf result faults.NoChunk ⊎ IsErrOf result faults.Version }
         ensures refused { (d : ServerDisk) → IsOpen D.seen D.may_leave self.old d → IsRefused result → IsOpen D.seen D.may_leave self.new d }
         ensures any_moment { LeavesChange D.seen D.moment D.left_since self.old self.new (Raise handle version) }
         ensures layout { self.new.layout ≡ self.old.layout }
@@ -66,6 +68,7 @@ impl<D: Disk> Store<D> {
         requires is_open { (d : ServerDisk) × IsOpen D.seen D.may_leave self.old d }
         ensures ok { (d : ServerDisk) → IsOpen D.seen D.may_leave self.old d → OnOk result (IsOpen D.seen D.may_leave self.new (disk_changed d (Remove handle))) }
         ensures no_chunk { (d : ServerDisk) → IsOpen D.seen D.may_leave self.old d → (IsErrOf result faults.NoChunk ↔ row_at d handle.0 ≡ None) }
+        ensures only { IsRefused result → IsErrOf result faults.NoChunk }
         ensures refused { (d : ServerDisk) → IsOpen D.seen D.may_leave self.old d → IsRefused result → IsOpen D.seen D.may_leave self.new d }
         ensures any_moment { LeavesChange D.seen D.moment D.left_since self.old self.new (Remove handle) }
         ensures layout { self.new.layout ≡ self.old.layout }

@@ -33,6 +33,7 @@ impl<D: Disk> Store<D> {
             → (IsErrOf result faults.NoRoom ↔ (row_at d handle.0 ≡ None) × (is_disk_full self.old.layout.slots d ≡ true)) }
         ensures no_chunk { IsErrOf result faults.NoChunk → ⊥ }
         ensures intact { IsErrOf result faults.Corrupt → ⊥ }
+        ensures no_serial { IsErrOf result faults.OldSerial → ⊥ }
         ensures refused { (d : ServerDisk) → IsOpen D.seen D.may_leave self.old d → IsRefused result → IsOpen D.seen D.may_leave self.new d }
         ensures any_moment { LeavesChange D.seen D.moment D.left_since self.old self.new (Put handle version serial bytes.now) }
         ensures layout { self.new.layout ≡ self.old.layout }
@@ -65,6 +66,9 @@ impl<D: Disk> Store<D> {
         ensures version { (d : ServerDisk) → IsOpen D.seen D.may_leave self.old d → (IsErrOf result faults.Version ↔ (row : Row) × (row_at d handle.0 ≡ Some row)) }
         ensures no_room { (d : ServerDisk) → IsOpen D.seen D.may_leave self.old d
             → (IsErrOf result faults.NoRoom ↔ (row_at d handle.0 ≡ None) × (is_disk_full self.old.layout.slots d ≡ true)) }
+        ensures no_chunk { IsErrOf result faults.NoChunk → ⊥ }
+        ensures intact { IsErrOf result faults.Corrupt → ⊥ }
+        ensures no_serial { IsErrOf result faults.OldSerial → ⊥ }
         ensures refused { (d : ServerDisk) → IsOpen D.seen D.may_leave self.old d → IsRefused result → IsOpen D.seen D.may_leave self.new d }
         ensures any_moment { LeavesChange D.seen D.moment D.left_since self.old self.new (Put handle version (record { 0 = 0 }) []) }
         ensures layout { self.new.layout ≡ self.old.layout }

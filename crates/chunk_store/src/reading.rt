@@ -34,6 +34,7 @@ impl<D: Disk> Store<D> {
         ensures version { (d : ServerDisk) → IsOpen D.seen D.may_leave self.old d → (IsErrOf result faults.Version ↔ (row : Row) × (row_at d handle.0 ≡ Some row) × (row.version ≢ version)) }
         ensures corrupt { (d : ServerDisk) → IsOpen D.seen D.may_leave self.old d → IsErrOf result faults.Corrupt → read_at d handle.0 offset count ≡ None }
         ensures no_room { IsErrOf result faults.NoRoom → ⊥ }
+        ensures no_serial { IsErrOf result faults.OldSerial → ⊥ }
         ensures unchanged { self.new ≡ record self.old { disk = self.new.disk } }
         ensures reads { OnlyReads D.seen D.may_leave D.moment D.left_since self.old.disk self.new.disk }
         ensures cause { MayFail (D.failed self.old.disk) (D.failed self.new.disk) result }
@@ -63,6 +64,7 @@ impl<D: Disk> Store<D> {
         ensures version { (d : ServerDisk) → IsOpen D.seen D.may_leave self.old d → (IsErrOf result faults.Version ↔ (row : Row) × (row_at d handle.0 ≡ Some row) × (row.version ≢ version)) }
         ensures corrupt { (d : ServerDisk) → IsOpen D.seen D.may_leave self.old d → IsErrOf result faults.Corrupt → image_at d handle.0 ≡ None }
         ensures no_room { IsErrOf result faults.NoRoom → ⊥ }
+        ensures no_serial { IsErrOf result faults.OldSerial → ⊥ }
         ensures unchanged { self.new ≡ record self.old { disk = self.new.disk } }
         ensures reads { OnlyReads D.seen D.may_leave D.moment D.left_since self.old.disk self.new.disk }
         ensures cause { MayFail (D.failed self.old.disk) (D.failed self.new.disk) result }

@@ -27,6 +27,7 @@ impl<D: Disk> Store<D> {
         requires place { place < self.old.layout.chunk }
         ensures ok { (d : ServerDisk) → IsOpen D.seen D.may_leave self.old d → OnOk result (IsOpen D.seen D.may_leave self.new (disk_rotten d handle.0 place byte)) }
         ensures no_chunk { (d : ServerDisk) → IsOpen D.seen D.may_leave self.old d → (IsErrOf result faults.NoChunk ↔ row_at d handle.0 ≡ None) }
+        ensures only { IsRefused result → IsErrOf result faults.NoChunk }
         ensures refused { (d : ServerDisk) → IsOpen D.seen D.may_leave self.old d → IsRefused result → IsOpen D.seen D.may_leave self.new d }
         ensures any_moment { LeavesRotten D.seen D.moment D.left_since self.old.layout.chunk self.old.layout.block self.old.layout.slots self.old.disk self.new.disk self.old.index handle.0 place byte }
         ensures layout { self.new.layout ≡ self.old.layout }

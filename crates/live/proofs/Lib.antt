@@ -1,1 +1,4 @@
+pub mod Players
+pub mod Playing
+pub mod Running
 pub mod Telling

@@ -1,13 +1,23 @@
 -- What running a script on a running cell comes to.
-use Rattle.std.specs.Prelude.{◌≡◌, ⊤, ℕ, suc, List, [], ◌∷◌, ◌++◌, length, Option, IfSome}
+use Rattle.std.specs.Prelude.{◌≡◌, ⊤, ℕ, suc, List, [], ◌∷◌, ◌++◌, length, slice_get, Option, Some, IfSome}
 use Rattle.std.specs.List.{flat_map}
 use Rattle.std.specs.Io.KnownBytes.{Appends, Keeps}
+use mathlib.Core.List.{IsPrefix}
 use Rattle.gfs_types.specs.declared.answer.Answer.{Answer}
+use Rattle.gfs_types.specs.declared.call.Call.{Call}
+use Rattle.gfs_types.specs.declared.ids.Node.TheVariants.{Client}
+use Rattle.protocol_journal.specs.Journal.{Entry, own}
+use Rattle.journal_pages.specs.Identity.{Identity}
+use Rattle.cell_journal.specs.Rules.{IsJournalOf}
+use Rattle.cell_asking.specs.Seen.{visible_of}
+use Rattle.cell_run.specs.Cells.{IsCellOf}
+use Rattle.script.specs.declared.options.Options.{Options}
 use Rattle.script.specs.Answers.{answer_line}
 use Rattle.script.specs.declared.script_fault.ScriptFault.{ScriptFault}
 use Rattle.script.specs.declared.script_fault.ScriptFault.TheVariants as fault
 use Rattle.live_script.specs.declared.lines.LiveLine.{LiveLine}
 use Rattle.live_script.specs.Scripts.{lines_in, AreLines, IsFirstBad}
+use Rattle.live.specs.Playing.{calls_of, AreAnswered}
 
 -- each line is in the language, and names no client but the first so many
 abbrev pub IsScript : ℕ → List ℕ → Type 0
@@ -28,10 +38,27 @@ abbrev pub told_from : ℕ → List (List Answer) → List ℕ
 told_from client [] = []
 told_from client (answers ∷ rest) = told_by client answers ++ told_from (suc client) rest
 
--- The answers of so many clients were printed, by client.
-pub record Prints (clients : ℕ) (before after : Option (List ℕ)) : Type 0 where
+-- A client of this number made these calls and was answered so, by a beginning of this journal.
+pub record HasAnswers (entries : List Entry) (client : ℕ) (calls : List Call) (replies : List Answer) : Type 0 where
+  pub seen : List Entry
+  pub begins : IsPrefix seen entries
+  pub answered : AreAnswered (visible_of (own (Client (record { 0 = client })) seen)) calls replies
+
+-- These clients' calls of the lines were answered so by one cell, whose lawful journal shows it.
+pub record AreAnswersOf (options : Options) (lines : List LiveLine) (answers : List (List Answer)) : Type 0 where
+  pub cell : Identity
+  pub cell_is : IsCellOf options.config options.servers cell
+  pub entries : List Entry
+  pub lawful : IsJournalOf cell entries
+  pub clients : length answers ≡ options.clients
+  pub each : (k : ℕ) (replies : List Answer) → slice_get answers k ≡ Some replies → HasAnswers entries (suc k) (calls_of (suc k) lines) replies
+
+-- The answers to all calls of the script were printed, by client.
+pub record Prints (options : Options) (script before after : Option (List ℕ)) : Type 0 where
+  pub lines : List LiveLine
+  pub lines_are : IfSome script (λ s. AreLines options.clients s lines)
   pub answers : List (List Answer)
-  pub all : length answers ≡ clients
+  pub answered : AreAnswersOf options lines answers
   pub printed : Appends before after (told_from 1 answers)
 
 -- Why a script was not run, or not printed. Where a line is bad, or there is no cell, nothing was printed.

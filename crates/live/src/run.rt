@@ -1,14 +1,22 @@
 //! Runs a script on a running cell.
 
-ghost use Rattle.std.specs.Prelude.{◌≡◌, IfOk, IfErr, IfSome, OnOk, vec_len, length};
-ghost use Rattle.live.specs.Live.{IsScript, Prints, Stops};
+ghost use Rattle.std.specs.Prelude.{ℕ, ◌≡◌, ◌+◌, ◌≤◌, ◌<◌, IfOk, IfErr, IfSome, OnOk, Some, length, slice_get, map, true, false};
+ghost use mathlib.Core.List.{IsPrefix};
+ghost use Rattle.cell_journal.specs.Rules.{IsJournalOf};
+ghost use Rattle.cell_run.specs.Cells.{IsNewCell};
+ghost use Rattle.live.specs.Live.{IsScript, AreAnswersOf, Prints, Stops};
 ghost use Rattle.live.specs.Faults.{IsOfRun};
+ghost use Rattle.live.specs.Playing.{IsNewPlayer, IsPlayed, Plays, AllPlay, Each};
+ghost use Rattle.live_script.specs.Lines.{is_barrier};
+ghost use Rattle.script.specs.ScriptFaults.{IsOfRead};
 
 use crate::play::Player;
 use crate::printing::print_all;
 use cell_run::cell::{Cell, StartFault};
+use cell_seat::journal::{Journal, agree};
 use cell_slot::gate::OpenGate;
 use gfs_types::ids::ClientId;
+use gfs_types::no_memory::NoMemory;
 use live_script::lines::LiveLine;
 use live_script::plan::read_script;
 use script::options::Options;
@@ -38,16 +46,25 @@ pub fn run_live<T: Threads + Wait + Clock + Copy + Send + Sync + 'static, R: Rea
     writer: &mut W,
 ) -> Result<(), ScriptFault>
     ensures script { OnOk result (IfSome (R.remaining reader.old) (IsScript options.now.clients)) }
-    ensures prints { OnOk result (Prints options.now.clients (W.contents writer.old) (W.contents writer.new)) }
+    ensures prints { OnOk result (Prints options.now (R.remaining reader.old) (W.contents writer.old) (W.contents writer.new)) }
     ensures stops { IfErr result (Stops options.now.clients (R.remaining reader.old) (W.contents writer.old) (W.contents writer.new)) }
 {
-    let mut script = Vec::new(alloc);
-    reader
-        .read_to_end(&mut script)
-        .map_err(|e| ScriptFault::of_read(&e))?;
+    let script = read_all(alloc, reader)?;
     let lines = read_script(alloc, options.clients, script.as_slice())?;
     let players = play_on_new(rt, alloc, options, lines.as_slice())?;
     print_all(players.as_slice(), writer)
+}
+
+// All that the reader has left.
+fn read_all<R: Read>(alloc: Global, reader: &mut R) -> Result<Vec<u8>, ScriptFault>
+    ensures bytes { IfOk result (λ v. IfSome (R.remaining reader.old) (λ bytes. v.items ≡ bytes)) }
+    ensures fault { IfErr result IsOfRead }
+{
+    let mut bytes = Vec::new(alloc);
+    reader
+        .read_to_end(&mut bytes)
+        .map_err(|e| ScriptFault::of_read(&e))?;
+    Ok(bytes)
 }
 
 // The clients of a new cell once all lines were played and the cell was closed.
@@ -57,16 +74,32 @@ fn play_on_new<T: Threads + Wait + Clock + Copy + Send + Sync + 'static>(
     options: &Options,
     lines: &[LiveLine],
 ) -> Result<Vec<Player>, ScriptFault>
-    ensures players { IfOk result (λ players. vec_len players ≡ options.now.clients) }
+    ensures players { IfOk result (λ players. AreAnswersOf options.now lines.now (map (λ p. p.answers.items) players.items)) }
     ensures fault { IfErr result IsOfRun }
 {
     if options.clients == 0 || options.clients > MOST_CLIENTS {
         return Err(ScriptFault::Start);
     }
     let mut cell = start(rt, alloc, options)?;
-    let played = play_in(&rt, alloc, &mut cell, options.clients, lines);
-    cell.close(&rt);
-    played
+    let Ok(players) = play_in(&rt, alloc, &mut cell, options.clients, lines) else {
+        cell.close(&rt);
+        return Err(ScriptFault::NoMemory);
+    };
+    let journal = cell.close(&rt);
+    agree_all(players.as_slice(), &journal);
+    Ok(players)
+}
+
+// What each client saw begins the journal, which is lawful. Answers the journal's length.
+fn agree_all(players: &[Player], journal: &Journal) -> usize
+    requires { (k : ℕ) (p : Player) → slice_get players.now k ≡ Some p → p.seat.cell ≡ journal.now.cell }
+    ensures begin { (k : ℕ) (p : Player) → slice_get players.now k ≡ Some p → IsPrefix p.seat.seen journal.now.entries }
+    ensures lawful { IsJournalOf journal.now.cell journal.now.entries }
+{
+    for before in 0..players.len() {
+        agree(&players[before].seat, journal);
+    }
+    journal.len()
 }
 
 // The clients once all lines were played, if none was refused memory.
@@ -76,16 +109,30 @@ fn play_in<T: Threads + Wait + Clock + Sync>(
     cell: &mut Cell,
     clients: u64,
     lines: &[LiveLine],
-) -> Result<Vec<Player>, ScriptFault>
-    ensures players { IfOk result (λ players. vec_len players ≡ clients) }
-    ensures fault { IfErr result IsOfRun }
+) -> Result<Vec<Player>, NoMemory>
+    requires { cell.old.made ≡ 0 }
+    ensures cell { cell.new.of ≡ cell.old.of }
+    ensures count { IfOk result (λ players. length players.items ≡ clients) }
+    ensures players { IfOk result (λ players. Each (IsPlayed cell.old.of lines.now) players.items) }
 {
     let mut players = new_players(alloc, cell, clients)?;
     play_all(rt, alloc, lines, players.as_mut_slice());
-    if players.iter().any(|player| player.lacked_memory) {
-        return Err(ScriptFault::NoMemory);
+    if lack_memory(players.as_slice()) {
+        return Err(NoMemory);
     }
     Ok(players)
+}
+
+// Whether one of them made not all its calls.
+fn lack_memory(players: &[Player]) -> bool
+    ensures { result ≡ false → (k : ℕ) (p : Player) → slice_get players.now k ≡ Some p → p.lacked_memory ≡ false }
+{
+    for before in 0..players.len() {
+        if players[before].lacked_memory {
+            return true;
+        }
+    }
+    false
 }
 
 fn start<T: Threads + Wait + Clock + Copy + Send + 'static>(
@@ -93,7 +140,8 @@ fn start<T: Threads + Wait + Clock + Copy + Send + 'static>(
     alloc: Global,
     options: &Options,
 ) -> Result<Cell, ScriptFault>
-    ensures { IfErr result IsOfRun }
+    ensures cell { IfOk result (λ cell. IsNewCell options.now.config options.now.servers cell) }
+    ensures fault { IfErr result IsOfRun }
 {
     let Ok(servers) = u16::try_from(options.servers) else {
         return Err(ScriptFault::Start);
@@ -105,26 +153,37 @@ fn start<T: Threads + Wait + Clock + Copy + Send + 'static>(
     }
 }
 
-fn new_players(alloc: Global, cell: &mut Cell, clients: u64) -> Result<Vec<Player>, ScriptFault>
-    ensures players { IfOk result (λ players. vec_len players ≡ clients) }
-    ensures fault { IfErr result IsOfRun }
+// A new cell's first clients.
+fn new_players(alloc: Global, cell: &mut Cell, clients: u64) -> Result<Vec<Player>, NoMemory>
+    requires { cell.old.made ≡ 0 }
+    ensures cell { cell.new.of ≡ cell.old.of }
+    ensures count { IfOk result (λ players. length players.items ≡ clients) }
+    ensures players { IfOk result (λ players. Each (IsNewPlayer cell.old.of) players.items) }
 {
     let mut all = Vec::new(alloc);
     for before in 0..clients {
-        let Ok(seat) = cell.client() else {
-            return Err(ScriptFault::NoMemory);
-        };
-        let player = Player {
-            id: ClientId(before.wrapping_add(1)),
-            seat,
-            answers: Vec::new(alloc),
-            lacked_memory: false,
-        };
-        if all.push(player).is_err() {
-            return Err(ScriptFault::NoMemory);
-        }
+        let player = new_player(alloc, cell, before + 1)?;
+        all.push(player)?;
     }
     Ok(all)
+}
+
+// The cell's next client, which made no call yet.
+fn new_player(alloc: Global, cell: &mut Cell, number: u64) -> Result<Player, NoMemory>
+    requires { number ≡ cell.old.made + 1 }
+    ensures cell { cell.new.of ≡ cell.old.of }
+    ensures made { IfOk result (λ _. cell.new.made ≡ number) }
+    ensures player { IfOk result (IsNewPlayer cell.old.of number) }
+{
+    let Ok(seat) = cell.client() else {
+        return Err(NoMemory);
+    };
+    Ok(Player {
+        id: ClientId(number),
+        seat,
+        answers: Vec::new(alloc),
+        lacked_memory: false,
+    })
 }
 
 // All clients make their calls up to the next barrier, and are answered; then those up to the one after it.
@@ -134,18 +193,45 @@ fn play_all<T: Threads + Wait + Clock + Sync>(
     lines: &[LiveLine],
     players: &mut [Player],
 )
-    ensures { length players.new ≡ length players.old }
+    ensures { AllPlay lines.now players.old players.new }
 {
-    let threads = players.len();
-    if threads == 0 {
-        return;
+    let mut first = 0;
+    while first < lines.len() {
+        let next = next_barrier(lines, first);
+        play_part(rt, alloc, &lines[first..next], players);
+        first = next + 1;
     }
-    for part in lines.split(|line| line.is_barrier()) {
-        thread::for_each_mut(
-            rt,
-            players,
-            threads,
-            &|_, player| player.play(rt, alloc, part),
-        );
+}
+
+// The place of the first barrier from this place on, or of the end.
+fn next_barrier(lines: &[LiveLine], first: usize) -> usize
+    requires { first < length lines.now }
+    ensures within { (first ≤ result) × (result ≤ length lines.now) }
+    ensures barrier { (line : LiveLine) → slice_get lines.now result ≡ Some line → is_barrier line ≡ true }
+{
+    let mut next = first;
+    while next < lines.len() && !lines[next].is_barrier() {
+        next += 1;
     }
+    next
+}
+
+// All clients make their calls of these lines, each on a thread of its own, and are answered.
+fn play_part<T: Threads + Wait + Clock + Sync>(
+    rt: &T,
+    alloc: Global,
+    lines: &[LiveLine],
+    players: &mut [Player],
+)
+    ensures { AllPlay lines.now players.old players.new }
+{
+    let threads = players.len().max(1);
+    thread::for_each_mut(
+        rt,
+        players,
+        threads,
+        &|_: usize, player: &mut Player|
+            ensures { Plays lines.entry.now player.entry.now player.exit.now }
+        { player.play(rt, alloc, lines) },
+    );
 }

@@ -165,7 +165,7 @@ fn long(alloc: Global, front: &str, parts: u64, tail: &str) -> Result<String, Fa
 }
 
 // A copy of `/d` at a path, in a region of so many bytes, which has at first room for the names alone. None where it hasn't, else whether the copy
-// was refused, and then all is as it was.
+// was refused; and what was refused, a name or the copy, left all as it was.
 fn is_copy_refused(
     alloc: Global,
     bytes: usize,
@@ -176,8 +176,13 @@ fn is_copy_refused(
     let mut trie = Trie::new(&heap)?;
     let mut plain = BTreeMap::new(alloc);
     for name in names {
+        let used = heap.used();
         if !put_in_both(alloc, &mut trie, &mut plain, name.clone()?, 7)? {
-            return Ok(None);
+            return if are_alike(alloc, &trie, &plain)? && heap.used() == used {
+                Ok(None)
+            } else {
+                Err(Fail::new("a name that was refused left something"))
+            };
         }
     }
     let used = heap.used();
@@ -225,6 +230,22 @@ fn each_growth_of_a_copy(rt: HostRuntime) -> Result<(), Fail> {
     Ok(())
 }
 
+// Twelve names by chance, ten times.
+#[test]
+fn each_growth_of_random_names(rt: HostRuntime) -> Result<(), Fail> {
+    let alloc = rt.alloc();
+    let mut numbers = SmallRng::seed_from_u64(24);
+    for _ in 0..10 {
+        let mut names = vec![in alloc; long(alloc, "/d", 0, "")?]?;
+        for number in 0..11u64 {
+            let tail = drawn(&mut numbers, alloc, 2)?;
+            names.push(format!(in alloc; "/d{tail}{number}")?)?;
+        }
+        assert!(rt; refused_copies(alloc, names.as_slice(), "/e", 16)? > 20);
+    }
+    Ok(())
+}
+
 // The longest of these paths have 4,096 bytes, and differ in the last one.
 #[test]
 fn each_growth_of_a_copy_of_the_longest_path(rt: HostRuntime) -> Result<(), Fail> {
@@ -237,6 +258,24 @@ fn each_growth_of_a_copy_of_the_longest_path(rt: HostRuntime) -> Result<(), Fail
         long(alloc, front.as_str(), 0, "c")?,
     ]?;
     assert!(rt; refused_copies(alloc, names.as_slice(), "/e", 256)? > 50);
+    Ok(())
+}
+
+// A name at each byte of a path of 4,096 bytes, but where a part begins: as deep as names go.
+#[test]
+fn the_deepest_names_are_listed(rt: HostRuntime) -> Result<(), Fail> {
+    let alloc = rt.alloc();
+    let path = long(alloc, "", 16, "")?;
+    let mut trie = Trie::new(alloc)?;
+    let mut plain = BTreeMap::new(alloc);
+    for at in 0..4_096usize {
+        let front = path.as_str().get(..4_096 - at).unwrap_or_default();
+        if !front.ends_with('/') {
+            put_in_both(alloc, &mut trie, &mut plain, String::from_str(alloc, front)?, 7)?;
+        }
+    }
+    assert_eq!(rt; plain.len(), 4_080);
+    assert!(rt; are_alike(alloc, &trie, &plain)?);
     Ok(())
 }
 

@@ -1,6 +1,6 @@
 -- The block of a place, and its stored digest, as they are read of a slot.
 use Rattle.std.proofs.Common.{◌≡◌, ℕ, ◌+◌, ◌*◌, ◌/◌, ◌%◌, ◌<◌, ◌≤◌, Bool, List, length, sym, ap, ◌∙◌, subst, arith, Some}
-use Rattle.std.specs.Prelude.{IsTrue, slice_set}
+use Rattle.std.specs.Prelude.{◌↔◌, IsTrue, slice_set}
 use Rattle.std.specs.FinMap as map
 use Rattle.block_digests.specs.Digests.{digests_of}
 use Rattle.disk.specs.Bytes.{range_at}
@@ -16,7 +16,7 @@ use Rattle.chunk_store.specs.Stores.{IsOpen}
 use Rattle.chunk_store.specs.declared.store.Store.{Store}
 use Rattle.store_standing.specs.Standing.{HasItsDigest}
 use Rattle.store_standing.proofs.Looked.{its_slot}
-use Rattle.store_standing.proofs.Matching.{count, other_is, tells}
+use Rattle.store_standing.proofs.Matching.{count, other_is, tells, told}
 
 module _ (chunk block slots : ℕ) (disk : List ℕ) (slot : ℕ) (size : disk_size chunk block slots ≤ length disk) (there : slot < slots) (large : 16 ≤ block) (whole : chunk % block ≡ 0) (place : ℕ) (low : place < chunk) where
   positive : 1 ≤ block
@@ -47,11 +47,22 @@ module _ (chunk block slots : ℕ) (disk : List ℕ) (slot : ℕ) (size : disk_s
         ∙ tells chunk block disk slot handle r positive whole room holds place byte low (slice_set bytes k byte) (ap (λ (l : List ℕ). slice_set l k byte) bytes_are ∙ other_is chunk block disk slot handle r positive whole room holds place byte low inside) same
         ∙ sym digest_is
 
+    -- and back
+    pub match_told : (byte : ℕ) (digest : List ℕ) → digest ≡ range_at disk (digests_place chunk block slot + 32 * (place / block)) 32
+        → (handle : ℕ) (r : Replica) → Holds chunk block disk slot handle r → digests_of (length bytes) 1 (slice_set bytes (place % block) byte) ≡ digest → HasItsDigest chunk block r place byte
+    match_told byte digest digest_is handle r holds same =
+        let k = place % block in
+        told chunk block disk slot handle r positive whole room holds place byte low (slice_set bytes k byte) (ap (λ (l : List ℕ). slice_set l k byte) bytes_are ∙ other_is chunk block disk slot handle r positive whole room holds place byte low inside)
+        (sym (ap (λ (n : ℕ). digests_of n 1 (slice_set bytes k byte)) long) ∙ same ∙ digest_is)
+
 -- a block of an open store was looked at
 pub would_tell : {D : Type 0} (seen : D → List ℕ) (may_leave : D → List ℕ → Type 0) (store : Store D) (d : ServerDisk) (is : IsOpen seen may_leave store d) (h : ℕ) (found : HeldReplica) → map.get store.index.held h ≡ Some found → (place byte : ℕ) (b : Bool)
-    → ((handle : ℕ) (r : Replica) → Holds store.layout.chunk store.layout.block (seen store.disk) found.slot handle r → HasItsDigest store.layout.chunk store.layout.block r place byte → IsTrue b)
-    → (r : Replica) → replica_of d h ≡ Some r → HasItsDigest store.layout.chunk d.block r place byte → IsTrue b
-would_tell seen may_leave store d is h found there place byte b tells_it r own same =
+    → ((handle : ℕ) (r : Replica) → Holds store.layout.chunk store.layout.block (seen store.disk) found.slot handle r → (IsTrue b ↔ HasItsDigest store.layout.chunk store.layout.block r place byte))
+    → (r : Replica) → replica_of d h ≡ Some r → (IsTrue b ↔ HasItsDigest store.layout.chunk d.block r place byte)
+would_tell seen may_leave store d is h found there place byte b tells_it r own =
     let its = its_slot seen may_leave store d is h found there in
     let holds : Holds store.layout.chunk store.layout.block (seen store.disk) found.slot h r = subst (λ (x : Replica). Holds store.layout.chunk store.layout.block (seen store.disk) found.slot h x) (one_row (replica_of d h) its.0 r its.1 own) its.3 in
-    tells_it h r holds (subst (λ (n : ℕ). HasItsDigest store.layout.chunk n r place byte) is.says.block_is same)
+    let known = tells_it h r holds in (
+      λ yes. subst (λ (n : ℕ). HasItsDigest store.layout.chunk n r place byte) (sym is.says.block_is) (known.0 yes),
+      λ same. known.1 (subst (λ (n : ℕ). HasItsDigest store.layout.chunk n r place byte) is.says.block_is same),
+    )

@@ -10,5 +10,6 @@ pub mod Settling
 pub mod Rots
 pub mod Careful
 pub mod Blocks
+pub mod Causes
 pub mod Reopened
 pub mod Quiet

@@ -114,9 +114,17 @@ module _ (chunk block : ℕ) (disk : List ℕ) (slot handle : ℕ) (r : Replica)
       ∙ digests_part block n 1 behind (filled_to chunk r.bytes)
       ∙ append-nil (sha256 (block_in block n (filled_to chunk r.bytes)))
 
-  pub tells : (bytes : List ℕ) → bytes ≡ block_in block n (written_over all place (byte ∷ [])) → sha256 (block_in block n (written_over all place (byte ∷ []))) ≡ sha256 (block_in block n (filled_to chunk r.bytes))
-      → digests_of block 1 bytes ≡ range_at disk (digests_place chunk block slot + 32 * n) 32
-  tells bytes is same =
+  digest_of : (bytes : List ℕ) → bytes ≡ block_in block n (written_over all place (byte ∷ [])) → digests_of block 1 bytes ≡ sha256 (block_in block n (written_over all place (byte ∷ [])))
+  digest_of bytes is =
       let now = block_in block n (written_over all place (byte ∷ [])) in
       let short : length now ≤ block = (let on : place + 1 ≤ length all = omega (arith, long, low) in let l = length_over all (byte ∷ []) place on in let s = size_in block n (written_over all place (byte ∷ [])) (omega (arith, l, long, fits)) in omega (arith, s)) in
-      ap (λ (l : List ℕ). digests_of block 1 l) is ∙ append-nil (sha256 (take block now)) ∙ ap sha256 (take_all block now short) ∙ same ∙ sym digest_is
+      ap (λ (l : List ℕ). digests_of block 1 l) is ∙ append-nil (sha256 (take block now)) ∙ ap sha256 (take_all block now short)
+
+  pub tells : (bytes : List ℕ) → bytes ≡ block_in block n (written_over all place (byte ∷ [])) → sha256 (block_in block n (written_over all place (byte ∷ []))) ≡ sha256 (block_in block n (filled_to chunk r.bytes))
+      → digests_of block 1 bytes ≡ range_at disk (digests_place chunk block slot + 32 * n) 32
+  tells bytes is same = digest_of bytes is ∙ same ∙ sym digest_is
+
+  -- and back
+  pub told : (bytes : List ℕ) → bytes ≡ block_in block n (written_over all place (byte ∷ [])) → digests_of block 1 bytes ≡ range_at disk (digests_place chunk block slot + 32 * n) 32
+      → sha256 (block_in block n (written_over all place (byte ∷ []))) ≡ sha256 (block_in block n (filled_to chunk r.bytes))
+  told bytes is same = sym (digest_of bytes is) ∙ same ∙ digest_is

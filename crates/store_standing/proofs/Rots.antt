@@ -17,7 +17,7 @@ use Rattle.known_replicas.proofs.Rotten.{rotten_known}
 use Rattle.noticed_replicas.specs.Noticed.{AreNoticed}
 use Rattle.noticed_replicas.proofs.Changes.{with_noticed}
 use Rattle.noticed_replicas.proofs.Rot.{rotten_noticed}
-use Rattle.store_standing.specs.Standing.{HasItsDigest, IsKept, Leaves, Stands}
+use Rattle.store_standing.specs.Standing.{CantRot, HasItsDigest, IsKept, Leaves, Stands}
 use Rattle.store_standing.specs.declared.standing.Standing.{Standing}
 use Rattle.store_standing.specs.declared.standing.Standing.TheVariants.{Open, Unread}
 use Rattle.store_standing.proofs.Commits.{mid_kept}
@@ -74,6 +74,12 @@ pub none_kept : {D : Type 0} (seen : D → List ℕ) (may_leave : D → List ℕ
     → IsKept seen may_leave store order rows (disk_rotten d handle place byte) Open
 none_kept seen may_leave store order rows d kept handle place byte none =
     subst (λ (x : ServerDisk). IsKept seen may_leave store order rows x Open) (none_rots seen may_leave store d kept.stands handle place byte none) kept
+
+pub none_cant : {D : Type 0} (seen : D → List ℕ) (may_leave : D → List ℕ → Type 0) (store : Store D) (d : ServerDisk) → IsOpen seen may_leave store d → (handle place byte : ℕ) → map.get store.index.held handle ≡ None → CantRot store.layout.chunk d handle place byte → ⊥
+none_cant seen may_leave store d is handle place byte none cant =
+    let l = store.layout in
+    let lacking = no_replica l.chunk l.block l.slots store.index (stands_for (area_of l.chunk l.block) (seen store.disk)) d is.says handle none in
+    cc (lacking, cant.1)
 
 -- a place in the chunk is so still
 pub low_in : {D : Type 0} (store mid : Store D) → mid ≡ record store { disk = mid.disk } → (place : ℕ) → place < store.layout.chunk → place < mid.layout.chunk

@@ -1,11 +1,11 @@
 -- How a store stands to its disk.
-use Rattle.std.specs.Prelude.{◌≡◌, ◌⊎◌, ⊤, ℕ, ◌<◌, ◌/◌, ◌%◌, true, if◌then◌else◌, List, [], ◌∷◌, Option, None, Some}
+use Rattle.std.specs.Prelude.{◌≡◌, ◌⊎◌, ⊤, ℕ, ◌<◌, ◌≤◌, ◌/◌, ◌%◌, true, false, if◌then◌else◌, List, [], ◌∷◌, Option, None, Some}
 use Rattle.std.specs.Option.{option_to_list}
 use Rattle.gfs_types.specs.declared.ids.OrderNo.{OrderNo}
 use Rattle.sha2.specs.Sha256.{sha256}
 use Rattle.redo_area.specs.Redo.{StandsOnly, stands_for}
 use Rattle.replica_blocks.specs.Blocks.{chunk_on_disk, written_over}
-use Rattle.replica_store.specs.Replicas.{Replica, ServerDisk, disk_changed, filled_to}
+use Rattle.replica_store.specs.Replicas.{Replica, ServerDisk, disk_changed, filled_to, replica_of}
 use Rattle.replica_store.specs.declared.change.StoreChange.{StoreChange}
 use Rattle.server_store.specs.Stores.{disk_rotten}
 use Rattle.store_changes.specs.Areas.{area_of}
@@ -73,6 +73,14 @@ rotten_by d (Some b) = disk_rotten d b.handle.0 b.place b.byte
 abbrev pub HasItsDigest : ℕ → ℕ → Replica → ℕ → ℕ → Type 0
 HasItsDigest chunk block r place byte =
     sha256 (block_in block (place / block) (written_over (chunk_on_disk chunk r) place (byte ∷ []))) ≡ sha256 (block_in block (place / block) (filled_to chunk r.bytes))
+
+-- A change that isn't begun: it can't be told from its lack, or it isn't careful.
+abbrev pub IsUnfit : ℕ → Rows → ServerDisk → StoreChange → Type 0
+IsUnfit chunk rows d change = (can_be_told chunk rows change ≡ false) ⊎ (IsCareful chunk d change → ⊥)
+
+-- A byte of a replica that can't be told to rot: it lies past the chunk, or with it its block would have that digest.
+abbrev pub CantRot : ℕ → ServerDisk → ℕ → ℕ → ℕ → Type 0
+CantRot chunk d handle place byte = (r : Replica) × (replica_of d handle ≡ Some r) × ((chunk ≤ place) ⊎ HasItsDigest chunk d.block r place byte)
 
 -- the change that was under way, where this is known of a disk with it
 abbrev pub found_made : OrderNo → Rows → Standing → Option StoreChange

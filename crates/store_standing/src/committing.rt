@@ -1,8 +1,9 @@
 //! Changes that a server commits.
 
-ghost use Rattle.std.specs.Prelude.{◌≡◌, [], ◌∷◌, IfErr, IfOk, OnOk};
-ghost use Rattle.replica_store.specs.Replicas.{ServerDisk, disk_changed};
-ghost use Rattle.store_standing.specs.Standing.{IsKept, changes_of};
+ghost use Rattle.std.specs.Prelude.{◌≡◌, ◌⊎◌, true, [], ◌∷◌, IfErr, IfOk, OnOk};
+ghost use Rattle.replica_store.specs.Replicas.{ServerDisk, disk_changed, is_disk_full};
+ghost use Rattle.server_store.specs.declared.fault.StoreFault.TheVariants as faults;
+ghost use Rattle.store_standing.specs.Standing.{IsKept, IsUnfit, changes_of};
 ghost use Rattle.store_standing.specs.declared.standing.Standing.TheVariants.{Open};
 
 use crate::faults::fault_of;
@@ -32,6 +33,8 @@ pub fn commit<D: Disk>(
     ensures open { IfErr result (λ e. changes_of e.1 ≡ change ∷ []) }
     ensures err { (d : ServerDisk) → IsKept D.seen D.may_leave store.old known.old.order known.old.rows d standing
         → IfErr result (λ e. IsKept D.seen D.may_leave store.new known.new.order known.new.rows d e.1) }
+    ensures no_room { (d : ServerDisk) → IsKept D.seen D.may_leave store.old known.old.order known.old.rows d standing
+        → IfErr result (λ e. e.0 ≡ faults.NoRoom → IsUnfit store.old.layout.chunk known.old.rows d change ⊎ (is_disk_full store.old.layout.slots d ≡ true)) }
 {
     match begins(alloc, store, known, &standing, &change) {
         Ok(()) => {}

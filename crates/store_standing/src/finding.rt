@@ -1,6 +1,6 @@
 //! Opening a disk.
 
-ghost use Rattle.std.specs.Prelude.{◌≡◌, ◌≤◌, length, true, IfOk, OnOk};
+ghost use Rattle.std.specs.Prelude.{◌≡◌, ◌≤◌, length, true, IfOk, IsErrOf, OnOk};
 ghost use Rattle.disk.specs.Device.{Follows};
 ghost use Rattle.gated_disk.specs.Moments.{OnlyReads};
 ghost use Rattle.redo_area.specs.Redo.{IsAtRest, stands_for};
@@ -9,6 +9,8 @@ ghost use Rattle.store_changes.specs.Areas.{area_of};
 ghost use Rattle.store_format.specs.Formats.{is_head_open};
 ghost use Rattle.store_layout.specs.Places.{disk_size};
 ghost use Rattle.store_opening.specs.Opening.{IsFound};
+ghost use Rattle.server_store.specs.declared.fault.StoreFault.TheVariants as faults;
+ghost use Rattle.store_standing.specs.Faults.{HasCause};
 ghost use Rattle.store_standing.specs.Standing.{IsFoundAmong, StillSays};
 
 use crate::faults::{fault_of_disk, fault_of_opening};
@@ -25,6 +27,8 @@ pub fn has_open_head<D: Disk>(disk: &mut D) -> Result<bool, StoreFault>
     requires { 32 ≤ length (D.seen disk.old) }
     ensures head { IfOk result (λ b. b ≡ is_head_open (D.seen disk.old)) }
     ensures reads { OnlyReads D.seen D.may_leave D.moment D.left_since disk.old disk.new }
+    ensures no_room { IsErrOf result faults.NoRoom → ⊥ }
+    ensures cause { HasCause (D.failed disk.old) (D.failed disk.new) result }
 {
     let mut gate = [0];
     if let Err(fault) = read(disk, 31, &mut gate) {
@@ -43,6 +47,7 @@ pub(crate) fn find<D: StoppableDisk>(
     ensures rest { OnOk result (IsAtRest D.seen D.may_leave (area_of layout.chunk layout.block) disk.new) }
     ensures large { OnOk result (disk_size layout.chunk layout.block layout.slots ≤ length (D.seen disk.new)) }
     ensures stops { Follows (StillSays layout.chunk layout.block layout.slots) (D.may_leave disk.old) (D.may_leave disk.new) }
+    ensures no_room { IsErrOf result faults.NoRoom → ⊥ }
 {
     match disk.restart() {
         Ok(()) => {}

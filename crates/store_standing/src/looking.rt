@@ -1,9 +1,12 @@
 //! Blocks that are checked.
 
-ghost use Rattle.std.specs.Prelude.{◌≡◌, IfOk};
+ghost use Rattle.std.specs.Prelude.{◌≡◌, ◌<◌, ◌↔◌, IfOk, IsErrOf, Some};
 ghost use Rattle.gated_disk.specs.Moments.{OnlyReads};
-ghost use Rattle.replica_store.specs.Replicas.{ServerDisk, is_copyable_at, is_writable_at, read_at};
+ghost use Rattle.replica_store.specs.declared.row.Row.{Row};
+ghost use Rattle.replica_store.specs.Replicas.{ServerDisk, is_copyable_at, is_writable_at, read_at, row_at};
+ghost use Rattle.server_store.specs.declared.fault.StoreFault.TheVariants as faults;
 ghost use Rattle.chunk_store.specs.Stores.{IsOpen};
+ghost use Rattle.store_standing.specs.Faults.{HasCause};
 
 use crate::faults::{fault_of, fault_of_disk};
 use bytes::Bytes;
@@ -12,6 +15,7 @@ use disk::Disk;
 use gfs_types::ids::{Handle, Version};
 use server_store::fault::StoreFault;
 use std::alloc::Global;
+use store_changes::StoreFault as ChangeFault;
 use store_edges::read_edges;
 
 /// Whether the range from `offset` to before `end` of a replica can be written over.
@@ -26,6 +30,10 @@ pub fn is_writable<D: Disk>(
     ensures value { (d : ServerDisk) → IsOpen D.seen D.may_leave store.old d → IfOk result (λ b. b ≡ is_writable_at d handle.0 offset end) }
     ensures still_open { (d : ServerDisk) → IsOpen D.seen D.may_leave store.old d → IsOpen D.seen D.may_leave store.new d }
     ensures unchanged { store.new ≡ record store.old { disk = store.new.disk } }
+    // A range that isn't empty ends past the chunk of a replica that is there.
+    ensures no_room { (d : ServerDisk) → IsOpen D.seen D.may_leave store.old d
+        → (IsErrOf result faults.NoRoom ↔ (row : Row) × (row_at d handle.0 ≡ Some row) × (offset < end) × (store.old.layout.chunk < end)) }
+    ensures cause { HasCause (D.failed store.old.disk) (D.failed store.new.disk) result }
 {
     let Some(found) = store.index.get(handle) else {
         return Ok(true);
@@ -61,11 +69,17 @@ pub fn is_copyable<D: Disk>(
     ensures value { (d : ServerDisk) → IsOpen D.seen D.may_leave store.old d → IfOk result (λ b. b ≡ is_copyable_at d handle.0) }
     ensures still_open { (d : ServerDisk) → IsOpen D.seen D.may_leave store.old d → IsOpen D.seen D.may_leave store.new d }
     ensures unchanged { store.new ≡ record store.old { disk = store.new.disk } }
+    ensures no_room { IsErrOf result faults.NoRoom → ⊥ }
+    // Of a replica of this version.
+    ensures cause { (d : ServerDisk) (row : Row) → IsOpen D.seen D.may_leave store.old d → row_at d handle.0 ≡ Some row → row.version ≡ version
+        → HasCause (D.failed store.old.disk) (D.failed store.new.disk) result }
 {
     match store.image(alloc, handle, version) {
         Ok(_) => Ok(true),
-        Err(store_changes::StoreFault::Corrupt) => Ok(false),
-        Err(fault) => Err(fault_of(fault)),
+        Err(fault) => match fault {
+            ChangeFault::Corrupt => Ok(false),
+            other => Err(fault_of(other)),
+        },
     }
 }
 
@@ -82,10 +96,16 @@ pub fn read<D: Disk>(
     ensures value { (d : ServerDisk) → IsOpen D.seen D.may_leave store.old d → IfOk result (λ o. o ≡ read_at d handle.0 offset count) }
     ensures still_open { (d : ServerDisk) → IsOpen D.seen D.may_leave store.old d → IsOpen D.seen D.may_leave store.new d }
     ensures unchanged { store.new ≡ record store.old { disk = store.new.disk } }
+    ensures no_room { IsErrOf result faults.NoRoom → ⊥ }
+    // Of a replica of this version.
+    ensures cause { (d : ServerDisk) (row : Row) → IsOpen D.seen D.may_leave store.old d → row_at d handle.0 ≡ Some row → row.version ≡ version
+        → HasCause (D.failed store.old.disk) (D.failed store.new.disk) result }
 {
     match store.read(alloc, handle, version, offset, count) {
         Ok(bytes) => Ok(Some(bytes)),
-        Err(store_changes::StoreFault::Corrupt) => Ok(None),
-        Err(fault) => Err(fault_of(fault)),
+        Err(fault) => match fault {
+            ChangeFault::Corrupt => Ok(None),
+            other => Err(fault_of(other)),
+        },
     }
 }

@@ -1,12 +1,16 @@
 //! Changes of the store on the disk.
 
-ghost use Rattle.std.specs.Prelude.{◌≡◌, ◌≤◌, ◌+◌, nat_le, length, replicate, true, IfOk, OnOk};
-ghost use Rattle.replica_store.specs.Replicas.{ServerDisk, disk_changed, is_writable_at};
+ghost use Rattle.std.specs.Prelude.{◌≡◌, ◌≤◌, ◌+◌, nat_le, length, replicate, false, true, IfOk, IsErrOf, OnOk};
+ghost use Rattle.replica_store.specs.Replicas.{ServerDisk, disk_changed, is_disk_full, is_writable_at};
 ghost use Rattle.replica_store.specs.declared.change.StoreChange.TheVariants.{Copy, Raise, Write, Zero};
 ghost use Rattle.known_replicas.specs.Known.{IsKnownOf, can_be_told};
+ghost use Rattle.server_store.specs.declared.fault.StoreFault.TheVariants as faults;
+ghost use Rattle.store_changes.specs.Faults.{MayFail};
+ghost use Rattle.store_changes.specs.declared.fault.StoreFault.TheVariants as making_faults;
 ghost use Rattle.noticed_replicas.specs.Noticed.{IsCareful};
 ghost use Rattle.chunk_store.specs.Stores.{IsOpen};
-ghost use Rattle.store_standing.specs.Standing.{AllNoticed, LeavesMade};
+ghost use Rattle.store_standing.specs.Faults.{HasCause};
+ghost use Rattle.store_standing.specs.Standing.{AllNoticed, IsUnfit, LeavesMade};
 ghost use Rattle.store_standing.specs.declared.standing.Standing.TheVariants.{Open};
 
 use crate::looking::is_writable;
@@ -37,6 +41,8 @@ pub(crate) fn begins<D: Disk>(
     ensures still_open { (d : ServerDisk) → IsOpen D.seen D.may_leave store.old d → IsOpen D.seen D.may_leave store.new d }
     ensures unchanged { store.new ≡ record store.old { disk = store.new.disk } }
     ensures stays { (standing.now ≡ Open → ⊥) → store.new ≡ store.old }
+    ensures no_room { IsErrOf result faults.NoRoom → (standing.now ≡ Open) × ((d : ServerDisk) → IsOpen D.seen D.may_leave store.old d → IsUnfit store.old.layout.chunk known.now.rows d change.now) }
+    ensures cause { standing.now ≡ Open → HasCause (D.failed store.old.disk) (D.failed store.new.disk) result }
 {
     let Standing::Open = standing else {
         return Err(StoreFault::DiskFailed);
@@ -58,6 +64,9 @@ fn may_make<D: Disk>(
     requires is_open { (d : ServerDisk) × IsOpen D.seen D.may_leave store.old d }
     ensures told { IfOk result (λ b. b ≡ true → can_be_told store.old.layout.chunk known.now.rows change.now ≡ true) }
     ensures careful { (d : ServerDisk) → IsOpen D.seen D.may_leave store.old d → IfOk result (λ b. b ≡ true → IsCareful store.old.layout.chunk d change.now) }
+    ensures unfit { (d : ServerDisk) → IsOpen D.seen D.may_leave store.old d → IfOk result (λ b. b ≡ false → IsUnfit store.old.layout.chunk known.now.rows d change.now) }
+    ensures no_room { IsErrOf result faults.NoRoom → ⊥ }
+    ensures cause { HasCause (D.failed store.old.disk) (D.failed store.new.disk) result }
     ensures still_open { (d : ServerDisk) → IsOpen D.seen D.may_leave store.old d → IsOpen D.seen D.may_leave store.new d }
     ensures unchanged { store.new ≡ record store.old { disk = store.new.disk } }
 {
@@ -92,6 +101,8 @@ fn is_range_writable<D: Disk>(
     requires is_open { (d : ServerDisk) × IsOpen D.seen D.may_leave store.old d }
     requires within { nat_le (offset + count) store.old.layout.chunk ≡ true }
     ensures value { (d : ServerDisk) → IsOpen D.seen D.may_leave store.old d → IfOk result (λ b. b ≡ is_writable_at d handle.0 offset (offset + count)) }
+    ensures no_room { IsErrOf result faults.NoRoom → ⊥ }
+    ensures cause { HasCause (D.failed store.old.disk) (D.failed store.new.disk) result }
     ensures still_open { (d : ServerDisk) → IsOpen D.seen D.may_leave store.old d → IsOpen D.seen D.may_leave store.new d }
     ensures unchanged { store.new ≡ record store.old { disk = store.new.disk } }
 {
@@ -111,6 +122,8 @@ pub(crate) fn make<D: Disk>(
     ensures ok { (d : ServerDisk) → IsOpen D.seen D.may_leave store.old d → AllNoticed d → OnOk result (IsOpen D.seen D.may_leave store.new (disk_changed d change.now)) }
     ensures any_moment { LeavesMade D.seen D.may_leave D.moment D.left_since store.old store.new change.now }
     ensures layout { store.new.layout ≡ store.old.layout }
+    ensures no_room { (d : ServerDisk) → IsOpen D.seen D.may_leave store.old d → IsErrOf result making_faults.NoRoom → is_disk_full store.old.layout.slots d ≡ true }
+    ensures cause { MayFail (D.failed store.old.disk) (D.failed store.new.disk) result }
 {
     match change {
         StoreChange::SetOrder(order) => store.set_order(alloc, *order),
@@ -157,6 +170,8 @@ fn write<D: Disk>(
     ensures ok { (d : ServerDisk) → IsOpen D.seen D.may_leave store.old d → AllNoticed d → OnOk result (IsOpen D.seen D.may_leave store.new (disk_changed d (Write handle serial offset bytes.now))) }
     ensures any_moment { LeavesMade D.seen D.may_leave D.moment D.left_since store.old store.new (Write handle serial offset bytes.now) }
     ensures layout { store.new.layout ≡ store.old.layout }
+    ensures no_room { IsErrOf result making_faults.NoRoom → ⊥ }
+    ensures cause { MayFail (D.failed store.old.disk) (D.failed store.new.disk) result }
 {
     let Some(row) = known.row(handle) else {
         return Err(MakeFault::NoChunk);
@@ -180,6 +195,8 @@ fn zero<D: Disk>(
     ensures ok { (d : ServerDisk) → IsOpen D.seen D.may_leave store.old d → AllNoticed d → OnOk result (IsOpen D.seen D.may_leave store.new (disk_changed d (Zero handle serial offset count))) }
     ensures any_moment { LeavesMade D.seen D.may_leave D.moment D.left_since store.old store.new (Zero handle serial offset count) }
     ensures layout { store.new.layout ≡ store.old.layout }
+    ensures no_room { IsErrOf result making_faults.NoRoom → ⊥ }
+    ensures cause { MayFail (D.failed store.old.disk) (D.failed store.new.disk) result }
 {
     let Some(row) = known.row(handle) else {
         return Err(MakeFault::NoChunk);
@@ -200,6 +217,8 @@ fn raise<D: Disk>(
     ensures ok { (d : ServerDisk) → IsOpen D.seen D.may_leave store.old d → AllNoticed d → OnOk result (IsOpen D.seen D.may_leave store.new (disk_changed d (Raise handle version))) }
     ensures any_moment { LeavesMade D.seen D.may_leave D.moment D.left_since store.old store.new (Raise handle version) }
     ensures layout { store.new.layout ≡ store.old.layout }
+    ensures no_room { IsErrOf result making_faults.NoRoom → ⊥ }
+    ensures cause { MayFail (D.failed store.old.disk) (D.failed store.new.disk) result }
 {
     let Some(row) = known.row(handle) else {
         return Err(MakeFault::NoChunk);
@@ -220,6 +239,8 @@ fn copy<D: Disk>(
     ensures ok { (d : ServerDisk) → IsOpen D.seen D.may_leave store.old d → AllNoticed d → OnOk result (IsOpen D.seen D.may_leave store.new (disk_changed d (Copy handle other version))) }
     ensures any_moment { LeavesMade D.seen D.may_leave D.moment D.left_since store.old store.new (Copy handle other version) }
     ensures layout { store.new.layout ≡ store.old.layout }
+    ensures no_room { (d : ServerDisk) → IsOpen D.seen D.may_leave store.old d → IsErrOf result making_faults.NoRoom → is_disk_full store.old.layout.slots d ≡ true }
+    ensures cause { MayFail (D.failed store.old.disk) (D.failed store.new.disk) result }
 {
     let Some(row) = known.row(handle) else {
         return Err(MakeFault::NoChunk);

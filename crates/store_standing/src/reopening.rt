@@ -1,9 +1,10 @@
 //! Disks that are read anew.
 
-ghost use Rattle.std.specs.Prelude.{◌≡◌, IfOk, OnErr};
+ghost use Rattle.std.specs.Prelude.{◌≡◌, IfOk, IsErrOf, OnErr};
 ghost use Rattle.gfs_types.specs.declared.ids.OrderNo.{OrderNo};
 ghost use Rattle.replica_store.specs.Replicas.{ServerDisk};
 ghost use Rattle.known_replicas.specs.Known.{Rows};
+ghost use Rattle.server_store.specs.declared.fault.StoreFault.TheVariants as faults;
 ghost use Rattle.store_standing.specs.Standing.{IsKept, found_made, with_made};
 ghost use Rattle.store_standing.specs.declared.standing.Standing.TheVariants.{Open};
 
@@ -30,9 +31,13 @@ pub fn open_again<D: StoppableDisk>(
         → IfOk result (λ known. IsKept D.seen D.may_leave store.new known.order known.rows (with_made d (found_made known.order known.rows standing.now)) Open) }
     ensures err { (order : OrderNo) (rows : Rows) (d : ServerDisk) → IsKept D.seen D.may_leave store.old order rows d standing.now
         → OnErr result (IsKept D.seen D.may_leave store.new order rows d standing.now) }
+    ensures no_room { IsErrOf result faults.NoRoom → ⊥ }
 {
     let found = find(alloc, &mut store.disk, store.layout)?;
-    let known = Known::of(alloc, found.order, &found.index)?;
+    let known = match Known::of(alloc, found.order, &found.index) {
+        Ok(known) => known,
+        Err(_) => return Err(StoreFault::NoMemory),
+    };
     store.order = found.order;
     store.index = found.index;
     rots(alloc, store, rotting_in(standing))?;

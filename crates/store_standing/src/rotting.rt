@@ -1,18 +1,21 @@
 //! Bytes that rot.
 
-ghost use Rattle.std.specs.Prelude.{◌≡◌, ◌<◌, ◌≤◌, ◌+◌, ◌%◌, ◌/◌, ◌↔◌, ℕ, [], ◌∷◌, length, slice_set, IfOk, IsTrue, OnErr, OnOk, Some};
+ghost use Rattle.std.specs.Prelude.{◌≡◌, ◌<◌, ◌≤◌, ◌+◌, ◌%◌, ◌/◌, ◌↔◌, ℕ, [], ◌∷◌, length, slice_set, IfOk, IsErrOf, IsTrue, OnErr, OnOk, Some};
 ghost use Rattle.std.specs.FinMap as map;
 ghost use Rattle.block_digests.specs.Digests.{digests_of};
 ghost use Rattle.disk.specs.Bytes.{range_at};
+ghost use Rattle.disk.specs.Device.{HasCause as IsOfDisk};
 ghost use Rattle.gated_disk.specs.Moments.{OnlyReads};
 ghost use Rattle.gfs_types.specs.declared.ids.OrderNo.{OrderNo};
 ghost use Rattle.known_replicas.specs.Known.{Rows};
 ghost use Rattle.replica_store.specs.Replicas.{Replica, ServerDisk, replica_of};
 ghost use Rattle.server_store.specs.Stores.{disk_rotten};
+ghost use Rattle.server_store.specs.declared.fault.StoreFault.TheVariants as faults;
 ghost use Rattle.store_layout.specs.Places.{disk_size};
 ghost use Rattle.stored_replicas.specs.Stored.{Holds};
 ghost use Rattle.chunk_store.specs.Stores.{IsOpen};
-ghost use Rattle.store_standing.specs.Standing.{HasItsDigest, IsKept, IsRotWithin, Leaves, changes_of, rotten_by};
+ghost use Rattle.store_standing.specs.Faults.{HasCause};
+ghost use Rattle.store_standing.specs.Standing.{CantRot, HasItsDigest, IsKept, IsRotWithin, Leaves, changes_of, rotten_by};
 ghost use Rattle.store_standing.specs.declared.standing.Standing.TheVariants.{Open};
 
 use crate::faults::{fault_of, fault_of_disk};
@@ -37,6 +40,7 @@ fn read_bytes<D: Disk>(
     requires { at + count ≤ length (D.seen disk.old) }
     ensures bytes { IfOk result (λ bytes. bytes.items ≡ range_at (D.seen disk.old) at count) }
     ensures reads { OnlyReads D.seen D.may_leave D.moment D.left_since disk.old disk.new }
+    ensures cause { IsOfDisk (D.failed disk.old) (D.failed disk.new) result }
 {
     let mut bytes = vec![in alloc; 0; count]?;
     read(disk, at, &mut bytes)?;
@@ -73,8 +77,9 @@ fn block_would_match<D: Disk>(
     requires slot { slot < layout.slots }
     requires whole { layout.chunk % layout.block ≡ 0 }
     requires place { place < layout.chunk }
-    ensures value { IfOk result (λ b. (handle : ℕ) (r : Replica) → Holds layout.chunk layout.block (D.seen disk.old) slot handle r → HasItsDigest layout.chunk layout.block r place byte → IsTrue b) }
+    ensures value { IfOk result (λ b. (handle : ℕ) (r : Replica) → Holds layout.chunk layout.block (D.seen disk.old) slot handle r → (IsTrue b ↔ HasItsDigest layout.chunk layout.block r place byte)) }
     ensures reads { OnlyReads D.seen D.may_leave D.moment D.left_since disk.old disk.new }
+    ensures cause { IsOfDisk (D.failed disk.old) (D.failed disk.new) result }
 {
     let size = layout.block as usize;
     let number = place / size;
@@ -98,7 +103,9 @@ fn would_match<D: Disk>(
     requires found { map.get store.old.index.held handle.0 ≡ Some found }
     requires place { place < store.old.layout.chunk }
     ensures value { (d : ServerDisk) (r : Replica) → IsOpen D.seen D.may_leave store.old d → replica_of d handle.0 ≡ Some r
-        → IfOk result (λ b. HasItsDigest store.old.layout.chunk d.block r place byte → IsTrue b) }
+        → IfOk result (λ b. IsTrue b ↔ HasItsDigest store.old.layout.chunk d.block r place byte) }
+    ensures no_room { IsErrOf result faults.NoRoom → ⊥ }
+    ensures cause { HasCause (D.failed store.old.disk) (D.failed store.new.disk) result }
     ensures still_open { (d : ServerDisk) → IsOpen D.seen D.may_leave store.old d → IsOpen D.seen D.may_leave store.new d }
     ensures unchanged { store.new ≡ record store.old { disk = store.new.disk } }
 {
@@ -132,6 +139,10 @@ pub fn rot<D: Disk>(
     ensures nothing { IfOk result (λ standing. changes_of standing ≡ []) }
     ensures err { (order : OrderNo) (rows : Rows) (d : ServerDisk) → IsKept D.seen D.may_leave store.old order rows d Open
         → OnErr result (IsKept D.seen D.may_leave store.new order rows d Open) }
+    // A byte that can't rot is refused, and no other one.
+    ensures no_room { (d : ServerDisk) → IsOpen D.seen D.may_leave store.old d → IsErrOf result faults.NoRoom → CantRot store.old.layout.chunk d handle.0 place byte }
+    ensures can_rot { (d : ServerDisk) → IsOpen D.seen D.may_leave store.old d → OnOk result (CantRot store.old.layout.chunk d handle.0 place byte → ⊥) }
+    ensures cause { HasCause (D.failed store.old.disk) (D.failed store.new.disk) result }
 {
     let Some(found) = store.index.get(handle) else {
         return Ok(Standing::Open);
@@ -166,6 +177,7 @@ pub(crate) fn rots<D: Disk>(
     ensures ok { (d : ServerDisk) → IsOpen D.seen D.may_leave store.old d → OnOk result (IsOpen D.seen D.may_leave store.new (rotten_by d rotting)) }
     ensures any_moment { (d : ServerDisk) → IsOpen D.seen D.may_leave store.old d → OnErr result (Leaves D.may_leave store.new d (rotten_by d rotting)) }
     ensures layout { store.new.layout ≡ store.old.layout }
+    ensures no_room { IsErrOf result faults.NoRoom → ⊥ }
 {
     match rotting {
         None => Ok(()),

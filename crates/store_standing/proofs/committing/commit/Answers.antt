@@ -1,5 +1,9 @@
-use Rattle.std.proofs.Common.{sym, ap, ◌∙◌, subst}
+use Rattle.std.proofs.Common.{inl, inr, sym, ap, ◌∙◌, subst, Err}
 use Rattle.known_replicas.specs.declared.known.Known.{Known}
+use Rattle.replica_store.specs.Replicas.{is_disk_full}
+use Rattle.server_store.specs.declared.fault.StoreFault.{StoreFault}
+use Rattle.store_changes.specs.declared.fault.StoreFault.{StoreFault as ChangeFault}
+use Rattle.store_standing.proofs.Causes.{only_room}
 use Rattle.store_standing.specs.Standing.{IsKept, changes_of}
 use Rattle.store_standing.specs.declared.standing.Standing.{Standing}
 use Rattle.store_standing.specs.declared.standing.Standing.TheVariants.{Changing}
@@ -73,3 +77,18 @@ returns-clause-err g c d kept =
     subst (λ (k : Known). IsKept disk.seen disk.may_leave c.make.new.store k.order k.rows d (Changing c.args.change)) (sym c.in-Err-make-2.ensures.err)
     (unknown_after disk.seen disk.may_leave s n.order n.rows d c.args.standing kept c.begins.new.store c.begins.ensures.unchanged c.begins.ensures.still_open c.in-Ok.ensures.open c.args.change c.in-Ok.ensures.told (c.in-Ok.ensures.careful d (open_as disk.seen disk.may_leave s n.order n.rows d c.args.standing kept c.in-Ok.ensures.open)) c.make.new.store c.make.ensures.layout
     (c.in-Ok-make.ensures.ok d (mid_open disk.seen disk.may_leave s n.order n.rows d c.args.standing kept c.begins.new.store c.begins.ensures.unchanged c.begins.ensures.still_open c.in-Ok.ensures.open) (mid_noticed disk.seen disk.may_leave s n.order n.rows d c.args.standing kept c.begins.new.store c.begins.ensures.unchanged c.begins.ensures.still_open c.in-Ok.ensures.open)))
+
+pub returns-in-Err-clause-no_room : goal.returns-in-Err-clause-no_room
+returns-in-Err-clause-no_room g c d kept e =
+    let disk = g.D.Disk in
+    let n = c.args.known.now in
+    let unfit = c.in-Err.ensures.no_room (ap (λ (x : StoreFault). Err x) e) in
+    inl (unfit.1 d (open_as disk.seen disk.may_leave c.args.store.now n.order n.rows d c.args.standing kept unfit.0))
+
+pub returns-in-Err-make-clause-no_room : goal.returns-in-Err-make-clause-no_room
+returns-in-Err-make-clause-no_room g c d kept e =
+    let disk = g.D.Disk in
+    let n = c.args.known.now in
+    let opened = mid_open disk.seen disk.may_leave c.args.store.now n.order n.rows d c.args.standing kept c.begins.new.store c.begins.ensures.unchanged c.begins.ensures.still_open c.in-Ok.ensures.open in
+    let full = c.in-Err-make.ensures.no_room d opened (ap (λ (x : ChangeFault). Err x) (only_room c.in-Err-make.fault c.fault_of.result c.fault_of.ensures e)) in
+    inr (ap (λ s. is_disk_full s.layout.slots d) (sym c.begins.ensures.unchanged) ∙ full)

@@ -1,8 +1,9 @@
-use Rattle.std.proofs.Common.{◌≡◌, ℕ, ◌+◌, true, refl, sym, ap, ◌∙◌, subst, rules}
+use Rattle.std.proofs.Common.{◌≡◌, inr, ℕ, ◌+◌, true, false, refl, sym, ap, ◌∙◌, subst, rules, arith}
 use Rattle.std.proofs.lemmas.Result.{IfOk-weaker}
 use Rattle.replica_store.specs.Replicas.{is_writable_at}
 use Rattle.known_replicas.specs.Known.{can_be_told}
 use Rattle.noticed_replicas.specs.Noticed.{IsCareful}
+use Rattle.store_standing.specs.Standing.{IsUnfit}
 use Rattle.store_standing.proofs.Careful.{careful_else, write_careful, zero_careful}
 use Rattle.store_standing.proofs.making.may_make.Goals as goal
 
@@ -36,4 +37,30 @@ returns-in_default g c =
       careful = λ d is e. careful_else c.args.store.now.layout.chunk c.args.known.now.rows d c.args.change.now told (λ h s o b is. c.in_default.not-Write h s o b is) (λ h s o n is. c.in_default.not-Zero h s o n is);
       still_open = λ d is. is;
       unchanged = refl;
+      unfit = λ d is e. absurd cc;
+      no_room = λ e. absurd cc;
+      cause = record { later = omega arith; failed = λ e. absurd cc };
     }
+
+pub returns-in-Write-clause-unfit : goal.returns-in-Write-clause-unfit
+returns-in-Write-clause-unfit g c d is =
+    let it = c.in-Write in
+    let chunk = c.args.store.now.layout.chunk in
+    IfOk-weaker c.is_range_writable.result (λ b. b ≡ is_writable_at d it.handle.0 it.offset (it.offset + c.len.result)) (λ b. b ≡ false → IsUnfit chunk c.args.known.now.rows d c.args.change.now)
+    (λ b same no. inr (λ careful.
+    let kept = subst (IsCareful chunk d) it.is careful in
+    let yes = sym same ∙ no in
+    let writable : is_writable_at d it.handle.0 it.offset (it.offset + c.len.result) ≡ true = ap (λ (n : ℕ). is_writable_at d it.handle.0 it.offset (it.offset + n)) c.len.ensures.value ∙ kept.1 in
+    cc (yes, writable)))
+    (c.is_range_writable.ensures.value d is)
+
+pub returns-in-Zero-clause-unfit : goal.returns-in-Zero-clause-unfit
+returns-in-Zero-clause-unfit g c d is =
+    let it = c.in-Zero in
+    let chunk = c.args.store.now.layout.chunk in
+    IfOk-weaker c.is_range_writable-in-Zero.result (λ b. b ≡ is_writable_at d it.handle.0 it.offset (it.offset + it.count)) (λ b. b ≡ false → IsUnfit chunk c.args.known.now.rows d c.args.change.now)
+    (λ b same no. inr (λ careful.
+    let kept = subst (IsCareful chunk d) it.is careful in
+    let yes = sym same ∙ no in
+    cc (yes, kept.1)))
+    (c.is_range_writable-in-Zero.ensures.value d is)

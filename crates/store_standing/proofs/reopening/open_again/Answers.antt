@@ -8,11 +8,11 @@ returns-in_err-found-clause-err g c order rows d kept =
     let s = c.args.store.now in
     on_err c.from_residual.result (unfound disk.seen disk.may_leave s order rows d c.args.standing.now kept c.requires.not_open c.find.new.disk c.find.ensures.stops)
 
-pub returns-in_err-known-clause-err : goal.returns-in_err-known-clause-err
-returns-in_err-known-clause-err g c order rows d kept =
+pub returns-in-Err-clause-err : goal.returns-in-Err-clause-err
+returns-in-Err-clause-err g c order rows d kept =
     let disk = g.D.Disk in
     let s = c.args.store.now in
-    on_err c.from_residual-in_err-known.result (unfound disk.seen disk.may_leave s order rows d c.args.standing.now kept c.requires.not_open c.find.new.disk c.find.ensures.stops)
+    unfound disk.seen disk.may_leave s order rows d c.args.standing.now kept c.requires.not_open c.find.new.disk c.find.ensures.stops
 
 pub rots-requires-clause-is_open : goal.rots-requires-clause-is_open
 rots-requires-clause-is_open g c =
@@ -38,4 +38,4 @@ pub returns-clause-ok : goal.returns-clause-ok
 returns-clause-ok g c order rows d kept =
     let disk = g.D.Disk in
     let s = c.args.store.now in
-    settled disk.seen disk.may_leave s order rows d c.args.standing.now kept c.requires.not_open c.find.new.disk c.in_ok-found.found c.in_ok-found.ensures.found c.in_ok-found.ensures.rest c.in_ok-found.ensures.large c.rots.new.store c.rotting_in.result c.rotting_in.ensures c.rots.ensures.layout c.in_ok-known.known.order c.in_ok-known.known.rows c.in_ok-known.ensures c.in_ok-rots.ensures.ok
+    settled disk.seen disk.may_leave s order rows d c.args.standing.now kept c.requires.not_open c.find.new.disk c.in_ok-found.found c.in_ok-found.ensures.found c.in_ok-found.ensures.rest c.in_ok-found.ensures.large c.rots.new.store c.rotting_in.result c.rotting_in.ensures c.rots.ensures.layout c.in-Ok.known.order c.in-Ok.known.rows c.in-Ok.ensures c.in_ok-rots.ensures.ok

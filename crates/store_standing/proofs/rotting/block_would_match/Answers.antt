@@ -1,7 +1,7 @@
 use Rattle.std.proofs.Common.{ℕ, ◌+◌, ◌*◌, ◌/◌, List, length, sym, ap, ◌∙◌, arith}
 use Rattle.disk.specs.Bytes.{range_at}
 use Rattle.gated_disk.proofs.Moments.{reads_both}
-use Rattle.store_standing.proofs.Blocks.{block_room, digest_room, inside, long, tells_match}
+use Rattle.store_standing.proofs.Blocks.{block_room, digest_room, inside, long, match_told, tells_match}
 use Rattle.store_standing.proofs.rotting.block_would_match.Goals as goal
 
 pub read_bytes-requires : goal.read_bytes-requires
@@ -27,13 +27,16 @@ has_digest-requires g c =
     omega (arith, below, size)
 
 pub returns-clause-value : goal.returns-clause-value
-returns-clause-value g c handle r holds same =
+returns-clause-value g c handle r holds =
     let l = c.args.layout in
     let seen = g.D.Disk.seen c.args.disk.now in
     let n = c.args.place / l.block in
     let bytes_are = c.in_ok-bytes.ensures.bytes ∙ ap (λ (k : ℕ). range_at seen (k + n * l.block) l.block) c.chunk_bytes.ensures in
     let digest_is = c.in_ok-digest.ensures.bytes ∙ ap (λ (s : List ℕ). range_at s (c.digests.result + 32 * n) 32) c.read_bytes.ensures.reads.seen_same ∙ ap (λ (k : ℕ). range_at seen (k + 32 * n) 32) c.digests.ensures in
-    c.in_ok-has_digest.ensures.1 (tells_match l.chunk l.block l.slots seen c.args.slot c.requires.size c.requires.slot l.block_range c.requires.whole c.args.place c.requires.place c.in_ok-bytes.bytes.items bytes_are c.args.byte c.in_ok-digest.digest.items digest_is handle r holds same ∙ sym c.deref.ensures.value)
+    let test = c.in_ok-has_digest.ensures in (
+      λ yes. match_told l.chunk l.block l.slots seen c.args.slot c.requires.size c.requires.slot l.block_range c.requires.whole c.args.place c.requires.place c.in_ok-bytes.bytes.items bytes_are c.args.byte c.in_ok-digest.digest.items digest_is handle r holds (test.0 yes ∙ c.deref.ensures.value),
+      λ same. test.1 (tells_match l.chunk l.block l.slots seen c.args.slot c.requires.size c.requires.slot l.block_range c.requires.whole c.args.place c.requires.place c.in_ok-bytes.bytes.items bytes_are c.args.byte c.in_ok-digest.digest.items digest_is handle r holds same ∙ sym c.deref.ensures.value),
+    )
 
 pub returns-in_err-digest-clause-reads : goal.returns-in_err-digest-clause-reads
 returns-in_err-digest-clause-reads g c =

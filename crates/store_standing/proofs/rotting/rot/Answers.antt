@@ -1,6 +1,7 @@
-use Rattle.std.proofs.Common.{◌≡◌, true, false, refl, sym, ◌∙◌, arith}
+use Rattle.std.proofs.Common.{◌≡◌, inl, inr, true, false, refl, sym, ◌∙◌, arith}
 use Rattle.store_standing.proofs.Commits.{mid_kept}
-use Rattle.store_standing.proofs.Rots.{low_in, none_kept, rot_failed, rot_made}
+use Rattle.store_standing.proofs.Looked.{its_slot}
+use Rattle.store_standing.proofs.Rots.{low_in, none_cant, none_kept, rot_failed, rot_made}
 use Rattle.store_standing.proofs.Saying.{on_err}
 use Rattle.store_standing.proofs.rotting.rot.Goals as goal
 use Rattle.store_standing.specs.declared.standing.Standing.TheVariants.{Open}
@@ -34,12 +35,37 @@ rot-requires-clause-place g c = low_in c.args.store.now c.would_match.new.store 
 pub returns-in-Ok-clause-ok : goal.returns-in-Ok-clause-ok
 returns-in-Ok-clause-ok g c order rows d kept =
     rot_made g.D.Disk.seen g.D.Disk.may_leave c.args.store.now order rows d Open kept c.would_match.new.store c.would_match.ensures.unchanged c.would_match.ensures.still_open refl c.args.handle c.args.place c.args.byte (omega (arith, c.if-place-from.false, c.from.ensures))
-    (λ r own same. let yes = c.in_ok-would_match.ensures.value d r kept.stands own same in let no : true ≡ false = sym yes ∙ c.if-branch.false in absurd cc)
+    (λ r own same. let yes = (c.in_ok-would_match.ensures.value d r kept.stands own).1 same in let no : true ≡ false = sym yes ∙ c.if-branch.false in absurd cc)
     c.rot.new.self c.rot.ensures.layout c.in-Ok.ensures.ok
 
 pub returns-in-Err-clause-ok : goal.returns-in-Err-clause-ok
 returns-in-Err-clause-ok g c order rows d kept =
     let disk = g.D.Disk in
     rot_failed disk.seen disk.may_leave c.args.store.now order rows d Open kept c.would_match.new.store c.would_match.ensures.unchanged c.would_match.ensures.still_open refl c.args.handle c.args.place c.args.byte (omega (arith, c.if-place-from.false, c.from.ensures))
-    (λ r own same. let yes = c.in_ok-would_match.ensures.value d r kept.stands own same in let no : true ≡ false = sym yes ∙ c.if-branch.false in absurd cc)
+    (λ r own same. let yes = (c.in_ok-would_match.ensures.value d r kept.stands own).1 same in let no : true ≡ false = sym yes ∙ c.if-branch.false in absurd cc)
     c.rot.new.self c.rot.ensures.layout disk.moment disk.left_since g.met.D.Disk.counts_now c.rot.ensures.any_moment
+
+pub returns-then-place-from-clause-no_room : goal.returns-then-place-from-clause-no_room
+returns-then-place-from-clause-no_room g c d is e =
+    let its = its_slot g.D.Disk.seen g.D.Disk.may_leave c.args.store.now d is c.args.handle.0 c.in-Some.found (sym c.get.ensures ∙ c.in-Some.is) in
+    (its.0, its.1, inl (omega (arith, c.if-place-from.true, c.from.ensures)))
+
+pub returns-then-branch-clause-no_room : goal.returns-then-branch-clause-no_room
+returns-then-branch-clause-no_room g c d is e =
+    let its = its_slot g.D.Disk.seen g.D.Disk.may_leave c.args.store.now d is c.args.handle.0 c.in-Some.found (sym c.get.ensures ∙ c.in-Some.is) in
+    (its.0, its.1, inr ((c.in_ok-would_match.ensures.value d its.0 is its.1).0 c.if-branch.true))
+
+pub returns-in_default-clause-can_rot : goal.returns-in_default-clause-can_rot
+returns-in_default-clause-can_rot g c d is cant = none_cant g.D.Disk.seen g.D.Disk.may_leave c.args.store.now d is c.args.handle.0 c.args.place c.args.byte (sym c.get.ensures ∙ c.in_default.is) cant
+
+pub returns-in-Ok-clause-can_rot : goal.returns-in-Ok-clause-can_rot
+returns-in-Ok-clause-can_rot g c d is cant = elim cant.2 [
+  | inl past ↦ omega (arith, past, c.if-place-from.false, c.from.ensures)
+  | inr same ↦ (let yes = (c.in_ok-would_match.ensures.value d cant.0 is cant.1).1 same in let no : true ≡ false = sym yes ∙ c.if-branch.false in cc)
+]
+
+pub returns-in-Err-clause-can_rot : goal.returns-in-Err-clause-can_rot
+returns-in-Err-clause-can_rot g c d is cant = elim cant.2 [
+  | inl past ↦ omega (arith, past, c.if-place-from.false, c.from.ensures)
+  | inr same ↦ (let yes = (c.in_ok-would_match.ensures.value d cant.0 is cant.1).1 same in let no : true ≡ false = sym yes ∙ c.if-branch.false in cc)
+]

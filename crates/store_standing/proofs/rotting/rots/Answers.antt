@@ -1,4 +1,6 @@
-use Rattle.std.proofs.Common.{sym, subst, Option}
+use Rattle.std.proofs.Common.{sym, ap, ◌∙◌, subst, Option, Err}
+use Rattle.store_changes.specs.declared.fault.StoreFault.{StoreFault}
+use Rattle.store_standing.proofs.Causes.{change_has_room, rot_has_room}
 use Rattle.store_standing.specs.Standing.{IsRotWithin, Leaves, rotten_by}
 use Rattle.store_standing.specs.declared.standing.RottingByte.{RottingByte}
 use Rattle.chunk_store.specs.Stores.{IsOpen}
@@ -18,3 +20,6 @@ returns-in-Err-clause-any_moment g c d is =
     let rot = c.in-Some.rot in
     subst (λ (b : Option RottingByte). Leaves disk.may_leave c.rot.new.self d (rotten_by d b)) (sym c.in-Some.is)
     (rot_leaves disk.seen disk.may_leave disk.moment disk.left_since g.met.D.Disk.counts_now c.args.store.now c.rot.new.self d rot.handle.0 rot.place rot.byte c.rot.ensures.layout is c.rot.ensures.any_moment)
+
+pub returns-in-Err-clause-no_room : goal.returns-in-Err-clause-no_room
+returns-in-Err-clause-no_room g c e = change_has_room c.in-Err.fault c.fault_of.result c.fault_of.ensures (λ same. rot_has_room c.rot.result c.rot.ensures.only (c.in-Err.is ∙ ap (λ (x : StoreFault). Err x) same)) e

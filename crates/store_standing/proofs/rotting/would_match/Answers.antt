@@ -1,5 +1,6 @@
 use Rattle.chunk_store.proofs.StillOpen.{read_open}
 use Rattle.store_standing.proofs.Blocks.{would_tell}
+use Rattle.store_standing.proofs.Causes.{disk_cause, disk_has_room}
 use Rattle.store_standing.proofs.Looked.{its_slot}
 use Rattle.store_standing.proofs.rotting.would_match.Goals as goal
 
@@ -16,11 +17,17 @@ pub block_would_match-requires-clause-whole : goal.block_would_match-requires-cl
 block_would_match-requires-clause-whole g c = c.requires.is_open.1.whole
 
 pub returns-in-Ok-clause-value : goal.returns-in-Ok-clause-value
-returns-in-Ok-clause-value g c d r is own same =
-    would_tell g.D.Disk.seen g.D.Disk.may_leave c.args.store.now d is c.args.handle.0 c.args.found c.requires.found c.args.place c.args.byte c.in-Ok.would c.in-Ok.ensures.value r own same
+returns-in-Ok-clause-value g c d r is own =
+    would_tell g.D.Disk.seen g.D.Disk.may_leave c.args.store.now d is c.args.handle.0 c.args.found c.requires.found c.args.place c.args.byte c.in-Ok.would c.in-Ok.ensures.value r own
 
 pub returns-in-Ok-clause-still_open : goal.returns-in-Ok-clause-still_open
 returns-in-Ok-clause-still_open g c d is = (let disk = g.D.Disk in read_open disk.seen disk.may_leave c.args.store.now d is disk.moment disk.left_since c.block_would_match.new.disk c.block_would_match.ensures.reads)
 
 pub returns-in-Err-clause-still_open : goal.returns-in-Err-clause-still_open
 returns-in-Err-clause-still_open g c d is = (let disk = g.D.Disk in read_open disk.seen disk.may_leave c.args.store.now d is disk.moment disk.left_since c.block_would_match.new.disk c.block_would_match.ensures.reads)
+
+pub returns-in-Err-clause-no_room : goal.returns-in-Err-clause-no_room
+returns-in-Err-clause-no_room g c e = disk_has_room c.in-Err.fault c.fault_of_disk.result c.fault_of_disk.ensures e
+
+pub returns-in-Err-clause-cause : goal.returns-in-Err-clause-cause
+returns-in-Err-clause-cause g c = disk_cause _ _ c.in-Err.fault c.fault_of_disk.result c.fault_of_disk.ensures c.in-Err.ensures.cause

@@ -3,7 +3,7 @@ use Rattle.replica_store.specs.Replicas.{is_writable_at}
 use Rattle.store_changes.specs.Faults.{fault_of}
 use Rattle.store_changes.specs.Mutations.{bytes_of, change_of}
 use Rattle.store_changes.specs.declared.fault.StoreFault.TheVariants as faults
-use Rattle.store_changes.proofs.Answered.{disk_never, handed_over, never, no_such, not_corrupt, not_old, not_refused}
+use Rattle.store_changes.proofs.Answered.{disk_never, handed_over, never, no_such, not_corrupt, not_full, not_old, not_refused}
 use Rattle.chunk_store.proofs.Applied.{applied_open, leaves_same, serial_there}
 use Rattle.chunk_store.proofs.StillOpen.{chunk_there, leaves_all, row_held, version_there}
 use Rattle.chunk_store.proofs.store.Store.apply.Goals as goal
@@ -129,3 +129,12 @@ returns-clause-corrupt g c d is e =
     ap (λ (p : ℕ). is_writable_at d c.args.handle.0 p (p + length (bytes_of store.layout.chunk c.args.mutation.now))) (sym c.place_of-place.ensures)
     ∙ ap (λ (b : List ℕ). is_writable_at d c.args.handle.0 c.place_of-place.result (c.place_of-place.result + length b)) (sym c.in_ok-bytes.ensures)
     ∙ sym (c.in_ok-written.ensures.writable d is.says) ∙ c.if-written.false
+
+pub returns-in-Err-clause-no_room : goal.returns-in-Err-clause-no_room
+returns-in-Err-clause-no_room g c e = not_full c.in-Err.fault c.in-Err.ensures.no_other e
+
+pub returns-in_err-bytes-clause-no_room : goal.returns-in_err-bytes-clause-no_room
+returns-in_err-bytes-clause-no_room g c e = never c.from_residual.result faults.NoMemory faults.NoRoom c.from_residual.ensures.1 refl refl e
+
+pub returns-in_err-written-clause-no_room : goal.returns-in_err-written-clause-no_room
+returns-in_err-written-clause-no_room g c e = never c.from_residual-in_err-written.result (fault_of c.in_err-written.field-0.0) faults.NoRoom c.from_residual-in_err-written.ensures.1 (disk_never c.in_err-written.field-0.0) refl e

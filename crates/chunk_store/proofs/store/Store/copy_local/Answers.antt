@@ -9,7 +9,7 @@ use Rattle.stored_replicas.proofs.Looked.{no_row, one_row, test_none, test_some}
 use Rattle.chunk_store.specs.Stores.{IsOpen}
 use Rattle.store_changes.specs.declared.fault.StoreFault.{StoreFault}
 use Rattle.store_changes.specs.declared.fault.StoreFault.TheVariants as faults
-use Rattle.store_changes.proofs.Answered.{handed_on, handed_over}
+use Rattle.store_changes.proofs.Answered.{handed_on, handed_over, not_old}
 use Rattle.store_reads.proofs.Imaged.{put_copies}
 use Rattle.chunk_store.proofs.Copied.{change_leaves, image_fits, read_leaves}
 use Rattle.chunk_store.proofs.StillOpen.{chunk_there, leaves_all, none_held, row_held}
@@ -120,3 +120,9 @@ pub returns-in-Err-image-clause-any_moment : goal.returns-in-Err-image-clause-an
 returns-in-Err-image-clause-any_moment g c =
     let disk = g.D.Disk in
     read_leaves disk.seen disk.may_leave c.args.self.now c.requires.is_open.0 c.requires.is_open.1 disk.moment disk.left_since c.image.new.self c.image.ensures.reads (Copy c.args.handle c.args.copy c.args.copy_version)
+
+pub returns-in-Err-clause-no_serial : goal.returns-in-Err-clause-no_serial
+returns-in-Err-clause-no_serial g c e = not_old c.in-Err.fault c.in-Err.ensures.no_other e
+
+pub returns-in-Err-image-clause-no_serial : goal.returns-in-Err-image-clause-no_serial
+returns-in-Err-image-clause-no_serial g c e = c.in-Err-image.ensures.no_serial (handed_on c.in-Err-image.fault faults.OldSerial e)

@@ -26,3 +26,6 @@ returns-clause-no_chunk g c d is = chunk_there g.D.Disk.seen g.D.Disk.may_leave 
 
 pub returns-in_err-remove-clause-refused : goal.returns-in_err-remove-clause-refused
 returns-in_err-remove-clause-refused g c d is e = absurd (not_refused c.from_residual.result (fault_of c.in_err-remove.field-0.0) c.from_residual.ensures.1 (disk_never c.in_err-remove.field-0.0) e)
+
+pub returns-in_err-remove-clause-only : goal.returns-in_err-remove-clause-only
+returns-in_err-remove-clause-only g c e = absurd (not_refused c.from_residual.result (fault_of c.in_err-remove.field-0.0) c.from_residual.ensures.1 (disk_never c.in_err-remove.field-0.0) e)

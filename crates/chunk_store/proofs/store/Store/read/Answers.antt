@@ -1,7 +1,7 @@
 use Rattle.std.proofs.Common.{refl, sym, ◌∙◌}
 use Rattle.store_changes.specs.Faults.{fault_of}
 use Rattle.store_changes.specs.declared.fault.StoreFault.TheVariants as faults
-use Rattle.store_changes.proofs.Answered.{disk_never, handed_over, never, not_corrupt, not_full}
+use Rattle.store_changes.proofs.Answered.{disk_never, handed_over, never, not_corrupt, not_full, not_old}
 use Rattle.chunk_store.proofs.StillOpen.{chunk_there, held_within, read_open, version_there}
 use Rattle.chunk_store.proofs.store.Store.read.Goals as goal
 
@@ -62,3 +62,9 @@ returns-in-Err-clause-no_room g c e = absurd (not_full c.in-Err.fault c.in-Err.e
 
 pub returns-in_err-read-clause-no_room : goal.returns-in_err-read-clause-no_room
 returns-in_err-read-clause-no_room g c e = absurd (never c.from_residual.result (fault_of c.in_err-read.field-0.0) faults.NoRoom c.from_residual.ensures.1 (disk_never c.in_err-read.field-0.0) refl e)
+
+pub returns-in-Err-clause-no_serial : goal.returns-in-Err-clause-no_serial
+returns-in-Err-clause-no_serial g c e = not_old c.in-Err.fault c.in-Err.ensures.no_other e
+
+pub returns-in_err-read-clause-no_serial : goal.returns-in_err-read-clause-no_serial
+returns-in_err-read-clause-no_serial g c e = never c.from_residual.result (fault_of c.in_err-read.field-0.0) faults.OldSerial c.from_residual.ensures.1 (disk_never c.in_err-read.field-0.0) refl e

@@ -1,6 +1,8 @@
 use Rattle.std.proofs.Common.{refl}
 use Rattle.replica_store.specs.declared.change.StoreChange.TheVariants.{SetOrder}
 use Rattle.replica_store.specs.Replicas.{disk_changed}
+use Rattle.store_changes.specs.Faults.{fault_of}
+use Rattle.store_changes.proofs.Answered.{disk_never, not_refused}
 use Rattle.chunk_store.proofs.StillOpen.{still_open}
 use Rattle.chunk_store.proofs.store.Store.set_order.Goals as goal
 
@@ -14,3 +16,6 @@ returns-clause-ok g c d is =
 
 pub returns-clause-any_moment : goal.returns-clause-any_moment
 returns-clause-any_moment g c d says = c.set_order.ensures.any_moment c.args.self.now.index d says
+
+pub returns-in_err-set_order-clause-unrefused : goal.returns-in_err-set_order-clause-unrefused
+returns-in_err-set_order-clause-unrefused g c e = not_refused c.from_residual.result (fault_of c.in_err-set_order.field-0.0) c.from_residual.ensures.1 (disk_never c.in_err-set_order.field-0.0) e

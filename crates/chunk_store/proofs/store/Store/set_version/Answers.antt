@@ -1,6 +1,7 @@
-use Rattle.std.proofs.Common.{refl, ◌∙◌}
+use Rattle.std.proofs.Common.{inl, inr, refl, ap, ◌∙◌, Err}
 use Rattle.replica_store.specs.declared.change.StoreChange.TheVariants.{Raise}
 use Rattle.replica_store.specs.Replicas.{disk_changed, raised_replica, replica_of}
+use Rattle.store_changes.specs.declared.fault.StoreFault.{StoreFault}
 use Rattle.store_changes.specs.declared.fault.StoreFault.TheVariants as faults
 use Rattle.store_changes.specs.Faults.{fault_of}
 use Rattle.store_changes.proofs.Answered.{disk_never, handed_over, never, not_refused}
@@ -35,3 +36,12 @@ returns-in_err-raise-clause-version g c d is =
 
 pub returns-in_err-raise-clause-refused : goal.returns-in_err-raise-clause-refused
 returns-in_err-raise-clause-refused g c d is e = absurd (not_refused c.from_residual.result (fault_of c.in_err-raise.field-0.0) c.from_residual.ensures.1 (disk_never c.in_err-raise.field-0.0) e)
+
+pub returns-in-Err-clause-only : goal.returns-in-Err-clause-only
+returns-in-Err-clause-only g c refused = elim c.in-Err.ensures.no_other [
+  | inl none ↦ inl (ap (λ (x : StoreFault). Err x) none)
+  | inr wrong ↦ inr (ap (λ (x : StoreFault). Err x) wrong)
+]
+
+pub returns-in_err-raise-clause-only : goal.returns-in_err-raise-clause-only
+returns-in_err-raise-clause-only g c e = absurd (not_refused c.from_residual.result (fault_of c.in_err-raise.field-0.0) c.from_residual.ensures.1 (disk_never c.in_err-raise.field-0.0) e)

@@ -1,0 +1,179 @@
+//! A store on a disk says what one in memory says.
+
+ghost use Rattle.std.specs.Prelude.{◌≡◌, [], IfOk, OnOk};
+
+use crate::changes::{CHANGES, change_of, commit_first, layout, seen};
+use disk_store::disk_store::DiskStore;
+use gfs_types::ids::Handle;
+use memory_store::MemoryStore;
+use server_store::fault::StoreFault;
+use server_store::store::ReplicaStore;
+use std::alloc::Global;
+use std::test::Fail;
+use stored_log::node_disk::NodeDisk;
+
+pub(crate) fn new_store(alloc: Global) -> Result<DiskStore<NodeDisk>, StoreFault>
+    ensures { IfOk result (λ s. s.1 ≡ []) }
+{
+    let layout = layout();
+    let disk = NodeDisk::new(alloc, layout.disk_size())?;
+    DiskStore::new(alloc, disk, layout)
+}
+
+// Whether both show the same.
+fn are_same<S: ReplicaStore, T: ReplicaStore>(
+    alloc: Global,
+    store: &mut S,
+    model: &mut T,
+) -> Result<bool, StoreFault>
+    requires store { S.under_way store.old ≡ [] }
+    requires model { T.under_way model.old ≡ [] }
+    ensures store { S.under_way store.new ≡ [] }
+    ensures model { T.under_way model.new ≡ [] }
+{
+    Ok(seen(alloc, store)? == seen(alloc, model)?)
+}
+
+// Whether both show the same after a change, and once the first one is opened again.
+fn go_on_alike<S: ReplicaStore, T: ReplicaStore>(
+    alloc: Global,
+    store: &mut S,
+    model: &mut T,
+    number: u64,
+) -> Result<bool, StoreFault>
+    requires store { S.under_way store.old ≡ [] }
+    requires model { T.under_way model.old ≡ [] }
+    ensures store { OnOk result (S.under_way store.new ≡ []) }
+    ensures model { OnOk result (T.under_way model.new ≡ []) }
+{
+    store.commit(change_of(alloc, number)?)?;
+    model.commit(change_of(alloc, number)?)?;
+    let open = are_same(alloc, store, model)?;
+    store.reopen()?;
+    let opened_again = are_same(alloc, store, model)?;
+    Ok(open && opened_again)
+}
+
+// Whether both show the same after each change.
+fn are_always_alike<S: ReplicaStore, T: ReplicaStore>(
+    alloc: Global,
+    store: &mut S,
+    model: &mut T,
+) -> Result<bool, StoreFault>
+    requires store { S.under_way store.old ≡ [] }
+    requires model { T.under_way model.old ≡ [] }
+{
+    for number in 0..CHANGES {
+        if !go_on_alike(alloc, store, model, number)? {
+            return Ok(false);
+        }
+    }
+    Ok(true)
+}
+
+// Whether a store shows what one in memory does.
+fn is_as_in_memory<S: ReplicaStore>(alloc: Global, store: &mut S) -> Result<bool, StoreFault>
+    requires { S.under_way store.old ≡ [] }
+{
+    let mut model = MemoryStore::new(alloc, 16);
+    are_always_alike(alloc, store, &mut model)
+}
+
+fn new_is_as_in_memory(alloc: Global) -> Result<bool, StoreFault> {
+    let mut store = new_store(alloc)?;
+    is_as_in_memory(alloc, &mut store)
+}
+
+#[test]
+fn it_says_what_a_store_in_memory_says(rt: HostRuntime) -> Result<(), Fail> {
+    let alloc = rt.alloc();
+    assert!(rt; new_is_as_in_memory(alloc)?);
+    Ok(())
+}
+
+// Whether both show the same once each has four changes, and then the same byte of each is rotten.
+fn rot_alike<S: ReplicaStore, T: ReplicaStore>(
+    alloc: Global,
+    store: &mut S,
+    model: &mut T,
+) -> Result<bool, StoreFault>
+    requires store { S.under_way store.old ≡ [] }
+    requires model { T.under_way model.old ≡ [] }
+    ensures store { OnOk result (S.under_way store.new ≡ []) }
+    ensures model { OnOk result (T.under_way model.new ≡ []) }
+{
+    commit_first(alloc, store, 4)?;
+    commit_first(alloc, model, 4)?;
+    store.rot(Handle(7), 3, 99)?;
+    model.rot(Handle(7), 3, 99)?;
+    are_same(alloc, store, model)
+}
+
+// Whether the block of that byte is neither read nor copied nor written over in part, and another block is.
+fn is_shut<S: ReplicaStore>(alloc: Global, store: &mut S) -> Result<bool, StoreFault>
+    requires { S.under_way store.old ≡ [] }
+    ensures { S.under_way store.new ≡ [] }
+{
+    let read = store.read(alloc, Handle(7), 0, 64)?;
+    let is_copyable = store.is_copyable(Handle(7))?;
+    let over = store.is_writable(Handle(7), 2, 5)?;
+    let beside = store.is_writable(Handle(7), 17, 19)?;
+    Ok(read.is_none() && !is_copyable && !over && beside)
+}
+
+// Whether a byte is refused that goes back to what was stored, one that stands there already, and one past the chunk.
+fn refuses_rot<S: ReplicaStore>(store: &mut S) -> bool
+    requires { S.under_way store.old ≡ [] }
+    ensures { S.under_way store.new ≡ [] }
+{
+    let back = store.rot(Handle(7), 3, 65);
+    let same = store.rot(Handle(7), 20, 66);
+    let past = store.rot(Handle(7), 64, 1);
+    let no_room = Err(StoreFault::NoRoom);
+    back == no_room && same == no_room && past == no_room
+}
+
+// Whether a range past the chunk is refused, and an empty one is not.
+fn refuses_past<S: ReplicaStore>(store: &mut S) -> bool
+    requires { S.under_way store.old ≡ [] }
+    ensures { S.under_way store.new ≡ [] }
+{
+    let past = store.is_writable(Handle(7), 60, 65);
+    let empty = store.is_writable(Handle(7), 70, 70);
+    past == Err(StoreFault::NoRoom) && empty == Ok(true)
+}
+
+// Whether it is so once a byte of both is rotten, and both show the same once the first one is opened again.
+fn is_rotten_alike<S: ReplicaStore, T: ReplicaStore>(
+    alloc: Global,
+    store: &mut S,
+    model: &mut T,
+) -> Result<bool, StoreFault>
+    requires store { S.under_way store.old ≡ [] }
+    requires model { T.under_way model.old ≡ [] }
+{
+    let is_alike = rot_alike(alloc, store, model)?;
+    let is_shut = is_shut(alloc, store)?;
+    let refuses = refuses_rot(store) && refuses_past(store);
+    store.reopen()?;
+    Ok(is_alike && is_shut && refuses && are_same(alloc, store, model)?)
+}
+
+fn is_rotten_as_in_memory<S: ReplicaStore>(alloc: Global, store: &mut S) -> Result<bool, StoreFault>
+    requires { S.under_way store.old ≡ [] }
+{
+    let mut model = MemoryStore::new(alloc, 16);
+    is_rotten_alike(alloc, store, &mut model)
+}
+
+fn new_is_rotten_as_in_memory(alloc: Global) -> Result<bool, StoreFault> {
+    let mut store = new_store(alloc)?;
+    is_rotten_as_in_memory(alloc, &mut store)
+}
+
+#[test]
+fn a_byte_rots(rt: HostRuntime) -> Result<(), Fail> {
+    let alloc = rt.alloc();
+    assert!(rt; new_is_rotten_as_in_memory(alloc)?);
+    Ok(())
+}

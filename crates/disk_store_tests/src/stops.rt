@@ -1,0 +1,200 @@
+//! A store whose disk stops at each of its calls, and at each call of the opening after that.
+
+ghost use Rattle.std.specs.Prelude.{◌≡◌, [], OnOk};
+
+use crate::changes::{CHANGES, Shown, change_of, commit_first, seen};
+use crate::same::new_store;
+use gfs_types::ids::Handle;
+use gfs_types::torn::Torn;
+use memory_store::MemoryStore;
+use server_store::fault::StoreFault;
+use server_store::store::ReplicaStore;
+use std::alloc::Global;
+use std::test::Fail;
+use stoppable_store::StoppableStore;
+
+const WAYS: [Torn; 5] = [
+    Torn::Old,
+    Torn::New,
+    Torn::Byte(0),
+    Torn::Byte(1),
+    Torn::Byte(7),
+];
+
+// One change takes fewer calls of the disk.
+const CALLS: u64 = 30;
+
+// And so does an opening.
+const OPENING_CALLS: u64 = 24;
+
+// After how many calls the disk stops, after how many in the opening after that, and what it makes of what wasn't synced.
+#[derive(Clone, Copy)]
+struct Stop {
+    calls: u64,
+    more: u64,
+    torn: Torn,
+}
+
+// What came of a call: whether it succeeded, whether the first opening after it did, and what is seen after the second.
+#[derive(Clone, Copy)]
+struct Stopped {
+    is_ok: bool,
+    is_open: bool,
+    found: Shown,
+}
+
+// What a store in memory shows after so many changes.
+fn after(alloc: Global, count: u64) -> Result<Shown, StoreFault> {
+    let mut model = MemoryStore::new(alloc, 16);
+    commit_first(alloc, &mut model, count)?;
+    seen(alloc, &mut model)
+}
+
+// The store is opened twice, and its disk stops in the first opening. Whether that succeeded.
+fn open_twice<S: StoppableStore>(store: &mut S, stop: Stop) -> Result<bool, StoreFault>
+    ensures { OnOk result (S.under_way store.new ≡ []) }
+{
+    store.stop_after_restart(stop.more, stop.torn);
+    let is_open = store.reopen().is_ok();
+    store.reopen()?;
+    Ok(is_open)
+}
+
+// A change, after those before it, while the disk stops.
+fn stop_within<S: StoppableStore>(
+    alloc: Global,
+    store: &mut S,
+    number: u64,
+    stop: Stop,
+) -> Result<Stopped, StoreFault>
+    requires { S.under_way store.old ≡ [] }
+{
+    commit_first(alloc, store, number)?;
+    let change = change_of(alloc, number)?;
+    store.stop_after(stop.calls, stop.torn);
+    let is_ok = store.commit(change).is_ok();
+    let is_open = open_twice(store, stop)?;
+    let found = seen(alloc, store)?;
+    Ok(Stopped {
+        is_ok,
+        is_open,
+        found,
+    })
+}
+
+fn stop_new_store(alloc: Global, number: u64, stop: Stop) -> Result<Stopped, StoreFault> {
+    let mut store = new_store(alloc)?;
+    stop_within(alloc, &mut store, number, stop)
+}
+
+// What is seen before a change and after it; and whether one that failed was found made, and one not made.
+#[derive(Clone, Copy)]
+struct Tally {
+    before: Shown,
+    done: Shown,
+    made: bool,
+    lacking: bool,
+}
+
+// Whether the change is found made or not, and made where it was answered so.
+fn is_decided(tally: &mut Tally, ran: Stopped) -> bool {
+    let is_done = ran.found == tally.done;
+    let is_before = ran.found == tally.before;
+    tally.made = tally.made || !ran.is_ok && is_done;
+    tally.lacking = tally.lacking || is_before;
+    is_done || !ran.is_ok && is_before
+}
+
+// The same for each stop within the opening, and each tear.
+fn are_decided_at(
+    alloc: Global,
+    tally: &mut Tally,
+    number: u64,
+    calls: u64,
+) -> Result<bool, StoreFault> {
+    for more in 0..OPENING_CALLS {
+        for torn in WAYS {
+            let stop = Stop { calls, more, torn };
+            if !is_decided(tally, stop_new_store(alloc, number, stop)?) {
+                return Ok(false);
+            }
+        }
+    }
+    Ok(true)
+}
+
+// The same for each call of the change; and whether neither it nor the opening has more calls than were tried.
+fn are_decided(alloc: Global, tally: &mut Tally, number: u64) -> Result<bool, StoreFault> {
+    for calls in 0..CALLS {
+        if !are_decided_at(alloc, tally, number, calls)? {
+            return Ok(false);
+        }
+    }
+    let last = Stop {
+        calls: CALLS,
+        more: OPENING_CALLS,
+        torn: Torn::New,
+    };
+    let ran = stop_new_store(alloc, number, last)?;
+    Ok(ran.is_ok && ran.is_open)
+}
+
+#[test]
+fn each_change_is_made_or_not(rt: HostRuntime) -> Result<(), Fail> {
+    let alloc = rt.alloc();
+    for number in 0..CHANGES {
+        let mut tally = Tally {
+            before: after(alloc, number)?,
+            done: after(alloc, number + 1)?,
+            made: false,
+            lacking: false,
+        };
+        assert!(rt; are_decided(alloc, &mut tally, number)?);
+        assert!(rt; tally.made && tally.lacking);
+    }
+    Ok(())
+}
+
+// A byte that is to rot while the disk stops: it is rotten once the store is opened again, where it was answered so, and nothing has changed
+// where it wasn't.
+fn stop_within_rot<S: StoppableStore>(
+    alloc: Global,
+    store: &mut S,
+    stop: Stop,
+) -> Result<bool, StoreFault>
+    requires { S.under_way store.old ≡ [] }
+{
+    commit_first(alloc, store, 4)?;
+    let before = seen(alloc, store)?;
+    store.stop_after(stop.calls, stop.torn);
+    let is_ok = store.rot(Handle(7), 3, 99).is_ok();
+    open_twice(store, stop)?;
+    let found = seen(alloc, store)?;
+    let is_rotten = store.read(alloc, Handle(7), 0, 64)?.is_none();
+    Ok(if is_ok { is_rotten } else { found == before })
+}
+
+fn is_rotten_or_not(alloc: Global, stop: Stop) -> Result<bool, StoreFault> {
+    let mut store = new_store(alloc)?;
+    stop_within_rot(alloc, &mut store, stop)
+}
+
+fn are_rotten_or_not(alloc: Global, calls: u64) -> Result<bool, StoreFault> {
+    for more in 0..OPENING_CALLS {
+        for torn in WAYS {
+            if !is_rotten_or_not(alloc, Stop { calls, more, torn })? {
+                return Ok(false);
+            }
+        }
+    }
+    Ok(true)
+}
+
+#[test]
+fn a_byte_that_was_to_rot_is_rotten(rt: HostRuntime) -> Result<(), Fail> {
+    let alloc = rt.alloc();
+    for calls in 0..CALLS {
+        assert!(rt; are_rotten_or_not(alloc, calls)?);
+    }
+    Ok(())
+}

@@ -1,0 +1,297 @@
+-- All clients of a script, from their first calls to their last.
+use Rattle.std.proofs.Common.{◌≡◌, ℕ, zero, suc, ◌+◌, ◌-◌, ◌<◌, ◌≤◌, Bool, true, false, List, [], ◌∷◌, ◌++◌, length, get_or, take, drop, map, Some, None, refl, sym, ap, subst, ◌∙◌, append_assoc, length-append, arith}
+use Rattle.std.specs.Prelude.{slice_get, slice_range, replicate, nat_lt, ◌==◌, if◌then◌else◌, Result, Ok, Err, is_err, OnOk}
+use Rattle.std.proofs.lemmas.Bool.Decides.{nat_tests}
+use Rattle.std.proofs.Math.Seq.{take-suc, take-nil}
+use Rattle.std.proofs.lemmas.Option.{slice_get-get_or, slice_get_within, get_or_from_slice_get}
+use Rattle.std.proofs.lemmas.List.{append-nil}
+use mathlib.Core.List.{IsPrefix}
+use Rattle.gfs_types.specs.declared.answer.Answer.{Answer}
+use Rattle.gfs_types.specs.declared.answer.Answer.TheVariants as answer
+use Rattle.gfs_types.specs.declared.refusal.Refusal.{Refusal}
+use Rattle.gfs_types.specs.declared.call.Call.{Call}
+use Rattle.gfs_types.specs.declared.ids.ClientId.{ClientId}
+use Rattle.gfs_types.specs.declared.no_memory.NoMemory.{NoMemory}
+use Rattle.cell_script.specs.declared.lines.ClientCall.{ClientCall}
+use Rattle.gfs_types.specs.declared.ids.Node.{Node}
+use Rattle.live_script.specs.declared.lines.LiveLine.{LiveLine}
+use Rattle.live_script.specs.declared.lines.LiveLine.TheVariants as lines
+use Rattle.live_script.specs.Lines.{is_barrier}
+use Rattle.script.specs.declared.options.Options.{Options}
+use Rattle.protocol_journal.specs.Journal.{Entry, own}
+use Rattle.journal_pages.specs.Identity.{Identity}
+use Rattle.cell_journal.specs.Rules.{IsJournalOf}
+use Rattle.cell_asking.specs.Seen.{visible_of}
+use Rattle.cell_seat.specs.Seats.{SeatState, shown, IsAnswered, IsLost}
+use Rattle.cell_run.specs.Cells.{IsCellOf}
+use Rattle.live.specs.declared.play.Player.{Player}
+use Rattle.live.specs.Live.{AreAnswersOf}
+use Rattle.live.specs.Playing.{calls_on, calls_of, AreAnswered, HasPlayed, IsSamePlayer, HasMade, PlaysOn, Plays, IsNewPlayer, IsPlayed, Each, AllPlay}
+use Rattle.live.proofs.Playing.{nothing_played, answered_one_more, refused_more, replicate_one_more, calls_append}
+
+-- places of a list
+
+each_more_from : {P : Type 0} (Holds : ℕ → P → Type 0) (xs : List P) (x : P) → ((k : ℕ) (p : P) → slice_get xs k ≡ Some p → Holds k p) → Holds (length xs) x
+    → (k : ℕ) (p : P) → slice_get (xs ++ x ∷ []) k ≡ Some p → Holds k p
+each_more_from {P} Holds [] x all one zero p h = subst (Holds zero) (let both : Some x ≡ Some p = h in cc) one
+each_more_from Holds [] x all one (suc k) p h = absurd (let none : None ≡ Some p = h in cc)
+each_more_from Holds (y ∷ ys) x all one zero p h = all zero p h
+each_more_from Holds (y ∷ ys) x all one (suc k) p h = each_more_from (λ i q. Holds (suc i) q) ys x (λ i q at. all (suc i) q at) one k p h
+
+pub each_more : (Holds : ℕ → Player → Type 0) (xs : List Player) (x : Player) (n : ℕ) → length xs ≡ n → Each Holds xs → Holds (n + 1) x → Each Holds (xs ++ x ∷ [])
+each_more Holds xs x n count all one =
+    let next : n + 1 ≡ suc (length xs) = omega (arith, count) in
+    each_more_from (λ k p. Holds (suc k) p) xs x all (subst (λ (m : ℕ). Holds m x) next one)
+
+pub count_more : (xs ys : List Player) (x : Player) (n : ℕ) → length xs ≡ n → ys ≡ xs ++ x ∷ [] → length ys ≡ n + 1
+count_more xs ys x n count is = omega (arith, ap length is, length-append xs (x ∷ []), count)
+
+pub each_of_none : (Holds : ℕ → Player → Type 0) → Each Holds []
+each_of_none Holds k p h = absurd (let none : None ≡ Some p = h in cc)
+
+-- the one that stood at a place before
+was_there : {P : Type 0} (xs ys : List P) (k : ℕ) (q : P) → length ys ≡ length xs → slice_get ys k ≡ Some q → (p : P) × (slice_get xs k ≡ Some p)
+was_there xs [] k q same h = absurd (let none : None ≡ Some q = h in cc)
+was_there [] (y ∷ ys) k q same h = absurd (omega (arith, same))
+was_there (x ∷ xs) (y ∷ ys) zero q same h = (x, refl)
+was_there (x ∷ xs) (y ∷ ys) (suc k) q same h = was_there xs ys k q (let e : length ys ≡ length xs = omega (arith, same) in e) h
+
+mapped_at : {P Q : Type 0} (f : P → Q) (xs : List P) (k : ℕ) (y : Q) → slice_get (map f xs) k ≡ Some y → (x : P) × (slice_get xs k ≡ Some x) × (f x ≡ y)
+mapped_at f [] k y h = absurd (let none : None ≡ Some y = h in cc)
+mapped_at f (x ∷ xs) zero y h = (x, refl, (let both : Some (f x) ≡ Some y = h in cc))
+mapped_at f (x ∷ xs) (suc k) y h = mapped_at f xs k y h
+
+-- what holds of the first ones holds of one more, and in the end of all
+pub first_more : (Holds : Player → Type 0) (ps : List Player) (n : ℕ) (x : Player) → n < length ps → x ≡ get_or ps n x → ((k : ℕ) (p : Player) → k < n → slice_get ps k ≡ Some p → Holds p) → Holds x
+    → (k : ℕ) (p : Player) → k < n + 1 → slice_get ps k ≡ Some p → Holds p
+first_more Holds ps n x within at all one k p before here = by_place (nat_lt k n) refl
+  where
+    by_place : (b : Bool) → nat_lt k n ≡ b → Holds p
+    by_place true less = all k p (let e : k < n = grind (arith, nat_tests, less) in e) here
+    by_place false past =
+        let same : k ≡ n = grind (arith, nat_tests, past, before) in
+        let found : Some p ≡ Some x = sym here ∙ (ap (slice_get ps) same ∙ (slice_get-get_or ps n x within ∙ ap (λ (y : Player). Some y) (sym at))) in
+        subst Holds (sym (let both : Some p ≡ Some x = found in (let e : p ≡ x = cc both in e))) one
+
+pub first_none : (Holds : Player → Type 0) (ps : List Player) (n : ℕ) → n ≡ 0 → (k : ℕ) (p : Player) → k < n → slice_get ps k ≡ Some p → Holds p
+first_none Holds ps n is k p before here = absurd (omega (arith, is, before))
+
+pub first_all : (Holds : Player → Type 0) (ps : List Player) (n : ℕ) → length ps ≤ n → ((k : ℕ) (p : Player) → k < n → slice_get ps k ≡ Some p → Holds p) → (k : ℕ) (p : Player) → slice_get ps k ≡ Some p → Holds p
+first_all Holds ps n past all k p here = all k p (let w : k < length ps = slice_get_within ps k p here in omega (arith, past, w)) here
+
+-- parts of a script
+
+drop_none : {X : Type 0} (k : ℕ) → ◌≡◌ {A = List X} (drop k []) []
+drop_none zero = refl
+drop_none (suc k) = refl
+
+less_none : (n : ℕ) → n - 0 ≡ n
+less_none n = omega arith
+
+both_less : (n f : ℕ) → suc n - suc f ≡ n - f
+both_less n f = omega arith
+
+taken_in_parts : {X : Type 0} (xs : List X) (first next : ℕ) → first ≤ next → take next xs ≡ take first xs ++ slice_range xs first next
+taken_in_parts [] f n h = take-nil n ∙ sym (ap (λ l. l ++ take (n - f) (drop f [])) (take-nil f) ∙ (ap (take (n - f)) (drop_none f) ∙ take-nil (n - f)))
+taken_in_parts (x ∷ xs) zero n h = ap (λ (m : ℕ). take m (x ∷ xs)) (sym (less_none n))
+taken_in_parts (x ∷ xs) (suc f) zero h = absurd (omega (arith, h))
+taken_in_parts (x ∷ xs) (suc f) (suc n) h = ap (λ l. x ∷ l) (taken_in_parts xs f n (let e : f ≤ n = omega (arith, h) in e)) ∙ ap (λ (m : ℕ). x ∷ (take f xs ++ take m (drop f xs))) (sym (both_less n f))
+
+take_front : {X : Type 0} (xs ys : List X) → take (length xs) (xs ++ ys) ≡ xs
+take_front [] ys = refl
+take_front (x ∷ xs) ys = ap (λ l. x ∷ l) (take_front xs ys)
+
+-- all places of a list were written
+pub written_back : (n : ℕ) (news olds : List Player) → length news ≡ n → take n (news ++ drop (length news) olds) ≡ news
+written_back n news olds h = subst (λ (m : ℕ). take m (news ++ drop (length news) olds) ≡ news) h (take_front news (drop (length news) olds))
+
+take_past : {X : Type 0} (xs : List X) (k : ℕ) → length xs ≤ k → take k xs ≡ xs
+take_past [] zero h = refl
+take_past [] (suc k) h = refl
+take_past (x ∷ xs) zero h = absurd (omega (arith, h))
+take_past (x ∷ xs) (suc k) h = ap (λ l. x ∷ l) (take_past xs k (let e : length xs ≤ k = omega (arith, h) in e))
+
+no_call : (n : ℕ) (line : LiveLine) → is_barrier line ≡ true → calls_on n line ≡ []
+no_call n lines.Nothing h = absurd (let both : false ≡ true = h in cc)
+no_call n lines.Barrier h = refl
+no_call n (lines.Calls times asked) h = absurd (let both : false ≡ true = h in cc)
+
+-- a barrier is no call
+past_barrier : (n : ℕ) (xs : List LiveLine) (k : ℕ) → ((line : LiveLine) → slice_get xs k ≡ Some line → is_barrier line ≡ true) → calls_of n (take (suc k) xs) ≡ calls_of n (take k xs)
+past_barrier n [] zero h = refl
+past_barrier n [] (suc k) h = refl
+past_barrier n (x ∷ xs) zero h = ap (λ l. l ++ []) (no_call n x (h x refl))
+past_barrier n (x ∷ xs) (suc k) h = ap (λ l. calls_on n x ++ l) (past_barrier n xs k h)
+
+-- the lines up to a barrier, and that
+pub up_to_barrier : (n : ℕ) (xs : List LiveLine) (first next : ℕ) → first ≤ next → ((line : LiveLine) → slice_get xs next ≡ Some line → is_barrier line ≡ true)
+    → calls_of n (take first xs ++ slice_range xs first next) ≡ calls_of n (take (next + 1) xs)
+up_to_barrier n xs first next within barrier =
+    let after : next + 1 ≡ suc next = omega arith in
+    ap (calls_of n) (sym (taken_in_parts xs first next within)) ∙ (sym (past_barrier n xs next barrier) ∙ ap (λ (m : ℕ). calls_of n (take m xs)) (sym after))
+
+-- going on
+
+pub same_player : (p : Player) → IsSamePlayer p p
+same_player p = record { id = refl; node = refl; cell = refl }
+
+pub still_same : (p q r : Player) → IsSamePlayer p q → IsSamePlayer q r → IsSamePlayer p r
+still_same p q r a b = record { id = b.id ∙ a.id; node = b.node ∙ a.node; cell = b.cell ∙ a.cell }
+
+pub plays_none : (p : Player) → PlaysOn p p []
+plays_none p before h = subst (HasMade p) (sym (append-nil before)) h
+
+pub plays_then : (p q r : Player) (first later : List Call) → PlaysOn p q first → PlaysOn q r later → PlaysOn p r (first ++ later)
+plays_then p q r first later a b before h = subst (HasMade r) (append_assoc before first later) (b (before ++ first) (a before h))
+
+-- one call more
+pub made_answered : (p q : Player) (call : Call) (reply : Answer) → IsAnswered p.seat q.seat call reply → q.answers.items ≡ p.answers.items ++ reply ∷ [] → PlaysOn p q (call ∷ [])
+made_answered p q call reply is replies before h =
+    subst (λ (l : List Answer). HasPlayed (shown q.seat) q.seat.is_lost (before ++ call ∷ []) l) (sym replies)
+    (answered_one_more (shown p.seat) p.seat.is_lost before p.answers.items call reply (shown q.seat) q.seat.is_lost is.was_open is.shows h)
+
+pub made_refused : (p q : Player) (call : Call) (refusal : Refusal) → IsLost p.seat q.seat refusal → q.answers.items ≡ p.answers.items ++ answer.Refused refusal ∷ [] → PlaysOn p q (call ∷ [])
+made_refused p q call refusal is replies before h =
+    subst (λ (l : List Answer). HasPlayed (shown q.seat) q.seat.is_lost (before ++ call ∷ []) l) (sym replies)
+    (refused_more (shown p.seat) p.seat.is_lost before p.answers.items call refusal (shown q.seat) q.seat.is_lost is.lost
+    (ap (λ (n : Node). visible_of (own n q.seat.seen)) is.node ∙ ap (λ (l : List Entry). visible_of (own p.seat.node l)) is.seen) is.refused h)
+
+pub made_again : (p q r : Player) (n : ℕ) (call : Call) → PlaysOn p q (replicate n call) → PlaysOn q r (call ∷ []) → PlaysOn p r (replicate (n + 1) call)
+made_again p q r n call a b = subst (PlaysOn p r) (sym (replicate_one_more n call)) (plays_then p q r (replicate n call) (call ∷ []) a b)
+
+-- lines with no call of it
+none_on : (n : ℕ) (line : LiveLine) → ((times : ℕ) (asked : ClientCall) → line ≡ lines.Calls times asked → ⊥) → calls_on n line ≡ []
+none_on n lines.Nothing h = refl
+none_on n lines.Barrier h = refl
+none_on n (lines.Calls times asked) h = absurd (h times asked refl)
+
+pub plays_no_call : (p : Player) (line : LiveLine) → ((times : ℕ) (asked : ClientCall) → line ≡ lines.Calls times asked → ⊥) → PlaysOn p p (calls_on p.id.0 line)
+plays_no_call p line h = subst (PlaysOn p p) (sym (none_on p.id.0 line h)) (plays_none p)
+
+pub plays_no_other : (p : Player) (line : LiveLine) (times : ℕ) (asked : ClientCall) → line ≡ lines.Calls times asked → (asked.client.0 ≡ p.id.0 → ⊥) → PlaysOn p p (calls_on p.id.0 line)
+plays_no_other p line times asked is other =
+    let no : (asked.client.0 == p.id.0) ≡ false = grind (arith, nat_tests, other) in
+    subst (PlaysOn p p) (sym (ap (calls_on p.id.0) is ∙ ap (λ (b : Bool). if b then replicate times asked.call else []) no)) (plays_none p)
+
+-- and with calls of it
+pub its_calls : (n : ℕ) (line : LiveLine) (times : ℕ) (asked : ClientCall) → line ≡ lines.Calls times asked → asked.client.0 ≡ n → replicate times asked.call ≡ calls_on n line
+its_calls n line times asked is own_one =
+    let yes : (asked.client.0 == n) ≡ true = grind (arith, nat_tests, own_one) in
+    sym (ap (calls_on n) is ∙ ap (λ (b : Bool). if b then replicate times asked.call else []) yes)
+
+pub where_ok : {P : Type 0} (r : Result (Unit {0}) NoMemory) → is_err r ≡ false → OnOk r P → P
+where_ok (Ok x) none h = h
+where_ok (Err e) none h = absurd (let both : true ≡ false = none in cc)
+
+pub one_line : (p q : Player) (line : LiveLine) → IsSamePlayer p q → (q.lacked_memory ≡ false → p.lacked_memory ≡ false) → (q.lacked_memory ≡ false → PlaysOn p q (calls_on p.id.0 line)) → Plays (line ∷ []) p q
+one_line p q line same lacked played = record {
+  same = same;
+  lacked = lacked;
+  played = λ h. subst (PlaysOn p q) (sym (append-nil (calls_on p.id.0 line))) (played h);
+}
+
+pub nothing_to_play : (p : Player) → Plays [] p p
+nothing_to_play p = record { same = same_player p; lacked = λ h. h; played = λ h. plays_none p }
+
+pub plays_lines : (p q r : Player) (xs ys zs : List LiveLine) → ((n : ℕ) → calls_of n (xs ++ ys) ≡ calls_of n zs) → Plays xs p q → Plays ys q r → Plays zs p r
+plays_lines p q r xs ys zs same a b = record {
+  same = still_same p q r a.same b.same;
+  lacked = λ h. a.lacked (b.lacked h);
+  played = λ h. subst (PlaysOn p r) calls (plays_then p q r (calls_of p.id.0 xs) (calls_of q.id.0 ys) (a.played (b.lacked h)) (b.played h));
+}
+  where
+    calls : calls_of p.id.0 xs ++ calls_of q.id.0 ys ≡ calls_of p.id.0 zs
+    calls = ap (λ (i : ℕ). calls_of p.id.0 xs ++ calls_of i ys) (ap (λ (c : ClientId). c.0) a.same.id) ∙ (sym (calls_append p.id.0 xs ys) ∙ same p.id.0)
+
+-- the next line
+pub plays_next : (p q r : Player) (xs : List LiveLine) (k : ℕ) (line : LiveLine) → k < length xs → line ≡ get_or xs k line → Plays (take k xs) p q → Plays (line ∷ []) q r → Plays (take (k + 1) xs) p r
+plays_next p q r xs k line within at a b = plays_lines p q r (take k xs) (line ∷ []) (take (k + 1) xs) (λ n. ap (calls_of n) lines_are) a b
+  where
+    lines_are : take k xs ++ line ∷ [] ≡ take (k + 1) xs
+    lines_are =
+        let next : k + 1 ≡ suc k = omega arith in
+        ap (λ (l : LiveLine). take k xs ++ l ∷ []) at ∙ (sym (take-suc xs k line within) ∙ ap (λ (m : ℕ). take m xs) (sym next))
+
+pub plays_all : (p q : Player) (xs : List LiveLine) (k : ℕ) → length xs ≤ k → Plays (take k xs) p q → Plays xs p q
+plays_all p q xs k past h = subst (λ l. Plays l p q) (take_past xs k past) h
+
+pub all_none : (olds : List Player) → AllPlay [] olds olds
+all_none olds = (
+  refl,
+  λ k p q at_p at_q.
+      let same : p ≡ q = (let both : Some p ≡ Some q = sym at_p ∙ at_q in cc) in
+      subst (Plays [] p) same (nothing_to_play p),
+)
+
+pub all_then : (olds mids news : List Player) (xs ys zs : List LiveLine) → ((n : ℕ) → calls_of n (xs ++ ys) ≡ calls_of n zs) → AllPlay xs olds mids → AllPlay ys mids news → AllPlay zs olds news
+all_then olds mids news xs ys zs same a b = (
+  b.0 ∙ a.0,
+  λ k p r at_p at_r.
+      let mid = was_there mids news k r b.0 at_r in
+      plays_lines p mid.0 r xs ys zs same (a.1 k p mid.0 at_p mid.1) (b.1 k mid.0 r mid.1 at_r),
+)
+
+pub all_part : (olds mids news : List Player) (xs : List LiveLine) (first next : ℕ) → first ≤ next → ((line : LiveLine) → slice_get xs next ≡ Some line → is_barrier line ≡ true)
+    → AllPlay (take first xs) olds mids → AllPlay (slice_range xs first next) mids news → AllPlay (take (next + 1) xs) olds news
+all_part olds mids news xs first next within barrier a b =
+    all_then olds mids news (take first xs) (slice_range xs first next) (take (next + 1) xs) (λ n. up_to_barrier n xs first next within barrier) a b
+
+pub all_lines : (olds news : List Player) (xs : List LiveLine) (k : ℕ) → length xs ≤ k → AllPlay (take k xs) olds news → AllPlay xs olds news
+all_lines olds news xs k past all = subst (λ l. AllPlay l olds news) (take_past xs k past) all
+
+-- each thread's calls
+pub all_by_threads : (olds news : List Player) (xs : List LiveLine) → length news ≡ length olds → ((k : ℕ) (d : Player) → k < length olds → Plays xs (get_or olds k d) (get_or news k d)) → AllPlay xs olds news
+all_by_threads olds news xs same each = (
+  same,
+  λ k p q at_p at_q.
+      subst (λ (x : Player). Plays xs x q) (get_or_from_slice_get olds k p p at_p)
+      (subst (λ (y : Player). Plays xs (get_or olds k p) y) (get_or_from_slice_get news k q p at_q) (each k p (slice_get_within olds k p at_p))),
+)
+
+-- a call of one thread
+pub by_thread : (xs : List LiveLine) (p q before after : Player) → before ≡ p → after ≡ q → Plays xs before after → Plays xs p q
+by_thread xs p q before after was is h = subst (λ (x : Player). Plays xs x q) was (subst (λ (y : Player). Plays xs before y) is h)
+
+-- from the first call to the last
+
+new_made : (cell : Identity) (client : ℕ) (p : Player) → IsNewPlayer cell client p → HasMade p []
+new_made cell client p new =
+    subst (λ (replies : List Answer). HasPlayed (shown p.seat) p.seat.is_lost [] replies) (sym new.answers)
+    (subst (λ (s : SeatState). HasPlayed (shown s) s.is_lost [] []) (sym new.seat) nothing_played)
+
+pub have_played : (cell : Identity) (xs : List LiveLine) (olds news : List Player) → Each (IsNewPlayer cell) olds → AllPlay xs olds news → ((k : ℕ) (p : Player) → slice_get news k ≡ Some p → p.lacked_memory ≡ false)
+    → Each (IsPlayed cell xs) news
+have_played cell xs olds news new all none k q at =
+    let old = was_there olds news k q all.0 at in
+    let is = new k old.0 old.1 in
+    let plays = all.1 k old.0 q old.1 at in
+    record {
+      node = plays.same.node ∙ ap (λ (s : SeatState). s.node) is.seat;
+      cell_is = plays.same.cell ∙ ap (λ (s : SeatState). s.cell) is.seat;
+      made = subst (λ (i : ℕ). HasMade q (calls_of i xs)) is.id (plays.played (none k q at) [] (new_made cell (suc k) old.0 is));
+    }
+
+-- what the journal has of them
+pub told_so : (options : Options) (cell : Identity) (entries : List Entry) (xs : List LiveLine) (players : List Player) → IsCellOf options.config options.servers cell → IsJournalOf cell entries
+    → length players ≡ options.clients → Each (IsPlayed cell xs) players → ((k : ℕ) (p : Player) → slice_get players k ≡ Some p → IsPrefix p.seat.seen entries)
+    → AreAnswersOf options xs (map (λ p. p.answers.items) players)
+told_so options cell entries xs players cell_is lawful count all begin = record {
+  cell = cell;
+  cell_is = cell_is;
+  entries = entries;
+  lawful = lawful;
+  clients = mapped_length players ∙ count;
+  each = λ k replies at.
+      let found = mapped_at (λ (p : Player). p.answers.items) players k replies at in
+      let is = all k found.0 found.1 in
+      record {
+        seen = found.0.seat.seen;
+        begins = begin k found.0 found.1;
+        answered = subst (λ (n : Node). AreAnswered (visible_of (own n found.0.seat.seen)) (calls_of (suc k) xs) replies) is.node
+            (subst (AreAnswered (shown found.0.seat) (calls_of (suc k) xs)) found.2 is.made.answered);
+      };
+}
+  where
+    mapped_length : (ps : List Player) → length (map (λ (p : Player). p.answers.items) ps) ≡ length ps
+    mapped_length [] = refl
+    mapped_length (p ∷ ps) = ap (λ (k : ℕ). suc k) (mapped_length ps)
