@@ -271,7 +271,13 @@ fn the_deepest_names_are_listed(rt: HostRuntime) -> Result<(), Fail> {
     for at in 0..4_096usize {
         let front = path.as_str().get(..4_096 - at).unwrap_or_default();
         if !front.ends_with('/') {
-            put_in_both(alloc, &mut trie, &mut plain, String::from_str(alloc, front)?, 7)?;
+            put_in_both(
+                alloc,
+                &mut trie,
+                &mut plain,
+                String::from_str(alloc, front)?,
+                7,
+            )?;
         }
     }
     assert_eq!(rt; plain.len(), 4_080);
