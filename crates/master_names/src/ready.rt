@@ -9,8 +9,8 @@ use log_records::record::Record;
 use master_plan::fault::PlanFault;
 use master_plan::plan::Plan;
 use master_plan::waiting::Pending;
+use master_snapshots::awaited::has_waited;
 use master_snapshots::begins::lets_go;
-use master_snapshots::ready::is_ready;
 use operation_log::log::OperationLog;
 use std::alloc::Allocator;
 
@@ -46,7 +46,7 @@ fn takes_if_ready<L: OperationLog, A: Allocator + Clone>(
 ) -> Result<(), PlanFault>
     ensures { OnOk result (IsPlanned (λ d. if is_ready d.master snapshot.now then takes_snapshot d snapshot.now else d) (L.disk log.now) plan.old plan.new) }
 {
-    if !is_ready(plan, snapshot)? {
+    if !has_waited(plan, snapshot)? {
         return Ok(());
     }
     takes_snapshot(log, plan, snapshot)

@@ -3,7 +3,7 @@
 ghost use Rattle.std.specs.Prelude.{◌≡◌, ◌==◌, ◌&&◌, ◌++◌, ◌∷◌, [], not, filter, IfOk, OnOk};
 
 use crate::plan::Plan;
-use crate::waiting::Pending;
+use crate::waiting::{Awaited, Pending};
 use gfs_types::ids::ClientId;
 use gfs_types::no_memory::NoMemory;
 use std::alloc::{Allocator, Global};
@@ -24,6 +24,13 @@ impl<A: Allocator + Clone> Plan<A> {
         remove_call(&mut self.snapshots, client, number);
     }
 
+    /// Where a chunk was found that this snapshot waits for. Takes no memory.
+    pub fn note_awaited(&mut self, client: ClientId, number: u64, awaited: Awaited)
+        ensures { self.new ≡ self.old }
+    {
+        note_at_call(&mut self.snapshots, client, number, awaited);
+    }
+
     /// A copy of the list of them.
     pub fn copied_snapshots(&self) -> Result<Vec<Pending>, NoMemory>
         ensures { IfOk result (λ v. v.items ≡ self.now.snapshots) }
@@ -36,6 +43,17 @@ fn remove_call(snapshots: &mut Vec<Pending>, client: ClientId, number: u64)
     ensures { snapshots.new.items ≡ filter (λ other. not ((client.0 == other.client) && (number == other.number))) snapshots.old.items }
 {
     snapshots.retain(|other| !(client.0 == other.client().0 && number == other.number()));
+}
+
+fn note_at_call(snapshots: &mut Vec<Pending>, client: ClientId, number: u64, awaited: Awaited)
+    ensures { snapshots.new.items ≡ snapshots.old.items }
+{
+    let mut awaited = Some(awaited);
+    for snapshot in snapshots.iter_mut() {
+        if snapshot.client == client.0 && snapshot.number == number {
+            snapshot.awaited = awaited.take();
+        }
+    }
 }
 
 fn copies_of(alloc: Global, snapshots: &[Pending]) -> Result<Vec<Pending>, NoMemory>
@@ -59,6 +77,17 @@ impl Pending {
             deadline: self.deadline,
             from: self.from.copy(alloc)?,
             to: self.to.copy(alloc)?,
+            awaited: self.copied_awaited(alloc)?,
         })
+    }
+
+    fn copied_awaited(&self, alloc: Global) -> Result<Option<Awaited>, NoMemory> {
+        match &self.awaited {
+            Some(awaited) => Ok(Some(Awaited {
+                path: awaited.path.copy(alloc)?,
+                index: awaited.index,
+            })),
+            None => Ok(None),
+        }
     }
 }

@@ -73,6 +73,14 @@ impl Attempt {
     }
 }
 
+/// Where a chunk was found that a snapshot waits for: at this index of the file at this path. Nothing says that it still is, so who
+/// uses it looks again.
+#[derive(Drop)]
+pub struct Awaited {
+    pub path: Path,
+    pub index: usize,
+}
+
 /// A snapshot that waits, under its locks, for leases to end.
 #[derive(Drop)]
 pub struct Pending {
@@ -81,6 +89,8 @@ pub struct Pending {
     pub(crate) deadline: u64,
     pub(crate) from: Path,
     pub(crate) to: Path,
+    // where a chunk was found last that it waits for
+    pub(crate) awaited: Option<Awaited>,
 }
 
 impl Model for Pending {
@@ -101,6 +111,7 @@ impl Pending {
             deadline: deadline.0,
             from,
             to,
+            awaited: None,
         }
     }
 
@@ -137,5 +148,10 @@ impl Pending {
         ensures { result.now ≡ self.now.to }
     {
         &self.to
+    }
+
+    /// Where a chunk was found last that it waits for.
+    pub fn awaited(&self) -> Option<&Awaited> {
+        self.awaited.as_ref()
     }
 }

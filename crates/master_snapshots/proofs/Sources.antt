@@ -113,7 +113,7 @@ one_alone from (e ∷ []) v sorted all found =
 one_alone from (e ∷ f ∷ es) v sorted all found =
     absurd (not_less e.0 f.0 (same_names from e.0 f.0 (first_of _ _ all) (first_of _ _ (second_of (at from e.0) _ all))) (first _ _ (first _ _ sorted)))
 
-handles_of_nodes : (t : ChunkTable) (to : Path) (n : ℕ) (es : Entries)
+pub handles_of_nodes : (t : ChunkTable) (to : Path) (n : ℕ) (es : Entries)
     → flat_map (λ (e : Path × Node). node_handles t e.1) (map (λ (e : Path × Node). (to ++ drop n e.0, e.1)) es) ≡ flat_map (node_handles t) (map (λ (e : Path × Node). e.1) es)
 handles_of_nodes t to n [] = refl
 handles_of_nodes t to n (e ∷ es) = ap (λ xs. node_handles t e.1 ++ xs) (handles_of_nodes t to n es)

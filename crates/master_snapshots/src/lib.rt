@@ -2,6 +2,7 @@
 #![tactic(auto)]
 
 pub mod alone;
+pub mod awaited;
 pub mod begins;
 pub mod concerned;
 pub mod ready;

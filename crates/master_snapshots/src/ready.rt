@@ -35,7 +35,7 @@ fn have_ended<A: Allocator + Clone>(plan: &Plan<A>, handles: &[u64]) -> bool
         .all(|handle| has_ended(plan, Handle(*handle)))
 }
 
-fn has_ended<A: Allocator + Clone>(plan: &Plan<A>, handle: Handle) -> bool
+pub(crate) fn has_ended<A: Allocator + Clone>(plan: &Plan<A>, handle: Handle) -> bool
     ensures { result ≡ row_has_ended plan.now.now (chunk_of plan.now.logged.table handle.0) }
 {
     match plan.state().table().chunk(handle) {
