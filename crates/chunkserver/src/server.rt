@@ -11,7 +11,7 @@ ghost use Rattle.server_store.specs.Stores.{disk_rotten};
 ghost use Rattle.chunkserver.specs.Inputs.{input_of};
 
 use crate::ended::ends;
-use crate::planned::plans;
+use crate::planned::plan_step;
 use gfs_types::config::Config;
 use gfs_types::ids::{Handle, Moment, ServerId};
 use gfs_types::lists::Sequence;
@@ -109,7 +109,7 @@ impl<S: ReplicaStore> Chunkserver<S> {
         if !self.server.is_up() {
             return Outcome::nothing(alloc);
         }
-        match plans(&mut self.server, now, message) {
+        match plan_step(&mut self.server, now, message) {
             Ok(effects) => ends(&mut self.server, effects),
             Err(_) => {
                 self.server.stop();

@@ -2,7 +2,7 @@ use Rattle.std.proofs.Common.{◌≡◌, IfOk, sym, subst, ◌∙◌}
 use Rattle.protocol.specs.Client.{ClientDoing}
 use Rattle.client_node.specs.Doing.{doing}
 use Rattle.client_steps.proofs.Steps.{does_deliver, does_tick}
-use Rattle.client_steps.proofs.step.does.Goals as goal
+use Rattle.client_steps.proofs.step.take_input.Goals as goal
 
 pub returns-in-Deliver : goal.returns-in-Deliver
 returns-in-Deliver c =

@@ -5,11 +5,11 @@ use Rattle.master_plan.specs.Plans.{PlanState}
 use Rattle.master_names.specs.Doing.{IsPlanned}
 use Rattle.master.specs.Inputs.{input_of}
 use Rattle.master.proofs.Parts.{goes}
-use Rattle.master.proofs.planned.plans.Goals as goal
+use Rattle.master.proofs.planned.plan_step.Goals as goal
 
 pub returns : goal.returns
 returns g c =
     let disk = g.L.OperationLog.disk c.args.log.now in
     let i = input_of (option_copied c.args.message) in
-    goes disk c.args.plan.now c.does.new.plan c.takes_ready.new.plan c.args.now.0 i
-    (subst (λ (p : PlanState). IsPlanned (λ d. master_does d i) disk p c.does.new.plan) c.begin.ensures c.in_ok-does.ensures) c.in_ok-takes_ready.ensures
+    goes disk c.args.plan.now c.plan_input.new.plan c.takes_ready.new.plan c.args.now.0 i
+    (subst (λ (p : PlanState). IsPlanned (λ d. master_does d i) disk p c.plan_input.new.plan) c.begin.ensures c.in_ok-plan_input.ensures) c.in_ok-takes_ready.ensures

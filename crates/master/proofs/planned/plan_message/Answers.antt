@@ -1,7 +1,7 @@
 use Rattle.std.proofs.Common.{◌≡◌, false, rules}
 use Rattle.master_laws.specs.Kinds.{is_name}
 use Rattle.master.proofs.Parts.{unnamed}
-use Rattle.master.proofs.planned.takes.Goals as goal
+use Rattle.master.proofs.planned.plan_message.Goals as goal
 
 pub returns-in_ok-takes_unnamed-in_default : goal.returns-in_ok-takes_unnamed-in_default
 returns-in_ok-takes_unnamed-in_default g c =
