@@ -27,7 +27,8 @@ use Rattle.primary_order.specs.declared.kept.Standing.TheVariants.{IsPending, Is
 use Rattle.primary_order.specs.declared.order.SerialOrder.{SerialOrder}
 use Rattle.primary_order.specs.PrimaryOrder.{place_of}
 use Rattle.primary_order.specs.SerialOrder.{attempted, denied, numbered, settled, acknowledged}
-use Rattle.protocol.specs.Tables.{counter_limit, element_at, with_at, without, first_numbers}
+use Rattle.gfs_types.specs.Counters.{counter_limit}
+use Rattle.protocol.specs.Tables.{element_at, with_at, without, first_numbers}
 use Rattle.protocol.specs.Sending.{data_id, handle_of, version_of, serial_of, the_client}
 use Rattle.protocol.specs.Choice.{Choice, Ending, Goes, Lost, Stops}
 use Rattle.protocol.specs.Seen.{is_numbering, Taken, no_step}

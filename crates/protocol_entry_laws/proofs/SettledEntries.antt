@@ -32,7 +32,8 @@ use Rattle.primary_order.specs.declared.answer.Attempted.TheVariants.{IsNew}
 use Rattle.primary_order.specs.declared.order.SerialOrder.{SerialOrder}
 use Rattle.primary_order.specs.PrimaryOrder.{place_of}
 use Rattle.primary_order.specs.SerialOrder.{attempted, numbered, attempt_of}
-use Rattle.protocol.specs.Tables.{Table, counter_limit, element_at, with_at, first_numbers}
+use Rattle.gfs_types.specs.Counters.{counter_limit}
+use Rattle.protocol.specs.Tables.{Table, element_at, with_at, first_numbers}
 use Rattle.protocol.specs.Sending.{data_id, handle_of, version_of, the_client, the_server}
 use Rattle.protocol.specs.Choice.{Choice, Ending, Goes, Lost, Stops}
 use Rattle.protocol.specs.Seen.{Taken, no_step}
