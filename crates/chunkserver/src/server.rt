@@ -23,7 +23,7 @@ use server_store::fault::StoreFault;
 use server_store::store::ReplicaStore;
 use std::alloc::Global;
 use std::marker::Model;
-use step_outcome::{Outcome, gives_nothing, goes_down};
+use step_outcome::{Outcome, down_output, no_output};
 
 /// A chunkserver over a store of its replicas. While it is up, nothing is under way on its disk.
 #[derive(Drop)]
@@ -127,11 +127,11 @@ impl<S: ReplicaStore> Chunkserver<S> {
         match self.server.reopen() {
             Ok(()) => {
                 self.server.start(now);
-                gives_nothing(alloc)
+                no_output(alloc)
             }
             Err(_) => {
                 self.server.stop();
-                goes_down(alloc)
+                down_output(alloc)
             }
         }
     }

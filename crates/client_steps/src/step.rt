@@ -25,18 +25,18 @@ pub fn step(client: &mut Client, now: Moment, input: &Input) -> StepOut
     ensures { ClientSteps client.old now.0 input.now result client.new }
 {
     if !client.may_step() {
-        return gives_nothing(client, false);
+        return empty_output(client, false);
     }
     let config = client.config();
     let id = client.id();
     let Ok(effects) = try_step(client, now, input) else {
         client.stops(config, id);
-        return gives_nothing(client, true);
+        return empty_output(client, true);
     };
     effects.into_out()
 }
 
-fn gives_nothing(client: &Client, down: bool) -> StepOut
+fn empty_output(client: &Client, down: bool) -> StepOut
     ensures { result ≡ record { sent = []; answer = None; down = down } }
 {
     StepOut {
