@@ -13,7 +13,7 @@ use gfs_types::call::Call;
 use gfs_types::ids::Moment;
 use journal_pages::entry::Taking;
 use messages::event::StepOut;
-use step_outcome::goes_down;
+use step_outcome::down_output;
 
 /// A client that takes steps.
 #[derive(Drop)]
@@ -61,5 +61,5 @@ fn stops(client: &mut Client) -> StepOut
     let id = client.id();
     let alloc = client.alloc();
     client.stops(config, id);
-    goes_down(alloc)
+    down_output(alloc)
 }

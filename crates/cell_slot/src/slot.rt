@@ -179,7 +179,7 @@ fn steps<R: Wait + Clock, N: Stepper + Drop>(
     ensures err { OnErr result (IsLater desk.old.place.me.0 desk.new.place.me.0) }
 {
     match ready(rt, desk, node, &taking) {
-        Ok(now) => goes(rt, alloc, desk, node, now, taking),
+        Ok(now) => try_step(rt, alloc, desk, node, now, taking),
         Err(refusal) => {
             desk.give_up(rt);
             Err(refusal)
@@ -209,7 +209,7 @@ fn ready<R: Clock, N: Stepper + Drop>(
 }
 
 // A step that the node takes.
-fn goes<R: Wait + Clock, N: Stepper + Drop>(
+fn try_step<R: Wait + Clock, N: Stepper + Drop>(
     rt: &R,
     alloc: Global,
     desk: &mut Desk,

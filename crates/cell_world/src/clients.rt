@@ -22,7 +22,7 @@ use messages::event::{Input, StepOut};
 use messages::message::Message;
 use protocol::seen::SeenList;
 use std::alloc::Global;
-use step_outcome::{gives_nothing, goes_down};
+use step_outcome::{down_output, no_output};
 
 /// The place of a client's number.
 pub(crate) fn client_place(clients: &Vec<Client>, id: ClientId) -> Option<usize>
@@ -121,9 +121,9 @@ fn lost(alloc: Global, is_taken: bool) -> StepOut
     ensures { result ≡ (if is_taken then down_output else no_output) }
 {
     if is_taken {
-        goes_down(alloc)
+        down_output(alloc)
     } else {
-        gives_nothing(alloc)
+        no_output(alloc)
     }
 }
 

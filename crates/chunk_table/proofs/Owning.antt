@@ -4,7 +4,8 @@ use Rattle.std.specs.List.{list_all}
 use Rattle.std.specs.Cmp.{nat_cmp_total}
 use Rattle.std.specs.FinMap.{get, insert, get-insert}
 use Rattle.std.proofs.lemmas.Bool.Decides.{nat_tests}
-use Rattle.chunk_table.specs.ChunkTable.{NumberTable, ChunkRow, counter_limit, with_owned, own_one}
+use Rattle.gfs_types.specs.Counters.{counter_limit}
+use Rattle.chunk_table.specs.ChunkTable.{NumberTable, ChunkRow, with_owned, own_one}
 use Rattle.chunk_table.specs.Owners.{times, IsSoundFile}
 use Rattle.chunk_table.specs.Refusals.{is_given}
 use Rattle.chunk_table.proofs.Lookups.{at_key}

@@ -8,7 +8,8 @@ use Rattle.std.specs.Cmp.{nat_cmp_total}
 use Rattle.std.specs.List.{sum_by}
 use Rattle.std.proofs.lemmas.List.Sums.{sum_by-append, sum_by-set, sum_by-le-sum_by, count_by-le-length}
 use Rattle.std.specs.FinMap.{get, insert, remove, empty, entries, get-empty, get-insert, get-remove, len-empty, len-entries}
-use Rattle.chunk_table.specs.ChunkTable.{NumberTable, ChunkRow, TableState, counter_limit, new_row, row_issued, row_granted, row_ended, row_put, changed_at, share_one, share_all, leave_one, leave_all}
+use Rattle.gfs_types.specs.Counters.{counter_limit}
+use Rattle.chunk_table.specs.ChunkTable.{NumberTable, ChunkRow, TableState, new_row, row_issued, row_granted, row_ended, row_put, changed_at, share_one, share_all, leave_one, leave_all}
 use Rattle.chunk_table.specs.Owners.{total, times, owners, all_owners, references_in, references_at, IsSoundRow, IsSoundFile, IsSound}
 use Rattle.chunk_table.proofs.Lookups.{at_key, get_changed, key_itself}
 use Rattle.chunk_table.proofs.Sums.{total_added, total_removed, total_replaced}

@@ -8,10 +8,6 @@ use Rattle.std.specs.Coded.{Coded, code_by, coded×, coded_ℕ, coded_list}
 abbrev pub NumberTable : Type 0 → Type 0
 NumberTable X = map.FinMap nat_cmp X
 
--- the greatest number that a counter takes
-abbrev pub counter_limit : ℕ
-counter_limit = 4_611_686_018_427_387_903
-
 -- A chunk: the granted version (0 if none), the issued version, how many files own it, and its last lease, which ends at that moment.
 pub record ChunkRow : Type 0 where
   pub granted : ℕ

@@ -1,7 +1,8 @@
 -- What holds of every table: a chunk's reference count is the number of its owners, and no number is used twice (sections 2.6.1 and 3.4).
 use Rattle.std.specs.Prelude.{◌≡◌, ℕ, ◌<◌, ◌≤◌, ◌==◌, List, length, Option, Some, None, IfSome, OnSome, count_by, sum_by}
 use Rattle.std.specs.FinMap as map
-use Rattle.chunk_table.specs.ChunkTable.{NumberTable, ChunkRow, TableState, counter_limit}
+use Rattle.gfs_types.specs.Counters.{counter_limit}
+use Rattle.chunk_table.specs.ChunkTable.{NumberTable, ChunkRow, TableState}
 
 -- a measure of each file's list, added up
 abbrev pub total : (List ℕ → ℕ) → NumberTable (List ℕ) → ℕ

@@ -3,7 +3,8 @@ use Rattle.std.specs.Prelude.{◌≡◌, ℕ, ◌+◌, Bool, ◌&&◌, ◌==◌,
 use Rattle.std.specs.List.{list_all}
 use Rattle.chunk_table.specs.declared.fault.TableFault.{TableFault}
 use Rattle.chunk_table.specs.declared.fault.TableFault.TheVariants.{NoFile, NoChunk, NoIndex, NotIssued, Owned, Exists, NotGiven, Limit, NoMemory}
-use Rattle.chunk_table.specs.ChunkTable.{ChunkRow, TableState, counter_limit, file_of, chunk_of}
+use Rattle.gfs_types.specs.Counters.{counter_limit}
+use Rattle.chunk_table.specs.ChunkTable.{ChunkRow, TableState, file_of, chunk_of}
 use Rattle.chunk_table.specs.Owners.{all_owners}
 
 -- a call that takes memory: done only where nothing refuses it, and refused for that cause or, where there is none, for want of memory

@@ -1,7 +1,8 @@
 //! What the master keeps of a chunk (GFS paper, sections 2.6.1 and 3.1).
 
 ghost use Rattle.std.specs.Prelude.{◌≡◌, ◌<◌};
-ghost use Rattle.chunk_table.specs.ChunkTable.{new_row, counter_limit, row_issued, row_granted, row_ended, row_put, row_shared, row_left};
+ghost use Rattle.gfs_types.specs.Counters.{counter_limit};
+ghost use Rattle.chunk_table.specs.ChunkTable.{new_row, row_issued, row_granted, row_ended, row_put, row_shared, row_left};
 
 use gfs_types::ids::{Moment, ServerId, Version};
 use gfs_types::lists::ServerList;

@@ -2,7 +2,8 @@
 
 ghost use Rattle.std.specs.Prelude.{◌≡◌, ℕ, ◌+◌, ◌<◌, ◌≤◌, length, IfSome, OnSome, OnOk};
 ghost use Rattle.std.specs.FinMap as map;
-ghost use Rattle.chunk_table.specs.ChunkTable.{counter_limit, changed_at, row_issued, row_granted, row_ended, row_put, share_one, share_all, leave_one, leave_all, own_one, with_owned};
+ghost use Rattle.gfs_types.specs.Counters.{counter_limit};
+ghost use Rattle.chunk_table.specs.ChunkTable.{changed_at, row_issued, row_granted, row_ended, row_put, share_one, share_all, leave_one, leave_all, own_one, with_owned};
 ghost use Rattle.chunk_table.specs.Owners.{references_at};
 
 use crate::chunk::Chunk;

@@ -17,7 +17,7 @@ pub enum TableFault {
     Exists,
     /// That file id or handle was not given out.
     NotGiven,
-    /// A counter would pass [`crate::COUNTER_LIMIT`].
+    /// A counter would pass [`gfs_types::ids::MAX_COUNTER`].
     Limit,
     /// The allocator refused a growth. No other cause held.
     NoMemory,

@@ -2,7 +2,8 @@
 
 ghost use Rattle.std.specs.Prelude.{◌≡◌, ℕ, ◌+◌, ◌≤◌, ◌∷◌, [], ◌++◌, ◌<◌, length, slice_set, unwrap_or, IsSome, OnOk, OnErr};
 ghost use Rattle.std.specs.FinMap as map;
-ghost use Rattle.chunk_table.specs.ChunkTable.{counter_limit, share_all};
+ghost use Rattle.gfs_types.specs.Counters.{counter_limit};
+ghost use Rattle.chunk_table.specs.ChunkTable.{share_all};
 ghost use Rattle.chunk_table.specs.Owners.{references_at};
 
 use crate::chunk::Chunk;

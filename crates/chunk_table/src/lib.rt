@@ -6,6 +6,3 @@ mod chunks;
 pub mod fault;
 mod files;
 pub mod table;
-
-/// The greatest number that a counter takes.
-pub const COUNTER_LIMIT: u64 = 4_611_686_018_427_387_903;

@@ -3,16 +3,16 @@
 ghost use Rattle.std.specs.Prelude.{◌≡◌, ℕ, ◌<◌, ◌≤◌, Some, None, IfOk, OnOk, OnErr};
 ghost use Rattle.std.specs.List.{list_all};
 ghost use Rattle.std.specs.Option.{option_copied};
-ghost use Rattle.chunk_table.specs.ChunkTable.{counter_limit, new_table, new_chunk_table, file_of, chunk_of, row_issued, row_granted, row_ended, row_put, with_file, with_chunk, with_row_changed, with_shared, with_swapped, without_file, with_copy, without_copy, with_counters, with_put_file};
+ghost use Rattle.gfs_types.specs.Counters.{counter_limit};
+ghost use Rattle.chunk_table.specs.ChunkTable.{new_table, new_chunk_table, file_of, chunk_of, row_issued, row_granted, row_ended, row_put, with_file, with_chunk, with_row_changed, with_shared, with_swapped, without_file, with_copy, without_copy, with_counters, with_put_file};
 ghost use Rattle.chunk_table.specs.Owners.{IsSound};
 ghost use Rattle.chunk_table.specs.Refusals.{RefusedFor, RefusedExactly, add_file_refusal, add_chunk_refusal, issue_refusal, grant_refusal, put_row_refusal, share_refusal, swap_refusal, drop_refusal, start_copy_refusal, give_up_copy_refusal, version_after, is_given, counters_refusal, put_file_refusal};
 
-use crate::COUNTER_LIMIT;
 use crate::chunk::Chunk;
 use crate::chunks::{end_at, grant_at, issue_at, leave_at, leave_each, own_each, put_at, share_at};
 use crate::fault::TableFault;
 use crate::files::{push_at, set_at, share_file};
-use gfs_types::ids::{FileId, Handle, Moment, ServerId, Version};
+use gfs_types::ids::{FileId, Handle, MAX_COUNTER, Moment, ServerId, Version};
 use gfs_types::lists::{HandleList, ServerList};
 use gfs_types::no_memory::NoMemory;
 use number_map::NumberMap;
@@ -123,7 +123,7 @@ impl Table {
         ensures err { OnErr result (self.new ≡ self.old) }
     {
         let file = self.next_file;
-        if file >= COUNTER_LIMIT {
+        if file >= MAX_COUNTER {
             return Err(TableFault::Limit);
         }
         let Ok(()) = self.files.insert(file, HandleList::empty(self.alloc)) else {
@@ -144,7 +144,7 @@ impl Table {
             return Err(TableFault::NoFile);
         }
         let handle = self.next_handle;
-        if handle >= COUNTER_LIMIT || self.owners >= COUNTER_LIMIT {
+        if handle >= MAX_COUNTER || self.owners >= MAX_COUNTER {
             return Err(TableFault::Limit);
         }
         let chunk = Chunk::new(self.alloc, Version(0), 1);
@@ -171,7 +171,7 @@ impl Table {
             return Err(TableFault::NoChunk);
         };
         let Version(issued) = chunk.issued();
-        if issued >= COUNTER_LIMIT {
+        if issued >= MAX_COUNTER {
             return Err(TableFault::Limit);
         }
         let version = Version(issued + 1);
@@ -222,7 +222,7 @@ impl Table {
         if issued < granted {
             return Err(TableFault::NotIssued);
         }
-        if issued.0 > COUNTER_LIMIT {
+        if issued.0 > MAX_COUNTER {
             return Err(TableFault::Limit);
         }
         put_at(
@@ -237,16 +237,16 @@ impl Table {
     }
 
     /// Sets the id that the next file takes and the handle that the next chunk takes, as a checkpoint has them.
-    /// Refused: Limit, where one is past [`COUNTER_LIMIT`] or less than before. Takes no memory.
+    /// Refused: Limit, where one is past [`MAX_COUNTER`] or less than before. Takes no memory.
     pub fn put_counters(&mut self, next_file: FileId, next_handle: Handle) -> Result<(), TableFault>
         ensures refusal { RefusedExactly result (counters_refusal self.old next_file.0 next_handle.0) }
         ensures ok { OnOk result (self.new ≡ with_counters self.old next_file.0 next_handle.0) }
         ensures err { OnErr result (self.new ≡ self.old) }
     {
         if next_file.0 < self.next_file
-            || next_file.0 > COUNTER_LIMIT
+            || next_file.0 > MAX_COUNTER
             || next_handle.0 < self.next_handle
-            || next_handle.0 > COUNTER_LIMIT
+            || next_handle.0 > MAX_COUNTER
         {
             return Err(TableFault::Limit);
         }
@@ -277,7 +277,7 @@ impl Table {
             return Err(TableFault::NotGiven);
         }
         let count = handles.len() as u64;
-        if count > COUNTER_LIMIT - owners {
+        if count > MAX_COUNTER - owners {
             return Err(TableFault::Limit);
         }
         let Ok(()) = own_each(alloc, &mut chunks, handles.as_slice()) else {
@@ -315,7 +315,7 @@ impl Table {
         };
         let copy = self.next_file;
         let count = handles.len() as u64;
-        if copy >= COUNTER_LIMIT || count > COUNTER_LIMIT - self.owners {
+        if copy >= MAX_COUNTER || count > MAX_COUNTER - self.owners {
             return Err(TableFault::Limit);
         }
         let Ok(list) = handles.copy(self.alloc) else {
@@ -383,7 +383,7 @@ impl Table {
             return Err(TableFault::NoChunk);
         };
         let Version(issued) = chunk.issued();
-        if issued >= COUNTER_LIMIT || self.next_handle >= COUNTER_LIMIT {
+        if issued >= MAX_COUNTER || self.next_handle >= MAX_COUNTER {
             return Err(TableFault::Limit);
         }
         let Ok(copy) = self.add_copy(Version(issued + 1)) else {

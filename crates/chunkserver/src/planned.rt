@@ -41,7 +41,7 @@ fn is_of_servers(body: &Body) -> bool
     )
 }
 
-fn takes<S: ReplicaStore>(
+fn plan_message<S: ReplicaStore>(
     server: &mut Server<S>,
     effects: &mut Effects,
     message: &Message,
@@ -60,7 +60,7 @@ fn takes<S: ReplicaStore>(
 }
 
 // A step on a message, or on a tick.
-pub(crate) fn plans<S: ReplicaStore>(
+pub(crate) fn plan_step<S: ReplicaStore>(
     server: &mut Server<S>,
     now: Moment,
     message: Option<&Message>,
@@ -74,7 +74,7 @@ pub(crate) fn plans<S: ReplicaStore>(
     let mut effects = Effects::none(server.alloc());
     match message {
         None => server.ticks(&mut effects)?,
-        Some(message) => takes(server, &mut effects, message)?,
+        Some(message) => plan_message(server, &mut effects, message)?,
     }
     Ok(effects)
 }

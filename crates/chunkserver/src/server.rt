@@ -11,7 +11,7 @@ ghost use Rattle.server_store.specs.Stores.{disk_rotten};
 ghost use Rattle.chunkserver.specs.Inputs.{input_of};
 
 use crate::ended::ends;
-use crate::planned::plans;
+use crate::planned::plan_step;
 use gfs_types::config::Config;
 use gfs_types::ids::{Handle, Moment, ServerId};
 use gfs_types::lists::Sequence;
@@ -23,7 +23,7 @@ use server_store::fault::StoreFault;
 use server_store::store::ReplicaStore;
 use std::alloc::Global;
 use std::marker::Model;
-use step_outcome::{Outcome, gives_nothing, goes_down};
+use step_outcome::{Outcome, down_output, no_output};
 
 /// A chunkserver over a store of its replicas. While it is up, nothing is under way on its disk.
 #[derive(Drop)]
@@ -109,7 +109,7 @@ impl<S: ReplicaStore> Chunkserver<S> {
         if !self.server.is_up() {
             return Outcome::nothing(alloc);
         }
-        match plans(&mut self.server, now, message) {
+        match plan_step(&mut self.server, now, message) {
             Ok(effects) => ends(&mut self.server, effects),
             Err(_) => {
                 self.server.stop();
@@ -127,11 +127,11 @@ impl<S: ReplicaStore> Chunkserver<S> {
         match self.server.reopen() {
             Ok(()) => {
                 self.server.start(now);
-                gives_nothing(alloc)
+                no_output(alloc)
             }
             Err(_) => {
                 self.server.stop();
-                goes_down(alloc)
+                down_output(alloc)
             }
         }
     }

@@ -25,18 +25,18 @@ pub fn step(client: &mut Client, now: Moment, input: &Input) -> StepOut
     ensures { ClientSteps client.old now.0 input.now result client.new }
 {
     if !client.may_step() {
-        return gives_nothing(client, false);
+        return empty_output(client, false);
     }
     let config = client.config();
     let id = client.id();
-    let Ok(effects) = goes(client, now, input) else {
+    let Ok(effects) = try_step(client, now, input) else {
         client.stops(config, id);
-        return gives_nothing(client, true);
+        return empty_output(client, true);
     };
     effects.into_out()
 }
 
-fn gives_nothing(client: &Client, down: bool) -> StepOut
+fn empty_output(client: &Client, down: bool) -> StepOut
     ensures { result ≡ record { sent = []; answer = None; down = down } }
 {
     StepOut {
@@ -46,15 +46,15 @@ fn gives_nothing(client: &Client, down: bool) -> StepOut
     }
 }
 
-fn goes(client: &mut Client, now: Moment, input: &Input) -> Result<Effects, NoMemory>
+fn try_step(client: &mut Client, now: Moment, input: &Input) -> Result<Effects, NoMemory>
     ensures { IfOk result (λ e. client_goes client.old now.0 input.now ≡ doing client.new e) }
 {
     client.move_clock(now);
-    does(client, input)
+    take_input(client, input)
 }
 
 /// A message or a tick comes to a client with or without an open call.
-fn does(client: &mut Client, input: &Input) -> Result<Effects, NoMemory>
+fn take_input(client: &mut Client, input: &Input) -> Result<Effects, NoMemory>
     ensures { IfOk result (λ e. client_does (client_begins client.old) input.now client.old.current ≡ doing client.new e) }
 {
     let Some(current) = client.take_current() else {

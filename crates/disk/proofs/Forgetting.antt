@@ -1,8 +1,9 @@
 -- What is told after the past was forgotten.
 use Rattle.std.proofs.Common.{◌≡◌, inl, inr, ℕ, suc, ◌-◌, ◌≤◌, Bool, true, false, ◌||◌, List, [], ◌∷◌, refl, sym, subst, arith, if◌then◌else◌}
 use Rattle.std.specs.Prelude.{nat_le}
+use Rattle.gfs_types.specs.Counters.{counter_limit}
 use Rattle.disk.specs.Laws.{left_now, left_only_now}
-use Rattle.disk.specs.Writes.{Write, DiskState, AfterNext, BeginsAnew, LeftBy, LeftSince, MayLeave, begun_anew, bytes_before, first_bytes, has_sync, moment_of, most_forgotten, past_forgotten, syncs, unsynced}
+use Rattle.disk.specs.Writes.{Write, DiskState, AfterNext, BeginsAnew, LeftBy, LeftSince, MayLeave, begun_anew, bytes_before, first_bytes, has_sync, moment_of, past_forgotten, syncs, unsynced}
 use Rattle.disk.proofs.Stops.{none_unsynced, or_false}
 
 -- a stop after these writes leaves what it does after those since the last sync
@@ -91,14 +92,14 @@ keeps_all : (disk : DiskState) → BeginsAnew disk disk
 keeps_all disk = record { later = omega arith; nothing_else = λ t c le left. inl left; keeps = λ c past. past }
 
 pub begins_anew : (disk : DiskState) → BeginsAnew disk (begun_anew disk)
-begins_anew disk = by (nat_le (moment_of disk) most_forgotten)
+begins_anew disk = by (nat_le (moment_of disk) counter_limit)
   where
     by : (b : Bool) → BeginsAnew disk (if b then past_forgotten disk else disk)
     by true = forgets disk
     by false = keeps_all disk
 
 pub begun_left : (disk : DiskState) (c : List ℕ) → LeftBy (begun_anew disk) c → LeftBy disk c
-begun_left disk c = by (nat_le (moment_of disk) most_forgotten)
+begun_left disk c = by (nat_le (moment_of disk) counter_limit)
   where
     by : (b : Bool) → LeftBy (if b then past_forgotten disk else disk) c → LeftBy disk c
     by true left = forgotten_left disk c left

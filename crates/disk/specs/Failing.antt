@@ -2,6 +2,7 @@
 use Rattle.std.specs.Prelude.{ℕ, ◌+◌, ◌-◌, Bool, true, false, ◌&&◌, ◌==◌, nat_lt, if◌then◌else◌, Option, None, Some, Result, IsErrOf}
 use Rattle.disk.specs.declared.device.DiskFault.{DiskFault}
 use Rattle.disk.specs.declared.device.DiskFault.TheVariants.{Device}
+use Rattle.gfs_types.specs.Counters.{counter_limit}
 use Rattle.disk.specs.Writes.{DiskState}
 
 -- a disk with a fuse: how many more calls pass, where it is armed, and how often it has failed
@@ -9,10 +10,6 @@ pub record FuseState : Type 0 where
   pub disk : DiskState
   pub left : Option ℕ
   pub failures : ℕ
-
--- the greatest count of failures
-abbrev pub most_failures : ℕ
-most_failures = 4611686018427387903
 
 abbrev pub none_left : Option ℕ → Bool
 none_left None = false
@@ -24,7 +21,7 @@ one_fewer (Some n) = Some (n - 1)
 
 -- the next call fails
 abbrev pub is_burnt : FuseState → Bool
-is_burnt f = none_left f.left && nat_lt f.failures most_failures
+is_burnt f = none_left f.left && nat_lt f.failures counter_limit
 
 -- the fuse after one call
 abbrev pub spent : FuseState → FuseState

@@ -1,5 +1,6 @@
 -- A disk in memory: what a read gives, and what was written over.
 use Rattle.std.specs.Prelude.{◌≡◌, ◌⊎◌, ℕ, suc, ◌+◌, ◌-◌, ◌≤◌, nat_le, Bool, true, false, ◌&&◌, ◌||◌, if◌then◌else◌, List, [], ◌∷◌, ◌++◌, length, replicate}
+use Rattle.gfs_types.specs.Counters.{counter_limit}
 use Rattle.gfs_types.specs.declared.torn.Torn.{Torn}
 use Rattle.gfs_types.specs.declared.torn.Torn.TheVariants.{Old, New, Byte}
 use Rattle.disk.specs.Device.{ChangesOnly, Elapses, Forgets}
@@ -135,10 +136,6 @@ stopped torn disk = record { bytes = settled torn disk.bytes disk.writes; writes
 abbrev pub past_forgotten : DiskState → DiskState
 past_forgotten disk = record disk { writes = unsynced disk.writes; forgotten = moment_of disk }
 
--- the greatest count of syncs that are forgotten; past it nothing more is
-abbrev pub most_forgotten : ℕ
-most_forgotten = 4611686018427387903
-
--- after what was before this moment is forgotten
+-- after what was before this moment is forgotten; past the greatest count of syncs nothing more is
 abbrev pub begun_anew : DiskState → DiskState
-begun_anew disk = if nat_le (moment_of disk) most_forgotten then past_forgotten disk else disk
+begun_anew disk = if nat_le (moment_of disk) counter_limit then past_forgotten disk else disk

@@ -9,12 +9,10 @@ ghost use Rattle.disk.specs.Writes.{BeginsAnew, GoesOn, LeftBy, LeftSince, begun
 
 use crate::device::{Disk, DiskFault};
 use crate::memory::MemDisk;
+use gfs_types::ids::MAX_COUNTER;
 use gfs_types::torn::Torn;
 use std::alloc::{Allocator, Global};
 use std::marker::Model;
-
-// Past this count of failures the disk lets all calls pass, so that the count never wraps.
-const MOST_FAILURES: u64 = 4_611_686_018_427_387_903;
 
 /// A disk in memory that lets so many calls pass once it is armed, and then fails each one, as before a stop.
 ///
@@ -62,7 +60,8 @@ impl<A: Allocator + Clone> FuseDisk<A> {
     {
         match self.left {
             None => false,
-            Some(0) if self.failures < MOST_FAILURES => {
+            // Past this count all calls pass, so that it never wraps.
+            Some(0) if self.failures < MAX_COUNTER => {
                 self.failures += 1;
                 true
             }

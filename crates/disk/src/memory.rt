@@ -11,12 +11,10 @@ ghost use Rattle.disk.specs.Pages.{Keeps, all_taken, bytes_of};
 use crate::device::{Disk, DiskFault};
 use crate::pages::Pages;
 use crate::past_write::PastWrite;
+use gfs_types::ids::MAX_COUNTER;
 use gfs_types::torn::Torn;
 use std::alloc::{AllocError, Allocator, Global};
 use std::marker::Model;
-
-// Past this count of syncs the disk forgets no more, so that the moment never falls.
-const MOST_FORGOTTEN: u64 = 4_611_686_018_427_387_903;
 
 /// A disk in memory, which never fails. Until `forget_past` it keeps what each write wrote over, so that a stop is defined.
 #[derive(Drop)]
@@ -110,7 +108,8 @@ impl<A: Allocator + Clone> MemDisk<A> {
         ensures { self.new ≡ begun_anew self.old }
     {
         let moment = self.forgotten.saturating_add(count_syncs(&self.writes));
-        if moment <= MOST_FORGOTTEN {
+        // Past this count nothing more is forgotten, so that the moment never falls.
+        if moment <= MAX_COUNTER {
             keep_unsynced(&mut self.writes);
             self.forgotten = moment;
         }

@@ -23,14 +23,14 @@ use Rattle.relaxed_file.proofs.Reached.{kept_to}
 use Rattle.relaxed_file.proofs.Known.{Known, known_step, asked_is, NodeBelow, AreNamesBelow}
 use Rattle.relaxed_file.proofs.Grows.{known_at_first}
 
-abbrev Stands : Names → Path → ℕ → Type 0
-Stands names path file = node_at names path ≡ Some (File file)
+abbrev IsNameFor : Names → Path → ℕ → Type 0
+IsNameFor names path file = node_at names path ≡ Some (File file)
 
 abbrev HaveOneName : Names → Type 0
-HaveOneName names = (a b : Path) (file : ℕ) → Stands names a file → Stands names b file → a ≡ b
+HaveOneName names = (a b : Path) (file : ℕ) → IsNameFor names a file → IsNameFor names b file → a ≡ b
 
 abbrev IsNowhere : Names → ℕ → Type 0
-IsNowhere names file = (a : Path) → Stands names a file → ⊥
+IsNowhere names file = (a : Path) → IsNameFor names a file → ⊥
 
 same_path : (a b : Path) → bytes_eq a b ≡ true → a ≡ b
 same_path a b e = (bytes_eq-Decides a b).0 e
@@ -49,7 +49,7 @@ get_removed names p q = map.get-remove nat_list_cmp_total names p q ∙ ap (λ b
 
 -- what stands in these names stands at the same path in those
 abbrev IsWithin : Names → Names → Type 0
-IsWithin less names = (a : Path) (file : ℕ) → Stands less a file → Stands names a file
+IsWithin less names = (a : Path) (file : ℕ) → IsNameFor less a file → IsNameFor names a file
 
 one_within : (less names : Names) → IsWithin less names → HaveOneName names → HaveOneName less
 one_within less names within one a b file x y = one a b file (within a file x) (within b file y)
@@ -74,8 +74,8 @@ module _ (names : Names) (p : Path) (id : ℕ) (new : IsNowhere names id) (one :
   by_paths : (a b : Path) (file : ℕ) (s t : Bool) → bytes_eq a p ≡ s → bytes_eq b p ≡ t
       → cond s (Some (File id)) (node_at names a) ≡ Some (File file) → cond t (Some (File id)) (node_at names b) ≡ Some (File file) → a ≡ b
   by_paths a b file true true e g x y = same_path a p e ∙ sym (same_path b p g)
-  by_paths a b file true false e g x y = absurd (new b (subst (λ k. Stands names b k) (sym (same_id id file x)) y))
-  by_paths a b file false true e g x y = absurd (new a (subst (λ k. Stands names a k) (sym (same_id id file y)) x))
+  by_paths a b file true false e g x y = absurd (new b (subst (λ k. IsNameFor names b k) (sym (same_id id file x)) y))
+  by_paths a b file false true e g x y = absurd (new a (subst (λ k. IsNameFor names a k) (sym (same_id id file y)) x))
   by_paths a b file false false e g x y = one a b file x y
 
   file_added : HaveOneName (map.insert names p (File id))
@@ -85,7 +85,7 @@ nowhere_past : (next id : ℕ) (names : Names) → AreNamesBelow next names → 
 nowhere_past next id names below l a h = let under : id < next = subst (NodeBelow next) h (below a) in absurd (omega arith)
 
 -- a file that is taken from its only name stands nowhere
-gone : (names : Names) (p : Path) (id : ℕ) → HaveOneName names → Stands names p id → IsNowhere (map.remove names p) id
+gone : (names : Names) (p : Path) (id : ℕ) → HaveOneName names → IsNameFor names p id → IsNowhere (map.remove names p) id
 gone names p id one there a h =
     let same : a ≡ p = one a p id (removed_within names p a id h) there in
     none-some (File id) (sym (get_removed names p a ∙ ap (λ b. cond b None (node_at names a)) ((bytes_eq-Decides a p).1 same)) ∙ h)
@@ -146,7 +146,7 @@ record Holding (m : Machine) : Type 0 where
   known : Known m
   one : HasOneNames m
 
-none_first : (a : Path) (file : ℕ) → Stands first_names a file → ⊥
+none_first : (a : Path) (file : ℕ) → IsNameFor first_names a file → ⊥
 none_first a file h = none-some (File file) (sym (map.get-empty (slice_cmp nat_cmp) a)
     ∙ dir_within map.empty trash a file (dir_within (map.insert map.empty trash Dir) root a file h))
 

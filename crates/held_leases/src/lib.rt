@@ -7,7 +7,8 @@ ghost use Rattle.std.specs.FinMap as table;
 ghost use Rattle.leases.specs.LeaseHeld.{counts_at, extended};
 ghost use Rattle.primary_order.specs.declared.order.SerialOrder.{SerialOrder as OrderValue};
 ghost use Rattle.primary_order.specs.SerialOrder.{denied, numbered, settled, acknowledged, refused_by, attempt_of};
-ghost use Rattle.protocol.specs.Tables.{counter_limit, kept_where, map_values};
+ghost use Rattle.gfs_types.specs.Counters.{counter_limit};
+ghost use Rattle.protocol.specs.Tables.{kept_where, map_values};
 ghost use Rattle.protocol.specs.ServerStep.{lease_line, asks_no_more};
 ghost use Rattle.held_leases.specs.Reported.{reported_all, reported_one};
 

@@ -6,7 +6,7 @@ use Rattle.std.specs.FinMap as table
 use Rattle.std.proofs.lemmas.Bool.{le-leb}
 use Rattle.chunk_table.specs.ChunkTable.{TableState}
 use Rattle.chunk_table.specs.Owners.{IsSound}
-use Rattle.protocol.specs.Tables.{counter_limit}
+use Rattle.gfs_types.specs.Counters.{counter_limit}
 use Rattle.protocol.specs.MasterStep.{is_within_limits}
 use Rattle.master_state.specs.Follows.{table_of}
 use Rattle.master_laws.proofs.Limits.{issued_within_limit}

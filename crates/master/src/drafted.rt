@@ -9,7 +9,7 @@ ghost use Rattle.shown_files.specs.Shown.{shown_in};
 ghost use Rattle.master.specs.Drafts.{Drafts};
 ghost use Rattle.master.specs.Inputs.{input_of};
 
-use crate::planned::plans;
+use crate::planned::plan_step;
 use changed_files::FilesBefore;
 use gfs_types::ids::Moment;
 use master_plan::change::ChangeList;
@@ -47,7 +47,7 @@ pub(crate) fn drafts<L: OperationLog, A: Allocator + Clone>(
     let alloc = plan.alloc();
     shown.settle(alloc)?;
     let before = FilesBefore::of(alloc, plan.state())?;
-    plans(log, plan, now, message)?;
+    plan_step(log, plan, now, message)?;
     let changes = plan.take_changes();
     let copies = before.changed(alloc, plan.state(), changes.as_slice())?;
     Ok(Draft { changes, copies })

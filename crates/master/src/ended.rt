@@ -1,7 +1,7 @@
 //! How a step ends: what was planned is made.
 
 ghost use Rattle.std.specs.Prelude.{◌≡◌, ◌*◌, ◌&&◌, nat_le, []};
-ghost use Rattle.protocol.specs.Tables.{counter_limit};
+ghost use Rattle.gfs_types.specs.Counters.{counter_limit};
 ghost use Rattle.protocol.specs.MasterStep.{is_within_limits};
 ghost use Rattle.master_plan.specs.Changes.{changes_of};
 ghost use Rattle.master_plan.specs.Plans.{known};

@@ -29,7 +29,7 @@ use operation_log::log::OperationLog;
 use shown_files::shown::{ShownFiles, shown_of};
 use std::alloc::{Allocator, Global};
 use std::marker::Model;
-use step_outcome::{Outcome, gives_nothing, goes_down};
+use step_outcome::{Outcome, down_output, no_output};
 use stored_log::stoppable::StoppableLog;
 
 /// The master over a log. While it is up, nothing is under way on the log's disk. Its names lie in `A`.
@@ -175,7 +175,7 @@ impl<L: OperationLog, A: Allocator + Clone> Master<L, A> {
         let alloc = self.plan.alloc();
         self.up = false;
         let Ok(()) = self.log.reopen() else {
-            return goes_down(alloc);
+            return down_output(alloc);
         };
         self.opens(alloc, now, shown)
     }
@@ -191,10 +191,10 @@ impl<L: OperationLog, A: Allocator + Clone> Master<L, A> {
     {
         self.up = false;
         let Ok(names) = self.names.clone() else {
-            return goes_down(alloc);
+            return down_output(alloc);
         };
         let Ok(none) = self.names.clone() else {
-            return goes_down(alloc);
+            return down_output(alloc);
         };
         self.plan.forget_names(none);
         let opened = opens(
@@ -206,21 +206,21 @@ impl<L: OperationLog, A: Allocator + Clone> Master<L, A> {
             now,
         );
         let Ok(opening) = opened else {
-            return goes_down(alloc);
+            return down_output(alloc);
         };
         self.plan = opening.plan;
         let Ok(files) = shown_of(alloc, self.plan.state().table()) else {
-            return goes_down(alloc);
+            return down_output(alloc);
         };
         if !makes(&mut self.log, &mut self.plan) {
-            return goes_down(alloc);
+            return down_output(alloc);
         }
         if !opening.is_logged {
-            return goes_down(alloc);
+            return down_output(alloc);
         }
         self.up = true;
         *shown = files;
-        gives_nothing(alloc)
+        no_output(alloc)
     }
 }
 

@@ -26,7 +26,7 @@ use operation_log::log::OperationLog;
 use std::alloc::Allocator;
 
 // A step on a message, or on a tick.
-pub(crate) fn plans<L: OperationLog, A: Allocator + Clone>(
+pub(crate) fn plan_step<L: OperationLog, A: Allocator + Clone>(
     log: &L,
     plan: &mut Plan<A>,
     now: Moment,
@@ -36,12 +36,12 @@ pub(crate) fn plans<L: OperationLog, A: Allocator + Clone>(
     ensures { OnOk result (Goes (L.disk log.now) plan.old now.0 (input_of (option_copied message.entry)) plan.new) }
 {
     plan.begin(now);
-    does(log, plan, message)?;
+    plan_input(log, plan, message)?;
     takes_ready(log, plan)?;
     Ok(())
 }
 
-fn does<L: OperationLog, A: Allocator + Clone>(
+fn plan_input<L: OperationLog, A: Allocator + Clone>(
     log: &L,
     plan: &mut Plan<A>,
     message: Option<&Message>,
@@ -49,12 +49,12 @@ fn does<L: OperationLog, A: Allocator + Clone>(
     ensures { OnOk result (IsPlanned (λ d. master_does d (input_of (option_copied message.entry))) (L.disk log.now) plan.old plan.new) }
 {
     match message {
-        None => ticks(log, plan),
-        Some(message) => takes(log, plan, message),
+        None => plan_tick(log, plan),
+        Some(message) => plan_message(log, plan, message),
     }
 }
 
-fn ticks<L: OperationLog, A: Allocator + Clone>(
+fn plan_tick<L: OperationLog, A: Allocator + Clone>(
     log: &L,
     plan: &mut Plan<A>,
 ) -> Result<(), PlanFault>
@@ -64,7 +64,7 @@ fn ticks<L: OperationLog, A: Allocator + Clone>(
     Ok(())
 }
 
-fn takes<L: OperationLog, A: Allocator + Clone>(
+fn plan_message<L: OperationLog, A: Allocator + Clone>(
     log: &L,
     plan: &mut Plan<A>,
     message: &Message,

@@ -11,7 +11,8 @@ use Rattle.std.specs.declared.cmp.Ordering.{Ordering}
 use Rattle.std.specs.declared.cmp.Ordering.TheVariants.{Less, Equal, Greater}
 use Rattle.chunk_table.specs.ChunkTable.{ChunkRow}
 use Rattle.chunk_table.specs.Owners.{IsSoundRow}
-use Rattle.protocol.specs.Tables.{Table, counter_limit}
+use Rattle.gfs_types.specs.Counters.{counter_limit}
+use Rattle.protocol.specs.Tables.{Table}
 
 abbrev AllOf : {X : Type 0} → (X → Type 0) → List X → Type 0
 AllOf P [] = Unit {0}

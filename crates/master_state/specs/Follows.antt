@@ -6,7 +6,8 @@ use Rattle.gfs_types.specs.Paths.{Path, is_path}
 use Rattle.relaxed_file.specs.Names.{Node, Dir, File, copied_entries}
 use Rattle.log_records.specs.declared.record.Record.{Record}
 use Rattle.log_records.specs.declared.record.Record.TheVariants as log
-use Rattle.chunk_table.specs.ChunkTable.{ChunkRow, ChunkTable, TableState, chunk_of, handles_of, grant, counter_limit}
+use Rattle.gfs_types.specs.Counters.{counter_limit}
+use Rattle.chunk_table.specs.ChunkTable.{ChunkRow, ChunkTable, TableState, chunk_of, handles_of, grant}
 use Rattle.chunk_table.specs.Refusals.{add_chunk_refusal, start_copy_refusal, share_refusal, counters_refusal, put_file_refusal, put_row_refusal_of, swap_refusal, version_after}
 use Rattle.protocol.specs.Logged.{Logged, Copy, is_this_file, copies_for_file, snapshot_logged}
 

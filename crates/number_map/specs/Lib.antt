@@ -1,1 +1,3 @@
+pub mod BlockLending
 pub mod Lending
+pub mod Places

@@ -1,14 +1,15 @@
 //! A finite map from numbers, looked up in logarithmic time. Contracts see it as the map alone.
 #![tactic(auto)]
 
-ghost use Rattle.std.specs.Prelude.{◌≡◌, false, IfNone, OnOk, OnErr};
+mod block;
+
+ghost use Rattle.std.specs.Prelude.{◌≡◌, ◌%◌, false, IfNone, OnOk, OnErr};
 ghost use Rattle.std.specs.Option.{option_copied, option_copied_mut};
-ghost use Rattle.std.specs.Ordering.{nat_cmp};
 ghost use Rattle.std.specs.FinMap as map;
-ghost use Rattle.std.specs.Coded.{coded_ℕ};
 ghost use Rattle.std.specs.Borrow.{sem};
 ghost use Rattle.number_map.specs.Lending.{LendsValue};
 
+use crate::block::{Block, SPAN};
 use std::alloc::{AllocError, Global};
 use std::collections::BTreeMap;
 use std::marker::Model;
@@ -16,19 +17,28 @@ use std::marker::Model;
 /// A finite map from numbers to values.
 #[derive(Drop)]
 pub struct NumberMap<V> {
-    kept: BTreeMap<u64, V>,
+    blocks: BTreeMap<u64, Block<V>>,
+    alloc: Global,
 }
 
 impl<V> Model for NumberMap<V> {
     ghost use Rattle.std.specs.Ordering.{nat_cmp};
     ghost use Rattle.std.specs.FinMap as map;
     ghost use Rattle.std.specs.Coded.{coded_ℕ};
+    ghost use Rattle.number_map.specs.Places.{numbers};
 
     ghost Value = { map.FinMap nat_cmp V };
 
     ghost coded = { map.code coded_ℕ V.code };
 
-    ghost view = { λ a. map.from_entries a.kept.entries };
+    ghost view = { λ a. numbers a.blocks.entries };
+}
+
+/// The place of a number in its block.
+fn place_of(key: u64) -> u32
+    ensures value { result ≡ key % 32 }
+{
+    (key % SPAN) as u32
 }
 
 impl<V: Drop> NumberMap<V> {
@@ -37,7 +47,8 @@ impl<V: Drop> NumberMap<V> {
         ensures { result ≡ map.empty }
     {
         NumberMap {
-            kept: BTreeMap::new(alloc),
+            blocks: BTreeMap::new(alloc),
+            alloc,
         }
     }
 
@@ -45,7 +56,8 @@ impl<V: Drop> NumberMap<V> {
     pub fn get(&self, key: u64) -> Option<&V>
         ensures { option_copied result ≡ map.get self.now key }
     {
-        self.kept.get(&key)
+        let block = self.blocks.get(&(key / SPAN))?;
+        block.get(place_of(key))
     }
 
     /// Puts a value at a number; the value that stood there is dropped. Where memory is refused nothing has changed; that
@@ -55,8 +67,16 @@ impl<V: Drop> NumberMap<V> {
         ensures err { OnErr result (self.new ≡ self.old) }
         ensures absent { OnErr result (map.contains_key self.old key ≡ false) }
     {
-        self.kept.insert(key, value)?;
-        Ok(())
+        let number = key / SPAN;
+        match self.blocks.get_mut(&number) {
+            Some(block) => block.insert(place_of(key), value),
+            None => {
+                let mut block = Block::new(self.alloc);
+                block.insert(place_of(key), value)?;
+                self.blocks.insert(number, block)?;
+                Ok(())
+            }
+        }
     }
 
     /// The value at a number, to be changed in its place.
@@ -64,7 +84,8 @@ impl<V: Drop> NumberMap<V> {
         ensures* writes_back { sem 𝓛 (LendsValue V.row self.entry key result) }
         ensures value { option_copied_mut result ≡ map.get self.old key }
     {
-        self.kept.get_mut(&key)
+        let block = self.blocks.get_mut(&(key / SPAN))?;
+        block.get_mut(place_of(key))
     }
 
     /// Takes out the value at a number.
@@ -73,6 +94,12 @@ impl<V: Drop> NumberMap<V> {
         ensures rest { self.new ≡ map.remove self.old key }
         ensures none { IfNone result (self.new ≡ self.old) }
     {
-        self.kept.remove(&key)
+        let number = key / SPAN;
+        let block = self.blocks.get_mut(&number)?;
+        let value = block.remove(place_of(key))?;
+        if block.is_empty() {
+            self.blocks.remove(&number);
+        }
+        Some(value)
     }
 }

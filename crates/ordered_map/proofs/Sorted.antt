@@ -19,6 +19,9 @@ module _ {X : Type 0} where
   sorted [] h = refl
   sorted (e ∷ es) h = ap (λ b. b && is_sorted nat_cmp es) (below e.0 es h.0) ∙ sorted es h.1
 
+  pub rising_of : (es : List (ℕ × X)) → IsStrictlySortedBy nat_cmp (keys_of es) → T (is_sorted nat_cmp es)
+  rising_of es h = subst T (sym (sorted es h)) tt
+
   pub entries_of : (es : List (ℕ × X)) → IsStrictlySortedBy nat_cmp (keys_of es) → entries (from_entries {R = nat_cmp} es) ≡ es
   entries_of es h =
       let rising : T (is_sorted nat_cmp es) = subst T (sym (sorted es h)) tt in

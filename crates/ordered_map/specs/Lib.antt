@@ -1,1 +1,4 @@
+pub mod ForestLending
+pub mod LeafLending
 pub mod Lending
+pub mod Rising

@@ -1,6 +1,10 @@
 //! A finite map from numbers whose entries can be gone through in order. Contracts see it as the map alone.
 #![tactic(auto)]
 
+mod forest;
+pub mod iter;
+mod leaf;
+
 ghost use Rattle.std.specs.Prelude.{◌≡◌, ℕ, IfNone, IfOk, OnOk, OnErr};
 ghost use Rattle.std.specs.Option.{option_copied, option_copied_mut};
 ghost use Rattle.std.specs.FinMap as map;
@@ -8,18 +12,20 @@ ghost use Rattle.std.specs.Map.Iter.{ShowsInOrder, deref_pair};
 ghost use Rattle.std.specs.Borrow.{sem};
 ghost use Rattle.ordered_map.specs.Lending.{LendsValue};
 
+use crate::forest::Forest;
+use crate::iter::Iter;
 use std::alloc::{AllocError, Global};
-use std::collections::BTreeMap;
-use std::collections::btree_map::Iter;
 use std::marker::Model;
 
 /// A finite map from numbers to values.
 #[derive(Drop)]
 pub struct OrderedMap<V> {
-    kept: BTreeMap<u64, V>,
+    forest: Forest<V>,
+    count: usize,
 }
 
 impl<V> Model for OrderedMap<V> {
+    ghost use Rattle.std.specs.Prelude.{◌≡◌};
     ghost use Rattle.std.specs.Ordering.{nat_cmp};
     ghost use Rattle.std.specs.FinMap as map;
     ghost use Rattle.std.specs.Coded.{coded_ℕ};
@@ -28,7 +34,9 @@ impl<V> Model for OrderedMap<V> {
 
     ghost coded = { map.code coded_ℕ V.code };
 
-    ghost view = { λ a. map.from_entries a.kept.entries };
+    ghost view = { λ a. a.forest };
+
+    ghost invariant = { λ a. a.count ≡ map.len a.forest };
 }
 
 impl<V: Drop> OrderedMap<V> {
@@ -37,7 +45,8 @@ impl<V: Drop> OrderedMap<V> {
         ensures { result ≡ map.empty }
     {
         OrderedMap {
-            kept: BTreeMap::new(alloc),
+            forest: Forest::new(alloc),
+            count: 0,
         }
     }
 
@@ -45,22 +54,22 @@ impl<V: Drop> OrderedMap<V> {
     pub fn len(&self) -> usize
         ensures { result ≡ map.len self.now }
     {
-        self.kept.len()
+        self.count
     }
 
     /// The entries, in rising number.
-    pub fn iter(&self) -> Iter<'_, u64, V>
+    pub fn iter(&self) -> Iter<'_, V>
         ensures rest { result ≡ map.entries self.now }
         ensures runs { ShowsInOrder (deref_pair {K = ℕ} {X = V}) }
     {
-        self.kept.iter()
+        self.forest.iter()
     }
 
     /// The value at a number.
     pub fn get(&self, key: u64) -> Option<&V>
         ensures { option_copied result ≡ map.get self.now key }
     {
-        self.kept.get(&key)
+        self.forest.get(key)
     }
 
     /// Puts a value at a number; the value that stood there is dropped. At an error nothing has changed.
@@ -68,7 +77,12 @@ impl<V: Drop> OrderedMap<V> {
         ensures ok { OnOk result (self.new ≡ map.insert self.old key value) }
         ensures err { OnErr result (self.new ≡ self.old) }
     {
-        self.kept.insert(key, value)?;
+        if self.count == usize::MAX {
+            return Err(AllocError);
+        }
+        if self.forest.insert(key, value)? {
+            self.count += 1;
+        }
         Ok(())
     }
 
@@ -77,7 +91,7 @@ impl<V: Drop> OrderedMap<V> {
         ensures* writes_back { sem 𝓛 (LendsValue V.row self.entry key result) }
         ensures value { option_copied_mut result ≡ map.get self.old key }
     {
-        self.kept.get_mut(&key)
+        self.forest.get_mut(key)
     }
 
     /// Takes out the value at a number.
@@ -86,6 +100,8 @@ impl<V: Drop> OrderedMap<V> {
         ensures rest { self.new ≡ map.remove self.old key }
         ensures none { IfNone result (self.new ≡ self.old) }
     {
-        self.kept.remove(&key)
+        let value = self.forest.remove(key)?;
+        self.count -= 1;
+        Some(value)
     }
 }

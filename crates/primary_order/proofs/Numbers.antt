@@ -15,7 +15,8 @@ use Rattle.primary_order.specs.declared.kept.Standing.TheVariants.{IsPending, Is
 use Rattle.primary_order.specs.declared.kept.Kept.{Kept}
 use Rattle.primary_order.specs.declared.waiting.Waiting.{Waiting}
 use Rattle.primary_order.specs.declared.primary.Primary.{Primary}
-use Rattle.primary_order.specs.PrimaryOrder.{NumberTable, counter_limit, known, known_by, answer_by, kept_as, new_answer, numbered, numbered_if, denied_if, seen_at, stood_by, settled_kept, settled_by, waiting_by, refused_by}
+use Rattle.gfs_types.specs.Counters.{counter_limit}
+use Rattle.primary_order.specs.PrimaryOrder.{NumberTable, known, known_by, answer_by, kept_as, new_answer, numbered, numbered_if, denied_if, seen_at, stood_by, settled_kept, settled_by, waiting_by, refused_by}
 use Rattle.primary_order.specs.Laws.{OrderCall, Attempt, AttemptWithoutMemory, Deny, Acknowledge, Refuse, ExtendLease, Report, EndLease, after_call, serials_in, serials_by, times_new_by, times_new}
 
 -- the number is at most the one that is kept

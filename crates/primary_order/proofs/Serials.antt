@@ -12,7 +12,8 @@ use Rattle.primary_order.specs.declared.kept.Standing.TheVariants.{IsPending, Is
 use Rattle.primary_order.specs.declared.kept.Kept.{Kept}
 use Rattle.primary_order.specs.declared.waiting.Waiting.{Waiting}
 use Rattle.primary_order.specs.declared.primary.Primary.{Primary}
-use Rattle.primary_order.specs.PrimaryOrder.{counter_limit, known, known_by, answer_by, new_answer, numbered, numbered_if, denied_if, seen_at, settled_kept, settled_by, waiting_by, refused_by}
+use Rattle.gfs_types.specs.Counters.{counter_limit}
+use Rattle.primary_order.specs.PrimaryOrder.{known, known_by, answer_by, new_answer, numbered, numbered_if, denied_if, seen_at, settled_kept, settled_by, waiting_by, refused_by}
 use Rattle.primary_order.specs.Laws.{OrderCall, Attempt, AttemptWithoutMemory, Deny, Acknowledge, Refuse, ExtendLease, Report, EndLease, after_call, serials_in, serials_by, serials_of, counted_from}
 
 abbrev Next : ℕ → List ℕ → ℕ → Type 0

@@ -16,7 +16,8 @@ use Rattle.leases.specs.LeaseHeld.{HeldState, at_moment, counts, extended_if}
 use Rattle.primary_order.specs.declared.answer.Accept.{Accept}
 use Rattle.primary_order.specs.declared.waiting.Waiting.{Waiting}
 use Rattle.primary_order.specs.declared.primary.Primary.{Primary}
-use Rattle.primary_order.specs.PrimaryOrder.{counter_limit, new_primary, known, numbered, numbered_if, denied_if, seen_at, is_last, without_at, less_member, settled_kept, settled_by, success_of, waiting_by, ack_answer, refused_by}
+use Rattle.gfs_types.specs.Counters.{counter_limit}
+use Rattle.primary_order.specs.PrimaryOrder.{new_primary, known, numbered, numbered_if, denied_if, seen_at, is_last, without_at, less_member, settled_kept, settled_by, success_of, waiting_by, ack_answer, refused_by}
 use Rattle.primary_order.specs.Laws.{OrderCall, Attempt, AttemptWithoutMemory, Deny, Acknowledge, Refuse, ExtendLease, Report, EndLease, after_call, after_calls, members_by, members_of}
 
 -- what waits under a serial was given, and waits for that member

@@ -3,6 +3,7 @@ use Rattle.std.specs.Prelude.{◌≡◌, ℕ, ◌+◌, Bool, true, false, ◌==�
 use Rattle.std.specs.List.{list_all, position, remove}
 use Rattle.std.specs.FinMap as map
 use Rattle.std.specs.Ordering.{nat_cmp}
+use Rattle.gfs_types.specs.Counters.{counter_limit}
 use Rattle.gfs_types.specs.declared.ids.ClientId.{ClientId}
 use Rattle.gfs_types.specs.declared.refusal.Refusal.{Refusal}
 use Rattle.gfs_types.specs.declared.refusal.Refusal.TheVariants as refusal
@@ -20,9 +21,6 @@ use Rattle.primary_order.specs.declared.primary.Primary.{Primary}
 
 abbrev pub NumberTable : Type 0 → Type 0
 NumberTable X = map.FinMap nat_cmp X
-
-abbrev pub counter_limit : ℕ
-counter_limit = 4_611_686_018_427_387_903
 
 abbrev pub new_primary : HeldState → Primary
 new_primary held = record { held = held; serial = 0; was_used_since_report = false; kept = map.empty; waiting = map.empty }

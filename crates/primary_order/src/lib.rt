@@ -8,6 +8,3 @@ pub mod laws;
 pub mod order;
 pub mod primary;
 pub mod waiting;
-
-/// The greatest number that a counter takes.
-pub const COUNTER_LIMIT: u64 = 4_611_686_018_427_387_903;

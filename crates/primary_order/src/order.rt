@@ -3,6 +3,7 @@
 ghost use Rattle.std.specs.Prelude.{◌≡◌, ◌<◌, false, OnOk, OnErr};
 ghost use Rattle.std.specs.Option.{option_map};
 ghost use Rattle.std.specs.FinMap as map;
+ghost use Rattle.gfs_types.specs.Counters.{counter_limit};
 ghost use Rattle.leases.specs.LeaseHeld.{extended};
 ghost use Rattle.primary_order.specs.SerialOrder.{new_order, attempted, denied, numbered, settled, acknowledged, attempt_of, refused_by};
 
@@ -98,7 +99,7 @@ impl SerialOrder {
         seq: u64,
         place: Option<u64>,
     ) -> Result<(), NoMemory>
-        requires { self.old.serial < 4_611_686_018_427_387_903 }
+        requires { self.old.serial < counter_limit }
         ensures ok { OnOk result (self.new ≡ numbered self.old client seq place) }
         ensures err { OnErr result (self.new ≡ self.old) }
     {

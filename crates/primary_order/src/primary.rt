@@ -6,11 +6,10 @@ ghost use Rattle.leases.specs.LeaseHeld.{counts, after_call};
 ghost use Rattle.leases.specs.LeaseHeld.HeldCall.{Extend, End};
 ghost use Rattle.primary_order.specs.PrimaryOrder.{new_primary, known, denied, seen_at, place_of, accept_answer, accepted, IsNewAttempt, acknowledged, ack_answer, refused, extended, ended};
 
-use crate::COUNTER_LIMIT;
 use crate::answer::{Accept, Settled};
 use crate::kept::{Kept, Standing, answer, restore, set_standing};
 use crate::waiting::{Members, Waiting, acknowledge};
-use gfs_types::ids::{ClientId, Moment, Serial, ServerId};
+use gfs_types::ids::{ClientId, MAX_COUNTER, Moment, Serial, ServerId};
 use gfs_types::mutation::Mutation;
 use gfs_types::no_memory::NoMemory;
 use gfs_types::refusal::Refusal;
@@ -118,7 +117,7 @@ impl Primary {
         if let Some(answer) = self.known(client, seq) {
             return Ok(answer);
         }
-        if self.serial >= COUNTER_LIMIT {
+        if self.serial >= MAX_COUNTER {
             return Ok(Accept::Pending);
         }
         let Ok(members) = Members::of(alloc, self.held.members()) else {

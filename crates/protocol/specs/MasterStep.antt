@@ -12,7 +12,8 @@ use Rattle.messages.specs.declared.event.Input.TheVariants as input
 use Rattle.log_records.specs.declared.record.Record.TheVariants as log
 use Rattle.gfs_types.specs.Paths.{Path, trash, is_child}
 use Rattle.relaxed_file.specs.Names.{Node, Dir, File}
-use Rattle.protocol.specs.Tables.{Table, counter_limit, first_numbers, first_of_list, kept_where, map_values}
+use Rattle.gfs_types.specs.Counters.{counter_limit}
+use Rattle.protocol.specs.Tables.{Table, first_numbers, first_of_list, kept_where, map_values}
 use Rattle.protocol.specs.Choice.{Choice, Ending, Goes, Lost, Stops, in_order, decided_changes, made_changes, change_under_way}
 use Rattle.protocol.specs.Sending.{client_number, server_number, file_id}
 use Rattle.chunk_table.specs.ChunkTable.{ChunkRow, chunk_of}

@@ -67,8 +67,8 @@ use Rattle.protocol_call_laws.proofs.UsedIndexes.{located_part}
 use Rattle.protocol_call_laws.proofs.ToldParts.{IsLocated, HasAsked, IsPartTold, AreTold, AllTold, asked_later, located_later, told_later, all_later, file_called, IsBetween, HasData, IsUnderWay, FineReply, CameAs, Leaving, step_leaves, call_leaves}
 
 -- what stands of a call, of a client that used numbers up to this one
-abbrev Stands : List Message → ℕ → ℕ → ℕ → ℕ → Call → Option Message → CurrentCall → Stage → Type 0
-Stands sent client size most file A o c st = StandsAt AnyUsed (IsBetween sent client size file A most) (HasData sent client size file A) (IsUnderWay sent client size file A) (FineReply sent client size file A) o c st
+abbrev HasToldParts : List Message → ℕ → ℕ → ℕ → ℕ → Call → Option Message → CurrentCall → Stage → Type 0
+HasToldParts sent client size most file A o c st = StandsAt AnyUsed (IsBetween sent client size file A most) (HasData sent client size file A) (IsUnderWay sent client size file A) (FineReply sent client size file A) o c st
 
 module _ (sent more : List Message) (client size file : ℕ) (A : Call) (most later : ℕ) (rises : most ≤ later) where
   between_later : (c : CurrentCall) → IsBetween sent client size file A most c → IsBetween (sent ++ more) client size file A later c
@@ -95,7 +95,7 @@ module _ (sent more : List Message) (client size file : ℕ) (A : Call) (most la
     h.4,
   )
 
-  stands_later : (o : Option Message) → ((m : Message) → o ≡ Some m → (x : Message) × IsAmong (sent ++ more) x × (x.sender ≡ m.sender) × (x.body ≡ m.body)) → (c : CurrentCall) (st : Stage) → Stands sent client size most file A o c st → Stands (sent ++ more) client size later file A None c st
+  stands_later : (o : Option Message) → ((m : Message) → o ≡ Some m → (x : Message) × IsAmong (sent ++ more) x × (x.sender ≡ m.sender) × (x.body ≡ m.body)) → (c : CurrentCall) (st : Stage) → HasToldParts sent client size most file A o c st → HasToldParts (sent ++ more) client size later file A None c st
   stands_later o there c AskedNames h = (h.0, between_later c h.1)
   stands_later o there c (AskedWhere number) h = between_later c h
   stands_later o there c MustAskAgain h = between_later c h
@@ -107,7 +107,7 @@ module _ (sent more : List Message) (client size file : ℕ) (A : Call) (most la
 
 -- what holds of a client
 abbrev IsFine : List Message → ℕ → ℕ → ClientState → Type 0
-IsFine sent size client s = (s.config.chunk ≡ size) × ((c : CurrentCall) → s.current ≡ Some c → Stands sent client size s.number c.file.0 c.asked None c c.stage)
+IsFine sent size client s = (s.config.chunk ≡ size) × ((c : CurrentCall) → s.current ≡ Some c → HasToldParts sent client size s.number c.file.0 c.asked None c c.stage)
 
 fine_later : (sent more : List Message) (size client : ℕ) (s : ClientState) → IsFine sent size client s → IsFine (sent ++ more) size client s
 fine_later sent more size client s h = (h.0, λ c is. stands_later sent more client size c.file.0 c.asked s.number s.number (omega arith) None (λ m none. none_some m none) c c.stage (h.1 c is))
@@ -119,8 +119,8 @@ module _ (sent : List Message) (size client : ℕ) (s : ClientState) (up : IsTru
   used : (number : ℕ) (aim : Target) → HasAsked sent s.id number aim → number ≤ s.number
   used number aim h = (subst (IsRequestOf s) h.body_is (numbered.used up (h.sent_is).0 h.asked (h.sent_is).1 (h.sender_is ∙ ap (λ (n : ℕ). the_client n) numbered.id))).1
 
-  own_stands : (c : CurrentCall) → s.current ≡ Some c → Stands sent s.id size s.number c.file.0 c.asked None c c.stage
-  own_stands c is = subst (λ (n : ℕ). Stands sent n size s.number c.file.0 c.asked None c c.stage) (sym own) (fine.1 c is)
+  own_stands : (c : CurrentCall) → s.current ≡ Some c → HasToldParts sent s.id size s.number c.file.0 c.asked None c c.stage
+  own_stands c is = subst (λ (n : ℕ). HasToldParts sent n size s.number c.file.0 c.asked None c c.stage) (sym own) (fine.1 c is)
 
   abbrev Left : Taken ClientState → Type 0
   Left t = IsFine (sent ++ stamped (suc (length sent)) t.out.sent) size client t.state
@@ -129,13 +129,13 @@ module _ (sent : List Message) (size client : ℕ) (s : ClientState) (up : IsTru
   module _ (moment file : ℕ) (A : Call) (E : Answer → Type 0) (d : ClientDoing) (step : IsStepOf (client_at s moment) d)
       (calm : IsCalm (client_at s moment) AnyUsed (IsBetween sent s.id size file A s.number) (HasData sent s.id size file A) (IsUnderWay sent s.id size file A) (FineReply sent s.id size file A) E (Unit {0}) d) where
     stage_now : (a : Option Answer) (c : CurrentCall) → StandsNow (client_at s moment) AnyUsed (IsBetween sent s.id size file A s.number) (HasData sent s.id size file A) (IsUnderWay sent s.id size file A) (FineReply sent s.id size file A) E (Unit {0}) d.sent a (Some c)
-        → c.asked ≡ A → c.file.0 ≡ file → Stands (sent ++ stamped (suc (length sent)) (option_to_list d.sent)) s.id size d.client.number c.file.0 c.asked None c c.stage
+        → c.asked ≡ A → c.file.0 ≡ file → HasToldParts (sent ++ stamped (suc (length sent)) (option_to_list d.sent)) s.id size d.client.number c.file.0 c.asked None c c.stage
     stage_now a c h same on_file =
-        subst (λ (n : ℕ). Stands (sent ++ stamped (suc (length sent)) (option_to_list d.sent)) s.id size d.client.number n c.asked None c c.stage) (sym on_file)
-        (subst (λ (x : Call). Stands (sent ++ stamped (suc (length sent)) (option_to_list d.sent)) s.id size d.client.number file x None c c.stage) (sym same)
+        subst (λ (n : ℕ). HasToldParts (sent ++ stamped (suc (length sent)) (option_to_list d.sent)) s.id size d.client.number n c.asked None c c.stage) (sym on_file)
+        (subst (λ (x : Call). HasToldParts (sent ++ stamped (suc (length sent)) (option_to_list d.sent)) s.id size d.client.number file x None c c.stage) (sym same)
         (stands_later sent (stamped (suc (length sent)) (option_to_list d.sent)) s.id size file A s.number d.client.number step.numbers d.sent (λ m is. sent_there sent (suc (length sent)) d.sent m is) c c.stage h.1))
 
-    asked_of : (o : Option Message) (c : CurrentCall) (st : Stage) → Stands sent s.id size s.number file A o c st → c.asked ≡ A
+    asked_of : (o : Option Message) (c : CurrentCall) (st : Stage) → HasToldParts sent s.id size s.number file A o c st → c.asked ≡ A
     asked_of o c AskedNames h = (h.1).0
     asked_of o c (AskedWhere number) h = h.0
     asked_of o c MustAskAgain h = h.0
@@ -145,7 +145,7 @@ module _ (sent : List Message) (size client : ℕ) (s : ClientState) (up : IsTru
     asked_of o c IsOver h = h.0
     asked_of o c (HasAnswer reply) h = (h.0).0
 
-    file_of : (o : Option Message) (c : CurrentCall) (st : Stage) → Stands sent s.id size s.number file A o c st → c.file.0 ≡ file
+    file_of : (o : Option Message) (c : CurrentCall) (st : Stage) → HasToldParts sent s.id size s.number file A o c st → c.file.0 ≡ file
     file_of o c AskedNames h = (h.1).2
     file_of o c (AskedWhere number) h = h.2
     file_of o c MustAskAgain h = h.2
@@ -160,7 +160,7 @@ module _ (sent : List Message) (size client : ℕ) (s : ClientState) (up : IsTru
       ap (λ (g : Config). g.chunk) (calm.kept).0 ∙ fine.0,
       λ c is.
           let now = subst (λ (o : Option CurrentCall). StandsNow (client_at s moment) AnyUsed (IsBetween sent s.id size file A s.number) (HasData sent s.id size file A) (IsUnderWay sent s.id size file A) (FineReply sent s.id size file A) E (Unit {0}) d.sent d.answer o) is calm.stands in
-          subst (λ (n : ℕ). Stands (sent ++ stamped (suc (length sent)) (option_to_list d.sent)) n size d.client.number c.file.0 c.asked None c c.stage) own (stage_now d.answer c now (asked_of d.sent c c.stage now.1) (file_of d.sent c c.stage now.1)),
+          subst (λ (n : ℕ). HasToldParts (sent ++ stamped (suc (length sent)) (option_to_list d.sent)) n size d.client.number c.file.0 c.asked None c c.stage) own (stage_now d.answer c now (asked_of d.sent c c.stage now.1) (file_of d.sent c c.stage now.1)),
     )
 
   ends_left : (d : ClientDoing) (e : Ending) → IsFine (sent ++ stamped (suc (length sent)) (option_to_list d.sent)) size client d.client → Left (client_ends s d e)
@@ -203,12 +203,12 @@ module _ (sent : List Message) (size client : ℕ) (s : ClientState) (up : IsTru
       over.2,
     )
 
-    asking_stands : (x : CurrentCall) → Some (record c { stage = SentMutate chunk number }) ≡ Some x → Stands (sent ++ stamped (suc (length sent)) (Word ∷ [])) client size s.number x.file.0 x.asked None x x.stage
+    asking_stands : (x : CurrentCall) → Some (record c { stage = SentMutate chunk number }) ≡ Some x → HasToldParts (sent ++ stamped (suc (length sent)) (Word ∷ [])) client size s.number x.file.0 x.asked None x x.stage
     asking_stands x is =
-        subst (λ (y : CurrentCall). Stands Sent client size s.number y.file.0 y.asked None y y.stage) (same_some (record c { stage = SentMutate chunk number }) x is)
-        (subst (λ (n : ℕ). Stands Sent n size s.number c.file.0 c.asked None Next (SentMutate chunk number)) own
-        (subst (λ (n : ℕ). Stands Sent s.id size s.number n c.asked None Next (SentMutate chunk number)) (sym over.2)
-        (subst (λ (y : Call). Stands Sent s.id size s.number file y None Next (SentMutate chunk number)) (sym over.0) (mutates, way))))
+        subst (λ (y : CurrentCall). HasToldParts Sent client size s.number y.file.0 y.asked None y y.stage) (same_some (record c { stage = SentMutate chunk number }) x is)
+        (subst (λ (n : ℕ). HasToldParts Sent n size s.number c.file.0 c.asked None Next (SentMutate chunk number)) own
+        (subst (λ (n : ℕ). HasToldParts Sent s.id size s.number n c.asked None Next (SentMutate chunk number)) (sym over.2)
+        (subst (λ (y : Call). HasToldParts Sent s.id size s.number file y None Next (SentMutate chunk number)) (sym over.0) (mutates, way))))
 
   -- a step
   module _ (moment : ℕ) (i : Input) (came : (m : Message) → i ≡ input.Deliver m → IsAmong sent m)
@@ -468,7 +468,7 @@ answered_writes_have_their_bytes config servers clients w r index moment s i cho
 
 -- the parts before the one in hand
 
-told_before : (sent : List Message) (client size file most : ℕ) (A : Call) (c : CurrentCall) (st : Stage) → Stands sent client size most file A None c st → (limit : ℕ) × AreTold sent client size limit file A c.index
+told_before : (sent : List Message) (client size file most : ℕ) (A : Call) (c : CurrentCall) (st : Stage) → HasToldParts sent client size most file A None c st → (limit : ℕ) × AreTold sent client size limit file A c.index
 told_before sent client size file most A c AskedNames h = (most, (h.1).1)
 told_before sent client size file most A c (AskedWhere number) h = (most, h.1)
 told_before sent client size file most A c MustAskAgain h = (most, h.1)
@@ -482,7 +482,7 @@ pub earlier_parts_are_settled : EarlierPartsAreSettled
 earlier_parts_are_settled config servers clients w r index s at c fd offset bytes current asked =
     (told.numbers, λ part less has. part_placed config servers clients w r (suc index) c.file.0 offset bytes fd part (told.numbers part) (told.told part less has), λ part later order less has also. told.rising part later order less has also)
   where
-    stands : Stands w.sent (suc index) config.chunk s.number c.file.0 c.asked None c c.stage
+    stands : HasToldParts w.sent (suc index) config.chunk s.number c.file.0 c.asked None c c.stage
     stands = ((all_on config servers clients w r).fine index s at).1 c current
 
     limit : ℕ

@@ -40,7 +40,7 @@ use Rattle.protocol_entry_laws.proofs.Deadlines.{same_counted}
 use Rattle.protocol_call_laws.proofs.CallWalk.{IsOfPart}
 use Rattle.protocol_call_laws.specs.ToldIndexes.{IsAskFor, IsIndexOf, AsksAreForThePartInHand}
 use Rattle.protocol_call_laws.proofs.Answerers.{HasAskOf, told_as_asked}
-use Rattle.protocol_call_laws.proofs.KeptIndexes.{IsKeyed, Stands, Knows, knows_later, steps_here, calls_here, refused_here}
+use Rattle.protocol_call_laws.proofs.KeptIndexes.{IsKeyed, WasAskSent, Knows, knows_later, steps_here, calls_here, refused_here}
 
 -- any message
 abbrev Any : Body → Type 0
@@ -130,7 +130,7 @@ wanted_in none other = none
 
 module _ (config : Config) (servers clients : ℕ) (w : WorldState) (r : IsReached config servers clients w) (index : ℕ) (s : ClientState) (at : element_at w.clients index ≡ Some s) where
   pub asked_for : (c : CurrentCall) (number : ℕ) → s.current ≡ Some c → c.stage ≡ AskedWhere number → IsAskFor w.sent (suc index) c number
-  asked_for c number now staged = subst (λ (st : Stage). Stands w.sent (suc index) c st) staged (((indexes_reached config servers clients w r).known index s at).stands c now)
+  asked_for c number now staged = subst (λ (st : Stage). WasAskSent w.sent (suc index) c st) staged (((indexes_reached config servers clients w r).known index s at).stands c now)
 
   part_of_wanted : (c : CurrentCall) (asked : Call) (at_index : ℕ) → IsIndexOf (wanted_by c.index asked) at_index → IsOfPart asked c.index at_index
   part_of_wanted c (call.Write fd offset bytes) at_index h = h

@@ -85,7 +85,7 @@ own_ask sent ms index senders fits client place m at from =
     let one : suc index ≡ client = ap client_number (sym (all_at (λ (y : Message). y.sender ≡ the_client (suc index)) ms place m senders at) ∙ from) in
     subst (λ (n : ℕ). AskFits sent n m.body) one (all_at (λ (y : Message). AskFits sent (suc index) y.body) ms place m fits at)
 
-record IsSound (w : WorldState) : Type 0 where
+record HasFittingAsks (w : WorldState) : Type 0 where
   numbered : AreNumbered w.sent w.clients
   fitting : (index : ℕ) (s : ClientState) → element_at w.clients index ≡ Some s → IsFitting w.sent (suc index) s
   asked : AreAsked w.sent
@@ -212,7 +212,7 @@ said_by : (index : ℕ) (s : ClientState) → s.id ≡ suc index → (t : Client
 said_by index s id t alike d None is step = tt
 said_by index s id t alike d (Some m) is step = ((step.says m is).0 ∙ ap (λ (n : ℕ). the_client n) (alike ∙ id), tt)
 
-each_sound : (config : Config) (servers clients : ℕ) (w : WorldState) → IsReached config servers clients w → IsSound w → HoldsAfter w (λ e x. IsSound x.world)
+each_sound : (config : Config) (servers clients : ℕ) (w : WorldState) → IsReached config servers clients w → HasFittingAsks w → HoldsAfter w (λ e x. HasFittingAsks x.world)
 each_sound config servers clients w r h =
     let n = each_event w h.numbered in
     let k : ℕ = suc (length w.sent) in
@@ -253,19 +253,19 @@ each_sound config servers clients w r h =
       rots = λ e index handle s d place byte is_kept at there up. record { numbered = h.numbered; fitting = h.fitting; asked = h.asked };
     }
 
-sound_on : (config : Config) (servers clients : ℕ) (w : WorldState) (steps : List (Event × Choice)) → IsReached config servers clients w → IsSound w → IsSound (after_events w steps)
+sound_on : (config : Config) (servers clients : ℕ) (w : WorldState) (steps : List (Event × Choice)) → IsReached config servers clients w → HasFittingAsks w → HasFittingAsks (after_events w steps)
 sound_on config servers clients w [] r h = h
 sound_on config servers clients w (step ∷ rest) r h =
-    sound_on config servers clients (happens w step.0 step.1).world rest (reached_later config servers clients w (step ∷ []) r) (holds_after w (λ e x. IsSound x.world) (each_sound config servers clients w r h) step.0 step.1)
+    sound_on config servers clients (happens w step.0 step.1).world rest (reached_later config servers clients w (step ∷ []) r) (holds_after w (λ e x. HasFittingAsks x.world) (each_sound config servers clients w r h) step.0 step.1)
 
 new_fits : (config : Config) (ns : List ℕ) (index : ℕ) (s : ClientState) → element_at (map (new_client config) ns) index ≡ Some s → s.current ≡ None
 new_fits config [] index s is = none_some s is
 new_fits config (n ∷ ns) zero s is = ap (λ (c : ClientState). c.current) (sym (same_some (new_client config n) s is))
 new_fits config (n ∷ ns) (suc index) s is = new_fits config ns index s is
 
-sound_reached : (config : Config) (servers clients : ℕ) (w : WorldState) → IsReached config servers clients w → IsSound w
+sound_reached : (config : Config) (servers clients : ℕ) (w : WorldState) → IsReached config servers clients w → HasFittingAsks w
 sound_reached config servers clients w r =
-    subst (λ (u : WorldState). IsSound u) r.1
+    subst (λ (u : WorldState). HasFittingAsks u) r.1
     (sound_on config servers clients (new_world config servers clients) r.0 ([], refl)
     (record {
       numbered = numbered_reached config servers clients (new_world config servers clients) ([], refl);

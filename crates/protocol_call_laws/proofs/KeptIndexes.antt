@@ -41,24 +41,24 @@ use Rattle.protocol_call_laws.specs.ToldIndexes.{IsAskFor}
 abbrev pub IsKeyed : Place × Cached → Type 0
 IsKeyed e = e.1.location.index ≡ e.0.index
 
-abbrev pub Stands : List Message → ℕ → CurrentCall → Stage → Type 0
-Stands sent client c (AskedWhere number) = IsAskFor sent client c number
-Stands sent client c other = Unit {0}
+abbrev pub WasAskSent : List Message → ℕ → CurrentCall → Stage → Type 0
+WasAskSent sent client c (AskedWhere number) = IsAskFor sent client c number
+WasAskSent sent client c other = Unit {0}
 
 -- a client, by the messages that were sent
 pub record Knows (sent : List Message) (client : ℕ) (s : ClientState) : Type 0 where
   pub keyed : AllOf IsKeyed s.cache.entries
-  pub stands : (c : CurrentCall) → s.current ≡ Some c → Stands sent client c c.stage
+  pub stands : (c : CurrentCall) → s.current ≡ Some c → WasAskSent sent client c c.stage
 
 module _ (sent more : List Message) (client : ℕ) where
-  stands_later : (c : CurrentCall) (st : Stage) → Stands sent client c st → Stands (sent ++ more) client c st
+  stands_later : (c : CurrentCall) (st : Stage) → WasAskSent sent client c st → WasAskSent (sent ++ more) client c st
   stands_later c (AskedWhere number) h = record { ask = h.ask; deadline = h.deadline; lost = h.lost; sent_is = sent_before sent more h.ask h.sent_is; sender_is = h.sender_is; body_is = h.body_is }
   stands_later c other h = tt
 
   pub knows_later : (s : ClientState) → Knows sent client s → Knows (sent ++ more) client s
   knows_later s h = record { keyed = h.keyed; stands = λ c is. stands_later c c.stage (h.stands c is) }
 
-idle_stands : (sent : List Message) (client : ℕ) (c : CurrentCall) (st : Stage) → IsIdle st → Stands sent client c st
+idle_stands : (sent : List Message) (client : ℕ) (c : CurrentCall) (st : Stage) → IsIdle st → WasAskSent sent client c st
 idle_stands sent client c (AskedWhere number) is = absurd is
 idle_stands sent client c other is = tt
 
@@ -100,11 +100,11 @@ module _ (sent : List Message) (k client : ℕ) (s : ClientState) where
   After d = Knows (sent ++ stamped k (option_to_list d.sent)) client d.client
 
   module _ (id_is : s.id ≡ client) (knows : Knows sent client s) where
-    rests : (d : ClientDoing) → AllOf IsKeyed d.client.cache.entries → ((c : CurrentCall) → d.client.current ≡ Some c → Stands sent client c c.stage) → After d
+    rests : (d : ClientDoing) → AllOf IsKeyed d.client.cache.entries → ((c : CurrentCall) → d.client.current ≡ Some c → WasAskSent sent client c c.stage) → After d
     rests d keyed stands = knows_later sent (stamped k (option_to_list d.sent)) client d.client (record { keyed = keyed; stands = stands })
 
-    stays : (d : ClientDoing) (e : CurrentCall) → d.client.current ≡ Some e → Stands sent client e e.stage → AllOf IsKeyed d.client.cache.entries → After d
-    stays d e is stands keyed = rests d keyed (λ c at. subst (λ (x : CurrentCall). Stands sent client x x.stage) (same_some e c (sym is ∙ at)) stands)
+    stays : (d : ClientDoing) (e : CurrentCall) → d.client.current ≡ Some e → WasAskSent sent client e e.stage → AllOf IsKeyed d.client.cache.entries → After d
+    stays d e is stands keyed = rests d keyed (λ c at. subst (λ (x : CurrentCall). WasAskSent sent client x x.stage) (same_some e c (sym is ∙ at)) stands)
 
     answered : (d : ClientDoing) (reply : Answer) → AllOf IsKeyed d.client.cache.entries → After (answers d reply)
     answered d reply keyed = rests (answers d reply) keyed (λ c is. none_some c is)
@@ -115,7 +115,7 @@ module _ (sent : List Message) (k client : ℕ) (s : ClientState) where
         let e : CurrentCall = record c { lost_lease = false; stage = AskedWhere (suc d.client.number) } in
         record {
           keyed = hand.2;
-          stands = λ x is. subst (λ (y : CurrentCall). Stands (sent ++ stamped k (m ∷ [])) client y y.stage) (same_some e x is)
+          stands = λ x is. subst (λ (y : CurrentCall). WasAskSent (sent ++ stamped k (m ∷ [])) client y y.stage) (same_some e x is)
               (record {
                 ask = record m { number = k };
                 deadline = c.deadline;

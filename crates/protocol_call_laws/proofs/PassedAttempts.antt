@@ -31,7 +31,7 @@ use Rattle.protocol_step_laws.specs.Versions.{IsLeaseOver}
 use Rattle.protocol_step_laws.proofs.EndedLeases.{over_leases_number_nothing}
 use Rattle.protocol_version_laws.proofs.ClosedVersions.{clocks_before}
 use Rattle.protocol_step_laws.specs.Reads.{HasAsked}
-use Rattle.protocol_step_laws.proofs.ClientReads.{Stands}
+use Rattle.protocol_step_laws.proofs.ClientReads.{WasRequestSent}
 use Rattle.protocol_step_laws.proofs.Known.{known_reached}
 use Rattle.protocol_step_laws.specs.Locations.{chunk_used, BeganInTime, WasTold, IsToldNow}
 use Rattle.protocol_step_laws.proofs.LocationsUsed.{locations_are_not_used_too_long}
@@ -172,7 +172,7 @@ located config servers clients steps index file chunk seq x h granted =
     grown = subst (λ (u : WorldState). IsGrown v.sent u.sent) (sym (ap (λ (xs : List (Event × Choice)). after_events start xs) was.steps_are ∙ after_both start was.before (was.step ∷ was.after))) (steps_grown v (was.step ∷ was.after))
 
     stood : HasAsked v.sent (suc index) (now.call).file.0 now.asked
-    stood = subst (λ (st : Stage). Stands v.sent (suc index) v.config.chunk now.call st) now.ask_is (((known_reached config servers clients was.before).known index now.client now.client_is).stands now.call now.call_is)
+    stood = subst (λ (st : Stage). WasRequestSent v.sent (suc index) v.config.chunk now.call st) now.ask_is (((known_reached config servers clients was.before).known index now.client now.client_is).stands now.call now.call_is)
 
 -- as a client is about to ask a primary, it asked for earlier numbers alone
 asked_earlier : (config : Config) (servers clients : ℕ) (steps : List (Event × Choice)) (index file : ℕ) (chunk : ToldChunk) (seq : ℕ) (x : Happened) → IsSentFor index (after_events (new_world config servers clients) steps) x file chunk seq

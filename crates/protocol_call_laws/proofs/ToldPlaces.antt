@@ -253,8 +253,8 @@ told_standing config servers clients w r up file l told server version ordered =
       server = server;
       ordered = ordered;
       kept = λ clocks. record {
-        found = subst (λ (xs : List LogChange). AllFound (IsLogTaken file l.index Stands) w.master.disk xs) (sym now.idle)
-            (found_same (IsLogTaken file l.index Stands) w.master.disk (taken_same file l.index Stands m k now.tied.base.base.files (ap (λ (p : Parts). p.next_file) now.same) taken));
+        found = subst (λ (xs : List LogChange). AllFound (IsLogTaken file l.index IsForTold) w.master.disk xs) (sym now.idle)
+            (found_same (IsLogTaken file l.index IsForTold) w.master.disk (taken_same file l.index IsForTold m k now.tied.base.base.files (ap (λ (p : Parts). p.next_file) now.same) taken));
         up = λ _. taken;
       };
     }
@@ -265,8 +265,8 @@ told_standing config servers clients w r up file l told server version ordered =
     k : Logged
     k = state_of w.master.disk
 
-    Stands : ℕ → Type 0
-    Stands q = IsFor l.handle.0 version w q
+    IsForTold : ℕ → Type 0
+    IsForTold q = IsFor l.handle.0 version w q
 
     now : IsUpToLog IsFoundRows IsRowedLog rows_kept w.master
     now = (sent_reached IsOfWaits waits_kept config servers clients w r).base.logged.up up
@@ -274,7 +274,7 @@ told_standing config servers clients w r up file l told server version ordered =
     place : IsPlaceKept file l.index l.handle.0 m
     place = (files_below m now.tied.base.base.here file (stood_file m.table.files file l.index l.handle.0 told.stood), inl told.stood)
 
-    taken : IsTaken file l.index Stands m
+    taken : IsTaken file l.index IsForTold m
     taken = (l.handle.0, place, inl refl)
 
 -- what stands there now

@@ -38,7 +38,7 @@ use Rattle.protocol_laws.proofs.RisingOrders.{set_cases, element_numbered}
 use Rattle.protocol_laws.proofs.ServerMoves.{IsCameIn}
 use Rattle.protocol_step_laws.specs.Reads.{HasAsked, IsTold}
 use Rattle.protocol_step_laws.specs.Locations.{chunk_used, BeganInTime, WasTold, IsToldNow}
-use Rattle.protocol_step_laws.proofs.ClientReads.{Stands, Came, told_later, stepped, called}
+use Rattle.protocol_step_laws.proofs.ClientReads.{WasRequestSent, Came, told_later, stepped, called}
 use Rattle.protocol_step_laws.proofs.Budget.{IsNoMutate}
 use Rattle.protocol_step_laws.proofs.ClientWalk.{place_at}
 use Rattle.protocol_step_laws.proofs.Events.{IsGiven, HoldsAfter, holds_after}
@@ -285,7 +285,7 @@ used_was_told config servers clients steps index s c chunk at current used = (la
     grown = subst (λ (u : WorldState). IsGrown v.sent u.sent) (sym (ap (λ (xs : List (Event × Choice)). after_events start xs) was.steps_are ∙ after_both start was.before (was.step ∷ was.after))) (steps_grown v (was.step ∷ was.after))
 
     stood : HasAsked v.sent (suc index) (now.call).file.0 now.asked
-    stood = subst (λ (st : Stage). Stands v.sent (suc index) v.config.chunk now.call st) now.ask_is (((known_reached config servers clients was.before).known index now.client now.client_is).stands now.call now.call_is)
+    stood = subst (λ (st : Stage). WasRequestSent v.sent (suc index) v.config.chunk now.call st) now.ask_is (((known_reached config servers clients was.before).known index now.client now.client_is).stands now.call now.call_is)
 
     there : IsTold v.sent (suc index) c.file.0 law.0
     there =

@@ -250,7 +250,7 @@ knowing config servers clients w r index moment s i choice at up came G m id han
 
 -- worlds
 
-record IsSound (w : WorldState) : Type 0 where
+record IsToldTruly (w : WorldState) : Type 0 where
   numbered : AreNumbered w.sent w.clients
   leases : (index : ℕ) (s : ServerState) → element_at w.servers index ≡ Some s → AreRight (IsSpentUp w) s.leases
   told : (place : ℕ) (m : Message) → element_at w.sent place ≡ Some m → (server : ℕ) → m.sender ≡ the_server server → Causes (IsSpentUp w) (Reads w.sent) m
@@ -289,7 +289,7 @@ client_silent : (s : ClientState) (d : ClientDoing) (o : Option Message) → IsS
 client_silent s d None step is = tt
 client_silent s d (Some m) step is = let said = step.says m is in (λ server from. client_apart s.id server m.sender said.0 from, tt)
 
-module _ (w : WorldState) (h : IsSound w) (F : DataId → Type 0) (G : ℕ → ℕ → Type 0) (go : (id : DataId) → IsSpentUp w id → F id) (on : (c n : ℕ) → Reads w.sent c n → G c n) where
+module _ (w : WorldState) (h : IsToldTruly w) (F : DataId → Type 0) (G : ℕ → ℕ → Type 0) (go : (id : DataId) → IsSpentUp w id → F id) (on : (c n : ℕ) → Reads w.sent c n → G c n) where
   told_on : (place : ℕ) (m : Message) → element_at w.sent place ≡ Some m → Tells F G m
   told_on place m at server from = caused_on (IsSpentUp w) (Reads w.sent) F G go on m.body m.receiver (h.told place m at server from)
 
@@ -303,7 +303,7 @@ module _ (w : WorldState) (h : IsSound w) (F : DataId → Type 0) (G : ℕ → �
         | inr there ↦ leases_on other u there
       ]
 
-module _ (config : Config) (servers clients : ℕ) (w : WorldState) (r : IsReached config servers clients w) (h : IsSound w) where
+module _ (config : Config) (servers clients : ℕ) (w : WorldState) (r : IsReached config servers clients w) (h : IsToldTruly w) where
   -- what is used up stays so, after an event with these messages
   abbrev Stays : Happened → Type 0
   Stays x = (id : DataId) → IsSpentUp w id → IsSpentUp x.world id
@@ -326,7 +326,7 @@ module _ (config : Config) (servers clients : ℕ) (w : WorldState) (r : IsReach
       (λ m number is reading c from. more_reads (server_step s moment i choice).out.sent c.0 number (record { asked = m; sent_is = came m is; sender_is = from; reads = reading }))
       refl (leases_on w h (IsSpentUp (after_server w index moment (server_step s moment i choice)).world) (Reads (w.sent ++ stamped (suc (length w.sent)) (server_step s moment i choice).out.sent)) go (more_reads (server_step s moment i choice).out.sent) index s at)
 
-  each_sound : HoldsAfter w (λ e x. IsSound x.world)
+  each_sound : HoldsAfter w (λ e x. IsToldTruly x.world)
   each_sound =
       let numbered = each_event w h.numbered in
       let used : (id : DataId) → IsSpentUp w id → HoldsAfter w (λ e x. IsSpentUp x.world id) = each_spent_up config servers clients w r in
@@ -391,17 +391,17 @@ module _ (config : Config) (servers clients : ℕ) (w : WorldState) (r : IsReach
             };
       }
 
-sound_on : (config : Config) (servers clients : ℕ) (w : WorldState) (steps : List (Event × Choice)) → IsReached config servers clients w → IsSound w → IsSound (after_events w steps)
+sound_on : (config : Config) (servers clients : ℕ) (w : WorldState) (steps : List (Event × Choice)) → IsReached config servers clients w → IsToldTruly w → IsToldTruly (after_events w steps)
 sound_on config servers clients w [] r h = h
 sound_on config servers clients w (step ∷ rest) r h =
-    sound_on config servers clients (happens w step.0 step.1).world rest (reached_later config servers clients w (step ∷ []) r) (holds_after w (λ e x. IsSound x.world) (each_sound config servers clients w r h) step.0 step.1)
+    sound_on config servers clients (happens w step.0 step.1).world rest (reached_later config servers clients w (step ∷ []) r) (holds_after w (λ e x. IsToldTruly x.world) (each_sound config servers clients w r h) step.0 step.1)
 
 new_servers : (F : DataId → Type 0) (config : Config) (ns : List ℕ) (index : ℕ) (s : ServerState) → element_at (map (λ n. started_server config n (new_server_disk config.block) 0) ns) index ≡ Some s → AreRight F s.leases
 new_servers F config [] index s is = none_some s is
 new_servers F config (n ∷ ns) zero s is = subst (λ (x : ServerState). AreRight F x.leases) (same_some (started_server config n (new_server_disk config.block) 0) s is) (none_right F (λ c k. ⊥) 0)
 new_servers F config (n ∷ ns) (suc index) s is = new_servers F config ns index s is
 
-new_sound : (config : Config) (servers clients : ℕ) → IsSound (new_world config servers clients)
+new_sound : (config : Config) (servers clients : ℕ) → IsToldTruly (new_world config servers clients)
 new_sound config servers clients =
     record {
       numbered = numbered_reached config servers clients (new_world config servers clients) ([], refl);
@@ -409,8 +409,8 @@ new_sound config servers clients =
       told = λ place m none. none_some m none;
     }
 
-sound_reached : (config : Config) (servers clients : ℕ) (w : WorldState) → IsReached config servers clients w → IsSound w
-sound_reached config servers clients w r = subst (λ (u : WorldState). IsSound u) r.1 (sound_on config servers clients (new_world config servers clients) r.0 ([], refl) (new_sound config servers clients))
+sound_reached : (config : Config) (servers clients : ℕ) (w : WorldState) → IsReached config servers clients w → IsToldTruly w
+sound_reached config servers clients w r = subst (λ (u : WorldState). IsToldTruly u) r.1 (sound_on config servers clients (new_world config servers clients) r.0 ([], refl) (new_sound config servers clients))
 
 -- the law
 

@@ -46,7 +46,8 @@ use Rattle.primary_order.specs.declared.waiting.Waiting.{Waiting}
 use Rattle.primary_order.specs.declared.order.SerialOrder.{SerialOrder}
 use Rattle.primary_order.specs.PrimaryOrder.{place_of, settled_by, success_of}
 use Rattle.primary_order.specs.SerialOrder.{new_order, attempted, attempted_by, denied, numbered, acknowledged, refused_by, attempt_of}
-use Rattle.protocol.specs.Tables.{Table, counter_limit, without, map_values}
+use Rattle.gfs_types.specs.Counters.{counter_limit}
+use Rattle.protocol.specs.Tables.{Table, without, map_values}
 use Rattle.protocol.specs.Sending.{message, the_server, the_client, handle_of, version_of, serial_of, data_id, server_number}
 use Rattle.protocol.specs.PushBuffer.{next_hop, hops_after}
 use Rattle.protocol.specs.Choice.{Choice, Ending, Goes, Lost, Stops}

@@ -27,7 +27,8 @@ use Rattle.primary_order.specs.declared.kept.Standing.TheVariants.{IsPending, Is
 use Rattle.primary_order.specs.declared.order.SerialOrder.{SerialOrder}
 use Rattle.primary_order.specs.PrimaryOrder.{place_of}
 use Rattle.primary_order.specs.SerialOrder.{attempted, denied, numbered, settled, acknowledged}
-use Rattle.protocol.specs.Tables.{counter_limit, element_at, with_at, without, first_numbers}
+use Rattle.gfs_types.specs.Counters.{counter_limit}
+use Rattle.protocol.specs.Tables.{element_at, with_at, without, first_numbers}
 use Rattle.protocol.specs.Sending.{data_id, handle_of, version_of, serial_of, the_client}
 use Rattle.protocol.specs.Choice.{Choice, Ending, Goes, Lost, Stops}
 use Rattle.protocol.specs.Seen.{is_numbering, Taken, no_step}
@@ -251,7 +252,7 @@ client_causes : (F : DataId → Type 0) (s : ClientState) (d : ClientDoing) (o :
 client_causes F s d None step is = tt
 client_causes F s d (Some m) step is = let said = step.says m is in (clients_cause F s d.client m.body m.receiver said.1, tt)
 
-record IsSound (w : WorldState) : Type 0 where
+record IsToldTruly (w : WorldState) : Type 0 where
   numbered : AreNumbered w.sent w.clients
   leases : (index : ℕ) (s : ServerState) → element_at w.servers index ≡ Some s → AreRight (IsFull w) s.leases
   told : (place : ℕ) (m : Message) → element_at w.sent place ≡ Some m → Causes (IsFull w) m
@@ -265,7 +266,7 @@ more_told F sent k ms h all place m at =
           subst (λ (n : Node). IsCaused F m.body n) (new.2).1 (subst (λ (b : Body). IsCaused F b (new.0).receiver) (new.2).2 (all_at (Causes F) ms (new.1).0 new.0 all (new.1).1))
     ]
 
-module _ (w : WorldState) (h : IsSound w) (F : DataId → Type 0) (go : (id : DataId) → IsFull w id → F id) where
+module _ (w : WorldState) (h : IsToldTruly w) (F : DataId → Type 0) (go : (id : DataId) → IsFull w id → F id) where
   told_on : (place : ℕ) (m : Message) → element_at w.sent place ≡ Some m → Causes F m
   told_on place m at = caused_on (IsFull w) F go m.body m.receiver (h.told place m at)
 
@@ -286,7 +287,7 @@ all_apply F (m ∷ ms) all none = (all.0 none.0, all_apply F ms all.1 none.1)
 talks : (F : DataId → Type 0) → MasterTalks (λ m. IsNotFull m.body → Causes F m)
 talks F = record { plain = λ receiver b is other. masters_cause F b receiver is other; locates = λ receiver number l current other. tt }
 
-module _ (config : Config) (servers clients : ℕ) (w : WorldState) (r : IsReached config servers clients w) (h : IsSound w) where
+module _ (config : Config) (servers clients : ℕ) (w : WorldState) (r : IsReached config servers clients w) (h : IsToldTruly w) where
   -- what is full stays full
   abbrev Full : Happened → Type 0
   Full x = (id : DataId) → IsFull w id → IsFull x.world id
@@ -303,7 +304,7 @@ module _ (config : Config) (servers clients : ℕ) (w : WorldState) (r : IsReach
       (λ m q v serial refusal is asked. let there = came m is in subst (λ (b : Body). IsCaused (IsFull w) b m.receiver) asked (h.told there.0 m there.1))
       (leases_on w h (IsFull (after_server w index moment (server_step s moment i choice)).world) go index s at)
 
-  each_sound : HoldsAfter w (λ e x. IsSound x.world)
+  each_sound : HoldsAfter w (λ e x. IsToldTruly x.world)
   each_sound =
       let numbered = each_event w h.numbered in
       let full : (id : DataId) → IsFull w id → HoldsAfter w (λ e x. IsFull x.world id) = each_full config servers clients w r in
@@ -375,17 +376,17 @@ module _ (config : Config) (servers clients : ℕ) (w : WorldState) (r : IsReach
 
 -- a list of events
 
-sound_on : (config : Config) (servers clients : ℕ) (w : WorldState) (steps : List (Event × Choice)) → IsReached config servers clients w → IsSound w → IsSound (after_events w steps)
+sound_on : (config : Config) (servers clients : ℕ) (w : WorldState) (steps : List (Event × Choice)) → IsReached config servers clients w → IsToldTruly w → IsToldTruly (after_events w steps)
 sound_on config servers clients w [] r h = h
 sound_on config servers clients w (step ∷ rest) r h =
-    sound_on config servers clients (happens w step.0 step.1).world rest (reached_later config servers clients w (step ∷ []) r) (holds_after w (λ e x. IsSound x.world) (each_sound config servers clients w r h) step.0 step.1)
+    sound_on config servers clients (happens w step.0 step.1).world rest (reached_later config servers clients w (step ∷ []) r) (holds_after w (λ e x. IsToldTruly x.world) (each_sound config servers clients w r h) step.0 step.1)
 
 new_servers : (F : DataId → Type 0) (config : Config) (ns : List ℕ) (index : ℕ) (s : ServerState) → element_at (map (λ n. started_server config n (new_server_disk config.block) 0) ns) index ≡ Some s → AreRight F s.leases
 new_servers F config [] index s is = none_some s is
 new_servers F config (n ∷ ns) zero s is = subst (λ (x : ServerState). AreRight F x.leases) (same_some (started_server config n (new_server_disk config.block) 0) s is) (none_right F)
 new_servers F config (n ∷ ns) (suc index) s is = new_servers F config ns index s is
 
-new_sound : (config : Config) (servers clients : ℕ) → IsSound (new_world config servers clients)
+new_sound : (config : Config) (servers clients : ℕ) → IsToldTruly (new_world config servers clients)
 new_sound config servers clients =
     record {
       numbered = numbered_reached config servers clients (new_world config servers clients) ([], refl);
@@ -398,8 +399,8 @@ pub full_numbers : (config : Config) (servers clients : ℕ) (w : WorldState) �
 full_numbers config servers clients w r told client number m at receiver is =
     subst (λ (n : Node). IsCaused (IsFull w) (body.Refused number ChunkFull) n) receiver (subst (λ (b : Body). IsCaused (IsFull w) b m.receiver) is (sound.told told m at))
   where
-    sound : IsSound w
-    sound = subst (λ (u : WorldState). IsSound u) r.1 (sound_on config servers clients (new_world config servers clients) r.0 ([], refl) (new_sound config servers clients))
+    sound : IsToldTruly w
+    sound = subst (λ (u : WorldState). IsToldTruly u) r.1 (sound_on config servers clients (new_world config servers clients) r.0 ([], refl) (new_sound config servers clients))
 
 pub full_numbers_have_pads_alone : FullNumbersHavePadsAlone
 full_numbers_have_pads_alone config servers clients w r told client number m at receiver is handle place p here of_client of_number =

@@ -75,14 +75,14 @@ client_silent s d (Some m) step is = let said = step.says m is in (λ server fro
 
 -- T: the attempts that were taken so far
 
-record IsSound (T : DataId → Type 0) (w : WorldState) : Type 0 where
+record IsToldTruly (T : DataId → Type 0) (w : WorldState) : Type 0 where
   leases : (index : ℕ) (s : ServerState) → element_at w.servers index ≡ Some s → AreRight T s.leases
   told : (place : ℕ) (m : Message) → element_at w.sent place ≡ Some m → Tells T (Reads w.sent) m
 
 abbrev Next : (DataId → Type 0) → WorldState → Happened → DataId → Type 0
 Next T w x id = T id ⊎ IsTakenNow w x id
 
-module _ (T F : DataId → Type 0) (go : (id : DataId) → T id → F id) (w : WorldState) (h : IsSound T w) where
+module _ (T F : DataId → Type 0) (go : (id : DataId) → T id → F id) (w : WorldState) (h : IsToldTruly T w) where
   told_on : (G : ℕ → ℕ → Type 0) → ((c n : ℕ) → Reads w.sent c n → G c n) → (place : ℕ) (m : Message) → element_at w.sent place ≡ Some m → Tells F G m
   told_on G on place m at server from = caused_on T (Reads w.sent) F G go on m.body m.receiver (h.told place m at server from)
 
@@ -110,14 +110,14 @@ module _ (T F : DataId → Type 0) (go : (id : DataId) → T id → F id) (w : W
   spoken ms all =
       more_told F (Reads (w.sent ++ stamped (suc (length w.sent)) ms)) w.sent (suc (length w.sent)) ms (told_on (Reads (w.sent ++ stamped (suc (length w.sent)) ms)) (more_reads ms)) (all_tell F (Reads (w.sent ++ stamped (suc (length w.sent)) ms)) ms all)
 
-module _ (config : Config) (servers clients : ℕ) (w : WorldState) (r : IsReached config servers clients w) (T : DataId → Type 0) (h : IsSound T w) where
+module _ (config : Config) (servers clients : ℕ) (w : WorldState) (r : IsReached config servers clients w) (T : DataId → Type 0) (h : IsToldTruly T w) where
   numbered : AreNumbered w.sent w.clients
   numbered = numbered_reached config servers clients w r
 
   before : (x : Happened) (id : DataId) → T id → Next T w x id
   before x id t = inl t
 
-  each_sound : HoldsAfter w (λ e x. IsSound (Next T w x) x.world)
+  each_sound : HoldsAfter w (λ e x. IsToldTruly (Next T w x) x.world)
   each_sound =
       record {
         nothing = λ e. let x : Happened = nothing_happens w in record { leases = leases_on T (Next T w x) (before x) w h; told = told_on T (Next T w x) (before x) w h (Reads w.sent) (λ c n reads. reads) };
@@ -180,13 +180,13 @@ module _ (config : Config) (servers clients : ℕ) (w : WorldState) (r : IsReach
 
 -- all events
 
-sound_more : (T V : DataId → Type 0) → ((id : DataId) → T id → V id) → (w : WorldState) → IsSound T w → IsSound V w
+sound_more : (T V : DataId → Type 0) → ((id : DataId) → T id → V id) → (w : WorldState) → IsToldTruly T w → IsToldTruly V w
 sound_more T V go w h = record { leases = leases_on T V go w h; told = told_on T V go w h (Reads w.sent) (λ c n reads. reads) }
 
 abbrev Since : WorldState → List (Event × Choice) → (DataId → Type 0) → DataId → Type 0
 Since w steps T id = T id ⊎ WasTaken w steps id
 
-sound_since : (config : Config) (servers clients : ℕ) (w : WorldState) (steps : List (Event × Choice)) (T : DataId → Type 0) → IsReached config servers clients w → IsSound T w → IsSound (Since w steps T) (after_events w steps)
+sound_since : (config : Config) (servers clients : ℕ) (w : WorldState) (steps : List (Event × Choice)) (T : DataId → Type 0) → IsReached config servers clients w → IsToldTruly T w → IsToldTruly (Since w steps T) (after_events w steps)
 sound_since config servers clients w [] T r h = sound_more T (Since w [] T) (λ id t. inl t) w h
 sound_since config servers clients w (step ∷ rest) T r h =
     let x : Happened = happens w step.0 step.1 in
@@ -195,7 +195,7 @@ sound_since config servers clients w (step ∷ rest) T r h =
       | inl old ↦ elim (old) [ inl before ↦ inl before | inr now ↦ inr (inl now) ]
       | inr later ↦ inr (inr later)
     ]) (after_events x.world rest)
-    (sound_since config servers clients x.world rest (Next T w x) (reached_later config servers clients w (step ∷ []) r) (holds_after w (λ e y. IsSound (Next T w y) y.world) (each_sound config servers clients w r T h) step.0 step.1))
+    (sound_since config servers clients x.world rest (Next T w x) (reached_later config servers clients w (step ∷ []) r) (holds_after w (λ e y. IsToldTruly (Next T w y) y.world) (each_sound config servers clients w r T h) step.0 step.1))
 
 abbrev Never : DataId → Type 0
 Never id = ⊥
@@ -205,7 +205,7 @@ new_servers config [] index s is = none_some s is
 new_servers config (n ∷ ns) zero s is = subst (λ (x : ServerState). AreRight Never x.leases) (same_some (started_server config n (new_server_disk config.block) 0) s is) (none_right Never (λ c k. ⊥) 0)
 new_servers config (n ∷ ns) (suc index) s is = new_servers config ns index s is
 
-new_sound : (config : Config) (servers clients : ℕ) → IsSound Never (new_world config servers clients)
+new_sound : (config : Config) (servers clients : ℕ) → IsToldTruly Never (new_world config servers clients)
 new_sound config servers clients = record { leases = new_servers config (first_numbers servers); told = λ place m none. none_some m none }
 
 -- the law

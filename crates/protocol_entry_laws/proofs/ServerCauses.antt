@@ -47,7 +47,8 @@ use Rattle.primary_order.specs.declared.kept.Standing.TheVariants.{IsPending, Is
 use Rattle.primary_order.specs.declared.order.SerialOrder.{SerialOrder}
 use Rattle.primary_order.specs.PrimaryOrder.{place_of}
 use Rattle.primary_order.specs.SerialOrder.{attempted, denied, numbered, settled, acknowledged, refused_by, attempt_of}
-use Rattle.protocol.specs.Tables.{counter_limit, without, element_at}
+use Rattle.gfs_types.specs.Counters.{counter_limit}
+use Rattle.protocol.specs.Tables.{without, element_at}
 use Rattle.protocol.specs.Sending.{handle_of, version_of, serial_of, server_number}
 use Rattle.protocol.specs.PushBuffer.{next_hop, hops_after}
 use Rattle.protocol.specs.Choice.{Choice, Ending, Goes, Lost, Stops}

@@ -32,7 +32,8 @@ use Rattle.primary_order.specs.declared.answer.Attempted.TheVariants.{IsNew}
 use Rattle.primary_order.specs.declared.order.SerialOrder.{SerialOrder}
 use Rattle.primary_order.specs.PrimaryOrder.{place_of}
 use Rattle.primary_order.specs.SerialOrder.{attempted, numbered, attempt_of}
-use Rattle.protocol.specs.Tables.{Table, counter_limit, element_at, with_at, first_numbers}
+use Rattle.gfs_types.specs.Counters.{counter_limit}
+use Rattle.protocol.specs.Tables.{Table, element_at, with_at, first_numbers}
 use Rattle.protocol.specs.Sending.{data_id, handle_of, version_of, the_client, the_server}
 use Rattle.protocol.specs.Choice.{Choice, Ending, Goes, Lost, Stops}
 use Rattle.protocol.specs.Seen.{Taken, no_step}
@@ -250,7 +251,7 @@ all_on P Q go (m ∷ ms) h = (go m h.0, all_on P Q go ms h.1)
 
 -- worlds
 
-pub record IsSound (w : WorldState) : Type 0 where
+pub record IsToldTruly (w : WorldState) : Type 0 where
   pub numbered : AreNumbered w.sent w.clients
   pub leases : (index : ℕ) (s : ServerState) → element_at w.servers index ≡ Some s → AreRight (K w) s.leases
   pub told : (place : ℕ) (m : Message) → element_at w.sent place ≡ Some m → IsCaused (K w) m.body
@@ -263,7 +264,7 @@ more_told L sent k ms h all place m at =
       | inr new ↦ subst (λ (b : Body). IsCaused L b) (new.2).2 (all_at (λ (x : Message). IsCaused L x.body) ms (new.1).0 new.0 all (new.1).1)
     ]
 
-module _ (w : WorldState) (h : IsSound w) (L : Seen → Type 0) (go : (y : Seen) → K w y → L y) where
+module _ (w : WorldState) (h : IsToldTruly w) (L : Seen → Type 0) (go : (y : Seen) → K w y → L y) where
   told_on : (place : ℕ) (m : Message) → element_at w.sent place ≡ Some m → IsCaused L m.body
   told_on place m at = caused_on (K w) L go m.body (h.told place m at)
 
@@ -277,12 +278,12 @@ module _ (w : WorldState) (h : IsSound w) (L : Seen → Type 0) (go : (y : Seen)
         | inr there ↦ leases_on other u there
       ]
 
-module _ (config : Config) (servers clients : ℕ) (w : WorldState) (r : IsReached config servers clients w) (h : IsSound w) where
+module _ (config : Config) (servers clients : ℕ) (w : WorldState) (r : IsReached config servers clients w) (h : IsToldTruly w) where
   -- what is known stays known
   abbrev GoesOn : Happened → Type 0
   GoesOn x = (y : Seen) → K w y → K x.world y
 
-  each_sound : HoldsAfter w (λ e x. IsSound x.world)
+  each_sound : HoldsAfter w (λ e x. IsToldTruly x.world)
   each_sound =
       let numbered = each_event w h.numbered in
       let known : (y : Seen) → K w y → HoldsAfter w (λ e x. K x.world y) = known_on config servers clients w r in
@@ -354,17 +355,17 @@ module _ (config : Config) (servers clients : ℕ) (w : WorldState) (r : IsReach
             };
       }
 
-sound_on : (config : Config) (servers clients : ℕ) (w : WorldState) (steps : List (Event × Choice)) → IsReached config servers clients w → IsSound w → IsSound (after_events w steps)
+sound_on : (config : Config) (servers clients : ℕ) (w : WorldState) (steps : List (Event × Choice)) → IsReached config servers clients w → IsToldTruly w → IsToldTruly (after_events w steps)
 sound_on config servers clients w [] r h = h
 sound_on config servers clients w (step ∷ rest) r h =
-    sound_on config servers clients (happens w step.0 step.1).world rest (reached_later config servers clients w (step ∷ []) r) (holds_after w (λ e x. IsSound x.world) (each_sound config servers clients w r h) step.0 step.1)
+    sound_on config servers clients (happens w step.0 step.1).world rest (reached_later config servers clients w (step ∷ []) r) (holds_after w (λ e x. IsToldTruly x.world) (each_sound config servers clients w r h) step.0 step.1)
 
 new_servers : (L : Seen → Type 0) (config : Config) (ns : List ℕ) (index : ℕ) (s : ServerState) → element_at (map (λ n. started_server config n (new_server_disk config.block) 0) ns) index ≡ Some s → AreRight L s.leases
 new_servers L config [] index s is = none_some s is
 new_servers L config (n ∷ ns) zero s is = subst (λ (x : ServerState). AreRight L x.leases) (same_some (started_server config n (new_server_disk config.block) 0) s is) (λ q p at. none_some p (sym (table.get-empty nat_cmp q) ∙ at))
 new_servers L config (n ∷ ns) (suc index) s is = new_servers L config ns index s is
 
-new_sound : (config : Config) (servers clients : ℕ) → IsSound (new_world config servers clients)
+new_sound : (config : Config) (servers clients : ℕ) → IsToldTruly (new_world config servers clients)
 new_sound config servers clients =
     record {
       numbered = numbered_reached config servers clients (new_world config servers clients) ([], refl);
@@ -374,8 +375,8 @@ new_sound config servers clients =
 
 -- the laws
 
-pub sound_reached : (config : Config) (servers clients : ℕ) (w : WorldState) → IsReached config servers clients w → IsSound w
-sound_reached config servers clients w r = subst (λ (u : WorldState). IsSound u) r.1 (sound_on config servers clients (new_world config servers clients) r.0 ([], refl) (new_sound config servers clients))
+pub sound_reached : (config : Config) (servers clients : ℕ) (w : WorldState) → IsReached config servers clients w → IsToldTruly w
+sound_reached config servers clients w r = subst (λ (u : WorldState). IsToldTruly u) r.1 (sound_on config servers clients (new_world config servers clients) r.0 ([], refl) (new_sound config servers clients))
 
 done_settled : (config : Config) (servers clients : ℕ) (w : WorldState) → IsReached config servers clients w → (place : ℕ) (m : Message) → element_at w.sent place ≡ Some m → (id : DataId) (offset : ℕ) → m.body ≡ body.Done id offset → IsSettledAs (K w) id (Some offset)
 done_settled config servers clients w r place m at id offset is = subst (λ (b : Body). IsCaused (K w) b) is ((sound_reached config servers clients w r).told place m at)

@@ -34,7 +34,8 @@ use Rattle.primary_order.specs.declared.answer.Attempted.TheVariants.{IsNew}
 use Rattle.primary_order.specs.declared.order.SerialOrder.{SerialOrder}
 use Rattle.primary_order.specs.PrimaryOrder.{place_of}
 use Rattle.primary_order.specs.SerialOrder.{attempted, numbered, settled, acknowledged}
-use Rattle.protocol.specs.Tables.{Table, counter_limit, element_at, with_at, without}
+use Rattle.gfs_types.specs.Counters.{counter_limit}
+use Rattle.protocol.specs.Tables.{Table, element_at, with_at, without}
 use Rattle.protocol.specs.Sending.{the_server, handle_of, version_of, serial_of, order_number}
 use Rattle.protocol.specs.Choice.{Choice, Ending, Goes, Lost, Stops}
 use Rattle.protocol.specs.Seen.{Taken, no_step}

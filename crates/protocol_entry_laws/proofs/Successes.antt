@@ -39,12 +39,12 @@ all_on P Q go [] h = tt
 all_on P Q go (m ∷ ms) h = (go m h.0, all_on P Q go ms h.1)
 
 -- K: what was shown so far
-pub record IsSound (K : Seen → Type 0) (w : WorldState) : Type 0 where
+pub record IsToldTruly (K : Seen → Type 0) (w : WorldState) : Type 0 where
   pub numbered : AreNumbered w.sent w.clients
   pub leases : (index : ℕ) (s : ServerState) → element_at w.servers index ≡ Some s → AreRight K s.leases
   pub told : (place : ℕ) (m : Message) → element_at w.sent place ≡ Some m → IsCaused K m.body
 
-sound_on : (K L : Seen → Type 0) → ((y : Seen) → K y → L y) → (w : WorldState) → IsSound K w → IsSound L w
+sound_on : (K L : Seen → Type 0) → ((y : Seen) → K y → L y) → (w : WorldState) → IsToldTruly K w → IsToldTruly L w
 sound_on K L go w h =
     record {
       numbered = h.numbered;
@@ -87,7 +87,7 @@ more_told L sent k ms h all place m at =
       | inr new ↦ subst (λ (b : Body). IsCaused L b) (new.2).2 (all_at (λ (x : Message). IsCaused L x.body) ms (new.1).0 new.0 all (new.1).1)
     ]
 
-module _ (w : WorldState) (K : Seen → Type 0) (h : IsSound K w) (x : Happened) where
+module _ (w : WorldState) (K : Seen → Type 0) (h : IsToldTruly K w) (x : Happened) where
   told_on : (place : ℕ) (m : Message) → element_at w.sent place ≡ Some m → IsCaused (Next w x K) m.body
   told_on place m at = caused_on K (Next w x K) (λ y k. inl k) m.body (h.told place m at)
 
@@ -109,14 +109,14 @@ shown_now v L index moment s i choice at came y since =
       | inr now ↦ inr (record { index = index; moment = moment; server = s; input = i; choice = choice; place = now.0; is = at; came = came; step_is = refl; seen = now.1 })
     ]
 
-served_leases : (v : WorldState) (L : Seen → Type 0) (g : IsSound L v) (index moment : ℕ) (s : ServerState) (i : Input) (choice : Choice) → element_at v.servers index ≡ Some s → ((m : Message) → i ≡ input.Deliver m → (at : ℕ) × (element_at v.sent at ≡ Some m)) → (other : ℕ) (u : ServerState)
+served_leases : (v : WorldState) (L : Seen → Type 0) (g : IsToldTruly L v) (index moment : ℕ) (s : ServerState) (i : Input) (choice : Choice) → element_at v.servers index ≡ Some s → ((m : Message) → i ≡ input.Deliver m → (at : ℕ) × (element_at v.sent at ≡ Some m)) → (other : ℕ) (u : ServerState)
     → element_at (with_at v.servers index (server_step s moment i choice).state) other ≡ Some u → AreRight (Next v (after_server v index moment (server_step s moment i choice)) L) u.leases
 served_leases v L g index moment s i choice at came =
     let x : Happened = after_server v index moment (server_step s moment i choice) in
     let left = step_leaves L s moment i choice (g.leases index s at) in
     one_server v L g x index (server_step s moment i choice).state (λ q p there. right_on (Since L (server_step s moment i choice).seen) (Next v x L) (shown_now v L index moment s i choice at came) q p (left.0 q p there))
 
-served_told : (v : WorldState) (L : Seen → Type 0) (g : IsSound L v) (index moment : ℕ) (s : ServerState) (i : Input) (choice : Choice) → element_at v.servers index ≡ Some s → ((m : Message) → i ≡ input.Deliver m → (at : ℕ) × (element_at v.sent at ≡ Some m)) → (place : ℕ) (m : Message)
+served_told : (v : WorldState) (L : Seen → Type 0) (g : IsToldTruly L v) (index moment : ℕ) (s : ServerState) (i : Input) (choice : Choice) → element_at v.servers index ≡ Some s → ((m : Message) → i ≡ input.Deliver m → (at : ℕ) × (element_at v.sent at ≡ Some m)) → (place : ℕ) (m : Message)
     → element_at (v.sent ++ stamped (suc (length v.sent)) (server_step s moment i choice).out.sent) place ≡ Some m → IsCaused (Next v (after_server v index moment (server_step s moment i choice)) L) m.body
 served_told v L g index moment s i choice at came =
     let x : Happened = after_server v index moment (server_step s moment i choice) in
@@ -125,7 +125,7 @@ served_told v L g index moment s i choice at came =
     (all_on (λ m. IsCaused (Since L (server_step s moment i choice).seen) m.body) (λ m. IsCaused (Next v x L) m.body)
     (λ m c. caused_on (Since L (server_step s moment i choice).seen) (Next v x L) (shown_now v L index moment s i choice at came) m.body c) (server_step s moment i choice).out.sent left.1)
 
-each_sound : (w : WorldState) (K : Seen → Type 0) → IsSound K w → HoldsAfter w (λ e x. IsSound (Next w x K) x.world)
+each_sound : (w : WorldState) (K : Seen → Type 0) → IsToldTruly K w → HoldsAfter w (λ e x. IsToldTruly (Next w x K) x.world)
 each_sound w K h =
     let numbered = each_event w h.numbered in
     let k : ℕ = suc (length w.sent) in
@@ -183,11 +183,11 @@ each_sound w K h =
 abbrev Later : WorldState → List (Event × Choice) → (Seen → Type 0) → Seen → Type 0
 Later w steps K y = K y ⊎ WasShown w steps y
 
-all_later : (w : WorldState) (steps : List (Event × Choice)) (K : Seen → Type 0) → IsSound K w → IsSound (Later w steps K) (after_events w steps)
+all_later : (w : WorldState) (steps : List (Event × Choice)) (K : Seen → Type 0) → IsToldTruly K w → IsToldTruly (Later w steps K) (after_events w steps)
 all_later w [] K h = sound_on K (Later w [] K) (λ y k. inl k) w h
 all_later w (step ∷ rest) K h =
     sound_on (Later u rest (Next w x K)) (Later w (step ∷ rest) K) joined (after_events u rest)
-    (all_later u rest (Next w x K) (holds_after w (λ e y. IsSound (Next w y K) y.world) (each_sound w K h) step.0 step.1))
+    (all_later u rest (Next w x K) (holds_after w (λ e y. IsToldTruly (Next w y K) y.world) (each_sound w K h) step.0 step.1))
   where
     x : Happened
     x = happens w step.0 step.1
@@ -213,7 +213,7 @@ new_servers config (n ∷ ns) zero s is =
     subst (λ (x : ServerState). AreRight Never x.leases) (same_some (started_server config n (new_server_disk config.block) 0) s is) (λ q p at. none_some p (sym (table.get-empty nat_cmp q) ∙ at))
 new_servers config (n ∷ ns) (suc index) s is = new_servers config ns index s is
 
-new_sound : (config : Config) (servers clients : ℕ) → IsSound Never (new_world config servers clients)
+new_sound : (config : Config) (servers clients : ℕ) → IsToldTruly Never (new_world config servers clients)
 new_sound config servers clients =
     record {
       numbered = numbered_reached config servers clients (new_world config servers clients) ([], refl);
@@ -228,7 +228,7 @@ successes_were_settled config servers clients steps place m at id offset is =
     start : WorldState
     start = new_world config servers clients
 
-    sound : IsSound (Later start steps Never) (after_events start steps)
+    sound : IsToldTruly (Later start steps Never) (after_events start steps)
     sound = all_later start steps Never (new_sound config servers clients)
 
     shown : (y : Seen) → Later start steps Never y → WasShown start steps y

@@ -72,7 +72,7 @@ talks : (F : DataId → Type 0) → MasterTalks (λ m. IsNotFull m.body → Caus
 talks F = record { plain = λ receiver b is other. masters_cause F b receiver is other; locates = λ receiver number l current other. tt }
 
 -- F: of the data of which a chunk may be told full
-record IsSound (F : DataId → Type 0) (w : WorldState) : Type 0 where
+record IsToldTruly (F : DataId → Type 0) (w : WorldState) : Type 0 where
   leases : (index : ℕ) (s : ServerState) → element_at w.servers index ≡ Some s → AreRight F s.leases
   told : (place : ℕ) (m : Message) → element_at w.sent place ≡ Some m → Causes F m
 
@@ -85,10 +85,10 @@ more_told F sent k ms h all place m at =
           subst (λ (n : Node). IsCaused F m.body n) (new.2).1 (subst (λ (b : Body). IsCaused F b (new.0).receiver) (new.2).2 (all_at (Causes F) ms (new.1).0 new.0 all (new.1).1))
     ]
 
-sound_more : (F G : DataId → Type 0) → ((id : DataId) → F id → G id) → (w : WorldState) → IsSound F w → IsSound G w
+sound_more : (F G : DataId → Type 0) → ((id : DataId) → F id → G id) → (w : WorldState) → IsToldTruly F w → IsToldTruly G w
 sound_more F G go w h = record { leases = λ index s at q p there. right_on F G go p (h.leases index s at q p there); told = λ place m at. caused_on F G go m.body m.receiver (h.told place m at) }
 
-module _ (config : Config) (servers clients : ℕ) (F : DataId → Type 0) (w : WorldState) (r : IsReached config servers clients w) (h : IsSound F w) where
+module _ (config : Config) (servers clients : ℕ) (F : DataId → Type 0) (w : WorldState) (r : IsReached config servers clients w) (h : IsToldTruly F w) where
   abbrev Then : Happened → DataId → Type 0
   Then x id = F id ⊎ IsFullNow config.chunk w x id
 
@@ -149,7 +149,7 @@ module _ (config : Config) (servers clients : ℕ) (F : DataId → Type 0) (w : 
   numbered : AreNumbered w.sent w.clients
   numbered = numbered_reached config servers clients w r
 
-  each_sound : HoldsAfter w (λ e x. IsSound (λ id. F id ⊎ IsFullNow config.chunk w x id) x.world)
+  each_sound : HoldsAfter w (λ e x. IsToldTruly (λ id. F id ⊎ IsFullNow config.chunk w x id) x.world)
   each_sound =
       let k : ℕ = suc (length w.sent) in
       record {
@@ -194,7 +194,7 @@ module _ (config : Config) (servers clients : ℕ) (F : DataId → Type 0) (w : 
 abbrev Since : Config → (DataId → Type 0) → WorldState → List (Event × Choice) → DataId → Type 0
 Since config F w steps id = F id ⊎ CameAbout (λ v x. IsFullNow config.chunk v x id) w steps
 
-all_since : (config : Config) (servers clients : ℕ) (F : DataId → Type 0) (w : WorldState) (steps : List (Event × Choice)) → IsReached config servers clients w → IsSound F w → IsSound (Since config F w steps) (after_events w steps)
+all_since : (config : Config) (servers clients : ℕ) (F : DataId → Type 0) (w : WorldState) (steps : List (Event × Choice)) → IsReached config servers clients w → IsToldTruly F w → IsToldTruly (Since config F w steps) (after_events w steps)
 all_since config servers clients F w [] r h = sound_more F (Since config F w []) (λ id f. inl f) w h
 all_since config servers clients F w (step ∷ rest) r h =
     let x : Happened = happens w step.0 step.1 in
@@ -204,7 +204,7 @@ all_since config servers clients F w (step ∷ rest) r h =
       | inr later ↦ inr (came_later (λ v y. IsFullNow config.chunk v y id) w step rest later)
     ]) (after_events x.world rest)
     (all_since config servers clients (λ id. F id ⊎ IsFullNow config.chunk w x id) x.world rest (reached_later config servers clients w (step ∷ []) r)
-    (holds_after w (λ e y. IsSound (λ id. F id ⊎ IsFullNow config.chunk w y id) y.world) (each_sound config servers clients F w r h) step.0 step.1))
+    (holds_after w (λ e y. IsToldTruly (λ id. F id ⊎ IsFullNow config.chunk w y id) y.world) (each_sound config servers clients F w r h) step.0 step.1))
 
 new_servers : (F : DataId → Type 0) (config : Config) (ns : List ℕ) (index : ℕ) (s : ServerState) → element_at (map (λ n. started_server config n (new_server_disk config.block) 0) ns) index ≡ Some s → AreRight F s.leases
 new_servers F config [] index s is = none_some s is
@@ -221,5 +221,5 @@ full_chunks_are_told_as_full config servers clients steps place m at client numb
       | inr came ↦ came
     ]
   where
-    sound : IsSound (Since config Never (new_world config servers clients) steps) (after_events (new_world config servers clients) steps)
+    sound : IsToldTruly (Since config Never (new_world config servers clients) steps) (after_events (new_world config servers clients) steps)
     sound = all_since config servers clients Never (new_world config servers clients) steps ([], refl) (record { leases = new_servers Never config (first_numbers servers); told = λ place m none. none_some m none })

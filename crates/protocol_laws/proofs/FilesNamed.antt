@@ -8,7 +8,8 @@ use Rattle.gfs_types.specs.Paths.{Path, last_digits, hidden_name}
 use Rattle.relaxed_file.specs.Names.{Names, Node, Dir, File, node_at, is_dir_node, is_taken, is_dir, with_copies, id_after, id_after_all, copy_of_node}
 use Rattle.relaxed_file.specs.NameStep.{is_in_trash}
 use Rattle.relaxed_file.proofs.NamesTree.{Tree, HasAt, inserted_there, inserted_other, removed_other, removed_there, same_or_other, not_hidden, entry_is, found_at}
-use Rattle.protocol.specs.Tables.{Table, counter_limit}
+use Rattle.gfs_types.specs.Counters.{counter_limit}
+use Rattle.protocol.specs.Tables.{Table}
 use Rattle.chunk_table.specs.ChunkTable.{ChunkTable, handles_of}
 use Rattle.protocol.specs.Logged.{is_this_file, name_removed, without_file, with_copied_node, with_copied_nodes}
 use Rattle.protocol_laws.proofs.Steps.{none_some, same_some}

@@ -5,7 +5,7 @@ use Rattle.std.proofs.Math.Nat.{div-add-mod, mod-lt}
 use Rattle.std.proofs.lemmas.Bool.{ltb-true, ltb-false}
 use Rattle.std.proofs.lemmas.List.{take_at, drop_at}
 use Rattle.gfs_types.specs.Paths.{Path, digit, last_digits, hidden_name}
-use Rattle.protocol.specs.Tables.{counter_limit}
+use Rattle.gfs_types.specs.Counters.{counter_limit}
 
 -- how many numbers so many digits can write
 abbrev room : ℕ → ℕ

@@ -32,7 +32,7 @@ use Rattle.protocol_laws.specs.Laws.{IsSameOrLater, is_grant, grants_of, tells_e
 use Rattle.protocol_laws.proofs.Steps.{none_some, same_some, tally, put_cases, count-cons}
 use Rattle.protocol_laws.proofs.Entries.{same_number}
 use Rattle.protocol_laws.proofs.ServerMoves.{IsOfReplica, AreHeldFrom, lease_of, until_moment, KeepsServer, IsCameIn, server_goes_holds}
-use Rattle.protocol_laws.proofs.RisingOrders.{Later, same_later, then_later, newer, risen_later, IsSound, step_goes_on, restarts_as, none_under_way, set_cases}
+use Rattle.protocol_laws.proofs.RisingOrders.{Later, same_later, then_later, newer, risen_later, HasOneRisingChange, step_goes_on, restarts_as, none_under_way, set_cases}
 use Rattle.protocol_laws.proofs.MembersRecorded.{kept_place}
 use Rattle.protocol_laws.proofs.ScenesReached.{Scene, IsSentTo, rotten_server, IsKeptByScenes, scene_reached}
 use Rattle.protocol_laws.proofs.GrantsOnce.{versions_are_granted_once}
@@ -184,10 +184,10 @@ module _ (sent : List Message) (n : ℕ) where
 
 pub record IsToldServer (sent : List Message) (index : ℕ) (s : ServerState) : Type 0 where
   pub id : s.id ≡ suc index
-  pub sound : IsSound s
+  pub sound : HasOneRisingChange s
   pub told : AreToldLeases sent (suc index) s.disk s.leases
 
-ends_told : (sent : List Message) (index : ℕ) (s : ServerState) (d : ServerDoing) (choice : Choice) (e : Ending) → s.id ≡ suc index → IsSound (server_ends s d choice e).state
+ends_told : (sent : List Message) (index : ℕ) (s : ServerState) (d : ServerDoing) (choice : Choice) (e : Ending) → s.id ≡ suc index → HasOneRisingChange (server_ends s d choice e).state
     → (d.server.id ≡ suc index) × AreToldLeases sent (suc index) (disk_changed_by_all d.server.disk d.changes) d.server.leases → IsToldServer sent index (server_ends s d choice e).state
 ends_told sent index s d choice Goes id sound h = record { id = h.0; sound = sound; told = h.1 }
 ends_told sent index s d choice Lost id sound h = record { id = id; sound = sound; told = none_told sent (suc index) _ }
@@ -197,10 +197,10 @@ step_told : (sent : List Message) (index : ℕ) (s : ServerState) (moment : ℕ)
     → IsToldServer sent index (server_step s moment i choice).state
 step_told sent index s moment i choice is up h =
     let d : ServerDoing = server_goes s moment i in
-    let whole : IsSound (server_step s moment i choice).state = (step_goes_on s moment i choice h.sound).sound in
+    let whole : HasOneRisingChange (server_step s moment i choice).state = (step_goes_on s moment i choice h.sound).sound in
     let same : server_step s moment i choice ≡ server_ends s d choice choice.ending = ap (λ (b : Bool). cond b (server_ends s d choice choice.ending) (no_step s)) up in
     subst (λ (t : Taken ServerState). IsToldServer sent index t.state) (sym same)
-    (ends_told sent index s d choice choice.ending h.id (subst (λ (t : Taken ServerState). IsSound t.state) same whole)
+    (ends_told sent index s d choice choice.ending h.id (subst (λ (t : Taken ServerState). HasOneRisingChange t.state) same whole)
     (server_goes_holds (CameTo sent (suc index)) (λ c. (c.id ≡ suc index) × AreToldLeases sent (suc index) c.disk c.leases) (telling_keeps sent (suc index)) s moment i (came_in sent (suc index) i is) (h.id, h.told)))
 
 restart_told : (sent : List Message) (index : ℕ) (s : ServerState) (moment : ℕ) (choice : Choice) (e : Ending) → IsToldServer sent index s → IsToldServer sent index (server_restarts s moment choice e).state

@@ -12,7 +12,8 @@ use Rattle.log_records.specs.declared.record.Record.{Record}
 use Rattle.log_records.specs.declared.record.Record.TheVariants as log
 use Rattle.relaxed_file.specs.Names.{Names}
 use Rattle.relaxed_file.proofs.NamesTree.{Tree, first_tree}
-use Rattle.protocol.specs.Tables.{Table, counter_limit, map_values}
+use Rattle.gfs_types.specs.Counters.{counter_limit}
+use Rattle.protocol.specs.Tables.{Table, map_values}
 use Rattle.protocol.specs.Choice.{Choice, Ending, Goes, Lost, Stops}
 use Rattle.protocol.specs.Seen.{Taken, no_step}
 use Rattle.chunk_table.specs.ChunkTable.{ChunkRow, changed_by}

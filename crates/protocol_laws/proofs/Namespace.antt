@@ -20,7 +20,7 @@ use Rattle.relaxed_file.specs.NameStep.{first_refusal, path_tests, name_tests, r
 use Rattle.relaxed_file.specs.Locks.{conflict, conflict_at, paths_of, writes}
 use Rattle.relaxed_file.proofs.PathParts.{equal_paths, same_paths, child_of_parent}
 use Rattle.relaxed_file.proofs.NamesTree.{Tree, HasAt, inserted_other, removed_other, removed_there, same_or_other, dir_taken, dir_kept, added, file_removed, file_added, not_hidden, passed, true_from, not_taken_no_dir, rmdir_tree, delete_tree, rename_tree, copies_taken, copies_dir, snapshot_names, copies_are_new, tests_passed, entry_is}
-use Rattle.protocol.specs.Tables.{counter_limit}
+use Rattle.gfs_types.specs.Counters.{counter_limit}
 use Rattle.protocol.specs.Logged.{Logged, Copy, after_record, swapped_in, is_this_file, name_removed, without_file}
 use Rattle.protocol.specs.Master.{MasterState, PendingSnapshot}
 use Rattle.protocol.specs.MasterSnapshots.{is_same_snapshot}

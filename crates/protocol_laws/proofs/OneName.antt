@@ -23,7 +23,8 @@ use Rattle.relaxed_file.specs.Names.{Names, Node, Dir, File, node_at, is_dir_nod
 use Rattle.relaxed_file.specs.NameStep.{path_tests, name_tests, refusal_of, is_in_trash, with_node, hidden}
 use Rattle.relaxed_file.proofs.PathParts.{same_paths, at_or_below_is}
 use Rattle.relaxed_file.proofs.NamesTree.{Tree, HasAt, copy, tests_passed, true_from, not_hidden, copies_are_new, first_look, found_at, entry_is}
-use Rattle.protocol.specs.Tables.{Table, removed_all, counter_limit, has_number}
+use Rattle.gfs_types.specs.Counters.{counter_limit}
+use Rattle.protocol.specs.Tables.{Table, removed_all, has_number}
 use Rattle.protocol.specs.Sending.{file_id, handle_of}
 use Rattle.chunk_table.specs.ChunkTable.{ChunkRow, ChunkTable, handles_of, grant}
 use Rattle.protocol.specs.Logged.{Logged, KeptCall, Copy, copies_given_up, first_logged, after_record, after_records, copies_for_file, swapped_in, with_copied_node, with_copied_nodes, checkpoint_of, name_item, node_item, chunk_item, client_item}

@@ -32,7 +32,7 @@ use Rattle.protocol_laws.proofs.Entries.{AllOf, all_joined}
 use Rattle.protocol_laws.proofs.MasterMoves.{Nothing, NoneEnded, Keeps}
 use Rattle.protocol_laws.proofs.MasterSteps.{goes_keeps}
 use Rattle.protocol_laws.proofs.ServerMoves.{ServerCore, server_core, AreHeldFrom, HasNoLease, lease_of, until_moment, same_held, KeepsServer, server_goes_holds}
-use Rattle.protocol_laws.proofs.RisingOrders.{Later, same_later, then_later, risen_later, IsSound, step_goes_on, restarts_as}
+use Rattle.protocol_laws.proofs.RisingOrders.{Later, same_later, then_later, risen_later, HasOneRisingChange, step_goes_on, restarts_as}
 use Rattle.protocol_laws.proofs.MembersRecorded.{all_at, all_in_order}
 use Rattle.protocol_laws.proofs.MessagesSent.{IsSent, sent_before, sent_cases, none_sent, sent_last, numbered_sent, ordered_sent}
 use Rattle.protocol_laws.proofs.ScenesReached.{Scene, scene_of, IsSentTo, rotten_server, IsKeptByScenes, lifted, scene_reached}
@@ -266,7 +266,7 @@ ends_over sent n s d choice Goes later h =
 ends_over sent n s d choice Lost later h = record { stays = none_over sent n s (server_ends s d choice Lost).state later refl; said = λ m is. none_sent m is }
 ends_over sent n s d choice (Stops made) later h = record { stays = none_over sent n s (server_ends s d choice (Stops made)).state later refl; said = λ m is. none_sent m is }
 
-step_over : (sent : List Message) (n : ℕ) (s : ServerState) (moment : ℕ) (i : Input) (choice : Choice) → ArePaired sent → IsSentTo sent (the_server n) i → IsTrue s.up → IsSound s → s.id ≡ n → Comes sent n s (server_step s moment i choice)
+step_over : (sent : List Message) (n : ℕ) (s : ServerState) (moment : ℕ) (i : Input) (choice : Choice) → ArePaired sent → IsSentTo sent (the_server n) i → IsTrue s.up → HasOneRisingChange s → s.id ≡ n → Comes sent n s (server_step s moment i choice)
 step_over sent n s moment i choice pairs is up sound id =
     let d : ServerDoing = server_goes s moment i in
     let same : server_step s moment i choice ≡ server_ends s d choice choice.ending = ap (λ (b : Bool). cond b (server_ends s d choice choice.ending) (no_step s)) up in
@@ -276,7 +276,7 @@ step_over sent n s moment i choice pairs is up sound id =
     (server_goes_holds (CameTo sent n) (IsEnding sent n s.disk s.leases) (ending_keeps sent n pairs s.disk s.leases) s moment i (came_in sent n i is)
     (record { id = id; kept = λ q v o h. h; said = λ m none. none_sent m none })))
 
-restart_over : (sent : List Message) (n : ℕ) (s : ServerState) (moment : ℕ) (choice : Choice) (e : Ending) → IsSound s → Comes sent n s (server_restarts s moment choice e)
+restart_over : (sent : List Message) (n : ℕ) (s : ServerState) (moment : ℕ) (choice : Choice) (e : Ending) → HasOneRisingChange s → Comes sent n s (server_restarts s moment choice e)
 restart_over sent n s moment choice Lost sound = record { stays = none_over sent n s (server_restarts s moment choice Lost).state (restarts_as s moment choice Lost sound).later refl; said = λ m is. none_sent m is }
 restart_over sent n s moment choice (Stops made) sound = record { stays = none_over sent n s (server_restarts s moment choice (Stops made)).state (restarts_as s moment choice (Stops made) sound).later refl; said = λ m is. none_sent m is }
 restart_over sent n s moment choice Goes sound = record { stays = none_over sent n s (server_restarts s moment choice Goes).state (restarts_as s moment choice Goes sound).later refl; said = λ m is. none_sent m is }

@@ -97,7 +97,7 @@ next_risen d [] (suc made) h = tt
 next_risen d (x ∷ xs) (suc made) h = next_risen (disk_changed d x) xs made h.1
 
 -- at most one change is under way, and none of a server that is up; it raises the number
-pub record IsSound (s : ServerState) : Type 0 where
+pub record HasOneRisingChange (s : ServerState) : Type 0 where
   pub risen : AreRisen s.disk s.under_way
   pub few : length s.under_way ≤ 1
   pub idle : IsTrue s.up → s.under_way ≡ []
@@ -123,7 +123,7 @@ found_later d (x ∷ y ∷ ys) (b ∷ rest) h few = absurd (omega arith)
 
 -- what a server's step comes to
 pub record Follows (s t : ServerState) : Type 0 where
-  pub sound : IsSound t
+  pub sound : HasOneRisingChange t
   pub later : Later s.disk t.disk
 
 -- the changes of a step so far
@@ -162,7 +162,7 @@ all_of : (d : ServerDisk) (xs : List StoreChange) → AreRisen d xs → Later d 
 all_of d [] h = same_later d
 all_of d (x ∷ xs) h = then_later d (disk_changed d x) (disk_changed_by_all (disk_changed d x) xs) (risen_later d x h.0) (all_of (disk_changed d x) xs h.1)
 
-pub none_under_way : (s : ServerState) → s.under_way ≡ [] → IsSound s
+pub none_under_way : (s : ServerState) → s.under_way ≡ [] → HasOneRisingChange s
 none_under_way s none =
     record {
       risen = subst (λ (xs : List StoreChange). AreRisen s.disk xs) (sym none) tt;
@@ -170,7 +170,7 @@ none_under_way s none =
       idle = λ up. none;
     }
 
-same_goes_on : (s : ServerState) → IsSound s → Follows s s
+same_goes_on : (s : ServerState) → HasOneRisingChange s → Follows s s
 same_goes_on s is = record { sound = is; later = same_later s.disk }
 
 ends_as : (s : ServerState) (d : ServerDoing) (choice : Choice) (e : Ending) → s.under_way ≡ [] → From s (server_core d) → Follows s (server_ends s d choice e).state
@@ -186,13 +186,13 @@ pub all_came : (i : Input) → IsCameIn (λ b. Unit {0}) i
 all_came (input.Deliver m) = tt
 all_came input.Tick = tt
 
-pub step_goes_on : (s : ServerState) (moment : ℕ) (i : Input) (choice : Choice) → IsSound s → Follows s (server_step s moment i choice).state
+pub step_goes_on : (s : ServerState) (moment : ℕ) (i : Input) (choice : Choice) → HasOneRisingChange s → Follows s (server_step s moment i choice).state
 step_goes_on s moment i choice is =
     on_cond (λ (t : Taken ServerState). Follows s t.state) s.up (server_ends s (server_goes s moment i) choice choice.ending) (no_step s)
     (λ up. ends_as s (server_goes s moment i) choice choice.ending (is.idle up) (server_goes_holds (λ b. Unit {0}) (From s) (from_keeps s) s moment i (all_came i) (tt, refl, refl)))
     (λ _. same_goes_on s is)
 
-pub restarts_as : (s : ServerState) (moment : ℕ) (choice : Choice) (e : Ending) → IsSound s → Follows s (server_restarts s moment choice e).state
+pub restarts_as : (s : ServerState) (moment : ℕ) (choice : Choice) (e : Ending) → HasOneRisingChange s → Follows s (server_restarts s moment choice e).state
 restarts_as s moment choice Lost is = record { sound = record { risen = is.risen; few = is.few; idle = λ up. absurd (let both : false ≡ true = up in cc) }; later = same_later s.disk }
 restarts_as s moment choice (Stops made) is =
     record { sound = record { risen = tt; few = omega arith; idle = λ up. refl }; later = found_later s.disk s.under_way choice.decided is.risen is.few }
@@ -216,17 +216,17 @@ pub element_numbered : {X : Type 0} (xs : List X) (n : ℕ) (x : X) → numbered
 element_numbered xs zero x h = none_some x h
 element_numbered xs (suc n) x h = subst (λ (k : ℕ). element_at xs k ≡ Some x) (omega arith) h
 
-abbrev AreSound : WorldState → Type 0
-AreSound w = (index : ℕ) (s : ServerState) → element_at w.servers index ≡ Some s → IsSound s
+abbrev HaveOneRisingChange : WorldState → Type 0
+HaveOneRisingChange w = (index : ℕ) (s : ServerState) → element_at w.servers index ≡ Some s → HasOneRisingChange s
 
 -- each server of the later world goes on from the one at its place
 abbrev AreGoingOn : WorldState → WorldState → Type 0
 AreGoingOn w v = (index : ℕ) (t : ServerState) → element_at v.servers index ≡ Some t → (s : ServerState) × (element_at w.servers index ≡ Some s) × Follows s t
 
-same_servers : (w : WorldState) → AreSound w → AreGoingOn w w
+same_servers : (w : WorldState) → HaveOneRisingChange w → AreGoingOn w w
 same_servers w h index t is = (t, is, same_goes_on t (h index t is))
 
-one_server : (w : WorldState) (index moment : ℕ) (s : ServerState) (taken : Taken ServerState) → AreSound w → element_at w.servers index ≡ Some s → Follows s taken.state
+one_server : (w : WorldState) (index moment : ℕ) (s : ServerState) (taken : Taken ServerState) → HaveOneRisingChange w → element_at w.servers index ≡ Some s → Follows s taken.state
     → AreGoingOn w (after_server w index moment taken).world
 one_server w index moment s taken h at g other t is =
     elim (set_cases w.servers index taken.state other t is) [
@@ -234,7 +234,7 @@ one_server w index moment s taken h at g other t is =
       | inr there ↦ same_servers w h other t there
     ]
 
-server_moves_on : (w : WorldState) (n moment : ℕ) (i : Input) (choice : Choice) (o : Option ServerState) → numbered_from_1 w.servers n ≡ o → AreSound w
+server_moves_on : (w : WorldState) (n moment : ℕ) (i : Input) (choice : Choice) (o : Option ServerState) → numbered_from_1 w.servers n ≡ o → HaveOneRisingChange w
     → AreGoingOn w (server_moves w (n - 1) moment i choice o).world
 server_moves_on w n moment i choice None e h = same_servers w h
 server_moves_on w n moment i choice (Some s) e h =
@@ -243,36 +243,36 @@ server_moves_on w n moment i choice (Some s) e h =
     (λ _. one_server w (n - 1) moment s (server_step s moment i choice) h at (step_goes_on s moment i choice (h (n - 1) s at)))
     (λ _. same_servers w h)
 
-client_moves_on : (w : WorldState) (index moment : ℕ) (i : Input) (choice : Choice) (o : Option ClientState) → AreSound w → AreGoingOn w (client_moves w index moment i choice o).world
+client_moves_on : (w : WorldState) (index moment : ℕ) (i : Input) (choice : Choice) (o : Option ClientState) → HaveOneRisingChange w → AreGoingOn w (client_moves w index moment i choice o).world
 client_moves_on w index moment i choice None h = same_servers w h
 client_moves_on w index moment i choice (Some c) h = on_cond (λ (x : Happened). AreGoingOn w x.world) c.up _ (nothing_happens w) (λ _. same_servers w h) (λ _. same_servers w h)
 
-moves_on : (w : WorldState) (n : Node) (moment : ℕ) (i : Input) (choice : Choice) → AreSound w → AreGoingOn w (moves w n moment i choice).world
+moves_on : (w : WorldState) (n : Node) (moment : ℕ) (i : Input) (choice : Choice) → HaveOneRisingChange w → AreGoingOn w (moves w n moment i choice).world
 moves_on w node.Master moment i choice h = on_cond (λ (x : Happened). AreGoingOn w x.world) w.master.up _ (nothing_happens w) (λ _. same_servers w h) (λ _. same_servers w h)
 moves_on w (node.Server s) moment i choice h = server_moves_on w s.0 moment i choice (numbered_from_1 w.servers s.0) refl h
 moves_on w (node.Client c) moment i choice h = client_moves_on w (c.0 - 1) moment i choice (numbered_from_1 w.clients c.0) h
 
-delivered_on : (w : WorldState) (moment : ℕ) (choice : Choice) (o : Option Message) → AreSound w → AreGoingOn w (delivered w moment choice o).world
+delivered_on : (w : WorldState) (moment : ℕ) (choice : Choice) (o : Option Message) → HaveOneRisingChange w → AreGoingOn w (delivered w moment choice o).world
 delivered_on w moment choice None h = same_servers w h
 delivered_on w moment choice (Some m) h = moves_on w m.receiver moment (input.Deliver m) choice h
 
-restarts_at_on : (w : WorldState) (n moment : ℕ) (choice : Choice) (o : Option ServerState) → numbered_from_1 w.servers n ≡ o → AreSound w
+restarts_at_on : (w : WorldState) (n moment : ℕ) (choice : Choice) (o : Option ServerState) → numbered_from_1 w.servers n ≡ o → HaveOneRisingChange w
     → AreGoingOn w (server_restarts_at w (n - 1) moment choice o).world
 restarts_at_on w n moment choice None e h = same_servers w h
 restarts_at_on w n moment choice (Some s) e h =
     let at : element_at w.servers (n - 1) ≡ Some s = element_numbered w.servers n s e in
     one_server w (n - 1) moment s (server_restart s moment choice) h at (restarts_as s moment choice choice.ending (h (n - 1) s at))
 
-restarts_on : (w : WorldState) (n : Node) (moment : ℕ) (choice : Choice) → AreSound w → AreGoingOn w (restarts w n moment choice).world
+restarts_on : (w : WorldState) (n : Node) (moment : ℕ) (choice : Choice) → HaveOneRisingChange w → AreGoingOn w (restarts w n moment choice).world
 restarts_on w node.Master moment choice h = same_servers w h
 restarts_on w (node.Server s) moment choice h = restarts_at_on w s.0 moment choice (numbered_from_1 w.servers s.0) refl h
 restarts_on w (node.Client c) moment choice h = same_servers w h
 
-calls_on : (w : WorldState) (index moment : ℕ) (c : Call) (choice : Choice) (o : Option ClientState) → AreSound w → AreGoingOn w (call_moves w index moment c choice o).world
+calls_on : (w : WorldState) (index moment : ℕ) (c : Call) (choice : Choice) (o : Option ClientState) → HaveOneRisingChange w → AreGoingOn w (call_moves w index moment c choice o).world
 calls_on w index moment c choice None h = same_servers w h
 calls_on w index moment c choice (Some s) h = on_cond (λ (x : Happened). AreGoingOn w x.world) (may_call s) _ (nothing_happens w) (λ _. same_servers w h) (λ _. same_servers w h)
 
-rots_replica_on : (w : WorldState) (index : ℕ) (s : ServerState) (handle place byte : ℕ) (o : Option Replica) → AreSound w → element_at w.servers index ≡ Some s → IsTrue s.up
+rots_replica_on : (w : WorldState) (index : ℕ) (s : ServerState) (handle place byte : ℕ) (o : Option Replica) → HaveOneRisingChange w → element_at w.servers index ≡ Some s → IsTrue s.up
     → AreGoingOn w (rots_replica w index s handle place byte o).world
 rots_replica_on w index s handle place byte None h at up = same_servers w h
 rots_replica_on w index s handle place byte (Some r) h at up = λ other t is.
@@ -290,7 +290,7 @@ first_of_and : (a b : Bool) → a && b ≡ true → a ≡ true
 first_of_and true b h = refl
 first_of_and false b h = absurd (let both : false ≡ true = h in cc)
 
-rots_on_on : (w : WorldState) (n handle place byte : ℕ) (o : Option ServerState) → numbered_from_1 w.servers n ≡ o → AreSound w
+rots_on_on : (w : WorldState) (n handle place byte : ℕ) (o : Option ServerState) → numbered_from_1 w.servers n ≡ o → HaveOneRisingChange w
     → AreGoingOn w (rots_on w (n - 1) handle place byte o).world
 rots_on_on w n handle place byte None e h = same_servers w h
 rots_on_on w n handle place byte (Some s) e h =
@@ -298,10 +298,10 @@ rots_on_on w n handle place byte (Some s) e h =
     (λ t. rots_replica_on w (n - 1) s handle place byte (replica_of s.disk handle) h (element_numbered w.servers n s e) (first_of_and s.up (nat_lt place w.config.chunk) t))
     (λ _. same_servers w h)
 
-at_moment_on : (w : WorldState) (moment : ℕ) (x : Happened) → AreSound w → AreGoingOn w x.world → AreGoingOn w (at_moment w moment x).world
+at_moment_on : (w : WorldState) (moment : ℕ) (x : Happened) → HaveOneRisingChange w → AreGoingOn w x.world → AreGoingOn w (at_moment w moment x).world
 at_moment_on w moment x h g = on_cond (λ (y : Happened). AreGoingOn w y.world) (nat_le moment moment_limit) x (nothing_happens w) (λ _. g) (λ _. same_servers w h)
 
-happens_on : (w : WorldState) (e : Event) (choice : Choice) → AreSound w → AreGoingOn w (happens w e choice).world
+happens_on : (w : WorldState) (e : Event) (choice : Choice) → HaveOneRisingChange w → AreGoingOn w (happens w e choice).world
 happens_on w (event.Call client c now) choice h =
     at_moment_on w now.0 (call_moves w (client.0 - 1) now.0 c choice (numbered_from_1 w.clients client.0)) h (calls_on w (client.0 - 1) now.0 c choice (numbered_from_1 w.clients client.0) h)
 happens_on w (event.Deliver number now) choice h =
@@ -311,10 +311,10 @@ happens_on w (event.Restart n now) choice h = at_moment_on w now.0 (restarts w n
 happens_on w (event.Rot server handle place byte) choice h = rots_on_on w server.0 handle.0 place byte (numbered_from_1 w.servers server.0) refl h
 happens_on w (event.Fuse n count torn) choice h = same_servers w h
 
-still_sound : (w v : WorldState) → AreGoingOn w v → AreSound v
+still_sound : (w v : WorldState) → AreGoingOn w v → HaveOneRisingChange v
 still_sound w v g index t is = (g index t is).2.sound
 
-events_on : (w : WorldState) (steps : List (Event × Choice)) → AreSound w → AreGoingOn w (after_events w steps)
+events_on : (w : WorldState) (steps : List (Event × Choice)) → HaveOneRisingChange w → AreGoingOn w (after_events w steps)
 events_on w [] h = same_servers w h
 events_on w (step ∷ rest) h = λ index t is.
     let v : WorldState = (happens w step.0 step.1).world in
@@ -328,14 +328,14 @@ element_map f [] n y h = none_some y h
 element_map f (x ∷ xs) zero y h = (x, same_some (f x) y h)
 element_map f (x ∷ xs) (suc n) y h = element_map f xs n y h
 
-new_sound : (config : Config) (servers clients : ℕ) → AreSound (new_world config servers clients)
+new_sound : (config : Config) (servers clients : ℕ) → HaveOneRisingChange (new_world config servers clients)
 new_sound config servers clients index s is =
     let found = element_map (λ n. started_server config n (new_server_disk config.block) 0) (first_numbers servers) index s is in
-    subst (λ (t : ServerState). IsSound t) found.1 (record { risen = tt; few = omega arith; idle = λ up. refl })
+    subst (λ (t : ServerState). HasOneRisingChange t) found.1 (record { risen = tt; few = omega arith; idle = λ up. refl })
 
-reached_sound : (config : Config) (servers clients : ℕ) (w : WorldState) → IsReached config servers clients w → AreSound w
+reached_sound : (config : Config) (servers clients : ℕ) (w : WorldState) → IsReached config servers clients w → HaveOneRisingChange w
 reached_sound config servers clients w r =
-    subst (λ (v : WorldState). AreSound v) r.1
+    subst (λ (v : WorldState). HaveOneRisingChange v) r.1
     (still_sound (new_world config servers clients) (after_events (new_world config servers clients) r.0) (events_on (new_world config servers clients) r.0 (new_sound config servers clients)))
 
 pub order_numbers_never_fall : OrderNumbersNeverFall

@@ -23,7 +23,8 @@ use Rattle.gfs_types.specs.declared.mutation.Mutation.TheVariants as mutation
 use Rattle.messages.specs.declared.event.Input.{Input}
 use Rattle.messages.specs.declared.event.Input.TheVariants as input
 use Rattle.gfs_types.specs.Mutations.{start_of, end_of}
-use Rattle.protocol.specs.Tables.{Table, counter_limit, without, map_values, is_empty_list}
+use Rattle.gfs_types.specs.Counters.{counter_limit}
+use Rattle.protocol.specs.Tables.{Table, without, map_values, is_empty_list}
 use Rattle.protocol.specs.Sending.{message, the_server, the_client, handle_of, version_of, serial_of, server_number}
 use Rattle.replica_store.specs.declared.row.Row.{Row}
 use Rattle.replica_store.specs.declared.change.StoreChange.{StoreChange}

@@ -22,7 +22,7 @@ use Rattle.relaxed_file.proofs.Apart.{appends_lie_apart, below_top}
 use Rattle.relaxed_file.proofs.Records.{last_that-append}
 use Rattle.relaxed_file.proofs.Rounds.{IsWithin, every_order}
 use Rattle.relaxed_file.proofs.Sources.{no_other_byte}
-use Rattle.protocol_promises.specs.Answered.{fd_of, Stands}
+use Rattle.protocol_promises.specs.Answered.{fd_of, IsStandingRecord}
 use Rattle.protocol_promises.specs.Promises.{InEachRun, IsOnlyAppended, AppendsLeaveRecordsAlone}
 use Rattle.protocol_promises.proofs.Descriptors.{was_called, was_opened}
 use Rattle.protocol_promises.proofs.ReadPieces.{settings}
@@ -60,7 +60,7 @@ not_written size index c (Pad start) asked none = refl
 not_written size index c mutation asked none = absurd asked
 
 module _ (config : Config) (trace : List Visible) (m : Machine) (run : IsRunTo config trace m) (file x : ℕ) (bytes : List ℕ) (appended : IsOnlyAppended config trace m run file)
-    (s : Stands config.chunk m file x bytes) (place : ℕ) (from : s.offset ≤ place) (until : place < s.offset + length bytes) where
+    (s : IsStandingRecord config.chunk m file x bytes) (place : ℕ) (from : s.offset ≤ place) (until : place < s.offset + length bytes) where
   abbrev size : ℕ
   size = m.config.chunk
 

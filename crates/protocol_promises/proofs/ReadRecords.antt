@@ -12,7 +12,7 @@ use Rattle.relaxed_file.proofs.Tables.{from_some}
 use Rattle.relaxed_file.proofs.Successes.{AnsweredAppend, found_at}
 use Rattle.relaxed_file.proofs.OwnReads.{own_rounds_are_named}
 use Rattle.relaxed_file.proofs.Records.{records_stand}
-use Rattle.protocol_promises.specs.Answered.{WasAnswered, IsOf, Stands}
+use Rattle.protocol_promises.specs.Answered.{WasAnswered, IsOf, IsStandingRecord}
 use Rattle.protocol_promises.specs.Promises.{InEachRun, RecordsAreRead, OwnRecordsAreRead, SeenRoundsSuffice, AppendedRecordsAreReadBack}
 use Rattle.protocol_promises.proofs.AnswerMoments.{then, reached, allowed, way, descriptors_are_of_one_file}
 use Rattle.protocol_promises.proofs.StandingRecords as record_at
@@ -44,7 +44,7 @@ module _ (config : Config) (trace : List Visible) (m : Machine) (run : IsRunTo c
   at_end = cut_at config then_one m file it.index it.offset bytes (reached config trace m run client (call.Append fd bytes) (answer.At x) tt one)
       (way config trace m run client (call.Append fd bytes) (answer.At x) tt one) kept
 
-  abbrev stands : Stands config.chunk m file x bytes
+  abbrev stands : IsStandingRecord config.chunk m file x bytes
   stands = record { index = it.index; offset = it.offset; is = it.is; room = it.room; before = at_end.0; entry = it.entry; later = at_end.1; order = at_end.2; what = it.what; settled = it.settled }
 
 pub records_are_read : InEachRun RecordsAreRead

@@ -11,7 +11,7 @@ use Rattle.relaxed_file.specs.Answers.{IsDone}
 use Rattle.relaxed_file.specs.Run.{Action, Visible, Answered, after_all, IsRunTo}
 use Rattle.relaxed_file.specs.RunLaws.{MayAnswer}
 use Rattle.relaxed_file.proofs.Successes.{AnsweredAppend, answered, settled_entries_stay, found_at, answered_offsets_differ}
-use Rattle.protocol_promises.specs.Answered.{waiting_call, WasAnswered, IsOf, Stands}
+use Rattle.protocol_promises.specs.Answered.{waiting_call, WasAnswered, IsOf, IsStandingRecord}
 use Rattle.protocol_promises.specs.Promises.{InEachRun, AnsweredRecordsStand, RecordsKeepTheirPlace, AnsweredRecordsLieApart}
 use Rattle.protocol_promises.proofs.Lists.{later_part, parted, at_length}
 use Rattle.protocol_promises.proofs.WaitingCalls.{call_of, waiting_by_actions, waiting-append}
@@ -41,7 +41,7 @@ module _ (config : Config) (trace : List Visible) (m : Machine) (run : IsRunTo c
   abbrev pub it : AnsweredAppend config then_now client file_now bytes x
   it = answered config then_now client file_now fd bytes x (reached config trace m run client (call.Append fd bytes) (answer.At x) tt w) may_now
 
-  stands : Stands config.chunk m file_now x bytes
+  stands : IsStandingRecord config.chunk m file_now x bytes
   stands =
       let there : slice_get (chunk_at m file_now it.index).order (it.there).0 ≡ Some it.entry =
       settled_entries_stay config then_now m (reached config trace m run client (call.Append fd bytes) (answer.At x) tt w) (way config trace m run client (call.Append fd bytes) (answer.At x) tt w)

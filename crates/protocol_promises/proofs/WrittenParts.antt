@@ -16,7 +16,7 @@ use Rattle.relaxed_file.specs.Run.{Visible, IsRunTo}
 use Rattle.relaxed_file.specs.RunLaws.{IsAskedOf}
 use Rattle.relaxed_file.proofs.Successes.{found_at, success_asked}
 use Rattle.relaxed_file.proofs.OwnReads.{own_rounds_are_named}
-use Rattle.protocol_promises.specs.Answered.{WasAnswered, IsOf, PartStands}
+use Rattle.protocol_promises.specs.Answered.{WasAnswered, IsOf, IsStandingPart}
 use Rattle.protocol_promises.specs.Promises.{InEachRun, AnsweredWritesStand, WritesAreRead, OwnWritesAreRead}
 use Rattle.protocol_promises.proofs.AnswerMoments.{AnsweredIn, at, then, reached, allowed, way, its_file, descriptors_are_of_one_file}
 use Rattle.protocol_promises.proofs.ReadPieces.{settings}
@@ -95,7 +95,7 @@ module _ (config : Config) (trace : List Visible) (m : Machine) (run : IsRunTo c
     at_end = cut_at config then_one m file index (start index) (part index) (reached config trace m run client (call.Write fd offset bytes) answer.Done tt one)
         (way config trace m run client (call.Write fd offset bytes) answer.Done tt one) kept
 
-    abbrev stands : PartStands m file index (start index) (part index)
+    abbrev stands : IsStandingPart m file index (start index) (part index)
     stands = record { before = at_end.0; entry = success.2; later = at_end.1; order = at_end.2; what = what; settled = (success.4).1 }
 
 pub answered_writes_stand : InEachRun AnsweredWritesStand

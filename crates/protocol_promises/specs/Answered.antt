@@ -37,7 +37,7 @@ fd_of (call.Read fd offset count) = Some fd
 fd_of name_call = None
 
 -- A record that was appended to the file and answered this place: it is settled, at one place of the order of one chunk, and lies whole in that chunk.
-pub record Stands (size : ℕ) (m : Machine) (file x : ℕ) (bytes : List ℕ) : Type 0 where
+pub record IsStandingRecord (size : ℕ) (m : Machine) (file x : ℕ) (bytes : List ℕ) : Type 0 where
   pub index : ℕ
   pub offset : ℕ
   pub is : x ≡ index * size + offset
@@ -50,7 +50,7 @@ pub record Stands (size : ℕ) (m : Machine) (file x : ℕ) (bytes : List ℕ) :
   pub settled : IsTrue entry.settled
 
 -- The part of a write that was answered, in one chunk: it is settled, at one place of the chunk's order.
-pub record PartStands (m : Machine) (file index start : ℕ) (bytes : List ℕ) : Type 0 where
+pub record IsStandingPart (m : Machine) (file index start : ℕ) (bytes : List ℕ) : Type 0 where
   pub before : List Entry
   pub entry : Entry
   pub later : List Entry

@@ -130,7 +130,7 @@ all_apply F (m ∷ ms) all none = (all.0 none.0, all_apply F ms all.1 none.1)
 talks : (F : DataId → Type 0) → MasterTalks (λ m. IsNotFull m.body → Causes F m)
 talks F = record { plain = λ receiver b is other. masters_cause F b receiver is other; locates = λ receiver number l current other. tt }
 
-record IsSound (F : DataId → Type 0) (w : WorldState) : Type 0 where
+record IsToldTruly (F : DataId → Type 0) (w : WorldState) : Type 0 where
   leases : (index : ℕ) (s : ServerState) → element_at w.servers index ≡ Some s → AreRight F s.leases
   told : (place : ℕ) (m : Message) → element_at w.sent place ≡ Some m → Causes F m
 
@@ -148,7 +148,7 @@ module _ (config : Config) (servers clients : ℕ) (some : 1 ≤ config.chunk) w
   Ended w = IsEnded config.chunk w
 
   abbrev Sound : WorldState → Type 0
-  Sound w = IsSound (Ended w) w
+  Sound w = IsToldTruly (Ended w) w
 
   module _ (w : WorldState) (r : IsReached config servers clients w) (kept : IsTrue w.observer.are_clocks_kept) (h : Sound w) where
     module _ (v : WorldState) (more : List Message) (sent : v.sent ≡ w.sent ++ more) (grown : HaveGrown w v) where

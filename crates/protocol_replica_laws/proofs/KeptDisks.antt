@@ -36,7 +36,7 @@ use Rattle.protocol_step_laws.proofs.HeldReplicas.{IsNumber, numbers_quiet, chan
 use Rattle.protocol_replica_laws.specs.StoredChanges.{ReplicasAreReadAsStored, ReadsAreAsStored}
 use Rattle.protocol_replica_laws.proofs.ExactEvents.{HoldsExactly, holds_exactly}
 use Rattle.protocol_replica_laws.proofs.StoreCauses.{IsNumbered, IsWritable, IsStoredFor, AreMade, AreMadeOn, step_made}
-use Rattle.protocol_replica_laws.proofs.SoundBlocks.{zeros, alike_long, IsSound, rotten_sound, written_sound, read_whole, read_part}
+use Rattle.protocol_replica_laws.proofs.SoundBlocks.{zeros, alike_long, IsRotNoticed, rotten_sound, written_sound, read_whole, read_part}
 
 -- lists of changes
 
@@ -110,21 +110,21 @@ all_block d (x ∷ xs) = all_block (disk_changed d x) xs ∙ one_block d x
 
 -- disks
 
-abbrev AreSound : ℕ → ServerDisk → Type 0
-AreSound block d = (handle : ℕ) (r : Replica) → replica_of d handle ≡ Some r → IsSound block r
+abbrev IsAllRotNoticed : ℕ → ServerDisk → Type 0
+IsAllRotNoticed block d = (handle : ℕ) (r : Replica) → replica_of d handle ≡ Some r → IsRotNoticed block r
 
-put_sound : (block : ℕ) (d : ServerDisk) (k : ℕ) (new : Replica) → IsSound block new → AreSound block d → AreSound block (with_replica d k new)
+put_sound : (block : ℕ) (d : ServerDisk) (k : ℕ) (new : Replica) → IsRotNoticed block new → IsAllRotNoticed block d → IsAllRotNoticed block (with_replica d k new)
 put_sound block d k new one h handle r is =
     elim (put_cases d.replicas k new handle r is) [
-      | inl same ↦ subst (IsSound block) same.1 one
+      | inl same ↦ subst (IsRotNoticed block) same.1 one
       | inr before ↦ h handle r before
     ]
 
-becomes_sound : (block : ℕ) (f : Replica → Replica) (d : ServerDisk) (k : ℕ) (o : Option Replica) → ((r : Replica) → o ≡ Some r → IsSound block (f r)) → AreSound block d → AreSound block (replica_becomes f d k o)
+becomes_sound : (block : ℕ) (f : Replica → Replica) (d : ServerDisk) (k : ℕ) (o : Option Replica) → ((r : Replica) → o ≡ Some r → IsRotNoticed block (f r)) → IsAllRotNoticed block d → IsAllRotNoticed block (replica_becomes f d k o)
 becomes_sound block f d k None new h = h
 becomes_sound block f d k (Some r) new h = put_sound block d k (f r) (new r refl) h
 
-new_sound : (block version serial : ℕ) (bytes : List ℕ) → IsSound block (stored_replica version serial bytes)
+new_sound : (block version serial : ℕ) (bytes : List ℕ) → IsRotNoticed block (stored_replica version serial bytes)
 new_sound block version serial bytes place byte is = none_some byte (sym (table.get-empty nat_cmp place) ∙ is)
 
 writable_there : (d : ServerDisk) (handle offset stop : ℕ) (r : Replica) → replica_of d handle ≡ Some r → is_writable_at d handle offset stop ≡ true → is_writable d.block r offset stop ≡ true
@@ -132,9 +132,9 @@ writable_there d handle offset stop r there is = subst (λ (o : Option Replica).
 
 -- a step
 
-module _ (s : ServerState) (here : AreSound s.disk.block s.disk) (moment : ℕ) (i : Input) where
+module _ (s : ServerState) (here : IsAllRotNoticed s.disk.block s.disk) (moment : ℕ) (i : Input) where
   abbrev Good : ServerDisk → Type 0
-  Good d = AreSound s.disk.block d
+  Good d = IsAllRotNoticed s.disk.block d
 
   same : (e : ServerDisk) → e.replicas ≡ s.disk.replicas → Good e
   same e is handle x there = here handle x (ap (λ (t : Table Replica). table.get t handle) (sym is) ∙ there)
@@ -211,11 +211,11 @@ module _ (s : ServerState) (here : AreSound s.disk.block s.disk) (moment : ℕ) 
 -- servers
 
 record IsGood (s : ServerState) : Type 0 where
-  found : (decided : List Bool) → AreSound s.disk.block (disk_changed_by_all s.disk (decided_changes decided s.under_way))
+  found : (decided : List Bool) → IsAllRotNoticed s.disk.block (disk_changed_by_all s.disk (decided_changes decided s.under_way))
   idle : s.up ≡ true → s.under_way ≡ []
 
 module _ (s : ServerState) (h : IsGood s) (moment : ℕ) (i : Input) (choice : Choice) (up : IsTrue s.up) where
-  here : AreSound s.disk.block s.disk
+  here : IsAllRotNoticed s.disk.block s.disk
   here = h.found []
 
   ends_good : (e : Ending) → IsGood (server_ends s (server_goes s moment i) choice e).state
@@ -224,22 +224,22 @@ module _ (s : ServerState) (h : IsGood s) (moment : ℕ) (i : Input) (choice : C
       let frame = frame_kept s moment i in
       let disk : ServerDisk = disk_changed_by_all d.server.disk d.changes in
       let block : disk.block ≡ s.disk.block = all_block d.server.disk d.changes ∙ ap (λ (x : ServerDisk). x.block) frame.0 in
-      let all : AreSound s.disk.block disk =
-      subst (λ (x : ServerDisk). AreSound s.disk.block (disk_changed_by_all x d.changes)) (sym frame.0) (subst (λ (xs : List StoreChange). AreSound s.disk.block (disk_changed_by_all s.disk xs)) (take_whole d.changes) (after s here moment i (length d.changes))) in
+      let all : IsAllRotNoticed s.disk.block disk =
+      subst (λ (x : ServerDisk). IsAllRotNoticed s.disk.block (disk_changed_by_all x d.changes)) (sym frame.0) (subst (λ (xs : List StoreChange). IsAllRotNoticed s.disk.block (disk_changed_by_all s.disk xs)) (take_whole d.changes) (after s here moment i (length d.changes))) in
       record {
         found = λ decided.
-            subst (λ (n : ℕ). AreSound n (disk_changed_by_all disk (decided_changes decided d.server.under_way))) (sym block)
-            (subst (λ (xs : List StoreChange). AreSound s.disk.block (disk_changed_by_all disk (decided_changes decided xs))) (sym (frame.1 ∙ h.idle up)) (subst (AreSound s.disk.block) (sym (none_more disk decided)) all));
+            subst (λ (n : ℕ). IsAllRotNoticed n (disk_changed_by_all disk (decided_changes decided d.server.under_way))) (sym block)
+            (subst (λ (xs : List StoreChange). IsAllRotNoticed s.disk.block (disk_changed_by_all disk (decided_changes decided xs))) (sym (frame.1 ∙ h.idle up)) (subst (IsAllRotNoticed s.disk.block) (sym (none_more disk decided)) all));
         idle = λ _. frame.1 ∙ h.idle up;
       }
-  ends_good Lost = record { found = λ decided. subst (AreSound s.disk.block) (sym (none_more s.disk decided)) here; idle = λ on. refl }
+  ends_good Lost = record { found = λ decided. subst (IsAllRotNoticed s.disk.block) (sym (none_more s.disk decided)) here; idle = λ on. refl }
   ends_good (Stops made) =
       let d : ServerDoing = server_goes s moment i in
       record {
         found = λ decided.
             let one = found_made s.disk decided made d.changes in
-            subst (λ (n : ℕ). AreSound n (disk_changed_by_all (disk_changed_by_all s.disk (take made d.changes)) (decided_changes decided (take 1 (drop made d.changes))))) (sym (all_block s.disk (take made d.changes)))
-            (subst (AreSound s.disk.block) (sym one.1) (after s here moment i one.0));
+            subst (λ (n : ℕ). IsAllRotNoticed n (disk_changed_by_all (disk_changed_by_all s.disk (take made d.changes)) (decided_changes decided (take 1 (drop made d.changes))))) (sym (all_block s.disk (take made d.changes)))
+            (subst (IsAllRotNoticed s.disk.block) (sym one.1) (after s here moment i one.0));
         idle = λ on. absurd (true≢false (sym on));
       }
 
@@ -252,15 +252,15 @@ restart_good s h moment choice Lost = record { found = h.found; idle = λ on. ab
 restart_good s h moment choice (Stops made) =
     record {
       found = λ decided.
-          subst (λ (n : ℕ). AreSound n (disk_changed_by_all (found_disk s choice) (decided_changes decided []))) (sym (all_block s.disk (decided_changes choice.decided s.under_way)))
-          (subst (AreSound s.disk.block) (sym (none_more (found_disk s choice) decided)) (h.found choice.decided));
+          subst (λ (n : ℕ). IsAllRotNoticed n (disk_changed_by_all (found_disk s choice) (decided_changes decided []))) (sym (all_block s.disk (decided_changes choice.decided s.under_way)))
+          (subst (IsAllRotNoticed s.disk.block) (sym (none_more (found_disk s choice) decided)) (h.found choice.decided));
       idle = λ on. refl;
     }
 restart_good s h moment choice Goes =
     record {
       found = λ decided.
-          subst (λ (n : ℕ). AreSound n (disk_changed_by_all (found_disk s choice) (decided_changes decided []))) (sym (all_block s.disk (decided_changes choice.decided s.under_way)))
-          (subst (AreSound s.disk.block) (sym (none_more (found_disk s choice) decided)) (h.found choice.decided));
+          subst (λ (n : ℕ). IsAllRotNoticed n (disk_changed_by_all (found_disk s choice) (decided_changes decided []))) (sym (all_block s.disk (decided_changes choice.decided s.under_way)))
+          (subst (IsAllRotNoticed s.disk.block) (sym (none_more (found_disk s choice) decided)) (h.found choice.decided));
       idle = λ on. refl;
     }
 
@@ -269,8 +269,8 @@ rotten_good : (s : ServerState) → IsGood s → IsTrue s.up → (handle : ℕ) 
 rotten_good s h up handle r place byte there kept =
     record {
       found = λ decided.
-          subst (λ (xs : List StoreChange). AreSound s.disk.block (disk_changed_by_all (with_replica s.disk handle (rotten_replica r place byte)) (decided_changes decided xs))) (sym (h.idle up))
-          (subst (AreSound s.disk.block) (sym (none_more (with_replica s.disk handle (rotten_replica r place byte)) decided))
+          subst (λ (xs : List StoreChange). IsAllRotNoticed s.disk.block (disk_changed_by_all (with_replica s.disk handle (rotten_replica r place byte)) (decided_changes decided xs))) (sym (h.idle up))
+          (subst (IsAllRotNoticed s.disk.block) (sym (none_more (with_replica s.disk handle (rotten_replica r place byte)) decided))
           (put_sound s.disk.block s.disk handle (rotten_replica r place byte) (rotten_sound s.disk.block r place byte kept (h.found [] handle r there)) (h.found [])));
       idle = h.idle;
     }
@@ -323,7 +323,7 @@ new_good config servers clients index s at =
 
 -- a replica of a reached world
 sound_reached : (config : Config) (servers clients : ℕ) (w : WorldState) → IsReached config servers clients w → IsTrue w.observer.are_disks_kept → (index : ℕ) (s : ServerState) → element_at w.servers index ≡ Some s → (handle : ℕ) (x : Replica)
-    → replica_of s.disk handle ≡ Some x → IsSound s.disk.block x
+    → replica_of s.disk handle ≡ Some x → IsRotNoticed s.disk.block x
 sound_reached config servers clients w r kept index s at = (subst AreKept r.1 (kept_on (new_world config servers clients) r.0 (λ _. new_good config servers clients)) kept index s at).found []
 
 pub reads_are_as_stored : ReadsAreAsStored
@@ -340,7 +340,7 @@ replicas_are_read_as_stored config servers clients w r kept index s at handle x 
     good : IsGood s
     good = subst AreKept r.1 (kept_on (new_world config servers clients) r.0 (λ _. new_good config servers clients)) kept index s at
 
-    sound : IsSound s.disk.block x
+    sound : IsRotNoticed s.disk.block x
     sound = good.found [] handle x there
 
     copies : IsTrue (is_copyable_at s.disk handle) → bytes_on_disk x ≡ x.bytes

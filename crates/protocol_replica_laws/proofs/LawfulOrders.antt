@@ -245,10 +245,10 @@ none_lawful size handle = subst (λ (o : Option (List Placed)). AreBehind size (
 -- worlds
 
 module _ (config : Config) (servers clients : ℕ) where
-  abbrev IsSound : WorldState → Type 0
-  IsSound w = IsTrue (is_kept w) → (handle : ℕ) → AreBehind config.chunk (placed_in w.observer.orders handle)
+  abbrev HasLawfulOrders : WorldState → Type 0
+  HasLawfulOrders w = IsTrue (is_kept w) → (handle : ℕ) → AreBehind config.chunk (placed_in w.observer.orders handle)
 
-  module _ (w : WorldState) (r : IsReached config servers clients w) (h : IsSound w) where
+  module _ (w : WorldState) (r : IsReached config servers clients w) (h : HasLawfulOrders w) where
     module _ (index moment : ℕ) (s : ServerState) (i : Input) (choice : Choice) (at : element_at w.servers index ≡ Some s) (came : (m : Message) → i ≡ input.Deliver m → IsAmong w.sent m)
         (kept : IsTrue (is_kept w)) (clocks : IsTrue (observed_moment w.config.skew_ms w.observer moment).are_clocks_kept) where
       abbrev Counts : ℕ → ℕ → Type 0
@@ -290,7 +290,7 @@ module _ (config : Config) (servers clients : ℕ) where
     were : (moment : ℕ) → IsTrue ((observed_moment w.config.skew_ms w.observer moment).are_clocks_kept && w.observer.are_disks_kept) → IsTrue (is_kept w)
     were moment kept = kept_of w.observer.are_clocks_kept (nat_le w.observer.greatest (moment + w.config.skew_ms)) w.observer.are_disks_kept kept
 
-    each_sound : HoldsExactly w (λ e x. IsSound x.world)
+    each_sound : HoldsExactly w (λ e x. HasLawfulOrders x.world)
     each_sound =
         record {
           nothing = λ e. h;
@@ -318,13 +318,13 @@ module _ (config : Config) (servers clients : ℕ) where
               h (kept_both w.observer.are_clocks_kept w.observer.are_disks_kept parts.0 (and_parts w.observer.are_disks_kept (not _) parts.1).0);
         }
 
-  sound_on : (w : WorldState) (steps : List (Event × Choice)) → IsReached config servers clients w → IsSound w → IsSound (after_events w steps)
+  sound_on : (w : WorldState) (steps : List (Event × Choice)) → IsReached config servers clients w → HasLawfulOrders w → HasLawfulOrders (after_events w steps)
   sound_on w [] r h = h
   sound_on w (step ∷ rest) r h =
-      sound_on (happens w step.0 step.1).world rest (reached_later config servers clients w (step ∷ []) r) (holds_exactly w (λ e x. IsSound x.world) (each_sound w r h) step.0 step.1)
+      sound_on (happens w step.0 step.1).world rest (reached_later config servers clients w (step ∷ []) r) (holds_exactly w (λ e x. HasLawfulOrders x.world) (each_sound w r h) step.0 step.1)
 
-  sound_reached : (w : WorldState) → IsReached config servers clients w → IsSound w
-  sound_reached w r = subst IsSound r.1 (sound_on (new_world config servers clients) r.0 ([], refl) (λ kept. none_lawful config.chunk))
+  sound_reached : (w : WorldState) → IsReached config servers clients w → HasLawfulOrders w
+  sound_reached w r = subst HasLawfulOrders r.1 (sound_on (new_world config servers clients) r.0 ([], refl) (λ kept. none_lawful config.chunk))
 
   -- data
 

@@ -208,8 +208,8 @@ none_passes test (e ∷ es) none = let parts = or_parts (test e) (list_any test 
 -- blocks
 
 -- each byte that changed lies in a block with another digest
-abbrev pub IsSound : ℕ → Replica → Type 0
-IsSound block r = (place byte : ℕ) → table.get r.changed place ≡ Some byte → block_matches block r (place / block) ≡ false
+abbrev pub IsRotNoticed : ℕ → Replica → Type 0
+IsRotNoticed block r = (place byte : ℕ) → table.get r.changed place ≡ Some byte → block_matches block r (place / block) ≡ false
 
 in_block : (block n j : ℕ) → n * block ≤ j → j < n * block + block → j / block ≡ n
 in_block block n j low high = div-eq_of_lt-le {k = n} block {m = j} low (let e : (n + 1) * block ≡ n * block + block = add-mul n 1 block ∙ ap (λ (x : ℕ). n * block + x) (one-mul block) in omega (arith, high, e))
@@ -257,7 +257,7 @@ rotten_other : (r : Replica) (place byte q : ℕ) → (q ≡ place → ⊥) → 
 rotten_other r place byte q apart =
     on_cond (λ (t : Table ℕ). table.get t q ≡ table.get r.changed q) (stored_byte r place == byte) (table.remove r.changed place) (table.insert r.changed place byte) (λ _. gone_other r.changed place q apart) (λ _. put_other r.changed place byte q apart)
 
-pub rotten_sound : (block : ℕ) (r : Replica) (place byte : ℕ) → not (hides_change block (rotten_replica r place byte) place) ≡ true → IsSound block r → IsSound block (rotten_replica r place byte)
+pub rotten_sound : (block : ℕ) (r : Replica) (place byte : ℕ) → not (hides_change block (rotten_replica r place byte) place) ≡ true → IsRotNoticed block r → IsRotNoticed block (rotten_replica r place byte)
 rotten_sound block r place byte kept h q b there =
     elim (same_or_not (q / block) (place / block)) [
       | inl same ↦
@@ -366,7 +366,7 @@ kept_test offset stop j where_ =
         by_test true is = is
         by_test false is = absurd (let most = ltb-false a b is in omega (arith, most, less))
 
-pub written_sound : (block : ℕ) (r : Replica) (serial offset : ℕ) (content : List ℕ) → is_writable block r offset (offset + length content) ≡ true → IsSound block r → IsSound block (written_replica r serial offset content)
+pub written_sound : (block : ℕ) (r : Replica) (serial offset : ℕ) (content : List ℕ) → is_writable block r offset (offset + length content) ≡ true → IsRotNoticed block r → IsRotNoticed block (written_replica r serial offset content)
 written_sound block r serial offset content writable h q b there =
     still_apart block (q / block) r now (λ j low high. let where_ = away j low high in (get_filtered test r.changed j (λ x. kept_test offset stop j where_), written_other r.bytes offset content j where_)) bad
     (changed_there block now q b (q / block) there refl)
@@ -399,7 +399,7 @@ no_others : (es : List (ℕ × ℕ)) (xs : List ℕ) → AllOf (λ e. length xs 
 no_others [] xs all = refl
 no_others (e ∷ es) xs all = ap (λ (ys : List ℕ). with_others es ys) (set_past xs e.0 e.1 all.0) ∙ no_others es xs all.1
 
-pub read_whole : (block : ℕ) (r : Replica) → IsSound block r → is_readable block r 0 (length r.bytes) ≡ true → bytes_on_disk r ≡ r.bytes
+pub read_whole : (block : ℕ) (r : Replica) → IsRotNoticed block r → is_readable block r 0 (length r.bytes) ≡ true → bytes_on_disk r ≡ r.bytes
 read_whole block r h readable = no_others (table.entries r.changed) r.bytes (all_past (table.entries r.changed) (all_found (table.entries r.changed) (table.entries_sorted r.changed)) passes)
   where
     stop : ℕ
@@ -454,7 +454,7 @@ taken_short zero xs = (omega arith, omega arith)
 taken_short (suc n) [] = (omega arith, omega arith)
 taken_short (suc n) (x ∷ xs) = let rest = taken_short n xs in let a = rest.0 in let b = rest.1 in (omega (arith, a), omega (arith, b))
 
-pub read_part : (block : ℕ) (r : Replica) (offset count : ℕ) → IsSound block r → is_readable block r offset count ≡ true → take count (drop offset (bytes_on_disk r)) ≡ take count (drop offset r.bytes)
+pub read_part : (block : ℕ) (r : Replica) (offset count : ℕ) → IsRotNoticed block r → is_readable block r offset count ≡ true → take count (drop offset (bytes_on_disk r)) ≡ take count (drop offset r.bytes)
 read_part block r offset count h readable =
     ext_get_or 0 (take count (drop offset (bytes_on_disk r))) (take count (drop offset r.bytes)) alike
     (λ i less.

@@ -146,7 +146,7 @@ goes_both k l m first second =
     }
 
 -- the handle stands at this place of the file, which is the last one where the last was asked for
-record Stands (files : Files) (file : ℕ) (what : Wanted) (index handle : ℕ) : Type 0 where
+record IsHandleAt (files : Files) (file : ℕ) (what : Wanted) (index handle : ℕ) : Type 0 where
   pub handles : List ℕ
   pub file_is : table.get files file ≡ Some handles
   pub at : element_at handles index ≡ Some handle
@@ -230,7 +230,7 @@ module _ (start : Logged) (file : ℕ) (what : Wanted) where
   module _ (numbered : file < start.next_file) where
     -- the step so far, of a chunk that stands
     abbrev Here : ℕ → ℕ → ChunkRow → MasterDoing → Type 0
-    Here index handle row d = Stands d.master.logged.table.files file what index handle × (chunk_of d.master.logged.table handle ≡ Some row) × Quiet d
+    Here index handle row d = IsHandleAt d.master.logged.table.files file what index handle × (chunk_of d.master.logged.table handle ≡ Some row) × Quiet d
 
     located : (d : MasterDoing) (a : Asker) (handle : ℕ) (row : ChunkRow) (holders : List Holder) → Here a.index handle row d → Fine (tells_location d a handle row holders)
     located d a handle row holders h =
@@ -278,7 +278,7 @@ module _ (start : Logged) (file : ℕ) (what : Wanted) where
         (λ _. on_cond Fine (is_copied d.master.logged handle) (tells_to_wait d a) (issues_own d a handle row (is_attempted d.master handle)) (λ _. fine (tells_to_wait d a) (waits d a h.2))
         (λ _. issues_its_own d a handle row (is_attempted d.master handle) h))
 
-    wants_of : (d : MasterDoing) (a : Asker) (handle : ℕ) (o : Option ChunkRow) → chunk_of d.master.logged.table handle ≡ o → Stands d.master.logged.table.files file what a.index handle → Quiet d → Fine (wants_own_of d a handle o)
+    wants_of : (d : MasterDoing) (a : Asker) (handle : ℕ) (o : Option ChunkRow) → chunk_of d.master.logged.table handle ≡ o → IsHandleAt d.master.logged.table.files file what a.index handle → Quiet d → Fine (wants_own_of d a handle o)
     wants_of d a handle None at stands h = fine d h
     wants_of d a handle (Some row) at stands h = wants d a handle row (stands, at, h)
 
@@ -312,14 +312,14 @@ module _ (start : Logged) (file : ℕ) (what : Wanted) where
         on_cond (Here index handle row) (has_lease d.master other) (orders d other.primary (λ order. body.Revoke order (handle_of revoking) (version_of other.granted))) d
         (λ _. (h.0, h.1, ordered d other.primary (λ order. body.Revoke order (handle_of revoking) (version_of other.granted)) (λ o. refl) h.2)) (λ _. h)
 
-    at_row : (d : MasterDoing) (a : Asker) (lost : Bool) (handle : ℕ) (o : Option ChunkRow) → chunk_of d.master.logged.table handle ≡ o → Stands d.master.logged.table.files file what a.index handle → Quiet d → Fine (mutates_row d a lost handle o)
+    at_row : (d : MasterDoing) (a : Asker) (lost : Bool) (handle : ℕ) (o : Option ChunkRow) → chunk_of d.master.logged.table handle ≡ o → IsHandleAt d.master.logged.table.files file what a.index handle → Quiet d → Fine (mutates_row d a lost handle o)
     at_row d a lost handle None at stands h = fine d h
     at_row d a lost handle (Some row) at stands h =
         on_cond Fine (has_ended row d.master.now) (wants_primary d a handle row) (tells_holders (cond lost (revokes d handle) d) a handle row) (λ _. wants_a_primary d a handle row (stands, at, h))
         (λ _. tells_its_holders (cond lost (revokes d handle) d) a handle row
         (on_cond (Here a.index handle row) lost (revokes d handle) d (λ _. revoked d a.index handle row handle (chunk_of d.master.logged.table handle) (stands, at, h)) (λ _. (stands, at, h))))
 
-    at_handle : (d : MasterDoing) (a : Asker) (lost : Bool) (o : Option ℕ) → ((handle : ℕ) → o ≡ Some handle → Stands d.master.logged.table.files file what a.index handle) → Quiet d → Fine (mutates_at d a lost o)
+    at_handle : (d : MasterDoing) (a : Asker) (lost : Bool) (o : Option ℕ) → ((handle : ℕ) → o ≡ Some handle → IsHandleAt d.master.logged.table.files file what a.index handle) → Quiet d → Fine (mutates_at d a lost o)
     at_handle d a lost None stands h = fine d h
     at_handle d a lost (Some handle) stands h = at_row d a lost handle (chunk_of d.master.logged.table handle) refl (stands handle refl) h
 
@@ -339,7 +339,7 @@ module _ (start : Logged) (file : ℕ) (what : Wanted) where
           last = λ last. absurd (not_last last);
         }) quiet) h
 
-    looks : (d : MasterDoing) (a : Asker) (o : Option ℕ) → ((handle : ℕ) → o ≡ Some handle → Stands d.master.logged.table.files file what a.index handle) → (o ≡ None → IsNoneBy d.master.logged file what) → Quiet d → Fine (looks_at d a o)
+    looks : (d : MasterDoing) (a : Asker) (o : Option ℕ) → ((handle : ℕ) → o ≡ Some handle → IsHandleAt d.master.logged.table.files file what a.index handle) → (o ≡ None → IsNoneBy d.master.logged file what) → Quiet d → Fine (looks_at d a o)
     looks d a None stands none h = ends d a.client (body.Told a.number None) (none refl) h
     looks d a (Some handle) stands none h = by_row (chunk_of d.master.logged.table handle) refl
       where
@@ -349,7 +349,7 @@ module _ (start : Logged) (file : ℕ) (what : Wanted) where
 
     -- the file's list as the step begins
     module _ (d : MasterDoing) (handles : List ℕ) (is : table.get d.master.logged.table.files file ≡ Some handles) (quiet : Quiet d) where
-      stands_at : (index handle : ℕ) → (what ≡ wanted.Last → length handles ≡ suc index) → element_at handles index ≡ Some handle → Stands d.master.logged.table.files file what index handle
+      stands_at : (index handle : ℕ) → (what ≡ wanted.Last → length handles ≡ suc index) → element_at handles index ≡ Some handle → IsHandleAt d.master.logged.table.files file what index handle
       stands_at index handle last at = record { handles = handles; file_is = is; at = at; last = last }
 
       none_there : IsPast what (length handles) → IsNoneBy d.master.logged file what

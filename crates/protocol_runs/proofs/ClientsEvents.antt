@@ -48,7 +48,7 @@ use Rattle.protocol_whole_laws.proofs.WholeClients.{came, not_masters, event_cas
 use Rattle.protocol_runs.specs.ClientsEvents.{IsClient, IsClientsEvent, AreOpenCallsKnown, AreTooLong, IdleStepsKeepWorldsWhole, NameStepsKeepWorldsWhole, CallsKeepWorldsWhole, ClientsEventsKeepWorldsWhole}
 use Rattle.protocol_runs.proofs.ClientWords.{step_asks, call_asks}
 use Rattle.protocol_runs.proofs.ClientsFileSteps.{client_file_steps_keep_worlds_whole}
-use Rattle.protocol_runs.proofs.ClientsGo.{Stands, stands_beside, idle_stands, name_step_stands, any_call_stands}
+use Rattle.protocol_runs.proofs.ClientsGo.{IsBesideAfter, stands_beside, idle_stands, name_step_stands, any_call_stands}
 
 -- the master is left, and what its log keeps was asked for
 
@@ -94,7 +94,7 @@ module _ (config : Config) (servers clients : ℕ) (w : WorldState) (r : IsReach
     nothing_kept is = subst (λ (z : Happened). IsWholeWorld config z.world) (sym is) h
 
     module _ (stands : (up : IsTrue s.up) (l : Logged) (ss : List PendingSnapshot) → (b : HasMachine config w l ss) → IsAskedFor w.sent (b.0).log ss
-        → Stands config servers clients w r kept e choice clocks (not_masters w e index moment i given) known index moment s at up ss b.0 b.2 (answered_trace (suc index) t.out.answer (passed_trace w.observer.greatest moment w.observer.trace)) t)
+        → IsBesideAfter config servers clients w r kept e choice clocks (not_masters w e index moment i given) known index moment s at up ss b.0 b.2 (answered_trace (suc index) t.out.answer (passed_trace w.observer.greatest moment w.observer.trace)) t)
       where
         stood_whole : IsWholeWorld config (happens w e choice).world
         stood_whole =

@@ -166,7 +166,7 @@ module _ (config : Config) (servers clients : ℕ) (w : WorldState) (r : world.I
     own = asking_passed index s at up
 
     -- what stands once the client came to this, and this was seen
-    pub record Stands (more : List Visible) (t : Taken ClientState) : Type 0 where
+    pub record IsBesideAfter (more : List Visible) (t : Taken ClientState) : Type 0 where
       pub machine : Machine
       pub names : Machine
       pub requests : Requests
@@ -181,7 +181,7 @@ module _ (config : Config) (servers clients : ℕ) (w : WorldState) (r : world.I
       pub adds : AddsNumberedTries w v k machine
 
     -- the world is beside it then
-    module _ (more : List Visible) (t : Taken ClientState) (g : Stands more t) where
+    module _ (more : List Visible) (t : Taken ClientState) (g : IsBesideAfter more t) where
       abbrev Parts : List Visible → ℕ → List Message → List ClientState → Type 0
       Parts xs q ms cs = IsNamesBeside config xs q ms k.log ss g.names g.requests × AreClientsBeside config xs q cs g.names g.requests × IsRunTo config xs g.machine × AreFileClients cs g.machine × AreWordsSo ms cs g.machine
 
@@ -212,7 +212,7 @@ module _ (config : Config) (servers clients : ℕ) (w : WorldState) (r : world.I
     -- a step without a call
 
     stands_still : (t : ClientState) (down : Bool) → (IsTrue t.up → IsClientBeside config trace greatest t p.names h.requests client) → (IsTrue t.up → IsFileClient p.whole client t) → (IsTrue t.up → AreOwnWordsSo w.sent p.whole index t)
-        → Stands trace (record { state = t; out = record { sent = []; answer = None; down = down }; seen = [] })
+        → IsBesideAfter trace (record { state = t; out = record { sent = []; answer = None; down = down }; seen = [] })
     stands_still t down beside files said =
         let names = stays_at config trace greatest w.clients w.sent k.log ss p.names h.requests p.named asking_passed number index t beside in
         record {
@@ -237,13 +237,13 @@ module _ (config : Config) (servers clients : ℕ) (w : WorldState) (r : world.I
       idle_goes : client_begins (client_at s moment) ≡ client_goes s moment i
       idle_goes = ap (λ (o : Option CurrentCall). client_does (client_begins (client_at s moment)) i o) (sym none)
 
-      idle_ends : (end : Ending) → Stands trace (client_ends s (client_begins (client_at s moment)) end)
+      idle_ends : (end : Ending) → IsBesideAfter trace (client_ends s (client_begins (client_at s moment)) end)
       idle_ends Goes = stands_still (client_at s moment) false (λ on. later) (λ on. later_client p.whole client s moment (files_passed index s at up)) (λ on x was to firm. said_passed index s at up x was to firm)
       idle_ends Lost = stands_still (stopped_client s) true (λ on. absurd (true≢false (sym on))) (λ on. absurd (true≢false (sym on))) (λ on. absurd (true≢false (sym on)))
       idle_ends (Stops changes) = stands_still (stopped_client s) true (λ on. absurd (true≢false (sym on))) (λ on. absurd (true≢false (sym on))) (λ on. absurd (true≢false (sym on)))
 
       abbrev Idles : Taken ClientState → Type 0
-      Idles t = Stands (answered_trace client t.out.answer trace) t
+      Idles t = IsBesideAfter (answered_trace client t.out.answer trace) t
 
       idle_seen : (end : Ending) → Idles (client_ends s (client_begins (client_at s moment)) end)
       idle_seen Goes = idle_ends Goes
@@ -289,7 +289,7 @@ module _ (config : Config) (servers clients : ℕ) (w : WorldState) (r : world.I
 
       -- and the client goes down
       down_opened : (names : Machine) (requests : Requests) → AreNamesOf opened names → IsNamesBeside config calling greatest (w.sent ++ stamped number []) k.log ss names requests
-          → AreClientsBeside config calling greatest (with_at w.clients index (stopped_client s)) names requests → Stands calling (record { state = stopped_client s; out = down_output; seen = [] })
+          → AreClientsBeside config calling greatest (with_at w.clients index (stopped_client s)) names requests → IsBesideAfter calling (record { state = stopped_client s; out = down_output; seen = [] })
       down_opened names requests same named asking =
           record {
             machine = opened;
@@ -361,7 +361,7 @@ module _ (config : Config) (servers clients : ℕ) (w : WorldState) (r : world.I
             let two_on = other_clients_stay config opening (reached_opened c allowed) client d f (suc other) (not_own other apart) z one_on.0 in
             (two_on.0, λ j firm said. two_on.1 j firm (one_on.1 j firm said))
 
-        stands_on : Stands (answered_trace client d.answer calls) (client_ends s d Goes)
+        stands_on : IsBesideAfter (answered_trace client d.answer calls) (client_ends s d Goes)
         stands_on =
             let names = file_goes_at config calls greatest w.clients w.sent k.log ss p.names h.requests named_calling asking_calling number index s moment d own_calling early step idle_names (ap is_naming last_own ∙ plain) in
             record {
@@ -383,13 +383,13 @@ module _ (config : Config) (servers clients : ℕ) (w : WorldState) (r : world.I
               adds = same_files_add w v k opening (after_all opening f.actions) f.elsewhere.files (adds_opened c allowed);
             }
 
-      stands_down : Stands calls (record { state = stopped_client s; out = down_output; seen = [] })
+      stands_down : IsBesideAfter calls (record { state = stopped_client s; out = down_output; seen = [] })
       stands_down =
           let names = stays_at config calls greatest w.clients w.sent k.log ss p.names h.requests named_calling asking_calling number index (stopped_client s) (λ on. absurd (true≢false (sym on))) in
           down_opened c allowed p.names h.requests ((begun.0).names p.names p.same) names.0 names.1
 
       abbrev Calls : Taken ClientState → Type 0
-      Calls t = Stands (answered_trace client t.out.answer calls) t
+      Calls t = IsBesideAfter (answered_trace client t.out.answer calls) t
 
       call_ends : (d : ClientDoing) → IsFileStep s moment d → IsBegun p.whole client c d → d.client.id ≡ s.id → IsNewCall s d.client.current → (end : Ending) → Calls (client_ends s d end)
       call_ends d step b same_id new Goes = stands_on d step b same_id new
@@ -435,7 +435,7 @@ module _ (config : Config) (servers clients : ℕ) (w : WorldState) (r : world.I
       abbrev d : ClientDoing
       d = client_call_goes s moment c
 
-      name_goes : Stands (answered_trace client d.answer called) (client_ends s d Goes)
+      name_goes : IsBesideAfter (answered_trace client d.answer called) (client_ends s d Goes)
       name_goes =
           let names = name_done_at config trace greatest w.clients w.sent k.log ss p.names h.requests p.named asking_passed number index s up at known_client moment early none c name in
           let new = next_call s moment c none in
@@ -458,7 +458,7 @@ module _ (config : Config) (servers clients : ℕ) (w : WorldState) (r : world.I
             adds = adds_opened c may_make;
           }
 
-      name_stops : Stands called (record { state = stopped_client s; out = down_output; seen = [] })
+      name_stops : IsBesideAfter called (record { state = stopped_client s; out = down_output; seen = [] })
       name_stops =
           let names = name_down_at config trace greatest w.clients w.sent k.log ss p.names h.requests p.named asking_passed number index s up at known_client moment early none c name in
           down_opened c may_make naming (with_request h.requests client None) taken.1 names.0 names.1
@@ -490,7 +490,7 @@ module _ (config : Config) (servers clients : ℕ) (w : WorldState) (r : world.I
           let two_on = file_clients_stay config made (reached_opened c may_make) (Return client reply) refused_too.0 (suc other) (not_own other apart) z one_on.0 in
           (two_on.0, λ j firm said. two_on.1 j firm (one_on.1 j firm said))
 
-      name_refused : Stands (answered_trace client (Some reply) called) (client_ends s refusing Goes)
+      name_refused : IsBesideAfter (answered_trace client (Some reply) called) (client_ends s refusing Goes)
       name_refused =
           let names = name_refused_at config trace greatest w.clients w.sent k.log ss p.names h.requests p.named asking_passed number index s up at known_client moment early none c name in
           record {
@@ -513,7 +513,7 @@ module _ (config : Config) (servers clients : ℕ) (w : WorldState) (r : world.I
           }
 
       abbrev Names : Taken ClientState → Type 0
-      Names t = Stands (answered_trace client t.out.answer called) t
+      Names t = IsBesideAfter (answered_trace client t.out.answer called) t
 
       name_ends : (end : Ending) → Names (client_ends s d end)
       name_ends Goes = name_goes
@@ -561,7 +561,7 @@ module _ (config : Config) (servers clients : ℕ) (w : WorldState) (r : world.I
           ]
 
       abbrev GoesOn : Type 0
-      GoesOn = Stands (answered_trace client doing.answer trace) (client_ends s doing Goes)
+      GoesOn = IsBesideAfter (answered_trace client doing.answer trace) (client_ends s doing Goes)
 
       step : IsNameStep s moment doing
       step = name_calls_ask_again s moment i x is staged
@@ -770,7 +770,7 @@ module _ (config : Config) (servers clients : ℕ) (w : WorldState) (r : world.I
           ]
 
       abbrev Steps : Taken ClientState → Type 0
-      Steps t = Stands (answered_trace client t.out.answer trace) t
+      Steps t = IsBesideAfter (answered_trace client t.out.answer trace) t
 
       step_ends : (end : Ending) → Steps (client_ends s doing end)
       step_ends Goes = step_goes
@@ -786,7 +786,7 @@ module _ (config : Config) (servers clients : ℕ) (w : WorldState) (r : world.I
 
     module _ (asked : IsAskedFor w.sent k.log ss) (none : s.current ≡ None) (some : 1 ≤ config.chunk) (c : Call) where
       abbrev AnyCall : Type 0
-      AnyCall = Stands (answered_trace client (client_call s moment c choice).out.answer (trace ++ Called client c ∷ [])) (client_call s moment c choice)
+      AnyCall = IsBesideAfter (answered_trace client (client_call s moment c choice).out.answer (trace ++ Called client c ∷ [])) (client_call s moment c choice)
 
       by_kind : (b : Bool) → is_name_call c ≡ b → AnyCall
       by_kind true name = name_call_stands asked none c name

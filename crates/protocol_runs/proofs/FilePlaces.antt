@@ -10,7 +10,8 @@ use lib.Dec.{eqb}
 use Rattle.gfs_types.specs.declared.config.Config.{Config}
 use Rattle.messages.specs.declared.event.Input.{Input}
 use Rattle.chunk_table.specs.ChunkTable.{handles_of}
-use Rattle.protocol.specs.Tables.{counter_limit, element_at}
+use Rattle.gfs_types.specs.Counters.{counter_limit}
+use Rattle.protocol.specs.Tables.{element_at}
 use Rattle.protocol.specs.Choice.{Choice, Ending, Goes, Lost, Stops}
 use Rattle.protocol.specs.Seen.{Taken, no_step}
 use Rattle.protocol.specs.Master.{MasterState, MasterDoing}

@@ -15,6 +15,7 @@ use Rattle.gfs_types.specs.declared.mutation.Mutation.{Mutation}
 use Rattle.gfs_types.specs.declared.mutation.Mutation.TheVariants.{Write, Append, Pad}
 use Rattle.gfs_types.specs.declared.refusal.Refusal.{Refusal}
 use Rattle.gfs_types.specs.declared.refusal.Refusal.TheVariants.{TooLong, Collected}
+use Rattle.gfs_types.specs.Counters.{counter_limit}
 use Rattle.gfs_types.specs.Image.{image_length}
 use Rattle.messages.specs.declared.event.Event.{Event}
 use Rattle.messages.specs.declared.message.Body.{Body}
@@ -143,7 +144,7 @@ place_within size place (Write offset bytes) within is = let same = same_some of
 place_within size place (Append offset bytes) within is = let same = same_some offset place is in omega (arith, within, same)
 place_within size place (Pad offset) within is = none_some place is
 
-within_places : (size index place : ℕ) → suc index * size ≤ 4_611_686_018_427_387_903 → place ≤ size → IsWithinPlaces size index place
+within_places : (size index place : ℕ) → suc index * size ≤ counter_limit → place ≤ size → IsWithinPlaces size index place
 within_places size index place whole low = let sum : suc index * size ≡ index * size + size = suc-mul index size in omega (arith, whole, low, sum)
 
 abbrev CountIn : Body → ℕ
@@ -236,10 +237,10 @@ module _ (config : Config) (servers clients : ℕ) (w : WorldState) (r : IsReach
             subst (λ (v : WorldState). element_at v.clients index ≡ Some s → (l : Location) × (chunk_of l ≡ chunk) × IsTold v.sent (suc index) x.file.0 l) r.1
             (λ there. used_was_told config servers clients r.0 index s x chunk there now is_used) at
 
-        end_within : (chunk : ToldChunk) (l : Location) → chunk_of l ≡ chunk → IsTold w.sent (suc index) x.file.0 l → suc chunk.index * n.config.chunk ≤ 4_611_686_018_427_387_903
+        end_within : (chunk : ToldChunk) (l : Location) → chunk_of l ≡ chunk → IsTold w.sent (suc index) x.file.0 l → suc chunk.index * n.config.chunk ≤ counter_limit
         end_within chunk l same told =
-            subst (λ (size : ℕ). suc chunk.index * size ≤ 4_611_686_018_427_387_903) (sym size_is)
-            (subst (λ (c : ToldChunk). suc c.index * config.chunk ≤ 4_611_686_018_427_387_903) same (within (suc index) x.file.0 l told))
+            subst (λ (size : ℕ). suc chunk.index * size ≤ counter_limit) (sym size_is)
+            (subst (λ (c : ToldChunk). suc c.index * config.chunk ≤ counter_limit) same (within (suc index) x.file.0 l told))
 
         abbrev FitsAt : Stage → Type 0
         FitsAt st = StandsAt Fits AnyCall Pushed Asking AnyReply None x st

@@ -7,7 +7,8 @@ use Rattle.messages.specs.declared.message.Body.{Body}
 use Rattle.messages.specs.declared.message.Body.TheVariants as body
 use Rattle.messages.specs.declared.message.Location.{Location}
 use Rattle.messages.specs.declared.message.Message.{Message}
-use Rattle.protocol.specs.Tables.{counter_limit, element_at}
+use Rattle.gfs_types.specs.Counters.{counter_limit}
+use Rattle.protocol.specs.Tables.{element_at}
 use Rattle.protocol.specs.Choice.{Choice}
 use Rattle.protocol.specs.ClientStep.{client_at, client_step, client_call}
 use Rattle.protocol.specs.MasterStep.{master_step, master_restart}

@@ -11,7 +11,8 @@ use Rattle.messages.specs.declared.message.Location.{Location}
 use Rattle.messages.specs.declared.message.Message.{Message}
 use Rattle.messages.specs.declared.message.Target.{Target}
 use Rattle.relaxed_file.specs.Run.{IsRunTo}
-use Rattle.protocol.specs.Tables.{counter_limit, element_at}
+use Rattle.gfs_types.specs.Counters.{counter_limit}
+use Rattle.protocol.specs.Tables.{element_at}
 use Rattle.protocol.specs.Choice.{Choice}
 use Rattle.protocol.specs.World.{WorldState, happens, IsReached, is_kept}
 use Rattle.protocol_step_laws.specs.Reads.{IsTold}

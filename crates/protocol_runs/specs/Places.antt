@@ -2,7 +2,8 @@
 use Rattle.std.specs.Prelude.{◌≡◌, ℕ, suc, ◌*◌, ◌≤◌, Some, IsTrue}
 use Rattle.gfs_types.specs.declared.config.Config.{Config}
 use Rattle.chunk_table.specs.ChunkTable.{handles_of}
-use Rattle.protocol.specs.Tables.{counter_limit, element_at}
+use Rattle.gfs_types.specs.Counters.{counter_limit}
+use Rattle.protocol.specs.Tables.{element_at}
 use Rattle.protocol.specs.World.{WorldState, IsReached}
 
 -- While the master is up, each byte of each chunk of a file is at a place within the counters' limit.

@@ -14,7 +14,8 @@ use Rattle.messages.specs.declared.message.Body.TheVariants as body
 use Rattle.log_records.specs.declared.record.Record.{Record}
 use Rattle.log_records.specs.declared.record.Record.TheVariants as log
 use Rattle.relaxed_file.specs.NameStep.{needs_room, outcome_by}
-use Rattle.protocol.specs.Tables.{counter_limit, has_number, removed_all}
+use Rattle.gfs_types.specs.Counters.{counter_limit}
+use Rattle.protocol.specs.Tables.{has_number, removed_all}
 use Rattle.protocol.specs.Sending.{the_client, client_id, file_id, handle_of, version_of, moment_of}
 use Rattle.chunk_table.specs.ChunkTable.{ChunkRow, chunk_of}
 use Rattle.protocol.specs.Logged.{KeptCall, LogDisk}

@@ -10,7 +10,7 @@ use Rattle.messages.specs.declared.message.Body.{Body}
 use Rattle.messages.specs.declared.message.Body.TheVariants as body
 use Rattle.log_records.specs.declared.record.Record.TheVariants as log
 use Rattle.protocol.specs.Sending.{client_number, server_number, server_id, file_id, handle_of, version_of}
-use Rattle.protocol.specs.Tables.{counter_limit}
+use Rattle.gfs_types.specs.Counters.{counter_limit}
 use Rattle.protocol.specs.MasterSnapshots.{live_snapshots}
 use Rattle.protocol.specs.Master.{MasterState, MasterDoing, master_begins, logs}
 use Rattle.protocol.specs.MasterClones.{CloneOrder, orders_clone, best_clone}

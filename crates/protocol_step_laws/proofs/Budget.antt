@@ -128,19 +128,19 @@ module _ (config : Config) (U : Option ℕ → ℕ → Type 0) where
   abbrev pub HasAsked : ℕ → CurrentCall → Type 0
   HasAsked one c = HasRoom (λ n. U (part_of c.asked c.index) n × (n ≡ one → ⊥)) c.left × AreLast (part_of c.asked c.index)
 
-  abbrev pub Stands : CurrentCall → Stage → Type 0
-  Stands c AskedNames = Unit {0}
-  Stands c (AskedWhere number) = MayGo c
-  Stands c MustAskAgain = MayGo c
-  Stands c (SentData chunk primary number) = MayGo c
-  Stands c (SentMutate chunk number) = HasAsked number c
-  Stands c (SentRead chunk left number) = MayGo c
-  Stands c IsOver = MayGo c
-  Stands c (HasAnswer reply) = Unit {0}
+  abbrev pub HasBudget : CurrentCall → Stage → Type 0
+  HasBudget c AskedNames = Unit {0}
+  HasBudget c (AskedWhere number) = MayGo c
+  HasBudget c MustAskAgain = MayGo c
+  HasBudget c (SentData chunk primary number) = MayGo c
+  HasBudget c (SentMutate chunk number) = HasAsked number c
+  HasBudget c (SentRead chunk left number) = MayGo c
+  HasBudget c IsOver = MayGo c
+  HasBudget c (HasAnswer reply) = Unit {0}
 
   abbrev pub IsRight : Option CurrentCall → Type 0
   IsRight None = Unit {0}
-  IsRight (Some c) = Stands c c.stage
+  IsRight (Some c) = HasBudget c c.stage
 
   -- a step in which no primary is asked
   pub record IsFine (d : ClientDoing) : Type 0 where
@@ -182,7 +182,7 @@ module _ (config : Config) (U : Option ℕ → ℕ → Type 0) where
   answers_fine : (d : ClientDoing) (reply : Answer) → Ready d → IsFine (answers d reply)
   answers_fine d reply r = record { config_is = r.0; silent = none_silent d.sent r.1; right = tt }
 
-  waits_fine : (d : ClientDoing) (c : CurrentCall) → Ready d → Stands c c.stage → IsFine (with_current d c)
+  waits_fine : (d : ClientDoing) (c : CurrentCall) → Ready d → HasBudget c c.stage → IsFine (with_current d c)
   waits_fine d c r h = record { config_is = r.0; silent = none_silent d.sent r.1; right = h }
 
   completes_fine : (d : ClientDoing) (c : CurrentCall) (reply : Answer) → Ready d → IsFine (completes d c reply)
@@ -301,7 +301,7 @@ module _ (config : Config) (U : Option ℕ → ℕ → Type 0) where
   told_fine d c None r h p = none_fine d c c.asked r h p
   told_fine d c (Some l) r h p = location_fine d c l r h
 
-  takes_told_fine : (d : ClientDoing) (c : CurrentCall) (st : Stage) (number : ℕ) (o : Option Location) → Ready d → Stands c st → IsFine d → IsFine (takes_told d c st number o)
+  takes_told_fine : (d : ClientDoing) (c : CurrentCall) (st : Stage) (number : ℕ) (o : Option Location) → Ready d → HasBudget c st → IsFine d → IsFine (takes_told d c st number o)
   takes_told_fine d c (AskedWhere asked) number o r h p = on_cond IsFine (asked == number) (told d c o) d (λ _. told_fine d c o r h p) (λ _. p)
   takes_told_fine d c other number o r h p = p
 
@@ -313,7 +313,7 @@ module _ (config : Config) (U : Option ℕ → ℕ → Type 0) where
   takes_named_fine d c AskedNames number reply r p = on_cond IsFine (c.number == number) (takes_reply d reply) d (λ _. reply_fine d reply r) (λ _. p)
   takes_named_fine d c other number reply r p = p
 
-  takes_wait_fine : (d : ClientDoing) (c : CurrentCall) (st : Stage) (number : ℕ) → Ready d → Stands c st → IsFine d → IsFine (takes_wait d c st number)
+  takes_wait_fine : (d : ClientDoing) (c : CurrentCall) (st : Stage) (number : ℕ) → Ready d → HasBudget c st → IsFine d → IsFine (takes_wait d c st number)
   takes_wait_fine d c (AskedWhere asked) number r h p =
       let again : CurrentCall = record c { stage = MustAskAgain; saw_no_holder = false; is_nobody_serving = false } in
       on_cond IsFine (asked == number) (with_current d again) d (λ _. waits_fine d again r h) (λ _. p)
@@ -326,12 +326,12 @@ module _ (config : Config) (U : Option ℕ → ℕ → Type 0) where
       on_cond IsFine (is_append c.asked) (completes last c reply) _ (λ _. completes_fine last c reply r)
       (λ _. on_cond IsFine (has_next_part (file_chunk d.client c.file.0) c.index c.asked) (begins_next_part d c) (completes d c answer.Done) (λ has. next_fine d c r has h.1) (λ _. completes_fine d c answer.Done r))
 
-  takes_done_fine : (d : ClientDoing) (c : CurrentCall) (st : Stage) (id : DataId) (place : ℕ) → Ready d → Stands c st → IsFine d → IsFine (takes_done d c st id place)
+  takes_done_fine : (d : ClientDoing) (c : CurrentCall) (st : Stage) (id : DataId) (place : ℕ) → Ready d → HasBudget c st → IsFine d → IsFine (takes_done d c st id place)
   takes_done_fine d c (SentMutate chunk number) id place r h p =
       on_cond IsFine (is_own_data d id number) (succeeds d (less_live c chunk) chunk place) d (λ _. succeeds_fine d (less_live c chunk) chunk place r (asked_end c number h)) (λ _. p)
   takes_done_fine d c other id place r h p = p
 
-  takes_bytes_fine : (d : ClientDoing) (c : CurrentCall) (st : Stage) (number : ℕ) (bytes : List ℕ) → Ready d → Stands c st → IsFine d → IsFine (takes_bytes d c st number bytes)
+  takes_bytes_fine : (d : ClientDoing) (c : CurrentCall) (st : Stage) (number : ℕ) (bytes : List ℕ) → Ready d → HasBudget c st → IsFine d → IsFine (takes_bytes d c st number bytes)
   takes_bytes_fine d c (SentRead chunk left asked) number bytes r h p =
       on_cond IsFine ((asked == number) && not (is_length c.asked)) (gets d c bytes (Some chunk.round.0)) d (λ _. gets_fine d c bytes (Some chunk.round.0) r h) (λ _. p)
   takes_bytes_fine d c other number bytes r h p = p
@@ -362,7 +362,7 @@ module _ (config : Config) (U : Option ℕ → ℕ → Type 0) where
   primary_refuses_fine d c chunk one ChunkFull r full h = full_fine d (less_live c chunk) chunk one r (full refl) h
   primary_refuses_fine d c chunk one other r full h = refused_fine d (less_live c chunk) r (asked_end c one h)
 
-  takes_refused_fine : (d : ClientDoing) (c : CurrentCall) (st : Stage) (number : ℕ) (refusal : Refusal) → Ready d → Came (body.Refused number refusal) → Stands c st → IsFine d → IsFine (takes_refused d c st number refusal)
+  takes_refused_fine : (d : ClientDoing) (c : CurrentCall) (st : Stage) (number : ℕ) (refusal : Refusal) → Ready d → Came (body.Refused number refusal) → HasBudget c st → IsFine d → IsFine (takes_refused d c st number refusal)
   takes_refused_fine d c (AskedWhere asked) number refusal r came h p = on_cond IsFine (asked == number) (master_refuses d c refusal) d (λ _. master_refuses_fine d c refusal r p) (λ _. p)
   takes_refused_fine d c (SentMutate chunk asked) number refusal r came h p =
       on_cond IsFine (asked == number) (primary_refuses (forgets d c chunk) c chunk refusal) d
@@ -389,13 +389,13 @@ module _ (config : Config) (U : Option ℕ → ℕ → Type 0) where
     abbrev d0 : ClientDoing
     d0 = client_begins s
 
-    takes_pushed_fine : (c : CurrentCall) (st : Stage) (id : DataId) → s.current ≡ Some c → Stands c st → IsFine (client_begins s) → Leaves s (takes_pushed (client_begins s) c st id)
+    takes_pushed_fine : (c : CurrentCall) (st : Stage) (id : DataId) → s.current ≡ Some c → HasBudget c st → IsFine (client_begins s) → Leaves s (takes_pushed (client_begins s) c st id)
     takes_pushed_fine c (SentData chunk primary number) id now h p =
         on_cond (Leaves s) (is_own_data (client_begins s) id number) (committed (client_begins s) c (mutate_planned s c chunk primary number)) (client_begins s)
         (λ _. inr (record { current = c; chunk = chunk; primary = primary; number = number; current_is = now; goes = h; is = refl })) (λ _. inl p)
     takes_pushed_fine c other id now h p = inl p
 
-    takes_fine : (c : CurrentCall) (b : Body) → s.current ≡ Some c → Ready (client_begins s) → Came b → Stands c c.stage → IsFine (client_begins s) → Leaves s (client_takes (client_begins s) c b)
+    takes_fine : (c : CurrentCall) (b : Body) → s.current ≡ Some c → Ready (client_begins s) → Came b → HasBudget c c.stage → IsFine (client_begins s) → Leaves s (client_takes (client_begins s) c b)
     takes_fine c (body.Named number reply) now r came h p = inl (takes_named_fine (client_begins s) c c.stage number reply r p)
     takes_fine c (body.Told number location) now r came h p = inl (takes_told_fine (client_begins s) c c.stage number location r h p)
     takes_fine c (body.Wait number) now r came h p = inl (takes_wait_fine (client_begins s) c c.stage number r h p)
@@ -406,7 +406,7 @@ module _ (config : Config) (U : Option ℕ → ℕ → Type 0) where
     takes_fine c (body.LenIs number count) now r came h p = inl (takes_len_fine (client_begins s) c c.stage number count r p)
     takes_fine c other now r came h p = inl p
 
-    takes_at_fine : (c : CurrentCall) (m : Message) (st : Stage) → s.current ≡ Some c → Ready (client_begins s) → Came m.body → Stands c c.stage → IsFine (client_begins s) → Leaves s (takes_at (client_begins s) c m st)
+    takes_at_fine : (c : CurrentCall) (m : Message) (st : Stage) → s.current ≡ Some c → Ready (client_begins s) → Came m.body → HasBudget c c.stage → IsFine (client_begins s) → Leaves s (takes_at (client_begins s) c m st)
     takes_at_fine c m (HasAnswer reply) now r came h p = inl (completes_fine (client_begins s) c reply r)
     takes_at_fine c m AskedNames now r came h p = takes_fine c m.body now r came h p
     takes_at_fine c m (AskedWhere number) now r came h p = takes_fine c m.body now r came h p
@@ -436,7 +436,7 @@ module _ (config : Config) (U : Option ℕ → ℕ → Type 0) where
     ticks_unanswered_fine d c forget p r h =
         on_cond IsFine (nat_lt d.client.now (c.deadline.0 + d.client.config.skew_ms)) d (ends_unanswered (forget d) c) (λ _. p) (λ _. unanswered_fine (forget d) c r h)
 
-    ticks_fine : (c : CurrentCall) (st : Stage) → Ready (client_begins s) → Stands c st → IsFine (client_begins s) → IsFine (ticks_at (client_begins s) c st)
+    ticks_fine : (c : CurrentCall) (st : Stage) → Ready (client_begins s) → HasBudget c st → IsFine (client_begins s) → IsFine (ticks_at (client_begins s) c st)
     ticks_fine c AskedNames r h p = ticks_names_fine (client_begins s) c r p
     ticks_fine c (HasAnswer reply) r h p = completes_fine (client_begins s) c reply r
     ticks_fine c IsOver r h p = attempts_fine (client_begins s) c r h
@@ -504,7 +504,7 @@ module _ (config : Config) (U V : Option ℕ → ℕ → Type 0) (less : (p : Op
   goes_on : (c : CurrentCall) → MayGo config U c → MayGo config V c
   goes_on c h = (room_on (U (part_of c.asked c.index)) (V (part_of c.asked c.index)) c.left (less (part_of c.asked c.index)) h.0, last_on (part_of c.asked c.index) h.1)
 
-  stands_on : (c : CurrentCall) (st : Stage) → Stands config U c st → Stands config V c st
+  stands_on : (c : CurrentCall) (st : Stage) → HasBudget config U c st → HasBudget config V c st
   stands_on c AskedNames h = tt
   stands_on c (AskedWhere number) h = goes_on c h
   stands_on c MustAskAgain h = goes_on c h

@@ -45,16 +45,16 @@ abbrev pub IsKeptTold : List Message → ℕ → Place × Cached → Type 0
 IsKeptTold sent client e = IsTold sent client e.0.file e.1.location
 
 -- what a call waits for was sent
-abbrev pub Stands : List Message → ℕ → ℕ → CurrentCall → Stage → Type 0
-Stands sent client chunk_size c (AskedWhere number) = HasAsked sent client c.file.0 number
-Stands sent client chunk_size c (SentRead chunk left number) = IsReading sent client chunk_size c chunk left number
-Stands sent client chunk_size c other = Unit {0}
+abbrev pub WasRequestSent : List Message → ℕ → ℕ → CurrentCall → Stage → Type 0
+WasRequestSent sent client chunk_size c (AskedWhere number) = HasAsked sent client c.file.0 number
+WasRequestSent sent client chunk_size c (SentRead chunk left number) = IsReading sent client chunk_size c chunk left number
+WasRequestSent sent client chunk_size c other = Unit {0}
 
 -- a client, by the messages that were sent
 pub record Knows (config : Config) (sent : List Message) (client : ℕ) (s : ClientState) : Type 0 where
   pub settings : s.config ≡ config
   pub cache : AllOf (IsKeptTold sent client) s.cache.entries
-  pub stands : (c : CurrentCall) → s.current ≡ Some c → Stands sent client config.chunk c c.stage
+  pub stands : (c : CurrentCall) → s.current ≡ Some c → WasRequestSent sent client config.chunk c c.stage
 
 -- the number of the reading for which it waits
 abbrev pub stage_reading : Stage → Option ℕ
@@ -110,7 +110,7 @@ module _ (sent more : List Message) (client : ℕ) where
   all_later [] h = tt
   all_later (e ∷ es) h = (told_later e.0.file e.1.location h.0, all_later es h.1)
 
-  stands_later : (chunk_size : ℕ) (c : CurrentCall) (st : Stage) → Stands sent client chunk_size c st → Stands (sent ++ more) client chunk_size c st
+  stands_later : (chunk_size : ℕ) (c : CurrentCall) (st : Stage) → WasRequestSent sent client chunk_size c st → WasRequestSent (sent ++ more) client chunk_size c st
   stands_later chunk_size c AskedNames h = tt
   stands_later chunk_size c (AskedWhere number) h = asked_later c.file.0 number h
   stands_later chunk_size c MustAskAgain h = tt
@@ -124,7 +124,7 @@ module _ (sent more : List Message) (client : ℕ) where
   knows_later config s h =
       record { settings = h.settings; cache = all_later s.cache.entries h.cache; stands = λ c is. stands_later config.chunk c c.stage (h.stands c is) }
 
-idle_stands : (sent : List Message) (client chunk_size : ℕ) (c : CurrentCall) (st : Stage) → IsIdle st → Stands sent client chunk_size c st
+idle_stands : (sent : List Message) (client chunk_size : ℕ) (c : CurrentCall) (st : Stage) → IsIdle st → WasRequestSent sent client chunk_size c st
 idle_stands sent client chunk_size c (HasAnswer reply) is = tt
 idle_stands sent client chunk_size c MustAskAgain is = tt
 idle_stands sent client chunk_size c IsOver is = tt
@@ -171,7 +171,7 @@ module _ (config : Config) (sent : List Message) (k client : ℕ) (s : ClientSta
     none_read d none = inr (λ n is. none_some n (sym none ∙ is))
 
     -- nothing is waited for that was sent in this step
-    rests : (d : ClientDoing) → d.client.config ≡ s.config → AllOf (IsKeptTold sent client) d.client.cache.entries → ((c : CurrentCall) → d.client.current ≡ Some c → Stands sent client config.chunk c c.stage) → IsSameOrNew s d → After d
+    rests : (d : ClientDoing) → d.client.config ≡ s.config → AllOf (IsKeptTold sent client) d.client.cache.entries → ((c : CurrentCall) → d.client.current ≡ Some c → WasRequestSent sent client config.chunk c c.stage) → IsSameOrNew s d → After d
     rests d settings cache stands new =
         (knows_later sent (stamped k (option_to_list d.sent)) client config d.client (record { settings = settings ∙ knows.settings; cache = cache; stands = stands }), new)
 
@@ -180,7 +180,7 @@ module _ (config : Config) (sent : List Message) (k client : ℕ) (s : ClientSta
 
     -- one message is sent under the next number
     sends : (d : ClientDoing) (e : CurrentCall) (b : Body) (receiver : Node) → d.client.config ≡ s.config → d.client.number ≡ s.number → AllOf (IsKeptTold sent client) d.client.cache.entries
-        → ((m : Message) → IsSent (sent ++ stamped k (m ∷ [])) (record m { number = k }) → m ≡ message (the_client d.client.id) receiver b → Stands (sent ++ stamped k (m ∷ [])) client config.chunk e e.stage)
+        → ((m : Message) → IsSent (sent ++ stamped k (m ∷ [])) (record m { number = k }) → m ≡ message (the_client d.client.id) receiver b → WasRequestSent (sent ++ stamped k (m ∷ [])) client config.chunk e e.stage)
         → ((n : ℕ) → stage_reading e.stage ≡ Some n → n ≡ suc d.client.number)
         → After (record d { client = record d.client { number = suc d.client.number; current = Some e }; sent = Some (message (the_client d.client.id) receiver b) })
     sends d e b receiver settings number cache stands new =
@@ -189,7 +189,7 @@ module _ (config : Config) (sent : List Message) (k client : ℕ) (s : ClientSta
           record {
             settings = settings ∙ knows.settings;
             cache = all_later sent more client d.client.cache.entries cache;
-            stands = λ c is. subst (λ (x : CurrentCall). Stands (sent ++ more) client config.chunk x x.stage) (same_some e c is) (stands m (sent_after sent more (record m { number = k }) (zero, refl)) refl);
+            stands = λ c is. subst (λ (x : CurrentCall). WasRequestSent (sent ++ more) client config.chunk x x.stage) (same_some e c is) (stands m (sent_after sent more (record m { number = k }) (zero, refl)) refl);
           },
           inr (λ n is. new n is ∙ ap (λ (x : ℕ). suc x) number),
         )
@@ -251,7 +251,7 @@ module _ (config : Config) (sent : List Message) (k client : ℕ) (s : ClientSta
     told_now c number l now at came =
         record {
           number = number;
-          asked = subst (λ (st : Stage). Stands sent client config.chunk c st) at (knows.stands c now);
+          asked = subst (λ (st : Stage). WasRequestSent sent client config.chunk c st) at (knows.stands c now);
           told = came.0;
           sent_is = came.1;
           receiver_is = came.2;
@@ -281,13 +281,13 @@ module _ (config : Config) (sent : List Message) (k client : ℕ) (s : ClientSta
           hears = λ c number l now at came h. let told = told_now c number l now at came in (heard c l told h, told);
           holders = λ d c l told. (l, told, refl, ([], refl));
           left = λ c chunk rest number now at h.
-              let reading : IsReading sent client config.chunk c chunk rest number = subst (λ (st : Stage). Stands sent client config.chunk c st) at (knows.stands c now) in
+              let reading : IsReading sent client config.chunk c chunk rest number = subst (λ (st : Stage). WasRequestSent sent client config.chunk c st) at (knows.stands c now) in
               (reading.location, reading.told, reading.chunk_is, (reading.earlier ++ reading.holder ∷ [], reading.holders_are ∙ append-step reading.earlier reading.holder rest));
           answered = λ d c reply h. answered d reply h.0 h.4;
           name_answered = λ d c reply h. answered d reply h.0 h.4;
           opened = λ c number file now at came h. rests (opens (client_begins s) file.0) h.0 h.4 (λ e is. none_some e is) (none_read (opens (client_begins s) file.0) refl);
           waits = λ d c idle h.
-              rests (with_current d c) h.0 h.4 (λ e is. subst (λ (x : CurrentCall). Stands sent client config.chunk x x.stage) (same_some c e is) (idle_stands sent client config.chunk c c.stage idle))
+              rests (with_current d c) h.0 h.4 (λ e is. subst (λ (x : CurrentCall). WasRequestSent sent client config.chunk x x.stage) (same_some c e is) (idle_stands sent client config.chunk c c.stage idle))
               (none_read (with_current d c) (idle_reading c.stage idle));
           waits_again = λ d c h. stays (committed d c (again_planned d.client)) (record c { stage = MustAskAgain }) refl tt refl h.0 h.4;
           asking = λ d c h. asking d c h;
@@ -299,9 +299,9 @@ module _ (config : Config) (sent : List Message) (k client : ℕ) (s : ClientSta
           naming = λ d c end h. stays (committed d c (name_planned d.client c)) (record c { stage = AskedNames }) refl tt refl h.0 h.4;
         }
       where
-        stays : (d : ClientDoing) (e : CurrentCall) → d.client.current ≡ Some e → Stands sent client config.chunk e e.stage → stage_reading e.stage ≡ None → d.client.config ≡ s.config → AllOf (IsKeptTold sent client) d.client.cache.entries → After d
+        stays : (d : ClientDoing) (e : CurrentCall) → d.client.current ≡ Some e → WasRequestSent sent client config.chunk e e.stage → stage_reading e.stage ≡ None → d.client.config ≡ s.config → AllOf (IsKeptTold sent client) d.client.cache.entries → After d
         stays d e is stands none settings cache =
-            rests d settings cache (λ c at. subst (λ (x : CurrentCall). Stands sent client config.chunk x x.stage) (same_some e c (sym is ∙ at)) stands) (none_read d (ap waited_reading is ∙ none))
+            rests d settings cache (λ c at. subst (λ (x : CurrentCall). WasRequestSent sent client config.chunk x x.stage) (same_some e c (sym is ∙ at)) stands) (none_read d (ap waited_reading is ∙ none))
 
     at_stage : (c : CurrentCall) (st : Stage) → Hand (client_begins s) c → HoldsAt s Hand Hand c st
     at_stage c AskedNames h = h

@@ -56,21 +56,21 @@ abbrev pub IsFiled : ClientState → CurrentCall → Type 0
 IsFiled s c = HasRow s.files c.file.0 × (c.deadline.0 ≤ s.now + s.config.attempt_ms)
 
 -- what holds of the call in hand at its stage
-abbrev pub Stands : (ℕ → Location → ℕ → Type 0) → Config → ClientState → CurrentCall → Stage → Type 0
-Stands T config s c AskedNames = Unit {0}
-Stands T config s c (SentData chunk primary number) = IsFiled s c × IsUsed T config c.file.0 c.deadline.0 chunk
-Stands T config s c (SentMutate chunk number) = IsFiled s c × IsUsed T config c.file.0 c.deadline.0 chunk
-Stands T config s c (SentRead chunk left number) = IsFiled s c × IsUsed T config c.file.0 c.deadline.0 chunk
-Stands T config s c other = IsFiled s c
+abbrev pub IsFiledAtStage : (ℕ → Location → ℕ → Type 0) → Config → ClientState → CurrentCall → Stage → Type 0
+IsFiledAtStage T config s c AskedNames = Unit {0}
+IsFiledAtStage T config s c (SentData chunk primary number) = IsFiled s c × IsUsed T config c.file.0 c.deadline.0 chunk
+IsFiledAtStage T config s c (SentMutate chunk number) = IsFiled s c × IsUsed T config c.file.0 c.deadline.0 chunk
+IsFiledAtStage T config s c (SentRead chunk left number) = IsFiled s c × IsUsed T config c.file.0 c.deadline.0 chunk
+IsFiledAtStage T config s c other = IsFiled s c
 
 pub record Keeps (T : ℕ → Location → ℕ → Type 0) (config : Config) (s : ClientState) : Type 0 where
   pub settings : s.config ≡ config
   pub are_open : AreOpen s.files s.descriptors s.fd_count
   pub cache : AllOf (IsKeptRight T s.files s.fd_count) s.cache.entries
-  pub stands : (c : CurrentCall) → s.current ≡ Some c → Stands T config s c c.stage
+  pub stands : (c : CurrentCall) → s.current ≡ Some c → IsFiledAtStage T config s c c.stage
 
 -- the chunk that is used, by the stage
-pub used_at : (T : ℕ → Location → ℕ → Type 0) (config : Config) (s : ClientState) (c : CurrentCall) (chunk : ToldChunk) (st : Stage) → Stands T config s c st → chunk_used st ≡ Some chunk → IsUsed T config c.file.0 c.deadline.0 chunk
+pub used_at : (T : ℕ → Location → ℕ → Type 0) (config : Config) (s : ClientState) (c : CurrentCall) (chunk : ToldChunk) (st : Stage) → IsFiledAtStage T config s c st → chunk_used st ≡ Some chunk → IsUsed T config c.file.0 c.deadline.0 chunk
 used_at T config s c chunk (SentData x primary number) h is = subst (λ (y : ToldChunk). IsUsed T config c.file.0 c.deadline.0 y) (same_some x chunk is) h.1
 used_at T config s c chunk (SentMutate x number) h is = subst (λ (y : ToldChunk). IsUsed T config c.file.0 c.deadline.0 y) (same_some x chunk is) h.1
 used_at T config s c chunk (SentRead x left number) h is = subst (λ (y : ToldChunk). IsUsed T config c.file.0 c.deadline.0 y) (same_some x chunk is) h.1
@@ -80,7 +80,7 @@ used_at T config s c chunk MustAskAgain h is = none_some chunk is
 used_at T config s c chunk IsOver h is = none_some chunk is
 used_at T config s c chunk (HasAnswer reply) h is = none_some chunk is
 
-idle_stands : (T : ℕ → Location → ℕ → Type 0) (config : Config) (s : ClientState) (c : CurrentCall) (st : Stage) → IsIdle st → IsFiled s c → Stands T config s c st
+idle_stands : (T : ℕ → Location → ℕ → Type 0) (config : Config) (s : ClientState) (c : CurrentCall) (st : Stage) → IsIdle st → IsFiled s c → IsFiledAtStage T config s c st
 idle_stands T config s c (HasAnswer reply) is h = h
 idle_stands T config s c MustAskAgain is h = h
 idle_stands T config s c IsOver is h = h
@@ -109,7 +109,7 @@ module _ (T U : ℕ → Location → ℕ → Type 0) (config : Config) (go : (fi
   used_on : (file deadline : ℕ) (chunk : ToldChunk) → IsUsed T config file deadline chunk → IsUsed U config file deadline chunk
   used_on file deadline chunk h = (h.0, h.1, h.2, h.3, go file h.0 h.1 h.4)
 
-  stands_on : (s : ClientState) (c : CurrentCall) (st : Stage) → Stands T config s c st → Stands U config s c st
+  stands_on : (s : ClientState) (c : CurrentCall) (st : Stage) → IsFiledAtStage T config s c st → IsFiledAtStage U config s c st
   stands_on s c AskedNames h = tt
   stands_on s c (SentData chunk primary number) h = (h.0, used_on c.file.0 c.deadline.0 chunk h.1)
   stands_on s c (SentMutate chunk number) h = (h.0, used_on c.file.0 c.deadline.0 chunk h.1)
@@ -136,7 +136,7 @@ module _ (T : ℕ → Location → ℕ → Type 0) (config : Config) (s : Client
   filed_later : (c : CurrentCall) → IsFiled s c → IsFiled (client_at s moment) c
   filed_later c h = let grows = le-max_left s.now moment in let ends = h.1 in (h.0, omega (arith, ends, grows))
 
-  stands_later : (c : CurrentCall) (st : Stage) → Stands T config s c st → Stands T config (client_at s moment) c st
+  stands_later : (c : CurrentCall) (st : Stage) → IsFiledAtStage T config s c st → IsFiledAtStage T config (client_at s moment) c st
   stands_later c AskedNames h = tt
   stands_later c (SentData chunk primary number) h = (filed_later c h.0, h.1)
   stands_later c (SentMutate chunk number) h = (filed_later c h.0, h.1)
@@ -211,11 +211,11 @@ module _ (T : ℕ → Location → ℕ → Type 0) (config : Config) (s : Client
   abbrev pub After : ClientDoing → Type 0
   After d = (Keeps T config d.client × (d.client.fd_count ≡ s.fd_count)) ⊎ ((file : ℕ) × (d.client ≡ (opens (client_begins s) file).client))
 
-  rests : (d : ClientDoing) → Hand d → ((c : CurrentCall) → d.client.current ≡ Some c → Stands T config d.client c c.stage) → After d
+  rests : (d : ClientDoing) → Hand d → ((c : CurrentCall) → d.client.current ≡ Some c → IsFiledAtStage T config d.client c c.stage) → After d
   rests d h stands = inl (record { settings = h.0 ∙ keeps.settings; are_open = h.3; cache = h.4; stands = stands }, h.2)
 
-  sets : (d : ClientDoing) (e : CurrentCall) → d.client.current ≡ Some e → Hand d → Stands T config d.client e e.stage → After d
-  sets d e is h stands = rests d h (λ c at. subst (λ (x : CurrentCall). Stands T config d.client x x.stage) (same_some e c (sym is ∙ at)) stands)
+  sets : (d : ClientDoing) (e : CurrentCall) → d.client.current ≡ Some e → Hand d → IsFiledAtStage T config d.client e e.stage → After d
+  sets d e is h stands = rests d h (λ c at. subst (λ (x : CurrentCall). IsFiledAtStage T config d.client x x.stage) (same_some e c (sym is ∙ at)) stands)
 
   answered : (d : ClientDoing) (reply : Answer) → Hand d → After (answers d reply)
   answered d reply h = rests (answers d reply) h (λ c is. none_some c is)
@@ -314,7 +314,7 @@ module _ (T : ℕ → Location → ℕ → Type 0) (config : Config) (s : Client
         finds = λ d c index e end is h. found_used d c index e end is h;
         hears = λ c number l now at came h. heard c l (told c number l now at came) h;
         holders = λ d c l used. (l, used.0, refl, used.1, used.2);
-        left = λ c chunk rest number now at h. (subst (λ (st : Stage). Stands T config s c st) at (keeps.stands c now)).1;
+        left = λ c chunk rest number now at h. (subst (λ (st : Stage). IsFiledAtStage T config s c st) at (keeps.stands c now)).1;
         answered = λ d c reply h. answered d reply h.0;
         name_answered = λ d c reply h. answered d reply h;
         opened = λ c number file now at came h. inr (file.0, refl);
@@ -325,14 +325,14 @@ module _ (T : ℕ → Location → ℕ → Type 0) (config : Config) (s : Client
         pushes = λ d c l g first is hop used h.
             sets (committed d c (push_planned_to d.client c (chunk_of l) g (Some first))) (record c { stage = SentData (chunk_of l) g.primary (suc d.client.number) }) refl h.0 (h.1, (l, used.0, refl, used.1, used.2));
         mutates = λ c chunk primary number now at h.
-            sets (committed (client_begins s) c (mutate_planned s c chunk primary number)) (record c { stage = SentMutate chunk number }) refl h.0 (h.1, (subst (λ (st : Stage). Stands T config s c st) at (keeps.stands c now)).1);
+            sets (committed (client_begins s) c (mutate_planned s c chunk primary number)) (record c { stage = SentMutate chunk number }) refl h.0 (h.1, (subst (λ (st : Stage). IsFiledAtStage T config s c st) at (keeps.stands c now)).1);
         naming = λ d c end h. sets (committed d c (name_planned d.client c)) (record c { stage = AskedNames }) refl h tt;
       }
 
   hand : Hand (client_begins s)
   hand = (refl, refl, refl, keeps.are_open, keeps.cache)
 
-  at_stage : (c : CurrentCall) (st : Stage) → Stands T config s c st → HoldsAt s Named Filed c st
+  at_stage : (c : CurrentCall) (st : Stage) → IsFiledAtStage T config s c st → HoldsAt s Named Filed c st
   at_stage c AskedNames h = hand
   at_stage c (SentData chunk primary number) h = (hand, h.0)
   at_stage c (SentMutate chunk number) h = (hand, h.0)

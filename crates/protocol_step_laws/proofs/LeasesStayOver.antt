@@ -32,7 +32,7 @@ use Rattle.protocol.specs.World.{WorldState, new_world, stamped, happens, after_
 use Rattle.protocol_laws.specs.Laws.{is_grant, grants_of}
 use Rattle.protocol_laws.proofs.Steps.{on_cond, none_some, same_some, tally, put_cases, count-cons, count-append}
 use Rattle.protocol_laws.proofs.ServerMoves.{ServerCore, server_core, AreHeldFrom, lease_of, KeepsServer, IsCameIn, same_held, server_goes_holds}
-use Rattle.protocol_laws.proofs.RisingOrders.{Later, same_later, risen_later, IsSound, step_goes_on, restarts_as, set_cases}
+use Rattle.protocol_laws.proofs.RisingOrders.{Later, same_later, risen_later, HasOneRisingChange, step_goes_on, restarts_as, set_cases}
 use Rattle.protocol_laws.proofs.MessagesSent.{IsSent, sent_before, sent_cases}
 use Rattle.protocol_laws.proofs.LeasesTold.{IsStaleAt, stale_later, new_not_stale, replica_later, CameTo, came_in, IsToldServer, AreTold, told_kept, granting}
 use Rattle.protocol_laws.proofs.ServerSettings.{AreSet, settings_kept}
@@ -188,7 +188,7 @@ module _ (sent : List Message) (greatest n handle version : ℕ) where
   ends_over s d choice Lost later h g = none_over s.disk (server_ends s d choice Lost).state.disk s.leases later h
   ends_over s d choice (Stops made) later h g = none_over s.disk (server_ends s d choice (Stops made)).state.disk s.leases later h
 
-  step_over : (s : ServerState) (moment : ℕ) (i : Input) (choice : Choice) → IsSentTo sent (the_server n) i → IsTrue s.up → IsSound s → greatest ≤ moment + s.config.skew_ms → OverAt s.disk s.leases
+  step_over : (s : ServerState) (moment : ℕ) (i : Input) (choice : Choice) → IsSentTo sent (the_server n) i → IsTrue s.up → HasOneRisingChange s → greatest ≤ moment + s.config.skew_ms → OverAt s.disk s.leases
       → OverAt (server_step s moment i choice).state.disk (server_step s moment i choice).state.leases
   step_over s moment i choice is up sound late h =
       let d : ServerDoing = server_goes s moment i in
@@ -197,7 +197,7 @@ module _ (sent : List Message) (greatest n handle version : ℕ) where
       subst (λ (t : Taken ServerState). OverAt t.state.disk t.state.leases) (sym same)
       (ends_over s d choice choice.ending (subst (λ (t : Taken ServerState). Later s.disk t.state.disk) same later) h (goes_over_all s moment i is late h))
 
-  restart_over : (s : ServerState) (moment : ℕ) (choice : Choice) (e : Ending) → IsSound s → OverAt s.disk s.leases → OverAt (server_restarts s moment choice e).state.disk (server_restarts s moment choice e).state.leases
+  restart_over : (s : ServerState) (moment : ℕ) (choice : Choice) (e : Ending) → HasOneRisingChange s → OverAt s.disk s.leases → OverAt (server_restarts s moment choice e).state.disk (server_restarts s moment choice e).state.leases
   restart_over s moment choice Lost sound h = none_over s.disk (server_restarts s moment choice Lost).state.disk s.leases (restarts_as s moment choice Lost sound).later h
   restart_over s moment choice (Stops made) sound h = none_over s.disk (server_restarts s moment choice (Stops made)).state.disk s.leases (restarts_as s moment choice (Stops made) sound).later h
   restart_over s moment choice Goes sound h = none_over s.disk (server_restarts s moment choice Goes).state.disk s.leases (restarts_as s moment choice Goes sound).later h

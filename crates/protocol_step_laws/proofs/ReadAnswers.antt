@@ -46,7 +46,7 @@ use Rattle.protocol_step_laws.proofs.Locations.{locations_name_current_holders}
 use Rattle.protocol_step_laws.proofs.MasterTalks.{is_masters, MasterTalks, master_said, restart_said}
 use Rattle.protocol_step_laws.proofs.Histories.{SentIn, sent_in, steps_grown, after_both}
 use Rattle.protocol_step_laws.proofs.ServerTalks.{is_quiet, Talks, step_said}
-use Rattle.protocol_step_laws.proofs.ClientReads.{Stands, stage_reading}
+use Rattle.protocol_step_laws.proofs.ClientReads.{WasRequestSent, stage_reading}
 use Rattle.protocol_step_laws.proofs.Known.{AreKnown, same_config, known_reached, waited_since}
 
 -- this request makes a server say this
@@ -252,7 +252,7 @@ module _ (config : Config) (servers clients : ℕ) (steps : List (Event × Choic
 
   module _ (index : ℕ) (s : ClientState) (c : CurrentCall) (chunk : ToldChunk) (left : List Holder) (number : ℕ) (at : element_at w.clients index ≡ Some s) (now : s.current ≡ Some c) (stage : c.stage ≡ SentRead chunk left number) where
     reading : IsReading w.sent (suc index) config.chunk c chunk left number
-    reading = subst (λ (x : Config). IsReading w.sent (suc index) x.chunk c chunk left number) (same_config start steps) (subst (λ (st : Stage). Stands w.sent (suc index) w.config.chunk c st) stage ((known.known index s at).stands c now))
+    reading = subst (λ (x : Config). IsReading w.sent (suc index) x.chunk c chunk left number) (same_config start steps) (subst (λ (st : Stage). WasRequestSent w.sent (suc index) w.config.chunk c st) stage ((known.known index s at).stands c now))
 
     located : (reading.told.told.sender ≡ node.Master) × AreCurrent reading.location
     located = locations_name_current_holders config servers clients w (steps, refl) (reading.told.sent_is).0 reading.told.number reading.told.told reading.location (reading.told.sent_is).1 reading.told.body_is

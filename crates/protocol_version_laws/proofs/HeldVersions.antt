@@ -26,7 +26,8 @@ use Rattle.messages.specs.declared.message.Target.{Target}
 use Rattle.messages.specs.declared.message.Target.TheVariants as target
 use Rattle.messages.specs.declared.message.Change.{Change}
 use Rattle.messages.specs.declared.message.Change.TheVariants as change
-use Rattle.protocol.specs.Tables.{Table, counter_limit, element_at, with_at, has_number, without}
+use Rattle.gfs_types.specs.Counters.{counter_limit}
+use Rattle.protocol.specs.Tables.{Table, element_at, with_at, has_number, without}
 use Rattle.protocol.specs.Sending.{the_server, handle_of, version_of, serial_of, server_number}
 use Rattle.protocol.specs.Choice.{Choice, Ending, Goes, Lost, Stops, decided_changes}
 use Rattle.protocol.specs.Seen.{Taken, no_step}
@@ -87,14 +88,14 @@ module _ (sent : List Message) (server : ℕ) where
   IsOrdered handle version = WasGiven sent server handle version ⊎ WasCloned sent server handle version
 
   -- a change gives a replica no version but an ordered one
-  abbrev pub IsSound : StoreChange → Type 0
-  IsSound (SetOrder order) = Unit {0}
-  IsSound (Put handle version serial bytes) = IsOrdered handle.0 version.0
-  IsSound (Write handle serial offset bytes) = Unit {0}
-  IsSound (Zero handle serial offset count) = Unit {0}
-  IsSound (Raise handle version) = IsOrdered handle.0 version.0
-  IsSound (Copy handle copy version) = IsOrdered copy.0 version.0
-  IsSound (Remove handle) = Unit {0}
+  abbrev pub HasOrderedVersion : StoreChange → Type 0
+  HasOrderedVersion (SetOrder order) = Unit {0}
+  HasOrderedVersion (Put handle version serial bytes) = IsOrdered handle.0 version.0
+  HasOrderedVersion (Write handle serial offset bytes) = Unit {0}
+  HasOrderedVersion (Zero handle serial offset count) = Unit {0}
+  HasOrderedVersion (Raise handle version) = IsOrdered handle.0 version.0
+  HasOrderedVersion (Copy handle copy version) = IsOrdered copy.0 version.0
+  HasOrderedVersion (Remove handle) = Unit {0}
 
   abbrev pub AreOrdered : ServerDisk → Type 0
   AreOrdered d = (handle : ℕ) (r : Replica) → replica_of d handle ≡ Some r → IsOrdered handle r.version
@@ -113,7 +114,7 @@ module _ (sent : List Message) (server : ℕ) where
   becomes_ordered f d at None new h = h
   becomes_ordered f d at (Some r) new h = put_ordered d at (f r) (new r refl) h
 
-  changed_ordered : (d : ServerDisk) (x : StoreChange) → IsSound x → AreOrdered d → AreOrdered (disk_changed d x)
+  changed_ordered : (d : ServerDisk) (x : StoreChange) → HasOrderedVersion x → AreOrdered d → AreOrdered (disk_changed d x)
   changed_ordered d (SetOrder order) sound h = h
   changed_ordered d (Put handle version serial bytes) sound h = put_ordered d handle.0 (stored_replica version.0 serial.0 bytes) sound h
   changed_ordered d (Write handle serial offset bytes) sound h = becomes_ordered (λ r. written_replica r serial.0 offset bytes) d handle.0 (replica_of d handle.0) (λ r is. h handle.0 r is) h
@@ -122,7 +123,7 @@ module _ (sent : List Message) (server : ℕ) where
   changed_ordered d (Copy handle copy version) sound h = becomes_ordered (λ r. stored_replica version.0 0 (bytes_on_disk r)) d copy.0 (replica_of d handle.0) (λ r is. sound) h
   changed_ordered d (Remove handle) sound h = λ k r is. h k r (gone_split d.replicas handle.0 k r is).1
 
-  all_ordered : (d : ServerDisk) (xs : List StoreChange) → AllOf IsSound xs → AreOrdered d → AreOrdered (disk_changed_by_all d xs)
+  all_ordered : (d : ServerDisk) (xs : List StoreChange) → AllOf HasOrderedVersion xs → AreOrdered d → AreOrdered (disk_changed_by_all d xs)
   all_ordered d [] sound h = h
   all_ordered d (x ∷ xs) sound h = all_ordered (disk_changed d x) xs sound.1 (changed_ordered d x sound.0 h)
 
@@ -130,15 +131,15 @@ module _ (sent : List Message) (server : ℕ) where
   pub record IsFaithful (s : ServerState) : Type 0 where
     pub disk : AreOrdered s.disk
     pub clones : AreCloned s.clones
-    pub under_way : AllOf IsSound s.under_way
+    pub under_way : AllOf HasOrderedVersion s.under_way
 
   -- a step so far
   record Holds (d : ServerDoing) : Type 0 where
     faithful : IsFaithful d.server
-    changes : AllOf IsSound d.changes
+    changes : AllOf HasOrderedVersion d.changes
 
-  stores_holds : (d : ServerDoing) (x : StoreChange) → IsSound x → Holds d → Holds (stores d x)
-  stores_holds d x sound h = record { faithful = h.faithful; changes = all_joined IsSound d.changes (x ∷ []) h.changes (sound, tt) }
+  stores_holds : (d : ServerDoing) (x : StoreChange) → HasOrderedVersion x → Holds d → Holds (stores d x)
+  stores_holds d x sound h = record { faithful = h.faithful; changes = all_joined HasOrderedVersion d.changes (x ∷ []) h.changes (sound, tt) }
 
   corrupt_holds : (d : ServerDoing) (handle : ℕ) → Holds d → Holds (drops_corrupt d handle)
   corrupt_holds d handle h = let s = stores_holds d (Remove (handle_of handle)) tt h in record { faithful = record { disk = s.faithful.disk; clones = s.faithful.clones; under_way = s.faithful.under_way }; changes = s.changes }
@@ -150,9 +151,9 @@ module _ (sent : List Message) (server : ℕ) where
         faithful = record {
           disk = subst (λ (x : ServerDisk). AreOrdered x) (sym disk) h.faithful.disk;
           clones = subst (λ (x : Table ℕ). AreCloned x) (sym clones) h.faithful.clones;
-          under_way = subst (λ (xs : List StoreChange). AllOf IsSound xs) (sym under_way) h.faithful.under_way;
+          under_way = subst (λ (xs : List StoreChange). AllOf HasOrderedVersion xs) (sym under_way) h.faithful.under_way;
         };
-        changes = subst (λ (xs : List StoreChange). AllOf IsSound xs) (sym changes) h.changes;
+        changes = subst (λ (xs : List StoreChange). AllOf HasOrderedVersion xs) (sym changes) h.changes;
       }
 
   -- reads
@@ -199,7 +200,7 @@ module _ (sent : List Message) (server : ℕ) where
   acks_holds : (d : ServerDoing) (handle : ℕ) (p : SerialOrder) (member serial : ℕ) → Holds d → Holds (acknowledges d handle p member serial)
   acks_holds d handle p member serial h = settles_holds (with_primary d handle (acknowledged p member serial)) handle p.held.version serial (settled p member serial) (again d _ refl refl refl refl h)
 
-  stored_sound : (chunk handle serial : ℕ) (m : Mutation) → IsSound (stored_as chunk handle serial m)
+  stored_sound : (chunk handle serial : ℕ) (m : Mutation) → HasOrderedVersion (stored_as chunk handle serial m)
   stored_sound chunk handle serial (mutation.Write offset bytes) = tt
   stored_sound chunk handle serial (mutation.Append offset bytes) = tt
   stored_sound chunk handle serial (mutation.Pad offset) = tt
@@ -249,11 +250,11 @@ module _ (sent : List Message) (server : ℕ) where
   under_holds d handle id t deadline (Some p) h =
       on_cond Holds (nat_le deadline d.server.now) _ (mutates_as d handle p id t (attempted p id.client id.seq)) (λ _. again d _ refl refl refl refl h) (λ _. as_holds d handle p id t (attempted p id.client id.seq) h)
 
-  member_holds : (b : Bool) (d : ServerDoing) (primary : Node) (handle version serial : ℕ) (x : StoreChange) → IsSound x → Holds d → Holds (member_stores b d primary handle version serial x)
+  member_holds : (b : Bool) (d : ServerDoing) (primary : Node) (handle version serial : ℕ) (x : StoreChange) → HasOrderedVersion x → Holds d → Holds (member_stores b d primary handle version serial x)
   member_holds true d primary handle version serial x sound h = again (stores d x) _ refl refl refl refl (stores_holds d x sound h)
   member_holds false d primary handle version serial x sound h = again (drops_corrupt d handle) _ refl refl refl refl (corrupt_holds d handle h)
 
-  member_applies_holds : (d : ServerDoing) (primary : Node) (handle version serial : ℕ) (id : DataId) (x : StoreChange) (offset end_place : ℕ) → IsSound x → Holds d → Holds (member_applies d primary handle version serial id x offset end_place)
+  member_applies_holds : (d : ServerDoing) (primary : Node) (handle version serial : ℕ) (id : DataId) (x : StoreChange) (offset end_place : ℕ) → HasOrderedVersion x → Holds d → Holds (member_applies d primary handle version serial id x offset end_place)
   member_applies_holds d primary handle version serial id x offset end_place sound h =
       on_cond Holds (nat_lt (chunk_limit d.server handle) end_place) d _ (λ _. h)
       (λ _. member_holds (is_writable_at d.server.disk handle offset end_place) (takes_data d id) primary handle version serial x sound (again d (takes_data d id) refl refl refl refl h))
@@ -410,9 +411,9 @@ module _ (sent : List Message) (server : ℕ) where
   ends_true s d choice Lost h g = record { disk = h.disk; clones = no_clones; under_way = tt }
   ends_true s d choice (Stops made) h g =
       record {
-        disk = all_ordered s.disk (take made d.changes) (all_taken IsSound made d.changes g.changes) h.disk;
+        disk = all_ordered s.disk (take made d.changes) (all_taken HasOrderedVersion made d.changes g.changes) h.disk;
         clones = no_clones;
-        under_way = all_taken IsSound 1 (drop made d.changes) (all_dropped IsSound made d.changes g.changes);
+        under_way = all_taken HasOrderedVersion 1 (drop made d.changes) (all_dropped HasOrderedVersion made d.changes g.changes);
       }
 
   step_true : (s : ServerState) (moment : ℕ) (i : Input) (choice : Choice) → IsSentHere i → IsFaithful s → IsFaithful (server_step s moment i choice).state
@@ -423,8 +424,8 @@ module _ (sent : List Message) (server : ℕ) where
 
   restart_true : (s : ServerState) (moment : ℕ) (choice : Choice) (e : Ending) → IsFaithful s → IsFaithful (server_restarts s moment choice e).state
   restart_true s moment choice Lost h = record { disk = h.disk; clones = no_clones; under_way = h.under_way }
-  restart_true s moment choice (Stops made) h = record { disk = all_ordered s.disk (decided_changes choice.decided s.under_way) (all_decided IsSound choice.decided s.under_way h.under_way) h.disk; clones = no_clones; under_way = tt }
-  restart_true s moment choice Goes h = record { disk = all_ordered s.disk (decided_changes choice.decided s.under_way) (all_decided IsSound choice.decided s.under_way h.under_way) h.disk; clones = no_clones; under_way = tt }
+  restart_true s moment choice (Stops made) h = record { disk = all_ordered s.disk (decided_changes choice.decided s.under_way) (all_decided HasOrderedVersion choice.decided s.under_way h.under_way) h.disk; clones = no_clones; under_way = tt }
+  restart_true s moment choice Goes h = record { disk = all_ordered s.disk (decided_changes choice.decided s.under_way) (all_decided HasOrderedVersion choice.decided s.under_way h.under_way) h.disk; clones = no_clones; under_way = tt }
 
 -- what was sent before was sent
 
@@ -432,13 +433,13 @@ given_more : (sent ms : List Message) (server handle version : ℕ) → IsOrdere
 given_more sent ms server handle version (inl g) = inl (g.0, g.1, kept_place sent ms g.0 g.1 g.2, g.3, g.4)
 given_more sent ms server handle version (inr g) = inr (g.0, g.1, kept_place sent ms g.0 g.1 g.2, g.3, g.4)
 
-sound_more : (sent ms : List Message) (server : ℕ) (x : StoreChange) → IsSound sent server x → IsSound (sent ++ ms) server x
+sound_more : (sent ms : List Message) (server : ℕ) (x : StoreChange) → HasOrderedVersion sent server x → HasOrderedVersion (sent ++ ms) server x
 sound_more sent ms server (Put handle version serial bytes) h = given_more sent ms server handle.0 version.0 h
 sound_more sent ms server (Raise handle version) h = given_more sent ms server handle.0 version.0 h
 sound_more sent ms server (Copy handle copy version) h = given_more sent ms server copy.0 version.0 h
 sound_more sent ms server other h = tt
 
-all_more : (sent ms : List Message) (server : ℕ) (xs : List StoreChange) → AllOf (IsSound sent server) xs → AllOf (IsSound (sent ++ ms) server) xs
+all_more : (sent ms : List Message) (server : ℕ) (xs : List StoreChange) → AllOf (HasOrderedVersion sent server) xs → AllOf (HasOrderedVersion (sent ++ ms) server) xs
 all_more sent ms server [] h = tt
 all_more sent ms server (x ∷ xs) h = (sound_more sent ms server x h.0, all_more sent ms server xs h.1)
 

@@ -22,7 +22,8 @@ use Rattle.messages.specs.declared.message.Target.{Target}
 use Rattle.messages.specs.declared.message.Target.TheVariants as target
 use Rattle.messages.specs.declared.message.Change.{Change}
 use Rattle.messages.specs.declared.message.Change.TheVariants as change
-use Rattle.protocol.specs.Tables.{counter_limit, element_at, without}
+use Rattle.gfs_types.specs.Counters.{counter_limit}
+use Rattle.protocol.specs.Tables.{element_at, without}
 use Rattle.protocol.specs.Sending.{message, the_server, the_client, handle_of, version_of, serial_of, server_number}
 use Rattle.protocol.specs.Choice.{Choice, Ending, Goes, Lost, Stops}
 use Rattle.protocol.specs.Seen.{Taken, no_step}

@@ -23,7 +23,8 @@ use Rattle.messages.specs.declared.message.Target.{Target}
 use Rattle.messages.specs.declared.message.Target.TheVariants as target
 use Rattle.messages.specs.declared.message.Change.{Change}
 use Rattle.messages.specs.declared.message.Change.TheVariants as change
-use Rattle.protocol.specs.Tables.{Table, counter_limit, element_at, with_at, without}
+use Rattle.gfs_types.specs.Counters.{counter_limit}
+use Rattle.protocol.specs.Tables.{Table, element_at, with_at, without}
 use Rattle.protocol.specs.Sending.{the_server, handle_of, version_of, serial_of, server_number, order_number}
 use Rattle.protocol.specs.Choice.{Choice, Ending, Goes, Lost, Stops, decided_changes}
 use Rattle.protocol.specs.Seen.{Taken, no_step}
@@ -79,19 +80,19 @@ module _ (sent : List Message) (server : ℕ) where
   IsOrdered d handle version = IsTaken version_given sent server d.epoch d.count handle version ⊎ IsTaken version_cloned sent server d.epoch d.count handle version
 
   -- a change, from this disk, sets no order's number but a new one, and gives a replica no version but one of an order that was taken
-  abbrev pub IsSound : ServerDisk → StoreChange → Type 0
-  IsSound d (SetOrder order) = is_new_order d order.epoch order.count ≡ true
-  IsSound d (Put handle version serial bytes) = IsOrdered d handle.0 version.0
-  IsSound d (Write handle serial offset bytes) = Unit {0}
-  IsSound d (Zero handle serial offset count) = Unit {0}
-  IsSound d (Raise handle version) = IsOrdered d handle.0 version.0
-  IsSound d (Copy handle copy version) = IsOrdered d copy.0 version.0
-  IsSound d (Remove handle) = Unit {0}
+  abbrev pub IsOfTakenOrder : ServerDisk → StoreChange → Type 0
+  IsOfTakenOrder d (SetOrder order) = is_new_order d order.epoch order.count ≡ true
+  IsOfTakenOrder d (Put handle version serial bytes) = IsOrdered d handle.0 version.0
+  IsOfTakenOrder d (Write handle serial offset bytes) = Unit {0}
+  IsOfTakenOrder d (Zero handle serial offset count) = Unit {0}
+  IsOfTakenOrder d (Raise handle version) = IsOrdered d handle.0 version.0
+  IsOfTakenOrder d (Copy handle copy version) = IsOrdered d copy.0 version.0
+  IsOfTakenOrder d (Remove handle) = Unit {0}
 
   -- each change, after those before it
-  abbrev pub AreSound : ServerDisk → List StoreChange → Type 0
-  AreSound d [] = Unit {0}
-  AreSound d (x ∷ xs) = IsSound d x × AreSound (disk_changed d x) xs
+  abbrev pub AreOfTakenOrders : ServerDisk → List StoreChange → Type 0
+  AreOfTakenOrders d [] = Unit {0}
+  AreOfTakenOrders d (x ∷ xs) = IsOfTakenOrder d x × AreOfTakenOrders (disk_changed d x) xs
 
   abbrev pub AreOrdered : ServerDisk → Type 0
   AreOrdered d = (handle : ℕ) (r : Replica) → replica_of d handle ≡ Some r → IsOrdered d handle r.version
@@ -113,7 +114,7 @@ module _ (sent : List Message) (server : ℕ) where
   cloned_later d e clones later h handle version is = taken_later version_cloned d e handle version later (h handle version is)
 
   -- a change that is sound never lowers the order's number
-  sound_risen : (d : ServerDisk) (x : StoreChange) → IsSound d x → IsRisen d x
+  sound_risen : (d : ServerDisk) (x : StoreChange) → IsOfTakenOrder d x → IsRisen d x
   sound_risen d (SetOrder order) sound = sound
   sound_risen d (Put handle version serial bytes) sound = tt
   sound_risen d (Write handle serial offset bytes) sound = tt
@@ -122,7 +123,7 @@ module _ (sent : List Message) (server : ℕ) where
   sound_risen d (Copy handle copy version) sound = tt
   sound_risen d (Remove handle) sound = tt
 
-  sound_later : (d : ServerDisk) (x : StoreChange) → IsSound d x → Later d (disk_changed d x)
+  sound_later : (d : ServerDisk) (x : StoreChange) → IsOfTakenOrder d x → Later d (disk_changed d x)
   sound_later d x sound = risen_later d x (sound_risen d x sound)
 
   put_ordered : (d : ServerDisk) (at : ℕ) (new : Replica) → IsOrdered d at new.version → AreOrdered d → AreOrdered (with_replica d at new)
@@ -136,7 +137,7 @@ module _ (sent : List Message) (server : ℕ) where
   becomes_ordered f d at None new h = h
   becomes_ordered f d at (Some r) new h = put_ordered d at (f r) (new r refl) h
 
-  changed_ordered : (d : ServerDisk) (x : StoreChange) → IsSound d x → AreOrdered d → AreOrdered (disk_changed d x)
+  changed_ordered : (d : ServerDisk) (x : StoreChange) → IsOfTakenOrder d x → AreOrdered d → AreOrdered (disk_changed d x)
   changed_ordered d (SetOrder order) sound h = λ handle r is. ordered_later d (disk_changed d (SetOrder order)) handle r.version (sound_later d (SetOrder order) sound) (h handle r is)
   changed_ordered d (Put handle version serial bytes) sound h = put_ordered d handle.0 (stored_replica version.0 serial.0 bytes) sound h
   changed_ordered d (Write handle serial offset bytes) sound h = becomes_ordered (λ r. written_replica r serial.0 offset bytes) d handle.0 (replica_of d handle.0) (λ r is. h handle.0 r is) h
@@ -145,29 +146,29 @@ module _ (sent : List Message) (server : ℕ) where
   changed_ordered d (Copy handle copy version) sound h = becomes_ordered (λ r. stored_replica version.0 0 (bytes_on_disk r)) d copy.0 (replica_of d handle.0) (λ r is. sound) h
   changed_ordered d (Remove handle) sound h = λ k r is. h k r (gone_split d.replicas handle.0 k r is).1
 
-  all_ordered : (d : ServerDisk) (xs : List StoreChange) → AreSound d xs → AreOrdered d → AreOrdered (disk_changed_by_all d xs)
+  all_ordered : (d : ServerDisk) (xs : List StoreChange) → AreOfTakenOrders d xs → AreOrdered d → AreOrdered (disk_changed_by_all d xs)
   all_ordered d [] sound h = h
   all_ordered d (x ∷ xs) sound h = all_ordered (disk_changed d x) xs sound.1 (changed_ordered d x sound.0 h)
 
   -- changes that were made, and the one after them
 
-  all_taken : (d : ServerDisk) (xs : List StoreChange) (made : ℕ) → AreSound d xs → AreSound d (take made xs)
+  all_taken : (d : ServerDisk) (xs : List StoreChange) (made : ℕ) → AreOfTakenOrders d xs → AreOfTakenOrders d (take made xs)
   all_taken d xs zero sound = tt
   all_taken d [] (suc made) sound = tt
   all_taken d (x ∷ xs) (suc made) sound = (sound.0, all_taken (disk_changed d x) xs made sound.1)
 
-  next_sound : (d : ServerDisk) (xs : List StoreChange) (made : ℕ) → AreSound d xs → AreSound (disk_changed_by_all d (take made xs)) (take 1 (drop made xs))
+  next_sound : (d : ServerDisk) (xs : List StoreChange) (made : ℕ) → AreOfTakenOrders d xs → AreOfTakenOrders (disk_changed_by_all d (take made xs)) (take 1 (drop made xs))
   next_sound d [] zero sound = tt
   next_sound d (x ∷ xs) zero sound = (sound.0, tt)
   next_sound d [] (suc made) sound = tt
   next_sound d (x ∷ xs) (suc made) sound = next_sound (disk_changed d x) xs made sound.1
 
-  sound_push : (d : ServerDisk) (xs : List StoreChange) (x : StoreChange) → AreSound d xs → IsSound (disk_changed_by_all d xs) x → AreSound d (xs ++ x ∷ [])
+  sound_push : (d : ServerDisk) (xs : List StoreChange) (x : StoreChange) → AreOfTakenOrders d xs → IsOfTakenOrder (disk_changed_by_all d xs) x → AreOfTakenOrders d (xs ++ x ∷ [])
   sound_push d [] x sound more = (more, tt)
   sound_push d (y ∷ ys) x sound more = (sound.0, sound_push (disk_changed d y) ys x sound.1 more)
 
   -- what is found of one change under way
-  found_ordered : (d : ServerDisk) (xs : List StoreChange) (decided : List Bool) → AreSound d xs → length xs ≤ 1 → AreOrdered d → AreOrdered (disk_changed_by_all d (decided_changes decided xs))
+  found_ordered : (d : ServerDisk) (xs : List StoreChange) (decided : List Bool) → AreOfTakenOrders d xs → length xs ≤ 1 → AreOrdered d → AreOrdered (disk_changed_by_all d (decided_changes decided xs))
   found_ordered d xs [] sound few h = h
   found_ordered d [] (made ∷ rest) sound few h = h
   found_ordered d (x ∷ []) (true ∷ rest) sound few h = subst (λ (ys : List StoreChange). AreOrdered (disk_changed_by_all (disk_changed d x) ys)) (sym (decided_none rest)) (changed_ordered d x sound.0 h)
@@ -178,7 +179,7 @@ module _ (sent : List Message) (server : ℕ) where
   pub record IsFaithful (s : ServerState) : Type 0 where
     pub disk : AreOrdered s.disk
     pub clones : AreCloned s.disk s.clones
-    pub under_way : AreSound s.disk s.under_way
+    pub under_way : AreOfTakenOrders s.disk s.under_way
     pub few : length s.under_way ≤ 1
     pub idle : IsTrue s.up → s.under_way ≡ []
 
@@ -190,10 +191,10 @@ module _ (sent : List Message) (server : ℕ) where
     record Holds (d : ServerDoing) : Type 0 where
       same : d.server.disk ≡ start
       clones : AreCloned (after d) d.server.clones
-      changes : AreSound start d.changes
+      changes : AreOfTakenOrders start d.changes
       idle : d.server.under_way ≡ []
 
-    stores_holds : (d : ServerDoing) (x : StoreChange) → IsSound (after d) x → Holds d → Holds (stores d x)
+    stores_holds : (d : ServerDoing) (x : StoreChange) → IsOfTakenOrder (after d) x → Holds d → Holds (stores d x)
     stores_holds d x sound h =
         record {
           same = h.same;
@@ -211,7 +212,7 @@ module _ (sent : List Message) (server : ℕ) where
         record {
           same = disk ∙ h.same;
           clones = subst (λ (xs : List StoreChange). AreCloned (disk_changed_by_all start xs) e.server.clones) (sym changes) (subst (λ (t : Table ℕ). AreCloned (after d) t) (sym clones) h.clones);
-          changes = subst (λ (xs : List StoreChange). AreSound start xs) (sym changes) h.changes;
+          changes = subst (λ (xs : List StoreChange). AreOfTakenOrders start xs) (sym changes) h.changes;
           idle = under_way ∙ h.idle;
         }
 
@@ -259,7 +260,7 @@ module _ (sent : List Message) (server : ℕ) where
     acks_holds : (d : ServerDoing) (handle : ℕ) (p : SerialOrder) (member serial : ℕ) → Holds d → Holds (acknowledges d handle p member serial)
     acks_holds d handle p member serial h = settles_holds (with_primary d handle (acknowledged p member serial)) handle p.held.version serial (settled p member serial) (again d _ refl refl refl refl h)
 
-    stored_sound : (e : ServerDisk) (chunk handle serial : ℕ) (m : Mutation) → IsSound e (stored_as chunk handle serial m)
+    stored_sound : (e : ServerDisk) (chunk handle serial : ℕ) (m : Mutation) → IsOfTakenOrder e (stored_as chunk handle serial m)
     stored_sound e chunk handle serial (mutation.Write offset bytes) = tt
     stored_sound e chunk handle serial (mutation.Append offset bytes) = tt
     stored_sound e chunk handle serial (mutation.Pad offset) = tt
@@ -309,11 +310,11 @@ module _ (sent : List Message) (server : ℕ) where
     under_holds d handle id t deadline (Some p) h =
         on_cond Holds (nat_le deadline d.server.now) _ (mutates_as d handle p id t (attempted p id.client id.seq)) (λ _. again d _ refl refl refl refl h) (λ _. as_holds d handle p id t (attempted p id.client id.seq) h)
 
-    member_holds : (b : Bool) (d : ServerDoing) (primary : Node) (handle version serial : ℕ) (x : StoreChange) → ((e : ServerDisk) → IsSound e x) → Holds d → Holds (member_stores b d primary handle version serial x)
+    member_holds : (b : Bool) (d : ServerDoing) (primary : Node) (handle version serial : ℕ) (x : StoreChange) → ((e : ServerDisk) → IsOfTakenOrder e x) → Holds d → Holds (member_stores b d primary handle version serial x)
     member_holds true d primary handle version serial x sound h = again (stores d x) _ refl refl refl refl (stores_holds d x (sound (after d)) h)
     member_holds false d primary handle version serial x sound h = again (drops_corrupt d handle) _ refl refl refl refl (corrupt_holds d handle h)
 
-    member_applies_holds : (d : ServerDoing) (primary : Node) (handle version serial : ℕ) (id : DataId) (x : StoreChange) (offset end_place : ℕ) → ((e : ServerDisk) → IsSound e x) → Holds d → Holds (member_applies d primary handle version serial id x offset end_place)
+    member_applies_holds : (d : ServerDoing) (primary : Node) (handle version serial : ℕ) (id : DataId) (x : StoreChange) (offset end_place : ℕ) → ((e : ServerDisk) → IsOfTakenOrder e x) → Holds d → Holds (member_applies d primary handle version serial id x offset end_place)
     member_applies_holds d primary handle version serial id x offset end_place sound h =
         on_cond Holds (nat_lt (chunk_limit d.server handle) end_place) d _ (λ _. h)
         (λ _. member_holds (is_writable_at d.server.disk handle offset end_place) (takes_data d id) primary handle version serial x sound (again d (takes_data d id) refl refl refl refl h))
@@ -479,7 +480,7 @@ module _ (sent : List Message) (server : ℕ) where
   no_clones d handle version is = none_some version (sym (table.get-empty nat_cmp handle) ∙ is)
 
   -- a server that is put down, or that starts again
-  stopped : (s : ServerState) → AreOrdered s.disk → s.clones ≡ table.empty → AreSound s.disk s.under_way → length s.under_way ≤ 1 → (IsTrue s.up → s.under_way ≡ []) → IsFaithful s
+  stopped : (s : ServerState) → AreOrdered s.disk → s.clones ≡ table.empty → AreOfTakenOrders s.disk s.under_way → length s.under_way ≤ 1 → (IsTrue s.up → s.under_way ≡ []) → IsFaithful s
   stopped s disk none under_way few idle = record { disk = disk; clones = subst (λ (t : Table ℕ). AreCloned s.disk t) (sym none) (no_clones s.disk); under_way = under_way; few = few; idle = idle }
 
   ends_true : (s : ServerState) (d : ServerDoing) (choice : Choice) (e : Ending) → IsFaithful s → Holds s.disk d → IsFaithful (server_ends s d choice e).state
@@ -488,7 +489,7 @@ module _ (sent : List Message) (server : ℕ) where
       record {
         disk = subst (λ (x : ServerDisk). AreOrdered (disk_changed_by_all x d.changes)) (sym g.same) (all_ordered s.disk d.changes g.changes h.disk);
         clones = subst (λ (x : ServerDisk). AreCloned (disk_changed_by_all x d.changes) d.server.clones) (sym g.same) g.clones;
-        under_way = subst (λ (xs : List StoreChange). AreSound now xs) (sym g.idle) tt;
+        under_way = subst (λ (xs : List StoreChange). AreOfTakenOrders now xs) (sym g.idle) tt;
         few = subst (λ (xs : List StoreChange). length xs ≤ 1) (sym g.idle) (omega arith);
         idle = λ _. g.idle;
       }
@@ -518,14 +519,14 @@ pub ordered_more : (sent ms : List Message) (server : ℕ) (d : ServerDisk) (han
 ordered_more sent ms server d handle version (inl given) = inl (taken_more version_given sent ms server d.epoch d.count handle version given)
 ordered_more sent ms server d handle version (inr cloned) = inr (taken_more version_cloned sent ms server d.epoch d.count handle version cloned)
 
-sound_more : (sent ms : List Message) (server : ℕ) (d : ServerDisk) (x : StoreChange) → IsSound sent server d x → IsSound (sent ++ ms) server d x
+sound_more : (sent ms : List Message) (server : ℕ) (d : ServerDisk) (x : StoreChange) → IsOfTakenOrder sent server d x → IsOfTakenOrder (sent ++ ms) server d x
 sound_more sent ms server d (Put handle version serial bytes) h = ordered_more sent ms server d handle.0 version.0 h
 sound_more sent ms server d (Raise handle version) h = ordered_more sent ms server d handle.0 version.0 h
 sound_more sent ms server d (Copy handle copy version) h = ordered_more sent ms server d copy.0 version.0 h
 sound_more sent ms server d (SetOrder order) h = h
 sound_more sent ms server d other h = tt
 
-all_more : (sent ms : List Message) (server : ℕ) (d : ServerDisk) (xs : List StoreChange) → AreSound sent server d xs → AreSound (sent ++ ms) server d xs
+all_more : (sent ms : List Message) (server : ℕ) (d : ServerDisk) (xs : List StoreChange) → AreOfTakenOrders sent server d xs → AreOfTakenOrders (sent ++ ms) server d xs
 all_more sent ms server d [] h = tt
 all_more sent ms server d (x ∷ xs) h = (sound_more sent ms server d x h.0, all_more sent ms server (disk_changed d x) xs h.1)
 
@@ -560,7 +561,7 @@ rotten_faithful sent server s handle r place byte there up h =
     record {
       disk = put_ordered sent server s.disk handle (rotten_replica r place byte) (h.disk handle r there) h.disk;
       clones = h.clones;
-      under_way = subst (λ (xs : List StoreChange). AreSound sent server (with_replica s.disk handle (rotten_replica r place byte)) xs) (sym (h.idle up)) tt;
+      under_way = subst (λ (xs : List StoreChange). AreOfTakenOrders sent server (with_replica s.disk handle (rotten_replica r place byte)) xs) (sym (h.idle up)) tt;
       few = h.few;
       idle = h.idle;
     }

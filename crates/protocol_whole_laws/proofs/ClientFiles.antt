@@ -23,7 +23,7 @@ use Rattle.protocol_step_laws.specs.FileCalls.{IsOfFile}
 use Rattle.protocol_step_laws.proofs.Events.{HoldsAfter, world_reached}
 use Rattle.protocol_step_laws.proofs.ClientReads.{stepped, called}
 use Rattle.protocol_step_laws.proofs.OpenFiles.{HasRow}
-use Rattle.protocol_step_laws.proofs.KeptLocations.{Stands, Keeps, nothing_kept, keeps_later, keeps_opened, After, steps_here, calls_here, refused_here}
+use Rattle.protocol_step_laws.proofs.KeptLocations.{IsFiledAtStage, Keeps, nothing_kept, keeps_later, keeps_opened, After, steps_here, calls_here, refused_here}
 use Rattle.protocol_whole_laws.specs.FileClients.{IsFileOpen}
 use Rattle.protocol_whole_laws.specs.ClientFiles.{ClientsFilesAreOpen}
 
@@ -89,7 +89,7 @@ new_kept config [] index s is = none_some s is
 new_kept config (n ∷ ns) zero s is = subst (λ (x : ClientState). Kept x) (same_some (new_client config n) s is) (config, nothing_kept Always config (new_client config n) refl refl refl refl refl refl)
 new_kept config (n ∷ ns) (suc index) s is = new_kept config ns index s is
 
-filed_at : (s : ClientState) (config : Config) (c : CurrentCall) (st : Stage) → IsOfFile st → Stands Always config s c st → HasRow s.files c.file.0
+filed_at : (s : ClientState) (config : Config) (c : CurrentCall) (st : Stage) → IsOfFile st → IsFiledAtStage Always config s c st → HasRow s.files c.file.0
 filed_at s config c AskedNames of h = absurd of
 filed_at s config c (SentData chunk primary number) of h = h.0.0
 filed_at s config c (SentMutate chunk number) of h = h.0.0

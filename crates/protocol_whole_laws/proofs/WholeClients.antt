@@ -233,7 +233,7 @@ module _ (config : Config) (servers clients : ℕ) (w : WorldState) (r : world.I
     adds_passed = same_files_add w v k placed.machine p.whole p.files goes.4
 
     -- what stands once the client came to this
-    record Stands (t : Taken ClientState) : Type 0 where
+    record IsBesideAfter (t : Taken ClientState) : Type 0 where
       pub machine : Machine
       pub named : IsNamesBeside config (answered_trace client t.out.answer trace) greatest (w.sent ++ stamped number t.out.sent) k.log ss p.names h.requests
       pub asking : AreClientsBeside config (answered_trace client t.out.answer trace) greatest (with_at w.clients index t.state) p.names h.requests
@@ -246,7 +246,7 @@ module _ (config : Config) (servers clients : ℕ) (w : WorldState) (r : world.I
       pub adds : AddsNumberedTries w v k machine
 
     stands_still : (t : ClientState) (down : Bool) → (IsTrue t.up → IsClientBeside config trace greatest t p.names h.requests client) → (IsTrue t.up → IsFileClient p.whole client t) → (IsTrue t.up → AreOwnWordsSo w.sent p.whole index t)
-        → Stands (record { state = t; out = record { sent = []; answer = None; down = down }; seen = [] })
+        → IsBesideAfter (record { state = t; out = record { sent = []; answer = None; down = down }; seen = [] })
     stands_still t down beside files said =
         let names = stays_at config trace greatest w.clients w.sent k.log ss p.names h.requests p.named asking_passed number index t beside in
         record {
@@ -293,7 +293,7 @@ module _ (config : Config) (servers clients : ℕ) (w : WorldState) (r : world.I
     idle : (p.names.clients client).open_call ≡ None
     idle = idle_at p.names h.requests client x x.stage of (subst (λ (o : Option CurrentCall). IsBesideCall p.names h.requests client o) is (own.beside).call)
 
-    stands_on : Stands (client_ends s d Goes)
+    stands_on : IsBesideAfter (client_ends s d Goes)
     stands_on =
         let names = file_goes_at config trace greatest w.clients w.sent k.log ss p.names h.requests p.named asking_passed number index s moment d own (le-max_right w.observer.greatest moment) (file_calls_go_on s moment i x is of) idle
         (own.naming x is ∙ of_file x.stage of) in
@@ -312,17 +312,17 @@ module _ (config : Config) (servers clients : ℕ) (w : WorldState) (r : world.I
           adds = same_files_add w v k p.whole (after_all p.whole f.actions) f.elsewhere.files adds_passed;
         }
 
-    stands_down : Stands (record { state = stopped_client s; out = down_output; seen = [] })
+    stands_down : IsBesideAfter (record { state = stopped_client s; out = down_output; seen = [] })
     stands_down = stands_still (stopped_client s) true (λ on. absurd (true≢false (sym on))) (λ on. absurd (true≢false (sym on))) (λ on. absurd (true≢false (sym on)))
 
-    by_ending : (end : Ending) → Stands (client_ends s d end)
+    by_ending : (end : Ending) → IsBesideAfter (client_ends s d end)
     by_ending Goes = stands_on
     by_ending Lost = stands_down
     by_ending (Stops made) = stands_down
 
-    stands : Stands (client_step s moment i choice)
+    stands : IsBesideAfter (client_step s moment i choice)
     stands =
-        on_cond Stands (may_step s) (client_ends s d choice.ending) (no_step s) (λ _. by_ending choice.ending)
+        on_cond IsBesideAfter (may_step s) (client_ends s d choice.ending) (no_step s) (λ _. by_ending choice.ending)
         (λ _. stands_still s false (λ on. own) (λ on. files_passed index s at up) (λ on. said_passed index s at up))
 
     abbrev t : Taken ClientState

@@ -1,12 +1,13 @@
 //! The lines that are printed.
 
-ghost use Rattle.std.specs.Prelude.{Some};
+ghost use Rattle.std.specs.Prelude.{◌≡◌, ◌<◌, Some, false};
+ghost use Rattle.std.specs.Fmt.{digit_glyph};
 ghost use Rattle.script.specs.Answers.{hexadecimal_of, rounds_of, names_of, answer_of, answer_line};
 
 use gfs_types::answer::Answer;
 use gfs_types::ids::ClientId;
 use gfs_types::lists::Text;
-use std::fmt;
+use std::{fmt, str};
 
 /// Bytes in lower-case hexadecimal, or `-` where there are none.
 #[derive(Clone, Copy)]
@@ -20,10 +21,22 @@ impl fmt::Display for Hexadecimal<'_> {
             return f.write_str("-");
         }
         for byte in self.0 {
-            let byte = *byte;
-            write!(f, "{byte:02x}")?;
+            let digits = [digit(*byte / 16), digit(*byte % 16)];
+            f.write_str(str::from_utf8(&digits).map_err(|_| fmt::Error)?)?;
         }
         Ok(())
+    }
+}
+
+/// A hexadecimal digit.
+fn digit(value: u8) -> u8
+    requires { value < 16 }
+    ensures { result ≡ digit_glyph false value }
+{
+    if value < 10 {
+        b'0' + value
+    } else {
+        b'a' + (value - 10)
     }
 }
 

@@ -2,7 +2,7 @@
 
 ghost use Rattle.std.specs.Prelude.{◌≡◌, ◌<◌, Some, OnOk};
 ghost use Rattle.primary_order.specs.declared.order.SerialOrder.{SerialOrder as OrderValue};
-ghost use Rattle.protocol.specs.Tables.{counter_limit};
+ghost use Rattle.gfs_types.specs.Counters.{counter_limit};
 ghost use Rattle.protocol.specs.Server.{frame};
 ghost use Rattle.protocol.specs.ServerWrites.{denies, forwards, acknowledges, takes_acked, takes_nacked};
 ghost use Rattle.server_node.specs.Doing.{doing, OnHeld, held_at, numbers};

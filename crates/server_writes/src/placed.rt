@@ -2,7 +2,7 @@
 
 ghost use Rattle.std.specs.Prelude.{◌≡◌, ◌<◌, ◌^◌, [], Some, OnOk};
 ghost use Rattle.primary_order.specs.declared.order.SerialOrder.{SerialOrder as OrderValue};
-ghost use Rattle.protocol.specs.Tables.{counter_limit};
+ghost use Rattle.gfs_types.specs.Counters.{counter_limit};
 ghost use Rattle.gfs_types.specs.Mutations.{end_of};
 ghost use Rattle.protocol.specs.Server.{frame};
 ghost use Rattle.protocol.specs.ServerWrites.{places, primary_applies};

@@ -16,7 +16,7 @@ use path_trie::child::Child;
 use std::alloc::{Allocator, Global};
 
 /// The hidden files that were kept for `keep_ms` milliseconds, in the order of their names, which is that of their moments, up to
-/// the first that stays. At NoMemory nothing has changed. Goes over all names.
+/// the first that stays. At NoMemory nothing has changed. Goes over all names right below `/.gone`, and over no others.
 pub fn expired<A: Allocator + Clone>(
     alloc: Global,
     names: &Namespace<A>,

@@ -23,7 +23,7 @@ impl Outcome {
         ensures seen { result.seen ≡ [] }
     {
         Outcome {
-            out: gives_nothing(alloc),
+            out: no_output(alloc),
             seen: Sequence::empty(alloc),
         }
     }
@@ -34,14 +34,14 @@ impl Outcome {
         ensures seen { result.seen ≡ seen }
     {
         Outcome {
-            out: goes_down(alloc),
+            out: down_output(alloc),
             seen,
         }
     }
 }
 
 /// Nothing is given. Takes no memory.
-pub fn gives_nothing(alloc: Global) -> StepOut
+pub fn no_output(alloc: Global) -> StepOut
     ensures { result ≡ no_output }
 {
     StepOut {
@@ -52,7 +52,7 @@ pub fn gives_nothing(alloc: Global) -> StepOut
 }
 
 /// The node goes down. Takes no memory.
-pub fn goes_down(alloc: Global) -> StepOut
+pub fn down_output(alloc: Global) -> StepOut
     ensures { result ≡ down_output }
 {
     StepOut {

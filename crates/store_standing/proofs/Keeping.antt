@@ -11,7 +11,7 @@ use Rattle.known_replicas.specs.Known.{IsKnownOf, Rows, can_be_told, is_made}
 use Rattle.noticed_replicas.specs.Noticed.{AreNoticed, IsCareful}
 use Rattle.noticed_replicas.proofs.Changes.{changed_noticed}
 use Rattle.server_store.specs.Stores.{IsFound}
-use Rattle.store_standing.specs.Standing.{AllNoticed, IsKept, Leaves, LeavesMade, Stands, StillSays, changes_of, closed, found_made, refused}
+use Rattle.store_standing.specs.Standing.{AllNoticed, IsKept, Leaves, LeavesMade, IsStandingTrue, StillSays, changes_of, closed, found_made, refused}
 use Rattle.store_standing.specs.declared.standing.Standing.{Standing}
 use Rattle.store_standing.specs.declared.standing.Standing.TheVariants.{Open, Unread, Changing}
 use Rattle.store_standing.proofs.Saying.{changed_block, open_leaves, open_noticed}
@@ -30,7 +30,7 @@ module _ {D : Type 0} (seen : D → List ℕ) (may_leave : D → List ℕ → Ty
       ]
 
   -- in another standing
-  stands_as : (one two : Standing) → Kept one → Stands seen may_leave store rows d two → Kept two
+  stands_as : (one two : Standing) → Kept one → IsStandingTrue seen may_leave store rows d two → Kept two
   stands_as one two kept stands = record { block_is = kept.block_is; whole = kept.whole; known = kept.known; noticed = kept.noticed; stands = stands }
 
   pub closed_kept : (standing : Standing) → Kept standing → Kept (closed standing)
@@ -44,7 +44,7 @@ module _ {D : Type 0} (seen : D → List ℕ) (may_leave : D → List ℕ → Ty
   refused_kept (Changing other) change none kept = absurd cc
 
   -- in a store of the same layout
-  pub in_layout : (one two : Standing) (new : Store D) → new.layout ≡ store.layout → Kept one → Stands seen may_leave new rows d two → IsKept seen may_leave new order rows d two
+  pub in_layout : (one two : Standing) (new : Store D) → new.layout ≡ store.layout → Kept one → IsStandingTrue seen may_leave new rows d two → IsKept seen may_leave new order rows d two
   in_layout one two new same kept stands = record {
     block_is = kept.block_is ∙ sym (ap (λ (l : Layout). l.block) same);
     whole = ap (λ (l : Layout). l.chunk % l.block) same ∙ kept.whole;

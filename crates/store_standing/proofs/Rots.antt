@@ -17,7 +17,7 @@ use Rattle.known_replicas.proofs.Rotten.{rotten_known}
 use Rattle.noticed_replicas.specs.Noticed.{AreNoticed}
 use Rattle.noticed_replicas.proofs.Changes.{with_noticed}
 use Rattle.noticed_replicas.proofs.Rot.{rotten_noticed}
-use Rattle.store_standing.specs.Standing.{CantRot, HasItsDigest, IsKept, Leaves, Stands}
+use Rattle.store_standing.specs.Standing.{CantRot, HasItsDigest, IsKept, Leaves, IsStandingTrue}
 use Rattle.store_standing.specs.declared.standing.Standing.{Standing}
 use Rattle.store_standing.specs.declared.standing.Standing.TheVariants.{Open, Unread}
 use Rattle.store_standing.proofs.Commits.{mid_kept}
@@ -47,7 +47,7 @@ module _ {D : Type 0} (seen : D → List ℕ) (may_leave : D → List ℕ → Ty
           let fit = kept.noticed.fit handle.0 r e in
           with_noticed store.layout.chunk d kept.noticed handle.0 (rotten_replica r place byte) fit (rotten_noticed store.layout.chunk d.block r place byte fit low (kept.noticed.noticed handle.0 r e) (differs r e))
 
-  in_new : (new : Store D) (standing : Standing) → new.layout ≡ store.layout → Stands seen may_leave new rows after standing → IsKept seen may_leave new order rows after standing
+  in_new : (new : Store D) (standing : Standing) → new.layout ≡ store.layout → IsStandingTrue seen may_leave new rows after standing → IsKept seen may_leave new order rows after standing
   in_new new standing same stands = record {
     block_is = rotten_block d handle.0 place byte ∙ kept.block_is ∙ sym (ap (λ (l : Layout). l.block) same);
     whole = ap (λ (l : Layout). l.chunk % l.block) same ∙ kept.whole;

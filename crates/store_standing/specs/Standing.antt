@@ -93,10 +93,10 @@ with_made d None = d
 with_made d (Some change) = disk_changed d change
 
 -- An open store says d. Of another one a stop leaves d, with the change under way or without it, or before the byte was rotten.
-abbrev pub Stands : {D : Type 0} → (D → List ℕ) → (D → List ℕ → Type 0) → Store D → Rows → ServerDisk → Standing → Type 0
-Stands seen may_leave store rows d Open = IsOpen seen may_leave store d
-Stands seen may_leave store rows d (Unread change byte) = (e : ServerDisk) × IsRotWithin store.layout.chunk byte × (rotten_by e byte ≡ d) × Leaves may_leave store e d
-Stands seen may_leave store rows d (Changing change) =
+abbrev pub IsStandingTrue : {D : Type 0} → (D → List ℕ) → (D → List ℕ → Type 0) → Store D → Rows → ServerDisk → Standing → Type 0
+IsStandingTrue seen may_leave store rows d Open = IsOpen seen may_leave store d
+IsStandingTrue seen may_leave store rows d (Unread change byte) = (e : ServerDisk) × IsRotWithin store.layout.chunk byte × (rotten_by e byte ≡ d) × Leaves may_leave store e d
+IsStandingTrue seen may_leave store rows d (Changing change) =
     (can_be_told store.layout.chunk rows change ≡ true) × IsCareful store.layout.chunk d change × Leaves may_leave store d (disk_changed d change)
 
 -- What is kept in memory is of the disk.
@@ -105,7 +105,7 @@ pub record IsKept {D : Type 0} (seen : D → List ℕ) (may_leave : D → List �
   pub whole : store.layout.chunk % store.layout.block ≡ 0
   pub known : IsKnownOf order rows d
   pub noticed : AreNoticed store.layout.chunk d
-  pub stands : Stands seen may_leave store rows d standing
+  pub stands : IsStandingTrue seen may_leave store rows d standing
 
 -- What was found is what one of the disks said that a stop might have left.
 pub record IsFoundAmong {D : Type 0} (seen : D → List ℕ) (may_leave : List ℕ → Type 0) (disk : D) (chunk block slots : ℕ) (found : Found) : Type 0 where

@@ -1,5 +1,6 @@
 use Rattle.std.proofs.Common.{◌≡◌, ℕ, ◌+◌, ◌-◌, ◌≤◌, drop, length}
-use Rattle.chunk_table.specs.ChunkTable.{with_owned, counter_limit}
+use Rattle.gfs_types.specs.Counters.{counter_limit}
+use Rattle.chunk_table.specs.ChunkTable.{with_owned}
 use Rattle.chunk_table.specs.Owners.{references_at}
 use Rattle.chunk_table.proofs.chunks.own_each.Given as goal
 

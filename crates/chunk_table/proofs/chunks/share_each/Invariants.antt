@@ -1,5 +1,6 @@
 use Rattle.std.proofs.Common.{◌≡◌, ℕ, ◌+◌, ◌-◌, ◌≤◌, drop, length}
-use Rattle.chunk_table.specs.ChunkTable.{share_all, counter_limit}
+use Rattle.gfs_types.specs.Counters.{counter_limit}
+use Rattle.chunk_table.specs.ChunkTable.{share_all}
 use Rattle.chunk_table.specs.Owners.{references_at}
 use Rattle.chunk_table.proofs.chunks.share_each.Given as goal
 

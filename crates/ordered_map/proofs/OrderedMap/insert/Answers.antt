@@ -1,11 +1,10 @@
-use Rattle.std.proofs.Common.{ap, ◌∙◌}
-use Rattle.std.specs.Cmp.{nat_cmp_total}
-use Rattle.std.specs.FinMap.{nat_cmp-IsAntisymmetric}
-use Rattle.std.specs.FinMap as map
-use Rattle.number_map.proofs.Maps.{one_inserted}
+use Rattle.ordered_map.proofs.Counts.{count_grown, count_kept_by}
 use Rattle.ordered_map.proofs.OrderedMap.insert.Goals as goal
 
-pub returns-clause-ok : goal.returns-clause-ok
-returns-clause-ok g c =
-    one_inserted nat_cmp_total nat_cmp-IsAntisymmetric c.self.inside.kept.entries _ c.args.key c.args.value c.in_ok-insert.ensures.updates.0
-    ∙ ap (λ m. map.insert m c.args.key c.args.value) c.self.view_is
+pub invariant_of-self-then-branch : goal.invariant_of-self-then-branch
+invariant_of-self-then-branch g c =
+    count_grown c.self.inside.forest c.insert.new.self c.args.key c.args.value c.in_ok-insert.field-0 c.self.inside.count c.in_ok-insert.ensures.ok c.in_ok-insert.ensures.is_new c.if-branch.true c.self.invariant
+
+pub invariant_of-self-else-branch : goal.invariant_of-self-else-branch
+invariant_of-self-else-branch g c =
+    count_kept_by c.self.inside.forest c.insert.new.self c.args.key c.args.value c.in_ok-insert.field-0 c.self.inside.count c.in_ok-insert.ensures.ok c.in_ok-insert.ensures.is_new c.if-branch.false c.self.invariant

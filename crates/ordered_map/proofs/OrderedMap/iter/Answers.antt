@@ -1,7 +1,7 @@
-use Rattle.std.proofs.Common.{sym, ap, ◌∙◌}
-use Rattle.std.specs.FinMap as map
-use Rattle.ordered_map.proofs.Sorted.{entries_of}
+use Rattle.std.proofs.Common.{length, ap}
+use Rattle.std.proofs.iter.runs.Sources.{from_front}
+use Rattle.std.specs.Map.Iter.{TakesFirst, deref_pair}
 use Rattle.ordered_map.proofs.OrderedMap.iter.Goals as goal
 
-pub returns-clause-rest : goal.returns-clause-rest
-returns-clause-rest g c = c.iter.ensures.rest ∙ sym (entries_of c.self.inside.kept.entries c.iter.ensures.ordered) ∙ ap map.entries c.self.view_is
+pub returns-clause-runs : goal.returns-clause-runs
+returns-clause-runs g c = from_front (TakesFirst deref_pair) deref_pair (λ s. s) (λ s t h. ap length h.0) (λ s x t h. h)

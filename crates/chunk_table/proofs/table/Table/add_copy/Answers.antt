@@ -1,6 +1,6 @@
 use Rattle.std.proofs.Common.{◌<◌, ap, sym, subst, ◌∙◌, refl}
 use Rattle.std.specs.FinMap as map
-use Rattle.chunk_table.specs.ChunkTable.{counter_limit}
+use Rattle.gfs_types.specs.Counters.{counter_limit}
 use Rattle.chunk_table.proofs.Sound.{along, holds_copy_added}
 use Rattle.chunk_table.proofs.table.Table.add_copy.Goals as goal
 

@@ -1,7 +1,8 @@
 use Rattle.std.proofs.Common.{◌≡◌, ℕ, ◌+◌, ◌≤◌, true, None, ap, sym, subst, ◌∙◌, length, List, arith, rules}
 use Rattle.std.specs.List.{list_all}
 use Rattle.std.specs.FinMap as map
-use Rattle.chunk_table.specs.ChunkTable.{counter_limit, with_owned}
+use Rattle.gfs_types.specs.Counters.{counter_limit}
+use Rattle.chunk_table.specs.ChunkTable.{with_owned}
 use Rattle.chunk_table.specs.Owners.{references_at}
 use Rattle.chunk_table.specs.Refusals.{is_given}
 use Rattle.chunk_table.proofs.Sound.{along, room_to_share}

@@ -1,6 +1,7 @@
 use Rattle.std.proofs.Common.{ℕ, ◌≤◌, ◌+◌, List, [], ap, sym, ◌∙◌, subst, unwrap_or, length, arith}
 use Rattle.std.specs.FinMap as map
-use Rattle.chunk_table.specs.ChunkTable.{counter_limit, share_all, with_shared}
+use Rattle.gfs_types.specs.Counters.{counter_limit}
+use Rattle.chunk_table.specs.ChunkTable.{share_all, with_shared}
 use Rattle.chunk_table.specs.Owners.{references_at}
 use Rattle.chunk_table.proofs.Sound.{along, same_state, got_back, room_to_share, holds_shared}
 use Rattle.chunk_table.proofs.table.Table.share.Goals as goal

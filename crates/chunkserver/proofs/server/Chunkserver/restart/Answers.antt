@@ -6,11 +6,11 @@ use Rattle.chunkserver.proofs.server.Chunkserver.restart.Goals as goal
 
 pub returns-in-Err : goal.returns-in-Err
 returns-in-Err g c =
-    subst (λ (s : ServerState). ServerRestarts s c.args.now.0 c.goes_down.result c.stop.new.self) c.self.view_is
-    (stays_down_so c.self.inside.server c.reopen.new.self c.args.now.0 c.goes_down.result c.stop.new.self c.goes_down.ensures c.in-Err.ensures.err c.stop.ensures)
+    subst (λ (s : ServerState). ServerRestarts s c.args.now.0 c.down_output.result c.stop.new.self) c.self.view_is
+    (stays_down_so c.self.inside.server c.reopen.new.self c.args.now.0 c.down_output.result c.stop.new.self c.down_output.ensures c.in-Err.ensures.err c.stop.ensures)
 
 pub returns-in-Ok : goal.returns-in-Ok
 returns-in-Ok g c =
-    subst (λ (s : ServerState). ServerRestarts s c.args.now.0 c.gives_nothing.result c.start.new.self) c.self.view_is
-    (restarts_so c.self.inside.server c.reopen.new.self c.args.now.0 c.gives_nothing.result c.start.new.self c.gives_nothing.ensures
+    subst (λ (s : ServerState). ServerRestarts s c.args.now.0 c.no_output.result c.start.new.self) c.self.view_is
+    (restarts_so c.self.inside.server c.reopen.new.self c.args.now.0 c.no_output.result c.start.new.self c.no_output.ensures
     c.in-Ok.ensures.found c.in-Ok.ensures.config c.in-Ok.ensures.id c.start.ensures)

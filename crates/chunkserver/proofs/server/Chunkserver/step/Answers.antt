@@ -15,5 +15,5 @@ pub returns-in-Err : goal.returns-in-Err
 returns-in-Err g c =
     subst (λ (s : ServerState). ServerSteps s c.args.now.0 (input_of (option_copied c.args.message)) c.down.result.out c.down.result.seen c.stop.new.self) c.self.view_is
     (as_given
-    (gave_up c.self.inside.server c.plans.new.server c.args.now.0 (input_of (option_copied c.args.message)) (sym c.is_up.ensures ∙ c.if-not-is_up.false) c.in-Err.ensures.frame c.self.invariant)
+    (gave_up c.self.inside.server c.plan_step.new.server c.args.now.0 (input_of (option_copied c.args.message)) (sym c.is_up.ensures ∙ c.if-not-is_up.false) c.in-Err.ensures.frame c.self.invariant)
     c.down.ensures.out (c.down.ensures.seen ∙ c.empty.ensures) c.stop.ensures)

@@ -5,5 +5,5 @@ use Rattle.script.proofs.answers.HexadecimalDisplay.fmt.Goals as goal
 
 pub loop-byte-preserved : goal.loop-byte-preserved
 loop-byte-preserved g c = λ plain.
-    has_written_of_eq _ _ _ _ _ (one_more_byte c.args.self.now.0.now c.loop-byte.byte-index (omega arith) (omega arith))
+    has_written_of_eq _ _ _ _ _ (one_more_byte c.args.self.now.0.now c.loop-byte.byte-index (omega arith))
     (has_written_append _ _ _ _ _ _ (c.loop-byte.invariant plain) (search rules))

@@ -1,0 +1,11 @@
+-- What becomes of a leaf once a borrow of one of its values ends.
+use Rattle.std.specs.Prelude.{◌≡◌, ℕ, Option, MatchOption}
+use Rattle.std.specs.Ordering.{nat_cmp}
+use Rattle.std.specs.FinMap as map
+use Rattle.std.specs.Borrow.{LendsSo, MutBor, Fml}
+use denote.RattleType.{RattleType}
+use Rattle.ordered_map.specs.contracts.leaf.Leaf.{the_row}
+
+-- the leaf ends with the last value behind the reference at that number, and unchanged where there is none
+abbrev pub LendsInLeaf : (V : RattleType) → MutBor (map.FinMap nat_cmp V.Denot) → ℕ → Option (MutBor V.Denot) → Fml
+LendsInLeaf V m key r = LendsSo (the_row V) V m r (λ n w. MatchOption r (n ≡ m.now) (λ _. n ≡ map.insert m.now key w)) (λ n. n ≡ m.now)
