@@ -59,9 +59,12 @@ module _ (disk : LogDisk) (old new : PlanState) (s : PendingSnapshot) where
       (changes_with disk s.client s.number (call.Snapshot s.from s.to) tried_at mid new made entry same is refl at_number)
 
   -- it is taken where it is ready
-  pub takes_it : is_ready (known old) s ≡ true → IsPlanned (λ d. takes_snapshot d s) disk old new → IsPlanned (λ d. cond (is_ready d.master s) (takes_snapshot d s) d) disk old new
-  takes_it ready does = goes_on _ (λ d. takes_snapshot d s) disk old old new
-      (λ answers. ap (λ b. cond b (takes_snapshot (answered disk old answers) s) (answered disk old answers)) ready) does
+  pub takes_it : (mid : PlanState) → mid ≡ old → is_ready (known old) s ≡ true → IsPlanned (λ d. takes_snapshot d s) disk mid new
+      → IsPlanned (λ d. cond (is_ready d.master s) (takes_snapshot d s) d) disk old new
+  takes_it mid same ready does = goes_on _ (λ d. takes_snapshot d s) disk old mid new
+      (λ answers. ap (λ b. cond b (takes_snapshot (answered disk old answers) s) (answered disk old answers)) ready
+      ∙ ap (λ (p : PlanState). takes_snapshot (answered disk p answers) s) (sym same))
+      does
 
   pub leaves_it : is_ready (known old) s ≡ false → new ≡ old → IsPlanned (λ d. cond (is_ready d.master s) (takes_snapshot d s) d) disk old new
   leaves_it waits is = uses_none _ disk old new (λ rest.

@@ -30,41 +30,52 @@ pub fn has_waited<A: Allocator + Clone>(
     ensures answer { IfOk result (λ b. b ≡ is_ready (known plan.old) snapshot.now) }
     ensures same { plan.new ≡ plan.old }
 {
-    if must_wait(plan, snapshot)? {
+    if must_wait(plan, snapshot, snapshot.awaited()) {
+        return Ok(false);
+    }
+    let found = last_awaited(plan, snapshot)?;
+    let ready = is_ready_beside(plan, snapshot, found.as_ref())?;
+    note(plan, snapshot, found);
+    Ok(ready)
+}
+
+fn is_ready_beside<A: Allocator + Clone>(
+    plan: &Plan<A>,
+    snapshot: &Pending,
+    awaited: Option<&Awaited>,
+) -> Result<bool, PlanFault>
+    ensures { IfOk result (λ b. b ≡ is_ready (known plan.now) snapshot.now) }
+{
+    if must_wait(plan, snapshot, awaited) {
         return Ok(false);
     }
     is_ready(plan, snapshot)
 }
 
-// Whether a chunk is found whose lease the snapshot has to wait for.
-fn must_wait<A: Allocator + Clone>(
-    plan: &mut Plan<A>,
-    snapshot: &Pending,
-) -> Result<bool, PlanFault>
-    ensures waits { IfOk result (λ b. b ≡ true → is_ready (known plan.old) snapshot.now ≡ false) }
-    ensures same { plan.new ≡ plan.old }
+fn note<A: Allocator + Clone>(plan: &mut Plan<A>, snapshot: &Pending, found: Option<Awaited>)
+    ensures { plan.new ≡ plan.old }
 {
-    if still_waits(plan, snapshot) {
-        return Ok(true);
+    if let Some(awaited) = found {
+        plan.note_awaited(snapshot.client(), snapshot.number(), awaited);
     }
-    let Some(awaited) = last_awaited(plan, snapshot)? else {
-        return Ok(false);
-    };
-    let waits = is_awaited(plan, snapshot, &awaited);
-    plan.note_awaited(snapshot.client(), snapshot.number(), awaited);
-    Ok(waits)
 }
 
-fn still_waits<A: Allocator + Clone>(plan: &Plan<A>, snapshot: &Pending) -> bool
+// Whether the snapshot has to wait for a chunk that is there still.
+fn must_wait<A: Allocator + Clone>(
+    plan: &Plan<A>,
+    snapshot: &Pending,
+    awaited: Option<&Awaited>,
+) -> bool
     ensures { result ≡ true → is_ready (known plan.now) snapshot.now ≡ false }
 {
-    match snapshot.awaited() {
+    match awaited {
         Some(awaited) => is_awaited(plan, snapshot, awaited),
         None => false,
     }
 }
 
 // Whether there is a chunk whose lease has not ended, in a file at the snapshot's source or below it.
+#[tactic(auto, using(crate::proofs::Waits::must_wait))]
 fn is_awaited<A: Allocator + Clone>(plan: &Plan<A>, snapshot: &Pending, awaited: &Awaited) -> bool
     ensures { result ≡ true → is_ready (known plan.now) snapshot.now ≡ false }
 {
@@ -80,11 +91,14 @@ fn is_awaited<A: Allocator + Clone>(plan: &Plan<A>, snapshot: &Pending, awaited:
 fn file_at<A: Allocator + Clone>(plan: &Plan<A>, path: &Path) -> Option<FileId>
     ensures { IfSome result (λ file. get plan.now.logged.names path.now ≡ Some (File file.0)) }
 {
-    let node = plan.state().names().get(path)?;
-    match node.kind() {
-        NameKind::File(file) => Some(file),
-        NameKind::Dir => None,
-    }
+    let names = plan.state().names();
+    let Some(node) = names.get(path) else {
+        return None;
+    };
+    let NameKind::File(file) = node.kind() else {
+        return None;
+    };
+    Some(file)
 }
 
 // Whether the lease of a file's chunk at this index has not ended.
