@@ -50,15 +50,13 @@ not_all {V} p list kept path v (e ∷ es) found in_ fails =
       ]
     ] refl found
 
-abbrev pub has_ended : MasterState → ℕ → Bool
-has_ended m handle = row_has_ended m.now (chunk_of m.logged.table handle)
-
 -- while a lease has not ended of a file at the source or below it, a snapshot is not ready
 pub must_wait : (m : MasterState) (s : PendingSnapshot) (path : Path) (id : ℕ) → is_at_or_below s.from path ≡ true → get m.logged.names path ≡ Some (File id)
-    → list_all (has_ended m) (handles_of m.logged.table id) ≡ false → is_ready m s ≡ false
+    → list_all (λ handle. row_has_ended m.now (chunk_of m.logged.table handle)) (handles_of m.logged.table id) ≡ false → is_ready m s ≡ false
 must_wait m s path id below stands fails =
     let t : ChunkTable = m.logged.table in
     let es : List (Path × Node) = entries m.logged.names in
-    all_rising (has_ended m) (flat_map (λ (e : Path × Node). node_handles t e.1) (copied_entries m.logged.names s.from s.to))
-    ∙ ap (list_all (has_ended m)) (handles_of_nodes t s.to (length s.from) (filter (λ (e : Path × Node). is_at_or_below s.from e.0) es))
-    ∙ not_all (has_ended m) (node_handles t) (is_at_or_below s.from) path (File id) es (sym (get-entries m.logged.names path) ∙ stands) below fails
+    let p : ℕ → Bool = λ handle. row_has_ended m.now (chunk_of t handle) in
+    all_rising p (flat_map (λ (e : Path × Node). node_handles t e.1) (copied_entries m.logged.names s.from s.to))
+    ∙ ap (list_all p) (handles_of_nodes t s.to (length s.from) (filter (λ (e : Path × Node). is_at_or_below s.from e.0) es))
+    ∙ not_all p (node_handles t) (is_at_or_below s.from) path (File id) es (sym (get-entries m.logged.names path) ∙ stands) below fails
