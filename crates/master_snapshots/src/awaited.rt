@@ -3,6 +3,7 @@
 ghost use Rattle.std.specs.Prelude.{◌≡◌, true, false, Some, IfOk, IfSome};
 ghost use Rattle.std.specs.List.{list_all};
 ghost use Rattle.std.specs.FinMap.{get};
+ghost use Rattle.gfs_types.specs.Paths.{is_at_or_below};
 ghost use Rattle.relaxed_file.specs.Names.{File};
 ghost use Rattle.chunk_table.specs.ChunkTable.{chunk_of, handles_of};
 ghost use Rattle.protocol.specs.MasterSnapshots.{is_ready, row_has_ended};
@@ -75,17 +76,22 @@ fn must_wait<A: Allocator + Clone>(
 }
 
 // Whether there is a chunk whose lease has not ended, in a file at the snapshot's source or below it.
-#[tactic(auto, using(crate::proofs::Waits::must_wait))]
 fn is_awaited<A: Allocator + Clone>(plan: &Plan<A>, snapshot: &Pending, awaited: &Awaited) -> bool
     ensures { result ≡ true → is_ready (known plan.now) snapshot.now ≡ false }
 {
-    if !is_at_or_below(snapshot.from().as_str(), awaited.path.as_str()) {
+    if !is_in_source(snapshot, &awaited.path) {
         return false;
     }
-    match file_at(plan, &awaited.path) {
-        Some(file) => is_leased(plan, file, awaited.index),
-        None => false,
-    }
+    let Some(file) = file_at(plan, &awaited.path) else {
+        return false;
+    };
+    is_leased(plan, file, awaited.index)
+}
+
+fn is_in_source(snapshot: &Pending, path: &Path) -> bool
+    ensures { result ≡ is_at_or_below snapshot.now.from path.now }
+{
+    is_at_or_below(snapshot.from().as_str(), path.as_str())
 }
 
 fn file_at<A: Allocator + Clone>(plan: &Plan<A>, path: &Path) -> Option<FileId>
