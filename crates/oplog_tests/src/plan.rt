@@ -1,8 +1,10 @@
 //! Changes of a log that follow one another: records that are appended, and checkpoints.
 
+ghost use Rattle.std.specs.Prelude.{◌≡◌, true, OnOk};
+ghost use Rattle.std.specs.List.{AllByRecursion};
 ghost use Rattle.log_area.specs.Areas.{AreaState};
+ghost use Rattle.log_codec.specs.Payloads.{IsWritable};
 ghost use Rattle.oplog.specs.Logs.{IsOpen};
-ghost use Rattle.std.specs.Prelude.{OnOk};
 
 use crate::calls::{SIZE, create};
 use disk::Disk;
@@ -68,22 +70,38 @@ impl Plan {
         })
     }
 
-    // The items and the records after so many changes.
-    fn after(&self, count: usize) -> (&[Record], &[Record]) {
-        match count {
+    // Whether a log has these items and records after so many changes.
+    fn is_after(&self, count: usize, items: &[Record], records: &[Record]) -> bool {
+        let (wanted, others): (&[Record], &[Record]) = match count {
             0 => (&[], &[]),
             1 => (&[], &self.create),
             2 => (&self.one, &[]),
             3 => (&self.one, &self.epoch),
             4 => (&self.two, &[]),
             _ => (&self.two, &self.create),
-        }
+        };
+        items == wanted && records == others
     }
 
     // After how many changes a log has these items and records.
     fn place_of(&self, items: &[Record], records: &[Record]) -> Option<usize> {
-        (0..STEPS + 1).find(|count| self.after(*count) == (items, records))
+        for count in 0..STEPS + 1 {
+            if self.is_after(count, items, records) {
+                return Some(count);
+            }
+        }
+        None
     }
+}
+
+fn append_one<D: Disk>(log: &mut Log<D>, alloc: Global, record: &Record) -> Result<(), LogFault>
+    requires { (area : AreaState) × IsOpen D.seen D.may_leave log.old area }
+    ensures { OnOk result ((area : AreaState) × IsOpen D.seen D.may_leave log.new area) }
+{
+    if !is_writable(record) || is_item(record) {
+        return Err(LogFault::Damaged);
+    }
+    log.append(alloc, record)
 }
 
 // Appends the one record of a list.
@@ -96,12 +114,15 @@ fn append_first<D: Disk>(
     ensures { OnOk result ((area : AreaState) × IsOpen D.seen D.may_leave log.new area) }
 {
     match records {
-        [record] if is_writable(record) && !is_item(record) => log.append(alloc, record),
-        _ => Err(LogFault::Damaged),
+        [record, ..] => append_one(log, alloc, record),
+        [] => Err(LogFault::Damaged),
     }
 }
 
-fn are_writable(items: &[Record]) -> bool {
+// Whether these are one or two items that have bytes.
+fn are_writable(items: &[Record]) -> bool
+    ensures { result ≡ true → AllByRecursion IsWritable items.now }
+{
     match items {
         [one] => is_writable(one),
         [one, two] => is_writable(one) && is_writable(two),
