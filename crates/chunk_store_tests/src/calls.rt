@@ -116,8 +116,9 @@ fn go<D: Disk>(store: &mut Store<D>, alloc: Global, steps: usize) -> Ran
                 is_device: false,
             };
         }
-        if let Err(fault) = step(store, alloc, number) {
-            return failed_at(number, fault);
+        match step(store, alloc, number) {
+            Ok(()) => {}
+            Err(fault) => return failed_at(number, fault),
         }
     }
     if steps > STEPS {

@@ -94,14 +94,14 @@ impl Plan {
     }
 }
 
-fn append_one<D: Disk>(log: &mut Log<D>, alloc: Global, record: &Record) -> Result<(), LogFault>
+fn append_one<D: Disk>(log: &mut Log<D>, alloc: Global, logged: &Record) -> Result<(), LogFault>
     requires { (area : AreaState) × IsOpen D.seen D.may_leave log.old area }
     ensures { OnOk result ((area : AreaState) × IsOpen D.seen D.may_leave log.new area) }
 {
-    if !is_writable(record) || is_item(record) {
+    if !is_writable(logged) || is_item(logged) {
         return Err(LogFault::Damaged);
     }
-    log.append(alloc, record)
+    log.append(alloc, logged)
 }
 
 // Appends the one record of a list.
@@ -114,7 +114,7 @@ fn append_first<D: Disk>(
     ensures { OnOk result ((area : AreaState) × IsOpen D.seen D.may_leave log.new area) }
 {
     match records {
-        [record, ..] => append_one(log, alloc, record),
+        [logged, ..] => append_one(log, alloc, logged),
         [] => Err(LogFault::Damaged),
     }
 }
@@ -158,15 +158,20 @@ fn change<D: Disk>(
     }
 }
 
+fn failed_at(count: usize, fault: LogFault) -> Made {
+    Made {
+        count,
+        fault: Some(fault),
+    }
+}
+
 fn change_all<D: Disk>(log: &mut Log<D>, alloc: Global, plan: &Plan) -> Made
     requires { (area : AreaState) × IsOpen D.seen D.may_leave log.old area }
 {
     for number in 0..STEPS {
-        if let Err(fault) = change(log, alloc, plan, number) {
-            return Made {
-                count: number,
-                fault: Some(fault),
-            };
+        match change(log, alloc, plan, number) {
+            Ok(()) => {}
+            Err(fault) => return failed_at(number, fault),
         }
     }
     Made {
@@ -184,13 +189,7 @@ fn log_of<D: Disk>(opened: Opened<D>) -> Log<D>
 /// Opens the log, and makes all changes.
 pub(crate) fn run<D: Disk + Drop>(disk: D, alloc: Global, plan: &Plan) -> (D, Made) {
     if disk.size() != SIZE {
-        return (
-            disk,
-            Made {
-                count: 0,
-                fault: Some(LogFault::Damaged),
-            },
-        );
+        return (disk, failed_at(0, LogFault::Damaged));
     }
     match open(disk, alloc) {
         Ok(opened) => {
@@ -198,13 +197,7 @@ pub(crate) fn run<D: Disk + Drop>(disk: D, alloc: Global, plan: &Plan) -> (D, Ma
             let made = change_all(&mut log, alloc, plan);
             (log.into_disk(), made)
         }
-        Err((disk, fault)) => (
-            disk,
-            Made {
-                count: 0,
-                fault: Some(fault),
-            },
-        ),
+        Err((disk, fault)) => (disk, failed_at(0, fault)),
     }
 }
 

@@ -1,6 +1,6 @@
 //! The master's log, where an allocation is refused.
 
-ghost use Rattle.std.specs.Prelude.{◌≡◌, [], OnOk};
+ghost use Rattle.std.specs.Prelude.{◌≡◌, [], IfSome, OnOk};
 
 use crate::calls::create;
 use crate::restarts::new_log;
@@ -10,6 +10,8 @@ use operation_log::fault::LogFault;
 use operation_log::log::OperationLog;
 use std::alloc::Global;
 use std::test::Fail;
+use stored_log::disk_log::DiskLog;
+use stored_log::node_disk::NodeDisk;
 
 // How often a record is appended.
 const APPENDS: u64 = 3;
@@ -66,7 +68,7 @@ fn shrink<L: OperationLog>(log: &mut L, item: &Record) -> Result<(), LogFault>
 fn go_on<L: OperationLog>(log: &mut L, record: &Record, item: &Record) -> Result<[u64; 3], LogFault>
     requires { L.under_way log.old ≡ [] }
 {
-    for _ in 0..APPENDS {
+    for number in 0..APPENDS {
         grow(log, record)?;
     }
     let before = log.len();
@@ -77,13 +79,24 @@ fn go_on<L: OperationLog>(log: &mut L, record: &Record, item: &Record) -> Result
     Ok([before, after, log.len()])
 }
 
-fn counts(alloc: Global, record: &Record, item: &Record) -> Option<[u64; 3]> {
-    let log = match new_log(alloc) {
+// A new log, made once more where memory was refused.
+fn new_log_again(alloc: Global) -> Option<DiskLog<NodeDisk>>
+    ensures { IfSome result (λ l. l.under_way ≡ []) }
+{
+    match new_log(alloc) {
         Some(log) => Some(log),
         None => new_log(alloc),
-    };
-    let mut log = log?;
-    go_on(&mut log, record, item).ok()
+    }
+}
+
+fn counts(alloc: Global, record: &Record, item: &Record) -> Option<[u64; 3]> {
+    match new_log_again(alloc) {
+        Some(log) => {
+            let mut log = log;
+            go_on(&mut log, record, item).ok()
+        }
+        None => None,
+    }
 }
 
 // `tools/refused` refuses each allocation in turn.

@@ -5,5 +5,5 @@ use Rattle.oplog_tests.proofs.plan.append_one.Goals as goal
 
 pub returns : goal.returns
 returns g c =
-    let after = appended c.requires.0 c.args.record.now in
+    let after = appended c.requires.0 c.args.logged.now in
     on_ok_weaker c.append.result (λ (is : IsOpen g.D.Disk.seen g.D.Disk.may_leave c.append.new.self after). (after, is)) (c.append.ensures.ok c.requires.0 c.requires.1)
