@@ -1,6 +1,6 @@
 //! Nodes that begin again.
 
-use crate::producers::{are_read_back, count_answered, make_log, new_producers, produce_all};
+use crate::producers::{are_read_back, make_log, new_producers, produce_all};
 use cell_run::cell::Cell;
 use cell_seat::journal::Journal;
 use cell_slot::gate::OpenGate;
@@ -76,65 +76,6 @@ fn each_node_begins_again(rt: HostRuntime) -> Result<(), Fail> {
     assert!(rt; is_kept);
     for node in NODES {
         assert_eq!(rt; restarts_of(&journal, node), 1);
-    }
-    Ok(())
-}
-
-// Each node is asked to begin again, in turn, so many times, a few milliseconds after the one before it.
-fn restart_in_turn<R: Wait + Clock>(rt: &R, cell: &mut Cell, times: u64) {
-    for _ in 0..times {
-        for node in NODES {
-            cell.restart(rt, node);
-            thread::sleep(rt, Duration::from_millis(7));
-        }
-    }
-}
-
-// Whether all that was answered while nodes began again is read back, and no call was refused for another reason than that nobody could
-// serve.
-fn is_kept_meanwhile<R: Threads + Wait + Clock + Sync>(
-    rt: &R,
-    alloc: Global,
-    cell: &mut Cell,
-) -> bool {
-    let Ok(mut reader) = cell.client() else {
-        return false;
-    };
-    if !make_log(rt, alloc, &mut reader) {
-        return false;
-    }
-    let Some(mut all) = new_producers(rt, alloc, cell, 2) else {
-        return false;
-    };
-    thread::join(
-        rt,
-        || produce_all(rt, alloc, all.as_mut_slice(), 50),
-        || restart_in_turn(rt, cell, 10),
-    );
-    thread::sleep(rt, Duration::from_millis(500));
-    count_answered(all.as_slice()).is_some()
-        && are_read_back(rt, alloc, &mut reader, all.as_slice())
-}
-
-#[test]
-fn nodes_begin_again_at_any_time(rt: HostRuntime) -> Result<(), Fail> {
-    let alloc = rt.alloc();
-    let config = Config {
-        chunk: 64,
-        block: 16,
-        slots: 64,
-        goal: 2,
-        attempt_ms: 300,
-        lease_ms: 300,
-        skew_ms: 0,
-        ..Config::default()
-    };
-    let mut cell = Cell::start(rt, alloc, config, 2, OpenGate)?;
-    let is_kept = is_kept_meanwhile(&rt, alloc, &mut cell);
-    let journal = cell.close(&rt);
-    assert!(rt; is_kept);
-    for node in NODES {
-        assert!(rt; restarts_of(&journal, node) > 0);
     }
     Ok(())
 }
