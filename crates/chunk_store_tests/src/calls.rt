@@ -66,10 +66,8 @@ fn look<D: Disk>(store: &mut Store<D>, alloc: Global) -> Result<(), StoreFault>
     requires { IsUsable D.seen D.may_leave store.old }
     ensures { OnOk result (IsUsable D.seen D.may_leave store.new) }
 {
-    match store.image(alloc, Handle(5), Version(4)) {
-        Ok(_) => Ok(()),
-        Err(fault) => Err(fault),
-    }
+    let _bytes = store.image(alloc, Handle(5), Version(4))?;
+    Ok(())
 }
 
 // One of the steps.
