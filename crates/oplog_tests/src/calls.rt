@@ -56,20 +56,6 @@ fn counted<D: Disk>(opened: Opened<D>) -> (Log<D>, usize)
     (opened.log, count)
 }
 
-/// Opens the log.
-pub(crate) fn find<D: Disk + Drop>(disk: D, alloc: Global) -> (D, Ran) {
-    if disk.size() != SIZE {
-        return (disk, failed(LogFault::Damaged));
-    }
-    match open(disk, alloc) {
-        Ok(opened) => {
-            let (log, found) = counted(opened);
-            (log.into_disk(), Ran { found, fault: None })
-        }
-        Err((disk, fault)) => (disk, failed(fault)),
-    }
-}
-
 /// Opens the log, and appends a record.
 pub(crate) fn append<D: Disk + Drop>(disk: D, alloc: Global, record: &Record) -> (D, Ran) {
     if disk.size() != SIZE || !is_writable(record) || is_item(record) {

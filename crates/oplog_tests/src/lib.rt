@@ -1,10 +1,16 @@
-//! Tests of the operation log on a disk: its bytes by hand, and stops at each call of the disk.
+//! Tests of the operation log on a disk: its bytes by hand, stops and failures at each call of the disk, and refused memory.
 #![tactic(auto)]
 
 #[cfg(test)]
 mod bytes;
 #[cfg(test)]
 mod calls;
+#[cfg(test)]
+mod faults;
+#[cfg(test)]
+mod plan;
+#[cfg(test)]
+mod refused;
 #[cfg(test)]
 mod restarts;
 #[cfg(test)]

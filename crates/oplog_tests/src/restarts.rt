@@ -33,7 +33,7 @@ fn is_kept<L: StoppableLog>(log: &mut L, record: &Record, calls: u64, torn: Torn
     log.reopen().is_ok() && log.len() == found.saturating_add(1)
 }
 
-fn new_log(alloc: Global) -> Option<DiskLog<NodeDisk>>
+pub(crate) fn new_log(alloc: Global) -> Option<DiskLog<NodeDisk>>
     ensures decided { IfSome result (λ l. l.under_way ≡ []) }
 {
     let Ok(disk) = NodeDisk::new(alloc, SIZE) else {

@@ -1,95 +1,71 @@
 //! A log whose disk stops at each of its calls.
 
-use crate::calls::{SIZE, WAYS, append, create, find};
+use crate::calls::{SIZE, WAYS};
+use crate::plan::{Made, Plan, STEPS, find, run};
 use disk::{Disk, FuseDisk, MemDisk};
 use gfs_types::torn::Torn;
-use log_records::record::Record;
-use std::alloc::Global;
+use std::alloc::{AllocError, Global};
 use std::test::Fail;
 
-// Opening a new disk and appending takes 18 calls of the disk at most, opening again and appending 9.
-const CALLS: u64 = 28;
+/// Opening a new disk and all changes take fewer calls of the disk.
+pub(crate) const CALLS: u64 = 40;
 
-// An opening takes 5 calls of the disk, and one that formats 14 at most.
-const OPENING_CALLS: u64 = 15;
+/// An opening takes 5 calls of the disk, and one that formats 14 at most.
+pub(crate) const OPENING_CALLS: u64 = 15;
 
-// A disk that stops after so many calls.
-fn fused(disk: MemDisk, calls: u64) -> FuseDisk {
-    let mut fused = FuseDisk::new(disk);
-    fused.arm(calls);
-    fused
-}
-
-// Two appends, each of which opens the log, and how many succeeded.
-fn append_twice(disk: FuseDisk, alloc: Global, record: &Record) -> (FuseDisk, usize) {
-    let (disk, first) = append(disk, alloc, record);
-    let (disk, second) = append(disk, alloc, record);
-    let one = usize::from(first.fault.is_none());
-    (
-        disk,
-        one.saturating_add(usize::from(second.fault.is_none())),
-    )
-}
-
-// How many records there are, once an opening stopped after so many calls; None where the log doesn't open.
-fn found_after(disk: MemDisk, alloc: Global, calls: u64, torn: Torn) -> Option<usize> {
-    let (disk, _stopped) = find(fused(disk, calls), alloc);
-    let (_disk, last) = find(disk.stop(torn), alloc);
-    match last.fault {
-        None => Some(last.found),
-        Some(_) => None,
-    }
-}
-
-// How many of two appends succeeded before a stop; None where other records are there after it and a stop within the next opening.
-fn stopped_twice(
+/// All changes on a new disk that stops after so many calls.
+pub(crate) fn stopped(
     alloc: Global,
-    record: &Record,
+    plan: &Plan,
     calls: u64,
-    more: u64,
-    torn: Torn,
-) -> Option<usize> {
-    let Ok(new) = MemDisk::new(alloc, SIZE) else {
-        return None;
-    };
-    let (disk, done) = append_twice(fused(new, calls), alloc, record);
-    let found = found_after(disk.stop(torn), alloc, more, torn)?;
-    if found == done || (done < 2 && found == done + 1) {
-        Some(done)
-    } else {
-        None
+) -> Result<(FuseDisk, Made), AllocError> {
+    let mut disk = FuseDisk::new(MemDisk::new(alloc, SIZE)?);
+    disk.arm(calls);
+    Ok(run(disk, alloc, plan))
+}
+
+/// Whether a log has what it had after these changes; or, where one failed, with that one.
+pub(crate) fn is_after(made: Made, found: Option<usize>) -> bool {
+    match found {
+        Some(count) => count == made.count
+            || (made.fault.is_some() && count == made.count.saturating_add(1)),
+        None => false,
     }
 }
 
-// The same for each opening and each tear; how many appends succeeded in the last of them.
-fn stopped_at(alloc: Global, record: &Record, calls: u64) -> Option<usize> {
-    let mut last = Some(0);
+// What is found once the changes and then an opening stopped.
+fn found_after(disk: MemDisk, alloc: Global, plan: &Plan, more: u64, torn: Torn) -> Option<usize> {
+    let mut second = FuseDisk::new(disk);
+    second.arm(more);
+    let (second, _stopped) = find(second, alloc, plan);
+    let (_disk, found) = find(second.stop(torn), alloc, plan);
+    found.ok()
+}
+
+// The same for each opening and each tear; how many changes were made.
+fn stopped_at(alloc: Global, plan: &Plan, calls: u64) -> Result<Option<usize>, AllocError> {
+    let mut last = None;
     for more in 0..OPENING_CALLS {
         for torn in WAYS {
-            last = stopped_twice(alloc, record, calls, more, torn);
-            if last.is_none() {
-                return None;
+            let (disk, made) = stopped(alloc, plan, calls)?;
+            if !is_after(made, found_after(disk.stop(torn), alloc, plan, more, torn)) {
+                return Ok(None);
             }
+            last = Some(made.count);
         }
     }
-    last
-}
-
-fn stopped_everywhere(alloc: Global, record: &Record) -> Option<usize> {
-    let mut last = Some(0);
-    for calls in 0..CALLS {
-        last = stopped_at(alloc, record, calls);
-        if last.is_none() {
-            return None;
-        }
-    }
-    last
+    Ok(last)
 }
 
 #[test]
-fn a_record_is_there_or_it_is_not(rt: HostRuntime) -> Result<(), Fail> {
+fn each_change_is_made_or_not(rt: HostRuntime) -> Result<(), Fail> {
     let alloc = rt.alloc();
-    let record = create(alloc)?;
-    assert!(rt; stopped_everywhere(alloc, &record) == Some(2));
+    let plan = Plan::new(alloc)?;
+    let mut last = None;
+    for calls in 0..CALLS {
+        last = stopped_at(alloc, &plan, calls)?;
+        assert!(rt; last.is_some(), "call {calls}");
+    }
+    assert!(rt; last == Some(STEPS));
     Ok(())
 }
