@@ -3,6 +3,7 @@
 ghost use Rattle.std.specs.Prelude.{◌≡◌, ◌++◌, ◌∷◌, [], IfOk};
 ghost use Rattle.cell_asking.specs.Seen.{visible_of, IsFurther, HasSeen, Hears, IsHeard, Asked as CallAsked, Answered as CallAnswered};
 
+use crate::waiting::{FIRST_WAIT, input_within};
 use cell_desk::post::Letter;
 use cell_slot::gate::OpenGate;
 use cell_slot::slot::{Slot, Taken};
@@ -40,8 +41,9 @@ pub fn ask<R: Wait + Clock, N: Stepper + Drop>(
     if let Some(heard) = begin(rt, slot, call)? {
         return Ok(heard);
     }
+    let mut wait = FIRST_WAIT;
     for _ in rt.forever() {
-        if let Some(heard) = hear(rt, slot, inbox)? {
+        if let Some(heard) = hear(rt, slot, inbox, &mut wait)? {
             return Ok(heard);
         }
     }
@@ -66,15 +68,13 @@ fn hear<R: Wait + Clock, N: Stepper + Drop>(
     rt: &R,
     slot: &mut Slot<N>,
     inbox: &Receiver<Letter>,
+    wait: &mut u64,
 ) -> Result<Option<Heard>, Refusal>
     ensures node { slot.new.node ≡ slot.old.node }
     ensures further { IsFurther slot.old.place slot.new.place }
     ensures ok { IfOk result (λ h. Hears slot.new.node (visible_of slot.old.place.mine) slot.new.place h) }
 {
-    let Ok(letter) = inbox.recv(rt) else {
-        return Err(Refusal::Closed);
-    };
-    let Letter::Take(input) = letter else {
+    let Some(input) = input_within(rt, inbox, wait) else {
         return Err(Refusal::Closed);
     };
     match slot.take(rt, input, &OpenGate) {

@@ -2,3 +2,4 @@
 #![tactic(auto)]
 
 pub mod asking;
+pub mod waiting;

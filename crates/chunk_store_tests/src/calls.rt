@@ -12,11 +12,19 @@ use gfs_types::mutation::Mutation;
 use replica_store::row::Row;
 use std::alloc::{AllocError, Global};
 use store_layout::Layout;
+use store_opening::OpenFault;
 
 pub(crate) const SIZE: usize = 960;
 
 /// How many steps there are before the mutation.
-pub(crate) const STEPS: usize = 7;
+pub(crate) const STEPS: usize = 8;
+
+/// How many steps were done, and whether the one after them, or the opening before all, answered Device.
+#[derive(Clone, Copy, PartialEq, Eq)]
+pub(crate) struct Ran {
+    pub(crate) done: usize,
+    pub(crate) is_device: bool,
+}
 
 /// How many replicas are listed, and the first two of them.
 #[derive(Clone, Copy, PartialEq, Eq)]
@@ -43,14 +51,23 @@ pub(crate) fn fused(alloc: Global, calls: u64) -> Result<FuseDisk, AllocError>
 }
 
 /// Opens a store on a new disk.
-pub(crate) fn open_new<D: Disk>(disk: D, alloc: Global) -> Result<Store<D>, D>
+pub(crate) fn open_new<D: Disk>(disk: D, alloc: Global) -> Result<Store<D>, (D, OpenFault)>
     requires { is_head_open (D.seen disk) ≡ false }
     ensures { IfOk result (λ store. IsUsable D.seen D.may_leave store) }
 {
     match open(disk, alloc, layout()) {
         Ok(store) => Ok(store),
-        Err((disk, _fault)) => Err(disk),
+        Err(error) => Err(error),
     }
+}
+
+// A replica is read whole.
+fn look<D: Disk>(store: &mut Store<D>, alloc: Global) -> Result<(), StoreFault>
+    requires { IsUsable D.seen D.may_leave store.old }
+    ensures { OnOk result (IsUsable D.seen D.may_leave store.new) }
+{
+    let _bytes = store.image(alloc, Handle(5), Version(4))?;
+    Ok(())
 }
 
 // One of the steps.
@@ -65,6 +82,7 @@ fn step<D: Disk>(store: &mut Store<D>, alloc: Global, number: usize) -> Result<(
         3 => store.drop_replica(alloc, Handle(6)),
         4 => store.copy_local(alloc, Handle(5), Version(4), Handle(7), Version(8)),
         5 => store.rot(alloc, Handle(7), 1, 120),
+        6 => look(store, alloc),
         _ => store.set_order(alloc, OrderNo { epoch: 2, count: 3 }),
     }
 }
@@ -78,58 +96,80 @@ fn mutate<D: Disk>(store: &mut Store<D>, alloc: Global) -> Result<(), StoreFault
     store.apply(alloc, Handle(5), Version(4), Serial(1), &mutation)
 }
 
-// Does so many steps, and tells how many were done.
-fn go<D: Disk>(store: &mut Store<D>, alloc: Global, steps: usize) -> usize
+fn failed_at(done: usize, fault: StoreFault) -> Ran {
+    Ran {
+        done,
+        is_device: fault == StoreFault::Device,
+    }
+}
+
+// Does so many steps.
+fn go<D: Disk>(store: &mut Store<D>, alloc: Global, steps: usize) -> Ran
     requires { IsUsable D.seen D.may_leave store.old }
 {
     for number in 0..STEPS {
         if number >= steps {
-            return number;
+            return Ran {
+                done: number,
+                is_device: false,
+            };
         }
         match step(store, alloc, number) {
             Ok(()) => {}
-            Err(_) => return number,
+            Err(fault) => return failed_at(number, fault),
         }
     }
-    if steps > STEPS && mutate(store, alloc).is_ok() {
-        STEPS + 1
+    if steps > STEPS {
+        match mutate(store, alloc) {
+            Ok(()) => Ran {
+                done: STEPS + 1,
+                is_device: false,
+            },
+            Err(fault) => failed_at(STEPS, fault),
+        }
     } else {
-        STEPS
+        Ran {
+            done: STEPS,
+            is_device: false,
+        }
     }
 }
 
-/// Opens a store on a new disk, does so many steps, and tells how many were done.
-pub(crate) fn run<D: Disk + Drop>(disk: D, alloc: Global, steps: usize) -> (D, usize)
+/// Opens a store on a new disk, and does so many steps.
+pub(crate) fn run<D: Disk + Drop>(disk: D, alloc: Global, steps: usize) -> (D, Ran)
     requires { is_head_open (D.seen disk) ≡ false }
 {
     match open_new(disk, alloc) {
         Ok(store) => {
             let mut store = store;
-            let done = go(&mut store, alloc, steps);
-            (store.into_disk(), done)
+            let ran = go(&mut store, alloc, steps);
+            (store.into_disk(), ran)
         }
-        Err(disk) => (disk, 0),
+        Err((disk, fault)) => {
+            let is_device = fault == OpenFault::Device;
+            (disk, Ran { done: 0, is_device })
+        }
     }
 }
 
-fn list_replicas<D: Disk>(store: &Store<D>, alloc: Global) -> Option<Listing> {
+fn list_replicas<D: Disk>(store: &Store<D>, alloc: Global) -> Result<Listing, OpenFault> {
     match store.list(alloc) {
-        Ok(rows) => Some(Listing {
+        Ok(rows) => Ok(Listing {
             count: rows.len(),
             first: rows.first().copied(),
             second: rows.get(1).copied(),
         }),
-        Err(_) => None,
+        Err(_) => Err(OpenFault::NoMemory),
     }
 }
 
 /// Opens a store, and lists its replicas.
-pub(crate) fn listed<D: Disk + Drop>(disk: D, alloc: Global) -> (D, Option<Listing>) {
+pub(crate) fn listed<D: Disk + Drop>(disk: D, alloc: Global) -> (D, Result<Listing, OpenFault>) {
     match open(disk, alloc, layout()) {
         Ok(store) => {
             let found = list_replicas(&store, alloc);
             (store.into_disk(), found)
         }
-        Err((disk, _fault)) => (disk, None),
+        Err((disk, fault)) => (disk, Err(fault)),
     }
 }

@@ -44,8 +44,8 @@ fn are_in_place<D: Disk>(disk: &mut D, alloc: Global) -> bool {
 #[test]
 fn each_part_has_its_place(rt: HostRuntime) -> Result<(), Fail> {
     let alloc = rt.alloc();
-    let (disk, done) = run(fused(alloc, 1_000)?, alloc, STEPS);
-    assert_eq!(rt; done, STEPS);
+    let (disk, ran) = run(fused(alloc, 1_000)?, alloc, STEPS);
+    assert_eq!(rt; ran.done, STEPS);
     let mut disk = disk.stop(Torn::Old);
     assert!(rt; are_in_place(&mut disk, alloc));
     Ok(())

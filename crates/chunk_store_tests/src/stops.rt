@@ -17,28 +17,29 @@ const WAYS: [Torn; 5] = [
     Torn::Byte(7),
 ];
 
-// All steps take fewer calls of the disk, and an opening fewer than that.
-const CALLS: u64 = 160;
+/// All steps take fewer calls of the disk.
+pub(crate) const CALLS: u64 = 160;
 
-const OPENING_CALLS: u64 = 24;
+/// And so does an opening.
+pub(crate) const OPENING_CALLS: u64 = 24;
 
-// One for each number of steps, with the mutation and without.
-const STATES: usize = 9;
+/// One for each number of steps, with the mutation and without.
+pub(crate) const STATES: usize = 10;
 
-type States = [Option<Listing>; STATES];
+pub(crate) type States = [Option<Listing>; STATES];
 
 // What is listed after so many steps; none where memory was refused.
 fn state_after(alloc: Global, steps: usize) -> Option<Listing> {
     let Ok(disk) = fused(alloc, 1_000) else {
         return None;
     };
-    let (disk, done) = run(disk, alloc, steps);
+    let (disk, ran) = run(disk, alloc, steps);
     let (_disk, found) = listed(disk, alloc);
-    if done == steps { found } else { None }
+    if ran.done == steps { found.ok() } else { None }
 }
 
-// What is listed after each number of steps. Where memory is refused it is tried once more.
-fn all_states(alloc: Global) -> States {
+/// What is listed after each number of steps. Where memory is refused it is tried once more.
+pub(crate) fn all_states(alloc: Global) -> States {
     let mut states = [None; STATES];
     for (steps, state) in states.iter_mut().enumerate() {
         *state = state_after(alloc, steps);
@@ -49,8 +50,8 @@ fn all_states(alloc: Global) -> States {
     states
 }
 
-// Whether the disk says what it said after so many steps, or one more.
-fn are_after(states: &States, done: usize, found: Option<Listing>) -> bool {
+/// Whether the disk says what it said after so many steps, or one more.
+pub(crate) fn are_after(states: &States, done: usize, found: Option<Listing>) -> bool {
     if found.is_none() || done >= STATES - 1 {
         return found.is_some() && found == states[STATES - 1];
     }
@@ -61,12 +62,12 @@ fn are_after(states: &States, done: usize, found: Option<Listing>) -> bool {
 fn stopped_twice(disk: FuseDisk, alloc: Global, more: u64, torn: Torn) -> (usize, Option<Listing>)
     requires { is_head_open disk.disk.bytes ≡ false }
 {
-    let (disk, done) = run(disk, alloc, STEPS + 1);
+    let (disk, ran) = run(disk, alloc, STEPS + 1);
     let mut second = FuseDisk::new(disk.stop(torn));
     second.arm(more);
     let (stopped, _found) = listed(second, alloc);
     let (_disk, found) = listed(stopped.stop(torn), alloc);
-    (done, found)
+    (ran.done, found.ok())
 }
 
 #[test]
@@ -111,11 +112,11 @@ fn fused_again(alloc: Global) -> Result<FuseDisk, AllocError>
 // What is listed. Where memory is refused it is asked for once more.
 fn listed_again(disk: FuseDisk, alloc: Global) -> Option<Listing> {
     let (disk, first) = listed(disk, alloc);
-    if first.is_some() {
-        return first;
+    if first.is_ok() {
+        return first.ok();
     }
     let (_disk, second) = listed(disk, alloc);
-    second
+    second.ok()
 }
 
 // `tools/refused` refuses each allocation in turn.
@@ -123,8 +124,8 @@ fn listed_again(disk: FuseDisk, alloc: Global) -> Option<Listing> {
 fn a_refused_allocation_leaves_a_state(rt: HostRuntime) -> Result<(), Fail> {
     let alloc = rt.alloc();
     let states = all_states(alloc);
-    let (disk, done) = run(fused_again(alloc)?, alloc, STEPS + 1);
+    let (disk, ran) = run(fused_again(alloc)?, alloc, STEPS + 1);
     let found = listed_again(disk, alloc);
-    assert!(rt; are_after(&states, done, found));
+    assert!(rt; are_after(&states, ran.done, found));
     Ok(())
 }
