@@ -9,7 +9,6 @@ use crate::copying::begins_copy;
 use gfs_types::ids::Handle;
 use master_plan::fault::PlanFault;
 use master_plan::plan::Plan;
-use master_snapshots::concerned::waits_for;
 use master_versions::asker::Asker;
 use master_versions::held::{HeldAt, VersionTest, holders_where};
 use master_versions::issuing::{is_attempted, issues_own, issues_to};
@@ -143,7 +142,7 @@ pub fn wants_primary<L: OperationLog, A: Allocator + Clone>(
 ) -> Result<(), PlanFault>
     ensures { OnOk result (wants_primary (doing (L.disk log.now) plan.old) (asker_of asker) handle.0 row.now ≡ doing (L.disk log.now) plan.new) }
 {
-    if waits_for(plan, handle)? {
+    if plan.waits_for(handle)? {
         return tells_to_wait(plan, asker);
     }
     let copy = plan.state().copy_for(asker.file, asker.index);

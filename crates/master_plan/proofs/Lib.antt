@@ -4,3 +4,5 @@ pub mod Empty
 pub mod Reported
 pub mod FirstReports
 pub mod StillWhole
+pub mod Concerning
+pub mod Followed

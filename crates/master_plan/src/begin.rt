@@ -49,6 +49,9 @@ impl<A: Allocator + Clone> Plan<A> {
             holders: NumberMap::new(alloc),
             reported: first_reports(alloc, server_count, now)?,
             whole_until: None,
+            knows_concerned: false,
+            concerned_files: OrderedMap::new(alloc),
+            concerned_chunks: OrderedMap::new(alloc),
             sent: Sequence::empty(alloc),
             changes: Sequence::empty(alloc),
             seen: Sequence::empty(alloc),
@@ -61,10 +64,20 @@ impl<A: Allocator + Clone> Plan<A> {
         ensures { self.new ≡ begun self.old now.0 }
     {
         self.clock = self.clock.max(now.0);
-        keep_live(&mut self.snapshots, self.clock);
+        self.keep_live_snapshots();
         self.sent = Sequence::empty(self.alloc);
         self.changes = Sequence::empty(self.alloc);
         self.seen = Sequence::empty(self.alloc);
+    }
+
+    // Snapshots whose deadline has come are given up.
+    fn keep_live_snapshots(&mut self)
+        ensures { self.new ≡ record self.old { snapshots = live_snapshots self.old.now self.old.snapshots } }
+    {
+        let count = self.snapshots.len();
+        keep_live(&mut self.snapshots, self.clock);
+        let left = self.snapshots.len();
+        self.knows_concerned = self.knows_concerned && left == count;
     }
 
     /// Takes out the messages of the step.

@@ -20,7 +20,10 @@ impl<A: Allocator + Clone> Plan<A> {
         ensures { OnOk result (self.new ≡ without_copies self.old handles.now) }
     {
         self.whole_until = None;
+        let known = self.knows_concerned;
+        self.knows_concerned = false;
         self.state.give_up_copies(handles)?;
+        self.knows_concerned = known;
         self.remove_attempts(handles);
         Ok(())
     }

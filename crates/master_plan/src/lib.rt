@@ -3,6 +3,7 @@
 
 pub mod begin;
 pub mod change;
+pub mod concerned;
 pub mod copies;
 pub mod fault;
 pub mod holders;

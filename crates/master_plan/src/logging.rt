@@ -8,6 +8,7 @@ ghost use Rattle.master_plan.specs.Plans.{doing, appended, with_checkpoint};
 ghost use Rattle.master_plan.specs.Logging.{was_logged, tried};
 
 use crate::change::{Change, RecordList};
+use crate::concerned::{follow, touches};
 use crate::fault::PlanFault;
 use crate::plan::Plan;
 use crate::sizes::{bytes_used, checkpoint_bytes};
@@ -70,8 +71,23 @@ impl<A: Allocator + Clone> Plan<A> {
         ensures { OnOk result (self.new ≡ appended self.old entry) }
     {
         self.whole_until = None;
+        let touched = touches(
+            &self.state,
+            self.snapshots.as_slice(),
+            &self.concerned_files,
+            &entry,
+        );
+        let stays = self.knows_concerned && !touched;
+        self.knows_concerned = false;
         replay(&mut self.state, &entry)?;
+        let known = follow(
+            &mut self.concerned_chunks,
+            &self.concerned_files,
+            &entry,
+            stays,
+        );
         self.changes.push(Change::Append(entry))?;
+        self.knows_concerned = known;
         Ok(())
     }
 

@@ -37,6 +37,10 @@ pub struct Plan<A: Allocator> {
     pub(crate) reported: NumberMap<u64>,
     // a moment up to which no chunk lacks replicas, as far as is known
     pub(crate) whole_until: Option<u64>,
+    // where they are known, the files and chunks that the snapshots are about
+    pub(crate) knows_concerned: bool,
+    pub(crate) concerned_files: OrderedMap<()>,
+    pub(crate) concerned_chunks: OrderedMap<()>,
     pub(crate) sent: MessageList,
     pub(crate) changes: ChangeList,
     pub(crate) seen: SeenList,
@@ -57,6 +61,9 @@ impl<A: Allocator> Drop for Plan<A> {
             holders: _holders,
             reported: _reported,
             whole_until: _,
+            knows_concerned: _,
+            concerned_files: _files,
+            concerned_chunks: _chunks,
             sent: _sent,
             changes: _changes,
             seen: _seen,
@@ -72,6 +79,7 @@ impl<A: Allocator> Model for Plan<A> {
     ghost use Rattle.master_plan.specs.Changes.{changes_of};
     ghost use Rattle.master_plan.specs.Plans.{PlanState};
     ghost use Rattle.master_plan.specs.Watched.{IsWholeAt};
+    ghost use Rattle.master_plan.specs.Concerned.{AreConcerned, IfKnown};
 
     ghost Value = { PlanState };
 
@@ -92,7 +100,8 @@ impl<A: Allocator> Model for Plan<A> {
       seen = p.seen;
     } };
 
-    ghost invariant = { λ p. ((p.clock ≤ moment_limit) × (p.config.lease_ms ≤ 3600000))
+    ghost invariant = { λ p. (((p.clock ≤ moment_limit) × (p.config.lease_ms ≤ 3600000))
+        × IfKnown p.knows_concerned (AreConcerned p.state p.snapshots.items p.concerned_files p.concerned_chunks))
         × IfSome p.whole_until (IsWholeAt p.config p.server_count p.state p.holders p.reported) };
 }
 
@@ -136,6 +145,7 @@ impl<A: Allocator + Clone> Plan<A> {
         ensures { record self.new { logged = record self.new.logged { names = map.empty } } ≡ record self.old { logged = record self.old.logged { names = map.empty } } }
     {
         self.whole_until = None;
+        self.knows_concerned = false;
         self.state.forget_names(alloc);
     }
 

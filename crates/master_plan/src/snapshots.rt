@@ -6,6 +6,7 @@ use crate::plan::Plan;
 use crate::waiting::{Awaited, Pending};
 use gfs_types::ids::ClientId;
 use gfs_types::no_memory::NoMemory;
+use ordered_map::OrderedMap;
 use std::alloc::{Allocator, Global};
 
 impl<A: Allocator + Clone> Plan<A> {
@@ -13,6 +14,7 @@ impl<A: Allocator + Clone> Plan<A> {
     pub fn put_snapshot(&mut self, snapshot: Pending) -> Result<(), NoMemory>
         ensures { OnOk result (self.new ≡ record self.old { snapshots = self.old.snapshots ++ snapshot ∷ [] }) }
     {
+        self.knows_concerned = false;
         self.snapshots.push(snapshot)?;
         Ok(())
     }
@@ -21,6 +23,9 @@ impl<A: Allocator + Clone> Plan<A> {
     pub fn remove_snapshot(&mut self, client: ClientId, number: u64)
         ensures { self.new ≡ record self.old { snapshots = filter (λ other. not ((client.0 == other.client) && (number == other.number))) self.old.snapshots } }
     {
+        self.knows_concerned = false;
+        self.concerned_files = OrderedMap::new(self.alloc);
+        self.concerned_chunks = OrderedMap::new(self.alloc);
         remove_call(&mut self.snapshots, client, number);
     }
 

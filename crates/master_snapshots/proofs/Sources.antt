@@ -15,34 +15,10 @@ use Rattle.std.proofs.lemmas.Bool.Decides.{nat_tests}
 use Rattle.gfs_types.specs.Paths.{Path, is_below, is_at_or_below}
 use Rattle.relaxed_file.specs.Names.{Node, File, Names, copied_entries}
 use Rattle.chunk_table.specs.ChunkTable.{ChunkTable, handles_of}
-use Rattle.protocol.specs.Tables.{with_number, rising}
+use Rattle.protocol.specs.Tables.{rising}
 use Rattle.protocol.specs.Master.{MasterState, PendingSnapshot}
 use Rattle.protocol.specs.MasterSnapshots.{node_handles, snapshot_handles}
-
--- a test of some number, and one number more
-either_swapped : (a b c : Bool) → b || (a || c) ≡ a || (b || c)
-either_swapped true true c = refl
-either_swapped true false c = refl
-either_swapped false b c = refl
-
-twice : (a c : Bool) → a || c ≡ a || (a || c)
-twice true c = refl
-twice false c = refl
-
-any_with : (p : ℕ → Bool) (ys : List ℕ) (n : ℕ) → list_any p (with_number ys n) ≡ p n || list_any p ys
-any_with p [] n = refl
-any_with p (y ∷ ys) n =
-    elim (eqb y n) as (λ b. eqb y n ≡ b → list_any p (cond b (y ∷ ys) (cond (ltb n y) (n ∷ y ∷ ys) (y ∷ with_number ys n))) ≡ p n || (p y || list_any p ys)) [
-      | true ↦ λ e. let same : y ≡ n = grind (arith, nat_tests) in twice (p y) (list_any p ys) ∙ ap (λ x. p x || (p y || list_any p ys)) same
-      | false ↦ λ e. elim (ltb n y) as (λ b. list_any p (cond b (n ∷ y ∷ ys) (y ∷ with_number ys n)) ≡ p n || (p y || list_any p ys)) [
-        | true ↦ refl
-        | false ↦ ap (λ b. p y || b) (any_with p ys n) ∙ either_swapped (p n) (p y) (list_any p ys)
-      ]
-    ] refl
-
-pub any_rising : (p : ℕ → Bool) (xs : List ℕ) → list_any p (rising xs) ≡ list_any p xs
-any_rising p [] = refl
-any_rising p (x ∷ xs) = any_with p (rising xs) x ∙ ap (λ b. p x || b) (any_rising p xs)
+use Rattle.master_plan.proofs.Concerning.{any_rising}
 
 all_none : (p : ℕ → Bool) (xs : List ℕ) → list_all p xs ≡ not (list_any (λ x. not (p x)) xs)
 all_none p [] = refl

@@ -4,6 +4,7 @@ use Rattle.protocol.specs.Tables.{moment_limit}
 use Rattle.master_plan.specs.declared.plan.Plan.TheInside.{Inside}
 use Rattle.master_plan.specs.Plans.{PlanState}
 use Rattle.master_plan.specs.Watched.{IsWholeAt}
+use Rattle.master_plan.specs.Concerned.{AreConcerned, IfKnown}
 use Rattle.master_plan.proofs.StillWhole.{whole_reported_if}
 use Rattle.master_plan.proofs.plan.Plan.note_report.Goals.{then-reported_after, else-reported_after}
 use Rattle.master_plan.proofs.plan.Plan.note_report.Goals as goal
@@ -14,9 +15,9 @@ invariant_of-self-2 g c =
     let x = c.if-reported_after.self-inside in
     let i = c.self.inside in
     let told : Inside g.row.A.Denot → Type 0 = λ y. (
-    ((y.clock ≤ moment_limit) × (y.config.lease_ms ≤ 3600000))
+    (((y.clock ≤ moment_limit) × (y.config.lease_ms ≤ 3600000)) × IfKnown y.knows_concerned (AreConcerned y.state y.snapshots.items y.concerned_files y.concerned_chunks))
     × IfSome y.whole_until (IsWholeAt y.config y.server_count y.state y.holders (insert y.reported s y.clock))) in
-    subst (λ r. ((x.clock ≤ moment_limit) × (x.config.lease_ms ≤ 3600000)) × IfSome x.whole_until (IsWholeAt x.config x.server_count x.state x.holders r))
+    subst (λ r. (((x.clock ≤ moment_limit) × (x.config.lease_ms ≤ 3600000)) × IfKnown x.knows_concerned (AreConcerned x.state x.snapshots.items x.concerned_files x.concerned_chunks)) × IfSome x.whole_until (IsWholeAt x.config x.server_count x.state x.holders r))
     (sym c.in_ok-insert.ensures.ok)
     (elim c.if-reported_after.branch [
       | then-reported_after w ↦ subst told (sym w.self-inside-is) (c.self.invariant.0, tt)
