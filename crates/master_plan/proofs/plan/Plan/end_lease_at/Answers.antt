@@ -1,0 +1,15 @@
+use Rattle.std.proofs.Common.{ap}
+use Rattle.protocol.specs.Logged.{Logged}
+use Rattle.master_plan.proofs.Concerning.{same_files}
+use Rattle.master_plan.proofs.plan.Plan.end_lease_at.Goals as goal
+
+pub invariant_of-self : goal.invariant_of-self
+invariant_of-self g c =
+    let i = c.self.inside in
+    let is = c.set_lease_end.ensures in (
+      (
+        c.self.invariant.0.0,
+        same_files i.state c.set_lease_end.new.self i.snapshots.items i.concerned_files i.concerned_chunks i.knows_concerned (ap (λ (l : Logged). l.names) is) (ap (λ (l : Logged). l.table.files) is) c.self.invariant.0.1,
+      ),
+      tt,
+    )
