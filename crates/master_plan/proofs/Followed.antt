@@ -58,6 +58,12 @@ none_hides (s ∷ ss) moment id e =
     let parts = or_parts (is_by_trash s.from) (list_any (λ t. is_by_trash t.from) ss) e in
     neither (is_at_or_below s.from (hidden_name moment id)) (is_source ss (hidden_name moment id)) (hidden_elsewhere s.from moment id parts.0) (none_hides ss moment id parts.1)
 
+-- where no name and no file's list changes
+left_alone : (ss : List PendingSnapshot) (files chunks : NumberSet) (l after : Logged) → after.names ≡ l.names → after.table.files ≡ l.table.files
+    → AreConcerned l ss files chunks → AreConcerned after ss files chunks
+left_alone ss files chunks l after names table h =
+    all_stay l after ss files chunks (λ x c. ap (λ (m : Names). node_at m x) names) (λ id c. ap (λ (m : NumberTable (List ℕ)). unwrap_or (get m id) []) table) h
+
 module _ (ss : List PendingSnapshot) (files chunks : NumberSet) where
   -- what is a source, or below one, is no path that isn't
   apart : (p x : Path) → is_source ss p ≡ false → is_source ss x ≡ true → x ≡ p → ⊥
@@ -176,8 +182,7 @@ module _ (ss : List PendingSnapshot) (files chunks : NumberSet) where
       (λ id at. ap (λ (o : Option (List ℕ)). unwrap_or o []) (other_key l.table.files c.file (slice_set (handles_of l.table c.file) c.index handle) id (file_apart c.file id e at))) h
 
   nothing : (l after : Logged) → after.names ≡ l.names → after.table.files ≡ l.table.files → AreConcerned l ss files chunks → AreConcerned after ss files chunks
-  nothing l after names table h =
-      all_stay l after ss files chunks (λ x c. ap (λ (m : Names). node_at m x) names) (λ id c. ap (λ (m : NumberTable (List ℕ)). unwrap_or (get m id) []) table) h
+  nothing l after names table h = left_alone ss files chunks l after names table h
 
   pub kept : (l : Logged) (r : Record) → touches l ss files r ≡ false → AreConcerned l ss files chunks → AreConcerned (after_record l r) ss files (followed files chunks r)
   kept l (log.Epoch epoch) e h = nothing l (after_record l (log.Epoch epoch)) refl refl h
@@ -199,7 +204,8 @@ module _ (ss : List PendingSnapshot) (files chunks : NumberSet) where
   kept l (log.Refused client n refusal) e h = nothing l (after_record l (log.Refused client n refusal)) refl refl h
   kept l (log.Expired file) e h = absurd (true≢false e)
   kept l (log.AddChunk file handle) e h =
-      nothing (record l { table = add_chunk l.table file.0 handle.0 }) (after_record l (log.AddChunk file handle)) refl refl (added_chunk l file.0 handle.0 h (is_in files file.0) refl)
+      left_alone ss files (followed files chunks (log.AddChunk file handle)) (record l { table = add_chunk l.table file.0 handle.0 }) (after_record l (log.AddChunk file handle)) refl refl
+      (added_chunk l file.0 handle.0 h (is_in files file.0) refl)
   kept l (log.Issue handle version) e h = nothing l (after_record l (log.Issue handle version)) refl refl h
   kept l (log.Grant handle version primary members) e h =
       let granted : Logged = record l { table = grant l.table handle.0 version.0 primary.0 members } in
