@@ -4,3 +4,6 @@ pub mod Empty
 pub mod Reported
 pub mod FirstReports
 pub mod StillWhole
+pub mod Granted
+pub mod Doubting
+pub mod Watching

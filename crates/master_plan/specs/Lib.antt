@@ -3,6 +3,7 @@ pub mod Coding
 pub mod Changes
 pub mod Plans
 pub mod Watched
+pub mod Doubts
 pub mod Sizes
 pub mod Logging
 pub mod Reports

@@ -49,6 +49,7 @@ impl<A: Allocator + Clone> Plan<A> {
             holders: NumberMap::new(alloc),
             reported: first_reports(alloc, server_count, now)?,
             whole_until: None,
+            doubted: OrderedMap::new(alloc),
             sent: Sequence::empty(alloc),
             changes: Sequence::empty(alloc),
             seen: Sequence::empty(alloc),

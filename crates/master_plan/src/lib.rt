@@ -4,6 +4,7 @@
 pub mod begin;
 pub mod change;
 pub mod copies;
+mod doubts;
 pub mod fault;
 pub mod holders;
 pub mod logging;

@@ -8,6 +8,7 @@ ghost use Rattle.master_plan.specs.Plans.{doing, appended, with_checkpoint};
 ghost use Rattle.master_plan.specs.Logging.{was_logged, tried};
 
 use crate::change::{Change, RecordList};
+use crate::doubts::doubt_granted;
 use crate::fault::PlanFault;
 use crate::plan::Plan;
 use crate::sizes::{bytes_used, checkpoint_bytes};
@@ -69,9 +70,11 @@ impl<A: Allocator + Clone> Plan<A> {
     fn append(&mut self, entry: Record) -> Result<(), PlanFault>
         ensures { OnOk result (self.new ≡ appended self.old entry) }
     {
+        let until = doubt_granted(self.whole_until, &mut self.doubted, &entry);
         self.whole_until = None;
         replay(&mut self.state, &entry)?;
         self.changes.push(Change::Append(entry))?;
+        self.whole_until = until;
         Ok(())
     }
 

@@ -20,6 +20,7 @@ use messages::message_lists::MessageList;
 use number_map::NumberMap;
 use ordered_map::OrderedMap;
 use protocol::seen::{Seen, SeenList};
+use rereplicate::whole::Doubted;
 use std::alloc::{Allocator, Global};
 use std::marker::Model;
 
@@ -35,8 +36,9 @@ pub struct Plan<A: Allocator> {
     pub(crate) snapshots: Vec<Pending>,
     pub(crate) holders: NumberMap<OrderedMap<u64>>,
     pub(crate) reported: NumberMap<u64>,
-    // a moment up to which no chunk lacks replicas, as far as is known
+    // a moment up to which no chunk lacks replicas but some of the doubted ones, as far as is known
     pub(crate) whole_until: Option<u64>,
+    pub(crate) doubted: Doubted,
     pub(crate) sent: MessageList,
     pub(crate) changes: ChangeList,
     pub(crate) seen: SeenList,
@@ -57,6 +59,7 @@ impl<A: Allocator> Drop for Plan<A> {
             holders: _holders,
             reported: _reported,
             whole_until: _,
+            doubted: _doubted,
             sent: _sent,
             changes: _changes,
             seen: _seen,
@@ -93,7 +96,7 @@ impl<A: Allocator> Model for Plan<A> {
     } };
 
     ghost invariant = { λ p. ((p.clock ≤ moment_limit) × (p.config.lease_ms ≤ 3600000))
-        × IfSome p.whole_until (IsWholeAt p.config p.server_count p.state p.holders p.reported) };
+        × IfSome p.whole_until (IsWholeAt p.config p.server_count p.state p.holders p.reported p.doubted) };
 }
 
 impl<A: Allocator + Clone> Plan<A> {

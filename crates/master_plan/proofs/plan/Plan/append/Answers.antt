@@ -1,0 +1,10 @@
+use Rattle.master_plan.proofs.Watching.{appended_if}
+use Rattle.master_plan.proofs.plan.Plan.append.Goals as goal
+
+pub invariant_of-self-2 : goal.invariant_of-self-2
+invariant_of-self-2 g c =
+    let i = c.self.inside in (
+      c.self.invariant.0,
+      appended_if i.config i.server_count i.reported i.whole_until c.doubt_granted-until.result c.doubt_granted-until.ensures.kept i.holders i.state c.replay.new.state i.doubted c.doubt_granted-until.new.doubted
+          c.args.entry c.doubt_granted-until.ensures.doubted c.in_ok-replay.ensures.ok c.self.invariant.1,
+    )

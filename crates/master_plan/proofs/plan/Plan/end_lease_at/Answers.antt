@@ -1,0 +1,7 @@
+use Rattle.master_plan.proofs.Watching.{ended_if}
+use Rattle.master_plan.proofs.plan.Plan.end_lease_at.Goals as goal
+
+pub invariant_of-self : goal.invariant_of-self
+invariant_of-self g c =
+    let i = c.self.inside in
+    (c.self.invariant.0, ended_if i.config i.server_count i.holders i.reported i.doubted i.whole_until i.state c.set_lease_end.new.self c.args.handle.0 c.args.moment.0 c.set_lease_end.ensures c.self.invariant.1)
