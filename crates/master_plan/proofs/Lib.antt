@@ -6,3 +6,6 @@ pub mod FirstReports
 pub mod StillWhole
 pub mod Concerning
 pub mod Followed
+pub mod Granted
+pub mod Doubting
+pub mod Watching

@@ -52,6 +52,7 @@ impl<A: Allocator + Clone> Plan<A> {
             knows_concerned: false,
             concerned_files: OrderedMap::new(alloc),
             concerned_chunks: OrderedMap::new(alloc),
+            doubted: OrderedMap::new(alloc),
             sent: Sequence::empty(alloc),
             changes: Sequence::empty(alloc),
             seen: Sequence::empty(alloc),

@@ -19,11 +19,13 @@ impl<A: Allocator + Clone> Plan<A> {
     pub fn give_up_copies(&mut self, handles: &[u64]) -> Result<(), PlanFault>
         ensures { OnOk result (self.new ≡ without_copies self.old handles.now) }
     {
+        let until = self.whole_until;
         self.whole_until = None;
         let known = self.knows_concerned;
         self.knows_concerned = false;
         self.state.give_up_copies(handles)?;
         self.knows_concerned = known;
+        self.whole_until = until;
         self.remove_attempts(handles);
         Ok(())
     }
@@ -39,7 +41,6 @@ impl<A: Allocator + Clone> Plan<A> {
     pub fn end_lease_at(&mut self, handle: Handle, moment: Moment)
         ensures { self.new ≡ with_end self.old handle.0 moment.0 }
     {
-        self.whole_until = None;
         self.state.set_lease_end(handle, moment);
     }
 }

@@ -5,6 +5,7 @@ pub mod begin;
 pub mod change;
 pub mod concerned;
 pub mod copies;
+mod doubts;
 pub mod fault;
 pub mod holders;
 pub mod logging;

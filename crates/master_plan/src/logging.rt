@@ -9,6 +9,7 @@ ghost use Rattle.master_plan.specs.Logging.{was_logged, tried};
 
 use crate::change::{Change, RecordList};
 use crate::concerned::{follow, touches};
+use crate::doubts::doubt_granted;
 use crate::fault::PlanFault;
 use crate::plan::Plan;
 use crate::sizes::{bytes_used, checkpoint_bytes};
@@ -70,6 +71,7 @@ impl<A: Allocator + Clone> Plan<A> {
     fn append(&mut self, entry: Record) -> Result<(), PlanFault>
         ensures { OnOk result (self.new ≡ appended self.old entry) }
     {
+        let until = doubt_granted(self.whole_until, &mut self.doubted, &entry);
         self.whole_until = None;
         let touched = touches(
             &self.state,
@@ -88,6 +90,7 @@ impl<A: Allocator + Clone> Plan<A> {
         );
         self.changes.push(Change::Append(entry))?;
         self.knows_concerned = known;
+        self.whole_until = until;
         Ok(())
     }
 

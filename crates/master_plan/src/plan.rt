@@ -20,6 +20,7 @@ use messages::message_lists::MessageList;
 use number_map::NumberMap;
 use ordered_map::OrderedMap;
 use protocol::seen::{Seen, SeenList};
+use rereplicate::whole::Doubted;
 use std::alloc::{Allocator, Global};
 use std::marker::Model;
 
@@ -35,12 +36,13 @@ pub struct Plan<A: Allocator> {
     pub(crate) snapshots: Vec<Pending>,
     pub(crate) holders: NumberMap<OrderedMap<u64>>,
     pub(crate) reported: NumberMap<u64>,
-    // a moment up to which no chunk lacks replicas, as far as is known
+    // a moment up to which no chunk lacks replicas but some of the doubted ones, as far as is known
     pub(crate) whole_until: Option<u64>,
     // where they are known, the files and chunks that the snapshots are about
     pub(crate) knows_concerned: bool,
     pub(crate) concerned_files: OrderedMap<()>,
     pub(crate) concerned_chunks: OrderedMap<()>,
+    pub(crate) doubted: Doubted,
     pub(crate) sent: MessageList,
     pub(crate) changes: ChangeList,
     pub(crate) seen: SeenList,
@@ -64,6 +66,7 @@ impl<A: Allocator> Drop for Plan<A> {
             knows_concerned: _,
             concerned_files: _files,
             concerned_chunks: _chunks,
+            doubted: _doubted,
             sent: _sent,
             changes: _changes,
             seen: _seen,
@@ -102,7 +105,7 @@ impl<A: Allocator> Model for Plan<A> {
 
     ghost invariant = { λ p. (((p.clock ≤ moment_limit) × (p.config.lease_ms ≤ 3600000))
         × IfKnown p.knows_concerned (AreConcerned p.state p.snapshots.items p.concerned_files p.concerned_chunks))
-        × IfSome p.whole_until (IsWholeAt p.config p.server_count p.state p.holders p.reported) };
+        × IfSome p.whole_until (IsWholeAt p.config p.server_count p.state p.holders p.reported p.doubted) };
 }
 
 impl<A: Allocator + Clone> Plan<A> {

@@ -4,6 +4,7 @@ ghost use Rattle.std.specs.Prelude.{◌≡◌, ◌==◌, ◌&&◌, true, Some, n
 ghost use Rattle.std.specs.FinMap as map;
 ghost use Rattle.master_plan.specs.Reports.{with_holder, with_report, table_of_lines};
 
+use crate::doubts::{doubt, doubt_changed};
 use crate::fault::PlanFault;
 use crate::plan::Plan;
 use crate::waiting::Attempt;
@@ -24,8 +25,10 @@ impl<A: Allocator + Clone> Plan<A> {
         ensures { OnOk result (self.new ≡ with_holder self.old server.0 handle.0 version.0) }
     {
         let server = u64::from(server.0);
+        let until = doubt(self.whole_until, &mut self.doubted, handle.0);
         self.whole_until = None;
         note_version(self.alloc, &mut self.holders, server, handle.0, version.0)?;
+        self.whole_until = until;
         Ok(())
     }
 
@@ -53,9 +56,12 @@ impl<A: Allocator + Clone> Plan<A> {
         if are_known(&self.holders, server, replicas) {
             return Ok(());
         }
-        self.whole_until = None;
         let held = table_of_lines(self.alloc, replicas)?;
+        let old = self.holders.get(server);
+        let until = doubt_changed(self.alloc, self.whole_until, &mut self.doubted, old, &held);
+        self.whole_until = None;
         self.holders.insert(server, held)?;
+        self.whole_until = until;
         Ok(())
     }
 
@@ -67,6 +73,13 @@ impl<A: Allocator + Clone> Plan<A> {
             Some(last) => self.clock < *last,
             None => false,
         }
+    }
+
+    /// Whether any version number is under way.
+    pub fn has_attempts(&self) -> bool
+        ensures { result ≡ nat_lt 0 (map.len self.now.attempts) }
+    {
+        self.attempts.len() > 0
     }
 
     /// The version numbers that are under way, by the handles of their chunks.

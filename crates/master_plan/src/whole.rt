@@ -1,51 +1,78 @@
-//! Whether chunks lack replicas, as it was found at an earlier step (section 4.3).
+//! Which chunks may lack replicas, as far as it was found at earlier steps (section 4.3).
 
-ghost use Rattle.std.specs.Prelude.{◌≡◌, true};
+ghost use Rattle.std.specs.Prelude.{◌≡◌, true, IfSome};
+ghost use Rattle.std.specs.Option.{option_copied};
 ghost use Rattle.protocol.specs.Master.{is_present};
-ghost use Rattle.rereplicate.specs.Whole.{AreWhole};
+ghost use Rattle.rereplicate.specs.Whole.{AreWholeBut};
 ghost use Rattle.master_plan.specs.Plans.{known};
+ghost use Rattle.master_plan.specs.Watched.{AllStay};
 
 use crate::plan::Plan;
-use gfs_types::ids::{Moment, ServerId};
+use gfs_types::ids::ServerId;
+use rereplicate::whole::Doubted;
 use std::alloc::Allocator;
 
 impl<A: Allocator + Clone> Plan<A> {
-    /// Whether it was found, and still is so, that no chunk lacks replicas.
-    pub fn is_known_whole(&self) -> bool
-        ensures { result ≡ true → AreWhole (known self.now) }
+    /// The chunks that may lack replicas, where that is known: no other does.
+    pub fn doubted(&self) -> Option<&Doubted>
+        ensures { IfSome (option_copied result) (AreWholeBut (known self.now)) }
     {
         match self.whole_until {
-            Some(until) => self.clock <= until,
-            None => false,
+            Some(until) if self.clock <= until => Some(&self.doubted),
+            _ => None,
         }
     }
 
-    /// It was found that no chunk would lack replicas at a moment if nobody reported until then.
-    pub fn note_whole(&mut self, until: Moment)
-        requires { AreWhole (record (known self.old) { now = until.0 }) }
+    /// It was found that no chunk lacks replicas but some of these. That is known for as long as the servers that are present stay so.
+    pub fn note_doubted(&mut self, doubted: Doubted)
+        requires { AreWholeBut (known self.old) doubted }
         ensures { self.new ≡ self.old }
     {
-        self.whole_until = Some(until.0);
+        let until = self.last_all_present();
+        if self.all_stay(until) {
+            self.whole_until = Some(until);
+            self.doubted = doubted;
+        } else {
+            self.whole_until = None;
+        }
     }
 
-    /// Whether a server's last report would be younger than a lease at a moment.
-    pub fn is_present_at(&self, server: ServerId, moment: Moment) -> bool
-        ensures { result ≡ is_present (record (known self.now) { now = moment.0 }) server.0 }
+    // Whether each server that is present is so at a moment if it doesn't report.
+    #[tactic(auto, using(rereplicate::proofs::Wholeness::one_more))]
+    fn all_stay(&self, moment: u64) -> bool
+        ensures { result ≡ true → AllStay (known self.now) moment }
+    {
+        for index in 0..self.server_count {
+            if !self.stays(ServerId(index + 1), moment) {
+                return false;
+            }
+        }
+        true
+    }
+
+    fn stays(&self, server: ServerId, moment: u64) -> bool
+        ensures { result ≡ true → is_present (known self.now) server.0 ≡ true → is_present (record (known self.now) { now = moment }) server.0 ≡ true }
+    {
+        !self.is_present(server) || self.is_present_at(server, moment)
+    }
+
+    fn is_present_at(&self, server: ServerId, moment: u64) -> bool
+        ensures { result ≡ is_present (record (known self.now) { now = moment }) server.0 }
     {
         let last = match self.reported.get(u64::from(server.0)) {
             Some(reported) => *reported,
             None => 0,
         };
-        moment.0.saturating_sub(last) < self.config.lease_ms
+        moment.saturating_sub(last) < self.config.lease_ms
     }
 
-    /// The last moment up to which all servers that are present stay so if none reports.
-    pub fn last_all_present(&self) -> Moment {
+    // The last moment up to which all servers that are present stay so if none reports.
+    fn last_all_present(&self) -> u64 {
         let mut until = u64::MAX;
         for index in 0..self.server_count {
             until = until.min(self.lapse(ServerId(index + 1)));
         }
-        Moment(until)
+        until
     }
 
     // The last moment at which a server that is present is so if it doesn't report; no bound where it isn't present.

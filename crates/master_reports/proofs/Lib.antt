@@ -1,1 +1,2 @@
 pub mod Extended
+mod Learning

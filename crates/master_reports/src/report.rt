@@ -45,7 +45,24 @@ fn hears<A: Allocator + Clone>(
     plan.note_report(server, replicas)
 }
 
+// Version numbers may be complete with it. Looks at no replica where none is under way.
+#[tactic(auto, using(crate::proofs::Learning::learns_nothing))]
 fn learns_all<L: OperationLog, A: Allocator + Clone>(
+    log: &L,
+    plan: &mut Plan<A>,
+    server: ServerId,
+    replicas: &[ReplicaLine],
+) -> Result<(), PlanFault>
+    ensures { OnOk result (learns_all (doing (L.disk log.now) plan.old) server.0 replicas.now ≡ doing (L.disk log.now) plan.new) }
+{
+    if plan.has_attempts() {
+        learns_each(log, plan, server, replicas)
+    } else {
+        Ok(())
+    }
+}
+
+fn learns_each<L: OperationLog, A: Allocator + Clone>(
     log: &L,
     plan: &mut Plan<A>,
     server: ServerId,

@@ -1,88 +1,63 @@
 //! The next clone (section 4.3).
 
-ghost use Rattle.std.specs.Prelude.{◌≡◌, true, None, option_map, OnOk};
+ghost use Rattle.std.specs.Prelude.{◌≡◌, option_map, IfOk, OnOk};
 ghost use Rattle.std.specs.FinMap as finite;
 ghost use Rattle.protocol.specs.Logged.{LogDisk};
 ghost use Rattle.protocol.specs.MasterClones.{best_clone, orders_clone, clones_next};
-ghost use Rattle.rereplicate.specs.Whole.{AreWhole};
+ghost use Rattle.rereplicate.specs.Whole.{AreWholeBut};
 ghost use Rattle.master_plan.specs.Plans.{doing, known};
 
-use gfs_types::ids::{Handle, Moment, Node, ServerId, Version};
+use gfs_types::ids::{Handle, Node, ServerId, Version};
 use master_plan::fault::PlanFault;
 use master_plan::plan::Plan;
 use messages::message::Body;
 use rereplicate::clone_order::CloneOrder;
 use rereplicate::holders::Holders;
-use rereplicate::next::next;
-use rereplicate::whole::{are_whole, none_is_cloned};
-use std::alloc::Allocator;
+use rereplicate::next::{next, next_of};
+use rereplicate::whole::{Doubted, lacking, still_lacking};
+use std::alloc::{AllocError, Allocator};
 
-/// One clone is ordered, if any. Goes over all chunks only where it isn't known that none lacks replicas.
+/// One clone is ordered, if any. Goes over all chunks only where it isn't known which of them may lack replicas, and else over these.
 pub fn clones_next<A: Allocator + Clone>(plan: &mut Plan<A>) -> Result<(), PlanFault>
     ensures { OnOk result ((disk : LogDisk) → clones_next (doing disk plan.old) ≡ doing disk plan.new) }
 {
-    looks_at_all(plan);
-    if plan.is_known_whole() {
-        orders_none(plan);
-        return Ok(());
-    }
-    orders_next(plan)
-}
-
-fn orders_none<A: Allocator + Clone>(plan: &Plan<A>)
-    requires { AreWhole (known plan.now) }
-    ensures { (disk : LogDisk) → clones_next (doing disk plan.now) ≡ doing disk plan.now }
-{
-    none_lacks(plan);
-}
-
-fn orders_next<A: Allocator + Clone>(plan: &mut Plan<A>) -> Result<(), PlanFault>
-    ensures { OnOk result ((disk : LogDisk) → clones_next (doing disk plan.old) ≡ doing disk plan.new) }
-{
+    looks(plan);
     let clone = next_clone(plan);
     orders_clone(plan, clone)
 }
 
-// Where it isn't known that no chunk lacks replicas, and none does, that is put down for as long as the servers that are present
-// stay so.
-fn looks_at_all<A: Allocator + Clone>(plan: &mut Plan<A>)
+// Which chunks lack replicas is put down, where there is memory for it.
+fn looks<A: Allocator + Clone>(plan: &mut Plan<A>)
     ensures { plan.new ≡ plan.old }
 {
-    if plan.is_known_whole() {
-        return;
-    }
-    let until = plan.last_all_present();
-    if will_be_whole(plan, until) {
-        plan.note_whole(until);
+    if let Ok(found) = found_lacking(plan) {
+        plan.note_doubted(found);
     }
 }
 
-fn will_be_whole<A: Allocator + Clone>(plan: &Plan<A>, moment: Moment) -> bool
-    ensures { result ≡ true → AreWhole (record (known plan.now) { now = moment.0 }) }
+// The chunks that lack replicas. No other does.
+fn found_lacking<A: Allocator + Clone>(plan: &Plan<A>) -> Result<Doubted, AllocError>
+    ensures { IfOk result (AreWholeBut (known plan.now)) }
 {
-    let known = Known { plan, moment };
-    are_whole(plan.state().table(), &known, plan.config().goal)
-}
-
-fn none_lacks<A: Allocator + Clone>(plan: &Plan<A>)
-    requires { AreWhole (known plan.now) }
-    ensures { best_clone (known plan.now) (finite.entries plan.now.logged.table.chunks) ≡ None }
-{
-    let known = Known {
-        plan,
-        moment: plan.now(),
-    };
-    none_is_cloned(plan.state().table(), &known);
+    let known = Known { plan };
+    let table = plan.state().table();
+    let goal = plan.config().goal;
+    match plan.doubted() {
+        Some(doubted) => still_lacking(plan.alloc(), table, &known, goal, doubted),
+        None => lacking(plan.alloc(), table, &known, goal),
+    }
 }
 
 fn next_clone<A: Allocator + Clone>(plan: &Plan<A>) -> Option<CloneOrder>
     ensures { result ≡ best_clone (known plan.now) (finite.entries plan.now.logged.table.chunks) }
 {
-    let known = Known {
-        plan,
-        moment: plan.now(),
-    };
-    next(plan.state().table(), &known, plan.config().goal, plan.now())
+    let known = Known { plan };
+    let table = plan.state().table();
+    let goal = plan.config().goal;
+    match plan.doubted() {
+        Some(doubted) => next_of(table, &known, goal, plan.now(), doubted),
+        None => next(table, &known, goal, plan.now()),
+    }
 }
 
 fn orders_clone<A: Allocator + Clone>(
@@ -106,22 +81,21 @@ fn orders_clone<A: Allocator + Clone>(
     )
 }
 
-// What the choice of a clone asks of the master, as it would be at a moment.
+// What the choice of a clone asks of the master.
 #[derive(Drop)]
 struct Known<'a, A: Allocator> {
     plan: &'a Plan<A>,
-    moment: Moment,
 }
 
 impl<'a, A: Allocator + Clone> Holders for Known<'a, A> {
-    ghost state = { λ k. record (known k.plan.now) { now = k.moment.0 } };
+    ghost state = { λ k. known k.plan.now };
 
     fn server_count(&self) -> u16 {
         self.plan.server_count()
     }
 
     fn is_present(&self, server: ServerId) -> bool {
-        self.plan.is_present_at(server, self.moment)
+        self.plan.is_present(server)
     }
 
     fn version(&self, handle: Handle, server: ServerId) -> Option<Version> {

@@ -1,5 +1,5 @@
 -- The source and the target of a clone, found by going over the servers.
-use Rattle.std.proofs.Common.{◌≡◌, ℕ, suc, ◌+◌, Bool, true, false, cond, leb, ltb, List, [], ◌∷◌, ◌++◌, length, refl, sym, ap, ◌∙◌, Some, None, Option, is_some, arith, nat_le, length-append, append-nil}
+use Rattle.std.proofs.Common.{◌≡◌, ℕ, suc, ◌+◌, Bool, true, false, cond, leb, List, [], ◌∷◌, ◌++◌, length, refl, sym, ap, ◌∙◌, Some, None, Option, is_some, arith, nat_le, length-append, append-nil}
 use Rattle.std.specs.Option.{option_map, option_or, is_none}
 use Rattle.std.specs.List.{filter, filter_map, cons_option}
 use Rattle.std.proofs.lemmas.List.Elements.{filter-append, filter_map-append}
@@ -10,9 +10,9 @@ use Rattle.messages.specs.declared.message.Holder.{Holder}
 use Rattle.chunk_table.specs.ChunkTable.{ChunkRow}
 use Rattle.protocol.specs.Tables.{first_numbers, first_of_list, ranked, with_ranked}
 use Rattle.protocol.specs.Sending.{server_id}
-use Rattle.protocol.specs.Master.{MasterState, HeldAt, held_where, version_held, is_present, chunks_held, servers_of, present_current_holders}
+use Rattle.protocol.specs.Master.{MasterState, HeldAt, held_where, version_held, is_present, chunks_held, present_current_holders}
 use Rattle.protocol.specs.MasterVersions.{holder_line}
-use Rattle.protocol.specs.MasterClones.{is_closed, clone_source, clone_target}
+use Rattle.protocol.specs.MasterClones.{is_closed, clone_source}
 use Rattle.rereplicate.specs.Holding.{held_at, current_at, if_closed, closed_at, is_free, lesser}
 
 first_more : (n : ℕ) → first_numbers (n + 1) ≡ first_numbers n ++ (n + 1) ∷ []

@@ -1,6 +1,6 @@
 -- The best clone, found by going over all numbers below one that no handle reaches.
-use Rattle.std.proofs.Common.{◌≡◌, ℕ, suc, zero, ◌+◌, ◌<◌, ◌≤◌, Bool, true, false, cond, ltb, leb, eqb, ◌&&◌, T, List, [], ◌∷◌, refl, sym, ap, ◌∙◌, subst, Some, None, Option, is_some, IfSome, ◌-◌, arith}
-use Rattle.std.specs.Ordering.{nat_cmp, eq_by_cmp, is_lt, is_eq}
+use Rattle.std.proofs.Common.{◌≡◌, ℕ, suc, zero, ◌+◌, ◌<◌, ◌≤◌, Bool, true, false, cond, ltb, leb, eqb, ◌&&◌, T, List, [], ◌∷◌, refl, sym, ap, ◌∙◌, Some, None, Option, is_some, IfSome, ◌-◌, arith}
+use Rattle.std.specs.Ordering.{nat_cmp, eq_by_cmp, is_lt}
 use Rattle.std.specs.declared.cmp.Ordering.TheVariants.{Less, Equal, Greater}
 use Rattle.std.specs.FinMap.{get, entries, entries_sorted, get-entries}
 use Rattle.chunk_table.specs.Owners.{IsSoundRow}
@@ -10,6 +10,7 @@ use Rattle.chunk_table.specs.ChunkTable.{NumberTable, ChunkRow}
 use Rattle.chunk_table.proofs.Lookups.{same_key, key_itself}
 use Rattle.protocol.specs.Master.{MasterState}
 use Rattle.protocol.specs.MasterClones.{CloneOrder, clone_of, better_clone, best_clone}
+use Rattle.rereplicate.specs.Whole.{offer, clone_at}
 
 pub none_better : (a : Option CloneOrder) → better_clone a None ≡ a
 none_better None = refl
@@ -56,9 +57,14 @@ pub best_none : (start count : ℕ) → best_from (λ _. None) start count ≡ N
 best_none start zero = refl
 best_none start (suc count) = best_none (start + 1) count
 
-abbrev pub offer : MasterState → ℕ → Option ChunkRow → Option CloneOrder
-offer m k None = None
-offer m k (Some row) = clone_of m k row
+-- the best of what a list's entries offer, in their order
+abbrev pub best_over : {X : Type 0} → (ℕ → X → Option CloneOrder) → List (ℕ × X) → Option CloneOrder
+best_over f [] = None
+best_over f (e ∷ es) = better_clone (f e.0 e.1) (best_over f es)
+
+abbrev pub offered : {X : Type 0} → (ℕ → X → Option CloneOrder) → ℕ → Option X → Option CloneOrder
+offered f k None = None
+offered f k (Some x) = f k x
 
 lesser_is : (x y : ℕ) → T (is_lt (nat_cmp x y)) → x < y
 lesser_is x y h =
@@ -75,7 +81,7 @@ second : (a b : Bool) → T (a && b) → T b
 second true b p = p
 second false b p = absurd p
 
-differ : (q k : ℕ) → (q ≡ k → ⊥) → eq_by_cmp nat_cmp q k ≡ false
+pub differ : (q k : ℕ) → (q ≡ k → ⊥) → eq_by_cmp nat_cmp q k ≡ false
 differ q k apart =
     elim (eq_by_cmp nat_cmp q k) as (λ b. eq_by_cmp nat_cmp q k ≡ b → b ≡ false) [
       | true ↦ λ e. absurd (apart (same_key q k e))
@@ -83,7 +89,7 @@ differ q k apart =
     ] refl
 
 -- nothing stands at or before a key that is below all
-found_past : (q x : ℕ) (es : List (ℕ × ChunkRow)) → T (below_all nat_cmp x es) → q ≤ x → find nat_cmp q es ≡ None
+found_past : {X : Type 0} (q x : ℕ) (es : List (ℕ × X)) → T (below_all nat_cmp x es) → q ≤ x → find nat_cmp q es ≡ None
 found_past q x [] h le = refl
 found_past q x (e ∷ es) h le =
     let lt : x < e.0 = lesser_is x e.0 (first _ _ h) in
@@ -91,7 +97,7 @@ found_past q x (e ∷ es) h le =
     ∙ found_past q x es (second _ _ h) le
 
 -- each key lies in a range
-abbrev Within : ℕ → ℕ → List (ℕ × ChunkRow) → Type 0
+abbrev Within : {X : Type 0} → ℕ → ℕ → List (ℕ × X) → Type 0
 Within start count es = (q : ℕ) → is_some (find nat_cmp q es) ≡ true → (start ≤ q) × (q < start + count)
 
 not_found : {X : Type 0} (o : Option X) → o ≡ None → is_some o ≡ true → ⊥
@@ -113,21 +119,21 @@ past_start start q le apart =
     ] refl
 
 -- the rest of a list whose first key is the start
-rest_of : (start : ℕ) (e : ℕ × ChunkRow) (es : List (ℕ × ChunkRow)) (k : ℕ) → e.0 ≡ start → start + 1 ≤ k → find nat_cmp k (e ∷ es) ≡ find nat_cmp k es
+rest_of : {X : Type 0} (start : ℕ) (e : ℕ × X) (es : List (ℕ × X)) (k : ℕ) → e.0 ≡ start → start + 1 ≤ k → find nat_cmp k (e ∷ es) ≡ find nat_cmp k es
 rest_of start e es k same le = ap (λ b. cond b (Some e.1) (find nat_cmp k es)) (differ k e.0 (λ x. absurd (omega arith)))
 
-scan : (m : MasterState) (count start : ℕ) (es : List (ℕ × ChunkRow)) → T (is_sorted nat_cmp es) → Within start count es
-    → best_clone m es ≡ best_from (λ k. offer m k (find nat_cmp k es)) start count
-scan m count start [] sorted within = sym (best_none start count)
-scan m zero start (e ∷ es) sorted within =
+pub scan : {X : Type 0} (f : ℕ → X → Option CloneOrder) (count start : ℕ) (es : List (ℕ × X)) → T (is_sorted nat_cmp es) → Within start count es
+    → best_over f es ≡ best_from (λ k. offered f k (find nat_cmp k es)) start count
+scan f count start [] sorted within = sym (best_none start count)
+scan f zero start (e ∷ es) sorted within =
     let here = within e.0 (ap (λ b. is_some (cond b (Some e.1) (find nat_cmp e.0 es))) (key_itself e.0)) in
     let a : start ≤ e.0 = here.0 in
     let b : e.0 < start + 0 = here.1 in
     absurd (omega arith)
-scan m (suc count) start (e ∷ es) sorted within =
+scan f (suc count) start (e ∷ es) sorted within =
     let here = within e.0 (ap (λ b. is_some (cond b (Some e.1) (find nat_cmp e.0 es))) (key_itself e.0)) in
     let from : start ≤ e.0 = here.0 in
-    elim (eqb start e.0) as (λ b. eqb start e.0 ≡ b → best_clone m (e ∷ es) ≡ better_clone (offer m start (find nat_cmp start (e ∷ es))) (best_from (λ k. offer m k (find nat_cmp k (e ∷ es))) (start + 1) count)) [
+    elim (eqb start e.0) as (λ b. eqb start e.0 ≡ b → best_over f (e ∷ es) ≡ better_clone (offered f start (find nat_cmp start (e ∷ es))) (best_from (λ k. offered f k (find nat_cmp k (e ∷ es))) (start + 1) count)) [
       | true ↦ λ t.
           let same : e.0 ≡ start = grind (arith, nat_tests) in
           let later : Within (start + 1) count es = λ q there. (
@@ -136,12 +142,12 @@ scan m (suc count) start (e ∷ es) sorted within =
           let hi : q < start + suc count = w.1 in
           let more : e.0 < q = above q e.0 past in
           (omega arith, omega arith)) in
-          let tail = best_alike (λ k. offer m k (find nat_cmp k (e ∷ es))) (λ k. offer m k (find nat_cmp k es)) (start + 1) count (λ k le. ap (offer m k) (rest_of start e es k same le)) in
+          let tail = best_alike (λ k. offered f k (find nat_cmp k (e ∷ es))) (λ k. offered f k (find nat_cmp k es)) (start + 1) count (λ k le. ap (offered f k) (rest_of start e es k same le)) in
           let at_start : find nat_cmp start (e ∷ es) ≡ Some e.1 = ap (λ k. find nat_cmp k (e ∷ es)) (sym same) ∙ ap (λ b. cond b (Some e.1) (find nat_cmp e.0 es)) (key_itself e.0) in
-          ap (better_clone (clone_of m e.0 e.1)) (scan m count (start + 1) es (second _ _ sorted) later ∙ sym tail)
-          ∙ ap (λ k. better_clone (clone_of m k e.1) (best_from (λ k. offer m k (find nat_cmp k (e ∷ es))) (start + 1) count)) same
-          ∙ ap (λ o. better_clone (offer m start o) (best_from (λ k. offer m k (find nat_cmp k (e ∷ es))) (start + 1) count)) (sym at_start)
-      | false ↦ λ f.
+          ap (better_clone (f e.0 e.1)) (scan f count (start + 1) es (second _ _ sorted) later ∙ sym tail)
+          ∙ ap (λ k. better_clone (f k e.1) (best_from (λ k. offered f k (find nat_cmp k (e ∷ es))) (start + 1) count)) same
+          ∙ ap (λ o. better_clone (offered f start o) (best_from (λ k. offered f k (find nat_cmp k (e ∷ es))) (start + 1) count)) (sym at_start)
+      | false ↦ λ apart.
           let lt : start < e.0 = grind (arith, nat_tests) in
           let none : find nat_cmp start (e ∷ es) ≡ None =
           ap (λ b. cond b (Some e.1) (find nat_cmp start es)) (differ start e.0 (λ x. absurd (omega arith)))
@@ -152,27 +158,34 @@ scan m (suc count) start (e ∷ es) sorted within =
           let hi : q < start + suc count = w.1 in
           let not_start : ¬ (q ≡ start) = λ same. not_found (find nat_cmp q (e ∷ es)) (ap (λ k. find nat_cmp k (e ∷ es)) same ∙ none) there in
           (past_start start q lo not_start, omega arith)) in
-          scan m count (start + 1) (e ∷ es) sorted later
-          ∙ ap (λ o. better_clone (offer m start o) (best_from (λ k. offer m k (find nat_cmp k (e ∷ es))) (start + 1) count)) (sym none)
+          scan f count (start + 1) (e ∷ es) sorted later
+          ∙ ap (λ o. better_clone (offered f start o) (best_from (λ k. offered f k (find nat_cmp k (e ∷ es))) (start + 1) count)) (sym none)
     ] refl
 
-module _ (m : MasterState) (chunks : NumberTable ChunkRow) where
-  -- the clone of the chunk with this number, where there is one
-  abbrev pub clone_at : ℕ → Option CloneOrder
-  clone_at k = offer m k (get chunks k)
+-- the best clone is the best of what the chunks offer
+each_offers : (m : MasterState) (es : List (ℕ × ChunkRow)) → best_clone m es ≡ best_over (clone_of m) es
+each_offers m [] = refl
+each_offers m (e ∷ es) = ap (better_clone (clone_of m e.0 e.1)) (each_offers m es)
 
+row_offers : (m : MasterState) (k : ℕ) (o : Option ChunkRow) → offered (clone_of m) k o ≡ offer m k o
+row_offers m k None = refl
+row_offers m k (Some row) = refl
+
+module _ (m : MasterState) (chunks : NumberTable ChunkRow) where
   -- the best clone from a number on
   abbrev pub best_on : ℕ → ℕ → Option CloneOrder
-  best_on start count = best_from clone_at start count
+  best_on start count = best_from (clone_at m chunks) start count
 
   pub whole : (next : ℕ) → ((q : ℕ) → is_some (get chunks q) ≡ true → q < next) → best_clone m (entries chunks) ≡ best_on 0 next
   whole next below =
-      scan m next 0 (entries chunks) (entries_sorted chunks) (λ q there. (
+      each_offers m (entries chunks)
+      ∙ scan (clone_of m) next 0 (entries chunks) (entries_sorted chunks) (λ q there. (
       let lt : q < next = below q (ap is_some (get-entries chunks q) ∙ there) in
       (omega arith, omega arith)))
-      ∙ best_alike (λ k. offer m k (find nat_cmp k (entries chunks))) clone_at 0 next (λ k _. ap (offer m k) (sym (get-entries chunks k)))
+      ∙ best_alike (λ k. offered (clone_of m) k (find nat_cmp k (entries chunks))) (clone_at m chunks) 0 next
+      (λ k _. row_offers m k (find nat_cmp k (entries chunks)) ∙ ap (offer m k) (sym (get-entries chunks k)))
 
-  pub stepped : (next n : ℕ) (best o r : Option CloneOrder) → n < next → o ≡ clone_at n → better_clone best (best_on n (next - n)) ≡ r
+  pub stepped : (next n : ℕ) (best o r : Option CloneOrder) → n < next → o ≡ clone_at m chunks n → better_clone best (best_on n (next - n)) ≡ r
       → better_clone (better_clone best o) (best_on (n + 1) (next - (n + 1))) ≡ r
   stepped next n best o r lt e h =
       let counted : suc (next - (n + 1)) ≡ next - n = omega arith in

@@ -1,3 +1,4 @@
 pub mod Choosing
 pub mod Handles
+pub mod Among
 pub mod Wholeness

@@ -3,10 +3,12 @@
 ghost use Rattle.std.specs.Prelude.{◌≡◌};
 ghost use Rattle.std.specs.FinMap as finite;
 ghost use Rattle.protocol.specs.MasterClones.{clone_of, best_clone};
+ghost use Rattle.rereplicate.specs.Whole.{AreWholeBut, clone_at};
 
 use crate::clone_order::{CloneOrder, better};
 use crate::holders::Holders;
 use crate::servers::{count_current, source, target};
+use crate::whole::Doubted;
 use chunk_table::chunk::Chunk;
 use chunk_table::table::Table;
 use gfs_types::ids::{Handle, Moment, Version};
@@ -26,11 +28,50 @@ pub fn next<H: Holders>(table: &Table, holders: &H, goal: u32, now: Moment) -> O
     let mut best = None;
     for number in 0..table.next_handle().0 {
         let handle = Handle(number);
-        if let Some(chunk) = table.chunk(handle) {
-            best = better(best, clone_of(chunk, holders, handle, goal, now));
-        }
+        best = better(best, clone_at(table, holders, handle, goal, now));
     }
     best
+}
+
+/// The same where no chunk lacks replicas but some of the doubted ones. Goes over these alone.
+pub fn next_of<H: Holders>(
+    table: &Table,
+    holders: &H,
+    goal: u32,
+    now: Moment,
+    doubted: &Doubted,
+) -> Option<CloneOrder>
+    requires table { table.now.table ≡ (H.state holders.now).logged.table }
+    requires goal { goal ≡ (H.state holders.now).config.goal }
+    requires now { now.0 ≡ (H.state holders.now).now }
+    requires whole { AreWholeBut (H.state holders.now) doubted.now }
+    ensures { result ≡ best_clone (H.state holders.now) (finite.entries table.now.table.chunks) }
+{
+    table.is_sound();
+    let mut best = None;
+    for (number, _) in doubted.iter() {
+        let handle = Handle(*number);
+        best = better(best, clone_at(table, holders, handle, goal, now));
+    }
+    best
+}
+
+// The clone of the chunk with this handle.
+fn clone_at<H: Holders>(
+    table: &Table,
+    holders: &H,
+    handle: Handle,
+    goal: u32,
+    now: Moment,
+) -> Option<CloneOrder>
+    requires goal { goal ≡ (H.state holders.now).config.goal }
+    requires now { now.0 ≡ (H.state holders.now).now }
+    ensures { result ≡ clone_at (H.state holders.now) table.now.table.chunks handle.0 }
+{
+    match table.chunk(handle) {
+        Some(chunk) => clone_of(chunk, holders, handle, goal, now),
+        None => None,
+    }
 }
 
 // The clone of one chunk, where it lacks replicas and may be copied.

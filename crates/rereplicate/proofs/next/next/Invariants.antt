@@ -1,4 +1,4 @@
-use Rattle.std.proofs.Common.{◌≡◌, ◌-◌, ◌≤◌}
+use Rattle.std.proofs.Common.{◌≡◌, ◌-◌}
 use Rattle.std.specs.FinMap.{entries}
 use Rattle.protocol.specs.MasterClones.{better_clone, best_clone}
 use Rattle.rereplicate.proofs.Handles.{best_on}

@@ -1,4 +1,5 @@
-use Rattle.master_plan.proofs.Followed.{appended_if}
+use Rattle.master_plan.proofs.Followed.{appended_if as concerned_if}
+use Rattle.master_plan.proofs.Watching.{appended_if}
 use Rattle.master_plan.proofs.plan.Plan.append.Goals as goal
 
 pub invariant_of-self-2 : goal.invariant_of-self-2
@@ -6,8 +7,9 @@ invariant_of-self-2 g c =
     let i = c.self.inside in (
       (
         c.self.invariant.0.0,
-        appended_if i.state c.replay.new.state c.args.entry i.snapshots.items i.concerned_files i.concerned_chunks c.follow-known.new.chunks i.knows_concerned c.touches-touched.result c.follow-known.result
+        concerned_if i.state c.replay.new.state c.args.entry i.snapshots.items i.concerned_files i.concerned_chunks c.follow-known.new.chunks i.knows_concerned c.touches-touched.result c.follow-known.result
             c.touches-touched.ensures c.in_ok-replay.ensures.ok c.follow-known.ensures c.self.invariant.0.1,
       ),
-      tt,
+      appended_if i.config i.server_count i.reported i.whole_until c.doubt_granted-until.result c.doubt_granted-until.ensures.kept i.holders i.state c.replay.new.state i.doubted c.doubt_granted-until.new.doubted
+          c.args.entry c.doubt_granted-until.ensures.doubted c.in_ok-replay.ensures.ok c.self.invariant.1,
     )

@@ -5,7 +5,8 @@ use Rattle.master_plan.specs.declared.plan.Plan.TheInside.{Inside}
 use Rattle.master_plan.specs.Plans.{PlanState}
 use Rattle.master_plan.specs.Watched.{IsWholeAt}
 use Rattle.master_plan.specs.Concerned.{AreConcerned, IfKnown}
-use Rattle.master_plan.proofs.StillWhole.{whole_reported_if}
+use Rattle.master_plan.proofs.StillWhole.{whole_reported}
+use Rattle.master_plan.proofs.Doubting.{mapped_if}
 use Rattle.master_plan.proofs.plan.Plan.note_report.Goals.{then-reported_after, else-reported_after}
 use Rattle.master_plan.proofs.plan.Plan.note_report.Goals as goal
 
@@ -16,12 +17,16 @@ invariant_of-self-2 g c =
     let i = c.self.inside in
     let told : Inside g.row.A.Denot → Type 0 = λ y. (
     (((y.clock ≤ moment_limit) × (y.config.lease_ms ≤ 3600000)) × IfKnown y.knows_concerned (AreConcerned y.state y.snapshots.items y.concerned_files y.concerned_chunks))
-    × IfSome y.whole_until (IsWholeAt y.config y.server_count y.state y.holders (insert y.reported s y.clock))) in
-    subst (λ r. (((x.clock ≤ moment_limit) × (x.config.lease_ms ≤ 3600000)) × IfKnown x.knows_concerned (AreConcerned x.state x.snapshots.items x.concerned_files x.concerned_chunks)) × IfSome x.whole_until (IsWholeAt x.config x.server_count x.state x.holders r))
+    × IfSome y.whole_until (IsWholeAt y.config y.server_count y.state y.holders (insert y.reported s y.clock) y.doubted)) in
+    subst (λ r. (((x.clock ≤ moment_limit) × (x.config.lease_ms ≤ 3600000)) × IfKnown x.knows_concerned (AreConcerned x.state x.snapshots.items x.concerned_files x.concerned_chunks)) × IfSome x.whole_until (IsWholeAt x.config x.server_count x.state x.holders r x.doubted))
     (sym c.in_ok-insert.ensures.ok)
     (elim c.if-reported_after.branch [
       | then-reported_after w ↦ subst told (sym w.self-inside-is) (c.self.invariant.0, tt)
       | else-reported_after w ↦
           let e = subst (λ (p : PlanState). nat_lt p.now (unwrap_or (get p.reported s) 0) ≡ false) (sym c.self.view_is) (sym c.reported_after.ensures ∙ w.if-reported_after.false) in
-          subst told (sym w.self-inside-is) (c.self.invariant.0, whole_reported_if i.config i.server_count i.state i.holders i.reported i.whole_until s i.clock e c.self.invariant.1)
+          subst told (sym w.self-inside-is) (
+            c.self.invariant.0,
+            mapped_if (IsWholeAt i.config i.server_count i.state i.holders i.reported i.doubted) (IsWholeAt i.config i.server_count i.state i.holders (insert i.reported s i.clock) i.doubted) i.whole_until
+                (λ until was. whole_reported i.config i.server_count i.state i.holders i.reported i.doubted until s i.clock e was) c.self.invariant.1,
+          )
     ])

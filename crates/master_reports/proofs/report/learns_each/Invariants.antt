@@ -1,7 +1,7 @@
 use Rattle.std.proofs.Common.{◌≡◌, drop}
 use Rattle.protocol.specs.MasterReports.{learns_all}
 use Rattle.master_plan.specs.Plans.{doing}
-use Rattle.master_reports.proofs.report.learns_all.Given as goal
+use Rattle.master_reports.proofs.report.learns_each.Given as goal
 
 -- what is left comes to what is asked
 abbrev pub invariant-loop-line : goal.invariant-loop-line
