@@ -1,6 +1,6 @@
 //! The beginning of the master, and of each of its steps.
 
-ghost use Rattle.std.specs.Prelude.{◌≡◌, ◌≤◌, [], nat_lt, filter, OnOk, IfOk};
+ghost use Rattle.std.specs.Prelude.{◌≡◌, ◌==◌, ◌&&◌, ◌≤◌, [], nat_lt, filter, OnOk, IfOk};
 ghost use Rattle.std.specs.FinMap as map;
 ghost use Rattle.protocol.specs.Tables.{moment_limit, first_numbers};
 ghost use Rattle.protocol.specs.MasterStep.{first_reports};
@@ -75,10 +75,10 @@ impl<A: Allocator + Clone> Plan<A> {
     fn keep_live_snapshots(&mut self)
         ensures { self.new ≡ record self.old { snapshots = live_snapshots self.old.now self.old.snapshots } }
     {
-        let count = self.snapshots.len();
+        let count = self.snapshots.as_slice().len();
         keep_live(&mut self.snapshots, self.clock);
-        let left = self.snapshots.len();
-        self.knows_concerned = self.knows_concerned && left == count;
+        let left = self.snapshots.as_slice().len();
+        self.knows_concerned = are_still_known(self.knows_concerned, count, left);
     }
 
     /// Takes out the messages of the step.
@@ -104,6 +104,13 @@ impl<A: Allocator + Clone> Plan<A> {
     {
         mem::replace(&mut self.seen, Sequence::empty(self.alloc))
     }
+}
+
+// Whether what was known of the snapshots is known of those that are left.
+fn are_still_known(known: bool, count: usize, left: usize) -> bool
+    ensures { result ≡ (known && (left == count)) }
+{
+    known && left == count
 }
 
 fn keep_live(snapshots: &mut Vec<Pending>, now: u64)
