@@ -113,7 +113,7 @@ module _ (ss : List PendingSnapshot) (files chunks : NumberSet) where
           where
             by_last : ((handle == n) ≡ true) ⊎ (false ≡ true) → (handle == n) ≡ true
             by_last (inl is) = is
-            by_last (inr no) = absurd (true≢false (sym no))
+            by_last (inr wrong) = absurd (true≢false (sym wrong))
 
         by_file : (id ≡ file) ⊎ (id ≡ file → ⊥) → (has_number (handles_of l.table id) n ≡ true) ⊎ ((handle == n) ≡ true)
         by_file (inl same) =
@@ -145,7 +145,7 @@ module _ (ss : List PendingSnapshot) (files chunks : NumberSet) where
           where
             by_first : ((id == file) ≡ true) ⊎ (false ≡ true) → id ≡ file
             by_first (inl same) = eqb-true id file same
-            by_first (inr no) = absurd (true≢false (sym no))
+            by_first (inr wrong) = absurd (true≢false (sym wrong))
 
     -- there is no other
     no_more : (n : ℕ) → shares_chunk after ss n ≡ true → (handle == n) || is_in chunks n ≡ true
@@ -218,11 +218,11 @@ module _ (ss : List PendingSnapshot) (files chunks : NumberSet) where
   kept l (log.ClientItem client n refusal) e h = nothing l (after_record l (log.ClientItem client n refusal)) refl refl h
 
 -- what is known after a record
-pub appended_if : (l after : Logged) (r : Record) (ss : List PendingSnapshot) (files chunks later : NumberSet) (known touched known_then : Bool) → touched ≡ touches l ss files r → after ≡ after_record l r
-    → (known_then ≡ true → ((known && not touched) ≡ true) × (later ≡ followed files chunks r)) → IfKnown known (AreConcerned l ss files chunks) → IfKnown known_then (AreConcerned after ss files later)
-appended_if l after r ss files chunks later known touched false touches_it is stays h = tt
-appended_if l after r ss files chunks later false touched true touches_it is stays h = absurd (true≢false (sym ((stays refl).0)))
-appended_if l after r ss files chunks later true true true touches_it is stays h = absurd (true≢false (sym ((stays refl).0)))
-appended_if l after r ss files chunks later true false true touches_it is stays h =
+pub appended_if : (l next : Logged) (r : Record) (ss : List PendingSnapshot) (files chunks later : NumberSet) (known touched known_then : Bool) → touched ≡ touches l ss files r → next ≡ after_record l r
+    → (known_then ≡ true → ((known && not touched) ≡ true) × (later ≡ followed files chunks r)) → IfKnown known (AreConcerned l ss files chunks) → IfKnown known_then (AreConcerned next ss files later)
+appended_if l next r ss files chunks later known touched false touches_it is stays h = tt
+appended_if l next r ss files chunks later false touched true touches_it is stays h = absurd (true≢false (sym ((stays refl).0)))
+appended_if l next r ss files chunks later true true true touches_it is stays h = absurd (true≢false (sym ((stays refl).0)))
+appended_if l next r ss files chunks later true false true touches_it is stays h =
     subst (λ x. AreConcerned x ss files later) (sym is)
     (subst (λ x. AreConcerned (after_record l r) ss files x) (sym (stays refl).1) (kept ss files chunks l r (sym touches_it) h))

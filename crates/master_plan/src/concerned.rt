@@ -1,6 +1,6 @@
 //! The files and chunks that waiting snapshots are about: found once, and kept while records follow (section 3.4).
 
-ghost use Rattle.std.specs.Prelude.{◌≡◌, true, IfOk, OnOk};
+ghost use Rattle.std.specs.Prelude.{◌≡◌, ◌&&◌, not, true, IfOk, OnOk};
 ghost use Rattle.std.specs.List.{list_any};
 ghost use Rattle.std.specs.FinMap as map;
 ghost use Rattle.protocol.specs.MasterSnapshots.{waits_for};
@@ -116,6 +116,13 @@ pub(crate) fn touches<A: Allocator + Clone>(
         | Record::FileItem { .. } => true,
         _ => false,
     }
+}
+
+/// Whether what was known is known still, after a record that touches it or not.
+pub(crate) fn stays_known(known: bool, touched: bool) -> bool
+    ensures { result ≡ (known && not touched) }
+{
+    known && !touched
 }
 
 fn is_source(snapshots: &[Pending], path: &str) -> bool

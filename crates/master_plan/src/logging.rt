@@ -8,7 +8,7 @@ ghost use Rattle.master_plan.specs.Plans.{doing, appended, with_checkpoint};
 ghost use Rattle.master_plan.specs.Logging.{was_logged, tried};
 
 use crate::change::{Change, RecordList};
-use crate::concerned::{follow, touches};
+use crate::concerned::{follow, stays_known, touches};
 use crate::doubts::doubt_granted;
 use crate::fault::PlanFault;
 use crate::plan::Plan;
@@ -79,7 +79,7 @@ impl<A: Allocator + Clone> Plan<A> {
             &self.concerned_files,
             &entry,
         );
-        let stays = self.knows_concerned && !touched;
+        let stays = stays_known(self.knows_concerned, touched);
         self.knows_concerned = false;
         replay(&mut self.state, &entry)?;
         let known = follow(

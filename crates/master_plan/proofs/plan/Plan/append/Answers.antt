@@ -1,3 +1,6 @@
+use Rattle.std.proofs.Common.{List, sym, ap, ◌∙◌}
+use Rattle.protocol.specs.Master.{PendingSnapshot}
+use Rattle.master_plan.specs.Concerned.{touches}
 use Rattle.master_plan.proofs.Followed.{appended_if as concerned_if}
 use Rattle.master_plan.proofs.Watching.{appended_if}
 use Rattle.master_plan.proofs.plan.Plan.append.Goals as goal
@@ -8,7 +11,7 @@ invariant_of-self-2 g c =
       (
         c.self.invariant.0.0,
         concerned_if i.state c.replay.new.state c.args.entry i.snapshots.items i.concerned_files i.concerned_chunks c.follow-known.new.chunks i.knows_concerned c.touches-touched.result c.follow-known.result
-            c.touches-touched.ensures c.in_ok-replay.ensures.ok c.follow-known.ensures c.self.invariant.0.1,
+            (c.touches-touched.ensures ∙ ap (λ (ss : List PendingSnapshot). touches i.state ss i.concerned_files c.args.entry) c.as_slice.ensures.value) c.in_ok-replay.ensures.ok (λ e. let s = c.follow-known.ensures e in (sym c.stays_known-stays.ensures ∙ s.0, s.1)) c.self.invariant.0.1,
       ),
       appended_if i.config i.server_count i.reported i.whole_until c.doubt_granted-until.result c.doubt_granted-until.ensures.kept i.holders i.state c.replay.new.state i.doubted c.doubt_granted-until.new.doubted
           c.args.entry c.doubt_granted-until.ensures.doubted c.in_ok-replay.ensures.ok c.self.invariant.1,
