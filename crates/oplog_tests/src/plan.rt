@@ -205,11 +205,7 @@ pub(crate) fn run<D: Disk + Drop>(disk: D, alloc: Global, plan: &Plan) -> (D, Ma
 }
 
 // So many entries that come next.
-fn next_entries(
-    walk: &mut Walk,
-    alloc: Global,
-    count: usize,
-) -> Result<Vec<Record>, DecodeFault>
+fn next_entries(walk: &mut Walk, alloc: Global, count: usize) -> Result<Vec<Record>, DecodeFault>
     requires { (all : List Record) × IsWalk all walk.old }
     ensures { OnOk result ((all : List Record) × IsWalk all walk.new) }
 {
