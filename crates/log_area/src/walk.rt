@@ -84,12 +84,12 @@ impl Walk {
     {
         let (left, taken) = self.what_is_left();
         let first = first_entry(left, taken, alloc)?;
-        let Some((entry, after)) = first else {
+        let Some(found) = first else {
             return Ok(None);
         };
-        self.at = self.bytes.len() - after.len();
+        self.at = self.bytes.len() - found.1.len();
         self.place += 1;
-        Ok(Some(entry))
+        Ok(Some(found.0))
     }
 
     /// Goes on to a place.

@@ -27,7 +27,7 @@ returns-clause-entry c all is =
     let told = c.what_is_left.ensures in
     let some = c.in_ok-first.ensures.steps is.items is.records (left_of all self is _ _ told.left told.taken) in
     let steps = rw c.in-Some.is at some in
-    entry_there all self is c.what_is_left.result.0.now c.in-Some.after.now c.what_is_left.result.1 c.in-Some.entry steps
+    entry_there all self is c.what_is_left.result.0.now c.in-Some.found.1.now c.what_is_left.result.1 c.in-Some.found.0 steps
 
 pub returns-clause-walk : goal.returns-clause-walk
 returns-clause-walk c all is =
@@ -35,7 +35,7 @@ returns-clause-walk c all is =
     let told = c.what_is_left.ensures in
     let some = c.in_ok-first.ensures.steps is.items is.records (left_of all self is _ _ told.left told.taken) in
     let steps = rw c.in-Some.is at some in
-    stepped all self is c.what_is_left.result.0.now c.in-Some.after.now c.what_is_left.result.1 c.in-Some.entry _ _ told.left told.taken steps (omega arith) refl
+    stepped all self is c.what_is_left.result.0.now c.in-Some.found.1.now c.what_is_left.result.1 c.in-Some.found.0 _ _ told.left told.taken steps (omega arith) refl
 
 pub returns-in_default-clause-entry : goal.returns-in_default-clause-entry
 returns-in_default-clause-entry c all is =
