@@ -1,5 +1,5 @@
 -- Entries are read in one way alone.
-use Rattle.std.proofs.Common.{◌≡◌, ◌≢◌, ℕ, ◌+◌, ◌-◌, ◌<◌, ◌≤◌, ◌^◌, Bool, true, false, List, [], ◌∷◌, ◌++◌, length, take, drop, Option, Some, None, refl, sym, ap, subst, ◌∙◌, append_assoc, length-append, take-append-drop, arith}
+use Rattle.std.proofs.Common.{◌≡◌, ◌≢◌, ℕ, ◌+◌, ◌-◌, ◌<◌, ◌≤◌, false, List, [], ◌∷◌, ◌++◌, length, take, drop, Some, None, refl, sym, ap, subst, ◌∙◌, append_assoc, length-append, take-append-drop, arith}
 use Rattle.std.proofs.lemmas.List.{take_at, drop_at, append-nil, nil_from_length, length-take-le}
 use Rattle.std.specs.List.{AllByRecursion}
 use Rattle.log_records.specs.declared.record.Record.{Record}

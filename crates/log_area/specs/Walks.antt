@@ -1,5 +1,5 @@
 -- Walks through the entries of an area.
-use Rattle.std.specs.Prelude.{◌≡◌, ℕ, ◌+◌, ◌-◌, ◌<◌, ◌≤◌, List, ◌∷◌, ◌++◌, length, drop}
+use Rattle.std.specs.Prelude.{◌≡◌, ℕ, ◌-◌, ◌<◌, ◌≤◌, List, ◌∷◌, ◌++◌, length, drop}
 use Rattle.std.specs.List.{AllByRecursion}
 use Rattle.log_records.specs.declared.record.Record.{Record}
 use Rattle.log_area.specs.Entries.{entries, IsEntry, HoldsRecords}

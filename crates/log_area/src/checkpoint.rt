@@ -49,6 +49,7 @@ pub fn read_records(bytes: &[u8], alloc: Global) -> Result<(CountedRecords, usiz
             return Err(DecodeFault::Damaged);
         }
         records.push(&record);
+        drop(record);
         rest = after;
     }
     if rest.is_empty() {

@@ -46,6 +46,16 @@ fn first_entry(
     Ok(None)
 }
 
+// The bytes from a place on, and how many of these are items.
+fn what_is_left(bytes: &[u8], at: usize, items_end: usize) -> (&[u8], usize)
+    requires { at ≤ length bytes.now }
+    ensures left { result.0.now ≡ drop at bytes.now }
+    ensures taken { result.1 ≡ items_end - at }
+{
+    let (_, left) = bytes.split_at(at);
+    (left, items_end.saturating_sub(at))
+}
+
 impl Walk {
     /// Before the first entry. `Damaged`: the bytes are none of an open area's.
     pub fn begin(bytes: Vec<u8>) -> Result<Walk, DecodeFault>
@@ -63,16 +73,6 @@ impl Walk {
         })
     }
 
-    // The bytes that are left, and how many of these are items.
-    fn what_is_left(&self) -> (&[u8], usize)
-        requires { self.now.at ≤ length self.now.bytes.items }
-        ensures left { result.0.now ≡ drop self.now.at self.now.bytes.items }
-        ensures taken { result.1 ≡ self.now.items_end - self.now.at }
-    {
-        let (_, left) = self.bytes.split_at(self.at);
-        (left, self.items_end.saturating_sub(self.at))
-    }
-
     /// The next entry; None behind the last one. After an error the walk is where it was.
     pub fn next(&mut self, alloc: Global) -> Result<Option<Record>, DecodeFault>
         requires { (all : List Record) × IsWalk all self.old }
@@ -82,7 +82,7 @@ impl Walk {
         ensures err { OnErr result (self.new ≡ self.old) }
         ensures undamaged { IsErrOf result Damaged → ⊥ }
     {
-        let (left, taken) = self.what_is_left();
+        let (left, taken) = what_is_left(&self.bytes, self.at, self.items_end);
         let first = first_entry(left, taken, alloc)?;
         let Some(found) = first else {
             return Ok(None);

@@ -1,4 +1,4 @@
-use Rattle.std.proofs.Common.{◌≡◌, List, Some, subst, ap, sym, ◌∙◌}
+use Rattle.std.proofs.Common.{Some, subst, ap, sym}
 use Rattle.std.specs.Prelude.{Err}
 use Rattle.log_area.specs.Areas.{AreaState}
 use Rattle.log_area.specs.Entries.{entries, HoldsRecords}

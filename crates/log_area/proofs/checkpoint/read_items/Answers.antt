@@ -1,4 +1,4 @@
-use Rattle.std.proofs.Common.{◌≡◌, true, false, ap, sym, ◌∙◌, arith}
+use Rattle.std.proofs.Common.{◌≡◌, false, ap, sym, arith}
 use Rattle.std.specs.Prelude.{Err}
 use Rattle.log_area.specs.Order.{comes_next}
 use Rattle.log_area.proofs.Gates.{none_left, some_left}

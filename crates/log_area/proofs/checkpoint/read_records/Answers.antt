@@ -1,4 +1,4 @@
-use Rattle.std.proofs.Common.{true, false, ap, sym, subst, ◌∙◌, arith, Bool}
+use Rattle.std.proofs.Common.{true, false, ap, sym, arith}
 use Rattle.std.specs.Prelude.{Err, ◌≡◌}
 use Rattle.log_codec.specs.Payloads.{is_item}
 use Rattle.log_area.proofs.Gates.{none_left}

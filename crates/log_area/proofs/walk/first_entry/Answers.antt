@@ -1,4 +1,4 @@
-use Rattle.std.proofs.Common.{◌++◌, ap, sym, ◌∙◌, arith}
+use Rattle.std.proofs.Common.{◌++◌, ap, sym, arith}
 use Rattle.std.specs.Prelude.{Err}
 use Rattle.log_area.specs.Entries.{entries}
 use Rattle.log_area.proofs.Refusing.{handed_on}

@@ -1,4 +1,4 @@
-use Rattle.std.proofs.Common.{◌≡◌, ◌+◌, ◌<◌, length, ap, arith}
+use Rattle.std.proofs.Common.{◌<◌, length, ap, arith}
 use Rattle.std.specs.Prelude.{Err}
 use Rattle.log_area.proofs.Refusing.{handed_on}
 use Rattle.log_area.proofs.walk.Walk.go_to.Goals as goal
@@ -10,14 +10,14 @@ pub loop-self-preserved : goal.loop-self-preserved
 loop-self-preserved c =
     let some = c.requires.there.0 in
     let walk = c.loop-self.invariant.0 some c.requires.there.1 in
-    let less : c.loop-self.self.now.place < length some = omega (arith, c.requires.there.2) in
+    let less : c.loop-self.self.place < length some = omega (arith, c.requires.there.2) in
     (λ all is. c.next.ensures.walk all (c.loop-self.invariant.0 all is), omega (arith, c.in_ok-next.ensures.place some walk less))
 
 pub loop-self-smaller : goal.loop-self-smaller
 loop-self-smaller c =
     let some = c.requires.there.0 in
     let walk = c.loop-self.invariant.0 some c.requires.there.1 in
-    let less : c.loop-self.self.now.place < length some = omega (arith, c.requires.there.2) in
+    let less : c.loop-self.self.place < length some = omega (arith, c.requires.there.2) in
     omega (arith, c.in_ok-next.ensures.place some walk less)
 
 pub returns-clause-walk : goal.returns-clause-walk

@@ -1,4 +1,4 @@
-use Rattle.std.proofs.Common.{◌≤◌, ◌-◌, ◌<◌, List, length}
+use Rattle.std.proofs.Common.{◌≤◌, ◌-◌, List}
 use Rattle.log_records.specs.declared.record.Record.{Record}
 use Rattle.log_area.specs.Walks.{IsWalk}
 use Rattle.log_area.proofs.walk.Walk.go_to.Given as goal
