@@ -1,8 +1,8 @@
 -- What stands on a disk, and what a stop within an opening leaves.
-use Rattle.std.proofs.Common.{◌≡◌, ◌≢◌, ◌⊎◌, ℕ, ◌<◌, ◌≤◌, Bool, true, false, ◌==◌, List, [], ◌∷◌, ◌++◌, length, get_or, take, Option, None, refl, sym, ap, subst, ◌∙◌, arith, inl, inr}
+use Rattle.std.proofs.Common.{◌≡◌, ℕ, ◌≤◌, Bool, true, false, ◌==◌, List, [], ◌++◌, length, take, Option, None, refl, sym, ap, subst, ◌∙◌, arith, inl, inr}
 use Rattle.std.specs.Prelude.{Err, IfOk, Ok, OnOk, Result}
 use Rattle.std.proofs.lemmas.List.{get_or-take}
-use Rattle.disk.specs.Device.{NoMore, Only}
+use Rattle.disk.specs.Device.{Only}
 use Rattle.gated_disk.specs.Moments.{LeavesOnly, OnlyReads}
 use Rattle.gated_disk.proofs.Moments.{joined, weaker}
 use Rattle.log_records.specs.declared.record.Record.{Record}
@@ -10,13 +10,13 @@ use Rattle.log_area.specs.Areas.{end_of, AreaState}
 use Rattle.log_area.specs.Entries.{entries, open_entries}
 use Rattle.log_area.specs.Layout.{area_at, area_size}
 use Rattle.disk.specs.Bytes.{range_at}
-use Rattle.log_disk.specs.Disks.{area_of, head, is_formatted, DiskSays, HasLog}
+use Rattle.log_disk.specs.Disks.{area_of, is_formatted, DiskSays, HasLog}
 use Rattle.log_disk.proofs.Disks.{has_log}
 use Rattle.oplog.specs.Logs.{IsOpen}
 use Rattle.oplog.specs.declared.log.Log.{Log}
 use Rattle.oplog.specs.declared.fault.LogFault.{LogFault}
 use Rattle.oplog_areas.specs.Writing.{area_with}
-use Rattle.oplog_format.specs.NewLogs.{IsLogOf, IsNew}
+use Rattle.oplog_format.specs.NewLogs.{IsLogOf}
 use Rattle.log_area.specs.declared.walk.Walk.{Walk}
 use Rattle.oplog_opening.specs.Opening.{area_found, IsFound, IsOpening, WalksThrough}
 use Rattle.oplog_opening.specs.declared.found.Found.{Found}

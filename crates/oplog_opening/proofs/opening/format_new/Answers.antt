@@ -1,4 +1,4 @@
-use Rattle.std.proofs.Common.{◌≡◌, length, refl}
+use Rattle.std.proofs.Common.{length, refl}
 use Rattle.oplog_opening.proofs.Whole.{formatted_found, found_none}
 use Rattle.oplog_opening.proofs.opening.format_new.Goals as goal
 

@@ -1,5 +1,3 @@
-use Rattle.std.proofs.Common.{◌≡◌, ℕ, sym, ap, subst, ◌∙◌}
-use Rattle.log_area.specs.Layout.{area_at}
 use Rattle.oplog_opening.proofs.Whole.{found_open}
 use Rattle.oplog_opening.proofs.opening.make_opened.Goals as goal
 

@@ -1,10 +1,7 @@
-use Rattle.std.proofs.Common.{◌≡◌, ℕ, sym, ap, subst, ◌∙◌, arith}
+use Rattle.std.proofs.Common.{◌≡◌, sym, subst, arith}
 use Rattle.std.specs.Prelude.{Err}
-use Rattle.disk.specs.Bytes.{range_at}
 use Rattle.log_codec.specs.declared.fault.DecodeFault.TheVariants.{Damaged}
 use Rattle.log_area.specs.Areas.{AreaSays}
-use Rattle.log_area.specs.Layout.{area_at}
-use Rattle.log_disk.specs.Disks.{area_of}
 use Rattle.log_disk.proofs.Disks.{area_lies}
 use Rattle.oplog_opening.proofs.Whole.{current_bytes, read_open}
 use Rattle.oplog_opening.proofs.reading.read_again.Goals as goal
