@@ -254,10 +254,14 @@ impl<D: StoppableDisk> OperationLog for DiskLog<D> {
         match self.log.append(self.alloc, &record) {
             Ok(()) => {
                 self.records.push(&record);
+                drop(record);
                 self.used = used;
                 Ok(())
             }
-            Err(oplog::LogFault::NoMemory) => Err(LogFault::NoMemory),
+            Err(oplog::LogFault::NoMemory) => {
+                drop(record);
+                Err(LogFault::NoMemory)
+            }
             Err(_) => {
                 self.standing = Standing::Appending(record);
                 Err(LogFault::Device)

@@ -1,4 +1,3 @@
-use Rattle.std.proofs.Common.{◌≡◌, ℕ, ap, ◌∙◌}
 use Rattle.stored_log.proofs.entries.walk_to.Goals as goal
 
 pub go_to-requires-clause-there : goal.go_to-requires-clause-there

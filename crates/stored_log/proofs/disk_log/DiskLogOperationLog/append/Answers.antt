@@ -1,4 +1,4 @@
-use Rattle.std.proofs.Common.{◌≡◌, ◌+◌, List, ◌∷◌, ◌++◌, [], sym, ap, ◌∙◌, arith, rules}
+use Rattle.std.proofs.Common.{◌≡◌, ◌+◌, ◌∷◌, ◌++◌, [], sym, ap, ◌∙◌, arith, rules}
 use Rattle.std.specs.Prelude.{Err}
 use Rattle.protocol.specs.LogSizes.{payload_size, used_size}
 use Rattle.operation_log.proofs.Growth.{count_within, record_push}
@@ -22,8 +22,8 @@ invariant_of-self g c =
       tt,
     )
 
-pub invariant_of-self-in-NoMemory-1 : goal.invariant_of-self-in-NoMemory-1
-invariant_of-self-in-NoMemory-1 g c =
+pub invariant_of-self-in-Err-NoMemory : goal.invariant_of-self-in-Err-NoMemory
+invariant_of-self-in-Err-NoMemory g c =
     let was = c.self.inside in
     let refused = c.in-Err-NoMemory.is ∙ ap Err c.in-Err-NoMemory.field-0-is in (
       refused_kept g.D.Disk.seen g.D.Disk.may_leave was.log c.append.new.self was.items was.records was.standing c.in-Open.is c.self.invariant.0 (λ area open'. c.append.ensures.still_open area open' refused),

@@ -20,8 +20,8 @@ invariant_of-self g c =
       tt,
     )
 
-pub invariant_of-self-in-NoMemory-1 : goal.invariant_of-self-in-NoMemory-1
-invariant_of-self-in-NoMemory-1 g c =
+pub invariant_of-self-in-Err-NoMemory : goal.invariant_of-self-in-Err-NoMemory
+invariant_of-self-in-Err-NoMemory g c =
     let was = c.self.inside in
     let fresh : c.replace-writing.new.dest.items ≡ [] = search rules in
     let refused = c.in-Err-NoMemory.is ∙ ap Err c.in-Err-NoMemory.field-0-is in (

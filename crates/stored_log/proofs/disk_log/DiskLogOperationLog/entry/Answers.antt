@@ -1,4 +1,4 @@
-use Rattle.std.proofs.Common.{◌≡◌, ◌<◌, ◌≤◌, ◌++◌, List, length, Option, None, sym, subst, ◌∙◌, arith}
+use Rattle.std.proofs.Common.{◌≡◌, ◌++◌, Option, None, sym, subst, arith}
 use Rattle.std.specs.Prelude.{slice_get}
 use Rattle.std.proofs.lemmas.Option.{slice_get_past}
 use Rattle.log_area.specs.Areas.{AreaState}
@@ -11,6 +11,11 @@ use Rattle.stored_log.proofs.disk_log.DiskLogOperationLog.entry.Goals as goal
 
 pub overflow_add-count : goal.overflow_add-count
 overflow_add-count g c =
+    let was = c.self.inside in
+    omega (arith, count_within was.items was.records, c.self.invariant.1.0, c.self.invariant.1.1)
+
+pub overflow_add-place : goal.overflow_add-place
+overflow_add-place g c =
     let was = c.self.inside in
     omega (arith, count_within was.items was.records, c.self.invariant.1.0, c.self.invariant.1.1)
 
