@@ -1,9 +1,9 @@
 -- An area is read in one way alone.
-use Rattle.std.proofs.Common.{◌≡◌, ℕ, ◌≤◌, true, List, [], ◌∷◌, ◌++◌, length, take, drop, Option, Some, None, sym, ap, subst, ◌∙◌}
+use Rattle.std.proofs.Common.{◌≡◌, ℕ, true, List, ◌++◌, length, sym, ap, subst, ◌∙◌}
 use Rattle.std.specs.List.{AllByRecursion}
 use Rattle.log_records.specs.declared.record.Record.{Record}
 use Rattle.log_codec.specs.Fields.{number, index, IsNumber, IsIndex}
-use Rattle.log_area.specs.Entries.{entries, open_entries, IsEntry, HoldsRecords}
+use Rattle.log_area.specs.Entries.{entries, IsEntry, HoldsRecords}
 use Rattle.log_area.specs.Order.{is_checkpoint}
 use Rattle.log_area.specs.Areas.{AreaState, AreaSays, area_bytes}
 use Rattle.log_area.proofs.Parsing.{parts_same, number_unique, index_unique, entries_unique, records_unique, same_head}

@@ -1,5 +1,5 @@
 -- Entries are read in one way alone.
-use Rattle.std.proofs.Common.{◌≡◌, ◌≢◌, ℕ, ◌+◌, ◌-◌, ◌<◌, ◌≤◌, ◌^◌, Bool, true, false, List, [], ◌∷◌, ◌++◌, length, take, drop, Option, Some, None, refl, sym, ap, subst, ◌∙◌, append_assoc, length-append, take-append-drop, arith}
+use Rattle.std.proofs.Common.{◌≡◌, ◌≢◌, ℕ, ◌+◌, ◌-◌, ◌<◌, ◌≤◌, false, List, [], ◌∷◌, ◌++◌, length, take, drop, Some, None, refl, sym, ap, subst, ◌∙◌, append_assoc, length-append, take-append-drop, arith}
 use Rattle.std.proofs.lemmas.List.{take_at, drop_at, append-nil, nil_from_length, length-take-le}
 use Rattle.std.specs.List.{AllByRecursion}
 use Rattle.log_records.specs.declared.record.Record.{Record}
@@ -115,11 +115,11 @@ entries_split (d ∷ ds) (i ∷ is) rest fd fi e =
     let more = entries_split ds is rest fd.1 fi.1 one.1 in
     (more.0, subst (λ (r : Record). r ∷ is ≡ d ∷ (ds ++ more.0)) one.0 (ap (λ (l : List Record). d ∷ l) more.1), more.2, more.3)
 
-entries_nil : entries [] ≡ []
+pub entries_nil : entries [] ≡ []
 unfolding entries
 entries_nil = refl
 
-entries_cons : (r : Record) (rest : List Record) → entries (r ∷ rest) ≡ entry r ++ entries rest
+pub entries_cons : (r : Record) (rest : List Record) → entries (r ∷ rest) ≡ entry r ++ entries rest
 unfolding entries
 entries_cons r rest = refl
 
@@ -195,11 +195,11 @@ records_split (d ∷ ds) (r ∷ rs) rest gate behind shut fd fr e =
 pub split_of : (done records : List Record) (rest bytes : List ℕ) → ReadRecords done rest bytes → (holds : HoldsRecords records bytes) → Later done records rest holds.gate holds.rest
 split_of done records rest bytes so_far holds = records_split done records rest holds.gate holds.rest holds.closed so_far.each holds.each (sym so_far.parts ∙ holds.parts)
 
-open_nil : open_entries [] ≡ []
+pub open_nil : open_entries [] ≡ []
 unfolding open_entries
 open_nil = refl
 
-open_cons : (r : Record) (rest : List Record) (x : List ℕ) → open_entries (r ∷ rest) ++ x ≡ 1 ∷ (entry r ++ (open_entries rest ++ x))
+pub open_cons : (r : Record) (rest : List Record) (x : List ℕ) → open_entries (r ∷ rest) ++ x ≡ 1 ∷ (entry r ++ (open_entries rest ++ x))
 unfolding open_entries
 open_cons r rest x = ap (λ (l : List ℕ). 1 ∷ l) (append_assoc (entry r) (open_entries rest) x)
 

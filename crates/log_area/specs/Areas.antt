@@ -3,7 +3,7 @@ use Rattle.std.specs.Prelude.{◌≡◌, ℕ, ◌+◌, true, List, ◌∷◌, �
 use Rattle.std.specs.List.{AllByRecursion}
 use Rattle.log_records.specs.declared.record.Record.{Record}
 use Rattle.log_codec.specs.Fields.{number, index, IsNumber, IsIndex}
-use Rattle.log_area.specs.Entries.{entry, entries, open_entries, IsEntry, HoldsRecords}
+use Rattle.log_area.specs.Entries.{entries, open_entries, IsEntry, HoldsRecords}
 use Rattle.log_area.specs.Order.{is_checkpoint}
 
 -- what an open area says

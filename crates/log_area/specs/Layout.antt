@@ -1,5 +1,5 @@
 -- Where things stand on the master's disk: a head of 16 bytes, and two areas of one size.
-use Rattle.std.specs.Prelude.{◌≡◌, ◌≢◌, ℕ, ◌+◌, ◌-◌, ◌*◌, ◌/◌, Bool, nat_le, List, [], ◌∷◌, ◌++◌, length}
+use Rattle.std.specs.Prelude.{ℕ, ◌+◌, ◌-◌, ◌*◌, ◌/◌, Bool, nat_le, List, length}
 use Rattle.log_records.specs.declared.record.Record.{Record}
 use Rattle.log_codec.specs.Payloads.{payload}
 use Rattle.log_area.specs.Entries.{entries}

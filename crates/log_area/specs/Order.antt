@@ -1,5 +1,5 @@
 -- The order of a checkpoint's items: counters, names by path bytes, chunks by handle, clients.
-use Rattle.std.specs.Prelude.{ℕ, Bool, true, ◌&&◌, ◌||◌, ◌==◌, nat_lt, List, [], ◌∷◌}
+use Rattle.std.specs.Prelude.{ℕ, Bool, true, ◌&&◌, ◌||◌, ◌==◌, nat_lt, List, [], ◌∷◌, Option, None, Some}
 use Rattle.std.specs.Ordering.{nat_cmp, is_lt}
 use Rattle.std.specs.Cmp.Lexicographic.{slice_cmp}
 use Rattle.log_records.specs.declared.record.Record.{Record}
@@ -42,3 +42,8 @@ is_in_order (a ∷ rest) = is_item a && comes_before_next a rest && is_in_order 
 abbrev pub is_checkpoint : List Record → Bool
 is_checkpoint [] = true
 is_checkpoint (a ∷ rest) = (rank a == 0) && is_in_order (a ∷ rest)
+
+-- behind the last item, or first where there is none
+abbrev pub comes_next : Option Record → Record → Bool
+comes_next None a = is_item a && (rank a == 0)
+comes_next (Some last) a = is_item a && comes_before last a

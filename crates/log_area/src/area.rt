@@ -10,19 +10,19 @@ ghost use Rattle.log_codec.specs.Reading.{Gives};
 use crate::checkpoint::{read_items, read_records};
 use crate::fields::{u32_at, u64_at};
 use crate::gate::{behind_gate, is_open};
+use counted_records::CountedRecords;
 use log_codec::DecodeFault;
-use log_records::record::Record;
 use std::alloc::Global;
 use std::marker::Model;
 
-/// What an open area says.
-#[derive(Debug, Drop)]
+/// What an open area says. Its items and records are counted, and aren't kept.
+#[derive(Drop)]
 pub struct Area {
     number: u64,
-    items: Vec<Record>,
-    records: Vec<Record>,
+    items: CountedRecords,
+    records: CountedRecords,
     end: usize,
-    ghost ends: { end ≡ 13 + length (entries items.items) + length (open_entries records.items) },
+    ghost ends: { end ≡ 13 + length (entries items) + length (open_entries records) },
 }
 
 impl Model for Area {
@@ -30,7 +30,7 @@ impl Model for Area {
 
     ghost Value = { AreaState };
 
-    ghost view = { λ a. record { number = a.number; items = a.items.items; records = a.records.items } };
+    ghost view = { λ a. record { number = a.number; items = a.items; records = a.records } };
 }
 
 impl Area {
@@ -41,20 +41,6 @@ impl Area {
         self.number
     }
 
-    /// The checkpoint's items.
-    pub fn items(&self) -> &[Record]
-        ensures { result.now ≡ self.now.items }
-    {
-        &self.items
-    }
-
-    /// The records appended after it.
-    pub fn records(&self) -> &[Record]
-        ensures { result.now ≡ self.now.records }
-    {
-        &self.records
-    }
-
     /// Where the closed gate after the last record stands in the area.
     pub fn end(&self) -> usize
         ensures { result ≡ end_of self.now }
@@ -62,17 +48,17 @@ impl Area {
         self.end
     }
 
-    /// The items, and the records.
-    pub fn into_parts(self) -> (Vec<Record>, Vec<Record>)
-        ensures items { result.0.items ≡ self.items }
-        ensures records { result.1.items ≡ self.records }
+    /// The checkpoint's items, and the records appended after it.
+    pub fn into_parts(self) -> (CountedRecords, CountedRecords)
+        ensures items { result.0 ≡ self.items }
+        ensures records { result.1 ≡ self.records }
     {
         (self.items, self.records)
     }
 }
 
-// The number, the checkpoint and what follows it.
-fn parts_of(bytes: &[u8]) -> Result<(u64, &[u8], &[u8]), DecodeFault>
+/// The number, the checkpoint and what follows it.
+pub fn parts_of(bytes: &[u8]) -> Result<(u64, &[u8], &[u8]), DecodeFault>
     ensures found { IfOk result (λ x. IsNumber x.0 × IsIndex (length x.1.now) × (bytes.now ≡ area_bytes x.0 x.1.now x.2.now)) }
     ensures undamaged { (n : ℕ) (checkpoint rest : List ℕ) → IsNumber n → IsIndex (length checkpoint) → bytes.now ≡ area_bytes n checkpoint rest → IsErrOf result Damaged → ⊥ }
 {
@@ -91,7 +77,7 @@ fn parts_of(bytes: &[u8]) -> Result<(u64, &[u8], &[u8]), DecodeFault>
 
 /// What the area with these bytes says. Whatever stands behind the closed gate after its last record counts for nothing.
 ///
-/// `Damaged`: the area is closed, or its bytes are not in the grammar. `NoMemory`: an allocator refused what the items and records need. Neither leaves anything.
+/// `Damaged`: the area is closed, or its bytes are not in the grammar. `NoMemory`: an allocator refused what an item or a record needs.
 pub fn read_area(alloc: Global, bytes: &[u8]) -> Result<Area, DecodeFault>
     ensures found { IfOk result (λ a. AreaSays a bytes.now) }
     ensures only { (area : AreaState) → AreaSays area bytes.now → Gives (λ a. a) result (Some area) }

@@ -8,9 +8,11 @@ mod fields;
 mod gate;
 mod layout;
 mod order;
+mod walk;
 mod writing;
 
 pub use area::{Area, read_area};
 pub use layout::{area_at, area_size};
 pub use order::is_checkpoint;
+pub use walk::Walk;
 pub use writing::put_entry;

@@ -1,7 +1,7 @@
 //! The order of a checkpoint's items.
 
 ghost use Rattle.std.specs.Prelude.{◌≡◌};
-ghost use Rattle.log_area.specs.Order.{comes_before, comes_before_next, is_checkpoint, is_in_order, number_of, path_of, rank};
+ghost use Rattle.log_area.specs.Order.{comes_before, comes_before_next, comes_next, is_checkpoint, is_in_order, number_of, path_of, rank};
 
 use log_codec::is_item;
 use log_records::record::Record;
@@ -63,6 +63,16 @@ fn is_in_order(items: &[Record]) -> bool
         rest = others;
     }
     true
+}
+
+/// Whether an item may come behind the last one, or first where there is none.
+pub fn comes_next(last: &Option<Record>, item: &Record) -> bool
+    ensures { result ≡ comes_next last.now item.now }
+{
+    match last {
+        Some(before) => is_item(item) && comes_before(before, item),
+        None => is_item(item) && rank(item) == 0,
+    }
 }
 
 /// Whether these are the items of a checkpoint in their order: none, or the counters, names by path bytes, chunks by handle, clients.

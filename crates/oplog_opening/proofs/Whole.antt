@@ -1,21 +1,24 @@
 -- What stands on a disk, and what a stop within an opening leaves.
-use Rattle.std.proofs.Common.{◌≡◌, ◌≢◌, ◌⊎◌, ℕ, ◌<◌, ◌≤◌, Bool, true, false, ◌==◌, List, [], ◌∷◌, ◌++◌, length, get_or, take, refl, sym, ap, subst, ◌∙◌, arith, inl, inr}
+use Rattle.std.proofs.Common.{◌≡◌, ℕ, ◌≤◌, Bool, true, false, ◌==◌, List, [], ◌++◌, length, take, Option, None, refl, sym, ap, subst, ◌∙◌, arith, inl, inr}
 use Rattle.std.specs.Prelude.{Err, IfOk, Ok, OnOk, Result}
 use Rattle.std.proofs.lemmas.List.{get_or-take}
-use Rattle.disk.specs.Device.{NoMore, Only}
+use Rattle.disk.specs.Device.{Only}
 use Rattle.gated_disk.specs.Moments.{LeavesOnly, OnlyReads}
 use Rattle.gated_disk.proofs.Moments.{joined, weaker}
 use Rattle.log_records.specs.declared.record.Record.{Record}
 use Rattle.log_area.specs.Areas.{end_of, AreaState}
 use Rattle.log_area.specs.Entries.{entries, open_entries}
 use Rattle.log_area.specs.Layout.{area_at, area_size}
-use Rattle.log_disk.specs.Disks.{head, is_formatted, DiskSays, HasLog}
+use Rattle.disk.specs.Bytes.{range_at}
+use Rattle.log_disk.specs.Disks.{area_of, is_formatted, DiskSays, HasLog}
 use Rattle.log_disk.proofs.Disks.{has_log}
 use Rattle.oplog.specs.Logs.{IsOpen}
+use Rattle.oplog.specs.declared.log.Log.{Log}
 use Rattle.oplog.specs.declared.fault.LogFault.{LogFault}
 use Rattle.oplog_areas.specs.Writing.{area_with}
-use Rattle.oplog_format.specs.NewLogs.{IsLogOf, IsNew}
-use Rattle.oplog_opening.specs.Opening.{area_found, IsFound, IsOpening}
+use Rattle.oplog_format.specs.NewLogs.{IsLogOf}
+use Rattle.log_area.specs.declared.walk.Walk.{Walk}
+use Rattle.oplog_opening.specs.Opening.{area_found, IsFound, IsOpening, WalksThrough}
 use Rattle.oplog_opening.specs.declared.found.Found.{Found}
 
 no_entries : length (entries []) ≡ 0
@@ -51,29 +54,30 @@ pub headed : (b : Bool) → b ≡ true → b ≡ false → ⊥
 headed b opened shut = let both : true ≡ false = sym opened ∙ shut in absurd cc
 
 -- what was found is the disk's log
-pub found_log : (found : Found) (d : List ℕ) → IsFound found d → IsLogOf found.items.items found.records.items d
+pub found_log : (found : Found) (d : List ℕ) → IsFound found d → IsLogOf found.items found.records d
 found_log found d is = inr (has_log (length d) found.which (area_found found) d is.says)
 
-pub found_logs : (r : Result Found LogFault) (d : List ℕ) → IfOk r (λ x. IsFound x d) → IfOk r (λ x. IsLogOf x.items.items x.records.items d)
+pub found_logs : (r : Result Found LogFault) (d : List ℕ) → IfOk r (λ x. IsFound x d) → IfOk r (λ x. IsLogOf x.items x.records d)
 found_logs (Ok x) d is = found_log x d is
 found_logs (Err e) d is = tt
 
 abbrev pub state_of : ℕ → List Record → List Record → AreaState
 state_of number items records = record { number = number; items = items; records = records }
 
-nothing_found : (found : Found) → found.number ≡ 1 → found.items.items ≡ [] → found.records.items ≡ [] → area_found found ≡ area_with 1 []
+nothing_found : (found : Found) → found.number ≡ 1 → found.items ≡ [] → found.records ≡ [] → area_found found ≡ area_with 1 []
 nothing_found found number items records =
-    ap (λ (k : ℕ). state_of k found.items.items found.records.items) number ∙ ap (λ (l : List Record). state_of 1 l found.records.items) items ∙ ap (λ (l : List Record). state_of 1 [] l) records
+    ap (λ (k : ℕ). state_of k found.items found.records) number ∙ ap (λ (l : List Record). state_of 1 l found.records) items ∙ ap (λ (l : List Record). state_of 1 [] l) records
 
 -- a log that was formatted was found
-pub formatted_found : (found : Found) (n : ℕ) (d : List ℕ) → found.which ≡ 0 → found.number ≡ 1 → found.items.items ≡ [] → found.records.items ≡ [] → found.end ≡ 13 → DiskSays n 0 (area_with 1 []) d → IsFound found d
-formatted_found found n d at number items records ends says =
+pub formatted_found : (found : Found) (n : ℕ) (d : List ℕ) → found.which ≡ 0 → found.number ≡ 1 → found.items ≡ [] → found.records ≡ [] → found.end ≡ 13 → found.walk ≡ None → DiskSays n 0 (area_with 1 []) d → IsFound found d
+formatted_found found n d at number items records ends no_walk says =
     let empty = nothing_found found number items records in
     let of_size : DiskSays (length d) 0 (area_with 1 []) d = subst (λ (k : ℕ). DiskSays k 0 (area_with 1 []) d) (sym says.sized) says in
     let of_area : DiskSays (length d) 0 (area_found found) d = subst (λ (a : AreaState). DiskSays (length d) 0 a d) (sym empty) of_size in
     record {
       says = subst (λ (k : ℕ). DiskSays (length d) k (area_found found) d) (sym at) of_area;
       end = ends ∙ sym (ap (λ (a : AreaState). end_of a) empty ∙ end_of_new);
+      walk = subst (λ (w : Option Walk). WalksThrough (found.items ++ found.records) w) (sym no_walk) tt;
     }
 
 -- on a disk with a closed head none is
@@ -114,3 +118,23 @@ module _ {D : Type 0} (seen : D → List ℕ) (may_leave : D → List ℕ → Ty
     large = omega (arith, large, sized);
     durable = durable;
   }
+
+  -- a log that is open stays so where its disk is only read
+  pub read_open : (log : Log D) (disk : D) (area : AreaState) → OnlyReads seen may_leave moment left_since log.disk disk → IsOpen seen may_leave log area → IsOpen seen may_leave (record log { disk = disk }) area
+  read_open log disk area reads is_open = record {
+    says = subst (DiskSays log.size log.which area) (sym reads.seen_same) is_open.says;
+    start = is_open.start;
+    room = is_open.room;
+    number = is_open.number;
+    end = is_open.end;
+    small = is_open.small;
+    large = is_open.large;
+    durable = still_only log.disk disk is_open.durable reads;
+  }
+
+-- the bytes of the area that is current
+pub current_bytes : {D : Type 0} (seen : D → List ℕ) (may_leave : D → List ℕ → Type 0) (log : Log D) (area : AreaState) → IsOpen seen may_leave log area → (bytes : List ℕ) → bytes ≡ range_at (seen log.disk) log.start log.room
+    → bytes ≡ area_of log.size log.which (seen log.disk)
+current_bytes seen may_leave log area is_open bytes is =
+    let d = seen log.disk in
+    is ∙ ap (λ (k : ℕ). range_at d k log.room) is_open.start ∙ ap (λ (k : ℕ). range_at d (area_at log.size log.which) k) is_open.room

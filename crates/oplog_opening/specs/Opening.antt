@@ -1,7 +1,10 @@
 -- Opening the operation log's disk.
-use Rattle.std.specs.Prelude.{◌≡◌, ◌⊎◌, ℕ, false, List, [], length}
+use Rattle.std.specs.Prelude.{◌≡◌, ◌⊎◌, ℕ, false, List, [], ◌++◌, length, Option, None, Some}
 use Rattle.log_area.specs.Areas.{AreaState, end_of}
+use Rattle.log_area.specs.Walks.{IsWalk}
+use Rattle.log_area.specs.declared.walk.Walk.{Walk}
 use Rattle.log_disk.specs.Disks.{is_formatted, DiskSays}
+use Rattle.log_records.specs.declared.record.Record.{Record}
 use Rattle.oplog_format.specs.NewLogs.{IsLogOf}
 use Rattle.oplog_opening.specs.declared.found.Found.{Found}
 
@@ -9,10 +12,16 @@ use Rattle.oplog_opening.specs.declared.found.Found.{Found}
 abbrev pub IsOpening : List ℕ → (List ℕ → Type 0) → List ℕ → Type 0
 IsOpening before may_leave c = may_leave c ⊎ ((is_formatted before ≡ false) × IsLogOf [] [] c)
 
+-- where there is a walk, it goes through these entries
+abbrev pub WalksThrough : List Record → Option Walk → Type 0
+WalksThrough all None = Unit {0}
+WalksThrough all (Some walk) = IsWalk all walk
+
 abbrev pub area_found : Found → AreaState
-area_found found = record { number = found.number; items = found.items.items; records = found.records.items }
+area_found found = record { number = found.number; items = found.items; records = found.records }
 
 -- What was found is what the disk says.
 pub record IsFound (found : Found) (disk : List ℕ) : Type 0 where
   pub says : DiskSays (length disk) found.which (area_found found) disk
   pub end : found.end ≡ end_of (area_found found)
+  pub walk : WalksThrough (found.items ++ found.records) found.walk

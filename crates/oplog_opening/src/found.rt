@@ -1,13 +1,15 @@
 //! What was found on a disk.
 
-use log_records::record::Record;
+use counted_records::CountedRecords;
+use log_area::Walk;
 
-/// Which area is current, and what it says.
+/// Which area is current, what it says, and a walk through its entries, where it has any.
 #[derive(Drop)]
 pub struct Found {
     pub which: usize,
     pub number: u64,
     pub end: usize,
-    pub items: Vec<Record>,
-    pub records: Vec<Record>,
+    pub items: CountedRecords,
+    pub records: CountedRecords,
+    pub walk: Option<Walk>,
 }

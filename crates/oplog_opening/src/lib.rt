@@ -7,3 +7,4 @@ mod reading;
 
 pub use found::Found;
 pub use opening::{Opened, open, open_disk};
+pub use reading::read_again;

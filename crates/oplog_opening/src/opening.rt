@@ -8,13 +8,13 @@ ghost use Rattle.log_records.specs.declared.record.Record.{Record};
 ghost use Rattle.oplog.specs.Logs.{IsOpen, MayFail};
 ghost use Rattle.oplog.specs.declared.fault.LogFault.TheVariants as faults;
 ghost use Rattle.oplog_format.specs.NewLogs.{IsLogOf};
-ghost use Rattle.oplog_opening.specs.Opening.{IsFound, IsOpening};
+ghost use Rattle.oplog_opening.specs.Opening.{IsFound, IsOpening, WalksThrough};
 
 use crate::found::Found;
 use crate::reading::{read_head, read_log};
+use counted_records::CountedRecords;
 use disk::Disk;
-use log_area::{area_at, area_size};
-use log_records::record::Record;
+use log_area::{Walk, area_at, area_size};
 use oplog::{Log, LogFault};
 use oplog_format::format;
 use std::alloc::Global;
@@ -22,12 +22,13 @@ use std::alloc::Global;
 // The head with its gate open.
 const OPEN_HEAD: [u8; 16] = [71, 70, 83, 76, 1, 0, 0, 0, 0, 0, 0, 0, 0, 0, 0, 1];
 
-/// A log that was opened, its last checkpoint's items, and the records appended after it.
+/// A log that was opened, its last checkpoint's items, the records appended after it, and a walk through both, where there are any.
 #[derive(Drop)]
 pub struct Opened<D: Disk> {
     pub log: Log<D>,
-    pub items: Vec<Record>,
-    pub records: Vec<Record>,
+    pub items: CountedRecords,
+    pub records: CountedRecords,
+    pub walk: Option<Walk>,
 }
 
 // Whether the head's gate is open.
@@ -50,7 +51,7 @@ fn read_headed<D: Disk>(disk: &mut D, alloc: Global, front: &[u8]) -> Result<Fou
     requires front { front.now ≡ take 16 (D.seen disk.old) }
     requires headed { is_formatted (D.seen disk.old) ≡ true }
     ensures found { IfOk result (λ x. IsFound x (D.seen disk.old)) }
-    ensures same { IfOk result (λ x. IsLogOf x.items.items x.records.items (D.seen disk.old)) }
+    ensures same { IfOk result (λ x. IsLogOf x.items x.records (D.seen disk.old)) }
     ensures undamaged { (items records : List Record) → IsLogOf items records (D.seen disk.old) → IsErrOf result faults.Damaged → ⊥ }
     ensures not_full { IsErrOf result faults.Full → ⊥ }
     ensures reads { OnlyReads D.seen D.may_leave D.moment D.left_since disk.old disk.new }
@@ -69,7 +70,7 @@ fn format_new<D: Disk>(disk: &mut D, alloc: Global) -> Result<Found, LogFault>
     requires durable { Only (D.seen disk.old) (D.may_leave disk.old) }
     ensures found { IfOk result (λ x. IsFound x (D.seen disk.new)) }
     ensures size { OnOk result (length (D.seen disk.new) ≡ length (D.seen disk.old)) }
-    ensures same { IfOk result (λ x. IsLogOf x.items.items x.records.items (D.seen disk.old)) }
+    ensures same { IfOk result (λ x. IsLogOf x.items x.records (D.seen disk.old)) }
     ensures durable { OnOk result (Only (D.seen disk.new) (D.may_leave disk.new)) }
     ensures undamaged { IsErrOf result faults.Damaged → ⊥ }
     ensures not_full { IsErrOf result faults.Full → ⊥ }
@@ -81,8 +82,9 @@ fn format_new<D: Disk>(disk: &mut D, alloc: Global) -> Result<Found, LogFault>
         which: 0,
         number: 1,
         end: 13,
-        items: Vec::new(alloc),
-        records: Vec::new(alloc),
+        items: CountedRecords::new(),
+        records: CountedRecords::new(),
+        walk: None,
     })
 }
 
@@ -91,7 +93,7 @@ pub fn open_disk<D: Disk>(disk: &mut D, alloc: Global) -> Result<Found, LogFault
     requires { 4096 ≤ length (D.seen disk.old) }
     ensures found { IfOk result (λ x. IsFound x (D.seen disk.new)) }
     ensures size { OnOk result (length (D.seen disk.new) ≡ length (D.seen disk.old)) }
-    ensures same { IfOk result (λ x. IsLogOf x.items.items x.records.items (D.seen disk.old)) }
+    ensures same { IfOk result (λ x. IsLogOf x.items x.records (D.seen disk.old)) }
     ensures durable { OnOk result (Only (D.seen disk.new) (D.may_leave disk.new)) }
     ensures undamaged { (items records : List Record) → IsLogOf items records (D.seen disk.old) → IsErrOf result faults.Damaged → ⊥ }
     ensures not_full { IsErrOf result faults.Full → ⊥ }
@@ -112,10 +114,11 @@ fn make_opened<D: Disk>(disk: D, found: Found) -> Opened<D>
     requires small { length (D.seen disk) ≤ 1073741824 }
     requires found { IsFound found (D.seen disk) }
     requires durable { Only (D.seen disk) (D.may_leave disk) }
-    ensures open { IsOpen D.seen D.may_leave result.log (record { number = result.log.number; items = result.items.items; records = result.records.items }) }
+    ensures open { IsOpen D.seen D.may_leave result.log (record { number = result.log.number; items = result.items; records = result.records }) }
     ensures disk { result.log.disk ≡ disk }
-    ensures items { result.items.items ≡ found.items.items }
-    ensures records { result.records.items ≡ found.records.items }
+    ensures items { result.items ≡ found.items }
+    ensures records { result.records ≡ found.records }
+    ensures walk { WalksThrough (result.items ++ result.records) result.walk }
 {
     let size = disk.size();
     let start = area_at(size, found.which);
@@ -133,6 +136,7 @@ fn make_opened<D: Disk>(disk: D, found: Found) -> Opened<D>
         log,
         items: found.items,
         records: found.records,
+        walk: found.walk,
     }
 }
 
@@ -142,8 +146,9 @@ fn make_opened<D: Disk>(disk: D, found: Found) -> Opened<D>
 pub fn open<D: Disk>(mut disk: D, alloc: Global) -> Result<Opened<D>, (D, LogFault)>
     requires large { 4096 ≤ length (D.seen disk) }
     requires small { length (D.seen disk) ≤ 1073741824 }
-    ensures open { IfOk result (λ o. IsOpen D.seen D.may_leave o.log (record { number = o.log.number; items = o.items.items; records = o.records.items })) }
-    ensures same { IfOk result (λ o. IsLogOf o.items.items o.records.items (D.seen disk)) }
+    ensures open { IfOk result (λ o. IsOpen D.seen D.may_leave o.log (record { number = o.log.number; items = o.items; records = o.records })) }
+    ensures same { IfOk result (λ o. IsLogOf o.items o.records (D.seen disk)) }
+    ensures walk { IfOk result (λ o. WalksThrough (o.items ++ o.records) o.walk) }
     // Damaged comes only where the disk holds no log.
     ensures undamaged { (items records : List Record) → IsLogOf items records (D.seen disk) → IfErr result (λ e. e.1 ≡ faults.Damaged → ⊥) }
     ensures not_full { IfErr result (λ e. e.1 ≡ faults.Full → ⊥) }

@@ -5,17 +5,19 @@ ghost use Rattle.disk.specs.Device.{HasCause, Only};
 ghost use Rattle.gated_disk.specs.Moments.{OnlyReads};
 ghost use Rattle.log_area.specs.Areas.{AreaSays, AreaState, end_of};
 ghost use Rattle.log_disk.specs.Disks.{area_of, front_of, head, newest, open_number, DiskSays};
-ghost use Rattle.oplog.specs.Logs.{MayFail};
+ghost use Rattle.log_area.specs.Walks.{IsWalk};
+ghost use Rattle.log_codec.specs.declared.fault.DecodeFault.TheVariants as damaged;
+ghost use Rattle.oplog.specs.Logs.{IsOpen, MayFail};
 ghost use Rattle.oplog.specs.declared.fault.LogFault.TheVariants as faults;
 ghost use Rattle.oplog_format.specs.NewLogs.{IsLogOf};
-ghost use Rattle.oplog_opening.specs.Opening.{area_found, IsFound};
+ghost use Rattle.oplog_opening.specs.Opening.{area_found, IsFound, WalksThrough};
 
 use crate::found::Found;
 use disk::{Disk, DiskFault};
-use log_area::{area_at, area_size, read_area};
+use log_area::{Walk, area_at, area_size, read_area};
 use log_codec::DecodeFault;
 use log_disk::{newest, open_number, read_range};
-use oplog::LogFault;
+use oplog::{Log, LogFault};
 use std::alloc::Global;
 
 // Begins a call, and makes all durable.
@@ -65,6 +67,28 @@ fn find_current<D: Disk>(disk: &mut D, alloc: Global) -> Result<Option<usize>, D
     Ok(newest(first, second))
 }
 
+// What an area with these bytes says.
+fn found_in(which: usize, bytes: Vec<u8>, alloc: Global) -> Result<Found, DecodeFault>
+    ensures which { IfOk result (λ x. x.which ≡ which) }
+    ensures says { IfOk result (λ x. AreaSays (area_found x) bytes.items) }
+    ensures end { IfOk result (λ x. x.end ≡ end_of (area_found x)) }
+    ensures walk { IfOk result (λ x. WalksThrough (x.items ++ x.records) x.walk) }
+    ensures undamaged { (area : AreaState) → AreaSays area bytes.items → IsErrOf result damaged.Damaged → ⊥ }
+{
+    let area = read_area(alloc, &bytes)?;
+    let walk = Walk::begin(bytes)?;
+    let (number, end) = (area.number(), area.end());
+    let (items, records) = area.into_parts();
+    Ok(Found {
+        which,
+        number,
+        end,
+        items,
+        records,
+        walk: Some(walk),
+    })
+}
+
 // What an area says.
 fn read_current<D: Disk>(disk: &mut D, alloc: Global, which: usize) -> Result<Found, LogFault>
     requires large { 4096 ≤ length (D.seen disk.old) }
@@ -72,6 +96,7 @@ fn read_current<D: Disk>(disk: &mut D, alloc: Global, which: usize) -> Result<Fo
     ensures which { IfOk result (λ x. x.which ≡ which) }
     ensures says { IfOk result (λ x. AreaSays (area_found x) (area_of (length (D.seen disk.old)) which (D.seen disk.old))) }
     ensures end { IfOk result (λ x. x.end ≡ end_of (area_found x)) }
+    ensures walk { IfOk result (λ x. WalksThrough (x.items ++ x.records) x.walk) }
     ensures undamaged { (area : AreaState) → AreaSays area (area_of (length (D.seen disk.old)) which (D.seen disk.old)) → IsErrOf result faults.Damaged → ⊥ }
     ensures not_full { IsErrOf result faults.Full → ⊥ }
     ensures reads { OnlyReads D.seen D.may_leave D.moment D.left_since disk.old disk.new }
@@ -79,18 +104,8 @@ fn read_current<D: Disk>(disk: &mut D, alloc: Global, which: usize) -> Result<Fo
 {
     let size = disk.size();
     let bytes = read_range(disk, alloc, area_at(size, which), area_size(size))?;
-    match read_area(alloc, &bytes) {
-        Ok(area) => {
-            let (number, end) = (area.number(), area.end());
-            let (items, records) = area.into_parts();
-            Ok(Found {
-                which,
-                number,
-                end,
-                items,
-                records,
-            })
-        }
+    match found_in(which, bytes, alloc) {
+        Ok(found) => Ok(found),
         Err(DecodeFault::Damaged) => Err(LogFault::Damaged),
         Err(DecodeFault::NoMemory) => Err(LogFault::NoMemory),
     }
@@ -101,7 +116,7 @@ pub fn read_log<D: Disk>(disk: &mut D, alloc: Global) -> Result<Found, LogFault>
     requires large { 4096 ≤ length (D.seen disk.old) }
     requires headed { take 16 (D.seen disk.old) ≡ head ++ 1 ∷ [] }
     ensures found { IfOk result (λ x. IsFound x (D.seen disk.old)) }
-    ensures same { IfOk result (λ x. IsLogOf x.items.items x.records.items (D.seen disk.old)) }
+    ensures same { IfOk result (λ x. IsLogOf x.items x.records (D.seen disk.old)) }
     ensures undamaged { (which : ℕ) (area : AreaState) → DiskSays (length (D.seen disk.old)) which area (D.seen disk.old) → IsErrOf result faults.Damaged → ⊥ }
     ensures not_full { IsErrOf result faults.Full → ⊥ }
     ensures reads { OnlyReads D.seen D.may_leave D.moment D.left_since disk.old disk.new }
@@ -112,4 +127,20 @@ pub fn read_log<D: Disk>(disk: &mut D, alloc: Global) -> Result<Found, LogFault>
         return Err(LogFault::Damaged);
     };
     read_current(disk, alloc, which)
+}
+
+/// A walk through the entries of a log that is open, whose current area is read once more.
+pub fn read_again<D: Disk>(log: &mut Log<D>, alloc: Global) -> Result<Walk, LogFault>
+    requires { (area : AreaState) × IsOpen D.seen D.may_leave log.old area }
+    ensures walk { (area : AreaState) → IsOpen D.seen D.may_leave log.old area → IfOk result (λ w. IsWalk (area.items ++ area.records) w) }
+    ensures place { IfOk result (λ w. w.place ≡ 0) }
+    ensures open { (area : AreaState) → IsOpen D.seen D.may_leave log.old area → IsOpen D.seen D.may_leave log.new area }
+    ensures undamaged { IsErrOf result faults.Damaged → ⊥ }
+{
+    let bytes = read_range(&mut log.disk, alloc, log.start, log.room)?;
+    match Walk::begin(bytes) {
+        Ok(walk) => Ok(walk),
+        Err(DecodeFault::Damaged) => Err(LogFault::Damaged),
+        Err(DecodeFault::NoMemory) => Err(LogFault::NoMemory),
+    }
 }

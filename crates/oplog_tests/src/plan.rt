@@ -1,18 +1,21 @@
 //! Changes of a log that follow one another: records that are appended, and checkpoints.
 
-ghost use Rattle.std.specs.Prelude.{◌≡◌, true, OnOk};
+ghost use Rattle.std.specs.Prelude.{◌≡◌, true, List, OnOk};
 ghost use Rattle.std.specs.List.{AllByRecursion};
 ghost use Rattle.log_area.specs.Areas.{AreaState};
 ghost use Rattle.log_codec.specs.Payloads.{IsWritable};
+ghost use Rattle.log_area.specs.Walks.{IsWalk};
+ghost use Rattle.log_records.specs.declared.record.Record.{Record};
 ghost use Rattle.oplog.specs.Logs.{IsOpen};
+ghost use Rattle.oplog_opening.specs.Opening.{WalksThrough};
 
 use crate::calls::{SIZE, create};
 use disk::Disk;
 use gfs_types::ids::{FileId, Handle};
 use gfs_types::lists::Text;
 use gfs_types::no_memory::NoMemory;
-use log_area::is_checkpoint;
-use log_codec::{is_item, is_writable};
+use log_area::{Walk, is_checkpoint};
+use log_codec::{DecodeFault, is_item, is_writable};
 use log_records::record::Record;
 use oplog::{Log, LogFault};
 use oplog_checkpoint::checkpoint;
@@ -201,6 +204,57 @@ pub(crate) fn run<D: Disk + Drop>(disk: D, alloc: Global, plan: &Plan) -> (D, Ma
     }
 }
 
+// So many entries that come next.
+fn next_entries(walk: &mut Walk, alloc: Global, count: usize) -> Result<Vec<Record>, DecodeFault>
+    requires { (all : List Record) × IsWalk all walk.old }
+    ensures { OnOk result ((all : List Record) × IsWalk all walk.new) }
+{
+    let mut entries = Vec::new(alloc);
+    for number in 0..count {
+        let Some(entry) = walk.next(alloc)? else {
+            return Err(DecodeFault::Damaged);
+        };
+        entries.push(entry)?;
+    }
+    Ok(entries)
+}
+
+// After how many changes a log has so many items and records, which the walk goes through.
+fn place_of_entries(
+    plan: &Plan,
+    entries: Option<Walk>,
+    alloc: Global,
+    items: usize,
+    records: usize,
+) -> Result<Option<usize>, DecodeFault>
+    requires { (all : List Record) × WalksThrough all entries }
+{
+    let Some(walk) = entries else {
+        return Ok(plan.place_of(&[], &[]));
+    };
+    let mut walk = walk;
+    let items = next_entries(&mut walk, alloc, items)?;
+    let records = next_entries(&mut walk, alloc, records)?;
+    Ok(plan.place_of(&items, &records))
+}
+
+// After how many changes a log has what it has, and Damaged where there are none such.
+fn place_of_opened<D: Disk>(
+    opened: Opened<D>,
+    alloc: Global,
+    plan: &Plan,
+) -> (Log<D>, Result<usize, LogFault>)
+    requires { (all : List Record) × WalksThrough all opened.walk }
+{
+    let (items, records) = (opened.items.len(), opened.records.len());
+    let found = match place_of_entries(plan, opened.walk, alloc, items, records) {
+        Ok(found) => found.ok_or(LogFault::Damaged),
+        Err(DecodeFault::Damaged) => Err(LogFault::Damaged),
+        Err(DecodeFault::NoMemory) => Err(LogFault::NoMemory),
+    };
+    (opened.log, found)
+}
+
 /// Opens the log: after how many changes it has what it has, and Damaged where there are none such.
 pub(crate) fn find<D: Disk + Drop>(
     disk: D,
@@ -212,8 +266,8 @@ pub(crate) fn find<D: Disk + Drop>(
     }
     match open(disk, alloc) {
         Ok(opened) => {
-            let found = plan.place_of(&opened.items, &opened.records);
-            (log_of(opened).into_disk(), found.ok_or(LogFault::Damaged))
+            let (log, found) = place_of_opened(opened, alloc, plan);
+            (log.into_disk(), found)
         }
         Err((disk, fault)) => (disk, Err(fault)),
     }

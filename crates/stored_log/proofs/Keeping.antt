@@ -1,7 +1,6 @@
 -- What is kept of a log, over changes of it and of its disk.
-use Rattle.std.proofs.Common.{◌≡◌, ◌⊎◌, ℕ, ◌+◌, ◌≤◌, List, [], ◌∷◌, ◌++◌, inr, refl, sym, subst, ◌∙◌, arith}
+use Rattle.std.proofs.Common.{◌≡◌, ◌⊎◌, ℕ, ◌+◌, ◌≤◌, List, [], ◌∷◌, ◌++◌, refl, sym, subst, ◌∙◌, arith}
 use Rattle.std.specs.List.{AllByRecursion}
-use Rattle.std.specs.Global.{Vec}
 use Rattle.disk.specs.Device.{NoMore}
 use Rattle.gated_disk.specs.Moments.{LeavesOnly}
 use Rattle.log_area.specs.Areas.{AreaState}
@@ -50,16 +49,6 @@ module _ {D : Type 0} (seen : D → List ℕ) (may_leave : D → List ℕ → Ty
       let now_open = added (state_of open'.0 items records) open'.1 in
       subst (IsKept seen may_leave new items after) (sym is)
       (open'.0, subst (λ (rs : List Record). IsOpen seen may_leave new (state_of open'.0 items rs)) (sym after_is) now_open)
-
-  -- a record was added on the disk, and not in memory
-  pub unpushed_kept : (log new : Log D) (items records after : List Record) (r kept_r : Record) (standing : Standing) → standing ≡ Open → IsKept seen may_leave log items records standing
-      → ((area : AreaState) → IsOpen seen may_leave log area → IsOpen seen may_leave new (appended area r)) → after ≡ records → kept_r ≡ r → IsKept seen may_leave new items after (Appending kept_r)
-  unpushed_kept log new items records after r kept_r standing is kept added after_is r_is =
-      let open' = subst (IsKept seen may_leave log items records) is kept in
-      let now_open = added (state_of open'.0 items records) open'.1 in
-      let left : Leaves may_leave new.disk items records (Appending r) = λ c left. inr (open_leaves new (state_of open'.0 items (records ++ r ∷ [])) now_open c left) in
-      subst (λ (rs : List Record). Leaves may_leave new.disk items rs (Appending kept_r)) (sym after_is)
-      (subst (λ (x : Record). Leaves may_leave new.disk items records (Appending x)) (sym r_is) left)
 
   -- a checkpoint took the place of what was there
   pub checkpoint_kept : (log new : Log D) (items records written items_after records_after : List Record) (standing : Standing) → standing ≡ Open → IsKept seen may_leave log items records standing
@@ -119,8 +108,8 @@ module _ {D : Type 0} (seen : D → List ℕ) (may_leave : D → List ℕ → Ty
         ends log.disk new.disk (IsBeforeOrAfter area r) (run area open'.1)
 
     -- a checkpoint failed on its way
-    pub checkpoint_failed : (log new : Log D) (items records written : List Record) (kept_written : Vec Record) (standing : Standing) → standing ≡ Open → IsKept seen may_leave log items records standing
-        → ((area : AreaState) → IsOpen seen may_leave log area → LeavesOnly moment left_since log.disk new.disk (IsOldOrNew area written)) → kept_written.items ≡ written → IsKept seen may_leave new items records (Checkpointing kept_written)
+    pub checkpoint_failed : (log new : Log D) (items records written kept_written : List Record) (standing : Standing) → standing ≡ Open → IsKept seen may_leave log items records standing
+        → ((area : AreaState) → IsOpen seen may_leave log area → LeavesOnly moment left_since log.disk new.disk (IsOldOrNew area written)) → kept_written ≡ written → IsKept seen may_leave new items records (Checkpointing kept_written)
     checkpoint_failed log new items records written kept_written standing is kept run written_is =
         let open' = subst (IsKept seen may_leave log items records) is kept in
         let area = state_of open'.0 items records in

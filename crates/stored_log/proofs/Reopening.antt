@@ -35,7 +35,7 @@ kept_formatted : (items records : List Record) (standing : Standing) (d : List �
 kept_formatted items records Open d log = log_formatted items records d log
 kept_formatted items records Unread d log = log_formatted items records d log
 kept_formatted items records (Appending entry) d log = ⊎_elim (log_formatted items records d) (log_formatted items (records ++ entry ∷ []) d) log
-kept_formatted items records (Checkpointing written) d log = ⊎_elim (log_formatted items records d) (log_formatted written.items [] d) log
+kept_formatted items records (Checkpointing written) d log = ⊎_elim (log_formatted items records d) (log_formatted written [] d) log
 
 reopened : (items records : List Record) (standing : Standing) (d c : List ℕ) → HasKept items records standing d → IsReopened d c → HasKept items records standing c
 reopened items records standing d c kept (inl same) = subst (HasKept items records standing) (sym same) kept
@@ -60,7 +60,7 @@ decided items records found_items found_records Unread d large found log = ([], 
 decided items records found_items found_records (Appending entry) d large found (inl log) = ([], log_found items records found_items found_records d large found log)
 decided items records found_items found_records (Appending entry) d large found (inr log) = (true ∷ [], log_found items (records ++ entry ∷ []) found_items found_records d large found log)
 decided items records found_items found_records (Checkpointing written) d large found (inl log) = ([], log_found items records found_items found_records d large found log)
-decided items records found_items found_records (Checkpointing written) d large found (inr log) = (true ∷ [], log_found written.items [] found_items found_records d large found log)
+decided items records found_items found_records (Checkpointing written) d large found (inr log) = (true ∷ [], log_found written [] found_items found_records d large found log)
 
 pub found_decided : {D : Type 0} (may_leave : D → List ℕ → Type 0) (old : D) (size : ℕ) (items records found_items found_records : List Record) (standing : Standing) → 4096 ≤ size
     → IsAmong (may_leave old) size found_items found_records → Leaves may_leave old items records (closed standing) → IsDecided (log_of items records) (changes_of standing) (log_of found_items found_records)

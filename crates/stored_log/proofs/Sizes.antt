@@ -1,19 +1,86 @@
--- How many bytes records take, one by one.
-use Rattle.std.proofs.Common.{◌≡◌, ℕ, ◌+◌, List, ◌∷◌, length, ap, arith}
+-- How many bytes a log takes of its area.
+use Rattle.std.proofs.Common.{◌≡◌, ℕ, ◌+◌, ◌<◌, ◌≤◌, List, [], ◌∷◌, ◌++◌, length, drop, length-append, length-drop, length-take, sym, ap, ◌∙◌, arith}
 use Rattle.std.specs.List.{sum_by}
-use Rattle.std.proofs.lemmas.List.{nil_from_length}
 use Rattle.std.proofs.lemmas.List.Sums.{sum_by-cons}
 use Rattle.log_records.specs.declared.record.Record.{Record}
-use Rattle.protocol.specs.LogSizes.{payload_size}
+use Rattle.log_records.specs.declared.record.Record.TheVariants as log
+use Rattle.log_codec.specs.Payloads.{payload}
+use Rattle.log_codec.proofs.Lengths.{payload_len}
+use Rattle.log_area.specs.Areas.{AreaState, AreaSays, end_of}
+use Rattle.log_area.specs.Entries.{entries, entry, open_entries}
+use Rattle.log_area.specs.Layout.{area_at, area_size}
+use Rattle.log_area.proofs.Parsing.{entries_cons, entries_nil, entry_len, open_cons, open_nil}
+use Rattle.log_disk.proofs.Areas.{front_len, front_of, parts_of}
+use Rattle.log_disk.specs.Disks.{area_of}
+use Rattle.disk.specs.Bytes.{range_at}
+use Rattle.oplog.specs.Logs.{IsOpen}
+use Rattle.oplog.specs.declared.log.Log.{Log}
+use Rattle.protocol.specs.LogSizes.{checkpoint_size, payload_size, used_size}
+use Rattle.stored_log.specs.Kept.{Takes}
 
--- what records take, with so many bytes around each
-abbrev room_of : ℕ → List Record → ℕ
-room_of around all = sum_by (λ r. around + payload_size r) all
+payload_is : (r : Record) → payload_size r ≡ length (payload r)
+payload_is (log.Epoch epoch) = payload_len (log.Epoch epoch)
+payload_is (log.Mkdir client n path) = payload_len (log.Mkdir client n path)
+payload_is (log.Rmdir client n path) = payload_len (log.Rmdir client n path)
+payload_is (log.Create client n file path) = payload_len (log.Create client n file path)
+payload_is (log.Delete client n moment path) = payload_len (log.Delete client n moment path)
+payload_is (log.Rename client n from to) = payload_len (log.Rename client n from to)
+payload_is (log.Snapshot client n from to) = payload_len (log.Snapshot client n from to)
+payload_is (log.Refused client n refusal) = payload_len (log.Refused client n refusal)
+payload_is (log.Expired file) = payload_len (log.Expired file)
+payload_is (log.AddChunk file handle) = payload_len (log.AddChunk file handle)
+payload_is (log.Issue handle version) = payload_len (log.Issue handle version)
+payload_is (log.Grant handle version primary members) = payload_len (log.Grant handle version primary members)
+payload_is (log.CopyStart file index handle copy copy_version) = payload_len (log.CopyStart file index handle copy copy_version)
+payload_is (log.Counters next_file next_handle epoch) = payload_len (log.Counters next_file next_handle epoch)
+payload_is (log.DirItem path) = payload_len (log.DirItem path)
+payload_is (log.FileItem path file handles) = payload_len (log.FileItem path file handles)
+payload_is (log.ChunkItem handle granted issued primary members) = payload_len (log.ChunkItem handle granted issued primary members)
+payload_is (log.ClientItem client n refusal) = payload_len (log.ClientItem client n refusal)
 
-pub one_more : (around after more total : ℕ) (rest others : List Record) (first : Record) → rest ≡ first ∷ others → more ≡ after + (around + payload_size first)
-    → after + sum_by (λ r. around + payload_size r) rest ≡ total → more + sum_by (λ r. around + payload_size r) others ≡ total
-one_more around after more total rest others first is added so_far =
-    omega (arith, added, so_far, ap (room_of around) is, sum_by-cons (λ r. around + payload_size r) first others)
+items_taken : (items : List Record) → checkpoint_size items ≡ length (entries items)
+items_taken [] = sym (ap (λ (l : List ℕ). length l) entries_nil)
+items_taken (r ∷ rest) = omega (
+  arith,
+  sum_by-cons (λ i. 4 + payload_size i) r rest,
+  items_taken rest,
+  payload_is r,
+  entry_len r,
+  ap length (entries_cons r rest),
+  length-append (entry r) (entries rest),
+)
 
-pub none_more : (around after total : ℕ) (rest : List Record) → length rest ≡ 0 → after + sum_by (λ r. around + payload_size r) rest ≡ total → after ≡ total
-none_more around after total rest none so_far = omega (arith, so_far, ap (room_of around) (nil_from_length rest none))
+records_taken : (records : List Record) → sum_by (λ i. 5 + payload_size i) records ≡ length (open_entries records)
+records_taken [] = sym (ap (λ (l : List ℕ). length l) open_nil)
+records_taken (r ∷ rest) = omega (
+  arith,
+  sum_by-cons (λ i. 5 + payload_size i) r rest,
+  records_taken rest,
+  payload_is r,
+  entry_len r,
+  ap length (open_cons r rest []),
+  length-append (open_entries (r ∷ rest)) [],
+  length-append (entry r) (open_entries rest ++ []),
+  length-append (open_entries rest) [],
+)
+
+end_used : (area : AreaState) → end_of area ≡ used_size area.items area.records
+end_used area = omega (arith, items_taken area.items, records_taken area.records)
+
+-- an area ends behind its records
+end_within : (area : AreaState) (bytes : List ℕ) → AreaSays area bytes → end_of area < length bytes
+end_within area bytes says =
+    omega (arith, ap length (parts_of area bytes says), length-append (front_of area) (says.records.gate ∷ says.records.rest), front_len area)
+
+range_within : (d : List ℕ) (at n : ℕ) → length (range_at d at n) ≤ length d
+range_within d at n = omega (arith, length-take n (drop at d), length-drop at d)
+
+module _ {D : Type 0} (seen : D → List ℕ) (may_leave : D → List ℕ → Type 0) where
+  -- what a log that is open takes
+  pub open_takes : (log : Log D) (number : ℕ) (items records : List Record) → IsOpen seen may_leave log (record { number = number; items = items; records = records }) → Takes log.end items records
+  open_takes log number items records is_open =
+      let area : AreaState = record { number = number; items = items; records = records } in
+      let d = seen log.disk in
+      let within = end_within area (area_of log.size log.which d) is_open.says.says in
+      let all : length (area_of log.size log.which d) ≤ log.size = omega (arith, range_within d (area_at log.size log.which) (area_size log.size), is_open.says.sized) in
+      (is_open.end ∙ end_used area, omega (arith, within, all, is_open.end, is_open.small))

@@ -1,4 +1,4 @@
--- A log on a disk, and what is kept of it in memory.
+-- A log on a disk, and what is known of it.
 use Rattle.std.specs.Prelude.{◌≡◌, ◌⊎◌, ℕ, ◌<◌, ◌≤◌, ◌^◌, false, List, [], ◌∷◌, ◌++◌, length}
 use Rattle.std.specs.List.{AllByRecursion}
 use Rattle.log_records.specs.declared.record.Record.{Record}
@@ -23,7 +23,7 @@ abbrev pub changes_of : Standing → List LogChange
 changes_of Open = []
 changes_of Unread = []
 changes_of (Appending entry) = AppendRecord entry ∷ []
-changes_of (Checkpointing items) = WriteCheckpoint items.items ∷ []
+changes_of (Checkpointing items) = WriteCheckpoint items ∷ []
 
 -- of an open log the disk has to be read anew; what is under way stays so
 abbrev pub closed : Standing → Standing
@@ -37,7 +37,7 @@ abbrev pub HasKept : List Record → List Record → Standing → List ℕ → T
 HasKept items records Open disk = HasLog items records disk
 HasKept items records Unread disk = HasLog items records disk
 HasKept items records (Appending entry) disk = HasLog items records disk ⊎ HasLog items (records ++ entry ∷ []) disk
-HasKept items records (Checkpointing written) disk = HasLog items records disk ⊎ HasLog written.items [] disk
+HasKept items records (Checkpointing written) disk = HasLog items records disk ⊎ HasLog written [] disk
 
 -- A stop leaves the log from before the change that is under way, or the one after it.
 abbrev pub Leaves : {D : Type 0} (may_leave : D → List ℕ → Type 0) → D → List Record → List Record → Standing → Type 0

@@ -1,26 +1,27 @@
 //! The log over its disk.
 
 ghost use Rattle.std.specs.Prelude.{◌≡◌, ◌<◌, ◌≤◌, ◌+◌, ◌*◌, ◌^◌, ◌++◌, ◌∷◌, [], ℕ, List, length, is_some, nat_le, slice_get, IfErr, IfOk, IfSome, OnOk};
-ghost use Rattle.std.specs.List.{sum_by};
 ghost use Rattle.disk.specs.Device.{Follows, Only};
 ghost use Rattle.log_area.specs.Areas.{AreaState};
+ghost use Rattle.log_area.specs.Walks.{IsWalk};
 ghost use Rattle.log_records.specs.declared.record.Record.{Record};
 ghost use Rattle.log_disk.specs.Disks.{HasLog};
 ghost use Rattle.oplog.specs.Logs.{IsOpen};
 ghost use Rattle.oplog_format.specs.NewLogs.{IsLogOf};
-ghost use Rattle.oplog_opening.specs.Opening.{area_found, IsFound};
+ghost use Rattle.oplog_opening.specs.Opening.{area_found, IsFound, WalksThrough};
 ghost use Rattle.protocol.specs.Logged.{new_log};
 ghost use Rattle.protocol.specs.LogSizes.{checkpoint_fits, checkpoint_size, payload_size, used_size};
 ghost use Rattle.operation_log.specs.Logs.{IsDecided};
 ghost use Rattle.operation_log.specs.declared.fault.LogFault.TheVariants as faults;
 ghost use Rattle.stored_log.specs.Kept.{closed, IsAmong, IsDiskSize, IsReopened, Takes};
 
-use crate::places::entry_at;
+use crate::entries::{entry_at, fault_of};
 use crate::standing::Standing;
 use crate::stoppable::{StoppableDisk, StoppableLog};
+use counted_records::CountedRecords;
 use disk::DiskFault;
 use gfs_types::torn::Torn;
-use log_area::{area_at, area_size, is_checkpoint};
+use log_area::{Walk, area_at, area_size, is_checkpoint};
 use log_codec::{is_item, is_writable};
 use log_records::record::Record;
 use operation_log::fault::LogFault;
@@ -42,14 +43,16 @@ const AROUND_RECORD: u64 = 5;
 // A length before an item.
 const AROUND_ITEM: u64 = 4;
 
-/// The operation log on a disk. Its items and records are kept in memory too.
+/// The operation log on a disk. Its items and records are counted, and lie on the disk alone.
 #[derive(Drop)]
 pub struct DiskLog<D: StoppableDisk> {
     alloc: Global,
     log: Log<D>,
     log_bytes: u64,
-    items: Vec<Record>,
-    records: Vec<Record>,
+    items: CountedRecords,
+    records: CountedRecords,
+    // while the log is read after an opening: its area's bytes
+    walk: Option<Walk>,
     writing: Vec<Record>,
     // the bytes of an area that the log takes
     used: u64,
@@ -59,29 +62,24 @@ pub struct DiskLog<D: StoppableDisk> {
 }
 
 impl<D: StoppableDisk> Model for DiskLog<D> {
+    ghost use Rattle.std.specs.Prelude.{◌++◌};
+    ghost use Rattle.oplog_opening.specs.Opening.{WalksThrough};
     ghost use Rattle.stored_log.specs.Kept.{changes_of, DiskLogState, IsDiskSize, IsKept, IsWritten, Takes};
 
     ghost Value = { DiskLogState };
 
     ghost view = { λ l. record {
-      disk = record { items = l.items.items; records = l.records.items };
+      disk = record { items = l.items; records = l.records };
       under_way = changes_of l.standing;
       writing = l.writing.items;
       log_bytes = l.log_bytes;
     } };
 
-    ghost invariant = { λ l. IsKept D.seen D.may_leave l.log l.items.items l.records.items l.standing
-        × Takes l.used l.items.items l.records.items
+    ghost invariant = { λ l. IsKept D.seen D.may_leave l.log l.items l.records l.standing
+        × Takes l.used l.items l.records
         × IsWritten l.written l.writing.items
-        × IsDiskSize l.log_bytes };
-}
-
-fn fault_of(fault: oplog::LogFault) -> LogFault {
-    match fault {
-        oplog::LogFault::Full | oplog::LogFault::Damaged => LogFault::Damaged,
-        oplog::LogFault::Device => LogFault::Device,
-        oplog::LogFault::NoMemory => LogFault::NoMemory,
-    }
+        × IsDiskSize l.log_bytes
+        × WalksThrough (l.items ++ l.records) l.walk };
 }
 
 fn fault_of_disk(fault: DiskFault) -> LogFault {
@@ -101,33 +99,10 @@ fn closed(standing: Standing) -> Standing
     }
 }
 
-// The bytes of an area once these stand there too, each with so many bytes around it; None where they don't fit.
-fn used_with_all(log_bytes: u64, used: u64, around: u64, all: &[Record]) -> Option<u64>
-    requires small { used < 2 ^ 63 }
-    ensures used { IfSome result (λ n. n ≡ used + sum_by (λ r. around + payload_size r) all.now) }
-    ensures small { IfSome result (λ n. n < 2 ^ 63) }
-{
-    let mut after = used;
-    let mut rest = all;
-    while let Some((first, others)) = rest.split_first() {
-        after = used_with(log_bytes, after, around, first)?;
-        rest = others;
-    }
-    Some(after)
-}
-
-// The bytes of an area that a log takes; None where it doesn't fit.
-fn used_by(log_bytes: u64, items: &[Record], records: &[Record]) -> Option<u64>
-    ensures { IfSome result (λ n. Takes n items.now records.now) }
-{
-    let used = used_with_all(log_bytes, HEAD, AROUND_ITEM, items)?;
-    used_with_all(log_bytes, used, AROUND_RECORD, records)
-}
-
 // What stands on the disk once it has begun again. It is the log of one of the disks that a stop might have left.
 fn find<D: StoppableDisk>(disk: &mut D, alloc: Global, log_bytes: u64) -> Result<Found, LogFault>
     requires { IsDiskSize log_bytes }
-    ensures among { IfOk result (λ x. IsAmong (D.may_leave disk.old) log_bytes x.items.items x.records.items) }
+    ensures among { IfOk result (λ x. IsAmong (D.may_leave disk.old) log_bytes x.items x.records) }
     ensures found { IfOk result (λ x. IsFound x (D.seen disk.new)) }
     ensures size { OnOk result (length (D.seen disk.new) ≡ log_bytes) }
     ensures durable { OnOk result (Only (D.seen disk.new) (D.may_leave disk.new)) }
@@ -150,7 +125,8 @@ fn place<D: StoppableDisk>(log: &mut Log<D>, found: &Found)
     requires size { IsDiskSize (length (D.seen log.old.disk)) }
     requires found { IsFound found.now (D.seen log.old.disk) }
     requires durable { Only (D.seen log.old.disk) (D.may_leave log.old.disk) }
-    ensures { IsOpen D.seen D.may_leave log.new (area_found found.now) }
+    ensures open { IsOpen D.seen D.may_leave log.new (area_found found.now) }
+    ensures end { log.new.end ≡ found.now.end }
 {
     let size = log.disk.size();
     log.size = size;
@@ -159,6 +135,13 @@ fn place<D: StoppableDisk>(log: &mut Log<D>, found: &Found)
     log.room = area_size(size);
     log.number = found.number;
     log.end = found.end;
+}
+
+// The walk, where there are more entries; else its bytes are given back.
+fn if_more(walk: Walk, has_more: bool) -> Option<Walk>
+    ensures { (all : List Record) → IsWalk all walk → WalksThrough all result }
+{
+    if has_more { Some(walk) } else { None }
 }
 
 impl<D: StoppableDisk> DiskLog<D> {
@@ -170,26 +153,40 @@ impl<D: StoppableDisk> DiskLog<D> {
         ensures size { IfOk result (λ l. l.log_bytes ≡ length (D.seen disk)) }
     {
         let log_bytes = disk.size() as u64;
-        let opened = open(disk, alloc).map_err(|(disk, fault)| (disk, fault_of(fault)))?;
+        match open(disk, alloc) {
+            Ok(opened) => Ok(DiskLog::of_opened(opened, log_bytes, alloc)),
+            Err((disk, fault)) => Err((disk, fault_of(fault))),
+        }
+    }
+
+    // A log that was opened.
+    fn of_opened(opened: Opened<D>, log_bytes: u64, alloc: Global) -> DiskLog<D>
+        requires open { IsOpen D.seen D.may_leave opened.log (record { number = opened.log.number; items = opened.items; records = opened.records }) }
+        requires walk { WalksThrough (opened.items ++ opened.records) opened.walk }
+        requires size { IsDiskSize log_bytes }
+        ensures disk { result.disk ≡ record { items = opened.items; records = opened.records } }
+        ensures decided { result.under_way ≡ [] }
+        ensures size { result.log_bytes ≡ log_bytes }
+    {
         let Opened {
             log,
             items,
             records,
+            walk,
         } = opened;
-        let Some(used) = used_by(log_bytes, &items, &records) else {
-            return Err((log.into_disk(), LogFault::Damaged));
-        };
-        Ok(DiskLog {
+        let used = log.end as u64;
+        DiskLog {
             alloc,
             log,
             log_bytes,
             items,
             records,
+            walk,
             writing: Vec::new(alloc),
             used,
             written: HEAD,
             standing: Standing::Open,
-        })
+        }
     }
 
     /// A new log on a disk that holds none, or an empty one. An error hands the disk back.
@@ -253,20 +250,23 @@ impl<D: StoppableDisk> OperationLog for DiskLog<D> {
             return Err(LogFault::Device);
         };
         let record = entry.copy(self.alloc)?;
+        self.walk = None;
         match self.log.append(self.alloc, &record) {
-            Ok(()) => {}
-            Err(oplog::LogFault::NoMemory) => return Err(LogFault::NoMemory),
+            Ok(()) => {
+                self.records.push(&record);
+                drop(record);
+                self.used = used;
+                Ok(())
+            }
+            Err(oplog::LogFault::NoMemory) => {
+                drop(record);
+                Err(LogFault::NoMemory)
+            }
             Err(_) => {
                 self.standing = Standing::Appending(record);
-                return Err(LogFault::Device);
+                Err(LogFault::Device)
             }
         }
-        if let Err(refused) = self.records.push(record) {
-            self.standing = Standing::Appending(refused.value);
-            return Err(LogFault::NoMemory);
-        }
-        self.used = used;
-        Ok(())
     }
 
     fn begin_checkpoint(&mut self) -> Result<(), LogFault> {
@@ -298,17 +298,20 @@ impl<D: StoppableDisk> OperationLog for DiskLog<D> {
         };
         let writing = mem::replace(&mut self.writing, Vec::new(self.alloc));
         let written = mem::replace(&mut self.written, HEAD);
+        let items = CountedRecords::of(&writing);
+        let records = CountedRecords::new();
+        self.walk = None;
         match checkpoint(&mut self.log, self.alloc, &writing) {
             Ok(()) => {
-                self.items = writing;
-                self.records.clear();
+                self.items = items;
+                self.records = records;
                 self.used = written;
                 Ok(())
             }
             Err(oplog::LogFault::NoMemory) => Err(LogFault::NoMemory),
             Err(oplog::LogFault::Full) => Err(LogFault::Full),
             Err(_) => {
-                self.standing = Standing::Checkpointing(writing);
+                self.standing = Standing::Checkpointing(items);
                 Err(LogFault::Device)
             }
         }
@@ -317,14 +320,13 @@ impl<D: StoppableDisk> OperationLog for DiskLog<D> {
     // The disk begins again and is read. It says what it said before the change that was under way, or after it.
     fn reopen(&mut self) -> Result<(), LogFault> {
         self.standing = closed(mem::replace(&mut self.standing, Standing::Unread));
+        self.walk = None;
         let found = find(&mut self.log.disk, self.alloc, self.log_bytes)?;
-        let Some(used) = used_by(self.log_bytes, &found.items, &found.records) else {
-            return Err(LogFault::Damaged);
-        };
         place(&mut self.log, &found);
+        self.used = found.end as u64;
         self.items = found.items;
         self.records = found.records;
-        self.used = used;
+        self.walk = found.walk;
         self.standing = Standing::Open;
         Ok(())
     }
@@ -335,10 +337,17 @@ impl<D: StoppableDisk> OperationLog for DiskLog<D> {
     }
 
     fn entry(&mut self, place: u64) -> Result<Option<Record>, LogFault> {
-        match entry_at(&self.items, &self.records, place) {
-            Some(record) => Ok(Some(record.copy(self.alloc)?)),
-            None => Ok(None),
+        let count = self.items.len() as u64 + self.records.len() as u64;
+        if place >= count {
+            return Ok(None);
         }
+        let Standing::Open = self.standing else {
+            return Err(LogFault::Device);
+        };
+        let walk = self.walk.take();
+        let (entry, walk) = entry_at(&mut self.log, self.alloc, walk, place)?;
+        self.walk = if_more(walk, place + 1 < count);
+        Ok(entry)
     }
 }
 

@@ -2,7 +2,7 @@
 #![tactic(auto)]
 
 pub mod disk_log;
+mod entries;
 pub mod node_disk;
-mod places;
 mod standing;
 pub mod stoppable;

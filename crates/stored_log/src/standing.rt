@@ -1,16 +1,17 @@
 //! How a log stands to its disk.
 
+use counted_records::CountedRecords;
 use log_records::record::Record;
 
 /// What the log in memory knows of its disk.
 #[derive(Drop)]
 pub enum Standing {
-    /// The log is open on its disk, which says what is kept in memory.
+    /// The log is open on its disk, which says what was counted.
     Open,
     /// The disk has to be read anew. No change is under way.
     Unread,
     /// An append of this record failed on its way.
     Appending(Record),
     /// A checkpoint of these items failed on its way.
-    Checkpointing(Vec<Record>),
+    Checkpointing(CountedRecords),
 }

@@ -1,4 +1,4 @@
-use Rattle.std.proofs.Common.{◌≡◌, List, Some, subst, ap, sym, ◌∙◌}
+use Rattle.std.proofs.Common.{Some, subst, ap, sym}
 use Rattle.std.specs.Prelude.{Err}
 use Rattle.log_area.specs.Areas.{AreaState}
 use Rattle.log_area.specs.Entries.{entries, HoldsRecords}
@@ -29,6 +29,6 @@ pub returns-clause-only : goal.returns-clause-only
 returns-clause-only c = λ area says.
     let found = c.in_ok-number.ensures.found in
     let items = c.in_ok-items.ensures.found in
-    let read : AreaState = record { number = c.in_ok-number.number; items = c.in_ok-items.items.items; records = c.in_ok-records.records.items } in
+    let read : AreaState = record { number = c.in_ok-number.number; items = c.in_ok-items.items; records = c.in_ok-records.records } in
     ap Some (area_unique area read c.args.bytes.now says
-    (says_area c.in_ok-number.number c.in_ok-number.checkpoint.now c.in_ok-number.rest.now c.args.bytes.now c.in_ok-items.items.items c.in_ok-records.records.items found.0 found.1 found.2 items.0 items.1 items.2 c.in_ok-records.ensures.found))
+    (says_area c.in_ok-number.number c.in_ok-number.checkpoint.now c.in_ok-number.rest.now c.args.bytes.now c.in_ok-items.items c.in_ok-records.records found.0 found.1 found.2 items.0 items.1 items.2 c.in_ok-records.ensures.found))

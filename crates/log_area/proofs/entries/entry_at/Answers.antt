@@ -1,4 +1,4 @@
-use Rattle.std.proofs.Common.{rules, ◌≡◌, ◌++◌, ℕ, List, ap, sym, ◌∙◌, arith}
+use Rattle.std.proofs.Common.{◌++◌, ℕ, List, ap, sym, ◌∙◌, arith}
 use Rattle.log_area.specs.Entries.{entry}
 use Rattle.log_area.proofs.Parsing.{entry_found}
 use Rattle.log_area.proofs.Refusing.{handed_on, no_size, too_short, no_record}

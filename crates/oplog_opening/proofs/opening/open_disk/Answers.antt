@@ -1,4 +1,4 @@
-use Rattle.std.proofs.Common.{◌≡◌, ℕ, List, true, false, length, refl, sym, ap, subst, ◌∙◌}
+use Rattle.std.proofs.Common.{◌≡◌, ℕ, List, true, false, length, sym, ap, subst, ◌∙◌}
 use Rattle.std.specs.Prelude.{IfOk}
 use Rattle.log_disk.specs.Disks.{is_formatted}
 use Rattle.oplog_format.specs.NewLogs.{IsLogOf}
@@ -32,7 +32,7 @@ pub returns-then-is_formatted-clause-size : goal.returns-then-is_formatted-claus
 returns-then-is_formatted-clause-size g c = on_ok c.read_headed.result (ap (λ (l : List ℕ). length l) (c.read_headed.ensures.reads.seen_same ∙ c.read_head.ensures.reads.seen_same))
 
 pub returns-then-is_formatted-clause-same : goal.returns-then-is_formatted-clause-same
-returns-then-is_formatted-clause-same g c = subst (λ (l : List ℕ). IfOk c.read_headed.result (λ x. IsLogOf x.items.items x.records.items l)) c.read_head.ensures.reads.seen_same c.read_headed.ensures.same
+returns-then-is_formatted-clause-same g c = subst (λ (l : List ℕ). IfOk c.read_headed.result (λ x. IsLogOf x.items x.records l)) c.read_head.ensures.reads.seen_same c.read_headed.ensures.same
 
 pub returns-then-is_formatted-clause-durable : goal.returns-then-is_formatted-clause-durable
 returns-then-is_formatted-clause-durable g c =
@@ -49,7 +49,7 @@ returns-then-is_formatted-clause-any_moment g c =
     reads_opened disk.seen disk.may_leave disk.moment disk.left_since c.args.disk.now c.read_head.new.disk c.read_headed.new.disk c.read_head.ensures.reads c.read_headed.ensures.reads
 
 pub returns-clause-same : goal.returns-clause-same
-returns-clause-same g c = subst (λ (l : List ℕ). IfOk c.format_new.result (λ x. IsLogOf x.items.items x.records.items l)) c.read_head.ensures.reads.seen_same c.format_new.ensures.same
+returns-clause-same g c = subst (λ (l : List ℕ). IfOk c.format_new.result (λ x. IsLogOf x.items x.records l)) c.read_head.ensures.reads.seen_same c.format_new.ensures.same
 
 pub returns-clause-any_moment : goal.returns-clause-any_moment
 returns-clause-any_moment g c =

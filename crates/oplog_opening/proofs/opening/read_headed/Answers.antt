@@ -1,5 +1,4 @@
-use Rattle.std.proofs.Common.{◌≡◌, ◌++◌, ◌∷◌, [], true, false, List, ℕ, ◌∙◌}
-use Rattle.log_disk.specs.Disks.{head}
+use Rattle.std.proofs.Common.{◌∙◌}
 use Rattle.oplog_opening.proofs.Whole.{headed, opened_log}
 use Rattle.oplog_opening.proofs.opening.read_headed.Goals as goal
 

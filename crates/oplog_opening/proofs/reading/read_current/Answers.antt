@@ -5,7 +5,6 @@ use Rattle.log_codec.specs.declared.fault.DecodeFault.TheVariants.{Damaged}
 use Rattle.log_area.specs.Areas.{AreaSays}
 use Rattle.log_area.specs.Layout.{area_at, area_size}
 use Rattle.log_disk.specs.Disks.{area_of}
-use Rattle.oplog_opening.proofs.Refused.{says_none}
 use Rattle.oplog_opening.proofs.reading.read_current.Goals as goal
 
 pub returns-in-Err-Damaged-clause-undamaged : goal.returns-in-Err-Damaged-clause-undamaged
@@ -15,9 +14,9 @@ returns-in-Err-Damaged-clause-undamaged g c area says damaged =
     let size = c.size-size.ensures in
     let at : c.area_at.result ≡ area_at (length d) which = c.area_at.ensures.place ∙ ap (λ (k : ℕ). area_at k which) size in
     let count : c.area_size.result ≡ area_size (length d) = c.area_size.ensures.size ∙ ap (λ (k : ℕ). area_size k) size in
-    let same : c.deref.result.now ≡ area_of (length d) which d = c.deref.ensures.value ∙ c.in_ok-bytes.ensures.bytes
+    let same : c.in_ok-bytes.bytes.items ≡ area_of (length d) which d = c.in_ok-bytes.ensures.bytes
     ∙ ap (λ (k : ℕ). range_at d k c.area_size.result) at ∙ ap (λ (k : ℕ). range_at d (area_at (length d) which) k) count in
     let one = c.in-Err-Damaged.is in
     let two = c.in-Err-Damaged.field-0-is in
-    let told : c.read_area.result ≡ Err Damaged = cc in
-    says_none (λ a. a) c.read_area.result area (c.read_area.ensures.only area (subst (AreaSays area) (sym same) says)) told
+    let told : c.found_in.result ≡ Err Damaged = cc in
+    c.found_in.ensures.undamaged area (subst (AreaSays area) (sym same) says) told

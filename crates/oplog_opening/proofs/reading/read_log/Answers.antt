@@ -1,4 +1,4 @@
-use Rattle.std.proofs.Common.{◌≡◌, ℕ, List, length, refl, sym, subst, ◌∙◌}
+use Rattle.std.proofs.Common.{ℕ, List, length, refl, sym, subst, ◌∙◌}
 use Rattle.std.specs.Prelude.{IfOk}
 use Rattle.log_area.specs.Areas.{AreaSays}
 use Rattle.log_disk.specs.Disks.{area_of}
@@ -14,7 +14,7 @@ returns-clause-found g c =
     let which = c.in-Some.which in
     let result = c.read_current.result in
     let says = subst (λ (l : List ℕ). IfOk result (λ x. AreaSays (area_found x) (area_of (length l) which l))) c.find_current.ensures.reads.seen_same told.says in
-    found_if d which result c.requires.large (sym c.in_ok-current.ensures.current ∙ c.in-Some.is) c.requires.headed told.which says told.end
+    found_if d which result c.requires.large (sym c.in_ok-current.ensures.current ∙ c.in-Some.is) c.requires.headed told.which says told.end told.walk
 
 pub returns-in_default-clause-undamaged : goal.returns-in_default-clause-undamaged
 returns-in_default-clause-undamaged g c which area says damaged =
@@ -28,7 +28,7 @@ returns-clause-same g c =
     let which = c.in-Some.which in
     let result = c.read_current.result in
     let says = subst (λ (l : List ℕ). IfOk result (λ x. AreaSays (area_found x) (area_of (length l) which l))) c.find_current.ensures.reads.seen_same told.says in
-    found_logs result d (found_if d which result c.requires.large (sym c.in_ok-current.ensures.current ∙ c.in-Some.is) c.requires.headed told.which says told.end)
+    found_logs result d (found_if d which result c.requires.large (sym c.in_ok-current.ensures.current ∙ c.in-Some.is) c.requires.headed told.which says told.end told.walk)
 
 pub returns-clause-undamaged : goal.returns-clause-undamaged
 returns-clause-undamaged g c which area says damaged =
