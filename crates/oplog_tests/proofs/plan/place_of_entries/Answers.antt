@@ -1,4 +1,4 @@
-use Rattle.std.proofs.Common.{Option, subst}
+use Rattle.std.proofs.Common.{◌≡◌, Option, subst}
 use Rattle.log_area.specs.declared.walk.Walk.{Walk}
 use Rattle.oplog_opening.specs.Opening.{WalksThrough}
 use Rattle.oplog_tests.proofs.plan.place_of_entries.Goals as goal
