@@ -1,12 +1,13 @@
 -- What is seen of a client's steps.
-use Rattle.std.specs.Prelude.{◌≡◌, ℕ, List, [], ◌∷◌, ◌++◌, Option, Some, None, Result, Ok}
+use Rattle.std.specs.Prelude.{◌≡◌, ℕ, List, [], ◌∷◌, ◌++◌, Option, Some, None, Result, Ok, IsTrue}
 use mathlib.Core.List.{IsPrefix}
 use Rattle.gfs_types.specs.declared.answer.Answer.{Answer}
 use Rattle.gfs_types.specs.declared.call.Call.{Call}
 use Rattle.gfs_types.specs.declared.ids.Node.{Node}
-use Rattle.gfs_types.specs.declared.no_memory.NoMemory.{NoMemory}
+use Rattle.gfs_types.specs.declared.refusal.Refusal.{Refusal}
 use Rattle.protocol_journal.specs.Journal.{Taking, Calls, Entry, own}
 use Rattle.journal_list.specs.Log.{Listed}
+use Rattle.journal_pages.specs.Clocks.{are_clocks_kept}
 use Rattle.cell_journal.specs.declared.view.View.{View}
 use Rattle.cell_journal.specs.Rules.{IsJournalOf}
 use Rattle.journal_steps.specs.Places.{IsSeen}
@@ -34,14 +35,15 @@ pub record IsFurther (v w : View) : Type 0 where
   pub of : w.of ≡ v.of
   pub grows : IsPrefix v.seen w.seen
 
--- a journal was seen whole just after the client's last step
+-- a journal in which clocks were kept was seen whole just after the client's last step
 pub record HasSeen (n : Node) (w : View) (beginning : Listed Entry) (count : ℕ) : Type 0 where
   pub seen : IsSeen w beginning count
   pub lawful : IsJournalOf w.of w.seen
+  pub clocks : IsTrue (are_clocks_kept w.of w.seen)
   pub own_is : w.mine ≡ own n w.seen
 
 -- a step's answer, if it has one, is heard with the journal as it was seen then
-abbrev pub IsHeard : Result (Option Answer) NoMemory → Listed Entry → ℕ → Option Heard → Type 0
+abbrev pub IsHeard : Result (Option Answer) Refusal → Listed Entry → ℕ → Option Heard → Type 0
 IsHeard answer beginning count None = answer ≡ Ok None
 IsHeard answer beginning count (Some h) = (answer ≡ Ok (Some h.answer)) × (h.beginning ≡ beginning) × (h.count ≡ count)
 

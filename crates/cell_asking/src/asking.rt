@@ -101,6 +101,6 @@ fn what_is_heard(taken: Taken) -> Result<Option<Heard>, Refusal>
             count,
         })),
         Ok(None) => Ok(None),
-        Err(_) => Err(Refusal::JournalFull),
+        Err(refusal) => Err(refusal),
     }
 }

@@ -2,4 +2,4 @@
 #![tactic(auto)]
 
 pub mod asking;
-mod waiting;
+pub mod waiting;

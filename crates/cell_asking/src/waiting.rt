@@ -6,7 +6,7 @@ use std::sync::Wait;
 use std::thread::yield_now;
 use std::time::{Clock, Duration};
 
-/// How often a client that finds its mailbox empty looks again, and lets other threads run, before it sleeps: a sleeper takes longer to be woken
+/// How often whoever finds its mailbox empty looks again, and lets other threads run, before it sleeps: a sleeper takes longer to be woken
 /// than most letters take to come.
 const LOOKS: u32 = 200;
 
@@ -19,6 +19,18 @@ const SLOWER: u64 = 4;
 
 /// How long a wait becomes at most: longer than it takes to the ticker's next tick.
 const LONGEST_WAIT: u64 = 200_000;
+
+/// What a node takes its next step on. None: it is told to stop.
+pub fn next_input(rt: &impl Wait, inbox: &Receiver<Letter>) -> Option<Input> {
+    let letter = match letter_soon(rt, inbox) {
+        Some(letter) => Some(letter),
+        None => inbox.recv(rt).ok(),
+    };
+    match letter {
+        Some(Letter::Take(input)) => Some(input),
+        _ => None,
+    }
+}
 
 /// What a client in a call takes its next step on: a tick where no letter came for so many microseconds, which become more then. None: it is
 /// told to stop.

@@ -4,6 +4,7 @@ ghost use Rattle.std.specs.Prelude.{◌≡◌, ◌+◌, ◌<◌, ◌≤◌, [], 
 ghost use Rattle.std.specs.Arc.{arc_value};
 ghost use Rattle.protocol.specs.Tables.{moment_limit};
 ghost use Rattle.protocol_journal.specs.Journal.{sent_after};
+ghost use Rattle.journal_pages.specs.Clocks.{are_clocks_kept};
 ghost use Rattle.journal_pages.specs.Entries.{entry, taking_of};
 ghost use Rattle.cell_journal.specs.Rules.{IsStepOf};
 ghost use Rattle.journal_steps.specs.Places.{IsAt, IsPlaceOf, IsLater, IsRead, GoesOn, IsSeen};
@@ -97,6 +98,7 @@ impl Desk {
         requires step { IsStepOf self.old.place.me.0 (entry self.old.node now.0 (taking_of taking) out) }
         ensures node { self.new.node ≡ self.old.node }
         ensures some { IfSome result (λ l. GoesOn self.old.place.me.0 self.new.place.me.0 (entry self.old.node now.0 (taking_of taking) out) × IsSeen self.new.place.me.0 l.beginning l.count) }
+        ensures clocks { IfSome result (λ l. l.are_clocks_kept ≡ are_clocks_kept self.new.place.me.0.of self.new.place.me.0.seen) }
         ensures none { IfNone result (self.new.place.me ≡ self.old.place.me) }
     {
         let receivers = receivers_of(alloc, &out);

@@ -6,6 +6,8 @@ use Rattle.gfs_types.specs.declared.ids.Node.TheVariants.{Client}
 use Rattle.protocol_journal.specs.Journal.{Entry, own}
 use Rattle.journal_list.specs.Log.{Listed, listed}
 use mathlib.Core.List.{IsPrefix}
+use Rattle.std.specs.Prelude.{IsTrue}
+use Rattle.journal_pages.specs.Clocks.{are_clocks_kept}
 use Rattle.cell_journal.specs.Rules.{IsJournalOf}
 use Rattle.cell_journal.specs.declared.view.View.{View}
 use Rattle.cell_journal.proofs.Growing.{begins_lawful}
@@ -19,6 +21,7 @@ new_seat id v w n nothing new is = record {
   count_is = sym (ap length items);
   begins = subst (λ l. IsPrefix l w.seen) (sym items) (w.seen, refl);
   lawful = subst (IsJournalOf w.of) (sym items) (begins_lawful w.of);
+  clocks = subst (λ l. IsTrue (are_clocks_kept w.of l)) (sym items) refl;
   own_is = λ _. ap (own n) items ∙ sym new.mine;
   refused = tt;
 }

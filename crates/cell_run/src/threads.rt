@@ -1,5 +1,6 @@
 //! What the threads of a running cell do.
 
+use cell_asking::waiting::next_input;
 use cell_desk::hall::{Hall, MOST_CLIENTS};
 use cell_desk::post::{Input, Letter};
 use cell_slot::gate::Gate;
@@ -32,10 +33,7 @@ pub fn serve<R: Wait + Clock, N: Stepper + Drop, G: Gate>(
 ) {
     let mut restarts: u64 = 0;
     for _ in rt.forever() {
-        let Ok(letter) = inbox.recv(rt) else {
-            break;
-        };
-        let Letter::Take(input) = letter else {
+        let Some(input) = next_input(rt, inbox) else {
             break;
         };
         if hall.asked.restarts(node) != restarts && slot.lock(rt).act(rt, Input::Restart, gate) {

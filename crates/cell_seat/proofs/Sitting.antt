@@ -9,6 +9,7 @@ use Rattle.gfs_types.specs.declared.refusal.Refusal.{Refusal}
 use Rattle.protocol_journal.specs.Journal.{Entry, own}
 use Rattle.journal_list.specs.Log.{Listed, listed}
 use Rattle.journal_list.proofs.Begins.{prefix_self, prefix_trans}
+use Rattle.journal_pages.specs.Clocks.{are_clocks_kept}
 use Rattle.cell_journal.specs.declared.view.View.{View}
 use Rattle.cell_journal.specs.Rules.{IsJournalOf}
 use Rattle.cell_asking.specs.Seen.{Asked, Answered, visible_of, IsFurther, HasSeen}
@@ -25,6 +26,7 @@ answered n m v w was now count after call reply same seat further has shows = re
   cell = further.of;
   begins = subst (IsPrefix was.items) (sym items) (prefix_trans was.items v.seen w.seen seat.begins further.grows);
   lawful = subst (IsJournalOf w.of) (sym items) has.lawful;
+  clocks = subst (λ l. IsTrue (are_clocks_kept w.of l)) (sym items) has.clocks;
   shows = ap (λ l. visible_of (own m l)) items ∙ (ap visible_of (sym has.own_is) ∙ (shows ∙ ap (λ l. visible_of l ++ Asked call ∷ Answered reply ∷ []) (sym (seat.own_is refl))));
   was_open = refl;
   still_open = refl;
@@ -46,6 +48,7 @@ sits n w now after has = record {
   count_is = has.seen.1 ∙ ap length (sym items);
   begins = subst (λ l. IsPrefix l w.seen) (sym items) (prefix_self w.seen);
   lawful = subst (IsJournalOf w.of) (sym items) has.lawful;
+  clocks = subst (λ l. IsTrue (are_clocks_kept w.of l)) (sym items) has.clocks;
   own_is = λ _. ap (own n) items ∙ sym has.own_is;
   refused = tt;
 }
@@ -61,6 +64,7 @@ sits_still n m v w was count lost refusal seat further of_it = record {
   count_is = seat.count_is;
   begins = prefix_trans was.items v.seen w.seen seat.begins further.grows;
   lawful = subst (λ c. IsJournalOf c was.items) (sym further.of) seat.lawful;
+  clocks = subst (λ c. IsTrue (are_clocks_kept c was.items)) (sym further.of) seat.clocks;
   own_is = λ h. absurd (let both : Some refusal ≡ None = h in cc);
   refused = of_it;
 }

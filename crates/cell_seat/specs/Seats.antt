@@ -9,6 +9,7 @@ use Rattle.gfs_types.specs.declared.refusal.Refusal.{Refusal}
 use Rattle.gfs_types.specs.declared.refusal.Refusal.TheVariants.{Unknown, ClockBroken, JournalFull, Closed}
 use Rattle.protocol_journal.specs.Journal.{Entry, own}
 use Rattle.journal_list.specs.Log.{Listed}
+use Rattle.journal_pages.specs.Clocks.{are_clocks_kept}
 use Rattle.journal_pages.specs.Identity.{Identity}
 use Rattle.cell_journal.specs.declared.view.View.{View}
 use Rattle.cell_journal.specs.Rules.{IsJournalOf}
@@ -32,7 +33,7 @@ is_some (Some x) = true
 abbrev pub shown : SeatState → List Visible
 shown s = visible_of (own s.node s.seen)
 
--- the refusals of the cell itself: there is no clock, no room in the journal, or no cell any more
+-- the refusals of the cell itself: there is no clock or clocks were not kept, there is no room in the journal, or no cell any more
 abbrev pub is_the_cells : Refusal → Bool
 is_the_cells ClockBroken = true
 is_the_cells JournalFull = true
@@ -45,15 +46,17 @@ pub record IsSeat (n : Node) (v : View) (seen : Listed Entry) (count : ℕ) (los
   pub count_is : count ≡ length seen.items
   pub begins : IsPrefix seen.items v.seen
   pub lawful : IsJournalOf v.of seen.items
+  pub clocks : IsTrue (are_clocks_kept v.of seen.items)
   pub own_is : lost ≡ None → own n seen.items ≡ v.mine
   pub refused : IfSome lost (λ refusal. IsTrue (is_the_cells refusal))
 
--- The call was answered: what the client saw goes on lawfully, and has one more call of its own, with this answer, at the end.
+-- The call was answered: what the client saw goes on lawfully, with clocks kept, and has one more call of its own, with this answer, at the end.
 pub record IsAnswered (old new : SeatState) (call : Call) (reply : Answer) : Type 0 where
   pub node : new.node ≡ old.node
   pub cell : new.cell ≡ old.cell
   pub begins : IsPrefix old.seen new.seen
   pub lawful : IsJournalOf new.cell new.seen
+  pub clocks : IsTrue (are_clocks_kept new.cell new.seen)
   pub shows : shown new ≡ shown old ++ Asked call ∷ Answered reply ∷ []
   pub was_open : old.is_lost ≡ false
   pub still_open : new.is_lost ≡ false

@@ -3,6 +3,7 @@
 ghost use Rattle.std.specs.Prelude.{◌≡◌, ◌≤◌, length, slice_get};
 ghost use Rattle.std.specs.Option.{option_copied};
 ghost use mathlib.Core.List.{IsPrefix};
+ghost use Rattle.journal_pages.specs.Clocks.{are_clocks_kept};
 ghost use Rattle.cell_journal.specs.Rules.{IsJournalOf};
 
 use crate::seat::Seat;
@@ -42,6 +43,13 @@ impl Journal {
         ensures lawful { IsJournalOf self.now.cell self.now.entries }
     {
         self.pages.len()
+    }
+
+    /// Whether clocks were kept: no moment of a step is behind that of an earlier one by more than the clock bound.
+    pub fn are_clocks_kept(&self) -> bool
+        ensures { result ≡ are_clocks_kept self.now.cell self.now.entries }
+    {
+        self.pages.are_clocks_kept()
     }
 
     /// The step at a place, from 0.

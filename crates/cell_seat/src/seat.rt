@@ -2,6 +2,7 @@
 
 ghost use Rattle.std.specs.Prelude.{◌≡◌, IfOk, IfErr, None, false, length, IsTrue};
 ghost use Rattle.journal_list.specs.Log.{listed};
+ghost use Rattle.journal_pages.specs.Clocks.{are_clocks_kept};
 ghost use Rattle.cell_journal.specs.Rules.{IsJournalOf};
 ghost use Rattle.cell_seat.specs.Seats.{IsAnswered, IsLost, seat_state, IsSeat, is_the_cells};
 
@@ -79,10 +80,11 @@ impl<N: Stepper + Drop> Seat<N> {
         }
     }
 
-    /// How many steps of the cell it has seen: all up to its last answer. They are a lawful journal of its cell.
+    /// How many steps of the cell it has seen: all up to its last answer. They are a lawful journal of its cell, in which clocks were kept.
     pub fn seen(&self) -> usize
         ensures count { result ≡ length self.now.seen }
         ensures lawful { IsJournalOf self.now.cell self.now.seen }
+        ensures clocks { IsTrue (are_clocks_kept self.now.cell self.now.seen) }
     {
         self.count
     }

@@ -1,11 +1,10 @@
 -- A node's next step.
-use Rattle.std.proofs.Common.{◌≡◌, ℕ, ◌≤◌, List, [], ◌∷◌, ◌++◌, Option, Some, None, refl, sym, ap, subst, ◌∙◌}
-use Rattle.std.specs.Prelude.{IsTrue, Result, Ok, Err, IfOk, OnErr, IfSome}
+use Rattle.std.proofs.Common.{◌≡◌, ℕ, ◌≤◌, Bool, true, false, List, [], ◌∷◌, ◌++◌, Option, Some, None, refl, sym, ap, subst, ◌∙◌}
+use Rattle.std.specs.Prelude.{IsTrue, Result, Ok, Err, IfOk, OnOk, OnErr, IfSome}
 use Rattle.std.proofs.lemmas.Bool.{le-leb}
 use Rattle.atomic_table.specs.Table.{Me}
 use Rattle.gfs_types.specs.declared.answer.Answer.{Answer}
 use Rattle.gfs_types.specs.declared.ids.Node.{Node}
-use Rattle.gfs_types.specs.declared.no_memory.NoMemory.{NoMemory}
 use Rattle.messages.specs.declared.message.Message.{Message}
 use Rattle.messages.specs.declared.event.StepOut.{StepOut}
 use Rattle.protocol.specs.Choice.{Choice}
@@ -14,16 +13,17 @@ use Rattle.protocol.specs.World.{new_world}
 use Rattle.protocol_journal.specs.Journal.{Taking, Entry, NodeState, node_in, node_step, may_take, sent_after, RunsTo, LeadsTo, IsForNode}
 use Rattle.journal_list.specs.Log.{Listed}
 use Rattle.journal_list.proofs.Begins.{prefix_self, prefix_trans}
+use Rattle.journal_pages.specs.Clocks.{are_clocks_kept}
 use Rattle.journal_pages.specs.Identity.{Filled, Identity}
 use Rattle.journal_pages.specs.Entries.{entry}
 use Rattle.cell_journal.specs.declared.view.View.{View}
 use Rattle.cell_journal.specs.Rules.{IsStepOf}
-use Rattle.journal_steps.specs.Places.{IsPlaceOf, IsLater, IsRead, GoesOn}
+use Rattle.journal_steps.specs.Places.{IsPlaceOf, IsLater, IsRead, GoesOn, IsSeen}
 use Rattle.gfs_types.specs.declared.refusal.Refusal.{Refusal}
 use Rattle.cell_slot.specs.declared.slot.Taken.{Taken}
 use Rattle.cell_desk.specs.declared.post.Input.{Input}
 use Rattle.cell_desk.specs.declared.post.Input.TheVariants.{Deliver, Tick, Restart}
-use Rattle.cell_slot.specs.Slots.{StepsSo, IsLedTo, IsTakenOn, IsInputOf, number_in, StepTaken, ActsOn, Acts}
+use Rattle.cell_slot.specs.Slots.{StepsSo, IsLedTo, IsTakenOn, IsInputOf, number_in, told_where, StepTaken, ActsOn, Acts}
 
 runs_more : (s t : NodeState) (es : List Entry) (e : Entry) (choice : Choice) → RunsTo s es t → IsTrue (may_take t e.taking) → (node_step t e.moment e.taking choice).out ≡ e.out
     → RunsTo s (es ++ e ∷ []) (node_step t e.moment e.taking choice).state
@@ -73,6 +73,35 @@ step_of v c n Stands After moment taking out place led may steps within reads = 
   reads = reads;
 }
 
+on_ok : {A E P : Type 0} (r : Result A E) → P → OnOk r P
+on_ok (Ok a) h = h
+on_ok (Err e) h = tt
+
+-- what is told of an answer is the answer
+answer_told : (kept : Bool) (copy : Result (Option Answer) Refusal) (o : Option Answer) → IfOk copy (λ a. a ≡ o) → IfOk (told_where kept copy) (λ a. a ≡ o)
+answer_told true copy o h = h
+answer_told false copy o h = tt
+
+-- it is told only where clocks were kept
+clocks_told : (kept : Bool) (copy : Result (Option Answer) Refusal) → OnOk (told_where kept copy) (IsTrue kept)
+clocks_told true copy = on_ok copy refl
+clocks_told false copy = tt
+
+-- a step that stands in the journal, with what its caller is told of its answer
+pub step_taken : (n : Node) (v w : View) (moment : ℕ) (taking : Taking) (out : StepOut) (copy told : Result (Option Answer) Refusal) (beginning : Listed Entry) (count : ℕ) (kept : Bool)
+    → GoesOn v w (entry n moment taking out) × IsSeen w beginning count → kept ≡ are_clocks_kept w.of w.seen → IfOk copy (λ a. a ≡ out.answer) → told ≡ told_where kept copy
+    → StepTaken n v w taking told beginning count
+step_taken n v w moment taking out copy told beginning count kept (goes, seen) clocks copied is = record {
+  entry = entry n moment taking out;
+  node_is = refl;
+  goes = goes;
+  taking_is = refl;
+  answer_is = subst (λ (r : Result (Option Answer) Refusal). IfOk r (λ a. a ≡ out.answer)) (sym is) (answer_told kept copy out.answer copied);
+  clocks = subst (λ (r : Result (Option Answer) Refusal). OnOk r (IsTrue (are_clocks_kept w.of w.seen))) (sym is)
+      (subst (λ (b : Bool). OnOk (told_where kept copy) (IsTrue b)) clocks (clocks_told kept copy));
+  seen = seen;
+}
+
 pub for_node : (i : Input) (message : Option Message) (taking : Taking) (sent : List Message) (n : Node) → IsTakenOn i message taking → IsRead sent n (number_in i) message → IsForNode sent n taking
 for_node Restart message taking sent n is read = subst (IsForNode sent n) (sym is) tt
 for_node (Deliver number) (Some m) taking sent n is read = subst (IsForNode sent n) (sym is) (number, read.0, read.1)
@@ -102,17 +131,18 @@ goes_later u v w e a b = record {
   lawful = b.lawful;
 }
 
-pub taken_later : (n : Node) (u v w : View) (taking : Taking) (answer : Result (Option Answer) NoMemory) (beginning : Listed Entry) (count : ℕ) → IsLater u v → StepTaken n v w taking answer beginning count → StepTaken n u w taking answer beginning count
+pub taken_later : (n : Node) (u v w : View) (taking : Taking) (answer : Result (Option Answer) Refusal) (beginning : Listed Entry) (count : ℕ) → IsLater u v → StepTaken n v w taking answer beginning count → StepTaken n u w taking answer beginning count
 taken_later n u v w taking answer beginning count a t = record {
   entry = t.entry;
   node_is = t.node_is;
   goes = goes_later u v w t.entry a t.goes;
   taking_is = t.taking_is;
   answer_is = t.answer_is;
+  clocks = t.clocks;
   seen = t.seen;
 }
 
-pub acts_on : (u v w : View) (i : Input) (message : Option Message) (taking : Taking) (n : Node) (answer : Result (Option Answer) NoMemory) (beginning : Listed Entry) (count : ℕ) → IsLater u v
+pub acts_on : (u v w : View) (i : Input) (message : Option Message) (taking : Taking) (n : Node) (answer : Result (Option Answer) Refusal) (beginning : Listed Entry) (count : ℕ) → IsLater u v
     → IsTakenOn i message taking → IsRead (sent_after [] v.seen) n (number_in i) message → StepTaken n v w taking answer beginning count → ActsOn n u w i answer beginning count
 acts_on u v w i message taking n answer beginning count a is read t = record {
   taking = taking;
@@ -122,7 +152,7 @@ acts_on u v w i message taking n answer beginning count a is read t = record {
   taken = taken_later n u v w taking answer beginning count a t;
 }
 
-pub acts : (n : Node) (u w : View) (i : Input) (answer : Result (Option Answer) NoMemory) (beginning : Listed Entry) (count : ℕ) → ActsOn n u w i answer beginning count → Acts n u w i
+pub acts : (n : Node) (u w : View) (i : Input) (answer : Result (Option Answer) Refusal) (beginning : Listed Entry) (count : ℕ) → ActsOn n u w i answer beginning count → Acts n u w i
 acts n u w i answer beginning count t = record {
   entry = t.taken.entry;
   node_is = t.taken.node_is;

@@ -1,9 +1,10 @@
 -- What a node's lock guards.
-use Rattle.std.specs.Prelude.{◌≡◌, ℕ, List, [], Option, Some, None, Result, IfOk}
+use Rattle.std.specs.Prelude.{◌≡◌, ℕ, Bool, true, false, List, [], Option, Some, None, Result, Err, IfOk, OnOk, IsTrue}
 use mathlib.Core.List.{IsPrefix}
 use Rattle.gfs_types.specs.declared.answer.Answer.{Answer}
 use Rattle.gfs_types.specs.declared.ids.Node.{Node}
-use Rattle.gfs_types.specs.declared.no_memory.NoMemory.{NoMemory}
+use Rattle.gfs_types.specs.declared.refusal.Refusal.{Refusal}
+use Rattle.gfs_types.specs.declared.refusal.Refusal.TheVariants.{ClockBroken}
 use Rattle.messages.specs.declared.message.Message.{Message}
 use Rattle.messages.specs.declared.event.StepOut.{StepOut}
 use Rattle.messages.specs.declared.event.Input.TheVariants as input
@@ -11,6 +12,7 @@ use Rattle.protocol.specs.Choice.{Choice}
 use Rattle.protocol.specs.World.{new_world, numbered_from_1}
 use Rattle.protocol_journal.specs.Journal.{Taking, Takes, Restarts, Entry, NodeState, node_in, node_step, sent_after, LeadsTo}
 use Rattle.journal_list.specs.Log.{Listed}
+use Rattle.journal_pages.specs.Clocks.{are_clocks_kept}
 use Rattle.cell_journal.specs.declared.view.View.{View}
 use Rattle.journal_steps.specs.Places.{GoesOn, IsSeen}
 use Rattle.cell_desk.specs.declared.post.Input.{Input}
@@ -56,17 +58,23 @@ IsInputOf sent Tick (Takes input.Tick) = Unit {0}
 IsInputOf sent Restart Restarts = Unit {0}
 IsInputOf sent other taking = ⊥
 
--- The node took one step more, on this; it is the last of a lawful journal, which was seen whole. The answer, where it could be copied, is the step's.
-pub record StepTaken (n : Node) (v w : View) (taking : Taking) (answer : Result (Option Answer) NoMemory) (beginning : Listed Entry) (count : ℕ) : Type 0 where
+-- a step's answer is told where clocks were kept
+abbrev pub told_where : Bool → Result (Option Answer) Refusal → Result (Option Answer) Refusal
+told_where true answer = answer
+told_where false answer = Err ClockBroken
+
+-- The node took one step more, on this; it is the last of a lawful journal, which was seen whole. The answer, where it is told, is the step's, and clocks were kept up to it.
+pub record StepTaken (n : Node) (v w : View) (taking : Taking) (answer : Result (Option Answer) Refusal) (beginning : Listed Entry) (count : ℕ) : Type 0 where
   pub entry : Entry
   pub node_is : entry.node ≡ n
   pub goes : GoesOn v w entry
   pub taking_is : entry.taking ≡ taking
   pub answer_is : IfOk answer (λ a. a ≡ entry.out.answer)
+  pub clocks : OnOk answer (IsTrue (are_clocks_kept w.of w.seen))
   pub seen : IsSeen w beginning count
 
 -- the same, on what an input names
-pub record ActsOn (n : Node) (v w : View) (i : Input) (answer : Result (Option Answer) NoMemory) (beginning : Listed Entry) (count : ℕ) : Type 0 where
+pub record ActsOn (n : Node) (v w : View) (i : Input) (answer : Result (Option Answer) Refusal) (beginning : Listed Entry) (count : ℕ) : Type 0 where
   pub taking : Taking
   pub read : List Entry
   pub before : IsPrefix read w.seen

@@ -5,7 +5,7 @@ ghost use Rattle.protocol.specs.Tables.{moment_limit};
 ghost use Rattle.protocol_journal.specs.Journal.{NodeState, sent_after, IsForNode, may_take, Calls as CallTaken};
 ghost use Rattle.journal_pages.specs.Entries.{taking_of};
 ghost use Rattle.journal_steps.specs.Places.{IsLater};
-ghost use Rattle.cell_slot.specs.Slots.{slot_state, IsLedTo, IsTakenOn, number_in, StepTaken, ActsOn, Acts};
+ghost use Rattle.cell_slot.specs.Slots.{slot_state, IsLedTo, IsTakenOn, number_in, told_where, StepTaken, ActsOn, Acts};
 
 use crate::gate::Gate;
 use crate::stepper::Stepper;
@@ -15,7 +15,6 @@ use cell_desk::post::Input;
 use gfs_types::answer::Answer;
 use gfs_types::call::Call;
 use gfs_types::ids::Moment;
-use gfs_types::no_memory::NoMemory;
 use gfs_types::refusal::Refusal;
 use journal_list::Beginning;
 use journal_pages::entry::{Entry, Taking};
@@ -56,10 +55,11 @@ impl<N: Stepper + Drop> Model for Slot<N> {
     ghost invariant = { λ s. IfSome s.node (λ n. IsLedTo s.desk.place.me.0 s.desk.node (N.stands n)) };
 }
 
-/// What a step gave its caller: a copy of its answer, if there was one, and the journal as it was then, with its length.
+/// What a step gave its caller: a copy of its answer, if there was one, and the journal as it was then, with its length. No answer is told where
+/// clocks were not kept (ClockBroken), or where there is no memory for its copy (JournalFull).
 #[derive(Drop)]
 pub struct Taken {
-    pub answer: Result<Option<Answer>, NoMemory>,
+    pub answer: Result<Option<Answer>, Refusal>,
     pub beginning: Beginning<Entry>,
     pub count: usize,
 }
@@ -279,16 +279,19 @@ fn step_with<R: Wait, N: Stepper + Drop>(
 {
     let mut node = node;
     let out = node.step(now, &taking);
-    let answer = copied(alloc, &out.answer);
+    let copy = copied(alloc, &out.answer);
     match desk.end(rt, alloc, now, taking, out) {
-        Some(longer) => Some(Went {
-            node,
-            taken: Taken {
-                answer,
-                beginning: longer.beginning,
-                count: longer.count,
-            },
-        }),
+        Some(longer) => {
+            let answer = told_where(longer.are_clocks_kept, copy);
+            Some(Went {
+                node,
+                taken: Taken {
+                    answer,
+                    beginning: longer.beginning,
+                    count: longer.count,
+                },
+            })
+        }
         None => None,
     }
 }
@@ -316,11 +319,28 @@ fn taking_on(input: Input, message: Option<Message>) -> Taking
     }
 }
 
-fn copied(alloc: Global, answer: &Option<Answer>) -> Result<Option<Answer>, NoMemory>
+fn copied(alloc: Global, answer: &Option<Answer>) -> Result<Option<Answer>, Refusal>
     ensures { IfOk result (λ a. a ≡ answer.now) }
 {
     match answer {
-        Some(answer) => Ok(Some(answer.copy(alloc)?)),
+        Some(answer) => match answer.copy(alloc) {
+            Ok(copy) => Ok(Some(copy)),
+            Err(_) => Err(Refusal::JournalFull),
+        },
         None => Ok(None),
+    }
+}
+
+// The copy of an answer, if clocks were kept up to it.
+fn told_where(
+    are_clocks_kept: bool,
+    copy: Result<Option<Answer>, Refusal>,
+) -> Result<Option<Answer>, Refusal>
+    ensures { result ≡ told_where are_clocks_kept copy }
+{
+    if are_clocks_kept {
+        copy
+    } else {
+        Err(Refusal::ClockBroken)
     }
 }

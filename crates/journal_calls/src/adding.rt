@@ -3,6 +3,7 @@
 ghost use Rattle.std.specs.Prelude.{◌≡◌, ◌<◌, ◌≤◌, ◌-◌, ◌++◌, ◌∷◌, [], Some, length};
 ghost use Rattle.protocol_journal.specs.Journal.{sent_after};
 ghost use Rattle.journal_list.specs.Log.{listed};
+ghost use Rattle.journal_pages.specs.Clocks.{are_clocks_kept};
 ghost use Rattle.journal_pages.specs.Identity.{Filled, filled};
 ghost use Rattle.cell_journal.specs.Rules.{IsSame, IsStepOf, gave};
 
@@ -12,12 +13,13 @@ use journal_list::Beginning;
 use journal_pages::entry::Entry;
 use journal_pages::pages::Pages;
 
-/// The journal as it is once a step was added, its length, and how many messages were sent before.
+/// The journal as it is once a step was added, its length, how many messages were sent before, and whether clocks were kept.
 #[derive(Drop)]
 pub struct Longer {
     pub beginning: Beginning<Entry>,
     pub count: usize,
     pub sent_before: u128,
+    pub are_clocks_kept: bool,
 }
 
 /// What comes of adding a step: the journal as it was then, and the table's word that was found.
@@ -33,6 +35,7 @@ fn push(slot: &mut Option<Pages>, entry: Entry) -> Longer
     ensures beginning { (y : Filled) → slot.old ≡ Some y → result.beginning ≡ listed y.cell.name (y.entries ++ entry ∷ []) }
     ensures count { (y : Filled) → slot.old ≡ Some y → result.count ≡ length (y.entries ++ entry ∷ []) }
     ensures sent { (y : Filled) → slot.old ≡ Some y → result.sent_before ≡ length (sent_after [] y.entries) }
+    ensures clocks { (y : Filled) → slot.old ≡ Some y → result.are_clocks_kept ≡ are_clocks_kept y.cell (y.entries ++ entry ∷ []) }
 {
     match slot {
         Some(pages) => {
@@ -42,6 +45,7 @@ fn push(slot: &mut Option<Pages>, entry: Entry) -> Longer
                 beginning: pages.beginning(),
                 count: pages.len(),
                 sent_before,
+                are_clocks_kept: pages.are_clocks_kept(),
             }
         }
         None => unreachable!(),
@@ -58,6 +62,7 @@ pub fn add(book: &Book, place: &mut Place, entry: Entry) -> Added
     ensures gave { (y : Filled) → place.old.me.1 ≡ (0, Some y) ∷ [] → place.new.me ≡ (gave place.old.me.0 (filled y.cell (y.entries ++ entry ∷ []) (y.reserved - 1)), []) }
     ensures beginning { result.longer.beginning ≡ listed place.old.me.0.of.name (place.old.me.0.seen ++ entry ∷ []) }
     ensures count { result.longer.count ≡ length (place.old.me.0.seen ++ entry ∷ []) }
+    ensures clocks { result.longer.are_clocks_kept ≡ are_clocks_kept place.old.me.0.of (place.old.me.0.seen ++ entry ∷ []) }
 {
     let longer = push(place.slot_mut(book, 0), entry);
     let found = give_longer(book, place);

@@ -9,6 +9,7 @@ ghost use Rattle.cell_journal.specs.Rules.{HasTaken, IsSame, Writes, gave};
 use cell_journal::steps::{give_back, mark, take};
 use cell_journal::{Book, Place};
 use std::sync::Wait;
+use std::thread::yield_now;
 
 /// The journal is out, and nobody waits for it.
 const TAKEN: u64 = 1;
@@ -19,6 +20,10 @@ const WAITED_FOR: u64 = 2;
 /// The journal is out for good.
 const CLOSED: u64 = 3;
 
+/// How often whoever finds the journal out looks again, and lets other threads run, before it sleeps: a sleeper takes longer to be woken
+/// than most steps have the journal.
+const LOOKS: u32 = 100;
+
 /// Takes the journal, once it is there. False: the cell was closed.
 pub fn acquire(rt: &impl Wait, book: &Book, place: &mut Place) -> bool
     requires book { (book.now.table_id.words ≡ 1) × (book.now.table_id.slots ≡ 1) × (place.old.table_id ≡ book.now.table_id) }
@@ -28,6 +33,9 @@ pub fn acquire(rt: &impl Wait, book: &Book, place: &mut Place) -> bool
     ensures took { MatchBool result (HasTaken place.old.me place.new.me) (place.new.me ≡ place.old.me) }
 {
     if take(book, place, TAKEN) {
+        return true;
+    }
+    if take_soon(book, place) {
         return true;
     }
     for _ in rt.forever() {
@@ -43,6 +51,23 @@ pub fn acquire(rt: &impl Wait, book: &Book, place: &mut Place) -> bool
         }
     }
     unreachable!()
+}
+
+// Takes the journal, if it is back before long.
+fn take_soon(book: &Book, place: &mut Place) -> bool
+    requires book { (book.now.table_id.words ≡ 1) × (book.now.table_id.slots ≡ 1) × (place.old.table_id ≡ book.now.table_id) }
+    requires none { place.old.me.1 ≡ [] }
+    requires writes { (n : Node) × Writes place.old.me.0 n }
+    ensures same { (place.new.table_id ≡ place.old.table_id) × (place.new.id ≡ place.old.id) }
+    ensures took { MatchBool result (HasTaken place.old.me place.new.me) (place.new.me ≡ place.old.me) }
+{
+    for _ in 0..LOOKS {
+        yield_now();
+        if take(book, place, TAKEN) {
+            return true;
+        }
+    }
+    false
 }
 
 /// Gives the journal back as it was taken, and wakes one who waits.

@@ -1,3 +1,4 @@
+pub mod Clocks
 pub mod Entries
 pub mod Identity
 pub mod Rows

@@ -4,7 +4,9 @@ ghost use Rattle.std.specs.Prelude.{◌≡◌, length, slice_get};
 ghost use Rattle.std.specs.Option.{option_copied};
 ghost use mathlib.Core.List.{IsPrefix};
 ghost use Rattle.journal_list.specs.Log.{listed};
+ghost use Rattle.journal_pages.specs.Clocks.{are_clocks_kept};
 
+use crate::clocks::Clocks;
 use crate::entry::Entry;
 use crate::identity::CellIdentity;
 use crate::reading::entry_at;
@@ -16,6 +18,7 @@ use std::marker::Model;
 pub struct ClosedPages {
     pub(crate) cell: CellIdentity,
     pub(crate) rows: Vec<Row>,
+    pub(crate) clocks: Clocks,
     pub(crate) whole: WholeList<Entry>,
 }
 
@@ -25,6 +28,7 @@ impl Drop for ClosedPages {
         let Self {
             cell: _cell,
             rows: _rows,
+            clocks: _,
             whole: _whole,
         } = self;
     }
@@ -32,6 +36,7 @@ impl Drop for ClosedPages {
 
 impl Model for ClosedPages {
     ghost use Rattle.std.specs.Prelude.{◌≡◌};
+    ghost use Rattle.journal_pages.specs.Clocks.{clocks_after};
     ghost use Rattle.journal_pages.specs.Identity.{Closed, closed};
     ghost use Rattle.journal_pages.specs.Rows.{entries_in};
 
@@ -39,7 +44,7 @@ impl Model for ClosedPages {
 
     ghost view = { λ p. closed p.cell (entries_in p.rows.items) };
 
-    ghost invariant = { λ p. (p.whole.name ≡ p.cell.name) × (p.whole.items ≡ entries_in p.rows.items) };
+    ghost invariant = { λ p. (p.whole.name ≡ p.cell.name) × (p.whole.items ≡ entries_in p.rows.items) × (p.clocks ≡ clocks_after p.cell.config (entries_in p.rows.items)) };
 }
 
 impl ClosedPages {
@@ -55,6 +60,13 @@ impl ClosedPages {
         ensures { result ≡ length self.now.entries }
     {
         self.rows.len()
+    }
+
+    /// Whether clocks were kept: no moment of a step is behind that of an earlier one by more than the clock bound.
+    pub fn are_clocks_kept(&self) -> bool
+        ensures { result ≡ are_clocks_kept self.now.cell self.now.entries }
+    {
+        self.clocks.kept
     }
 
     /// The entry at this place.

@@ -4,9 +4,11 @@ ghost use Rattle.std.specs.Prelude.{◌≡◌, ◌+◌, ◌-◌, ◌<◌, ◌++�
 ghost use Rattle.std.specs.Option.{option_copied};
 ghost use Rattle.protocol.specs.World.{numbered_from_1};
 ghost use Rattle.protocol_journal.specs.Journal.{sent_after};
+ghost use Rattle.journal_pages.specs.Clocks.{moved, are_clocks_kept};
 ghost use Rattle.journal_list.specs.Log.{listed};
 ghost use Rattle.journal_pages.specs.Identity.{identity, filled, closed};
 
+use crate::clocks::Clocks;
 use crate::closed::ClosedPages;
 use crate::entry::Entry;
 use crate::identity::CellIdentity;
@@ -26,6 +28,7 @@ pub struct Pages {
     /// How many messages were sent.
     count: u128,
     reserved: u64,
+    clocks: Clocks,
     list: GrowingList<Entry>,
 }
 
@@ -37,6 +40,7 @@ impl Drop for Pages {
             rows: _rows,
             count: _,
             reserved: _,
+            clocks: _,
             list: _list,
         } = self;
     }
@@ -44,6 +48,7 @@ impl Drop for Pages {
 
 impl Model for Pages {
     ghost use Rattle.std.specs.Prelude.{◌≡◌, ◌≤◌, ◌-◌, ◌*◌, ◌^◌, length, vec_len, vec_capacity};
+    ghost use Rattle.journal_pages.specs.Clocks.{clocks_after};
     ghost use Rattle.journal_pages.specs.Identity.{Filled, filled};
     ghost use Rattle.journal_pages.specs.Rows.{entries_in, sent_in, AreCounted};
 
@@ -51,7 +56,7 @@ impl Model for Pages {
 
     ghost view = { λ p. filled p.cell (entries_in p.rows.items) p.reserved };
 
-    ghost invariant = { λ p. (p.list.name ≡ p.cell.name) × (p.list.items ≡ entries_in p.rows.items) × (p.count ≡ length (sent_in p.rows.items)) × AreCounted 0 p.rows.items × (p.reserved ≤ vec_capacity p.rows - vec_len p.rows) × (p.count ≤ 2 ^ 64 * vec_len p.rows) };
+    ghost invariant = { λ p. (p.list.name ≡ p.cell.name) × (p.list.items ≡ entries_in p.rows.items) × (p.count ≡ length (sent_in p.rows.items)) × AreCounted 0 p.rows.items × (p.reserved ≤ vec_capacity p.rows - vec_len p.rows) × (p.count ≤ 2 ^ 64 * vec_len p.rows) × (p.clocks ≡ clocks_after p.cell.config (entries_in p.rows.items)) };
 }
 
 impl Pages {
@@ -66,6 +71,10 @@ impl Pages {
             rows: Vec::new(alloc),
             count: 0,
             reserved: 0,
+            clocks: Clocks {
+                greatest: 0,
+                kept: true,
+            },
             list,
         })
     }
@@ -110,6 +119,13 @@ impl Pages {
         self.count
     }
 
+    /// Whether clocks were kept so far: no moment of a step is behind that of an earlier one by more than the clock bound.
+    pub fn are_clocks_kept(&self) -> bool
+        ensures { result ≡ are_clocks_kept self.now.cell self.now.entries }
+    {
+        self.clocks.kept
+    }
+
     /// For how many entries more there is room.
     pub fn reserved(&self) -> u64
         ensures { result ≡ self.now.reserved }
@@ -148,6 +164,8 @@ impl Pages {
         let before = self.count;
         self.count += entry.out().sent.len() as u128;
         self.reserved -= 1;
+        let clocks = clocks_with(self.clocks, &self.cell, &entry);
+        self.clocks = clocks;
         self.list.push(&entry);
         add(&mut self.rows, Row { entry, before });
     }
@@ -168,14 +186,25 @@ impl Pages {
             rows,
             count: _,
             reserved: _,
+            clocks,
             list,
         } = self;
         ClosedPages {
             cell,
             rows,
+            clocks,
             whole: list.close(),
         }
     }
+}
+
+// The clocks with this entry more.
+fn clocks_with(clocks: Clocks, cell: &CellIdentity, entry: &Entry) -> Clocks
+    ensures { result ≡ moved cell.now.config.skew_ms clocks entry.now.moment }
+{
+    let mut clocks = clocks;
+    clocks.move_to(entry.moment().0, cell.config().skew_ms);
+    clocks
 }
 
 fn add(rows: &mut Vec<Row>, row: Row)

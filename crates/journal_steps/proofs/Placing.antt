@@ -7,6 +7,7 @@ use Rattle.journal_list.specs.Log.{Listed, listed}
 use Rattle.gfs_types.specs.declared.ids.Node.{Node}
 use Rattle.protocol_journal.specs.Journal.{Entry, own}
 use Rattle.protocol_journal.proofs.Nodes.{node_itself}
+use Rattle.journal_pages.specs.Clocks.{are_clocks_kept}
 use Rattle.journal_pages.specs.Identity.{Identity, Filled, filled}
 use Rattle.cell_journal.specs.declared.view.View.{View}
 use Rattle.cell_journal.specs.declared.view.Role.{Role}
@@ -219,6 +220,11 @@ module _ (old mid final : Mine) (y : Filled) (e : Entry) where
       let entries : mid.0.seen ≡ y.entries = ap (λ (x : View). x.seen) t.is in
       subst (λ (m : Mine). IsSeen m.0 beginning count) (sym is)
       (b ∙ ap (λ (es : List Entry). listed mid.0.of.name (es ++ e ∷ [])) entries, k ∙ ap (λ (es : List Entry). length (es ++ e ∷ [])) entries)
+
+  pub ended_clocks : Took old.0 mid.0 y → final ≡ (gave mid.0 now_is, []) → (kept : Bool) → kept ≡ are_clocks_kept mid.0.of (mid.0.seen ++ e ∷ []) → kept ≡ are_clocks_kept final.0.of final.0.seen
+  ended_clocks t is kept k =
+      let entries : mid.0.seen ≡ y.entries = ap (λ (x : View). x.seen) t.is in
+      subst (λ (m : Mine). kept ≡ are_clocks_kept m.0.of m.0.seen) (sym is) (k ∙ ap (λ (es : List Entry). are_clocks_kept mid.0.of (es ++ e ∷ [])) entries)
 
 pub ended_place : (n : Node) (old mid final : Mine) (y : Filled) (e : Entry) → IsPlaceOf n old → Took old.0 mid.0 y → final ≡ (gave mid.0 (filled y.cell (y.entries ++ e ∷ []) (y.reserved - 1)), []) → IsPlaceOf n final
 ended_place n old mid final y e place t is =

@@ -1,6 +1,7 @@
 //! The end of a step: its entry stands in the journal.
 
 ghost use Rattle.std.specs.Prelude.{◌≡◌, ◌<◌, IfSome, IfNone};
+ghost use Rattle.journal_pages.specs.Clocks.{are_clocks_kept};
 ghost use Rattle.cell_journal.specs.Rules.{IsStepOf};
 ghost use Rattle.journal_steps.specs.Places.{IsAt, IsPlaceOf, GoesOn, IsSeen};
 
@@ -26,6 +27,7 @@ pub fn end(
     ensures same { (place.new.table_id ≡ place.old.table_id) × (place.new.id ≡ place.old.id) }
     ensures place { IsPlaceOf node place.new.me }
     ensures some { IfSome result (λ l. GoesOn place.old.me.0 place.new.me.0 entry × IsSeen place.new.me.0 l.beginning l.count) }
+    ensures clocks { IfSome result (λ l. l.are_clocks_kept ≡ are_clocks_kept place.new.me.0.of place.new.me.0.seen) }
     ensures none { IfNone result (place.new.me ≡ place.old.me) }
 {
     if !acquire(rt, book, place) {

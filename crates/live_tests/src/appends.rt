@@ -1,6 +1,4 @@
-use crate::producers::{
-    are_read_back, count_answered, count_offsets, make_log, new_producers, produce_all,
-};
+use crate::producers::{count_kept, make_log, new_producers, produce_all};
 use cell_desk::post::Policy;
 use cell_run::cell::Cell;
 use cell_slot::gate::OpenGate;
@@ -38,13 +36,7 @@ fn produced<R: Threads + Wait + Clock + Sync>(
     cell.net(policy);
     produce_all(rt, alloc, all.as_mut_slice(), records);
     cell.net(Policy::NONE);
-    let answered = count_answered(all.as_slice())?;
-    let offsets = count_offsets(alloc, all.as_slice())?;
-    if offsets == answered && are_read_back(rt, alloc, &mut reader, all.as_slice()) {
-        Some(answered)
-    } else {
-        None
-    }
+    count_kept(rt, alloc, &mut reader, all.as_slice())
 }
 
 #[test]
@@ -62,7 +54,8 @@ fn losses_and_repeats(rt: HostRuntime) -> Result<(), Fail> {
     let alloc = rt.alloc();
     let hasty = Config {
         attempt_ms: 300,
-        skew_ms: 0,
+        skew_ms: 500,
+        attempts: 2,
         ..small()
     };
     let lossy = Policy {

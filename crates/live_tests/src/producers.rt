@@ -10,7 +10,12 @@ use std::collections::BTreeMap;
 use std::sync::Wait;
 use std::thread;
 use std::thread::Threads;
-use std::time::Clock;
+use std::time::{Clock, Duration};
+
+/// How often a record is looked for where no server could tell it, and for how many milliseconds it is waited in between.
+const MOST_LOOKS: u64 = 50;
+
+const PAUSE_MS: u64 = 100;
 
 /// A record and the offset at which it was answered to stand.
 #[derive(Clone, Copy, Debug, PartialEq, Eq)]
@@ -19,12 +24,12 @@ pub struct Stored {
     pub offset: u64,
 }
 
-/// A client with the number of its first record, those of its records that were answered, and whether another call of it was refused
+/// A client with the number of its next record, those of its records that were answered, and whether another call of it was refused
 /// for another reason than that nobody could serve.
 #[derive(Drop)]
 pub struct Producer {
     pub seat: ClientSeat,
-    pub first: u64,
+    pub next: u64,
     pub stored: Vec<Stored>,
     pub is_strange: bool,
 }
@@ -35,8 +40,9 @@ impl Producer {
         let Some(fd) = open(rt, alloc, &mut self.seat) else {
             return;
         };
-        for before in 0..records {
-            let number = self.first.wrapping_add(before);
+        for _ in 0..records {
+            let number = self.next;
+            self.next = number.wrapping_add(1);
             match append(rt, alloc, &mut self.seat, fd, number) {
                 Ok(stored) => self.is_strange |= self.stored.push(stored).is_err(),
                 Err(Refusal::NoReplica | Refusal::Failed) => {}
@@ -84,7 +90,7 @@ pub fn new_producers<R: Wait>(
     for number in 0..count {
         let producer = Producer {
             seat: cell.client().ok()?,
-            first: number.wrapping_mul(1_000),
+            next: number.wrapping_mul(1_000),
             stored: Vec::new(alloc),
             is_strange: false,
         };
@@ -111,8 +117,25 @@ pub fn produce_all<R: Threads + Wait + Clock + Sync>(
     }
 }
 
-/// How many records were answered; none where a call was refused for another reason than that nobody could serve.
-pub fn count_answered(producers: &[Producer]) -> Option<usize> {
+/// How many records were answered; none where two have one offset, one isn't read back, or a call was refused for another reason than that
+/// nobody could serve.
+pub fn count_kept<R: Wait + Clock>(
+    rt: &R,
+    alloc: Global,
+    reader: &mut ClientSeat,
+    producers: &[Producer],
+) -> Option<usize> {
+    let answered = count_answered(producers)?;
+    let offsets = count_offsets(alloc, producers)?;
+    if offsets == answered && are_read_back(rt, alloc, reader, producers) {
+        Some(answered)
+    } else {
+        None
+    }
+}
+
+// How many records were answered; none where a call was refused for another reason than that nobody could serve.
+fn count_answered(producers: &[Producer]) -> Option<usize> {
     let mut count: usize = 0;
     for producer in producers {
         if producer.is_strange {
@@ -123,8 +146,8 @@ pub fn count_answered(producers: &[Producer]) -> Option<usize> {
     Some(count)
 }
 
-/// Whether each record that was answered is read back at its offset.
-pub fn are_read_back<R: Wait + Clock>(
+// Whether each record that was answered is read back at its offset.
+fn are_read_back<R: Wait + Clock>(
     rt: &R,
     alloc: Global,
     reader: &mut ClientSeat,
@@ -143,15 +166,22 @@ pub fn are_read_back<R: Wait + Clock>(
     true
 }
 
+// A master that began again knows of no replica until servers report, so that a read may be refused at first.
 fn is_read_back<R: Wait + Clock>(rt: &R, reader: &mut ClientSeat, fd: Fd, stored: Stored) -> bool {
-    match reader.read(rt, fd, stored.offset, 8) {
-        Ok((bytes, _)) => bytes.as_slice() == stored.number.to_be_bytes().as_slice(),
-        Err(_) => false,
+    for _ in 0..MOST_LOOKS {
+        match reader.read(rt, fd, stored.offset, 8) {
+            Ok((bytes, _)) => return bytes.as_slice() == stored.number.to_be_bytes().as_slice(),
+            Err(Refusal::NoReplica | Refusal::Unknown) => {
+                thread::sleep(rt, Duration::from_millis(PAUSE_MS))
+            }
+            Err(_) => return false,
+        }
     }
+    false
 }
 
-/// How many different offsets were answered; none where memory is refused.
-pub fn count_offsets(alloc: Global, producers: &[Producer]) -> Option<usize> {
+// How many different offsets were answered; none where memory is refused.
+fn count_offsets(alloc: Global, producers: &[Producer]) -> Option<usize> {
     let mut offsets = BTreeMap::new(alloc);
     for producer in producers {
         for stored in producer.stored.as_slice() {

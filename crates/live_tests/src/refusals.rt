@@ -31,6 +31,28 @@ impl<R> Clock for NoClock<R> {
     }
 }
 
+/// A clock that is ahead by an hour.
+#[derive(Clone, Copy)]
+struct FastClock<R> {
+    rt: R,
+}
+
+impl<R: Wait> Wait for FastClock<R> {}
+
+impl<R: Clock> Clock for FastClock<R> {
+    fn monotonic(&self) -> io::Result<Duration> {
+        Ok(
+            self.rt
+                .monotonic()?
+                .saturating_add(Duration::from_secs(3_600)),
+        )
+    }
+
+    fn since_1970(&self) -> io::Result<Duration> {
+        self.rt.since_1970()
+    }
+}
+
 fn small() -> Config {
     Config {
         chunk: 64,
@@ -102,6 +124,31 @@ fn a_broken_clock_is_refused(rt: HostRuntime) -> Result<(), Fail> {
     let is_refused = is_refused_for_its_clock(&rt, alloc, &mut cell);
     cell.close(&rt);
     assert!(rt; is_refused);
+    Ok(())
+}
+
+// Whether a call by a clock that is ahead is refused once the master's is behind it, and each later call of another client too.
+fn are_refused_for_clocks<R: Wait + Clock + Copy>(rt: &R, alloc: Global, cell: &mut Cell) -> bool {
+    let Ok(mut fast) = cell.client() else {
+        return false;
+    };
+    let Ok(mut other) = cell.client() else {
+        return false;
+    };
+    let before = mkdir(rt, alloc, &mut other, "/d");
+    let first = mkdir(&FastClock { rt: *rt }, alloc, &mut fast, "/e");
+    let later = mkdir(rt, alloc, &mut other, "/f");
+    before == Ok(()) && first == Err(Refusal::ClockBroken) && later == first
+}
+
+#[test]
+fn clocks_that_are_apart_are_refused(rt: HostRuntime) -> Result<(), Fail> {
+    let alloc = rt.alloc();
+    let mut cell = Cell::start(rt, alloc, small(), 1, OpenGate)?;
+    let are_refused = are_refused_for_clocks(&rt, alloc, &mut cell);
+    let journal = cell.close(&rt);
+    assert!(rt; are_refused);
+    assert!(rt; !journal.are_clocks_kept());
     Ok(())
 }
 

@@ -1,14 +1,15 @@
 //! Nodes that begin again.
 
-use crate::producers::{are_read_back, make_log, new_producers, produce_all};
+use crate::producers::{Producer, count_kept, make_log, new_producers, produce_all};
 use cell_run::cell::Cell;
 use cell_seat::journal::Journal;
-use cell_slot::gate::OpenGate;
+use cell_slot::gate::Gate;
 use gfs_types::config::Config;
 use gfs_types::ids::{Node, ServerId};
 use journal_pages::entry::Taking;
-use std::alloc::Global;
-use std::sync::Wait;
+use std::alloc::{AllocError, Global};
+use std::sync::atomic::{AtomicU64, Ordering};
+use std::sync::{Arc, Wait};
 use std::test::*;
 use std::thread;
 use std::thread::Threads;
@@ -20,23 +21,112 @@ const NODES: [Node; 3] = [
     Node::Server(ServerId(2)),
 ];
 
-// Whether all that was answered is read back once each node began again.
-fn is_kept<R: Threads + Wait + Clock + Sync>(rt: &R, alloc: Global, cell: &mut Cell) -> bool {
-    let Ok(mut reader) = cell.client() else {
-        return false;
-    };
-    if !make_log(rt, alloc, &mut reader) {
-        return false;
+/// How often each node is asked to begin again while producers append.
+const ROUNDS: u64 = 10;
+
+/// How many records each producer appends in a round.
+const RECORDS: u64 = 3;
+
+/// For how many milliseconds nodes may take to begin again.
+const MOST_TURNS: u64 = 10_000;
+
+/// Counts how often nodes begin again.
+#[derive(Drop)]
+struct RestartGate {
+    restarts: Arc<AtomicU64>,
+}
+
+impl Clone for RestartGate {
+    fn clone(&self) -> Result<RestartGate, AllocError> {
+        Ok(RestartGate {
+            restarts: Arc::try_clone(&self.restarts)?,
+        })
     }
-    let Some(mut all) = new_producers(rt, alloc, cell, 2) else {
-        return false;
-    };
-    produce_all(rt, alloc, all.as_mut_slice(), 10);
+}
+
+impl Gate for RestartGate {
+    fn before(&self, _node: Node, taking: &Taking) {
+        if is_restart(taking) {
+            self.restarts.fetch_add(1, Ordering::SeqCst);
+        }
+    }
+}
+
+fn is_restart(taking: &Taking) -> bool {
+    match taking {
+        Taking::Restarts => true,
+        _ => false,
+    }
+}
+
+// Waits until nodes began again so often in all, but not for ever.
+fn wait_for<R: Clock>(rt: &R, restarts: &AtomicU64, count: u64) {
+    for _ in 0..MOST_TURNS {
+        if restarts.load(Ordering::SeqCst) >= count {
+            return;
+        }
+        thread::sleep(rt, Duration::from_millis(1));
+    }
+}
+
+// Each node is asked to begin again, each so many milliseconds after the one before it.
+fn restart_in_turn<R: Wait + Clock>(rt: &R, cell: &mut Cell, pause: u64) {
     for node in NODES {
+        thread::sleep(rt, Duration::from_millis(pause));
         cell.restart(rt, node);
     }
-    thread::sleep(rt, Duration::from_millis(500));
-    are_read_back(rt, alloc, &mut reader, all.as_slice())
+}
+
+// The producers append at the same time as each node is asked to begin again.
+fn produce_meanwhile<R: Threads + Wait + Clock + Sync>(
+    rt: &R,
+    alloc: Global,
+    cell: &mut Cell,
+    producers: &mut [Producer],
+    pause: u64,
+) {
+    thread::join(
+        rt,
+        || produce_all(rt, alloc, producers, RECORDS),
+        || restart_in_turn(rt, cell, pause),
+    );
+}
+
+// How many records were answered before each node begins again, if each of them is read back after that.
+fn kept<R: Threads + Wait + Clock + Sync>(
+    rt: &R,
+    alloc: Global,
+    cell: &mut Cell,
+    restarts: &AtomicU64,
+) -> Option<usize> {
+    let mut reader = cell.client().ok()?;
+    if !make_log(rt, alloc, &mut reader) {
+        return None;
+    }
+    let mut all = new_producers(rt, alloc, cell, 2)?;
+    produce_all(rt, alloc, all.as_mut_slice(), 10);
+    restart_in_turn(rt, cell, 0);
+    wait_for(rt, restarts, 3);
+    count_kept(rt, alloc, &mut reader, all.as_slice())
+}
+
+// How many records were answered while each node began again, over and over, if each of them is read back after that.
+fn kept_meanwhile<R: Threads + Wait + Clock + Sync>(
+    rt: &R,
+    alloc: Global,
+    cell: &mut Cell,
+    restarts: &AtomicU64,
+) -> Option<usize> {
+    let mut reader = cell.client().ok()?;
+    if !make_log(rt, alloc, &mut reader) {
+        return None;
+    }
+    let mut all = new_producers(rt, alloc, cell, 2)?;
+    for round in 0..ROUNDS {
+        produce_meanwhile(rt, alloc, cell, all.as_mut_slice(), round.wrapping_mul(3));
+    }
+    wait_for(rt, restarts, ROUNDS.wrapping_mul(3));
+    count_kept(rt, alloc, &mut reader, all.as_slice())
 }
 
 // How often a node began again.
@@ -52,11 +142,14 @@ fn restarts_of(journal: &Journal, node: Node) -> u64 {
     count
 }
 
-fn is_restart(taking: &Taking) -> bool {
-    match taking {
-        Taking::Restarts => true,
-        _ => false,
+// Whether each node began again so often.
+fn have_begun_again(journal: &Journal, count: u64) -> bool {
+    for node in NODES {
+        if restarts_of(journal, node) != count {
+            return false;
+        }
     }
+    true
 }
 
 #[test]
@@ -70,12 +163,40 @@ fn each_node_begins_again(rt: HostRuntime) -> Result<(), Fail> {
         attempt_ms: 60_000,
         ..Config::default()
     };
-    let mut cell = Cell::start(rt, alloc, config, 2, OpenGate)?;
-    let is_kept = is_kept(&rt, alloc, &mut cell);
+    let restarts = Arc::new(alloc, AtomicU64::new(0))?;
+    let gate = RestartGate {
+        restarts: Arc::try_clone(&restarts)?,
+    };
+    let mut cell = Cell::start(rt, alloc, config, 2, gate)?;
+    let count = kept(&rt, alloc, &mut cell, &restarts);
     let journal = cell.close(&rt);
-    assert!(rt; is_kept);
-    for node in NODES {
-        assert_eq!(rt; restarts_of(&journal, node), 1);
-    }
+    assert_eq!(rt; count, Some(20));
+    assert!(rt; have_begun_again(&journal, 1));
+    Ok(())
+}
+
+#[test]
+fn nodes_begin_again_at_any_time(rt: HostRuntime) -> Result<(), Fail> {
+    let alloc = rt.alloc();
+    let config = Config {
+        chunk: 64,
+        block: 16,
+        slots: 64,
+        goal: 2,
+        attempt_ms: 300,
+        skew_ms: 500,
+        lease_ms: 2_000,
+        ..Config::default()
+    };
+    let restarts = Arc::new(alloc, AtomicU64::new(0))?;
+    let gate = RestartGate {
+        restarts: Arc::try_clone(&restarts)?,
+    };
+    let mut cell = Cell::start(rt, alloc, config, 2, gate)?;
+    let count = kept_meanwhile(&rt, alloc, &mut cell, &restarts);
+    let journal = cell.close(&rt);
+    // Most of the sixty are answered: in each round each node begins again once, and then no more.
+    assert!(rt; count > Some(30));
+    assert!(rt; have_begun_again(&journal, ROUNDS));
     Ok(())
 }

@@ -1,6 +1,7 @@
 use Rattle.std.proofs.Common.{◌≡◌, ◌≤◌, ◌<◌, ◌-◌, ◌++◌, ◌∷◌, [], List, Option, Some, length, ap, ◌∙◌, arith}
 use Rattle.protocol_journal.specs.Journal.{Entry}
 use Rattle.journal_list.specs.Log.{listed}
+use Rattle.journal_pages.specs.Clocks.{are_clocks_kept}
 use Rattle.journal_pages.specs.Identity.{Identity, Filled, filled}
 use Rattle.journal_calls.proofs.Lending.{lends, lent, left}
 use Rattle.journal_calls.proofs.adding.add.Goals as goal
@@ -52,4 +53,6 @@ returns c =
       beginning = c.push-longer.ensures.beginning h.0 now
           ∙ (ap (λ (i : Identity). listed i.name (h.0.entries ++ e ∷ [])) h.2.1 ∙ ap (λ (es : List Entry). listed c.args.place.now.me.0.of.name (es ++ e ∷ [])) h.2.2);
       count = c.push-longer.ensures.count h.0 now ∙ ap (λ (es : List Entry). length (es ++ e ∷ [])) h.2.2;
+      clocks = c.push-longer.ensures.clocks h.0 now
+          ∙ (ap (λ (i : Identity). are_clocks_kept i (h.0.entries ++ e ∷ [])) h.2.1 ∙ ap (λ (es : List Entry). are_clocks_kept c.args.place.now.me.0.of (es ++ e ∷ [])) h.2.2);
     }

@@ -1,12 +1,12 @@
 use Rattle.std.proofs.Common.{sym, subst, ◌∙◌}
 use Rattle.journal_steps.specs.Places.{IsPlaceOf}
-use Rattle.journal_steps.proofs.Placing.{when_true, when_false, only_writes, step_later, ended_place, ended_goes, ended_seen, room_there}
+use Rattle.journal_steps.proofs.Placing.{when_true, when_false, only_writes, step_later, ended_place, ended_goes, ended_seen, ended_clocks, room_there}
 use Rattle.journal_steps.proofs.ending.end.Goals as goal
 
 pub returns-then-not-acquire : goal.returns-then-not-acquire
 returns-then-not-acquire g c =
     let is = when_false _ _ c.acquire.result c.if-not-acquire.true c.acquire.ensures.took in
-    record { same = c.acquire.ensures.same; place = subst (IsPlaceOf c.args.node) (sym is) c.requires.place; some = tt; none = is }
+    record { same = c.acquire.ensures.same; place = subst (IsPlaceOf c.args.node) (sym is) c.requires.place; some = tt; clocks = tt; none = is }
 
 pub add-longer-requires : goal.add-longer-requires
 add-longer-requires g c =
@@ -33,6 +33,7 @@ returns g c =
       same = (c.add-longer.ensures.same.0 ∙ c.acquire.ensures.same.0, c.add-longer.ensures.same.1 ∙ c.acquire.ensures.same.1);
       place = ended_place n old mid final t.0 c.args.entry c.requires.place t.2 is;
       some = (ended_goes old mid final t.0 c.args.entry t.2 c.requires.step is, ended_seen old mid final t.0 c.args.entry t.2 is c.add-longer.result.longer.beginning c.add-longer.result.longer.count c.add-longer.ensures.beginning c.add-longer.ensures.count);
+      clocks = ended_clocks old mid final t.0 c.args.entry t.2 is c.add-longer.result.longer.are_clocks_kept c.add-longer.ensures.clocks;
       none = tt;
     }
 

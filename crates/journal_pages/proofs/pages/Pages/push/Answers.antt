@@ -1,8 +1,12 @@
 use Rattle.std.proofs.Common.{◌≡◌, ◌+◌, ◌-◌, ◌++◌, ◌∷◌, [], length, List, sym, subst, ap, ◌∙◌, arith}
 use Rattle.std.proofs.lemmas.List.{length-append}
+use Rattle.protocol_journal.specs.Journal.{Entry}
+use Rattle.journal_pages.specs.declared.clocks.Clocks.{Clocks}
 use Rattle.journal_pages.specs.declared.row.Row.{Row}
+use Rattle.journal_pages.specs.Clocks.{moved, clocks_after}
 use Rattle.journal_pages.specs.Identity.{filled}
 use Rattle.journal_pages.specs.Rows.{entries_in, sent_in, AreCounted}
+use Rattle.journal_pages.proofs.Observed.{clocks_more}
 use Rattle.journal_pages.proofs.Rows.{entries_push, sent_push, counted_push}
 use Rattle.journal_pages.proofs.pages.Pages.push.Goals as goal
 
@@ -21,6 +25,10 @@ invariant_of-self c =
       subst (AreCounted 0) (sym now) (counted_push 0 rows row i.3 (i.2 ∙ omega arith)),
       omega (arith, i.4, longer, c.add.ensures.1),
       omega (arith, i.5, longer, c.len.type_inv),
+      c.clocks_with-clocks.ensures
+          ∙ (ap (λ (k : Clocks). moved c.self.inside.cell.config.skew_ms k c.args.entry.moment) i.6
+          ∙ (sym (clocks_more c.self.inside.cell.config (entries_in rows) c.args.entry)
+          ∙ ap (λ (es : List Entry). clocks_after c.self.inside.cell.config es) (sym (ap entries_in now ∙ entries_push rows row)))),
     )
 
 pub returns : goal.returns

@@ -1,6 +1,6 @@
 -- The clocks of a list of steps are those that are observed of it.
-use Rattle.std.proofs.Common.{◌≡◌, ℕ, zero, suc, ◌+◌, ◌<◌, ◌≤◌, Bool, true, false, List, [], ◌∷◌, length, drop, Option, Some, None, refl, sym, ap, ◌∙◌, arith}
-use Rattle.std.specs.Prelude.{◌&&◌, nat_le, max, slice_get}
+use Rattle.std.proofs.Common.{◌≡◌, ℕ, ◌+◌, ◌≤◌, Bool, true, false, List, [], ◌∷◌, ◌++◌, Option, Some, None, refl, ap, ◌∙◌, arith}
+use Rattle.std.specs.Prelude.{◌&&◌, nat_le, max}
 use Rattle.std.proofs.lemmas.Bool.Decides.{nat_tests}
 use Rattle.std.specs.FinMap as table
 use Rattle.gfs_types.specs.declared.answer.Answer.{Answer}
@@ -9,11 +9,8 @@ use Rattle.gfs_types.specs.declared.ids.Node.{Node}
 use Rattle.gfs_types.specs.declared.ids.Node.TheVariants as node
 use Rattle.protocol.specs.Observer.{Observer, new_observer}
 use Rattle.protocol_journal.specs.Journal.{Taking, Calls, Takes, Restarts, Entry, asked, answered, entry_observed, observed_after, observer_of}
-use Rattle.journal_clocks.specs.declared.clocks.Clocks.{Clocks}
-use Rattle.journal_clocks.specs.Clocks.{moved, after_steps}
-
-abbrev pub clocks_of : Observer → Clocks
-clocks_of o = record { greatest = o.greatest; kept = o.are_clocks_kept }
+use Rattle.journal_pages.specs.declared.clocks.Clocks.{Clocks}
+use Rattle.journal_pages.specs.Clocks.{moved, clocks_of, clocks_after}
 
 abbrev clocks : ℕ → Bool → Clocks
 clocks greatest kept = record { greatest = greatest; kept = kept }
@@ -57,32 +54,10 @@ asked_moves skew o m (node.Client c) Restarts = refl
 step_moves : (skew : ℕ) (o : Observer) (e : Entry) → clocks_of (entry_observed skew o e) ≡ moved skew (clocks_of o) e.moment
 step_moves skew o e = answer_moves_nothing _ e.node e.out.answer ∙ asked_moves skew o e.moment e.node e.taking
 
-observed : (skew : ℕ) (o : Observer) (es : List Entry) → clocks_of (observed_after skew o es) ≡ after_steps skew (clocks_of o) es
-observed skew o [] = refl
-observed skew o (e ∷ es) = observed skew (entry_observed skew o e) es ∙ ap (λ (c : Clocks). after_steps skew c es) (step_moves skew o e)
+observed_more : (skew : ℕ) (o : Observer) (es : List Entry) (e : Entry) → observed_after skew o (es ++ e ∷ []) ≡ entry_observed skew (observed_after skew o es) e
+observed_more skew o [] e = refl
+observed_more skew o (x ∷ es) e = observed_more skew (entry_observed skew o x) es e
 
--- of the steps that are left one is taken
-next_step : (skew : ℕ) (c : Clocks) (es : List Entry) (k moment : ℕ) → k < length es → ((e : Entry) → slice_get es k ≡ Some e → moment ≡ e.moment)
-    → after_steps skew (moved skew c moment) (drop (suc k) es) ≡ after_steps skew c (drop k es)
-next_step skew c [] k moment h is = absurd (omega (arith, h))
-next_step skew c (e ∷ es) zero moment h is = ap (λ (m : ℕ). after_steps skew (moved skew c m) es) (is e refl)
-next_step skew c (e ∷ es) (suc k) moment h is = next_step skew c es k moment (let less : k < length es = omega (arith, h) in less) is
-
-none_left : (skew : ℕ) (c : Clocks) (es : List Entry) (k : ℕ) → length es ≤ k → after_steps skew c (drop k es) ≡ c
-none_left skew c [] zero h = refl
-none_left skew c [] (suc k) h = refl
-none_left skew c (e ∷ es) zero h = absurd (omega (arith, h))
-none_left skew c (e ∷ es) (suc k) h = none_left skew c es k (let less : length es ≤ k = omega (arith, h) in less)
-
-pub next_place : (skew : ℕ) (c : Clocks) (es : List Entry) (k moment : ℕ) → k < length es → ((e : Entry) → slice_get es k ≡ Some e → moment ≡ e.moment)
-    → after_steps skew (moved skew c moment) (drop (k + 1) es) ≡ after_steps skew c (drop k es)
-next_place skew c es k moment h is =
-    let next : k + 1 ≡ suc k = omega arith in
-    ap (λ (n : ℕ). after_steps skew (moved skew c moment) (drop n es)) next ∙ next_step skew c es k moment h is
-
--- once no step is left, clocks were kept just where they were observed so
-pub kept_is : (config given : Config) (c : Clocks) (es : List Entry) (k : ℕ) → given ≡ config → length es ≤ k
-    → after_steps given.skew_ms c (drop k es) ≡ after_steps given.skew_ms (clocks 0 true) es → c.kept ≡ (observer_of config es).are_clocks_kept
-kept_is config given c es k is over left =
-    ap (λ (x : Clocks). x.kept)
-    (sym (none_left given.skew_ms c es k over) ∙ (left ∙ (ap (λ (g : Config). after_steps g.skew_ms (clocks 0 true) es) is ∙ sym (observed config.skew_ms (new_observer table.empty) es))))
+-- one step more
+pub clocks_more : (config : Config) (es : List Entry) (e : Entry) → clocks_after config (es ++ e ∷ []) ≡ moved config.skew_ms (clocks_after config es) e.moment
+clocks_more config es e = ap clocks_of (observed_more config.skew_ms (new_observer table.empty) es e) ∙ step_moves config.skew_ms (observer_of config es) e
