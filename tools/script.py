@@ -1,6 +1,6 @@
 """The simulator's script language, over a cell that runs by the definitions."""
 from cell import Cell, REFUSALS
-from fuse import LogDisk
+from fuse import LogDisk, StoreDisk
 
 KINDS = set((
     'Name Look Ask Named Told Wait Refused Push Pushed Mutate Done Forward Acked Nacked Read Len Bytes LenIs Create '
@@ -70,6 +70,14 @@ class Simulator:
         self.holds = []
         self.twices = []
         self.cuts = set()
+        self.disks = {}
+
+    def disk(self, node):
+        """The disk of the master's log, or of a server's replicas."""
+        if node not in self.disks:
+            self.disks[node] = LogDisk(self.cell, self.cell.choose) if node == 'master' else StoreDisk(node, self.cell.choose)
+            self.cell.choose = self.disks[node]
+        return self.disks[node]
 
     def collect(self):
         """Each new message is put aside, lost, or left to be delivered."""
@@ -219,17 +227,16 @@ class Simulator:
         count = number(calls)
         if torn not in (b'old', b'new') and number(torn) > 255:
             raise BadLine()
-        if node == 'master':
-            if not isinstance(self.cell.choose, LogDisk):
-                self.cell.choose = LogDisk(self.cell, self.cell.choose)
-            self.cell.choose.stop(self.cell, count, torn if torn in (b'old', b'new') else b'%d' % number(torn))
+        if node[0] != 'c':
+            self.disk(node).stop(self.cell, count, torn if torn in (b'old', b'new') else b'%d' % number(torn))
 
     def line_rot(self, word, path, index, place, byte):
         server = self.node(word)
         if server[0] != 's' or number(byte) > 255:
             raise BadLine()
         handle = self.chunk(path, index)[2]
-        self.cell.rot(server, handle, number(place), number(byte))
+        if self.disk(server).rots(self.cell, handle, number(place), number(byte)):
+            self.cell.rot(server, handle, number(place), number(byte))
 
     def line_regions(self, path, index):
         file, at, _ = self.chunk(path, index)

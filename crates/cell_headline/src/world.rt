@@ -1,6 +1,6 @@
 //! A cell that a list of events led to, with the headline as the contract of its steps and runs.
 
-ghost use Rattle.std.specs.Prelude.{◌≡◌, ◌≤◌, length, map, option_map, IfOk, IfErr, OnErr};
+ghost use Rattle.std.specs.Prelude.{◌≡◌, ◌≤◌, [], length, map, option_map, All, IfOk, IfErr, OnErr};
 ghost use Rattle.std.specs.Option.{option_copied};
 ghost use Rattle.std.specs.FinMap as table;
 ghost use Rattle.gfs_types.specs.Settings.{largest_chunk};
@@ -8,6 +8,7 @@ ghost use Rattle.protocol.specs.Lookups.{file_named, regions_at, replicas_at};
 ghost use Rattle.protocol.specs.MasterStep.{new_master};
 ghost use Rattle.protocol.specs.Sending.{file_id};
 ghost use Rattle.protocol.specs.World.{WorldState, happens, new_world, numbered_from_1};
+ghost use Rattle.replica_store.specs.Replicas.{new_server_disk};
 ghost use Rattle.cell_headline.specs.Headline.{RunsAsMachine, StepsAsMachine};
 ghost use Rattle.cell_world.specs.AsStored.{as_stored};
 ghost use Rattle.cell_world.specs.Events.{MayBeRefused};
@@ -24,13 +25,14 @@ use gfs_types::config::Config;
 use gfs_types::ids::{ClientId, FileId, Handle};
 use gfs_types::no_memory::NoMemory;
 use gfs_types::path::Path;
-use memory_store::MemoryStore;
 use messages::event::Event;
 use messages::message::Message;
 use relaxed_file::region::Region;
+use server_store::fault::StoreFault;
 use server_store::store::ReplicaStore;
 use std::alloc::Global;
 use std::marker::Model;
+use stoppable_store::StoppableStore;
 
 /// One master, and chunkservers and clients by their numbers, from 1, with each message that was ever sent. Each is what a list of events
 /// led to from a new cell.
@@ -55,33 +57,34 @@ impl<M: CellMaster, S: ReplicaStore> Model for World<M, S> {
     ghost invariant = { λ w. HasReachedWorld w.cell };
 }
 
-impl<M: CellMaster + Drop> World<M, MemoryStore> {
-    /// A new cell of a new master, with new servers and clients over stores in memory. The settings are within their ranges.
+impl<M: CellMaster + Drop, S: ReplicaStore + Drop> World<M, S> {
+    /// A new cell of a new master, with a new server over each of the new stores, and new clients. The settings are within their ranges.
     pub fn new(
         alloc: Global,
         config: Config,
         master: M,
-        servers: u16,
+        stores: Vec<S>,
         clients: u64,
-    ) -> Result<World<M, MemoryStore>, NoMemory>
-        requires block { 1 ≤ config.block }
+    ) -> Result<World<M, S>, NoMemory>
         requires least { 64 ≤ config.chunk }
         requires most { config.chunk ≤ largest_chunk }
         requires skew { config.skew_ms ≤ 60000 }
-        requires master { M.state master ≡ new_master config servers }
+        requires stores { All (λ s. (S.disk s ≡ new_server_disk config.block) × (S.under_way s ≡ [])) stores.items }
+        requires count { length stores.items ≤ 65535 }
+        requires master { M.state master ≡ new_master config (length stores.items) }
         requires files { M.files master ≡ table.empty }
-        ensures { IfOk result (λ world. IsHeldAs (new_world config servers clients) world) }
+        ensures { IfOk result (λ world. IsHeldAs (new_world config (length stores.items) clients) world) }
     {
-        let cell = Cell::new(alloc, config, master, servers, clients)?;
+        let cell = Cell::new(alloc, config, master, stores, clients)?;
         Ok(World { cell })
     }
 }
 
-impl<M: CellMaster, S: ReplicaStore> World<M, S> {
+impl<M: CellMaster, S: StoppableStore> World<M, S> {
     /// One event, and what it answers. One that names no such node, message, replica, place or moment, or a node that is down, changes
-    /// nothing. A run of the machine has the calls and answers so far, and led to what the cell shows. An error: the store of a server found
-    /// no memory for a byte that rots, and nothing has changed.
-    pub fn step(&mut self, event: Event) -> Result<Option<Answer>, NoMemory>
+    /// nothing. A run of the machine has the calls and answers so far, and led to what the cell shows. An error: a byte didn't
+    /// rot, as the store of its server couldn't take it, and nothing has changed.
+    pub fn step(&mut self, event: Event) -> Result<Option<Answer>, StoreFault>
         ensures ok { IfOk result (λ answer. HasEffect self.old (λ w choice. happens w event choice) answer self.new) }
         ensures explained { IfOk result (λ answer. StepsAsMachine self.old event answer self.new) }
         ensures err { OnErr result (self.new ≡ self.old) }
@@ -93,7 +96,7 @@ impl<M: CellMaster, S: ReplicaStore> World<M, S> {
     /// The events in order, and their answers: a run of the machine has the calls and answers so far, and led to what the cell shows.
     ///
     /// - `NoMemory`: memory was refused before the first event, and nothing has changed.
-    /// - `Rot`: a byte couldn't rot for want of memory. The events before it happened, as many as it says.
+    /// - `Rot`: a byte didn't rot. The events before it happened, as many as it says.
     pub fn run(&mut self, alloc: Global, events: &[Event]) -> Result<Vec<Answer>, RunFault>
         ensures ok { IfOk result (λ answers. Runs self.old events.now answers.items self.new) }
         ensures explained { IfOk result (λ answers. RunsAsMachine self.old events.now answers.items self.new) }

@@ -5,4 +5,4 @@ use Rattle.cell_world.specs.declared.fault.RunFault.TheVariants.{NoMemory, Rot}
 
 abbrev pub fault_text : RunFault → List ℕ
 fault_text NoMemory = codes "no memory"
-fault_text (Rot done) = codes "no memory for a byte that rots"
+fault_text (Rot done) = codes "a byte did not rot"

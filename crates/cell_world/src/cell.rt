@@ -12,7 +12,9 @@ ghost use Rattle.cell_world.specs.Events.{MayBeRefused};
 use crate::clients::{client_calls, client_may_call, client_place, client_steps, is_client_up};
 use crate::master::CellMaster;
 use crate::masters::master_steps;
-use crate::servers::{is_server_up, server_place, server_restarts, server_rots, server_steps};
+use crate::servers::{
+    is_server_up, server_fuses, server_place, server_restarts, server_rots, server_steps,
+};
 use cell_record::record::CellRecord;
 use chunkserver::server::Chunkserver;
 use client_node::client::Client;
@@ -20,11 +22,12 @@ use gfs_types::answer::Answer;
 use gfs_types::call::Call;
 use gfs_types::config::Config;
 use gfs_types::ids::{ClientId, Handle, MAX_MOMENT, Moment, Node, ServerId};
-use gfs_types::no_memory::NoMemory;
 use gfs_types::torn::Torn;
 use messages::event::Event;
+use server_store::fault::StoreFault;
 use server_store::store::ReplicaStore;
 use std::marker::Model;
+use stoppable_store::StoppableStore;
 
 /// A cell of one master, and of servers and clients by their numbers, from 1.
 #[derive(Drop)]
@@ -57,10 +60,10 @@ impl<M: CellMaster, S: ReplicaStore> Model for Cell<M, S> {
     } };
 }
 
-impl<M: CellMaster, S: ReplicaStore> Cell<M, S> {
+impl<M: CellMaster, S: StoppableStore> Cell<M, S> {
     /// One event. One that names no such node, message, replica, place or moment, or a node that is down, changes nothing. An
-    /// error: the store of a server found no memory for a byte that rots, and nothing has changed.
-    pub fn step(&mut self, event: Event) -> Result<Option<Answer>, NoMemory>
+    /// error: a byte didn't rot, as the store of its server couldn't take it, and nothing has changed.
+    pub fn step(&mut self, event: Event) -> Result<Option<Answer>, StoreFault>
         ensures ok { IfOk result (λ answer. HasEffect self.old (λ w choice. happens w event choice) answer self.new) }
         ensures err { OnErr result (self.new ≡ self.old) }
         ensures refused { OnErr result (MayBeRefused event) }
@@ -204,17 +207,23 @@ impl<M: CellMaster, S: ReplicaStore> Cell<M, S> {
         None
     }
 
-    /// A node's disk is told to stop. The servers' stores lie in memory and have none.
+    /// A node's disk is told to stop.
     fn fuses(&mut self, node: Node, calls: u64, torn: Torn)
         ensures { self.new ≡ self.old }
     {
-        if let Node::Master = node {
-            self.master.fuse(calls, torn);
+        match node {
+            Node::Master => self.master.fuse(calls, torn),
+            Node::Server(id) => {
+                if let Some(place) = server_place(&self.servers, id) {
+                    server_fuses(&mut self.servers, place, calls, torn);
+                }
+            }
+            Node::Client(_) => {}
         }
     }
 
-    /// A byte rots. An error: the server's store found no memory for it.
-    fn rots(&mut self, id: ServerId, handle: Handle, place: u64, byte: u8) -> Result<(), NoMemory>
+    /// A byte rots. An error: the server's store couldn't take it.
+    fn rots(&mut self, id: ServerId, handle: Handle, place: u64, byte: u8) -> Result<(), StoreFault>
         ensures ok { OnOk result (HasEffect self.old (λ w choice. rots_on w (id.0 - 1) handle.0 place byte (numbered_from_1 w.servers id.0)) None self.new) }
         ensures err { OnErr result (self.new ≡ self.old) }
     {

@@ -13,7 +13,7 @@ use std::fmt;
 pub enum RunFault {
     /// An allocator refused the copies that are made before the first event: none of them happened.
     NoMemory,
-    /// After so many events a byte was to rot, for which a server's store found no memory.
+    /// After so many events a byte was to rot, which its server's store couldn't take.
     Rot(usize),
 }
 
@@ -23,7 +23,7 @@ impl fmt::Display for RunFault {
     fn fmt<W: fmt::Write>(&self, f: &mut fmt::Formatter<W>) -> fmt::Result {
         match self {
             RunFault::NoMemory => write!(f, "no memory"),
-            RunFault::Rot(_) => write!(f, "no memory for a byte that rots"),
+            RunFault::Rot(_) => write!(f, "a byte did not rot"),
         }
     }
 }

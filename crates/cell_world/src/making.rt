@@ -1,6 +1,6 @@
-//! New cells over stores in memory.
+//! New cells.
 
-ghost use Rattle.std.specs.Prelude.{◌≡◌, ◌≤◌, ◌<◌, [], map, IfOk};
+ghost use Rattle.std.specs.Prelude.{◌≡◌, ◌≤◌, ◌<◌, [], length, map, All, IfOk};
 ghost use Rattle.std.specs.FinMap as table;
 ghost use Rattle.gfs_types.specs.Settings.{largest_chunk};
 ghost use Rattle.protocol.specs.Client.{new_client};
@@ -19,27 +19,28 @@ use client_node::client::Client;
 use gfs_types::config::Config;
 use gfs_types::ids::{ClientId, Moment, ServerId};
 use gfs_types::no_memory::NoMemory;
-use memory_store::MemoryStore;
+use server_store::store::ReplicaStore;
 use std::alloc::Global;
 
-impl<M: CellMaster + Drop> Cell<M, MemoryStore> {
-    /// A new cell of a new master, with new servers and clients. The settings are within their ranges.
+impl<M: CellMaster + Drop, S: ReplicaStore + Drop> Cell<M, S> {
+    /// A new cell of a new master, with a new server over each of the new stores, and new clients. The settings are within their ranges.
     pub fn new(
         alloc: Global,
         config: Config,
         master: M,
-        servers: u16,
+        stores: Vec<S>,
         clients: u64,
-    ) -> Result<Cell<M, MemoryStore>, NoMemory>
-        requires block { 1 ≤ config.block }
+    ) -> Result<Cell<M, S>, NoMemory>
         requires least { 64 ≤ config.chunk }
         requires most { config.chunk ≤ largest_chunk }
         requires skew { config.skew_ms ≤ 60000 }
-        requires master { M.state master ≡ new_master config servers }
+        requires stores { All (λ s. (S.disk s ≡ new_server_disk config.block) × (S.under_way s ≡ [])) stores.items }
+        requires count { length stores.items ≤ 65535 }
+        requires master { M.state master ≡ new_master config (length stores.items) }
         requires files { M.files master ≡ table.empty }
-        ensures { IfOk result (λ cell. IsHeldAs (new_world config servers clients) cell) }
+        ensures { IfOk result (λ cell. IsHeldAs (new_world config (length stores.items) clients) cell) }
     {
-        let servers = new_servers(alloc, config, servers)?;
+        let servers = new_servers(alloc, config, stores)?;
         let clients = new_clients(alloc, config, clients)?;
         Ok(Cell {
             config,
@@ -52,22 +53,24 @@ impl<M: CellMaster + Drop> Cell<M, MemoryStore> {
 }
 
 #[tactic(auto, using(crate::proofs::Made::one_more))]
-fn new_servers(
+fn new_servers<S: ReplicaStore + Drop>(
     alloc: Global,
     config: Config,
-    count: u16,
-) -> Result<Vec<Chunkserver<MemoryStore>>, NoMemory>
-    requires block { 1 ≤ config.block }
+    stores: Vec<S>,
+) -> Result<Vec<Chunkserver<S>>, NoMemory>
     requires least { 64 ≤ config.chunk }
     requires most { config.chunk ≤ largest_chunk }
     requires skew { config.skew_ms ≤ 60000 }
-    ensures { IfOk result (λ all. all.items ≡ map (λ s. started_server config s (new_server_disk config.block) 0) (first_numbers count)) }
+    requires stores { All (λ s. (S.disk s ≡ new_server_disk config.block) × (S.under_way s ≡ [])) stores.items }
+    requires count { length stores.items ≤ 65535 }
+    ensures { IfOk result (λ all. all.items ≡ map (λ s. started_server config s (new_server_disk config.block) 0) (first_numbers (length stores.items))) }
 {
     let mut all = Vec::new(alloc);
-    for before in 0..count {
-        let store = MemoryStore::new(alloc, config.block);
+    let mut before = 0;
+    for store in stores {
         let id = ServerId(before + 1);
         all.push(Chunkserver::new(alloc, config, id, store, Moment(0)))?;
+        before += 1;
     }
     Ok(all)
 }

@@ -10,11 +10,11 @@ use crate::master::CellMaster;
 use gfs_types::answer::Answer;
 use gfs_types::no_memory::NoMemory;
 use messages::event::Event;
-use server_store::store::ReplicaStore;
 use std::alloc::Global;
 use std::collections::VecDeque;
+use stoppable_store::StoppableStore;
 
-impl<M: CellMaster, S: ReplicaStore> Cell<M, S> {
+impl<M: CellMaster, S: StoppableStore> Cell<M, S> {
     /// The events in order, and their answers.
     pub fn run(&mut self, alloc: Global, events: &[Event]) -> Result<Vec<Answer>, RunFault>
         ensures ok { IfOk result (λ answers. Runs self.old events.now answers.items self.new) }

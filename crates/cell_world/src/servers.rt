@@ -13,10 +13,12 @@ use cell_record::record::CellRecord;
 use chunkserver::server::Chunkserver;
 use gfs_types::answer::Answer;
 use gfs_types::ids::{Handle, Moment, ServerId};
-use gfs_types::no_memory::NoMemory;
+use gfs_types::torn::Torn;
 use messages::event::StepOut;
+use server_store::fault::StoreFault;
 use server_store::store::ReplicaStore;
 use step_outcome::Outcome;
+use stoppable_store::StoppableStore;
 
 /// The place of a server's number.
 pub(crate) fn server_place<S: ReplicaStore>(
@@ -78,14 +80,25 @@ pub(crate) fn server_rots<S: ReplicaStore>(
     handle: Handle,
     place: u64,
     byte: u8,
-) -> Result<(), NoMemory>
+) -> Result<(), StoreFault>
     requires index { index < length servers.old.items }
     requires up { IsUpAt (λ s. s.up) servers.old.items index true }
     ensures ok { OnOk result (RotsAt servers.old.items index handle.0 place byte servers.new.items) }
     ensures err { OnErr result (servers.new.items ≡ servers.old.items) }
 {
-    match servers[index].rot(handle, place, byte) {
-        Ok(()) => Ok(()),
-        Err(_) => Err(NoMemory),
-    }
+    servers[index].rot(handle, place, byte)?;
+    Ok(())
+}
+
+/// The disk of the chunkserver at a place is told to stop.
+pub(crate) fn server_fuses<S: StoppableStore>(
+    servers: &mut Vec<Chunkserver<S>>,
+    place: usize,
+    calls: u64,
+    torn: Torn,
+)
+    requires { place < length servers.old.items }
+    ensures { servers.new.items ≡ servers.old.items }
+{
+    servers[place].fuse(calls, torn);
 }

@@ -15,6 +15,7 @@ use crate::planned::plan_step;
 use gfs_types::config::Config;
 use gfs_types::ids::{Handle, Moment, ServerId};
 use gfs_types::lists::Sequence;
+use gfs_types::torn::Torn;
 use messages::event::StepOut;
 use messages::message::Message;
 use replica_store::row::Row;
@@ -24,6 +25,7 @@ use server_store::store::ReplicaStore;
 use std::alloc::Global;
 use std::marker::Model;
 use step_outcome::{Outcome, down_output, no_output};
+use stoppable_store::StoppableStore;
 
 /// A chunkserver over a store of its replicas. While it is up, nothing is under way on its disk.
 #[derive(Drop)]
@@ -134,5 +136,15 @@ impl<S: ReplicaStore> Chunkserver<S> {
                 down_output(alloc)
             }
         }
+    }
+}
+
+impl<S: StoppableStore> Chunkserver<S> {
+    /// Its disk lets so many calls pass and fails each later one until the next restart, which finds what was under way as `torn` says.
+    /// That of a server that is down does so once the next restart has begun.
+    pub fn fuse(&mut self, calls: u64, torn: Torn)
+        ensures { self.new ≡ self.old }
+    {
+        self.server.fuse(calls, torn);
     }
 }

@@ -32,14 +32,25 @@ use store_standing::standing::{Standing, closed};
 use stored_log::stoppable::StoppableDisk;
 
 /// A server's replicas on a disk. In memory it keeps the last order's number and each replica's row, so that it answers them while its disk
-/// is to be read anew.
-#[derive(Drop)]
+/// is to be read anew. Its drop stands here, once, so that no crate above proves those of all that it owns.
 pub struct DiskStore<D: StoppableDisk> {
     alloc: Global,
     store: Store<D>,
     said: SaidDisk,
     known: Known,
     standing: Standing,
+}
+
+impl<D: StoppableDisk + Drop> Drop for DiskStore<D> {
+    fn drop(self) {
+        let Self {
+            alloc: _alloc,
+            store: _store,
+            said: _said,
+            known: _known,
+            standing: _standing,
+        } = self;
+    }
 }
 
 impl<D: StoppableDisk> Model for DiskStore<D> {

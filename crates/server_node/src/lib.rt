@@ -12,4 +12,5 @@ mod push;
 mod pushed;
 pub mod reads;
 pub mod server;
+mod stops;
 mod ticks;

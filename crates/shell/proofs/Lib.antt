@@ -3,3 +3,4 @@ pub mod Clocks
 pub mod Printed
 pub mod Explained
 pub mod Running
+pub mod Stores

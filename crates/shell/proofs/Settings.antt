@@ -2,6 +2,7 @@
 use Rattle.std.proofs.Common.{◌≡◌, ◌≤◌, ℕ, Bool, true, false, cond, Option, Some, None, refl, sym, ap, ◌∙◌, subst, arith}
 use Rattle.std.specs.Prelude.{◌&&◌, ◌%◌, ◌==◌, nat_le, nat_lt, drop, length, IsTrue, Result, Ok, Err}
 use Rattle.std.specs.Result.{is_ok, result_err}
+use Rattle.std.proofs.lemmas.Bool.{eqb-true}
 use Rattle.std.proofs.lemmas.Bool.Decides.{nat_tests}
 use Rattle.std.proofs.lemmas.List.{length-replicate}
 use Rattle.disk.specs.Writes.{DiskState, new_disk}
@@ -14,9 +15,11 @@ use Rattle.stored_log.specs.Kept.{IsDiskSize}
 pub record Bounds (c : Config) : Type 0 where
   pub least : 64 ≤ c.chunk
   pub most : c.chunk ≤ largest_chunk
-  pub block : 1 ≤ c.block
+  pub block : 16 ≤ c.block
+  pub whole : c.chunk % c.block ≡ 0
   pub lease : c.lease_ms ≤ 3600000
   pub skew : c.skew_ms ≤ 60000
+  pub slots : c.slots ≤ 65536
   pub log : IsDiskSize c.log_bytes
 
 on_none : {F : Type 0} (b : Bool) (rest : Option F) (f : F) → cond b rest (Some f) ≡ None → (b ≡ true) × (rest ≡ None)
@@ -51,13 +54,15 @@ bounds c h =
     let slots' = on_none (is_within 1 65536 c.slots) (first_that_fails (drop 12 (ranges c))) Slots kept.1 in
     let log = on_none (is_within 4096 1073741824 c.log_bytes) (first_that_fails (drop 13 (ranges c))) LogBytes slots'.1 in
     let chunk_in = within 64 largest_chunk c.chunk (and_both (is_within 64 largest_chunk c.chunk) (c.chunk % 16 == 0) chunk.0).0 in
-    let block_in = within 16 65536 c.block (and_both (is_within 16 65536 c.block) (c.chunk % c.block == 0) block.0).0 in
+    let block_both = and_both (is_within 16 65536 c.block) (c.chunk % c.block == 0) block.0 in
     record {
       least = chunk_in.0;
       most = chunk_in.1;
-      block = let b = block_in.0 in omega arith;
+      block = (within 16 65536 c.block block_both.0).0;
+      whole = eqb-true (c.chunk % c.block) 0 block_both.1;
       lease = (within 1 3600000 c.lease_ms lease.0).1;
       skew = (within 0 60000 c.skew_ms (and_both (is_within 0 60000 c.skew_ms) (nat_lt c.skew_ms c.lease_ms) skew.0).0).1;
+      slots = (within 1 65536 c.slots slots'.0).1;
       log = within 4096 1073741824 c.log_bytes log.0;
     }
 

@@ -25,7 +25,7 @@ pub record LeadsTo (w : WorldState) (s : Step) (v : WorldState) : Type 0 where
   pub world_is : (happens w s.event choice).world ≡ v
   pub traced : AddsToTrace w s.event s.answer v
 
--- a byte didn't rot, since a server's store found no memory for it
+-- a byte didn't rot, since its server's store couldn't take it
 pub record DoesNotRot (w : WorldState) (s : Step) (v : WorldState) : Type 0 where
   pub is_rot : MayBeRefused s.event
   pub unanswered : s.answer ≡ None

@@ -1,24 +1,27 @@
 //! New cells.
 
-ghost use Rattle.std.specs.Prelude.{◌≡◌, ◌≤◌, [], Err, IfOk, IfErr, IsTrue, IsFalse, is_none};
+ghost use Rattle.std.specs.Prelude.{◌≡◌, ◌≤◌, ◌%◌, [], length, All, Err, IfOk, IfErr, IsTrue, IsFalse, is_none};
 ghost use Rattle.std.specs.FinMap as table;
 ghost use Rattle.gfs_types.specs.Settings.{first_out_of_range, largest_chunk};
 ghost use Rattle.protocol.specs.Logged.{new_log};
 ghost use Rattle.protocol.specs.MasterStep.{new_master};
+ghost use Rattle.replica_store.specs.Replicas.{new_server_disk};
 ghost use Rattle.shell.specs.Cells.{IsNew, IsOfStart, are_in_range, is_count};
 ghost use Rattle.stored_log.specs.Kept.{IsDiskSize};
 
 use cell_headline::world::World;
 use cell_master::SeatedMaster;
 use cell_world::master::CellMaster;
+use disk_store::disk_store::DiskStore;
 use gfs_types::config::Config;
 use master::fault::MasterFault;
-use memory_store::MemoryStore;
 use operation_log::fault::LogFault;
 use script::options::Options;
 use script::script_fault::ScriptFault;
+use server_store::fault::StoreFault;
 use simulated_world::world::SimulatedWorld;
 use std::alloc::{Allocator, Global};
+use store_layout::Layout;
 use stored_log::disk_log::DiskLog;
 use stored_log::node_disk::NodeDisk;
 
@@ -28,8 +31,11 @@ pub type ScriptLog = DiskLog<NodeDisk>;
 /// A master over a log on a disk, whose names lie in `A`.
 pub type ScriptMaster<A> = SeatedMaster<ScriptLog, A>;
 
-/// A cell over a log on a disk, and stores in memory.
-pub type ScriptCell<A> = SimulatedWorld<ScriptMaster<A>, MemoryStore>;
+/// A server's replicas on a disk.
+pub type ScriptStore = DiskStore<NodeDisk>;
+
+/// A cell over a log on a disk, and stores on disks.
+pub type ScriptCell<A> = SimulatedWorld<ScriptMaster<A>, ScriptStore>;
 
 /// The servers that a cell may have, and the clients.
 pub const MAX_NODES: u64 = 64;
@@ -46,9 +52,11 @@ fn are_fitting(config: &Config) -> bool
     ensures range { result ≡ is_none (first_out_of_range config.now) }
     ensures lease { IsTrue result → config.now.lease_ms ≤ 3600000 }
     ensures skew { IsTrue result → config.now.skew_ms ≤ 60000 }
-    ensures block { IsTrue result → 1 ≤ config.now.block }
+    ensures block { IsTrue result → 16 ≤ config.now.block }
+    ensures whole { IsTrue result → config.now.chunk % config.now.block ≡ 0 }
     ensures least { IsTrue result → 64 ≤ config.now.chunk }
     ensures most { IsTrue result → config.now.chunk ≤ largest_chunk }
+    ensures slots { IsTrue result → config.now.slots ≤ 65536 }
     ensures log { IsTrue result → IsDiskSize config.now.log_bytes }
 {
     config.check().is_ok()
@@ -93,9 +101,46 @@ fn new_master<A: Allocator + Clone>(
     }
 }
 
+// A store on a new disk.
+fn new_store(alloc: Global, layout: Layout) -> Result<ScriptStore, ScriptFault>
+    requires { layout.chunk % layout.block ≡ 0 }
+    ensures new { IfOk result (λ s. s ≡ (new_server_disk layout.block, [])) }
+    ensures fault { IfErr result IsOfStart }
+{
+    let Ok(disk) = NodeDisk::new(alloc, layout.disk_size()) else {
+        return Err(ScriptFault::NoMemory);
+    };
+    match DiskStore::new(alloc, disk, layout) {
+        Ok(store) => Ok(store),
+        Err(StoreFault::NoMemory) => Err(ScriptFault::NoMemory),
+        Err(_) => Err(ScriptFault::Start),
+    }
+}
+
+// A store for each of so many servers.
+fn new_stores(alloc: Global, config: Config, servers: u16) -> Result<Vec<ScriptStore>, ScriptFault>
+    requires chunk { config.chunk ≤ largest_chunk }
+    requires block { 16 ≤ config.block }
+    requires whole { config.chunk % config.block ≡ 0 }
+    requires slots { config.slots ≤ 65536 }
+    ensures new { IfOk result (λ stores. All (λ s. (s.0 ≡ new_server_disk config.block) × (s.1 ≡ [])) stores.items) }
+    ensures count { IfOk result (λ stores. length stores.items ≡ servers) }
+    ensures fault { IfErr result IsOfStart }
+{
+    let layout = Layout::new(config.chunk, config.block, config.slots);
+    let mut stores = Vec::new(alloc);
+    for _ in 0..servers {
+        let store = new_store(alloc, layout)?;
+        let Ok(()) = stores.push(store) else {
+            return Err(ScriptFault::NoMemory);
+        };
+    }
+    Ok(stores)
+}
+
 /// A new cell, whose names lie in `A`.
 ///
-/// - `Start`: a setting or a count is out of its range, or the log didn't take the master's first epoch.
+/// - `Start`: a setting or a count is out of its range, or the log didn't take the master's first epoch, or a store couldn't be made on its new disk.
 /// - `NoMemory`: memory was refused.
 pub fn new_cell<A: Allocator + Clone>(
     alloc: Global,
@@ -115,6 +160,7 @@ pub fn new_cell<A: Allocator + Clone>(
         return Err(ScriptFault::Start);
     }
     let master = new_master(alloc, config, servers, names)?;
-    let world = World::new(alloc, config, master, servers, clients)?;
+    let stores = new_stores(alloc, config, servers)?;
+    let world = World::new(alloc, config, master, stores, clients)?;
     Ok(SimulatedWorld { world })
 }

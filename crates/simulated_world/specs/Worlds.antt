@@ -12,13 +12,13 @@ use Rattle.cell_world.specs.Held.{HeldCell, HasEffect}
 use Rattle.cell_world.specs.Looks.{file_held, has_open_call, regions_held, replicas_held, server_count}
 use Rattle.cell_simulator.specs.Cells.{Meaning}
 
--- memory was refused: nothing happened
+-- a byte did not rot: nothing happened
 pub record IsRefused (old : HeldCell) (event : Event) (answer : Option Answer) (new : HeldCell) : Type 0 where
   pub may_be : MayBeRefused event
   pub unanswered : answer ≡ None
   pub unchanged : new ≡ old
 
--- It comes to this in each world that the cell stands for, unless memory was refused.
+-- It comes to this in each world that the cell stands for, unless a byte did not rot.
 abbrev pub Steps : HeldCell → Event → Option Answer → HeldCell → Type 0
 Steps old event answer new = HasEffect old (λ w choice. happens w event choice) answer new ⊎ IsRefused old event answer new
 

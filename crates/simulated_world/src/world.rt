@@ -15,14 +15,15 @@ use messages::message::Message;
 use relaxed_file::region::Region;
 use server_store::store::ReplicaStore;
 use std::alloc::Global;
+use stoppable_store::StoppableStore;
 
-/// A cell that a script drives. A byte for which a server's store finds no memory doesn't rot.
+/// A cell that a script drives. A byte that a server's store can't take doesn't rot.
 #[derive(Drop)]
 pub struct SimulatedWorld<M: CellMaster, S: ReplicaStore> {
     pub world: World<M, S>,
 }
 
-impl<M: CellMaster, S: ReplicaStore> SimulatedCell for SimulatedWorld<M, S> {
+impl<M: CellMaster, S: StoppableStore> SimulatedCell for SimulatedWorld<M, S> {
     ghost meaning = { meaning_of (λ c. c.world) };
 
     fn step(&mut self, event: Event) -> Option<Answer> {

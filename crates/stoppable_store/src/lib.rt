@@ -4,7 +4,6 @@
 ghost use Rattle.std.specs.Prelude.{◌≡◌};
 
 use gfs_types::torn::Torn;
-use memory_store::MemoryStore;
 use server_store::store::ReplicaStore;
 
 /// A store whose disk can be told to stop.
@@ -19,11 +18,4 @@ pub trait StoppableStore: ReplicaStore {
     fn stop_after_restart(&mut self, calls: u64, torn: Torn)
         ensures disk { Self.disk self.new ≡ Self.disk self.old }
         ensures under_way { Self.under_way self.new ≡ Self.under_way self.old };
-}
-
-/// A store in memory has no disk that could stop.
-impl StoppableStore for MemoryStore {
-    fn stop_after(&mut self, _calls: u64, _torn: Torn) {}
-
-    fn stop_after_restart(&mut self, _calls: u64, _torn: Torn) {}
 }

@@ -1,18 +1,49 @@
 //! A disk without replicas.
 
-ghost use Rattle.std.specs.Prelude.{◌≡◌, ◌≤◌, ◌<◌, ℕ, Bool, length, true, false, OnOk};
+ghost use Rattle.std.specs.Prelude.{◌≡◌, ◌≤◌, ◌<◌, ◌+◌, ◌==◌, ℕ, Bool, [], ◌∷◌, length, slice_index, true, false, IfOk, OnOk};
+ghost use Rattle.disk.specs.Bytes.{put_at};
 ghost use Rattle.disk.specs.Device.{HasCause, Only};
-ghost use Rattle.gated_disk.specs.Moments.{LeavesOnly};
-ghost use Rattle.redo_area.specs.Moments.{ChangesBut};
+ghost use Rattle.gated_disk.specs.Moments.{LeavesOnly, OnlyReads};
+ghost use Rattle.redo_area.specs.Moments.{ChangesBut, Misses};
 ghost use Rattle.store_layout.specs.Places.{disk_size};
 ghost use Rattle.store_format.specs.Formats.{IsBlank, IsFormatted, IsFormatting, is_head_open};
 
 use disk::{Disk, DiskFault};
 use gated_disk::commit;
-use redo_area::step::{sync, write};
+use redo_area::step::{read, sync, write};
 use std::alloc::Global;
 use store_header::write_head;
 use store_layout::Layout;
+
+// Whether the byte at a place is 0.
+fn is_zero<D: Disk>(disk: &mut D, at: usize) -> Result<bool, DiskFault>
+    requires { at + 1 ≤ length (D.seen disk.old) }
+    ensures zero { IfOk result (λ is. is ≡ (slice_index (D.seen disk.old) at == 0)) }
+    ensures seen { D.seen disk.new ≡ D.seen disk.old }
+    ensures reads { OnlyReads D.seen D.may_leave D.moment D.left_since disk.old disk.new }
+    ensures cause { HasCause (D.failed disk.old) (D.failed disk.new) result }
+{
+    let mut byte = [0];
+    read(disk, at, &mut byte)?;
+    Ok(byte[0] == 0)
+}
+
+// Makes the byte at a place 0. Where it is, nothing is written, so that a disk in memory takes no page for it.
+fn write_zero<D: Disk>(disk: &mut D, at: usize) -> Result<(), DiskFault>
+    requires { at + 1 ≤ length (D.seen disk.old) }
+    ensures written { OnOk result (D.seen disk.new ≡ put_at (D.seen disk.old) at (0 ∷ [])) }
+    ensures size { length (D.seen disk.new) ≡ length (D.seen disk.old) }
+    ensures goes_on { (start : D) (kept : ℕ → Bool) → Misses kept at 1
+        → ChangesBut D.seen D.may_leave D.moment D.left_since kept start disk.old
+        → ChangesBut D.seen D.may_leave D.moment D.left_since kept start disk.new }
+    ensures cause { HasCause (D.failed disk.old) (D.failed disk.new) result }
+{
+    let is_there = is_zero(disk, at)?;
+    if is_there {
+        return Ok(());
+    }
+    write(disk, at, &[0])
+}
 
 // From now on no order was taken, no change is under way, and no slot is used. What lies before stays.
 fn clear<D: Disk>(disk: &mut D, layout: Layout) -> Result<(), DiskFault>
@@ -27,7 +58,7 @@ fn clear<D: Disk>(disk: &mut D, layout: Layout) -> Result<(), DiskFault>
     let _size = layout.disk_size();
     write(disk, 32, &[0; 17])?;
     for slot in 0..layout.slots {
-        write(disk, layout.slot(slot), &[0])?;
+        write_zero(disk, layout.slot(slot))?;
     }
     Ok(())
 }

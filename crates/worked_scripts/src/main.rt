@@ -3,7 +3,7 @@
 
 mod row;
 
-use crate::row::{example_outcome, row_outcome, stopped_outcome};
+use crate::row::{example_outcome, row_outcome, stopped_outcome, stopped_server_outcome};
 use anyhow::{Context, Result};
 use std::alloc::Global;
 use std::fs;
@@ -19,10 +19,14 @@ fn example(rt: &HostRuntime, alloc: Global, name: &str) -> Result<String> {
     example_outcome(alloc, script.as_str(), expected.as_str())
 }
 
-/// The outcome of what a line of `scripts.txt` names: a file that is made while the master's disk stops, an example, or a row.
+/// The outcome of what a line of `scripts.txt` names: a file that is made while the master's disk stops, a record that is appended while a
+/// server's does, an example, or a row.
 fn outcome_of(rt: &HostRuntime, alloc: Global, line: &str) -> Result<String> {
-    if line.starts_with("fuse ") {
+    if line.starts_with("fuse master ") {
         return stopped_outcome(alloc, line);
+    }
+    if line.starts_with("fuse s2 ") {
+        return stopped_server_outcome(alloc, line);
     }
     if let Some(name) = line.strip_suffix(".gfs") {
         return example(rt, alloc, name);

@@ -16,6 +16,17 @@ const OPTIONS: &str = "# --";
 /// The words of a command line that stand behind the script's name where the row has no others.
 const SMALL_CELL: [&str; 4] = ["--chunk", "64", "--block", "16"];
 
+/// A file with one record.
+const FIRST_APPEND: &str = "c1 create /f\nc1 open /f\nc1 append 1 a*13\n";
+
+/// One more record, once a server has begun again twice and leases have ended.
+const LATER_APPEND: &str =
+    "restart s2\nrestart s2\nwait 61000\nc1 append 1 c*5\nreplicas /f 0\nc1 read 1 0 64";
+
+/// What is printed of both, and of a record between them that was placed and failed.
+const TWO_APPENDS: &str =
+    "c1 done\nc1 fd 1\nc1 at 0\nc1 refused 16 Failed\nc1 at 16\nreplicas 1 s1 v2 21, s2 v2 21, s3 v2 21\nc1 bytes 21 616161616161616161616161616262626363636363 rounds 2\n";
+
 /// These options and those in the script's comments.
 fn options_of(alloc: Global, first: &[&str], script: &str) -> Result<Options> {
     let mut words = Vec::new(alloc);
@@ -72,6 +83,15 @@ pub fn example_outcome(alloc: Global, script: &str, expected: &str) -> Result<St
 pub fn stopped_outcome(alloc: Global, fuse: &str) -> Result<String> {
     let row = format!(in alloc;
         "# --log-bytes 4096\n{fuse}\nstart c1 create /f\nrestart master\nfinish\nc1 create /f{RULE}c1 done\nc1 refused 3 Exists\n"
+    )?;
+    row_outcome(alloc, row.as_str())
+}
+
+/// The outcome of a record that is appended while a line `fuse s2 K T` stops a member's disk, which stops again as that server begins again: the
+/// append fails, and once the server has begun again the next one stands on all members.
+pub fn stopped_server_outcome(alloc: Global, fuse: &str) -> Result<String> {
+    let row = format!(in alloc;
+        "{FIRST_APPEND}{fuse}\nc1 append 1 b*3\n{fuse}\n{LATER_APPEND}{RULE}{TWO_APPENDS}"
     )?;
     row_outcome(alloc, row.as_str())
 }

@@ -3,9 +3,9 @@ use Rattle.std.specs.Prelude.{slice_set}
 use Rattle.cell_world.proofs.Lost.{at}
 use Rattle.cell_world.proofs.servers.server_rots.Goals as goal
 
-pub returns-in-Ok-clause-ok : goal.returns-in-Ok-clause-ok
-returns-in-Ok-clause-ok g c = record {
+pub returns-clause-ok : goal.returns-clause-ok
+returns-clause-ok g c = record {
   old = c.index_mut.result.now;
   is_there = at c.args.servers.now.items c.args.index c.index_mut.result.now c.requires.index c.index_mut.ensures.value;
-  servers_are = ap (λ s. slice_set c.args.servers.now.items c.args.index s) c.in-Ok.ensures.ok;
+  servers_are = ap (λ s. slice_set c.args.servers.now.items c.args.index s) c.in_ok-rot.ensures.ok;
 }

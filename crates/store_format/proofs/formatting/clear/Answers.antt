@@ -39,15 +39,15 @@ loop-slot-init g c =
       later = c.write.ensures.cause.later;
     }
 
-pub write-requires-in-loop-slot : goal.write-requires-in-loop-slot
-write-requires-in-loop-slot g c =
+pub write_zero-requires : goal.write_zero-requires
+write_zero-requires g c =
     let layout = c.args.layout in
     omega (arith, slot_before layout.chunk layout.block c.loop-slot.slot layout.slots c.loop-slot-test.true, c.slot.ensures, c.requires, c.loop-slot.invariant.size)
 
-pub returns-in_err-write-2-clause-goes_on : goal.returns-in_err-write-2-clause-goes_on
-returns-in_err-write-2-clause-goes_on g c start kept small so_far =
+pub returns-in_err-write_zero-clause-goes_on : goal.returns-in_err-write_zero-clause-goes_on
+returns-in_err-write_zero-clause-goes_on g c start kept small so_far =
     let behind = slots_behind c.args.layout.chunk c.args.layout.block c.loop-slot.slot in
-    c.write-in-loop-slot.ensures.goes_on start kept (misses_behind kept c.slot.result 1 (omega (arith, behind, c.slot.ensures)) small) (c.loop-slot.invariant.goes_on start kept small so_far)
+    c.write_zero.ensures.goes_on start kept (misses_behind kept c.slot.result 1 (omega (arith, behind, c.slot.ensures)) small) (c.loop-slot.invariant.goes_on start kept small so_far)
 
 pub loop-slot-preserved : goal.loop-slot-preserved
 loop-slot-preserved g c =
@@ -59,12 +59,12 @@ loop-slot-preserved g c =
     let place = slot_place layout.chunk layout.block slot in
     let behind = slots_behind layout.chunk layout.block slot in
     let fits : place + 1 ≤ length now = omega (arith, slot_before layout.chunk layout.block slot layout.slots c.loop-slot-test.true, c.requires, so_far.size) in
-    let is = c.in_ok-write-2.ensures.written ∙ ap (λ (k : ℕ). put_at now k (0 ∷ [])) c.slot.ensures in
+    let is = c.in_ok-write_zero.ensures.written ∙ ap (λ (k : ℕ). put_at now k (0 ∷ [])) c.slot.ensures in
     record {
-      order = front_stays layout.chunk layout.block slot now (g.D.Disk.seen c.write-in-loop-slot.new.disk) fits is so_far.order;
-      free = one_freed layout.chunk layout.block slot now (g.D.Disk.seen c.write-in-loop-slot.new.disk) fits is so_far.free;
-      size = c.write-in-loop-slot.ensures.size ∙ so_far.size;
+      order = front_stays layout.chunk layout.block slot now (g.D.Disk.seen c.write_zero.new.disk) fits is so_far.order;
+      free = one_freed layout.chunk layout.block slot now (g.D.Disk.seen c.write_zero.new.disk) fits is so_far.free;
+      size = c.write_zero.ensures.size ∙ so_far.size;
       goes_on = λ start kept small run.
-          c.write-in-loop-slot.ensures.goes_on start kept (misses_behind kept c.slot.result 1 (omega (arith, behind, c.slot.ensures)) small) (so_far.goes_on start kept small run);
-      later = omega (arith, later, c.write-in-loop-slot.ensures.cause.later);
+          c.write_zero.ensures.goes_on start kept (misses_behind kept c.slot.result 1 (omega (arith, behind, c.slot.ensures)) small) (so_far.goes_on start kept small run);
+      later = omega (arith, later, c.write_zero.ensures.cause.later);
     }

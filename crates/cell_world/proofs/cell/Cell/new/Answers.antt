@@ -1,7 +1,8 @@
 use Rattle.std.proofs.Common.{refl}
+use Rattle.std.specs.Prelude.{length}
 use Rattle.cell_world.specs.Held.{HeldCell}
 use Rattle.cell_world.proofs.Made.{held_new}
-use Rattle.cell_world.proofs.making.Cell+M+MemoryStore.new.Goals as goal
+use Rattle.cell_world.proofs.cell.Cell.new.Goals as goal
 
 pub returns : goal.returns
 returns g c =
@@ -14,4 +15,4 @@ returns g c =
       sent = c.new.result.network.messages;
       seen = c.new.result.sights.seen;
     } in
-    held_new c.args.config c.args.servers c.args.clients h refl c.requires.master c.requires.files c.in_ok-servers.ensures c.in_ok-clients.ensures c.new.ensures.sent c.new.ensures.seen
+    held_new c.args.config (length c.args.stores.items) c.args.clients h refl c.requires.master c.requires.files c.in_ok-servers.ensures c.in_ok-clients.ensures c.new.ensures.sent c.new.ensures.seen

@@ -1,0 +1,11 @@
+use Rattle.std.proofs.Common.{◌≡◌, [], length}
+use Rattle.std.specs.Prelude.{All}
+use Rattle.replica_store.specs.Replicas.{new_server_disk}
+use Rattle.shell.proofs.making.new_stores.Given as goal
+
+-- so many new stores were made
+abbrev pub invariant-loop : goal.invariant-loop
+invariant-loop l = record {
+  new : All (λ s. (s.0 ≡ new_server_disk l.config.block) × (s.1 ≡ [])) l.stores.items;
+  count : length l.stores.items ≡ l.counter;
+}
