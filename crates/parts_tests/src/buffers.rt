@@ -8,7 +8,7 @@ use bytes::Bytes;
 use data_push::{Buffer, next_hop};
 use gfs_types::ids::{ClientId, DataId, ServerId};
 use linked_list_allocator::LocalHeap;
-use std::alloc::Allocator;
+use std::alloc::{AllocError, Allocator, Global};
 use std::test::Fail;
 
 fn id(client: u64, seq: u64) -> DataId {
@@ -22,8 +22,59 @@ fn data(text: &'static str) -> Bytes {
     Bytes::from_static(text.as_bytes())
 }
 
-fn is<A: Allocator + Clone>(buffer: &mut Buffer<A>, id: DataId, text: &'static str) -> bool {
-    buffer.take(id).is_some_and(|b| b == data(text))
+// Whether these data are in it.
+fn has<A: Allocator + Clone>(buffer: &Buffer<A>, id: DataId, text: &str) -> bool {
+    match buffer.get(id) {
+        Some(bytes) => are(bytes, text),
+        None => false,
+    }
+}
+
+fn are(bytes: &[u8], text: &str) -> bool {
+    bytes == text.as_bytes()
+}
+
+// Whether these data are taken out of it. What owns bytes calls `drop`: a drop at the end of a scope is proved anew at each place.
+fn is<A: Allocator + Clone>(buffer: &mut Buffer<A>, id: DataId, text: &str) -> bool {
+    match buffer.take(id) {
+        Some(bytes) => {
+            let are_these = are(&bytes, text);
+            drop(bytes);
+            are_these
+        }
+        None => false,
+    }
+}
+
+// Whether there are none to take.
+fn lacks<A: Allocator + Clone>(buffer: &mut Buffer<A>, id: DataId) -> bool {
+    match buffer.take(id) {
+        Some(bytes) => {
+            drop(bytes);
+            false
+        }
+        None => true,
+    }
+}
+
+// Whether the data are put; None where others are handed back.
+fn puts<A: Allocator + Clone>(
+    buffer: &mut Buffer<A>,
+    id: DataId,
+    text: &'static str,
+) -> Option<bool> {
+    match buffer.put(id, data(text)) {
+        Ok(()) => Some(true),
+        Err((refused, bytes)) => {
+            let are_these = are(&bytes, text);
+            drop(bytes);
+            if are_these && refused == id {
+                Some(false)
+            } else {
+                None
+            }
+        }
+    }
 }
 
 // The caller of CALLING.md.
@@ -43,64 +94,138 @@ fn receive(
     Ok(next_hop(rest, me))
 }
 
+// Whether data were received that go to this server.
+fn is_hop(received: Result<Option<ServerId>, (DataId, Bytes)>, server: ServerId) -> bool {
+    match received {
+        Ok(hop) => hop == Some(server),
+        Err((_id, bytes)) => {
+            drop(bytes);
+            false
+        }
+    }
+}
+
 #[test]
 fn received_data_are_kept_and_passed_on(rt: HostRuntime) -> Result<(), Fail> {
     let mut buffer = Buffer::new(rt.alloc(), 2)?;
     let rest = [ServerId(3), ServerId(2)];
     let hop = receive(&mut buffer, id(1, 1), data("one"), &rest, ServerId(1));
-    assert!(rt; hop.is_ok_and(|hop| hop == Some(ServerId(2))));
-    assert!(rt; buffer.get(id(1, 1)).is_some_and(|b| *b == data("one")));
+    assert!(rt; is_hop(hop, ServerId(2)));
+    assert!(rt; has(&buffer, id(1, 1), "one"));
+    drop(buffer);
     Ok(())
 }
 
-#[test]
-fn a_full_buffer_drops_its_oldest(rt: HostRuntime) -> Result<(), Fail> {
-    let mut buffer = Buffer::new(rt.alloc(), 2)?;
-    assert!(rt; buffer.put(id(1, 1), data("one")).is_ok());
-    assert!(rt; buffer.put(id(1, 2), data("two")).is_ok());
-    assert!(rt; buffer.put(id(2, 1), data("three")).is_ok());
-    assert!(rt; buffer.take(id(1, 1)).is_none());
-    assert!(rt; is(&mut buffer, id(1, 2), "two"));
-    assert!(rt; is(&mut buffer, id(2, 1), "three"));
-    assert!(rt; buffer.take(id(2, 1)).is_none());
-    Ok(())
+/// A call of the data under an id of a client's number and its own: they are put, there are none to take, or they are taken.
+#[derive(Clone, Copy)]
+enum Call {
+    Puts(u64, u64, &'static str),
+    Lacks(u64, u64),
+    Takes(u64, u64, &'static str),
 }
 
-#[test]
-fn data_put_again_are_the_newest(rt: HostRuntime) -> Result<(), Fail> {
-    let mut buffer = Buffer::new(rt.alloc(), 2)?;
-    assert!(rt; buffer.put(id(1, 1), data("old")).is_ok());
-    assert!(rt; buffer.put(id(1, 2), data("two")).is_ok());
-    assert!(rt; buffer.put(id(1, 1), data("new")).is_ok());
-    assert!(rt; buffer.put(id(1, 3), data("three")).is_ok());
-    assert!(rt; buffer.take(id(1, 2)).is_none());
-    assert!(rt; is(&mut buffer, id(1, 3), "three"));
-    assert!(rt; is(&mut buffer, id(1, 1), "new"));
-    Ok(())
+fn does(buffer: &mut Buffer, call: Call) -> bool {
+    match call {
+        Call::Puts(client, seq, text) => puts(buffer, id(client, seq), text) == Some(true),
+        Call::Lacks(client, seq) => lacks(buffer, id(client, seq)),
+        Call::Takes(client, seq, text) => is(buffer, id(client, seq), text),
+    }
 }
 
-#[test]
-fn a_limit_of_none_is_one(rt: HostRuntime) -> Result<(), Fail> {
-    let mut buffer = Buffer::new(rt.alloc(), 0)?;
-    assert!(rt; buffer.put(id(1, 1), data("one")).is_ok());
-    assert!(rt; buffer.put(id(1, 2), data("two")).is_ok());
-    assert!(rt; buffer.take(id(1, 1)).is_none());
-    assert!(rt; is(&mut buffer, id(1, 2), "two"));
-    Ok(())
-}
-
-// Puts data under the numbers 1 to `count`, and gives the first number that was refused.
-fn first_refused<A: Allocator + Clone>(buffer: &mut Buffer<A>, count: u64) -> Option<u64> {
-    for seq in 1..=count {
-        if let Err((refused, bytes)) = buffer.put(id(1, seq), data("x")) {
-            return if refused == id(1, seq) && bytes == data("x") {
-                Some(seq)
-            } else {
-                None
-            };
+fn does_all(buffer: &mut Buffer, calls: &[Call]) -> bool {
+    for call in calls {
+        if !does(buffer, *call) {
+            return false;
         }
     }
-    None
+    true
+}
+
+// Whether a new buffer for so many data does what it has to.
+fn is_kept(alloc: Global, limit: u32, calls: &[Call]) -> Result<bool, AllocError> {
+    let mut buffer = Buffer::new(alloc, limit)?;
+    let are_made = does_all(&mut buffer, calls);
+    drop(buffer);
+    Ok(are_made)
+}
+
+/// For how many data a buffer is, and calls of it.
+const CALLS: [(u32, &[Call]); 3] = [
+    // a full buffer drops its oldest
+    (
+        2,
+        &[
+            Call::Puts(1, 1, "one"),
+            Call::Puts(1, 2, "two"),
+            Call::Puts(2, 1, "three"),
+            Call::Lacks(1, 1),
+            Call::Takes(1, 2, "two"),
+            Call::Takes(2, 1, "three"),
+            Call::Lacks(2, 1),
+        ],
+    ),
+    // data put again are the newest
+    (
+        2,
+        &[
+            Call::Puts(1, 1, "old"),
+            Call::Puts(1, 2, "two"),
+            Call::Puts(1, 1, "new"),
+            Call::Puts(1, 3, "three"),
+            Call::Lacks(1, 2),
+            Call::Takes(1, 3, "three"),
+            Call::Takes(1, 1, "new"),
+        ],
+    ),
+    // a limit of none is one
+    (
+        0,
+        &[
+            Call::Puts(1, 1, "one"),
+            Call::Puts(1, 2, "two"),
+            Call::Lacks(1, 1),
+            Call::Takes(1, 2, "two"),
+        ],
+    ),
+];
+
+#[test]
+fn the_newest_data_stay(rt: HostRuntime) -> Result<(), Fail> {
+    for (limit, calls) in CALLS {
+        assert!(rt; is_kept(rt.alloc(), limit, calls)?, "{} calls", calls.len());
+    }
+    Ok(())
+}
+
+// Puts data under the numbers 1 to 8: the first number that was refused, or 9. None where other data were handed back.
+fn first_refused<A: Allocator + Clone>(buffer: &mut Buffer<A>) -> Option<u64> {
+    for seq in 1..=8 {
+        match puts(buffer, id(1, seq), "x") {
+            Some(true) => {}
+            Some(false) => return Some(seq),
+            None => return None,
+        }
+    }
+    Some(9)
+}
+
+// Whether the data before that number are there and no others, and data are taken again, unless the very first were refused.
+fn keeps_the_rest<A: Allocator + Clone>(buffer: &mut Buffer<A>, refused: u64) -> bool {
+    for seq in 1..=8 {
+        if is(buffer, id(1, seq), "x") != (seq < refused) {
+            return false;
+        }
+    }
+    puts(buffer, id(2, 1), "y") == Some(true) || refused == 1
+}
+
+// The first number that a new buffer in the heap refuses, or 0 where it isn't as it has to be then. The error: there is no room for the buffer.
+fn refused_in(heap: &LocalHeap) -> Result<u64, AllocError> {
+    let mut buffer = Buffer::new(heap, 8)?;
+    let refused = first_refused(&mut buffer).unwrap_or(0);
+    let is_kept = keeps_the_rest(&mut buffer, refused);
+    drop(buffer);
+    Ok(if is_kept { refused } else { 0 })
 }
 
 // Heaps that grow by the least block, so that each allocation in turn is the first to be refused: the buffer's own, and those of eight data.
@@ -109,24 +234,19 @@ fn refused_memory_leaves_what_was_there(rt: HostRuntime) -> Result<(), Fail> {
     let (mut no_buffer, mut met) = (false, [false; 9]);
     for size in 1..120 {
         let heap = LocalHeap::new(rt.alloc(), size * 16)?;
-        let Ok(mut buffer) = Buffer::new(&heap, 8) else {
-            assert_eq!(rt; heap.used(), 0);
-            no_buffer = true;
-            continue;
-        };
-        let refused = first_refused(&mut buffer, 8);
-        met[refused.map_or(8, |first| first.saturating_sub(1)).min(8) as usize] = true;
-        for seq in 1..=8 {
-            let kept = refused.is_none_or(|first| seq < first);
-            assert!(rt;
-                is(&mut buffer, id(1, seq), "x") == kept,
-                "heap {size}, data {seq}"
-            );
+        match refused_in(&heap) {
+            Ok(refused) => {
+                assert!(rt; refused > 0, "heap {size}");
+                met[refused.saturating_sub(1).min(8) as usize] = true;
+            }
+            Err(_) => {
+                assert!(rt; heap.used() == 0);
+                no_buffer = true;
+            }
         }
-        assert!(rt; buffer.put(id(2, 1), data("y")).is_ok() || refused == Some(1));
     }
     assert!(rt; no_buffer);
-    assert_eq!(rt; met, [true; 9]);
+    assert!(rt; met == [true; 9]);
     Ok(())
 }
 

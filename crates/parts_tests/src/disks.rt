@@ -7,7 +7,7 @@ ghost use Rattle.disk.specs.Device.{Only};
 use disk::{Disk, DiskFault, FaultDisk, FuseDisk, MemDisk};
 use gfs_types::torn::Torn;
 use linked_list_allocator::LocalHeap;
-use std::alloc::Global;
+use std::alloc::{AllocError, Allocator, Global};
 use std::test::Fail;
 
 const WAYS: [Torn; 5] = [
@@ -48,6 +48,64 @@ fn four<D: Disk>(disk: &mut D) -> Result<[u8; 4], DiskFault> {
     Ok(out)
 }
 
+/// A call of a disk, and that it passes or fails as the device.
+#[derive(Clone, Copy)]
+enum Call<'a> {
+    Writes(usize, &'a [u8]),
+    FailsToWrite(usize, &'a [u8]),
+    Stores(usize, &'a [u8]),
+    Syncs,
+    FailsToSync,
+    // The first four bytes.
+    Shows([u8; 4]),
+    FailsToShow,
+    Forgets,
+    Arms(u64),
+    HasFailed(u64),
+}
+
+fn stores<D: Disk>(disk: &mut D, at: usize, bytes: &[u8]) -> bool {
+    let size = disk.size();
+    if at > size || bytes.len() > size - at {
+        return false;
+    }
+    store(disk, at, bytes).is_ok()
+}
+
+// Makes the call. Whether it comes to what it has to.
+fn does<D: Disk>(disk: &mut D, call: Call) -> bool {
+    match call {
+        Call::Writes(at, bytes) => matches!(put(disk, at, bytes), Some(Ok(()))),
+        Call::FailsToWrite(at, bytes) => {
+            matches!(put(disk, at, bytes), Some(Err(DiskFault::Device)))
+        }
+        Call::Stores(at, bytes) => stores(disk, at, bytes),
+        Call::Syncs => disk.sync().is_ok(),
+        Call::FailsToSync => matches!(disk.sync(), Err(DiskFault::Device)),
+        Call::Shows(wanted) => four(disk) == Ok(wanted),
+        Call::FailsToShow => matches!(four(disk), Err(DiskFault::Device)),
+        Call::Forgets => {
+            disk.forget_past();
+            true
+        }
+        Call::Arms(calls) => {
+            disk.arm(calls);
+            true
+        }
+        Call::HasFailed(times) => disk.failures() == times,
+    }
+}
+
+// Makes them in turn, until one doesn't come to what it has to.
+fn does_all<D: Disk>(disk: &mut D, calls: &[Call]) -> bool {
+    for call in calls {
+        if !does(disk, *call) {
+            return false;
+        }
+    }
+    true
+}
+
 // A disk of four bytes, 1 to 4, all of them synced.
 fn one_to_four(alloc: Global) -> Result<MemDisk, Fail> {
     let mut disk = MemDisk::new(alloc, 4)?;
@@ -65,132 +123,203 @@ fn settled(torn: Torn, old: u8, new: u8) -> u8 {
     }
 }
 
+// Whether the calls are made of the disk of four bytes, and a stop then leaves these. What owns a disk has one way out, and calls `drop` there: a drop at the end
+// of a scope is proved anew at each place.
+fn is_left_by_fuse(
+    alloc: Global,
+    calls: &[Call],
+    torn: Torn,
+    wanted: [u8; 4],
+) -> Result<bool, Fail> {
+    let mut disk = FuseDisk::new(one_to_four(alloc)?);
+    let are_made = does_all(&mut disk, calls);
+    let mut left = disk.stop(torn);
+    let is_left = does(&mut left, Call::Shows(wanted));
+    drop(left);
+    Ok(are_made && is_left)
+}
+
 #[test]
 fn a_stop_settles_every_single_range(rt: HostRuntime) -> Result<(), Fail> {
     let new = [5, 6, 7, 8];
     for torn in WAYS {
         for at in 0..5 {
             for end in at..5 {
-                let mut disk = FuseDisk::new(one_to_four(rt.alloc())?);
-                assert!(rt; put(&mut disk, at, &new[at..end]) == Some(Ok(())));
                 let mut want = [1, 2, 3, 4];
                 for i in at..end {
                     want[i] = settled(torn, want[i], new[i]);
                 }
-                assert!(rt; four(&mut disk.stop(torn)) == Ok(want), "{at} to {end}");
+                let calls = [Call::Writes(at, &new[at..end])];
+                let is_left = is_left_by_fuse(rt.alloc(), &calls, torn, want)?;
+                assert!(rt; is_left, "{at} to {end}");
             }
         }
     }
     Ok(())
 }
 
+/// Calls of the disk of four bytes, and what a stop leaves of each byte: this one, or this or a second one, as the stop settles it.
+const LEFT: [(&[Call], [(u8, Option<u8>); 4]); 5] = [
+    // what was synced stays
+    (
+        &[
+            Call::Writes(0, &[5, 6]),
+            Call::Syncs,
+            Call::Writes(1, &[9, 9]),
+            Call::Writes(2, &[8]),
+            Call::Shows([5, 9, 8, 4]),
+        ],
+        [(5, None), (6, Some(9)), (3, Some(8)), (4, None)],
+    ),
+    // and what a caller stored
+    (
+        &[Call::Stores(1, &[9, 9])],
+        [(1, None), (9, None), (9, None), (4, None)],
+    ),
+    // a write that fails is unsynced
+    (
+        &[Call::Arms(0), Call::FailsToWrite(1, &[9, 9])],
+        [(1, None), (2, Some(9)), (3, Some(9)), (4, None)],
+    ),
+    // once the past is forgotten, what is unsynced may still be torn, and what was synced stays
+    (
+        &[
+            Call::Writes(0, &[5]),
+            Call::Syncs,
+            Call::Writes(1, &[6]),
+            Call::Forgets,
+            Call::Shows([5, 6, 3, 4]),
+            Call::Writes(2, &[7]),
+        ],
+        [(5, None), (2, Some(6)), (3, Some(7)), (4, None)],
+    ),
+    // to forget is no call that a fuse counts
+    (
+        &[Call::Arms(1), Call::Forgets, Call::Syncs, Call::FailsToSync],
+        [(1, None), (2, None), (3, None), (4, None)],
+    ),
+];
+
+// What is expected of the four bytes.
+fn four_settled(torn: Torn, bytes: [(u8, Option<u8>); 4]) -> [u8; 4] {
+    let mut want = [0; 4];
+    for i in 0..4 {
+        want[i] = match bytes[i] {
+            (old, None) => old,
+            (old, Some(new)) => settled(torn, old, new),
+        };
+    }
+    want
+}
+
 #[test]
-fn what_was_synced_stays(rt: HostRuntime) -> Result<(), Fail> {
+fn a_stop_leaves_what_it_may(rt: HostRuntime) -> Result<(), Fail> {
     for torn in WAYS {
-        let mut disk = FuseDisk::new(one_to_four(rt.alloc())?);
-        assert!(rt; put(&mut disk, 0, &[5, 6]) == Some(Ok(())));
-        assert!(rt; disk.sync() == Ok(()));
-        assert!(rt; put(&mut disk, 1, &[9, 9]) == Some(Ok(())));
-        assert!(rt; put(&mut disk, 2, &[8]) == Some(Ok(())));
-        assert!(rt; four(&mut disk) == Ok([5, 9, 8, 4]));
-        let want = [5, settled(torn, 6, 9), settled(torn, 3, 8), 4];
-        assert!(rt; four(&mut disk.stop(torn)) == Ok(want));
+        for (calls, bytes) in LEFT {
+            let want = four_settled(torn, bytes);
+            let is_left = is_left_by_fuse(rt.alloc(), calls, torn, want)?;
+            assert!(rt; is_left, "{} calls, byte {}", calls.len(), bytes[1].0);
+        }
     }
     Ok(())
 }
 
-#[test]
-fn what_a_caller_stored_stays(rt: HostRuntime) -> Result<(), Fail> {
-    for torn in WAYS {
-        let mut disk = FuseDisk::new(one_to_four(rt.alloc())?);
-        if disk.size() < 3 {
-            return Err(Fail::new("the disk is too small"));
-        }
-        assert!(rt; store(&mut disk, 1, &[9, 9]) == Ok(()));
-        assert!(rt; four(&mut disk.stop(torn)) == Ok([1, 9, 9, 4]));
-    }
-    Ok(())
+// Whether what a stop leaves is synced: a second stop leaves it.
+fn is_left_twice(alloc: Global) -> Result<bool, Fail> {
+    let mut disk = FuseDisk::new(one_to_four(alloc)?);
+    let is_written = does(&mut disk, Call::Writes(0, &[5]));
+    let mut again = FuseDisk::new(disk.stop(Torn::New));
+    let is_written_again = does(&mut again, Call::Writes(3, &[6]));
+    let mut left = again.stop(Torn::Old);
+    let is_left = does(&mut left, Call::Shows([5, 2, 3, 4]));
+    drop(left);
+    Ok(is_written && is_written_again && is_left)
 }
 
 #[test]
 fn a_stopped_disk_is_synced(rt: HostRuntime) -> Result<(), Fail> {
-    let mut disk = FuseDisk::new(one_to_four(rt.alloc())?);
-    assert!(rt; put(&mut disk, 0, &[5]) == Some(Ok(())));
-    let mut again = FuseDisk::new(disk.stop(Torn::New));
-    assert!(rt; put(&mut again, 3, &[6]) == Some(Ok(())));
-    assert!(rt; four(&mut again.stop(Torn::Old)) == Ok([5, 2, 3, 4]));
+    assert!(rt; is_left_twice(rt.alloc())?);
     Ok(())
 }
 
-#[test]
-fn a_fuse_passes_so_many_calls(rt: HostRuntime) -> Result<(), Fail> {
-    let failed = Err(DiskFault::Device);
-    for calls in 0..4 {
-        let mut disk = FuseDisk::new(one_to_four(rt.alloc())?);
-        assert!(rt; disk.sync() == Ok(()));
-        disk.arm(calls);
-        let got = [
-            put(&mut disk, 0, &[5]) == Some(Ok(())),
-            disk.sync() == Ok(()),
-            four(&mut disk) == Ok([5, 2, 3, 4]),
-            disk.sync() == Ok(()),
-        ];
-        for i in 0..4u64 {
-            assert!(rt; got[i as usize] == (i < calls), "{calls} calls, call {i}");
+const PASSING: [Call; 4] = [
+    Call::Writes(0, &[5]),
+    Call::Syncs,
+    Call::Shows([5, 2, 3, 4]),
+    Call::Syncs,
+];
+
+const FAILING: [Call; 4] = [
+    Call::FailsToWrite(0, &[5]),
+    Call::FailsToSync,
+    Call::FailsToShow,
+    Call::FailsToSync,
+];
+
+// Whether of four calls just these fail.
+fn fails_at<D: Disk>(disk: &mut D, fails: [bool; 4]) -> bool {
+    for i in 0..4 {
+        let call = if fails[i] { FAILING[i] } else { PASSING[i] };
+        if !does(disk, call) {
+            return false;
         }
-        assert!(rt; disk.failures() == 4 - calls);
-        assert!(rt; put(&mut disk, 1, &[6]) == Some(failed));
-        assert!(rt; disk.sync() == failed);
-        assert!(rt; four(&mut disk) == Err(DiskFault::Device));
-        assert!(rt; disk.failures() == 7 - calls);
-        assert!(rt; disk.size() == 4);
     }
-    Ok(())
+    true
+}
+
+// Whether a fuse passes so many calls, and all later ones fail.
+fn passes_so_many(alloc: Global, calls: u64) -> Result<bool, Fail> {
+    let mut disk = FuseDisk::new(one_to_four(alloc)?);
+    let is_armed = does_all(&mut disk, &[Call::Syncs, Call::Arms(calls)]);
+    let fails = fails_at(&mut disk, [calls < 1, calls < 2, calls < 3, calls < 4]);
+    let later = [
+        Call::HasFailed(4u64.saturating_sub(calls)),
+        Call::FailsToWrite(1, &[6]),
+        Call::FailsToSync,
+        Call::FailsToShow,
+        Call::HasFailed(7u64.saturating_sub(calls)),
+    ];
+    let fails_later = does_all(&mut disk, &later);
+    let size = disk.size();
+    drop(disk);
+    Ok(is_armed && fails && fails_later && size == 4)
+}
+
+// Whether a disk that is to fail at the call after so many does, and no other time, whatever it is armed with; and the disk below shows the bytes, and counts no
+// failure. To forget is no call that it counts.
+fn fails_once(alloc: Global, calls: u64) -> Result<bool, Fail> {
+    let mut disk = FaultDisk::new(one_to_four(alloc)?, calls);
+    let before = [Call::Arms(0), Call::HasFailed(0), Call::Forgets];
+    let is_armed = does_all(&mut disk, &before);
+    let fails = fails_at(&mut disk, [calls == 0, calls == 1, calls == 2, calls == 3]);
+    let shown = [Call::HasFailed(1), Call::Shows([5, 2, 3, 4])];
+    let is_shown = does_all(&mut disk, &shown);
+    let mut below = disk.into_disk();
+    let is_below = does_all(&mut below, &[Call::Shows([5, 2, 3, 4]), Call::HasFailed(0)]);
+    drop(below);
+    Ok(is_armed && fails && is_shown && is_below)
 }
 
 #[test]
-fn a_write_that_fails_is_unsynced(rt: HostRuntime) -> Result<(), Fail> {
-    for torn in WAYS {
-        let mut disk = FuseDisk::new(one_to_four(rt.alloc())?);
-        disk.arm(0);
-        assert!(rt; put(&mut disk, 1, &[9, 9]) == Some(Err(DiskFault::Device)));
-        let want = [1, settled(torn, 2, 9), settled(torn, 3, 9), 4];
-        assert!(rt; four(&mut disk.stop(torn)) == Ok(want));
-    }
-    Ok(())
-}
-
-#[test]
-fn a_fault_disk_fails_once(rt: HostRuntime) -> Result<(), Fail> {
+fn calls_fail_as_they_are_to(rt: HostRuntime) -> Result<(), Fail> {
     for calls in 0..4 {
-        let mut disk = FaultDisk::new(one_to_four(rt.alloc())?, calls);
-        disk.arm(0);
-        assert!(rt; disk.failures() == 0);
-        let got = [
-            put(&mut disk, 0, &[5]) == Some(Ok(())),
-            disk.sync() == Ok(()),
-            four(&mut disk) == Ok([5, 2, 3, 4]),
-            disk.sync() == Ok(()),
-        ];
-        for i in 0..4u64 {
-            assert!(rt; got[i as usize] != (i == calls), "{calls} calls, call {i}");
-        }
-        assert!(rt; disk.failures() == 1);
-        assert!(rt; four(&mut disk) == Ok([5, 2, 3, 4]));
-        let mut plain = disk.into_disk();
-        assert!(rt; four(&mut plain) == Ok([5, 2, 3, 4]));
-        assert!(rt; plain.failures() == 0);
+        assert!(rt; passes_so_many(rt.alloc(), calls)?, "{calls} calls pass");
+        assert!(rt; fails_once(rt.alloc(), calls)?, "call {calls} fails");
     }
     Ok(())
+}
+
+// Whether the write is refused for want of memory.
+fn is_refused<D: Disk>(disk: &mut D, at: usize, byte: u8) -> bool {
+    matches!(put(disk, at, &[byte]), Some(Err(DiskFault::NoMemory)))
 }
 
 // How many single bytes, each its place's number and one more, can be written before one is refused. None: refused once more, the write kept memory again.
 fn writes_taken<D: Disk>(heap: &LocalHeap, disk: &mut D, count: u8) -> Option<u8> {
     for n in 0..count {
-        let refused = Some(Err(DiskFault::NoMemory));
-        if put(disk, n as usize, &[n + 1]) == refused {
+        if is_refused(disk, n as usize, n + 1) {
             let used = heap.used();
-            let again = put(disk, n as usize, &[n + 1]) == refused;
+            let again = is_refused(disk, n as usize, n + 1);
             return if again && heap.used() == used {
                 Some(n)
             } else {
@@ -202,9 +331,9 @@ fn writes_taken<D: Disk>(heap: &LocalHeap, disk: &mut D, count: u8) -> Option<u8
 }
 
 // What five bytes are after so many of these writes.
-fn after_writes(taken: u8, byte: Option<u8>) -> [u8; 5] {
+fn after_writes(taken: Option<u8>, byte: Option<u8>) -> [u8; 5] {
     let mut want = [0; 5];
-    for i in 0..taken.min(5) {
+    for i in 0..taken.unwrap_or(0).min(5) {
         want[i as usize] = byte.unwrap_or(i + 1);
     }
     want
@@ -220,180 +349,166 @@ fn five<D: Disk>(disk: &mut D) -> Result<[u8; 5], DiskFault> {
     Ok(out)
 }
 
+// Whether these are the first five bytes.
+fn shows_five<D: Disk>(disk: &mut D, wanted: [u8; 5]) -> bool {
+    five(disk) == Ok(wanted)
+}
+
+// How many of five writes are taken. None: a refused one kept memory, or what is read isn't what was taken.
+fn writes_shown<D: Disk>(heap: &LocalHeap, disk: &mut D) -> Option<u8> {
+    let taken = writes_taken(heap, disk, 5);
+    if shows_five(disk, after_writes(taken, None)) {
+        taken
+    } else {
+        None
+    }
+}
+
+// Whether a stop of the disk leaves these bytes.
+fn leaves_five<A: Allocator + Clone + Drop>(
+    disk: FuseDisk<A>,
+    torn: Torn,
+    wanted: [u8; 5],
+) -> bool {
+    let mut left = disk.stop(torn);
+    let is_left = shows_five(&mut left, wanted);
+    drop(left);
+    is_left
+}
+
+// Whether the disk below has these bytes.
+fn leaves_five_below<A: Allocator + Clone + Drop>(disk: FaultDisk<A>, wanted: [u8; 5]) -> bool {
+    let mut below = disk.into_disk();
+    let is_left = shows_five(&mut below, wanted);
+    drop(below);
+    is_left
+}
+
+// How many of five writes a disk in the heap takes, which has none of it before. None where a byte is another one, or a refused write kept memory.
+fn plain_takes(heap: &LocalHeap) -> Result<Option<u8>, AllocError> {
+    let mut disk = MemDisk::new(heap, 40)?;
+    let is_free = heap.used() == 0;
+    let taken = writes_shown(heap, &mut disk);
+    let is_synced = does(&mut disk, Call::Syncs);
+    let want = after_writes(taken, None);
+    let is_left = leaves_five(FuseDisk::new(disk), Torn::Byte(9), want);
+    let is_well = is_free && is_synced && is_left;
+    Ok(if is_well { taken } else { None })
+}
+
+// The same with a fuse: a stop without a sync tears what was written, and nothing of a refused write.
+fn fuse_takes(heap: &LocalHeap) -> Result<Option<u8>, AllocError> {
+    let mut disk = FuseDisk::new(MemDisk::new(heap, 40)?);
+    disk.arm(7);
+    let taken = writes_shown(heap, &mut disk);
+    let failures = disk.failures();
+    let is_left = leaves_five(disk, Torn::Byte(9), after_writes(taken, Some(9)));
+    let is_well = failures == 0 && is_left;
+    Ok(if is_well { taken } else { None })
+}
+
+// Whether so many syncs pass, and the next one fails.
+fn sync_fails_after<D: Disk>(disk: &mut D, count: u8) -> bool {
+    for _call in 0..count {
+        if !does(disk, Call::Syncs) {
+            return false;
+        }
+    }
+    does(disk, Call::FailsToSync)
+}
+
+// The same with a disk that is to fail later: a refused write, done twice, counts as calls that passed.
+fn fault_takes(heap: &LocalHeap) -> Result<Option<u8>, AllocError> {
+    let mut disk = FaultDisk::new(MemDisk::new(heap, 40)?, 7);
+    let taken = writes_shown(heap, &mut disk);
+    let failures = disk.failures();
+    let more = match taken {
+        Some(taken) if taken < 5 => 4 - taken,
+        _ => 1,
+    };
+    let has_failed = sync_fails_after(&mut disk, more);
+    let is_left = leaves_five_below(disk, after_writes(taken, None));
+    let is_well = failures == 0 && has_failed && is_left;
+    Ok(if is_well { taken } else { None })
+}
+
 // Heaps that grow by the least block, so that each allocation in turn is the first to be refused: those of five writes.
 #[test]
 fn refused_memory_changes_no_byte(rt: HostRuntime) -> Result<(), Fail> {
     let mut met = [false; 6];
     for size in 1..100 {
         let heap = LocalHeap::new(rt.alloc(), size * 16)?;
-        let mut disk = MemDisk::new(&heap, 40)?;
-        assert_eq!(rt; heap.used(), 0, "heap {size}");
-        let Some(taken) = writes_taken(&heap, &mut disk, 5) else {
-            return Err(Fail::new("a refused write kept memory"));
-        };
-        let want = after_writes(taken, None);
-        assert!(rt; five(&mut disk) == Ok(want), "heap {size}");
-        assert!(rt; disk.sync() == Ok(()));
-        met[taken.min(5) as usize] = true;
-        let mut stopped = FuseDisk::new(disk).stop(Torn::Byte(9));
-        assert!(rt; five(&mut stopped) == Ok(want), "heap {size}");
+        let taken = plain_takes(&heap)?;
+        assert!(rt; taken.is_some(), "heap {size}");
+        assert!(rt; fuse_takes(&heap)? == taken, "a fuse, heap {size}");
+        assert!(rt; fault_takes(&heap)? == taken, "a fault, heap {size}");
+        met[taken.unwrap_or(0).min(5) as usize] = true;
     }
-    assert_eq!(rt; met, [true; 6]);
+    assert!(rt; met == [true; 6]);
     Ok(())
 }
 
-// The same with a fuse: a stop without a sync tears what was written, and nothing of a refused write.
-#[test]
-fn refused_memory_leaves_a_fuse_disk(rt: HostRuntime) -> Result<(), Fail> {
-    let mut met = [false; 6];
-    for size in 1..100 {
-        let heap = LocalHeap::new(rt.alloc(), size * 16)?;
-        let Ok(disk) = MemDisk::new(&heap, 40) else {
-            continue;
-        };
-        let mut disk = FuseDisk::new(disk);
-        disk.arm(7);
-        let Some(taken) = writes_taken(&heap, &mut disk, 5) else {
-            return Err(Fail::new("a refused write kept memory"));
-        };
-        assert!(rt;
-            five(&mut disk) == Ok(after_writes(taken, None)),
-            "heap {size}"
-        );
-        assert_eq!(rt; disk.failures(), 0, "heap {size}");
-        met[taken.min(5) as usize] = true;
-        let mut stopped = disk.stop(Torn::Byte(9));
-        let torn = after_writes(taken, Some(9));
-        assert!(rt; five(&mut stopped) == Ok(torn), "heap {size}");
-    }
-    assert_eq!(rt; met, [true; 6]);
-    Ok(())
+// Whether a new disk in the heap takes a write.
+fn takes_a_write(heap: &LocalHeap) -> Result<bool, AllocError> {
+    let mut disk = MemDisk::new(heap, 40)?;
+    let is_taken = does(&mut disk, Call::Writes(0, &[7]));
+    drop(disk);
+    Ok(is_taken)
 }
 
-// The same with a disk that is to fail later: a refused write, done twice, counts as calls that passed.
-#[test]
-fn refused_memory_leaves_a_fault_disk(rt: HostRuntime) -> Result<(), Fail> {
-    let mut met = [false; 6];
-    for size in 1..100 {
-        let heap = LocalHeap::new(rt.alloc(), size * 16)?;
-        let Ok(disk) = MemDisk::new(&heap, 40) else {
-            continue;
-        };
-        let mut disk = FaultDisk::new(disk, 7);
-        let Some(taken) = writes_taken(&heap, &mut disk, 5) else {
-            return Err(Fail::new("a refused write kept memory"));
-        };
-        let want = Ok(after_writes(taken, None));
-        assert!(rt; five(&mut disk) == want, "heap {size}");
-        assert_eq!(rt; disk.failures(), 0, "heap {size}");
-        met[taken.min(5) as usize] = true;
-        let passed = if taken == 5 {
-            5
-        } else {
-            taken.saturating_add(2)
-        };
-        for _call in passed..6 {
-            assert!(rt; disk.sync() == Ok(()), "heap {size}");
-        }
-        assert!(rt; disk.sync() == Err(DiskFault::Device), "heap {size}");
-        assert!(rt; five(&mut disk.into_disk()) == want, "heap {size}");
-    }
-    assert_eq!(rt; met, [true; 6]);
-    Ok(())
+// Whether a write to a new disk with a fuse fails, and a stop then leaves these bytes.
+fn fuse_leaves(heap: &LocalHeap, wanted: [u8; 5]) -> Result<bool, AllocError> {
+    let mut disk = FuseDisk::new(MemDisk::new(heap, 40)?);
+    disk.arm(0);
+    let has_failed = does(&mut disk, Call::FailsToWrite(0, &[7]));
+    let is_left = leaves_five(disk, Torn::New, wanted);
+    Ok(has_failed && is_left)
 }
 
-// Whether a new disk in a heap of this size takes a write; None where there is no room for the disk.
-fn takes_a_write(alloc: Global, size: usize) -> Result<Option<bool>, Fail> {
-    let heap = LocalHeap::new(alloc, size)?;
-    let Ok(mut disk) = MemDisk::new(&heap, 40) else {
-        return Ok(None);
-    };
-    Ok(Some(put(&mut disk, 0, &[7]) == Some(Ok(()))))
+// Whether a write to a new disk that fails once does, and the disk below then has these bytes.
+fn fault_leaves(heap: &LocalHeap, wanted: [u8; 5]) -> Result<bool, AllocError> {
+    let mut disk = FaultDisk::new(MemDisk::new(heap, 40)?, 0);
+    let has_failed = does(&mut disk, Call::FailsToWrite(0, &[7]));
+    let is_left = leaves_five_below(disk, wanted);
+    Ok(has_failed && is_left)
 }
 
 // A write that fails has reached the disk only where there was memory for it.
 #[test]
 fn a_failed_write_without_memory_is_lost(rt: HostRuntime) -> Result<(), Fail> {
-    let failed = Some(Err(DiskFault::Device));
-    let (mut lost, mut reached) = (0u64, 0u64);
+    let mut met = [false; 2];
     for size in 1..100 {
-        let Some(is_taken) = takes_a_write(rt.alloc(), size * 16)? else {
-            continue;
-        };
+        let heap = LocalHeap::new(rt.alloc(), size * 16)?;
+        let is_taken = takes_a_write(&heap)?;
         let want = if is_taken { [7, 0, 0, 0, 0] } else { [0; 5] };
-        let heap = LocalHeap::new(rt.alloc(), size * 16)?;
-        let mut fuse = FuseDisk::new(MemDisk::new(&heap, 40)?);
-        fuse.arm(0);
-        assert!(rt; put(&mut fuse, 0, &[7]) == failed, "heap {size}");
-        assert!(rt; five(&mut fuse.stop(Torn::New)) == Ok(want), "heap {size}");
-        let heap = LocalHeap::new(rt.alloc(), size * 16)?;
-        let mut fault = FaultDisk::new(MemDisk::new(&heap, 40)?, 0);
-        assert!(rt; put(&mut fault, 0, &[7]) == failed, "heap {size}");
-        assert!(rt; five(&mut fault.into_disk()) == Ok(want), "heap {size}");
-        if is_taken {
-            reached = reached.saturating_add(1);
-        } else {
-            lost = lost.saturating_add(1);
-        }
+        assert!(rt; fuse_leaves(&heap, want)?, "heap {size}");
+        assert!(rt; fault_leaves(&heap, want)?, "heap {size}");
+        met[usize::from(is_taken)] = true;
     }
-    assert!(rt; lost > 0 && reached > 0, "{lost}, {reached}");
+    assert!(rt; met == [true; 2]);
     Ok(())
 }
 
-// Rounds of a store: each forgets what was before it, writes to one place and syncs.
-fn write_in_rounds<D: Disk>(disk: &mut D, rounds: u64) -> Option<Result<(), DiskFault>> {
+// Rounds of a store: each forgets what was before it, writes to one place and syncs. Whether all calls pass.
+fn writes_in_rounds<D: Disk>(disk: &mut D, rounds: u64) -> bool {
     for round in 0..rounds {
-        disk.forget_past();
-        if put(disk, 1, &[(round % 200) as u8, 9]) != Some(Ok(())) {
-            return None;
-        }
-        if disk.sync() != Ok(()) {
-            return None;
+        let bytes = [(round % 200) as u8, 9];
+        if !does_all(disk, &[Call::Forgets, Call::Writes(1, &bytes), Call::Syncs]) {
+            return false;
         }
     }
-    Some(Ok(()))
+    true
 }
 
 #[test]
 fn memory_stays_where_the_past_is_forgotten(rt: HostRuntime) -> Result<(), Fail> {
     let heap = LocalHeap::new(rt.alloc(), 10_000)?;
     let mut disk = MemDisk::new(&heap, 4)?;
-    assert!(rt; write_in_rounds(&mut disk, 1_000).is_some());
+    assert!(rt; writes_in_rounds(&mut disk, 1_000));
     let used = heap.used();
-    assert!(rt; write_in_rounds(&mut disk, 50_000).is_some());
-    assert_eq!(rt; heap.used(), used);
-    Ok(())
-}
-
-// What is unsynced may still be torn, and what was synced stays.
-#[test]
-fn forgetting_leaves_what_a_stop_may_leave(rt: HostRuntime) -> Result<(), Fail> {
-    for torn in WAYS {
-        let mut disk = FuseDisk::new(one_to_four(rt.alloc())?);
-        assert!(rt; put(&mut disk, 0, &[5]) == Some(Ok(())));
-        assert!(rt; disk.sync() == Ok(()));
-        assert!(rt; put(&mut disk, 1, &[6]) == Some(Ok(())));
-        disk.forget_past();
-        assert!(rt; four(&mut disk) == Ok([5, 6, 3, 4]));
-        assert!(rt; put(&mut disk, 2, &[7]) == Some(Ok(())));
-        let want = [5, settled(torn, 2, 6), settled(torn, 3, 7), 4];
-        assert!(rt; four(&mut disk.stop(torn)) == Ok(want));
-    }
-    Ok(())
-}
-
-// Takes no call from a fuse, and no failure from a disk that is to fail once.
-#[test]
-fn forgetting_is_no_call_that_fails(rt: HostRuntime) -> Result<(), Fail> {
-    let mut fuse = FuseDisk::new(one_to_four(rt.alloc())?);
-    fuse.arm(1);
-    fuse.forget_past();
-    assert!(rt; fuse.sync() == Ok(()));
-    assert!(rt; fuse.sync() == Err(DiskFault::Device));
-    let mut fault = FaultDisk::new(one_to_four(rt.alloc())?, 1);
-    fault.forget_past();
-    assert!(rt; fault.sync() == Ok(()));
-    assert!(rt; fault.sync() == Err(DiskFault::Device));
+    assert!(rt; writes_in_rounds(&mut disk, 50_000));
+    assert!(rt; heap.used() == used);
+    drop(disk);
     Ok(())
 }
 
@@ -408,50 +523,78 @@ fn bytes_at<D: Disk>(disk: &mut D, at: usize, out: &mut [u8]) -> Option<Result<(
     Some(disk.read(at, out))
 }
 
+// Whether these are the ten bytes at a place.
+fn shows_ten<D: Disk>(disk: &mut D, at: usize, wanted: [u8; 10]) -> bool {
+    let mut out = [1; 10];
+    matches!(bytes_at(disk, at, &mut out), Some(Ok(()))) && out == wanted
+}
+
 #[test]
 fn a_large_disk_takes_the_pages_that_are_written(rt: HostRuntime) -> Result<(), Fail> {
     let heap = LocalHeap::new(rt.alloc(), 40 * PAGE)?;
     let mut disk = MemDisk::new(&heap, 100 * PAGE)?;
-    assert_eq!(rt; disk.size(), 100 * PAGE);
-    let mut out = [1; 10];
-    assert!(rt; bytes_at(&mut disk, 99 * PAGE, &mut out) == Some(Ok(())));
-    assert_eq!(rt; out, [0; 10]);
-    assert_eq!(rt; heap.used(), 0);
-    assert!(rt; put(&mut disk, 99 * PAGE + 4_090, &[7, 8]) == Some(Ok(())));
+    assert!(rt; disk.size() == 100 * PAGE);
+    assert!(rt; shows_ten(&mut disk, 99 * PAGE, [0; 10]));
+    assert!(rt; heap.used() == 0);
+    assert!(rt; does(&mut disk, Call::Writes(99 * PAGE + 4_090, &[7, 8])));
     let used = heap.used();
     assert!(rt; used < 3 * PAGE, "{used}");
-    assert!(rt; bytes_at(&mut disk, 99 * PAGE + 4_086, &mut out) == Some(Ok(())));
-    assert_eq!(rt; out, [0, 0, 0, 0, 7, 8, 0, 0, 0, 0]);
-    assert!(rt; bytes_at(&mut disk, 100 * PAGE - 9, &mut out) == None);
+    let want = [0, 0, 0, 0, 7, 8, 0, 0, 0, 0];
+    assert!(rt; shows_ten(&mut disk, 99 * PAGE + 4_086, want));
+    assert!(rt; !shows_ten(&mut disk, 100 * PAGE - 9, [0; 10]));
+    drop(disk);
     Ok(())
+}
+
+// What the byte at a place is to be once the second of two writes is settled.
+fn settled_at(torn: Torn, place: usize) -> u8 {
+    let old = if place >= 4_000 && place < 11_000 {
+        3
+    } else {
+        0
+    };
+    if place >= 4_090 && place < 9_090 {
+        settled(torn, old, 5)
+    } else {
+        old
+    }
+}
+
+// The first place, from 2,000 on, of 10,000 bytes that isn't so: 0 where they can't be read, None where all are.
+fn first_unsettled<D: Disk>(disk: &mut D, torn: Torn) -> Option<usize> {
+    let mut out = [1; 10_000];
+    if !matches!(bytes_at(disk, 2_000, &mut out), Some(Ok(()))) {
+        return Some(0);
+    }
+    for i in 0..10_000 {
+        if out[i] != settled_at(torn, 2_000 + i) {
+            return Some(2_000 + i);
+        }
+    }
+    None
+}
+
+// The same of what a stop leaves, once both are written; 0 where they aren't.
+fn first_left_unsettled(alloc: Global, torn: Torn) -> Result<Option<usize>, AllocError> {
+    let mut disk = FuseDisk::new(MemDisk::new(alloc, 3 * PAGE - 100)?);
+    let calls = [
+        Call::Writes(4_000, &[3; 7_000]),
+        Call::Syncs,
+        Call::Writes(4_090, &[5; 5_000]),
+    ];
+    let are_made = does_all(&mut disk, &calls);
+    let mut left = disk.stop(torn);
+    let found = first_unsettled(&mut left, torn);
+    drop(left);
+    Ok(if are_made { found } else { Some(0) })
 }
 
 // A range over three pages, written over again in part and settled in each way.
 #[test]
 fn a_stop_settles_a_range_over_pages(rt: HostRuntime) -> Result<(), Fail> {
-    let new = [5; 5_000];
     for torn in WAYS {
-        let mut disk = FuseDisk::new(MemDisk::new(rt.alloc(), 3 * PAGE - 100)?);
-        assert!(rt; put(&mut disk, 4_000, &[3; 7_000]) == Some(Ok(())));
-        assert!(rt; disk.sync() == Ok(()));
-        assert!(rt; put(&mut disk, 4_090, &new) == Some(Ok(())));
-        let mut stopped = disk.stop(torn);
-        let mut out = [1; 10_000];
-        assert!(rt; bytes_at(&mut stopped, 2_000, &mut out) == Some(Ok(())));
-        for i in 0..10_000 {
-            let place = 2_000 + i;
-            let old = if place >= 4_000 && place < 11_000 {
-                3
-            } else {
-                0
-            };
-            let want = if place >= 4_090 && place < 9_090 {
-                settled(torn, old, 5)
-            } else {
-                old
-            };
-            assert_eq!(rt; out[i], want, "place {place}");
-        }
+        let place = first_left_unsettled(rt.alloc(), torn)?.unwrap_or(usize::MAX);
+        assert!(rt; place == usize::MAX, "place {place}");
     }
     Ok(())
 }
@@ -459,6 +602,6 @@ fn a_stop_settles_a_range_over_pages(rt: HostRuntime) -> Result<(), Fail> {
 #[test]
 fn faults_have_texts(rt: HostRuntime) -> Result<(), Fail> {
     let texts = format!(in rt.alloc(); "{}, {}", DiskFault::Device, DiskFault::NoMemory)?;
-    assert_eq!(rt; texts.as_str(), "disk failed, no memory");
+    assert!(rt; texts.as_str() == "disk failed, no memory");
     Ok(())
 }
