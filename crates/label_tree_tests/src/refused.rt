@@ -5,7 +5,7 @@ use gfs_types::no_memory::NoMemory;
 use label_tree::tree::Tree;
 use label_tree_changes::remove::remove;
 use linked_list_allocator::LocalHeap;
-use std::alloc::Global;
+use std::alloc::{AllocError, Allocator, Global};
 use std::test::Fail;
 
 // So many bytes alike, and these behind them.
@@ -18,95 +18,115 @@ fn path_of(alloc: Global, len: u64, tail: &[u8]) -> Result<Vec<u8>, Fail> {
     Ok(path)
 }
 
-// Two names with an end of their own behind these many bytes: the second is refused as long as the heap has too few bytes.
-// Whether it was refused, and then the first name alone was found, and could be put anew.
-fn is_refused(
-    alloc: Global,
-    bytes: usize,
+/// What came of two names in a heap: there was no room for the first, the second was refused, or it was put; or something else is there.
+#[derive(Clone, Copy, PartialEq, Eq)]
+enum Met {
+    NoRoom,
+    Refused,
+    Put,
+    Wrong,
+}
+
+// Whether the first name is found, can be put anew, which needs no memory, and goes; and the second is there if it wasn't refused.
+fn is_as_put<A: Allocator + Clone>(
+    tree: &mut Tree<u64, A>,
+    alloc: &A,
     first: &[u8],
     second: &[u8],
-) -> Result<Option<bool>, Fail> {
-    let heap = LocalHeap::new(alloc, bytes)?;
-    let mut tree = Tree::new();
-    if put(&mut tree, &&heap, first, 1u64).is_err() {
-        return Ok(None);
+    is_refused: bool,
+) -> bool {
+    let found = tree.get(second).is_some();
+    if tree.get(first).copied() != Some(1) || found == is_refused {
+        return false;
     }
-    let is_refused = match put(&mut tree, &&heap, second, 2) {
-        Ok(()) => false,
-        Err((2, NoMemory)) => true,
-        Err(_) => return Err(Fail::new("another value came back")),
+    if put(tree, alloc, first, 3).is_err() || tree.get(first).copied() != Some(3) {
+        return false;
+    }
+    if is_refused && remove(tree, second).is_some() {
+        return false;
+    }
+    remove(tree, first) == Some(3) && tree.is_empty() == is_refused
+}
+
+fn met_in<A: Allocator + Clone>(
+    tree: &mut Tree<u64, A>,
+    alloc: &A,
+    first: &[u8],
+    second: &[u8],
+) -> Met {
+    if put(tree, alloc, first, 1).is_err() {
+        return Met::NoRoom;
+    }
+    let met = match put(tree, alloc, second, 2) {
+        Ok(()) => Met::Put,
+        Err((2, NoMemory)) => Met::Refused,
+        Err(_) => Met::Wrong,
     };
-    let found = tree.get(second).copied();
-    if tree.get(first).copied() != Some(1) || found.is_none() != is_refused {
-        return Err(Fail::new("a name is lost"));
+    if is_as_put(tree, alloc, first, second, met == Met::Refused) {
+        met
+    } else {
+        Met::Wrong
     }
-    if put(&mut tree, &&heap, first, 3).is_err() || tree.get(first).copied() != Some(3) {
-        return Err(Fail::new("a name that is there needs no memory"));
-    }
-    if is_refused && remove(&mut tree, second).is_some() {
-        return Err(Fail::new("a refused name is there"));
-    }
-    if remove(&mut tree, first) != Some(3) || tree.is_empty() != is_refused {
-        return Err(Fail::new("not only that name went"));
-    }
-    Ok(Some(is_refused))
+}
+
+// The second is refused as long as the heap, which is empty, has too few bytes. What owns a tree has one way out, and calls `drop` there: a drop at the end of
+// a scope is proved anew at each place.
+fn met_on(heap: &LocalHeap, first: &[u8], second: &[u8]) -> Met {
+    let mut tree = Tree::new();
+    let met = met_in(&mut tree, &heap, first, second);
+    drop(tree);
+    met
 }
 
 // The first name in ever larger heaps: how often the second was refused before it wasn't.
 fn refusals(alloc: Global, first: &[u8], second: &[u8]) -> Result<u64, Fail> {
     let mut count = 0u64;
     for blocks in 1..3_000 {
-        match is_refused(alloc, blocks * 16, first, second)? {
-            None => {}
-            Some(true) => count = count.saturating_add(1),
-            Some(false) => return Ok(count),
+        let heap = LocalHeap::new(alloc, blocks * 16)?;
+        match met_on(&heap, first, second) {
+            Met::NoRoom => {}
+            Met::Refused => count = count.saturating_add(1),
+            Met::Put => return Ok(count),
+            Met::Wrong => return Err(Fail::new("another name or value is there")),
         }
     }
     Err(Fail::new("it is always refused"))
 }
+
+// The same of two names that have so many bytes alike, and these behind them.
+fn refusals_of(alloc: Global, first: (u64, &[u8]), second: (u64, &[u8])) -> Result<u64, Fail> {
+    let first = path_of(alloc, first.0, first.1)?;
+    let second = path_of(alloc, second.0, second.1)?;
+    refusals(alloc, first.as_slice(), second.as_slice())
+}
+
+// Whether there is a refusal with so many bytes before both ends.
+fn is_refused(alloc: Global, len: u64, first: &[u8], second: &[u8]) -> Result<bool, Fail> {
+    Ok(refusals_of(alloc, (len, first), (len, second))? > 0)
+}
+
+const LONG: &[u8] = b"bbbbbbbbbbbbbbbbbbbbbbbbbbbbbbbbbbbbbbbbb";
+
+const ENDS: [(&[u8], &[u8]); 5] = [
+    (b"b", b"c"),
+    (b"c", b"b"),
+    (LONG, b"c"),
+    (b"c", LONG),
+    (b"b", LONG),
+];
 
 // A name that ends where a piece of a longer one does, of 24 bytes, needs no memory beside it.
 #[test]
 fn each_growth_of_a_split(rt: HostRuntime) -> Result<(), Fail> {
     let alloc = rt.alloc();
     for len in [0, 1, 22, 23, 24, 25, 47, 48, 100] {
-        let plain = path_of(alloc, len, b"")?;
-        let first = path_of(alloc, len, b"b")?;
-        let second = path_of(alloc, len, b"c")?;
-        let longer = path_of(alloc, len, b"bbbbbbbbbbbbbbbbbbbbbbbbbbbbbbbbbbbbbbbbb")?;
-        assert!(rt;
-            refusals(alloc, first.as_slice(), second.as_slice())? > 0,
-            "{len}"
-        );
-        assert!(rt;
-            refusals(alloc, second.as_slice(), first.as_slice())? > 0,
-            "{len}"
-        );
-        assert!(rt;
-            refusals(alloc, longer.as_slice(), second.as_slice())? > 0,
-            "{len}"
-        );
-        assert!(rt;
-            refusals(alloc, second.as_slice(), longer.as_slice())? > 0,
-            "{len}"
-        );
-        assert!(rt;
-            refusals(alloc, first.as_slice(), longer.as_slice())? > 0,
-            "{len}"
-        );
-        assert_eq!(rt;
-            refusals(alloc, longer.as_slice(), first.as_slice())? > 0,
-            first.len() % 24 != 0
-        );
+        for (first, second) in ENDS {
+            assert!(rt; is_refused(alloc, len, first, second)?, "{len}");
+        }
+        assert!(rt; is_refused(alloc, len, LONG, b"b")? == (len % 24 != 23));
         if len > 0 {
-            assert!(rt;
-                refusals(alloc, plain.as_slice(), longer.as_slice())? > 0,
-                "{len}"
-            );
-            assert_eq!(rt;
-                refusals(alloc, longer.as_slice(), plain.as_slice())? > 0,
-                plain.len() % 24 != 0
-            );
+            assert!(rt; is_refused(alloc, len, b"", LONG)?, "{len}");
+            assert!(rt; is_refused(alloc, len, LONG, b"")? == (len % 24 != 0));
         }
     }
     Ok(())
@@ -115,46 +135,83 @@ fn each_growth_of_a_split(rt: HostRuntime) -> Result<(), Fail> {
 #[test]
 fn each_growth_of_the_longest_path(rt: HostRuntime) -> Result<(), Fail> {
     let alloc = rt.alloc();
-    let half = path_of(alloc, 2_048, b"c")?;
-    let whole = path_of(alloc, 4_095, b"b")?;
-    assert!(rt; refusals(alloc, half.as_slice(), whole.as_slice())? > 80);
-    assert!(rt; refusals(alloc, whole.as_slice(), half.as_slice())? > 0);
+    assert!(rt; refusals_of(alloc, (2_048, b"c"), (4_095, b"b"))? > 80);
+    assert!(rt; refusals_of(alloc, (4_095, b"b"), (2_048, b"c"))? > 0);
     Ok(())
 }
 
-// The number of names that a heap takes, and then takes out again.
-fn filled<'a>(
+fn numbered(alloc: Global, number: u64) -> Result<String, AllocError> {
+    format!(in alloc; "/d{}/f{}", number % 10, number)
+}
+
+fn is_put<A: Allocator + Clone>(
     alloc: Global,
-    tree: &mut Tree<u64, &'a LocalHeap>,
-    heap: &'a LocalHeap,
-) -> Result<u64, Fail> {
+    tree: &mut Tree<u64, A>,
+    own: &A,
+    number: u64,
+) -> Result<bool, AllocError> {
+    let path = numbered(alloc, number)?;
+    Ok(put(tree, own, path.as_bytes(), number).is_ok())
+}
+
+fn is_taken<A: Allocator + Clone>(
+    alloc: Global,
+    tree: &mut Tree<u64, A>,
+    number: u64,
+) -> Result<bool, AllocError> {
+    let path = numbered(alloc, number)?;
+    Ok(remove(tree, path.as_bytes()) == Some(number))
+}
+
+// The number of names that a heap takes, and that are then taken out again; None where one is lost, or something is left.
+fn filled<A: Allocator + Clone>(
+    alloc: Global,
+    tree: &mut Tree<u64, A>,
+    own: &A,
+) -> Result<Option<u64>, AllocError> {
     let mut count = 0u64;
     for number in 0..1_000u64 {
-        let path = format!(in alloc; "/d{}/f{}", number % 10, number)?;
-        if put(tree, &heap, path.as_bytes(), number).is_err() {
+        if !is_put(alloc, tree, own, number)? {
             break;
         }
         count = count.saturating_add(1);
     }
     for number in 0..count {
-        let path = format!(in alloc; "/d{}/f{}", number % 10, number)?;
-        if remove(tree, path.as_bytes()) != Some(number) {
-            return Err(Fail::new("a name is lost"));
+        if !is_taken(alloc, tree, number)? {
+            return Ok(None);
         }
     }
-    Ok(count)
+    Ok(if tree.is_empty() { Some(count) } else { None })
+}
+
+// How many names a heap takes, each of so many times; 0 where it doesn't.
+fn names_in_rounds<A: Allocator + Clone>(
+    alloc: Global,
+    tree: &mut Tree<u64, A>,
+    own: &A,
+    rounds: u64,
+) -> Result<u64, AllocError> {
+    let first = filled(alloc, tree, own)?;
+    for _ in 0..rounds {
+        if filled(alloc, tree, own)? != first {
+            return Ok(0);
+        }
+    }
+    Ok(first.unwrap_or(0))
+}
+
+fn names_in_heap(alloc: Global, heap: &LocalHeap) -> Result<u64, AllocError> {
+    let mut tree = Tree::new();
+    let count = names_in_rounds(alloc, &mut tree, &heap, 1_000);
+    drop(tree);
+    count
 }
 
 #[test]
 fn a_thousand_rounds(rt: HostRuntime) -> Result<(), Fail> {
     let alloc = rt.alloc();
     let heap = LocalHeap::new(alloc, 4_096)?;
-    let mut tree = Tree::new();
-    let first = filled(alloc, &mut tree, &heap)?;
-    assert!(rt; first > 20, "{first}");
-    for _ in 0..1_000 {
-        assert_eq!(rt; filled(alloc, &mut tree, &heap)?, first);
-        assert!(rt; tree.is_empty());
-    }
+    let count = names_in_heap(alloc, &heap)?;
+    assert!(rt; count > 20, "{count}");
     Ok(())
 }
