@@ -90,16 +90,17 @@ impl FakeCell {
         self.send(Node::Client(client), Node::Master, body);
     }
 
-    fn answers(&mut self, node: Node, answer: Answer) -> Option<Answer> {
+    /// A client's call is over, and whether one was open.
+    fn ends(&mut self, node: Node) -> bool {
         let Node::Client(client) = node else {
-            return None;
+            return false;
         };
         if !self.open.contains(&client.0) {
-            return None;
+            return false;
         }
         self.open.retain(|other| *other != client.0);
         self.patient.retain(|other| *other != client.0);
-        Some(answer)
+        true
     }
 
     fn asked(&mut self, client: Node, is_long: bool) {
@@ -150,7 +151,7 @@ impl FakeCell {
                 },
             ),
             Kind::Recorded => self.recorded(),
-            Kind::Wait => return self.answers(receiver, Answer::Done),
+            Kind::Wait if self.ends(receiver) => return Some(Answer::Done),
             _ => {}
         }
         None
@@ -160,10 +161,11 @@ impl FakeCell {
         let Node::Client(client) = node else {
             return None;
         };
-        if now.0 < 500 || self.patient.contains(&client.0) {
-            return None;
+        if now.0 >= 500 && !self.patient.contains(&client.0) && self.ends(node) {
+            Some(Answer::Refused(Refusal::Unknown))
+        } else {
+            None
         }
-        self.answers(node, Answer::Refused(Refusal::Unknown))
     }
 
     fn happens(&mut self, event: &Event) -> Option<Answer> {
@@ -203,6 +205,8 @@ impl SimulatedCell for FakeCell {
         let answer = self.happens(&event);
         if self.events.len() < MAX_EVENTS {
             let _ = self.events.push(event);
+        } else {
+            drop(event);
         }
         answer
     }
