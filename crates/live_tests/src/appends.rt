@@ -1,4 +1,4 @@
-use crate::producers::{count_kept, make_log, new_producers, produce_all};
+use crate::producers::{count_kept, produce_all, producers_of};
 use cell_desk::post::Policy;
 use cell_run::cell::Cell;
 use cell_slot::gate::OpenGate;
@@ -29,10 +29,7 @@ fn produced<R: Threads + Wait + Clock + Sync>(
     (producers, records): (u64, u64),
 ) -> Option<usize> {
     let mut reader = cell.client().ok()?;
-    if !make_log(rt, alloc, &mut reader) {
-        return None;
-    }
-    let mut all = new_producers(rt, alloc, cell, producers)?;
+    let mut all = producers_of(rt, alloc, cell, &mut reader, producers)?;
     cell.net(policy);
     produce_all(rt, alloc, all.as_mut_slice(), records);
     cell.net(Policy::NONE);
@@ -44,8 +41,8 @@ fn four_producers(rt: HostRuntime) -> Result<(), Fail> {
     let alloc = rt.alloc();
     let mut cell = Cell::start(rt, alloc, small(), 3, OpenGate)?;
     let count = produced(&rt, alloc, &mut cell, Policy::NONE, (4, 100));
-    cell.close(&rt);
-    assert_eq!(rt; count, Some(400));
+    drop(cell.close(&rt));
+    assert!(rt; count == Some(400));
     Ok(())
 }
 
@@ -65,7 +62,7 @@ fn losses_and_repeats(rt: HostRuntime) -> Result<(), Fail> {
     };
     let mut cell = Cell::start(rt, alloc, hasty, 3, OpenGate)?;
     let count = produced(&rt, alloc, &mut cell, lossy, (2, 20));
-    cell.close(&rt);
+    drop(cell.close(&rt));
     assert!(rt; count.is_some());
     Ok(())
 }

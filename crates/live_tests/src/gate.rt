@@ -1,11 +1,10 @@
 //! One server's read is held up until another's was answered.
 
-use bytes::Bytes;
+use crate::producers::{Look, append, create, look, open};
 use cell_run::cell::{Cell, ClientSeat};
 use cell_slot::gate::Gate;
 use gfs_types::config::Config;
-use gfs_types::ids::{Fd, Node, ServerId};
-use gfs_types::lists::Text;
+use gfs_types::ids::{Node, ServerId};
 use journal_pages::entry::Taking;
 use messages::event::Input;
 use messages::message::Body;
@@ -59,27 +58,21 @@ impl<R: Clock + Copy + Drop> Gate for ReadGate<R> {
     }
 }
 
-fn open<R: Wait + Clock>(rt: &R, alloc: Global, seat: &mut ClientSeat, name: &str) -> Option<Fd> {
-    let path = Text::from_str(name, alloc).ok()?;
-    seat.open(rt, path).ok()
-}
-
-// Makes a file with one record.
-fn fill<R: Wait + Clock>(rt: &R, alloc: Global, seat: &mut ClientSeat, name: &str) -> Option<u64> {
-    let path = Text::from_str(name, alloc).ok()?;
-    seat.create(rt, path).ok()?;
-    let fd = open(rt, alloc, seat, name)?;
-    let bytes = Bytes::copy_from_slice(alloc, &RECORD).ok()?;
-    seat.append(rt, fd, bytes).ok()
+// Makes a file with one record, and tells whether it did.
+fn fill<R: Wait + Clock>(rt: &R, alloc: Global, seat: &mut ClientSeat, name: &str) -> bool {
+    if !create(rt, alloc, seat, name) {
+        return false;
+    }
+    match open(rt, alloc, seat, name) {
+        Some(fd) => append(rt, alloc, seat, fd, &RECORD).is_ok(),
+        None => false,
+    }
 }
 
 fn reads<R: Wait + Clock>(rt: &R, alloc: Global, seat: &mut ClientSeat, name: &str) -> bool {
-    let Some(fd) = open(rt, alloc, seat, name) else {
-        return false;
-    };
-    match seat.read(rt, fd, 0, 8) {
-        Ok((bytes, _)) => bytes.as_slice() == RECORD.as_slice(),
-        Err(_) => false,
+    match open(rt, alloc, seat, name) {
+        Some(fd) => look(rt, seat, fd, 0, &RECORD) == Look::Same,
+        None => false,
     }
 }
 
@@ -123,8 +116,11 @@ impl Reader {
 // Two readers, and a file on each server.
 fn new_readers<R: Wait + Clock>(rt: &R, alloc: Global, cell: &mut Cell) -> Option<Vec<Reader>> {
     let mut seat = cell.client().ok()?;
-    fill(rt, alloc, &mut seat, "/a")?;
-    fill(rt, alloc, &mut seat, "/b")?;
+    let are_full = fill(rt, alloc, &mut seat, "/a") && fill(rt, alloc, &mut seat, "/b");
+    drop(seat);
+    if !are_full {
+        return None;
+    }
     let mut all = Vec::new(alloc);
     for _ in 0..2 {
         let reader = Reader {
@@ -174,8 +170,8 @@ fn one_server_is_held_and_another_answers(rt: HostRuntime) -> Result<(), Fail> {
     };
     let mut cell = Cell::start(rt, alloc, config, 2, gate)?;
     let have_read = both_read(&rt, alloc, &mut cell, &held, &answered);
-    cell.close(&rt);
+    drop(cell.close(&rt));
     assert!(rt; have_read);
-    assert_eq!(rt; held.load(Ordering::SeqCst), 1);
+    assert!(rt; held.load(Ordering::SeqCst) == 1);
     Ok(())
 }

@@ -1,6 +1,6 @@
 //! Nodes that begin again.
 
-use crate::producers::{Producer, count_kept, make_log, new_producers, produce_all};
+use crate::producers::{Producer, count_kept, produce_all, producers_of};
 use cell_run::cell::Cell;
 use cell_seat::journal::Journal;
 use cell_slot::gate::Gate;
@@ -92,40 +92,25 @@ fn produce_meanwhile<R: Threads + Wait + Clock + Sync>(
     );
 }
 
-// How many records were answered before each node begins again, if each of them is read back after that.
+// How many records were answered before each node begins again, or while each does so over and over, if each of them is read back after that.
 fn kept<R: Threads + Wait + Clock + Sync>(
     rt: &R,
     alloc: Global,
     cell: &mut Cell,
     restarts: &AtomicU64,
+    rounds: u64,
 ) -> Option<usize> {
     let mut reader = cell.client().ok()?;
-    if !make_log(rt, alloc, &mut reader) {
-        return None;
+    let mut all = producers_of(rt, alloc, cell, &mut reader, 2)?;
+    if rounds == 1 {
+        produce_all(rt, alloc, all.as_mut_slice(), 10);
+        restart_in_turn(rt, cell, 0);
+    } else {
+        for round in 0..rounds {
+            produce_meanwhile(rt, alloc, cell, all.as_mut_slice(), round.wrapping_mul(3));
+        }
     }
-    let mut all = new_producers(rt, alloc, cell, 2)?;
-    produce_all(rt, alloc, all.as_mut_slice(), 10);
-    restart_in_turn(rt, cell, 0);
-    wait_for(rt, restarts, 3);
-    count_kept(rt, alloc, &mut reader, all.as_slice())
-}
-
-// How many records were answered while each node began again, over and over, if each of them is read back after that.
-fn kept_meanwhile<R: Threads + Wait + Clock + Sync>(
-    rt: &R,
-    alloc: Global,
-    cell: &mut Cell,
-    restarts: &AtomicU64,
-) -> Option<usize> {
-    let mut reader = cell.client().ok()?;
-    if !make_log(rt, alloc, &mut reader) {
-        return None;
-    }
-    let mut all = new_producers(rt, alloc, cell, 2)?;
-    for round in 0..ROUNDS {
-        produce_meanwhile(rt, alloc, cell, all.as_mut_slice(), round.wrapping_mul(3));
-    }
-    wait_for(rt, restarts, ROUNDS.wrapping_mul(3));
+    wait_for(rt, restarts, rounds.wrapping_mul(3));
     count_kept(rt, alloc, &mut reader, all.as_slice())
 }
 
@@ -152,9 +137,27 @@ fn have_begun_again(journal: &Journal, count: u64) -> bool {
     true
 }
 
+// The same on a cell of two servers; none where a node didn't begin again so often.
+fn kept_by<R: Threads + Wait + Clock + Copy + Send + Sync + 'static>(
+    rt: R,
+    alloc: Global,
+    config: Config,
+    rounds: u64,
+) -> Option<usize> {
+    let restarts = Arc::new(alloc, AtomicU64::new(0)).ok()?;
+    let gate = RestartGate {
+        restarts: Arc::try_clone(&restarts).ok()?,
+    };
+    let mut cell = Cell::start(rt, alloc, config, 2, gate).ok()?;
+    let count = kept(&rt, alloc, &mut cell, &restarts, rounds);
+    let journal = cell.close(&rt);
+    let have_begun = have_begun_again(&journal, rounds);
+    drop(journal);
+    if have_begun { count } else { None }
+}
+
 #[test]
-fn each_node_begins_again(rt: HostRuntime) -> Result<(), Fail> {
-    let alloc = rt.alloc();
+fn each_node_begins_again(rt: HostRuntime) {
     let config = Config {
         chunk: 64,
         block: 16,
@@ -163,21 +166,11 @@ fn each_node_begins_again(rt: HostRuntime) -> Result<(), Fail> {
         attempt_ms: 60_000,
         ..Config::default()
     };
-    let restarts = Arc::new(alloc, AtomicU64::new(0))?;
-    let gate = RestartGate {
-        restarts: Arc::try_clone(&restarts)?,
-    };
-    let mut cell = Cell::start(rt, alloc, config, 2, gate)?;
-    let count = kept(&rt, alloc, &mut cell, &restarts);
-    let journal = cell.close(&rt);
-    assert_eq!(rt; count, Some(20));
-    assert!(rt; have_begun_again(&journal, 1));
-    Ok(())
+    assert!(rt; kept_by(rt, rt.alloc(), config, 1) == Some(20));
 }
 
 #[test]
-fn nodes_begin_again_at_any_time(rt: HostRuntime) -> Result<(), Fail> {
-    let alloc = rt.alloc();
+fn nodes_begin_again_at_any_time(rt: HostRuntime) {
     let config = Config {
         chunk: 64,
         block: 16,
@@ -188,15 +181,6 @@ fn nodes_begin_again_at_any_time(rt: HostRuntime) -> Result<(), Fail> {
         lease_ms: 2_000,
         ..Config::default()
     };
-    let restarts = Arc::new(alloc, AtomicU64::new(0))?;
-    let gate = RestartGate {
-        restarts: Arc::try_clone(&restarts)?,
-    };
-    let mut cell = Cell::start(rt, alloc, config, 2, gate)?;
-    let count = kept_meanwhile(&rt, alloc, &mut cell, &restarts);
-    let journal = cell.close(&rt);
     // Most of the sixty are answered: in each round each node begins again once, and then no more.
-    assert!(rt; count > Some(30));
-    assert!(rt; have_begun_again(&journal, ROUNDS));
-    Ok(())
+    assert!(rt; kept_by(rt, rt.alloc(), config, ROUNDS) > Some(30));
 }

@@ -5,7 +5,7 @@ use gfs_types::answer::Answer;
 use gfs_types::refusal::Refusal;
 
 /// How many answers of each kind there were.
-#[derive(Clone, Copy, Debug, Default)]
+#[derive(Clone, Copy, Default)]
 pub struct Counts {
     /// Directories, files and writes that were done.
     pub done: u64,
