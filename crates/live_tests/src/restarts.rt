@@ -1,5 +1,6 @@
 //! Nodes that begin again.
 
+use crate::cells::{hasty, small, wait_for};
 use crate::producers::{Producer, count_kept, produce_all, producers_of};
 use cell_run::cell::Cell;
 use cell_seat::journal::Journal;
@@ -27,9 +28,6 @@ const ROUNDS: u64 = 10;
 /// How many records each producer appends in a round.
 const RECORDS: u64 = 3;
 
-/// For how many milliseconds nodes may take to begin again.
-const MOST_TURNS: u64 = 10_000;
-
 /// Counts how often nodes begin again.
 #[derive(Drop)]
 struct RestartGate {
@@ -56,16 +54,6 @@ fn is_restart(taking: &Taking) -> bool {
     match taking {
         Taking::Restarts => true,
         _ => false,
-    }
-}
-
-// Waits until nodes began again so often in all, but not for ever.
-fn wait_for<R: Clock>(rt: &R, restarts: &AtomicU64, count: u64) {
-    for _ in 0..MOST_TURNS {
-        if restarts.load(Ordering::SeqCst) >= count {
-            return;
-        }
-        thread::sleep(rt, Duration::from_millis(1));
     }
 }
 
@@ -158,28 +146,14 @@ fn kept_by<R: Threads + Wait + Clock + Copy + Send + Sync + 'static>(
 
 #[test]
 fn each_node_begins_again(rt: HostRuntime) {
-    let config = Config {
-        chunk: 64,
-        block: 16,
-        slots: 64,
-        goal: 2,
-        attempt_ms: 60_000,
-        ..Config::default()
-    };
-    assert!(rt; kept_by(rt, rt.alloc(), config, 1) == Some(20));
+    assert!(rt; kept_by(rt, rt.alloc(), small(2), 1) == Some(20));
 }
 
 #[test]
 fn nodes_begin_again_at_any_time(rt: HostRuntime) {
     let config = Config {
-        chunk: 64,
-        block: 16,
-        slots: 64,
-        goal: 2,
-        attempt_ms: 300,
-        skew_ms: 500,
         lease_ms: 2_000,
-        ..Config::default()
+        ..hasty(2)
     };
     // Most of the sixty are answered: in each round each node begins again once, and then no more.
     assert!(rt; kept_by(rt, rt.alloc(), config, ROUNDS) > Some(30));

@@ -135,22 +135,17 @@ const KINDS: [(ErrorKind, ScriptFault); 2] = [
     (ErrorKind::OutOfMemory, ScriptFault::NoMemory),
 ];
 
+// A writer fails at each byte in turn, and a flush after each line, before the next one is run.
 #[test]
-fn writers_fail_at_each_byte(rt: HostRuntime) {
+fn writers_fail(rt: HostRuntime) {
+    let alloc = rt.alloc();
     for (kind, fault) in KINDS {
         for room in 0..PRINTED.len() {
-            assert!(rt; writes_to(rt.alloc(), (room, 9, kind), Err(fault), room));
+            assert!(rt; writes_to(alloc, (room, 9, kind), Err(fault), room));
         }
-    }
-}
-
-// Each line is flushed before the next one is run.
-#[test]
-fn flushes_fail(rt: HostRuntime) {
-    for (kind, fault) in KINDS {
         for (flushes, end) in LINE_ENDS.iter().enumerate() {
-            assert!(rt; writes_to(rt.alloc(), (1_000, flushes, kind), Err(fault), *end));
+            assert!(rt; writes_to(alloc, (1_000, flushes, kind), Err(fault), *end));
         }
     }
-    assert!(rt; writes_to(rt.alloc(), (84, 5, ErrorKind::Other), Ok(()), 84));
+    assert!(rt; writes_to(alloc, (84, 5, ErrorKind::Other), Ok(()), 84));
 }

@@ -42,12 +42,6 @@ fn count_done(printed: &str) -> usize {
     printed.lines().filter(|line| *line == "c1 done").count()
 }
 
-#[test]
-fn no_cell_in_sixteen_bytes(rt: HostRuntime) {
-    let (printed, end) = outcome(rt.alloc(), 16, "c1 mkdir /a\n");
-    assert!(rt; printed.as_str() == "" && end == Err(ScriptFault::Start));
-}
-
 /// Whether some of 600 directories are refused, and a listing shows just the others.
 fn are_listed(alloc: Global, printed: &str) -> Result<bool, AllocError> {
     let names = made(alloc, printed, " d", "/")?;
@@ -75,24 +69,14 @@ fn gets_full(alloc: Global) -> Result<bool, AllocError> {
         && second.as_str().ends_with("c1 done\nc1 names 2 .gone/ a/\n"))
 }
 
-#[test]
-fn a_region_of_sixteen_kilobytes(rt: HostRuntime) {
-    assert!(rt; matches!(gets_full(rt.alloc()), Ok(true)));
-}
-
 /// Whether a master that begins again has the same names. Its log is replayed into the region, which the names of before fill.
 fn are_kept(alloc: Global) -> Result<bool, AllocError> {
-    let mkdirs = mkdirs(alloc, "/d", 600)?;
-    let script = format!(in alloc; "{mkdirs}c1 list /\n")?;
-    let restarted = format!(in alloc; "{mkdirs}restart master\nc1 list /\n")?;
+    let lines = mkdirs(alloc, "/d", 600)?;
+    let script = format!(in alloc; "{lines}c1 list /\n")?;
+    let restarted = format!(in alloc; "{lines}restart master\nc1 list /\n")?;
     let (first, _) = outcome(alloc, 16_384, script.as_str());
     let (second, end) = outcome(alloc, 16_384, restarted.as_str());
     Ok(end == Ok(()) && count_done(first.as_str()) > 100 && second.as_str() == first.as_str())
-}
-
-#[test]
-fn names_after_a_restart(rt: HostRuntime) {
-    assert!(rt; matches!(are_kept(rt.alloc()), Ok(true)));
 }
 
 /// Whether 204 directories with long names in common have room in a region of 131,072 bytes.
@@ -113,7 +97,17 @@ fn have_room(alloc: Global) -> Result<bool, AllocError> {
     Ok(end == Ok(()) && lines == 204 && count_done(printed.as_str()) == 204)
 }
 
+/// Whether there is no cell in sixteen bytes.
+fn is_refused(alloc: Global) -> bool {
+    let (printed, end) = outcome(alloc, 16, "c1 mkdir /a\n");
+    printed.as_str() == "" && end == Err(ScriptFault::Start)
+}
+
 #[test]
-fn long_names_that_are_shared(rt: HostRuntime) {
-    assert!(rt; matches!(have_room(rt.alloc()), Ok(true)));
+fn names_in_regions(rt: HostRuntime) {
+    let alloc = rt.alloc();
+    assert!(rt; is_refused(alloc));
+    assert!(rt; matches!(gets_full(alloc), Ok(true)));
+    assert!(rt; matches!(are_kept(alloc), Ok(true)));
+    assert!(rt; matches!(have_room(alloc), Ok(true)));
 }
