@@ -181,10 +181,10 @@ class StoreDisk(StoppedDisk):
         return BLOCKS if first == last or not apply(matches, block, state.disk(server)['replicas'].items[handle], first) else 2 * BLOCKS
 
     def reads_of(self, cell, server, change):
-        """What is read before a change is made. The blocks of a range are looked at, and then read."""
+        """What is read before a change is made: the first and the last block of a range."""
         if change[0] in ('Write', 'Zero'):
             size = len(change[4]) if change[0] == 'Write' else change[4]
-            return 2 * self.edges(cell, server, state.number(change[1]), change[3], change[3] + size)
+            return self.edges(cell, server, state.number(change[1]), change[3], change[3] + size)
         return self.reads(server, state.number(change[1])) if change[0] == 'Copy' else []
 
     # changes through the redo area

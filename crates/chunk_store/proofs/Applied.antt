@@ -1,5 +1,5 @@
 -- A mutation of a store.
-use Rattle.std.proofs.Common.{◌≡◌, ◌⊎◌, ℕ, ◌<◌, ◌≤◌, List, length, sym, ap, ◌∙◌, subst, arith, Some}
+use Rattle.std.proofs.Common.{◌≡◌, ◌⊎◌, ℕ, ◌+◌, ◌<◌, ◌≤◌, List, length, sym, ap, ◌∙◌, subst, arith, Some}
 use Rattle.std.specs.Prelude.{◌↔◌}
 use Rattle.std.specs.FinMap as map
 use Rattle.gfs_types.specs.declared.ids.Handle.{Handle}
@@ -9,7 +9,7 @@ use Rattle.gfs_types.specs.declared.mutation.Mutation.{Mutation}
 use Rattle.redo_area.specs.Redo.{IsAtRest, StandsOnly}
 use Rattle.replica_store.specs.declared.change.StoreChange.TheVariants.{Write}
 use Rattle.replica_store.specs.declared.row.Row.{Row}
-use Rattle.replica_store.specs.Replicas.{ServerDisk, disk_changed, replica_of, row_at, written_replica}
+use Rattle.replica_store.specs.Replicas.{ServerDisk, disk_changed, is_writable_at, replica_of, row_at, written_replica}
 use Rattle.slot_index.specs.Index.{IndexState}
 use Rattle.slot_index.specs.declared.held.HeldReplica.{HeldReplica}
 use Rattle.store_changes.specs.Areas.{area_of}
@@ -40,6 +40,11 @@ module _ {D : Type 0} (seen : D → List ℕ) (may_leave : D → List ℕ → Ty
     same d =
         ap (λ (p : ℕ). disk_changed d (Write h s p bytes)) at ∙ ap (λ (b : List ℕ). disk_changed d (Write h s (place_of m) b)) is_bytes
         ∙ change_same store.layout.chunk h s m d
+
+    -- the range is the mutation's
+    pub writable_same : (d : ServerDisk) → is_writable_at d h.0 place (place + length bytes) ≡ is_writable_at d h.0 (place_of m) (place_of m + length (bytes_of store.layout.chunk m))
+    writable_same d =
+        ap (λ (p : ℕ). is_writable_at d h.0 p (p + length bytes)) at ∙ ap (λ (b : List ℕ). is_writable_at d h.0 (place_of m) (place_of m + length b)) is_bytes
 
     -- the mutation was made
     pub applied_open : (d : ServerDisk) → IsOpen seen may_leave store d → length (seen disk) ≡ length (seen store.disk) → IsAtRest seen may_leave (area_of store.layout.chunk store.layout.block) disk

@@ -1,6 +1,7 @@
 //! Applying mutations.
 
-ghost use Rattle.std.specs.Prelude.{◌≡◌, ◌≢◌, ◌≤◌, ◌+◌, ◌↔◌, false, length, IfOk, OnOk, IsErrOf, None, Some};
+ghost use Rattle.std.specs.Prelude.{◌≡◌, ◌≢◌, ◌≤◌, ◌+◌, ◌↔◌, true, false, length, IfOk, OnOk, IsErrOf, None, Some};
+ghost use Rattle.gated_disk.specs.Moments.{OnlyReads};
 ghost use Rattle.replica_store.specs.declared.row.Row.{Row};
 ghost use Rattle.replica_store.specs.Replicas.{ServerDisk, disk_changed, is_writable_at, row_at};
 ghost use Rattle.store_writes.specs.Writing.{IsNoticedAt, LeavesWritten};
@@ -38,6 +39,12 @@ impl<D: Disk> Store<D> {
             → (IsErrOf result faults.OldSerial ↔ (row : Row) × (row_at d handle.0 ≡ Some row) × (row.version ≡ version) × (serial.0 ≤ row.serial.0)) }
         ensures corrupt { (d : ServerDisk) → IsOpen D.seen D.may_leave self.old d → IsErrOf result faults.Corrupt
             → is_writable_at d handle.0 (place_value mutation.now) (place_value mutation.now + length (bytes_value self.old.layout.chunk mutation.now)) ≡ false }
+        ensures writable { (d : ServerDisk) → IsOpen D.seen D.may_leave self.old d
+            → OnOk result (is_writable_at d handle.0 (place_value mutation.now) (place_value mutation.now + length (bytes_value self.old.layout.chunk mutation.now)) ≡ true) }
+        // A range that can't be written over is only looked at.
+        ensures untouched { (d : ServerDisk) → IsOpen D.seen D.may_leave self.old d
+            → is_writable_at d handle.0 (place_value mutation.now) (place_value mutation.now + length (bytes_value self.old.layout.chunk mutation.now)) ≡ false
+            → OnlyReads D.seen D.may_leave D.moment D.left_since self.old.disk self.new.disk }
         ensures no_room { IsErrOf result faults.NoRoom → ⊥ }
         ensures refused { (d : ServerDisk) → IsOpen D.seen D.may_leave self.old d → IsRefused result → IsOpen D.seen D.may_leave self.new d }
         ensures any_moment { LeavesWritten D.seen D.moment D.left_since self.old.layout.chunk self.old.layout.block self.old.layout.slots self.old.disk self.new.disk self.old.index handle.0 (change_of self.old.layout.chunk handle serial mutation.now) }

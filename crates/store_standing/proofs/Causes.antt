@@ -1,10 +1,11 @@
 -- What a fault is answered as, and its cause.
-use Rattle.std.proofs.Common.{◌≡◌, ℕ, refl, sym, ap, ◌∙◌, None, Some, Result, Ok, Err}
+use Rattle.std.proofs.Common.{◌≡◌, ◌⊎◌, inl, inr, ℕ, Bool, true, false, refl, sym, ap, ◌∙◌, None, Some, Result, Ok, Err}
 use Rattle.std.specs.Prelude.{◌↔◌, ◌≢◌, IsErrOf}
 use Rattle.disk.specs.Device.{HasCause as IsOfDisk}
 use Rattle.disk.specs.declared.device.DiskFault.{DiskFault}
 use Rattle.disk.specs.declared.device.DiskFault.TheVariants as disk
 use Rattle.gfs_types.specs.declared.ids.Version.{Version}
+use Rattle.replica_store.specs.declared.change.StoreChange.{StoreChange}
 use Rattle.replica_store.specs.declared.row.Row.{Row}
 use Rattle.replica_store.specs.Replicas.{ServerDisk, row_at}
 use Rattle.server_store.specs.declared.fault.StoreFault.{StoreFault}
@@ -14,6 +15,7 @@ use Rattle.store_changes.specs.declared.fault.StoreFault.{StoreFault as ChangeFa
 use Rattle.store_changes.specs.declared.fault.StoreFault.TheVariants as change
 use Rattle.stored_replicas.proofs.Looked.{no_row, one_row}
 use Rattle.store_standing.specs.Faults.{HasCause, of_change, of_disk}
+use Rattle.store_standing.specs.Standing.{writes}
 
 -- a disk's fault is no want of room
 pub disk_has_room : {T : Type 0} (f : DiskFault) (x : StoreFault) → x ≡ of_disk f → IsErrOf {T = T} (Err x) store.NoRoom → ⊥
@@ -61,6 +63,28 @@ only_room change.Corrupt x is e = absurd cc
 only_room change.NoRoom x is e = refl
 only_room change.Device x is e = absurd cc
 only_room change.NoMemory x is e = absurd cc
+
+-- a block that doesn't match is refused
+pub corrupt_refused : {T : Type 0} (r : Result T ChangeFault) → IsErrOf r change.Corrupt → IsRefused r
+corrupt_refused (Ok x) e = absurd cc
+corrupt_refused (Err f) e = let is : f ≡ change.Corrupt = cc in ap is_refusal is
+
+-- a change that failed writes over a range that can't be written over, or it doesn't
+abbrev IsUnfitOr : ChangeFault → StoreChange → Type 0
+IsUnfitOr f x = ((f ≡ change.Corrupt) × (writes x ≡ true)) ⊎ (f ≡ change.Corrupt → writes x ≡ false)
+
+corrupt_or : (x : StoreChange) (b : Bool) → writes x ≡ b → IsUnfitOr change.Corrupt x
+corrupt_or x true e = inl (refl, e)
+corrupt_or x false e = inr (λ same. e)
+
+pub unfit_or : (f : ChangeFault) (x : StoreChange) → ((f ≡ change.Corrupt) × (writes x ≡ true)) ⊎ (f ≡ change.Corrupt → writes x ≡ false)
+unfit_or change.NoChunk x = inr (λ e. absurd cc)
+unfit_or change.Version x = inr (λ e. absurd cc)
+unfit_or change.OldSerial x = inr (λ e. absurd cc)
+unfit_or change.Corrupt x = corrupt_or x (writes x) refl
+unfit_or change.NoRoom x = inr (λ e. absurd cc)
+unfit_or change.Device x = inr (λ e. absurd cc)
+unfit_or change.NoMemory x = inr (λ e. absurd cc)
 
 -- what is refused for want of a replica alone isn't refused for want of room
 pub rot_has_room : {T : Type 0} (r : Result T ChangeFault) → (IsRefused r → IsErrOf r change.NoChunk) → IsErrOf r change.NoRoom → ⊥

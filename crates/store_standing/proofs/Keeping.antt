@@ -11,7 +11,7 @@ use Rattle.known_replicas.specs.Known.{IsKnownOf, Rows, can_be_told, is_made}
 use Rattle.noticed_replicas.specs.Noticed.{AreNoticed, IsCareful}
 use Rattle.noticed_replicas.proofs.Changes.{changed_noticed}
 use Rattle.server_store.specs.Stores.{IsFound}
-use Rattle.store_standing.specs.Standing.{AllNoticed, IsKept, Leaves, LeavesMade, IsStandingTrue, StillSays, changes_of, closed, found_made, refused}
+use Rattle.store_standing.specs.Standing.{AllNoticed, IsKept, Leaves, LeavesCareful, LeavesMade, IsStandingTrue, StillSays, changes_of, closed, found_made, refused}
 use Rattle.store_standing.specs.declared.standing.Standing.{Standing}
 use Rattle.store_standing.specs.declared.standing.Standing.TheVariants.{Open, Unread, Changing}
 use Rattle.store_standing.proofs.Saying.{changed_block, open_leaves, open_noticed}
@@ -27,6 +27,15 @@ module _ {D : Type 0} (seen : D → List ℕ) (may_leave : D → List ℕ → Ty
       elim (leaves was.0 was.1) [
         | inl says ↦ inl (was.2 e says)
         | inr says ↦ inr (was.2 f says)
+      ]
+
+  still_careful : (disk : D) → Follows (StillSays store.layout.chunk store.layout.block store.layout.slots) (may_leave store.disk) (may_leave disk) → (change : StoreChange) → LeavesCareful may_leave store d change
+      → LeavesCareful may_leave (record store { disk = disk }) d change
+  still_careful disk stops change leaves c left =
+      let was = stops c left in
+      elim (leaves was.0 was.1) [
+        | inl says ↦ inl (was.2 d says)
+        | inr says ↦ inr (says.0, was.2 (disk_changed d change) says.1)
       ]
 
   -- in another standing
@@ -57,17 +66,11 @@ module _ {D : Type 0} (seen : D → List ℕ) (may_leave : D → List ℕ → Ty
   pub read_kept : (new : Store D) → new.layout ≡ store.layout → IsOpen seen may_leave new d → Kept Open → IsKept seen may_leave new order rows d Open
   read_kept new same is kept = in_layout Open Open new same kept is
 
-  -- a change wasn't begun
-  pub begun_kept : (standing : Standing) (new : Store D) → new.layout ≡ store.layout → (IsOpen seen may_leave store d → IsOpen seen may_leave new d) → ((standing ≡ Open → ⊥) → new ≡ store) → Kept standing → IsKept seen may_leave new order rows d standing
-  begun_kept Open new same still stays kept = in_layout Open Open new same kept (still kept.stands)
-  begun_kept (Unread change byte) new same still stays kept = subst (λ (s : Store D). IsKept seen may_leave s order rows d (Unread change byte)) (sym (stays (λ e. absurd cc))) kept
-  begun_kept (Changing change) new same still stays kept = subst (λ (s : Store D). IsKept seen may_leave s order rows d (Changing change)) (sym (stays (λ e. absurd cc))) kept
-
   -- a change failed on its way
-  pub changing_kept : (new : Store D) (change : StoreChange) → new.layout ≡ store.layout → Kept Open → can_be_told store.layout.chunk rows change ≡ true → IsCareful store.layout.chunk d change
-      → Leaves may_leave (record store { disk = new.disk }) d (disk_changed d change) → IsKept seen may_leave new order rows d (Changing change)
-  changing_kept new change same kept told careful leaves = in_layout Open (Changing change) new same kept
-      (subst (λ (l : Layout). (can_be_told l.chunk rows change ≡ true) × IsCareful l.chunk d change × Leaves may_leave (record { disk = new.disk; layout = l; order = new.order; index = new.index }) d (disk_changed d change)) (sym same) (told, careful, leaves))
+  pub changing_kept : (new : Store D) (change : StoreChange) → new.layout ≡ store.layout → Kept Open → can_be_told store.layout.chunk rows change ≡ true → LeavesCareful may_leave (record store { disk = new.disk }) d change
+      → IsKept seen may_leave new order rows d (Changing change)
+  changing_kept new change same kept told leaves = in_layout Open (Changing change) new same kept
+      (subst (λ (l : Layout). (can_be_told l.chunk rows change ≡ true) × LeavesCareful may_leave (record { disk = new.disk; layout = l; order = new.order; index = new.index }) d change) (sym same) (told, leaves))
 
   -- a change was made, or found made
   pub after_change : (new : Store D) (after : OrderNo) (found : Rows) (change : StoreChange) {standing : Standing} → new.layout ≡ store.layout → Kept standing → IsCareful store.layout.chunk d change → IsKnownOf after found (disk_changed d change)
@@ -102,7 +105,7 @@ module _ {D : Type 0} (seen : D → List ℕ) (may_leave : D → List ℕ → Ty
   reopened_kept (Unread change byte) disk other stops kept =
       in_layout (Unread change byte) (Unread change byte) (record store { disk = disk }) refl kept (kept.stands.0, kept.stands.1, kept.stands.2, still_leaves disk stops kept.stands.0 d kept.stands.3)
   reopened_kept (Changing change) disk other stops kept =
-      in_layout (Changing change) (Changing change) (record store { disk = disk }) refl kept (kept.stands.0, kept.stands.1, still_leaves disk stops d (disk_changed d change) kept.stands.2)
+      in_layout (Changing change) (Changing change) (record store { disk = disk }) refl kept (kept.stands.0, still_careful disk stops change kept.stands.1)
 
 -- what is under way in another standing
 pub refused_is : (standing : Standing) (change : StoreChange) → changes_of standing ≡ [] → changes_of (refused standing change) ≡ change ∷ []

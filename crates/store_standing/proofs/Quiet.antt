@@ -5,7 +5,7 @@ use Rattle.std.specs.Ordering.{nat_cmp}
 use Rattle.disk.specs.Device.{NoMore}
 use Rattle.gfs_types.specs.declared.ids.OrderNo.{OrderNo}
 use Rattle.redo_area.specs.Redo.{is_open}
-use Rattle.replica_store.specs.Replicas.{Replica, ServerDisk, disk_changed, new_server_disk, replica_of}
+use Rattle.replica_store.specs.Replicas.{Replica, ServerDisk, new_server_disk, replica_of}
 use Rattle.store_changes.specs.Areas.{area_of}
 use Rattle.store_changes.specs.Changing.{Says}
 use Rattle.store_layout.specs.declared.places.Layout.{Layout}
@@ -37,7 +37,7 @@ module _ {D : Type 0} (seen : D → List ℕ) (may_leave : D → List ℕ → Ty
   quiet_kept (Unread change byte) kept =
       in_layout seen may_leave store order rows d (Unread change byte) (Unread change byte) (record store { disk = disk }) refl kept (kept.stands.0, kept.stands.1, kept.stands.2, quiet_leaves kept.stands.0 d kept.stands.3)
   quiet_kept (Changing change) kept =
-      in_layout seen may_leave store order rows d (Changing change) (Changing change) (record store { disk = disk }) refl kept (kept.stands.0, kept.stands.1, quiet_leaves d (disk_changed d change) kept.stands.2)
+      in_layout seen may_leave store order rows d (Changing change) (Changing change) (record store { disk = disk }) refl kept (kept.stands.0, λ c left. kept.stands.1 c (less c left))
 
 no_replica_yet : (block handle : ℕ) (r : Replica) → replica_of (new_server_disk block) handle ≡ Some r → ⊥
 no_replica_yet block handle r there = let f : None ≡ Some r = sym (map.get-empty nat_cmp handle) ∙ there in absurd cc

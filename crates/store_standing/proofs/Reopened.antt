@@ -42,7 +42,7 @@ module _ {D : Type 0} (seen : D → List ℕ) (may_leave : D → List ℕ → Ty
       abbrev at_found : Store D
       at_found = record { disk = disk; layout = store.layout; order = found.order; index = found.index }
 
-      one : (x : ServerDisk) × IsOpen seen may_leave at_found x × IsOneOf d standing x
+      one : (x : ServerDisk) × IsOpen seen may_leave at_found x × IsOneOf store.layout.chunk d standing x
       one = found_one seen may_leave store order rows d disk found among rest large standing other kept
 
       pub opened : (x : ServerDisk) × IsOpen seen may_leave at_found x
@@ -65,12 +65,12 @@ module _ {D : Type 0} (seen : D → List ℕ) (may_leave : D → List ℕ → Ty
           pub settled : IsKept seen may_leave new last got (with_made d (found_made last got standing)) Open
           settled = by standing other kept one.2 its_open
             where
-              decided : (change : StoreChange) → IsKept seen may_leave store order rows d (Changing change) → IsOneOf d (Changing change) one.0 → IsOpen seen may_leave new one.0 → (b : Bool) → is_made last got change ≡ b
+              decided : (change : StoreChange) → IsKept seen may_leave store order rows d (Changing change) → IsOneOf store.layout.chunk d (Changing change) one.0 → IsOpen seen may_leave new one.0 → (b : Bool) → is_made last got change ≡ b
                   → IsKept seen may_leave new last got (with_made d (if b then Some change else None)) Open
               decided change its which opens true e = settled_with seen may_leave store order rows d new last got one.0 same its_known change its which opens e
               decided change its which opens false e = settled_without seen may_leave store order rows d new last got one.0 same its_known change its which opens e
 
-              by : (s : Standing) → (s ≡ Open → ⊥) → IsKept seen may_leave store order rows d s → IsOneOf d s one.0 → IsOpen seen may_leave new (rotten_by one.0 (rotting_in s)) → IsKept seen may_leave new last got (with_made d (found_made last got s)) Open
+              by : (s : Standing) → (s ≡ Open → ⊥) → IsKept seen may_leave store order rows d s → IsOneOf store.layout.chunk d s one.0 → IsOpen seen may_leave new (rotten_by one.0 (rotting_in s)) → IsKept seen may_leave new last got (with_made d (found_made last got s)) Open
               by Open not its which opens = absurd (not refl)
               by (Unread change byte) not its which opens = settled_unread seen may_leave store order rows d new last got one.0 same its_known change byte its which opens
               by (Changing change) not its which opens = decided change its which opens (is_made last got change) refl

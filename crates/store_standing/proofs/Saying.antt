@@ -1,6 +1,6 @@
 -- What a stop leaves says.
 use Rattle.std.proofs.Common.{◌≡◌, inl, inr, ℕ, ◌≤◌, ◌%◌, List, refl, sym, subst, Option, None, Some}
-use Rattle.std.specs.Prelude.{Err, Ok, OnErr, Result}
+use Rattle.std.specs.Prelude.{Err, Ok, OnErr, OnOk, Result}
 use Rattle.redo_area.specs.Redo.{StandsOnly, stands_for}
 use Rattle.replica_store.specs.Replicas.{Replica, ServerDisk, disk_changed, replica_becomes, replica_of}
 use Rattle.replica_store.specs.declared.change.StoreChange.{StoreChange}
@@ -16,6 +16,10 @@ use Rattle.store_standing.specs.Standing.{AllNoticed, IsSaid, Leaves}
 pub on_err : {T E P : Type 0} (r : Result T E) → P → OnErr r P
 on_err (Ok x) p = tt
 on_err (Err e) p = p
+
+pub on_ok : {T E P : Type 0} (r : Result T E) → P → OnOk r P
+on_ok (Ok x) p = p
+on_ok (Err e) p = tt
 
 becomes_block : (f : Replica → Replica) (d : ServerDisk) (h : ℕ) (o : Option Replica) → (replica_becomes f d h o).block ≡ d.block
 becomes_block f d h None = refl

@@ -16,7 +16,7 @@ use Rattle.known_replicas.specs.Known.{IsKnownOf, Rows, can_be_told, is_made}
 use Rattle.known_replicas.proofs.Rotten.{rotten_known}
 use Rattle.known_replicas.proofs.Told.{is_made_after, not_made}
 use Rattle.noticed_replicas.specs.Noticed.{AreNoticed, IsCareful}
-use Rattle.store_standing.specs.Standing.{IsFoundAmong, IsKept, IsRotWithin, IsSaid, Leaves, rotten_by, rotting_in}
+use Rattle.store_standing.specs.Standing.{IsFoundAmong, IsKept, IsRotWithin, IsSaid, Leaves, LeavesCareful, rotten_by, rotting_in}
 use Rattle.store_standing.specs.declared.standing.RottingByte.{RottingByte}
 use Rattle.store_standing.specs.declared.standing.Standing.{Standing}
 use Rattle.store_standing.specs.declared.standing.Standing.TheVariants.{Open, Unread, Changing}
@@ -24,10 +24,10 @@ use Rattle.store_standing.proofs.Keeping.{after_change, in_layout}
 use Rattle.store_standing.proofs.Rotten.{rots_once}
 
 -- what may be found of a disk that says d
-abbrev pub IsOneOf : ServerDisk → Standing → ServerDisk → Type 0
-IsOneOf d Open x = ⊥
-IsOneOf d (Unread change byte) x = rotten_by x byte ≡ d
-IsOneOf d (Changing change) x = (x ≡ d) ⊎ (x ≡ disk_changed d change)
+abbrev pub IsOneOf : ℕ → ServerDisk → Standing → ServerDisk → Type 0
+IsOneOf chunk d Open x = ⊥
+IsOneOf chunk d (Unread change byte) x = rotten_by x byte ≡ d
+IsOneOf chunk d (Changing change) x = (x ≡ d) ⊎ (IsCareful chunk d change × (x ≡ disk_changed d change))
 
 -- once rotten, it is so
 rotten_since : (byte : Option RottingByte) (e d : ServerDisk) → rotten_by e byte ≡ d → rotten_by d byte ≡ d
@@ -56,7 +56,7 @@ module _ {D : Type 0} (seen : D → List ℕ) (may_leave : D → List ℕ → Ty
     opens whole e says = let is = among.finds e says in record { says = is.says; order = is.order; large = large; whole = whole; rest = rest }
 
     -- the store is open with what was found
-    pub found_one : (standing : Standing) → (standing ≡ Open → ⊥) → IsKept seen may_leave store order rows d standing → (x : ServerDisk) × IsOpen seen may_leave (at_disk disk found.order found.index) x × IsOneOf d standing x
+    pub found_one : (standing : Standing) → (standing ≡ Open → ⊥) → IsKept seen may_leave store order rows d standing → (x : ServerDisk) × IsOpen seen may_leave (at_disk disk found.order found.index) x × IsOneOf store.layout.chunk d standing x
     found_one Open other kept = absurd (other refl)
     found_one (Unread change byte) other kept =
         let e = kept.stands.0 in
@@ -64,13 +64,13 @@ module _ {D : Type 0} (seen : D → List ℕ) (may_leave : D → List ℕ → Ty
           | inl says ↦ (e, opens kept.whole e says, kept.stands.2)
           | inr says ↦ (d, opens kept.whole d says, rotten_since byte e d kept.stands.2)
         ]
-    found_one (Changing change) other kept = elim (kept.stands.2 among.bytes among.left) [
+    found_one (Changing change) other kept = elim (kept.stands.1 among.bytes among.left) [
       | inl says ↦ (d, opens kept.whole d says, inl refl)
-      | inr says ↦ (disk_changed d change, opens kept.whole (disk_changed d change) says, inr refl)
+      | inr says ↦ (disk_changed d change, opens kept.whole (disk_changed d change) says.1, inr (says.0, refl))
     ]
 
   -- the byte that was to rot didn't
-  pub unrotten_kept : (standing : Standing) (new : Store D) (x : ServerDisk) → new.layout ≡ store.layout → IsOneOf d standing x → Leaves may_leave new x (rotten_by x (rotting_in standing)) → IsKept seen may_leave store order rows d standing
+  pub unrotten_kept : (standing : Standing) (new : Store D) (x : ServerDisk) → new.layout ≡ store.layout → IsOneOf store.layout.chunk d standing x → Leaves may_leave new x (rotten_by x (rotting_in standing)) → IsKept seen may_leave store order rows d standing
       → IsKept seen may_leave new order rows d standing
   unrotten_kept Open new x same one leaves kept = absurd one
   unrotten_kept (Unread change byte) new x same one leaves kept =
@@ -83,19 +83,20 @@ module _ {D : Type 0} (seen : D → List ℕ) (may_leave : D → List ℕ → Ty
   unrotten_kept (Changing change) new x same one leaves kept =
       in_layout seen may_leave store order rows d (Changing change) (Changing change) new same kept (
         subst (λ (l : Layout). can_be_told l.chunk rows change ≡ true) (sym same) kept.stands.0,
-        subst (λ (l : Layout). IsCareful l.chunk d change) (sym same) kept.stands.1,
         by one,
       )
     where
-      by : (x ≡ d) ⊎ (x ≡ disk_changed d change) → Leaves may_leave new d (disk_changed d change)
+      by : (x ≡ d) ⊎ (IsCareful store.layout.chunk d change × (x ≡ disk_changed d change)) → LeavesCareful may_leave new d change
       by (inl is) c left = elim (leaves c left) [
         | inl says ↦ inl (subst (IsSaid new.layout.chunk new.layout.block new.layout.slots c) is says)
         | inr says ↦ inl (subst (IsSaid new.layout.chunk new.layout.block new.layout.slots c) is says)
       ]
-      by (inr is) c left = elim (leaves c left) [
-        | inl says ↦ inr (subst (IsSaid new.layout.chunk new.layout.block new.layout.slots c) is says)
-        | inr says ↦ inr (subst (IsSaid new.layout.chunk new.layout.block new.layout.slots c) is says)
-      ]
+      by (inr is) c left =
+          let careful = subst (λ (l : Layout). IsCareful l.chunk d change) (sym same) is.0 in
+          elim (leaves c left) [
+            | inl says ↦ inr (careful, subst (IsSaid new.layout.chunk new.layout.block new.layout.slots c) is.1 says)
+            | inr says ↦ inr (careful, subst (IsSaid new.layout.chunk new.layout.block new.layout.slots c) is.1 says)
+          ]
 
   module _ (new : Store D) (last : OrderNo) (got : Rows) (x : ServerDisk) (same : new.layout ≡ store.layout) (known : IsKnownOf last got x) where
     open_as : (standing : Standing) (e : ServerDisk) → IsKept seen may_leave store order rows d standing → IsKnownOf last got d → IsOpen seen may_leave new d → IsKept seen may_leave new last got d Open
@@ -108,31 +109,33 @@ module _ {D : Type 0} (seen : D → List ℕ) (may_leave : D → List ℕ → Ty
     }
 
     -- nothing was under way that may have been made
-    pub settled_unread : (change : Option StoreChange) (byte : Option RottingByte) → IsKept seen may_leave store order rows d (Unread change byte) → IsOneOf d (Unread change byte) x
+    pub settled_unread : (change : Option StoreChange) (byte : Option RottingByte) → IsKept seen may_leave store order rows d (Unread change byte) → IsOneOf store.layout.chunk d (Unread change byte) x
         → IsOpen seen may_leave new (rotten_by x byte) → IsKept seen may_leave new last got d Open
     settled_unread change byte kept one now =
         open_as (Unread change byte) d kept (subst (λ (y : ServerDisk). IsKnownOf last got y) one (by_known last got x byte known)) (subst (λ (y : ServerDisk). IsOpen seen may_leave new y) one now)
 
-    module _ (change : StoreChange) (kept : IsKept seen may_leave store order rows d (Changing change)) (one : IsOneOf d (Changing change) x) (now : IsOpen seen may_leave new x) where
+    module _ (change : StoreChange) (kept : IsKept seen may_leave store order rows d (Changing change)) (one : IsOneOf store.layout.chunk d (Changing change) x) (now : IsOpen seen may_leave new x) where
+      -- the disk is as it was
+      unmade : x ≡ d → IsKept seen may_leave new last got d Open
+      unmade is = open_as (Changing change) d kept (subst (λ (y : ServerDisk). IsKnownOf last got y) is known) (subst (λ (y : ServerDisk). IsOpen seen may_leave new y) is now)
+
       -- the change that was under way wasn't made
       pub settled_without : is_made last got change ≡ false → IsKept seen may_leave new last got d Open
       settled_without none = by one
         where
-          by : (x ≡ d) ⊎ (x ≡ disk_changed d change) → IsKept seen may_leave new last got d Open
-          by (inl is) = open_as (Changing change) d kept (subst (λ (y : ServerDisk). IsKnownOf last got y) is known) (subst (λ (y : ServerDisk). IsOpen seen may_leave new y) is now)
+          by : (x ≡ d) ⊎ (IsCareful store.layout.chunk d change × (x ≡ disk_changed d change)) → IsKept seen may_leave new last got d Open
+          by (inl is) = unmade is
           by (inr is) =
-              let made = is_made_after chunk order last rows got d kept.known change kept.stands.0 (subst (λ (y : ServerDisk). IsKnownOf last got y) is known) in
+              let made = is_made_after chunk order last rows got d kept.known change kept.stands.0 (subst (λ (y : ServerDisk). IsKnownOf last got y) is.1 known) in
               let f : false ≡ true = sym none ∙ made in absurd cc
 
       -- it was made
       pub settled_with : is_made last got change ≡ true → IsKept seen may_leave new last got (disk_changed d change) Open
       settled_with made = by one
         where
-          is_it : x ≡ disk_changed d change → IsKept seen may_leave new last got (disk_changed d change) Open
-          is_it is =
-              let open' = subst (λ (y : ServerDisk). IsOpen seen may_leave new y) is now in
-              after_change seen may_leave store order rows d new last got change same kept kept.stands.1 (subst (λ (y : ServerDisk). IsKnownOf last got y) is known) open'
-
-          by : (x ≡ d) ⊎ (x ≡ disk_changed d change) → IsKept seen may_leave new last got (disk_changed d change) Open
-          by (inl is) = is_it (is ∙ not_made chunk order last rows got d kept.known (subst (λ (y : ServerDisk). IsKnownOf last got y) is known) change kept.stands.0 made)
-          by (inr is) = is_it is
+          by : (x ≡ d) ⊎ (IsCareful store.layout.chunk d change × (x ≡ disk_changed d change)) → IsKept seen may_leave new last got (disk_changed d change) Open
+          by (inl is) =
+              subst (λ (y : ServerDisk). IsKept seen may_leave new last got y Open)
+              (not_made chunk order last rows got d kept.known (subst (λ (y : ServerDisk). IsKnownOf last got y) is known) change kept.stands.0 made) (unmade is)
+          by (inr is) =
+              after_change seen may_leave store order rows d new last got change same kept is.0 (subst (λ (y : ServerDisk). IsKnownOf last got y) is.1 known) (subst (λ (y : ServerDisk). IsOpen seen may_leave new y) is.1 now)

@@ -1,5 +1,5 @@
 -- How a store stands to its disk.
-use Rattle.std.specs.Prelude.{◌≡◌, ◌⊎◌, ⊤, ℕ, ◌<◌, ◌≤◌, ◌/◌, ◌%◌, true, false, if◌then◌else◌, List, [], ◌∷◌, Option, None, Some}
+use Rattle.std.specs.Prelude.{◌≡◌, ◌⊎◌, ⊤, ℕ, ◌<◌, ◌≤◌, ◌/◌, ◌%◌, Bool, true, false, if◌then◌else◌, List, [], ◌∷◌, Option, None, Some}
 use Rattle.std.specs.Option.{option_to_list}
 use Rattle.gfs_types.specs.declared.ids.OrderNo.{OrderNo}
 use Rattle.sha2.specs.Sha256.{sha256}
@@ -7,6 +7,7 @@ use Rattle.redo_area.specs.Redo.{StandsOnly, stands_for}
 use Rattle.replica_blocks.specs.Blocks.{chunk_on_disk, written_over}
 use Rattle.replica_store.specs.Replicas.{Replica, ServerDisk, disk_changed, filled_to, replica_of}
 use Rattle.replica_store.specs.declared.change.StoreChange.{StoreChange}
+use Rattle.replica_store.specs.declared.change.StoreChange.TheVariants.{SetOrder, Put, Write, Zero, Raise, Copy, Remove}
 use Rattle.server_store.specs.Stores.{disk_rotten}
 use Rattle.store_changes.specs.Areas.{area_of}
 use Rattle.store_opening.specs.Opening.{IsFound}
@@ -47,11 +48,28 @@ IsSaid chunk block slots bytes d = IsStored chunk block slots (stands_for (area_
 abbrev pub StillSays : ℕ → ℕ → ℕ → List ℕ → List ℕ → Type 0
 StillSays chunk block slots old new = (d : ServerDisk) → IsSaid chunk block slots old d → IsSaid chunk block slots new d
 
+-- It writes over a range of a replica.
+abbrev pub writes : StoreChange → Bool
+writes (SetOrder order) = false
+writes (Put handle version serial bytes) = false
+writes (Write handle serial offset bytes) = true
+writes (Zero handle serial offset count) = true
+writes (Raise handle version) = false
+writes (Copy handle copy version) = false
+writes (Remove handle) = false
+
 -- a stop leaves a disk that says one of these
 abbrev pub Leaves : {D : Type 0} → (D → List ℕ → Type 0) → Store D → ServerDisk → ServerDisk → Type 0
 Leaves may_leave store d e =
     (c : List ℕ) → may_leave store.disk c
     → IsSaid store.layout.chunk store.layout.block store.layout.slots c d ⊎ IsSaid store.layout.chunk store.layout.block store.layout.slots c e
+
+-- A stop leaves a disk that says d, or that says it with the change made, which then is careful.
+abbrev pub LeavesCareful : {D : Type 0} → (D → List ℕ → Type 0) → Store D → ServerDisk → StoreChange → Type 0
+LeavesCareful may_leave store d change =
+    (c : List ℕ) → may_leave store.disk c
+    → IsSaid store.layout.chunk store.layout.block store.layout.slots c d
+    ⊎ (IsCareful store.layout.chunk d change × IsSaid store.layout.chunk store.layout.block store.layout.slots c (disk_changed d change))
 
 -- the byte that is to rot, where there is one
 abbrev pub rotting_in : Standing → Option RottingByte
@@ -96,8 +114,7 @@ with_made d (Some change) = disk_changed d change
 abbrev pub IsStandingTrue : {D : Type 0} → (D → List ℕ) → (D → List ℕ → Type 0) → Store D → Rows → ServerDisk → Standing → Type 0
 IsStandingTrue seen may_leave store rows d Open = IsOpen seen may_leave store d
 IsStandingTrue seen may_leave store rows d (Unread change byte) = (e : ServerDisk) × IsRotWithin store.layout.chunk byte × (rotten_by e byte ≡ d) × Leaves may_leave store e d
-IsStandingTrue seen may_leave store rows d (Changing change) =
-    (can_be_told store.layout.chunk rows change ≡ true) × IsCareful store.layout.chunk d change × Leaves may_leave store d (disk_changed d change)
+IsStandingTrue seen may_leave store rows d (Changing change) = (can_be_told store.layout.chunk rows change ≡ true) × LeavesCareful may_leave store d change
 
 -- What is kept in memory is of the disk.
 pub record IsKept {D : Type 0} (seen : D → List ℕ) (may_leave : D → List ℕ → Type 0) (store : Store D) (order : OrderNo) (rows : Rows) (d : ServerDisk) (standing : Standing) : Type 0 where

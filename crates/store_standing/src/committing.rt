@@ -1,10 +1,12 @@
 //! Changes that a server commits.
 
-ghost use Rattle.std.specs.Prelude.{◌≡◌, ◌⊎◌, true, [], ◌∷◌, IfErr, IfOk, OnOk};
+ghost use Rattle.std.specs.Prelude.{◌≡◌, ◌⊎◌, true, false, [], ◌∷◌, IfErr, IfOk, None, OnOk, Some};
 ghost use Rattle.replica_store.specs.Replicas.{ServerDisk, disk_changed, is_disk_full};
 ghost use Rattle.server_store.specs.declared.fault.StoreFault.TheVariants as faults;
-ghost use Rattle.store_standing.specs.Standing.{IsKept, IsUnfit, changes_of};
-ghost use Rattle.store_standing.specs.declared.standing.Standing.TheVariants.{Open};
+ghost use Rattle.store_changes.specs.declared.fault.StoreFault.TheVariants as making_faults;
+ghost use Rattle.store_standing.specs.Faults.{of_change};
+ghost use Rattle.store_standing.specs.Standing.{IsKept, IsUnfit, changes_of, writes};
+ghost use Rattle.store_standing.specs.declared.standing.Standing.TheVariants.{Open, Unread, Changing};
 
 use crate::faults::fault_of;
 use crate::making::{begins, make};
@@ -15,6 +17,34 @@ use known_replicas::known::Known;
 use replica_store::change::StoreChange;
 use server_store::fault::StoreFault;
 use std::alloc::Global;
+use store_changes::StoreFault as MakeFault;
+
+fn writes(change: &StoreChange) -> bool
+    ensures { result ≡ writes change.now }
+{
+    match change {
+        StoreChange::Write { .. } | StoreChange::Zero { .. } => true,
+        StoreChange::SetOrder(_)
+        | StoreChange::Put { .. }
+        | StoreChange::Raise { .. }
+        | StoreChange::Copy { .. }
+        | StoreChange::Remove(_) => false,
+    }
+}
+
+// Where a change failed: one over a range that can't be written over wasn't begun, each other one may be on its way.
+fn failed(fault: MakeFault, change: StoreChange) -> (StoreFault, Standing)
+    ensures unfit { fault ≡ making_faults.Corrupt → writes change ≡ true → result ≡ (faults.NoRoom, Unread (Some change) None) }
+    ensures begun { (fault ≡ making_faults.Corrupt → writes change ≡ false) → result ≡ (of_change fault, Changing change) }
+{
+    let MakeFault::Corrupt = fault else {
+        return (fault_of(fault), Standing::Changing(change));
+    };
+    if writes(&change) {
+        return (StoreFault::NoRoom, refused(Standing::Open, change));
+    }
+    (fault_of(fault), Standing::Changing(change))
+}
 
 /// Makes a change of the disk and of what is known of it, and hands it back. An error comes with the standing that has it under way: a
 /// change that was refused wasn't begun.
@@ -36,15 +66,15 @@ pub fn commit<D: Disk>(
     ensures no_room { (d : ServerDisk) → IsKept D.seen D.may_leave store.old known.old.order known.old.rows d standing
         → IfErr result (λ e. e.0 ≡ faults.NoRoom → IsUnfit store.old.layout.chunk known.old.rows d change ⊎ (is_disk_full store.old.layout.slots d ≡ true)) }
 {
-    match begins(alloc, store, known, &standing, &change) {
+    let chunk = store.layout.chunk;
+    match begins(chunk, known, &standing, &change) {
         Ok(()) => {}
         Err(fault) => return Err((fault, refused(standing, change))),
     }
     match make(alloc, store, known, &change) {
         Ok(()) => {}
-        Err(fault) => return Err((fault_of(fault), Standing::Changing(change))),
+        Err(fault) => return Err(failed(fault, change)),
     }
-    let chunk = store.layout.chunk;
     match known.make(chunk, &change) {
         Ok(()) => Ok(change),
         Err(_) => Err((StoreFault::NoMemory, Standing::Changing(change))),

@@ -1,19 +1,18 @@
 //! Changes of the store on the disk.
 
-ghost use Rattle.std.specs.Prelude.{◌≡◌, ◌≤◌, ◌+◌, nat_le, length, replicate, false, true, IfOk, IsErrOf, OnOk};
+ghost use Rattle.std.specs.Prelude.{◌≡◌, ◌≤◌, ◌+◌, length, replicate, false, true, IfOk, IsErrOf, OnOk};
+ghost use Rattle.gated_disk.specs.Moments.{OnlyReads};
 ghost use Rattle.replica_store.specs.Replicas.{ServerDisk, disk_changed, is_disk_full, is_writable_at};
 ghost use Rattle.replica_store.specs.declared.change.StoreChange.TheVariants.{Copy, Raise, Write, Zero};
-ghost use Rattle.known_replicas.specs.Known.{IsKnownOf, can_be_told};
+ghost use Rattle.known_replicas.specs.Known.{can_be_told};
 ghost use Rattle.server_store.specs.declared.fault.StoreFault.TheVariants as faults;
 ghost use Rattle.store_changes.specs.Faults.{MayFail};
 ghost use Rattle.store_changes.specs.declared.fault.StoreFault.TheVariants as making_faults;
 ghost use Rattle.noticed_replicas.specs.Noticed.{IsCareful};
 ghost use Rattle.chunk_store.specs.Stores.{IsOpen};
-ghost use Rattle.store_standing.specs.Faults.{HasCause};
-ghost use Rattle.store_standing.specs.Standing.{AllNoticed, IsUnfit, LeavesMade};
+ghost use Rattle.store_standing.specs.Standing.{AllNoticed, LeavesMade, writes};
 ghost use Rattle.store_standing.specs.declared.standing.Standing.TheVariants.{Open};
 
-use crate::looking::is_writable;
 use crate::standing::Standing;
 use bytes::Bytes;
 use chunk_store::Store;
@@ -26,91 +25,30 @@ use server_store::fault::StoreFault;
 use std::alloc::{AllocError, Global};
 use store_changes::StoreFault as MakeFault;
 
-/// A change is begun where the store is open and the change may be made. An error: nothing was begun.
-pub(crate) fn begins<D: Disk>(
-    alloc: Global,
-    store: &mut Store<D>,
+/// A change is begun where the store is open and the change can be told from its lack. An error: it wasn't begun.
+pub(crate) fn begins(
+    chunk: u32,
     known: &Known,
     standing: &Standing,
     change: &StoreChange,
 ) -> Result<(), StoreFault>
-    requires is_open { standing.now ≡ Open → (d : ServerDisk) × IsOpen D.seen D.may_leave store.old d }
     ensures open { OnOk result (standing.now ≡ Open) }
-    ensures told { OnOk result (can_be_told store.old.layout.chunk known.now.rows change.now ≡ true) }
-    ensures careful { (d : ServerDisk) → IsOpen D.seen D.may_leave store.old d → OnOk result (IsCareful store.old.layout.chunk d change.now) }
-    ensures still_open { (d : ServerDisk) → IsOpen D.seen D.may_leave store.old d → IsOpen D.seen D.may_leave store.new d }
-    ensures unchanged { store.new ≡ record store.old { disk = store.new.disk } }
-    ensures stays { (standing.now ≡ Open → ⊥) → store.new ≡ store.old }
-    ensures no_room { IsErrOf result faults.NoRoom → (standing.now ≡ Open) × ((d : ServerDisk) → IsOpen D.seen D.may_leave store.old d → IsUnfit store.old.layout.chunk known.now.rows d change.now) }
-    ensures cause { standing.now ≡ Open → HasCause (D.failed store.old.disk) (D.failed store.new.disk) result }
+    ensures told { OnOk result (can_be_told chunk known.now.rows change.now ≡ true) }
+    ensures no_room { IsErrOf result faults.NoRoom → (standing.now ≡ Open) × (can_be_told chunk known.now.rows change.now ≡ false) }
+    ensures closed { IsErrOf result faults.DiskFailed → standing.now ≡ Open → ⊥ }
+    ensures memory { IsErrOf result faults.NoMemory → ⊥ }
 {
     let Standing::Open = standing else {
         return Err(StoreFault::DiskFailed);
     };
-    if may_make(alloc, store, known, change)? {
+    if known.can_be_told(chunk, change) {
         Ok(())
     } else {
         Err(StoreFault::NoRoom)
     }
 }
 
-/// Whether a change can be told from its lack, and writes over no part of a block that doesn't match.
-fn may_make<D: Disk>(
-    alloc: Global,
-    store: &mut Store<D>,
-    known: &Known,
-    change: &StoreChange,
-) -> Result<bool, StoreFault>
-    requires is_open { (d : ServerDisk) × IsOpen D.seen D.may_leave store.old d }
-    ensures told { IfOk result (λ b. b ≡ true → can_be_told store.old.layout.chunk known.now.rows change.now ≡ true) }
-    ensures careful { (d : ServerDisk) → IsOpen D.seen D.may_leave store.old d → IfOk result (λ b. b ≡ true → IsCareful store.old.layout.chunk d change.now) }
-    ensures unfit { (d : ServerDisk) → IsOpen D.seen D.may_leave store.old d → IfOk result (λ b. b ≡ false → IsUnfit store.old.layout.chunk known.now.rows d change.now) }
-    ensures no_room { IsErrOf result faults.NoRoom → ⊥ }
-    ensures cause { HasCause (D.failed store.old.disk) (D.failed store.new.disk) result }
-    ensures still_open { (d : ServerDisk) → IsOpen D.seen D.may_leave store.old d → IsOpen D.seen D.may_leave store.new d }
-    ensures unchanged { store.new ≡ record store.old { disk = store.new.disk } }
-{
-    let chunk = store.layout.chunk;
-    if !known.can_be_told(chunk, change) {
-        return Ok(false);
-    }
-    match change {
-        StoreChange::Write {
-            handle,
-            offset,
-            bytes,
-            ..
-        } => is_range_writable(alloc, store, *handle, *offset, bytes.len() as u64),
-        StoreChange::Zero {
-            handle,
-            offset,
-            count,
-            ..
-        } => is_range_writable(alloc, store, *handle, *offset, *count),
-        _ => Ok(true),
-    }
-}
-
-fn is_range_writable<D: Disk>(
-    alloc: Global,
-    store: &mut Store<D>,
-    handle: Handle,
-    offset: u64,
-    count: u64,
-) -> Result<bool, StoreFault>
-    requires is_open { (d : ServerDisk) × IsOpen D.seen D.may_leave store.old d }
-    requires within { nat_le (offset + count) store.old.layout.chunk ≡ true }
-    ensures value { (d : ServerDisk) → IsOpen D.seen D.may_leave store.old d → IfOk result (λ b. b ≡ is_writable_at d handle.0 offset (offset + count)) }
-    ensures no_room { IsErrOf result faults.NoRoom → ⊥ }
-    ensures cause { HasCause (D.failed store.old.disk) (D.failed store.new.disk) result }
-    ensures still_open { (d : ServerDisk) → IsOpen D.seen D.may_leave store.old d → IsOpen D.seen D.may_leave store.new d }
-    ensures unchanged { store.new ≡ record store.old { disk = store.new.disk } }
-{
-    let _chunk = store.layout.chunk;
-    is_writable(alloc, store, handle, offset, offset + count)
-}
-
-/// Makes a change that may be made.
+/// Makes a change that can be told from its lack. A range of which a part of a block stays that doesn't match is only looked at.
 pub(crate) fn make<D: Disk>(
     alloc: Global,
     store: &mut Store<D>,
@@ -120,6 +58,11 @@ pub(crate) fn make<D: Disk>(
     requires is_open { (d : ServerDisk) × IsOpen D.seen D.may_leave store.old d }
     requires told { can_be_told store.old.layout.chunk known.now.rows change.now ≡ true }
     ensures ok { (d : ServerDisk) → IsOpen D.seen D.may_leave store.old d → AllNoticed d → OnOk result (IsOpen D.seen D.may_leave store.new (disk_changed d change.now)) }
+    ensures careful { (d : ServerDisk) → IsOpen D.seen D.may_leave store.old d → OnOk result (IsCareful store.old.layout.chunk d change.now) }
+    ensures unfit { (d : ServerDisk) → IsOpen D.seen D.may_leave store.old d → IsErrOf result making_faults.Corrupt → writes change.now ≡ true
+        → (IsCareful store.old.layout.chunk d change.now → ⊥) × IsOpen D.seen D.may_leave store.new d }
+    ensures untouched { (d : ServerDisk) → IsOpen D.seen D.may_leave store.old d → (IsCareful store.old.layout.chunk d change.now → ⊥)
+        → OnlyReads D.seen D.may_leave D.moment D.left_since store.old.disk store.new.disk }
     ensures any_moment { LeavesMade D.seen D.may_leave D.moment D.left_since store.old store.new change.now }
     ensures layout { store.new.layout ≡ store.old.layout }
     ensures no_room { (d : ServerDisk) → IsOpen D.seen D.may_leave store.old d → IsErrOf result making_faults.NoRoom → is_disk_full store.old.layout.slots d ≡ true }
@@ -168,6 +111,11 @@ fn write<D: Disk>(
     requires is_open { (d : ServerDisk) × IsOpen D.seen D.may_leave store.old d }
     requires within { offset + length bytes.now ≤ store.old.layout.chunk }
     ensures ok { (d : ServerDisk) → IsOpen D.seen D.may_leave store.old d → AllNoticed d → OnOk result (IsOpen D.seen D.may_leave store.new (disk_changed d (Write handle serial offset bytes.now))) }
+    ensures writable { (d : ServerDisk) → IsOpen D.seen D.may_leave store.old d → OnOk result (is_writable_at d handle.0 offset (offset + length bytes.now) ≡ true) }
+    ensures corrupt { (d : ServerDisk) → IsOpen D.seen D.may_leave store.old d → IsErrOf result making_faults.Corrupt
+        → (is_writable_at d handle.0 offset (offset + length bytes.now) ≡ false) × IsOpen D.seen D.may_leave store.new d }
+    ensures untouched { (d : ServerDisk) → IsOpen D.seen D.may_leave store.old d → is_writable_at d handle.0 offset (offset + length bytes.now) ≡ false
+        → OnlyReads D.seen D.may_leave D.moment D.left_since store.old.disk store.new.disk }
     ensures any_moment { LeavesMade D.seen D.may_leave D.moment D.left_since store.old store.new (Write handle serial offset bytes.now) }
     ensures layout { store.new.layout ≡ store.old.layout }
     ensures no_room { IsErrOf result making_faults.NoRoom → ⊥ }
@@ -193,6 +141,11 @@ fn zero<D: Disk>(
     requires is_open { (d : ServerDisk) × IsOpen D.seen D.may_leave store.old d }
     requires within { offset + count ≤ store.old.layout.chunk }
     ensures ok { (d : ServerDisk) → IsOpen D.seen D.may_leave store.old d → AllNoticed d → OnOk result (IsOpen D.seen D.may_leave store.new (disk_changed d (Zero handle serial offset count))) }
+    ensures writable { (d : ServerDisk) → IsOpen D.seen D.may_leave store.old d → OnOk result (is_writable_at d handle.0 offset (offset + count) ≡ true) }
+    ensures corrupt { (d : ServerDisk) → IsOpen D.seen D.may_leave store.old d → IsErrOf result making_faults.Corrupt
+        → (is_writable_at d handle.0 offset (offset + count) ≡ false) × IsOpen D.seen D.may_leave store.new d }
+    ensures untouched { (d : ServerDisk) → IsOpen D.seen D.may_leave store.old d → is_writable_at d handle.0 offset (offset + count) ≡ false
+        → OnlyReads D.seen D.may_leave D.moment D.left_since store.old.disk store.new.disk }
     ensures any_moment { LeavesMade D.seen D.may_leave D.moment D.left_since store.old store.new (Zero handle serial offset count) }
     ensures layout { store.new.layout ≡ store.old.layout }
     ensures no_room { IsErrOf result making_faults.NoRoom → ⊥ }

@@ -101,6 +101,9 @@ pub fn write<D: Disk>(
     ensures made { IfOk result (λ written. written ≡ true → (d : ServerDisk) → Says layout.chunk layout.block layout.slots index.old (D.seen disk.old) d → IsNoticedAt d handle.0
         → Says layout.chunk layout.block layout.slots index.new (D.seen disk.new) (disk_changed d (Write handle serial offset bytes.now))) }
     ensures unchanged { IfOk result (λ written. written ≡ false → (index.new ≡ index.old) × (D.seen disk.new ≡ D.seen disk.old)) }
+    // A range that can't be written over is only looked at.
+    ensures untouched { (d : ServerDisk) → Says layout.chunk layout.block layout.slots index.old (D.seen disk.old) d
+        → is_writable_at d handle.0 offset (offset + length bytes.now) ≡ false → OnlyReads D.seen D.may_leave D.moment D.left_since disk.old disk.new }
     ensures any_moment { LeavesWritten D.seen D.moment D.left_since layout.chunk layout.block layout.slots disk.old disk.new index.old handle.0 (Write handle serial offset bytes.now) }
     ensures size { length (D.seen disk.new) ≡ length (D.seen disk.old) }
     ensures cause { HasCause (D.failed disk.old) (D.failed disk.new) result }

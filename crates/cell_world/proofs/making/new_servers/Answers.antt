@@ -1,4 +1,4 @@
-use Rattle.std.proofs.Common.{rules, ◌≡◌, ◌+◌, [], ◌∷◌, ◌++◌, length, sym, ap, ◌∙◌, arith}
+use Rattle.std.proofs.Common.{rules, ◌≡◌, ◌+◌, [], ◌∷◌, ◌++◌, length, ap, ◌∙◌, arith}
 use Rattle.std.proofs.lemmas.List.Elements.{All-same}
 use Rattle.replica_store.specs.Replicas.{ServerDisk, new_server_disk}
 use Rattle.protocol.specs.Server.{ServerState, started_server}
@@ -9,7 +9,7 @@ pub loop-store-init : goal.loop-store-init
 loop-store-init g c = record {
   made = c.new-all.ensures.items;
   left = All-same (IsNewStore g.S.ReplicaStore.disk g.S.ReplicaStore.under_way c.args.config.block) _ c.args.stores.items c.into_iter-store-iterator.ensures.into_iter_gives.0 c.requires.stores;
-  count = ap length c.into_iter-store-iterator.ensures.into_iter_gives.0;
+  count = omega (arith, ap length c.into_iter-store-iterator.ensures.into_iter_gives.0);
 }
 
 pub new-requires-clause-nothing : goal.new-requires-clause-nothing

@@ -1,12 +1,16 @@
-use Rattle.std.proofs.Common.{ℕ, List, length, sym, ap, ◌∙◌, subst, arith}
+use Rattle.std.proofs.Common.{◌≡◌, ℕ, true, false, List, length, sym, ap, ◌∙◌, subst, arith}
 use Rattle.std.specs.Prelude.{OnOk}
+use Rattle.std.proofs.lemmas.Result.{on_ok_weaker}
 use Rattle.replica_store.specs.Replicas.{disk_changed}
 use Rattle.replica_store.specs.declared.change.StoreChange.{StoreChange}
 use Rattle.replica_store.specs.declared.change.StoreChange.TheVariants.{SetOrder, Put, Write, Zero, Raise, Copy, Remove}
 use Rattle.chunk_store.specs.Stores.{IsOpen}
 use Rattle.known_replicas.specs.Known.{can_be_told}
-use Rattle.store_standing.proofs.Careful.{le_of, put_within, write_within, zero_within}
+use Rattle.noticed_replicas.specs.Noticed.{IsCareful}
+use Rattle.store_standing.specs.Standing.{writes}
+use Rattle.store_standing.proofs.Careful.{le_of, put_within, write_careful, write_unwritable, write_within, zero_careful, zero_unwritable, zero_within}
 use Rattle.store_standing.proofs.Made.{change_made, made_as}
+use Rattle.store_standing.proofs.Saying.{on_ok}
 use Rattle.store_standing.proofs.making.make.Goals as goal
 
 pub returns-in-SetOrder-clause-ok : goal.returns-in-SetOrder-clause-ok
@@ -117,3 +121,126 @@ returns-in-Remove-clause-any_moment g c =
     let old = c.args.store.now in
     let new = c.drop_replica.new.self in
     made_as disk.seen disk.may_leave disk.moment disk.left_since old new (Remove it.handle) c.args.change.now it.is (change_made disk.seen disk.may_leave disk.moment disk.left_since old new (Remove it.handle) c.drop_replica.ensures.any_moment)
+
+pub returns-in-SetOrder-clause-careful : goal.returns-in-SetOrder-clause-careful
+returns-in-SetOrder-clause-careful g c d is =
+    let it = c.in-SetOrder in
+    let chunk = c.args.store.now.layout.chunk in
+    on_ok c.set_order.result (subst (IsCareful chunk d) (sym it.is) tt)
+
+pub returns-in-SetOrder-clause-unfit : goal.returns-in-SetOrder-clause-unfit
+returns-in-SetOrder-clause-unfit g c d is e over = let f : true ≡ false = sym over ∙ ap writes c.in-SetOrder.is in absurd cc
+
+pub returns-in-SetOrder-clause-untouched : goal.returns-in-SetOrder-clause-untouched
+returns-in-SetOrder-clause-untouched g c d is uncareful =
+    let it = c.in-SetOrder in
+    let chunk = c.args.store.now.layout.chunk in
+    absurd (uncareful (subst (IsCareful chunk d) (sym it.is) tt))
+
+pub returns-in-Put-clause-careful : goal.returns-in-Put-clause-careful
+returns-in-Put-clause-careful g c d is =
+    let it = c.in-Put in
+    let chunk = c.args.store.now.layout.chunk in
+    let told = ap (can_be_told chunk c.args.known.now.rows) (sym it.is) ∙ c.requires.told in
+    on_ok c.install.result (subst (IsCareful chunk d) (sym it.is) (put_within chunk c.args.known.now.rows it.handle it.version it.serial it.bytes told))
+
+pub returns-in-Put-clause-unfit : goal.returns-in-Put-clause-unfit
+returns-in-Put-clause-unfit g c d is e over = let f : true ≡ false = sym over ∙ ap writes c.in-Put.is in absurd cc
+
+pub returns-in-Put-clause-untouched : goal.returns-in-Put-clause-untouched
+returns-in-Put-clause-untouched g c d is uncareful =
+    let it = c.in-Put in
+    let chunk = c.args.store.now.layout.chunk in
+    let told = ap (can_be_told chunk c.args.known.now.rows) (sym it.is) ∙ c.requires.told in
+    absurd (uncareful (subst (IsCareful chunk d) (sym it.is) (put_within chunk c.args.known.now.rows it.handle it.version it.serial it.bytes told)))
+
+pub returns-in-Raise-clause-careful : goal.returns-in-Raise-clause-careful
+returns-in-Raise-clause-careful g c d is =
+    let it = c.in-Raise in
+    let chunk = c.args.store.now.layout.chunk in
+    on_ok c.raise.result (subst (IsCareful chunk d) (sym it.is) tt)
+
+pub returns-in-Raise-clause-unfit : goal.returns-in-Raise-clause-unfit
+returns-in-Raise-clause-unfit g c d is e over = let f : true ≡ false = sym over ∙ ap writes c.in-Raise.is in absurd cc
+
+pub returns-in-Raise-clause-untouched : goal.returns-in-Raise-clause-untouched
+returns-in-Raise-clause-untouched g c d is uncareful =
+    let it = c.in-Raise in
+    let chunk = c.args.store.now.layout.chunk in
+    absurd (uncareful (subst (IsCareful chunk d) (sym it.is) tt))
+
+pub returns-in-Copy-clause-careful : goal.returns-in-Copy-clause-careful
+returns-in-Copy-clause-careful g c d is =
+    let it = c.in-Copy in
+    let chunk = c.args.store.now.layout.chunk in
+    on_ok c.copy.result (subst (IsCareful chunk d) (sym it.is) tt)
+
+pub returns-in-Copy-clause-unfit : goal.returns-in-Copy-clause-unfit
+returns-in-Copy-clause-unfit g c d is e over = let f : true ≡ false = sym over ∙ ap writes c.in-Copy.is in absurd cc
+
+pub returns-in-Copy-clause-untouched : goal.returns-in-Copy-clause-untouched
+returns-in-Copy-clause-untouched g c d is uncareful =
+    let it = c.in-Copy in
+    let chunk = c.args.store.now.layout.chunk in
+    absurd (uncareful (subst (IsCareful chunk d) (sym it.is) tt))
+
+pub returns-in-Remove-clause-careful : goal.returns-in-Remove-clause-careful
+returns-in-Remove-clause-careful g c d is =
+    let it = c.in-Remove in
+    let chunk = c.args.store.now.layout.chunk in
+    on_ok c.drop_replica.result (subst (IsCareful chunk d) (sym it.is) tt)
+
+pub returns-in-Remove-clause-unfit : goal.returns-in-Remove-clause-unfit
+returns-in-Remove-clause-unfit g c d is e over = let f : true ≡ false = sym over ∙ ap writes c.in-Remove.is in absurd cc
+
+pub returns-in-Remove-clause-untouched : goal.returns-in-Remove-clause-untouched
+returns-in-Remove-clause-untouched g c d is uncareful =
+    let it = c.in-Remove in
+    let chunk = c.args.store.now.layout.chunk in
+    absurd (uncareful (subst (IsCareful chunk d) (sym it.is) tt))
+
+pub returns-in-Write-clause-careful : goal.returns-in-Write-clause-careful
+returns-in-Write-clause-careful g c d is =
+    let it = c.in-Write in
+    let chunk = c.args.store.now.layout.chunk in
+    let rows = c.args.known.now.rows in
+    let told = ap (can_be_told chunk rows) (sym it.is) ∙ c.requires.told in
+    on_ok_weaker c.write.result (λ writable. subst (IsCareful chunk d) (sym it.is) (write_careful chunk rows d it.handle it.serial it.offset it.bytes told writable)) (c.write.ensures.writable d is)
+
+pub returns-in-Write-clause-unfit : goal.returns-in-Write-clause-unfit
+returns-in-Write-clause-unfit g c d is e over =
+    let it = c.in-Write in
+    let chunk = c.args.store.now.layout.chunk in
+    let both = c.write.ensures.corrupt d is e in
+    (λ careful. (let kept = subst (IsCareful chunk d) it.is careful in let f : true ≡ false = sym kept.1 ∙ both.0 in cc), both.1)
+
+pub returns-in-Write-clause-untouched : goal.returns-in-Write-clause-untouched
+returns-in-Write-clause-untouched g c d is uncareful =
+    let it = c.in-Write in
+    let chunk = c.args.store.now.layout.chunk in
+    let rows = c.args.known.now.rows in
+    let told = ap (can_be_told chunk rows) (sym it.is) ∙ c.requires.told in
+    c.write.ensures.untouched d is (write_unwritable chunk rows d it.handle it.serial it.offset it.bytes told (λ careful. uncareful (subst (IsCareful chunk d) (sym it.is) careful)))
+
+pub returns-in-Zero-clause-careful : goal.returns-in-Zero-clause-careful
+returns-in-Zero-clause-careful g c d is =
+    let it = c.in-Zero in
+    let chunk = c.args.store.now.layout.chunk in
+    let rows = c.args.known.now.rows in
+    let told = ap (can_be_told chunk rows) (sym it.is) ∙ c.requires.told in
+    on_ok_weaker c.zero.result (λ writable. subst (IsCareful chunk d) (sym it.is) (zero_careful chunk rows d it.handle it.serial it.offset it.count told writable)) (c.zero.ensures.writable d is)
+
+pub returns-in-Zero-clause-unfit : goal.returns-in-Zero-clause-unfit
+returns-in-Zero-clause-unfit g c d is e over =
+    let it = c.in-Zero in
+    let chunk = c.args.store.now.layout.chunk in
+    let both = c.zero.ensures.corrupt d is e in
+    (λ careful. (let kept = subst (IsCareful chunk d) it.is careful in let f : true ≡ false = sym kept.1 ∙ both.0 in cc), both.1)
+
+pub returns-in-Zero-clause-untouched : goal.returns-in-Zero-clause-untouched
+returns-in-Zero-clause-untouched g c d is uncareful =
+    let it = c.in-Zero in
+    let chunk = c.args.store.now.layout.chunk in
+    let rows = c.args.known.now.rows in
+    let told = ap (can_be_told chunk rows) (sym it.is) ∙ c.requires.told in
+    c.zero.ensures.untouched d is (zero_unwritable chunk rows d it.handle it.serial it.offset it.count told (λ careful. uncareful (subst (IsCareful chunk d) (sym it.is) careful)))

@@ -1,4 +1,4 @@
-use Rattle.std.proofs.Common.{◌≡◌, ℕ, ◌+◌, ◌≤◌, List, length, max, sym, ap, ◌∙◌, subst, arith, Some, None}
+use Rattle.std.proofs.Common.{◌≡◌, ℕ, ◌+◌, ◌≤◌, true, false, List, length, max, sym, ap, ◌∙◌, subst, arith, Some, None}
 use Rattle.std.specs.FinMap as map
 use Rattle.std.specs.Option.{option_map}
 use Rattle.redo_area.specs.Redo.{FitsArea}
@@ -7,7 +7,7 @@ use Rattle.slot_index.specs.Index.{IndexState}
 use Rattle.store_changes.specs.Areas.{area_of}
 use Rattle.store_changes.specs.Changing.{Says}
 use Rattle.replica_store.specs.declared.row.Row.{Row}
-use Rattle.replica_store.specs.Replicas.{Replica, disk_changed}
+use Rattle.replica_store.specs.Replicas.{Replica, disk_changed, is_writable_at}
 use Rattle.redo_area.specs.declared.range.RedoRange.{RedoRange}
 use Rattle.store_header.specs.Fields.{FitsHeader}
 use Rattle.stored_replicas.specs.Stored.{Holds, header_of}
@@ -185,3 +185,47 @@ returns-clause-made g c is_yes d says noticed =
     let index_is = c.in_ok-update.ensures.ok ∙ ap (λ (row : Row). record index { held = map.insert index.held h (record found { row = row }) }) row_is in
     subst (λ (x : IndexState). Says l.chunk l.block l.slots x (disk.seen c.change.new.disk) (disk_changed d (Write c.args.handle c.args.serial offset content))) (sym index_is)
     (written_so disk.seen disk.may_leave disk.moment disk.left_since l.chunk l.block l.slots index h (Write c.args.handle c.args.serial offset content) c.args.disk.now c.checked_ranges.new.disk c.change.new.disk items index_now c.checked_ranges.ensures.reads law d c.in_ok-change.ensures.made says noticed)
+
+pub returns-in_err-change-clause-untouched : goal.returns-in_err-change-clause-untouched
+returns-in_err-change-clause-untouched g c d says none =
+    let disk = g.D.Disk in
+    let l = c.args.layout in
+    let seen = disk.seen c.args.disk.now in
+    let index = c.args.index.now in
+    let h = c.args.handle.0 in
+    let found = c.args.found in
+    let serial = c.args.serial.0 in
+    let offset = c.args.offset in
+    let content = c.args.bytes.now in
+    let now : Row = written_row found.row serial offset content in
+    let row_is : c.row_after-row.result ≡ now = c.row_after-row.ensures ∙ ap (λ (n : ℕ). record { version = found.row.version; serial = c.args.serial; count = max found.row.count (offset + n) }) c.len-count.ensures.value in
+    let items : List RedoRange = c.deref.result.now in
+    let planned : (q : ℕ) (r : Replica) → Holds l.chunk l.block seen found.slot q r → Some items ≡ checked_ranges l.chunk l.block r found.slot h now offset content =
+    λ q r holds. ap (λ (rs : List RedoRange). Some rs) c.deref.ensures.value ∙ sym (ap (option_map (λ v. v.items)) c.in-Some.is) ∙ c.in_ok-ranges.ensures.ranges q r holds
+    ∙ ap (λ (row : Row). checked_ranges l.chunk l.block r found.slot h row offset content) row_is in
+    let positive : 1 ≤ l.block = omega (arith, l.block_range) in
+    let is : true ≡ is_writable_at d h offset (offset + length content) =
+    is_written l.chunk l.block l.slots index seen c.requires.size c.requires.rest.closed h found c.requires.found serial offset content items planned d says in
+    let f : true ≡ false = is ∙ none in absurd cc
+
+pub returns-clause-untouched : goal.returns-clause-untouched
+returns-clause-untouched g c d says none =
+    let disk = g.D.Disk in
+    let l = c.args.layout in
+    let seen = disk.seen c.args.disk.now in
+    let index = c.args.index.now in
+    let h = c.args.handle.0 in
+    let found = c.args.found in
+    let serial = c.args.serial.0 in
+    let offset = c.args.offset in
+    let content = c.args.bytes.now in
+    let now : Row = written_row found.row serial offset content in
+    let row_is : c.row_after-row.result ≡ now = c.row_after-row.ensures ∙ ap (λ (n : ℕ). record { version = found.row.version; serial = c.args.serial; count = max found.row.count (offset + n) }) c.len-count.ensures.value in
+    let items : List RedoRange = c.deref.result.now in
+    let planned : (q : ℕ) (r : Replica) → Holds l.chunk l.block seen found.slot q r → Some items ≡ checked_ranges l.chunk l.block r found.slot h now offset content =
+    λ q r holds. ap (λ (rs : List RedoRange). Some rs) c.deref.ensures.value ∙ sym (ap (option_map (λ v. v.items)) c.in-Some.is) ∙ c.in_ok-ranges.ensures.ranges q r holds
+    ∙ ap (λ (row : Row). checked_ranges l.chunk l.block r found.slot h row offset content) row_is in
+    let positive : 1 ≤ l.block = omega (arith, l.block_range) in
+    let is : true ≡ is_writable_at d h offset (offset + length content) =
+    is_written l.chunk l.block l.slots index seen c.requires.size c.requires.rest.closed h found c.requires.found serial offset content items planned d says in
+    let f : true ≡ false = is ∙ none in absurd cc

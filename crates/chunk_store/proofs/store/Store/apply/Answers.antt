@@ -1,10 +1,10 @@
-use Rattle.std.proofs.Common.{ℕ, ◌+◌, List, length, refl, sym, ap, ◌∙◌, arith}
-use Rattle.replica_store.specs.Replicas.{is_writable_at}
+use Rattle.std.proofs.Common.{length, refl, sym, ap, ◌∙◌, arith}
+use Rattle.gated_disk.proofs.Moments.{reads_nothing}
 use Rattle.store_changes.specs.Faults.{fault_of}
-use Rattle.store_changes.specs.Mutations.{bytes_of, change_of}
+use Rattle.store_changes.specs.Mutations.{change_of}
 use Rattle.store_changes.specs.declared.fault.StoreFault.TheVariants as faults
 use Rattle.store_changes.proofs.Answered.{disk_never, handed_over, never, no_such, not_corrupt, not_full, not_old, not_refused}
-use Rattle.chunk_store.proofs.Applied.{applied_open, leaves_same, serial_there}
+use Rattle.chunk_store.proofs.Applied.{applied_open, leaves_same, serial_there, writable_same}
 use Rattle.chunk_store.proofs.StillOpen.{chunk_there, leaves_all, row_held, version_there}
 use Rattle.chunk_store.proofs.store.Store.apply.Goals as goal
 
@@ -125,10 +125,8 @@ returns-clause-any_moment g c =
 
 pub returns-clause-corrupt : goal.returns-clause-corrupt
 returns-clause-corrupt g c d is e =
-    let store = c.args.self.now in
-    ap (λ (p : ℕ). is_writable_at d c.args.handle.0 p (p + length (bytes_of store.layout.chunk c.args.mutation.now))) (sym c.place_of-place.ensures)
-    ∙ ap (λ (b : List ℕ). is_writable_at d c.args.handle.0 c.place_of-place.result (c.place_of-place.result + length b)) (sym c.in_ok-bytes.ensures)
-    ∙ sym (c.in_ok-written.ensures.writable d is.says) ∙ c.if-written.false
+    let disk = g.D.Disk in
+    sym (writable_same disk.seen disk.may_leave disk.moment disk.left_since c.args.self.now c.write.new.disk c.write.new.index c.args.handle c.args.serial c.args.mutation.now c.place_of-place.result c.in_ok-bytes.bytes c.place_of-place.ensures c.in_ok-bytes.ensures d) ∙ sym (c.in_ok-written.ensures.writable d is.says) ∙ c.if-written.false
 
 pub returns-in-Err-clause-no_room : goal.returns-in-Err-clause-no_room
 returns-in-Err-clause-no_room g c e = not_full c.in-Err.fault c.in-Err.ensures.no_other e
@@ -138,3 +136,41 @@ returns-in_err-bytes-clause-no_room g c e = never c.from_residual.result faults.
 
 pub returns-in_err-written-clause-no_room : goal.returns-in_err-written-clause-no_room
 returns-in_err-written-clause-no_room g c e = never c.from_residual-in_err-written.result (fault_of c.in_err-written.field-0.0) faults.NoRoom c.from_residual-in_err-written.ensures.1 (disk_never c.in_err-written.field-0.0) refl e
+
+pub returns-in-Err-clause-untouched : goal.returns-in-Err-clause-untouched
+returns-in-Err-clause-untouched g c d is none =
+    let disk = g.D.Disk in
+    reads_nothing disk.seen disk.may_leave disk.moment disk.left_since c.args.self.now.disk (g.met.D.Disk.only_now c.args.self.now.disk)
+
+pub returns-then-new-last-clause-untouched : goal.returns-then-new-last-clause-untouched
+returns-then-new-last-clause-untouched g c d is none =
+    let disk = g.D.Disk in
+    reads_nothing disk.seen disk.may_leave disk.moment disk.left_since c.args.self.now.disk (g.met.D.Disk.only_now c.args.self.now.disk)
+
+pub returns-in_err-bytes-clause-untouched : goal.returns-in_err-bytes-clause-untouched
+returns-in_err-bytes-clause-untouched g c d is none =
+    let disk = g.D.Disk in
+    reads_nothing disk.seen disk.may_leave disk.moment disk.left_since c.args.self.now.disk (g.met.D.Disk.only_now c.args.self.now.disk)
+
+pub returns-in_err-written-clause-untouched : goal.returns-in_err-written-clause-untouched
+returns-in_err-written-clause-untouched g c d is none =
+    let disk = g.D.Disk in
+    c.write.ensures.untouched d is.says
+    (writable_same disk.seen disk.may_leave disk.moment disk.left_since c.args.self.now c.write.new.disk c.write.new.index c.args.handle c.args.serial c.args.mutation.now c.place_of-place.result c.in_ok-bytes.bytes c.place_of-place.ensures c.in_ok-bytes.ensures d ∙ none)
+
+pub returns-then-written-clause-untouched : goal.returns-then-written-clause-untouched
+returns-then-written-clause-untouched g c d is none =
+    let disk = g.D.Disk in
+    c.write.ensures.untouched d is.says
+    (writable_same disk.seen disk.may_leave disk.moment disk.left_since c.args.self.now c.write.new.disk c.write.new.index c.args.handle c.args.serial c.args.mutation.now c.place_of-place.result c.in_ok-bytes.bytes c.place_of-place.ensures c.in_ok-bytes.ensures d ∙ none)
+
+pub returns-clause-untouched : goal.returns-clause-untouched
+returns-clause-untouched g c d is none =
+    let disk = g.D.Disk in
+    c.write.ensures.untouched d is.says
+    (writable_same disk.seen disk.may_leave disk.moment disk.left_since c.args.self.now c.write.new.disk c.write.new.index c.args.handle c.args.serial c.args.mutation.now c.place_of-place.result c.in_ok-bytes.bytes c.place_of-place.ensures c.in_ok-bytes.ensures d ∙ none)
+
+pub returns-then-written-clause-writable : goal.returns-then-written-clause-writable
+returns-then-written-clause-writable g c d is =
+    let disk = g.D.Disk in
+    sym (writable_same disk.seen disk.may_leave disk.moment disk.left_since c.args.self.now c.write.new.disk c.write.new.index c.args.handle c.args.serial c.args.mutation.now c.place_of-place.result c.in_ok-bytes.bytes c.place_of-place.ensures c.in_ok-bytes.ensures d) ∙ sym (c.in_ok-written.ensures.writable d is.says) ∙ c.if-written.true
