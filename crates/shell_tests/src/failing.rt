@@ -85,11 +85,7 @@ fn reads_to(
 fn readers_end_and_fail(rt: HostRuntime) {
     let rows: [(Option<ErrorKind>, Result<(), ScriptFault>, &str); 3] = [
         (None, Ok(()), "c1 done\nc1 names 2 .gone/ a/\n"),
-        (
-            Some(ErrorKind::Other),
-            Err(ScriptFault::Read),
-            "c1 done\n",
-        ),
+        (Some(ErrorKind::Other), Err(ScriptFault::Read), "c1 done\n"),
         (
             Some(ErrorKind::OutOfMemory),
             Err(ScriptFault::NoMemory),

@@ -82,13 +82,7 @@ fn agrees(alloc: Global, seed: u64, counts: &mut Counts) -> bool {
     let mut printed = Vec::new(alloc);
     let mut are_called = true;
     for _ in 0..source.line_count() {
-        are_called &= is_called(
-            &mut model,
-            &mut source,
-            &mut script,
-            &mut printed,
-            counts,
-        );
+        are_called &= is_called(&mut model, &mut source, &mut script, &mut printed, counts);
     }
     drop(model);
     are_called && does_print(alloc, size, script.as_slice(), printed.as_slice())
@@ -103,11 +97,7 @@ fn first_fault(alloc: Global, first: u64) -> Option<u64> {
             return Some(seed);
         }
     }
-    if counts.are_enough() {
-        None
-    } else {
-        Some(end)
-    }
+    if counts.are_enough() { None } else { Some(end) }
 }
 
 #[test]

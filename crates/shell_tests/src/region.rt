@@ -47,10 +47,12 @@ fn are_listed(alloc: Global, printed: &str) -> Result<bool, AllocError> {
     let names = made(alloc, printed, " d", "/")?;
     let count = count_done(printed).saturating_add(1);
     let list = format!(in alloc; "c1 names {count} .gone/{names}\n")?;
-    Ok(printed.starts_with("c1 done\n")
-        && printed.contains("c1 refused 13 NamesFull\n")
-        && printed.ends_with(list.as_str())
-        && printed.lines().count() == 601)
+    Ok(
+        printed.starts_with("c1 done\n")
+            && printed.contains("c1 refused 13 NamesFull\n")
+            && printed.ends_with(list.as_str())
+            && printed.lines().count() == 601,
+    )
 }
 
 /// Whether a region of sixteen kilobytes gets full, and has room again once the directories are gone.
@@ -62,11 +64,13 @@ fn gets_full(alloc: Global) -> Result<bool, AllocError> {
     script.push_str(rmdirs.as_str())?;
     script.push_str("c1 mkdir /a\nc1 list /\n")?;
     let (second, second_end) = outcome(alloc, 16_384, script.as_str());
-    Ok(are_listed(alloc, first.as_str())?
-        && first_end == Ok(())
-        && second_end == Ok(())
-        && second.as_str().starts_with(first.as_str())
-        && second.as_str().ends_with("c1 done\nc1 names 2 .gone/ a/\n"))
+    Ok(
+        are_listed(alloc, first.as_str())?
+            && first_end == Ok(())
+            && second_end == Ok(())
+            && second.as_str().starts_with(first.as_str())
+            && second.as_str().ends_with("c1 done\nc1 names 2 .gone/ a/\n"),
+    )
 }
 
 /// Whether a master that begins again has the same names. Its log is replayed into the region, which the names of before fill.

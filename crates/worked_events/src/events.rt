@@ -18,8 +18,6 @@ pub fn write_event(text: &mut Vec<u8>, event: &Event) -> io::Result<()> {
             place,
             byte,
         } => { write!(text, "{server:?} rots {handle:?} {place} {byte}; ") }
-        Event::Fuse { node, calls, torn } => {
-            write!(text, "{node:?} fuses {calls} {torn:?}; ")
-        }
+        Event::Fuse { node, calls, torn } => { write!(text, "{node:?} fuses {calls} {torn:?}; ") }
     }
 }
