@@ -1,7 +1,7 @@
 //! One server's read is held up until another's was answered.
 
 use crate::cells::{small, wait_for};
-use crate::producers::{Look, append, create, look, open};
+use crate::producers::{Found, append, create, look, open};
 use cell_run::cell::{Cell, ClientSeat};
 use cell_slot::gate::Gate;
 use gfs_types::ids::{Node, ServerId};
@@ -69,7 +69,7 @@ fn fill<R: Wait + Clock>(rt: &R, alloc: Global, seat: &mut ClientSeat, name: &st
 
 fn reads<R: Wait + Clock>(rt: &R, alloc: Global, seat: &mut ClientSeat, name: &str) -> bool {
     match open(rt, alloc, seat, name) {
-        Some(fd) => look(rt, seat, fd, 0, &RECORD) == Look::Same,
+        Some(fd) => look(rt, seat, fd, 0, &RECORD) == Found::Same,
         None => false,
     }
 }

@@ -26,7 +26,7 @@ pub struct Stored {
 
 /// What a read shows of a record.
 #[derive(Clone, Copy, PartialEq, Eq)]
-pub enum Look {
+pub enum Found {
     Same,
     Otherwise,
     /// No server could tell.
@@ -103,16 +103,16 @@ pub fn look<R: Wait + Clock>(
     fd: Fd,
     offset: u64,
     record: &[u8],
-) -> Look {
+) -> Found {
     match seat.read(rt, fd, offset, 8) {
         Ok((bytes, rounds)) => {
             let is_same = bytes.as_slice() == record;
             drop(rounds);
             drop(bytes);
-            if is_same { Look::Same } else { Look::Otherwise }
+            if is_same { Found::Same } else { Found::Otherwise }
         }
-        Err(Refusal::NoReplica | Refusal::Unknown) => Look::Nothing,
-        Err(_) => Look::Otherwise,
+        Err(Refusal::NoReplica | Refusal::Unknown) => Found::Nothing,
+        Err(_) => Found::Otherwise,
     }
 }
 
@@ -217,9 +217,9 @@ fn are_read_back<R: Wait + Clock>(
 fn is_read_back<R: Wait + Clock>(rt: &R, reader: &mut ClientSeat, fd: Fd, stored: Stored) -> bool {
     for _ in 0..MOST_LOOKS {
         match look(rt, reader, fd, stored.offset, &stored.number.to_be_bytes()) {
-            Look::Same => return true,
-            Look::Otherwise => return false,
-            Look::Nothing => thread::sleep(rt, Duration::from_millis(PAUSE_MS)),
+            Found::Same => return true,
+            Found::Otherwise => return false,
+            Found::Nothing => thread::sleep(rt, Duration::from_millis(PAUSE_MS)),
         }
     }
     false
