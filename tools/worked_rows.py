@@ -2,10 +2,13 @@
 import difflib
 import os
 
-from cell import GOES
+from cell import GOES, SETTINGS, check_settings
 from script import run_script
 
 ROOT = os.path.dirname(os.path.dirname(os.path.abspath(__file__)))
+# Of servers, and of clients.
+MAX_NODES = 64
+
 WORKED = os.path.join(ROOT, 'crates', 'worked_scripts', 'data')
 
 
@@ -13,11 +16,16 @@ def row_named(name):
     return os.path.join(WORKED, name + '.row')
 
 
-def read_row(path):
-    """A row's options, script and expected lines."""
+def rows_of(path):
+    """The row of a file, or the rows of one whose name ends in `.rows`."""
     with open(path, 'rb') as file:
         text = file.read()
-    script, expected = text.split(b'\n----\n')
+    return text.split(b'====\n') if path.endswith('.rows') else [text]
+
+
+def parts_of(row):
+    """A row's options, script and expected lines."""
+    script, expected = row.split(b'\n----\n')
     options = {}
     for line in script.split(b'\n'):
         if line.startswith(b'# --'):
@@ -75,12 +83,27 @@ def stops_of(script):
     return [None]
 
 
-def row_faults(path, program):
-    options, script, expected = read_row(path)
+def read_row(path):
+    return parts_of(rows_of(path)[0])
+
+
+def can_start(settings, servers, clients):
+    given = {'chunk': 64, 'block': 16, **settings}
+    return 1 <= servers <= MAX_NODES and 1 <= clients <= MAX_NODES and not check_settings({name: given.get(name, default) for name, _, _, default in SETTINGS})
+
+
+def faults_of(row, program):
+    options, script, expected = parts_of(row)
     servers = options.pop('servers', 3)
     clients = options.pop('clients', 2)
     faults = []
     for choose in stops_of(script):
-        printed, _ = run_script(script, options, servers, clients, choose, program)
+        printed = ['cannot start']
+        if can_start(options, servers, clients):
+            printed, _ = run_script(script, options, servers, clients, choose, program)
         faults += difflib.unified_diff(expected, printed, 'expected', 'printed', lineterm='', n=1)
     return faults
+
+
+def row_faults(path, program):
+    return [fault for row in rows_of(path) for fault in faults_of(row, program)]

@@ -1,4 +1,5 @@
-use crate::producers::{count_kept, make_log, new_producers, produce_all};
+use crate::cells::{hasty, small};
+use crate::producers::{count_kept, produce_all, producers_of};
 use cell_desk::post::Policy;
 use cell_run::cell::Cell;
 use cell_slot::gate::OpenGate;
@@ -8,16 +9,6 @@ use std::sync::Wait;
 use std::test::*;
 use std::thread::Threads;
 use std::time::Clock;
-
-fn small() -> Config {
-    Config {
-        chunk: 64,
-        block: 16,
-        slots: 64,
-        attempt_ms: 60_000,
-        ..Config::default()
-    }
-}
 
 // How many records were answered by so many producers with so many records each; none where two have one offset, one isn't read back, or
 // a call was refused for another reason than that nobody could serve.
@@ -29,10 +20,7 @@ fn produced<R: Threads + Wait + Clock + Sync>(
     (producers, records): (u64, u64),
 ) -> Option<usize> {
     let mut reader = cell.client().ok()?;
-    if !make_log(rt, alloc, &mut reader) {
-        return None;
-    }
-    let mut all = new_producers(rt, alloc, cell, producers)?;
+    let mut all = producers_of(rt, alloc, cell, &mut reader, producers)?;
     cell.net(policy);
     produce_all(rt, alloc, all.as_mut_slice(), records);
     cell.net(Policy::NONE);
@@ -42,30 +30,28 @@ fn produced<R: Threads + Wait + Clock + Sync>(
 #[test]
 fn four_producers(rt: HostRuntime) -> Result<(), Fail> {
     let alloc = rt.alloc();
-    let mut cell = Cell::start(rt, alloc, small(), 3, OpenGate)?;
+    let mut cell = Cell::start(rt, alloc, small(3), 3, OpenGate)?;
     let count = produced(&rt, alloc, &mut cell, Policy::NONE, (4, 100));
-    cell.close(&rt);
-    assert_eq!(rt; count, Some(400));
+    drop(cell.close(&rt));
+    assert!(rt; count == Some(400));
     Ok(())
 }
 
 #[test]
 fn losses_and_repeats(rt: HostRuntime) -> Result<(), Fail> {
     let alloc = rt.alloc();
-    let hasty = Config {
-        attempt_ms: 300,
-        skew_ms: 500,
+    let config = Config {
         attempts: 2,
-        ..small()
+        ..hasty(3)
     };
     let lossy = Policy {
         drop_every: 7,
         repeat_every: 5,
         hold_every: 0,
     };
-    let mut cell = Cell::start(rt, alloc, hasty, 3, OpenGate)?;
+    let mut cell = Cell::start(rt, alloc, config, 3, OpenGate)?;
     let count = produced(&rt, alloc, &mut cell, lossy, (2, 20));
-    cell.close(&rt);
+    drop(cell.close(&rt));
     assert!(rt; count.is_some());
     Ok(())
 }

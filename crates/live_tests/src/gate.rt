@@ -1,11 +1,10 @@
 //! One server's read is held up until another's was answered.
 
-use bytes::Bytes;
+use crate::cells::{small, wait_for};
+use crate::producers::{Found, append, create, look, open};
 use cell_run::cell::{Cell, ClientSeat};
 use cell_slot::gate::Gate;
-use gfs_types::config::Config;
-use gfs_types::ids::{Fd, Node, ServerId};
-use gfs_types::lists::Text;
+use gfs_types::ids::{Node, ServerId};
 use journal_pages::entry::Taking;
 use messages::event::Input;
 use messages::message::Body;
@@ -15,7 +14,7 @@ use std::sync::{Arc, Wait};
 use std::test::*;
 use std::thread;
 use std::thread::Threads;
-use std::time::{Clock, Duration};
+use std::time::Clock;
 
 /// Holds the reads of server 1 until `answered` is set, at most for so many milliseconds; then it sets it to 2 itself. Counts them.
 #[derive(Drop)]
@@ -24,8 +23,6 @@ struct ReadGate<R: Clock + Copy + Drop> {
     answered: Arc<AtomicU64>,
     held: Arc<AtomicU64>,
 }
-
-const MOST_TURNS: u64 = 10_000;
 
 const RECORD: [u8; 8] = *b"a record";
 
@@ -52,44 +49,28 @@ impl<R: Clock + Copy + Drop> Gate for ReadGate<R> {
             return;
         }
         self.held.fetch_add(1, Ordering::SeqCst);
-        wait_for(&self.clock, &self.answered);
+        wait_for(&self.clock, &self.answered, 1);
         if self.answered.load(Ordering::SeqCst) == 0 {
             self.answered.store(2, Ordering::SeqCst);
         }
     }
 }
 
-fn open<R: Wait + Clock>(rt: &R, alloc: Global, seat: &mut ClientSeat, name: &str) -> Option<Fd> {
-    let path = Text::from_str(name, alloc).ok()?;
-    seat.open(rt, path).ok()
-}
-
-// Makes a file with one record.
-fn fill<R: Wait + Clock>(rt: &R, alloc: Global, seat: &mut ClientSeat, name: &str) -> Option<u64> {
-    let path = Text::from_str(name, alloc).ok()?;
-    seat.create(rt, path).ok()?;
-    let fd = open(rt, alloc, seat, name)?;
-    let bytes = Bytes::copy_from_slice(alloc, &RECORD).ok()?;
-    seat.append(rt, fd, bytes).ok()
-}
-
-fn reads<R: Wait + Clock>(rt: &R, alloc: Global, seat: &mut ClientSeat, name: &str) -> bool {
-    let Some(fd) = open(rt, alloc, seat, name) else {
+// Makes a file with one record, and tells whether it did.
+fn fill<R: Wait + Clock>(rt: &R, alloc: Global, seat: &mut ClientSeat, name: &str) -> bool {
+    if !create(rt, alloc, seat, name) {
         return false;
-    };
-    match seat.read(rt, fd, 0, 8) {
-        Ok((bytes, _)) => bytes.as_slice() == RECORD.as_slice(),
-        Err(_) => false,
+    }
+    match open(rt, alloc, seat, name) {
+        Some(fd) => append(rt, alloc, seat, fd, &RECORD).is_ok(),
+        None => false,
     }
 }
 
-// Waits until it is no longer 0, but not for ever.
-fn wait_for<R: Clock>(rt: &R, flag: &AtomicU64) {
-    for _ in 0..MOST_TURNS {
-        if flag.load(Ordering::SeqCst) != 0 {
-            return;
-        }
-        thread::sleep(rt, Duration::from_millis(1));
+fn reads<R: Wait + Clock>(rt: &R, alloc: Global, seat: &mut ClientSeat, name: &str) -> bool {
+    match open(rt, alloc, seat, name) {
+        Some(fd) => look(rt, seat, fd, 0, &RECORD) == Found::Same,
+        None => false,
     }
 }
 
@@ -112,7 +93,7 @@ impl Reader {
         if place == 0 {
             self.has_read = reads(rt, alloc, &mut self.seat, "/a");
         } else {
-            wait_for(rt, held);
+            wait_for(rt, held, 1);
             let has_read = reads(rt, alloc, &mut self.seat, "/b");
             let before = answered.swap(1, Ordering::SeqCst);
             self.has_read = has_read && before == 0;
@@ -123,8 +104,11 @@ impl Reader {
 // Two readers, and a file on each server.
 fn new_readers<R: Wait + Clock>(rt: &R, alloc: Global, cell: &mut Cell) -> Option<Vec<Reader>> {
     let mut seat = cell.client().ok()?;
-    fill(rt, alloc, &mut seat, "/a")?;
-    fill(rt, alloc, &mut seat, "/b")?;
+    let are_full = fill(rt, alloc, &mut seat, "/a") && fill(rt, alloc, &mut seat, "/b");
+    drop(seat);
+    if !are_full {
+        return None;
+    }
     let mut all = Vec::new(alloc);
     for _ in 0..2 {
         let reader = Reader {
@@ -158,13 +142,6 @@ fn both_read<R: Threads + Wait + Clock + Sync>(
 #[test]
 fn one_server_is_held_and_another_answers(rt: HostRuntime) -> Result<(), Fail> {
     let alloc = rt.alloc();
-    let config = Config {
-        chunk: 64,
-        block: 16,
-        goal: 1,
-        attempt_ms: 60_000,
-        ..Config::default()
-    };
     let answered = Arc::new(alloc, AtomicU64::new(0))?;
     let held = Arc::new(alloc, AtomicU64::new(0))?;
     let gate = ReadGate {
@@ -172,10 +149,10 @@ fn one_server_is_held_and_another_answers(rt: HostRuntime) -> Result<(), Fail> {
         answered: Arc::try_clone(&answered)?,
         held: Arc::try_clone(&held)?,
     };
-    let mut cell = Cell::start(rt, alloc, config, 2, gate)?;
+    let mut cell = Cell::start(rt, alloc, small(1), 2, gate)?;
     let have_read = both_read(&rt, alloc, &mut cell, &held, &answered);
-    cell.close(&rt);
+    drop(cell.close(&rt));
     assert!(rt; have_read);
-    assert_eq!(rt; held.load(Ordering::SeqCst), 1);
+    assert!(rt; held.load(Ordering::SeqCst) == 1);
     Ok(())
 }

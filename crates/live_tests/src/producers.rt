@@ -24,6 +24,15 @@ pub struct Stored {
     pub offset: u64,
 }
 
+/// What a read shows of a record.
+#[derive(Clone, Copy, PartialEq, Eq)]
+pub enum Found {
+    Same,
+    Otherwise,
+    /// No server could tell.
+    Nothing,
+}
+
 /// A client with the number of its next record, those of its records that were answered, and whether another call of it was refused
 /// for another reason than that nobody could serve.
 #[derive(Drop)]
@@ -37,14 +46,16 @@ pub struct Producer {
 impl Producer {
     // Appends so many records. One that is not answered is left out.
     fn produce<R: Wait + Clock>(&mut self, rt: &R, alloc: Global, records: u64) {
-        let Some(fd) = open(rt, alloc, &mut self.seat) else {
+        let Some(fd) = open(rt, alloc, &mut self.seat, "/log") else {
             return;
         };
         for _ in 0..records {
             let number = self.next;
             self.next = number.wrapping_add(1);
-            match append(rt, alloc, &mut self.seat, fd, number) {
-                Ok(stored) => self.is_strange |= self.stored.push(stored).is_err(),
+            match append(rt, alloc, &mut self.seat, fd, &number.to_be_bytes()) {
+                Ok(offset) => {
+                    self.is_strange |= self.stored.push(Stored { number, offset }).is_err()
+                }
                 Err(Refusal::NoReplica | Refusal::Failed) => {}
                 Err(_) => self.is_strange = true,
             }
@@ -52,40 +63,61 @@ impl Producer {
     }
 }
 
-fn open<R: Wait + Clock>(rt: &R, alloc: Global, seat: &mut ClientSeat) -> Option<Fd> {
-    let path = Text::from_str("/log", alloc).ok()?;
-    seat.open(rt, path).ok()
-}
-
-fn append<R: Wait + Clock>(
+/// Opens a file.
+pub fn open<R: Wait + Clock>(
     rt: &R,
     alloc: Global,
     seat: &mut ClientSeat,
-    fd: Fd,
-    number: u64,
-) -> Result<Stored, Refusal> {
-    let Ok(bytes) = Bytes::copy_from_slice(alloc, &number.to_be_bytes()) else {
-        return Err(Refusal::NoMemory);
-    };
-    let offset = seat.append(rt, fd, bytes)?;
-    Ok(Stored { number, offset })
+    name: &str,
+) -> Option<Fd> {
+    let path = Text::from_str(name, alloc).ok()?;
+    seat.open(rt, path).ok()
 }
 
-/// Makes the file of which all here is about.
-pub fn make_log<R: Wait + Clock>(rt: &R, alloc: Global, seat: &mut ClientSeat) -> bool {
-    match Text::from_str("/log", alloc) {
+/// Makes a file, and tells whether it did.
+pub fn create<R: Wait + Clock>(rt: &R, alloc: Global, seat: &mut ClientSeat, name: &str) -> bool {
+    match Text::from_str(name, alloc) {
         Ok(path) => seat.create(rt, path).is_ok(),
         Err(_) => false,
     }
 }
 
-/// So many producers, with a thousand numbers of records for each.
-pub fn new_producers<R: Wait>(
+/// Appends a record.
+pub fn append<R: Wait + Clock>(
     rt: &R,
     alloc: Global,
-    cell: &mut Cell,
-    count: u64,
-) -> Option<Vec<Producer>> {
+    seat: &mut ClientSeat,
+    fd: Fd,
+    record: &[u8],
+) -> Result<u64, Refusal> {
+    match Bytes::copy_from_slice(alloc, record) {
+        Ok(bytes) => seat.append(rt, fd, bytes),
+        Err(_) => Err(Refusal::NoMemory),
+    }
+}
+
+/// Looks for a record of eight bytes.
+pub fn look<R: Wait + Clock>(
+    rt: &R,
+    seat: &mut ClientSeat,
+    fd: Fd,
+    offset: u64,
+    record: &[u8],
+) -> Found {
+    match seat.read(rt, fd, offset, 8) {
+        Ok((bytes, rounds)) => {
+            let is_same = bytes.as_slice() == record;
+            drop(rounds);
+            drop(bytes);
+            if is_same { Found::Same } else { Found::Otherwise }
+        }
+        Err(Refusal::NoReplica | Refusal::Unknown) => Found::Nothing,
+        Err(_) => Found::Otherwise,
+    }
+}
+
+/// So many producers, with a thousand numbers of records for each.
+fn new_producers(alloc: Global, cell: &mut Cell, count: u64) -> Option<Vec<Producer>> {
     let mut all = Vec::new(alloc);
     for number in 0..count {
         let producer = Producer {
@@ -97,6 +129,21 @@ pub fn new_producers<R: Wait>(
         all.push(producer).ok()?;
     }
     Some(all)
+}
+
+/// So many producers, with a file that all of them append to, which the reader makes.
+pub fn producers_of<R: Wait + Clock>(
+    rt: &R,
+    alloc: Global,
+    cell: &mut Cell,
+    reader: &mut ClientSeat,
+    count: u64,
+) -> Option<Vec<Producer>> {
+    if create(rt, alloc, reader, "/log") {
+        new_producers(alloc, cell, count)
+    } else {
+        None
+    }
 }
 
 /// All producers append at the same time, each on a thread of its own.
@@ -153,7 +200,7 @@ fn are_read_back<R: Wait + Clock>(
     reader: &mut ClientSeat,
     producers: &[Producer],
 ) -> bool {
-    let Some(fd) = open(rt, alloc, reader) else {
+    let Some(fd) = open(rt, alloc, reader, "/log") else {
         return false;
     };
     for producer in producers {
@@ -169,12 +216,10 @@ fn are_read_back<R: Wait + Clock>(
 // A master that began again knows of no replica until servers report, so that a read may be refused at first.
 fn is_read_back<R: Wait + Clock>(rt: &R, reader: &mut ClientSeat, fd: Fd, stored: Stored) -> bool {
     for _ in 0..MOST_LOOKS {
-        match reader.read(rt, fd, stored.offset, 8) {
-            Ok((bytes, _)) => return bytes.as_slice() == stored.number.to_be_bytes().as_slice(),
-            Err(Refusal::NoReplica | Refusal::Unknown) => {
-                thread::sleep(rt, Duration::from_millis(PAUSE_MS))
-            }
-            Err(_) => return false,
+        match look(rt, reader, fd, stored.offset, &stored.number.to_be_bytes()) {
+            Found::Same => return true,
+            Found::Otherwise => return false,
+            Found::Nothing => thread::sleep(rt, Duration::from_millis(PAUSE_MS)),
         }
     }
     false

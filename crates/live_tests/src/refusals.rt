@@ -1,5 +1,6 @@
 //! What a running cell itself refuses.
 
+use crate::cells::small;
 use cell_desk::post::Policy;
 use cell_run::cell::{Cell, ClientSeat};
 use cell_slot::gate::OpenGate;
@@ -13,34 +14,20 @@ use std::thread::{JoinHandle, Threads};
 use std::time::{Clock, Duration};
 use std::{io, thread};
 
-/// A clock that can't be read.
+/// A clock that is ahead by an hour, or can't be read.
 #[derive(Clone, Copy)]
-struct NoClock<R> {
+struct OddClock<R> {
     rt: R,
+    is_broken: bool,
 }
 
-impl<R: Wait> Wait for NoClock<R> {}
+impl<R: Wait> Wait for OddClock<R> {}
 
-impl<R> Clock for NoClock<R> {
+impl<R: Clock> Clock for OddClock<R> {
     fn monotonic(&self) -> io::Result<Duration> {
-        Err(io::Error::from(io::ErrorKind::Unsupported))
-    }
-
-    fn since_1970(&self) -> io::Result<Duration> {
-        Err(io::Error::from(io::ErrorKind::Unsupported))
-    }
-}
-
-/// A clock that is ahead by an hour.
-#[derive(Clone, Copy)]
-struct FastClock<R> {
-    rt: R,
-}
-
-impl<R: Wait> Wait for FastClock<R> {}
-
-impl<R: Clock> Clock for FastClock<R> {
-    fn monotonic(&self) -> io::Result<Duration> {
+        if self.is_broken {
+            return Err(io::Error::from(io::ErrorKind::Unsupported));
+        }
         Ok(
             self.rt
                 .monotonic()?
@@ -50,15 +37,6 @@ impl<R: Clock> Clock for FastClock<R> {
 
     fn since_1970(&self) -> io::Result<Duration> {
         self.rt.since_1970()
-    }
-}
-
-fn small() -> Config {
-    Config {
-        chunk: 64,
-        block: 16,
-        attempt_ms: 60_000,
-        ..Config::default()
     }
 }
 
@@ -93,77 +71,70 @@ fn a_full_journal_is_refused(rt: HostRuntime) -> Result<(), Fail> {
     let alloc = rt.alloc();
     let config = Config {
         journal: 16,
-        ..small()
+        ..small(3)
     };
     let mut cell = Cell::start(rt, alloc, config, 3, OpenGate)?;
     let full = full_calls(&rt, alloc, &mut cell);
     let journal = cell.close(&rt);
-    assert_eq!(rt; journal.len(), 16);
+    let count = journal.len();
+    drop(journal);
+    assert!(rt; count == 16);
     assert!(rt; full > Some(90));
     Ok(())
 }
 
-// Whether a call by a clock that can't be read is refused so, and so is each later one, whatever its clock.
-fn is_refused_for_its_clock<R: Wait + Clock + Copy>(
+// Whether a call by an odd clock is refused so, and each later one too, whatever its clock: of that client where the clock can't be read, and
+// of another where it is ahead of the master's.
+fn are_refused<R: Wait + Clock + Copy>(
     rt: &R,
     alloc: Global,
     cell: &mut Cell,
+    is_broken: bool,
 ) -> bool {
-    let Ok(mut seat) = cell.client() else {
-        return false;
-    };
-    let first = mkdir(&NoClock { rt: *rt }, alloc, &mut seat, "/d");
-    let later = mkdir(rt, alloc, &mut seat, "/d");
-    first == Err(Refusal::ClockBroken) && later == first
-}
-
-#[test]
-fn a_broken_clock_is_refused(rt: HostRuntime) -> Result<(), Fail> {
-    let alloc = rt.alloc();
-    let mut cell = Cell::start(rt, alloc, small(), 1, OpenGate)?;
-    let is_refused = is_refused_for_its_clock(&rt, alloc, &mut cell);
-    cell.close(&rt);
-    assert!(rt; is_refused);
-    Ok(())
-}
-
-// Whether a call by a clock that is ahead is refused once the master's is behind it, and each later call of another client too.
-fn are_refused_for_clocks<R: Wait + Clock + Copy>(rt: &R, alloc: Global, cell: &mut Cell) -> bool {
-    let Ok(mut fast) = cell.client() else {
+    let Ok(mut odd) = cell.client() else {
         return false;
     };
     let Ok(mut other) = cell.client() else {
         return false;
     };
+    let clock = OddClock { rt: *rt, is_broken };
     let before = mkdir(rt, alloc, &mut other, "/d");
-    let first = mkdir(&FastClock { rt: *rt }, alloc, &mut fast, "/e");
-    let later = mkdir(rt, alloc, &mut other, "/f");
+    let first = mkdir(&clock, alloc, &mut odd, "/e");
+    let later = if is_broken {
+        mkdir(rt, alloc, &mut odd, "/f")
+    } else {
+        mkdir(rt, alloc, &mut other, "/f")
+    };
     before == Ok(()) && first == Err(Refusal::ClockBroken) && later == first
 }
 
 #[test]
-fn clocks_that_are_apart_are_refused(rt: HostRuntime) -> Result<(), Fail> {
+fn odd_clocks_are_refused(rt: HostRuntime) -> Result<(), Fail> {
     let alloc = rt.alloc();
-    let mut cell = Cell::start(rt, alloc, small(), 1, OpenGate)?;
-    let are_refused = are_refused_for_clocks(&rt, alloc, &mut cell);
-    let journal = cell.close(&rt);
-    assert!(rt; are_refused);
-    assert!(rt; !journal.are_clocks_kept());
+    for is_broken in [true, false] {
+        let mut cell = Cell::start(rt, alloc, small(3), 1, OpenGate)?;
+        let is_well = are_refused(&rt, alloc, &mut cell, is_broken);
+        let journal = cell.close(&rt);
+        let are_kept = journal.are_clocks_kept();
+        drop(journal);
+        assert!(rt; is_well);
+        assert!(rt; is_broken || !are_kept);
+    }
     Ok(())
 }
 
 #[test]
 fn there_are_64_clients(rt: HostRuntime) -> Result<(), Fail> {
     let alloc = rt.alloc();
-    let mut cell = Cell::start(rt, alloc, small(), 1, OpenGate)?;
+    let mut cell = Cell::start(rt, alloc, small(3), 1, OpenGate)?;
     let mut made: u64 = 0;
     for _ in 0..66 {
         if cell.client().is_ok() {
             made = made.wrapping_add(1);
         }
     }
-    cell.close(&rt);
-    assert_eq!(rt; made, 64);
+    drop(cell.close(&rt));
+    assert!(rt; made == 64);
     Ok(())
 }
 
@@ -181,7 +152,7 @@ fn waiting_call<R: Threads + Wait + Clock + Copy + Send + 'static>(
 #[test]
 fn closing_ends_calls(rt: HostRuntime) -> Result<(), Fail> {
     let alloc = rt.alloc();
-    let mut cell = Cell::start(rt, alloc, small(), 3, OpenGate)?;
+    let mut cell = Cell::start(rt, alloc, small(3), 3, OpenGate)?;
     // All messages are lost, so a call comes back only when the cell closes.
     let lossy = Policy {
         drop_every: 1,
@@ -190,8 +161,11 @@ fn closing_ends_calls(rt: HostRuntime) -> Result<(), Fail> {
     cell.net(lossy);
     let waiting = waiting_call(rt, alloc, &mut cell);
     thread::sleep(&rt, Duration::from_millis(300));
-    cell.close(&rt);
-    let is_refused = waiting.map(|thread| thread.join(&rt));
-    assert_eq!(rt; is_refused, Some(true));
+    drop(cell.close(&rt));
+    let is_refused = match waiting {
+        Some(thread) => thread.join(&rt),
+        None => false,
+    };
+    assert!(rt; is_refused);
     Ok(())
 }

@@ -1,6 +1,7 @@
 //! Nodes that begin again.
 
-use crate::producers::{Producer, count_kept, make_log, new_producers, produce_all};
+use crate::cells::{hasty, small, wait_for};
+use crate::producers::{Producer, count_kept, produce_all, producers_of};
 use cell_run::cell::Cell;
 use cell_seat::journal::Journal;
 use cell_slot::gate::Gate;
@@ -26,9 +27,6 @@ const ROUNDS: u64 = 10;
 
 /// How many records each producer appends in a round.
 const RECORDS: u64 = 3;
-
-/// For how many milliseconds nodes may take to begin again.
-const MOST_TURNS: u64 = 10_000;
 
 /// Counts how often nodes begin again.
 #[derive(Drop)]
@@ -59,16 +57,6 @@ fn is_restart(taking: &Taking) -> bool {
     }
 }
 
-// Waits until nodes began again so often in all, but not for ever.
-fn wait_for<R: Clock>(rt: &R, restarts: &AtomicU64, count: u64) {
-    for _ in 0..MOST_TURNS {
-        if restarts.load(Ordering::SeqCst) >= count {
-            return;
-        }
-        thread::sleep(rt, Duration::from_millis(1));
-    }
-}
-
 // Each node is asked to begin again, each so many milliseconds after the one before it.
 fn restart_in_turn<R: Wait + Clock>(rt: &R, cell: &mut Cell, pause: u64) {
     for node in NODES {
@@ -92,40 +80,25 @@ fn produce_meanwhile<R: Threads + Wait + Clock + Sync>(
     );
 }
 
-// How many records were answered before each node begins again, if each of them is read back after that.
+// How many records were answered before each node begins again, or while each does so over and over, if each of them is read back after that.
 fn kept<R: Threads + Wait + Clock + Sync>(
     rt: &R,
     alloc: Global,
     cell: &mut Cell,
     restarts: &AtomicU64,
+    rounds: u64,
 ) -> Option<usize> {
     let mut reader = cell.client().ok()?;
-    if !make_log(rt, alloc, &mut reader) {
-        return None;
+    let mut all = producers_of(rt, alloc, cell, &mut reader, 2)?;
+    if rounds == 1 {
+        produce_all(rt, alloc, all.as_mut_slice(), 10);
+        restart_in_turn(rt, cell, 0);
+    } else {
+        for round in 0..rounds {
+            produce_meanwhile(rt, alloc, cell, all.as_mut_slice(), round.wrapping_mul(3));
+        }
     }
-    let mut all = new_producers(rt, alloc, cell, 2)?;
-    produce_all(rt, alloc, all.as_mut_slice(), 10);
-    restart_in_turn(rt, cell, 0);
-    wait_for(rt, restarts, 3);
-    count_kept(rt, alloc, &mut reader, all.as_slice())
-}
-
-// How many records were answered while each node began again, over and over, if each of them is read back after that.
-fn kept_meanwhile<R: Threads + Wait + Clock + Sync>(
-    rt: &R,
-    alloc: Global,
-    cell: &mut Cell,
-    restarts: &AtomicU64,
-) -> Option<usize> {
-    let mut reader = cell.client().ok()?;
-    if !make_log(rt, alloc, &mut reader) {
-        return None;
-    }
-    let mut all = new_producers(rt, alloc, cell, 2)?;
-    for round in 0..ROUNDS {
-        produce_meanwhile(rt, alloc, cell, all.as_mut_slice(), round.wrapping_mul(3));
-    }
-    wait_for(rt, restarts, ROUNDS.wrapping_mul(3));
+    wait_for(rt, restarts, rounds.wrapping_mul(3));
     count_kept(rt, alloc, &mut reader, all.as_slice())
 }
 
@@ -152,51 +125,36 @@ fn have_begun_again(journal: &Journal, count: u64) -> bool {
     true
 }
 
-#[test]
-fn each_node_begins_again(rt: HostRuntime) -> Result<(), Fail> {
-    let alloc = rt.alloc();
-    let config = Config {
-        chunk: 64,
-        block: 16,
-        slots: 64,
-        goal: 2,
-        attempt_ms: 60_000,
-        ..Config::default()
-    };
-    let restarts = Arc::new(alloc, AtomicU64::new(0))?;
+// The same on a cell of two servers; none where a node didn't begin again so often.
+fn kept_by<R: Threads + Wait + Clock + Copy + Send + Sync + 'static>(
+    rt: R,
+    alloc: Global,
+    config: Config,
+    rounds: u64,
+) -> Option<usize> {
+    let restarts = Arc::new(alloc, AtomicU64::new(0)).ok()?;
     let gate = RestartGate {
-        restarts: Arc::try_clone(&restarts)?,
+        restarts: Arc::try_clone(&restarts).ok()?,
     };
-    let mut cell = Cell::start(rt, alloc, config, 2, gate)?;
-    let count = kept(&rt, alloc, &mut cell, &restarts);
+    let mut cell = Cell::start(rt, alloc, config, 2, gate).ok()?;
+    let count = kept(&rt, alloc, &mut cell, &restarts, rounds);
     let journal = cell.close(&rt);
-    assert_eq!(rt; count, Some(20));
-    assert!(rt; have_begun_again(&journal, 1));
-    Ok(())
+    let have_begun = have_begun_again(&journal, rounds);
+    drop(journal);
+    if have_begun { count } else { None }
 }
 
 #[test]
-fn nodes_begin_again_at_any_time(rt: HostRuntime) -> Result<(), Fail> {
-    let alloc = rt.alloc();
+fn each_node_begins_again(rt: HostRuntime) {
+    assert!(rt; kept_by(rt, rt.alloc(), small(2), 1) == Some(20));
+}
+
+#[test]
+fn nodes_begin_again_at_any_time(rt: HostRuntime) {
     let config = Config {
-        chunk: 64,
-        block: 16,
-        slots: 64,
-        goal: 2,
-        attempt_ms: 300,
-        skew_ms: 500,
         lease_ms: 2_000,
-        ..Config::default()
+        ..hasty(2)
     };
-    let restarts = Arc::new(alloc, AtomicU64::new(0))?;
-    let gate = RestartGate {
-        restarts: Arc::try_clone(&restarts)?,
-    };
-    let mut cell = Cell::start(rt, alloc, config, 2, gate)?;
-    let count = kept_meanwhile(&rt, alloc, &mut cell, &restarts);
-    let journal = cell.close(&rt);
     // Most of the sixty are answered: in each round each node begins again once, and then no more.
-    assert!(rt; count > Some(30));
-    assert!(rt; have_begun_again(&journal, ROUNDS));
-    Ok(())
+    assert!(rt; kept_by(rt, rt.alloc(), config, ROUNDS) > Some(30));
 }

@@ -3,92 +3,45 @@
 use crate::outcome::small_cell;
 use script::script_fault::ScriptFault;
 use shell::run::run_script;
+use std::alloc::Global;
 use std::io::{self, BufReader, ErrorKind, Read, Write};
-use std::test::Fail;
 
-/// Gives its bytes, two at a time, and then fails.
+/// Gives its bytes, one at a time, and then ends or fails. Before each it answers `Interrupted`.
 #[derive(Drop)]
-struct Failing<'a> {
+struct SlowReader<'a> {
     rest: &'a [u8],
-    kind: ErrorKind,
-}
-
-impl Read for Failing<'_> {
-    fn read(&mut self, buffer: &mut [u8]) -> io::Result<usize> {
-        if self.rest.is_empty() {
-            return Err(io::Error::from(self.kind));
-        }
-        let count = buffer.len().min(self.rest.len()).min(2);
-        buffer[..count].copy_from_slice(&self.rest[..count]);
-        self.rest = &self.rest[count..];
-        Ok(count)
-    }
-}
-
-#[test]
-fn reader_fails(rt: HostRuntime) -> Result<(), Fail> {
-    let alloc = rt.alloc();
-    for (kind, fault) in [
-        (ErrorKind::Other, ScriptFault::Read),
-        (ErrorKind::OutOfMemory, ScriptFault::NoMemory),
-    ] {
-        let rest = b"c1 mkdir /a\nc1 mkdir /b".as_slice();
-        let mut reader = BufReader::new(alloc, Failing { rest, kind })?;
-        let mut writer = Vec::new(alloc);
-        let result = run_script(alloc, &small_cell(), &mut reader, &mut writer);
-        assert_eq!(rt; result, Err(fault));
-        assert_eq!(rt; writer.as_slice(), b"c1 done\n".as_slice());
-    }
-    Ok(())
-}
-
-/// Answers `Interrupted` before it gives a byte, and before its end.
-#[derive(Drop)]
-struct Interrupted<'a> {
-    rest: &'a [u8],
+    end: Option<ErrorKind>,
     is_ready: bool,
 }
 
-impl Read for Interrupted<'_> {
+impl Read for SlowReader<'_> {
     fn read(&mut self, buffer: &mut [u8]) -> io::Result<usize> {
         self.is_ready = !self.is_ready;
         if !self.is_ready {
             return Err(io::Error::from(ErrorKind::Interrupted));
         }
-        let count = buffer.len().min(self.rest.len()).min(1);
-        buffer[..count].copy_from_slice(&self.rest[..count]);
-        self.rest = &self.rest[count..];
-        Ok(count)
+        match self.end {
+            Some(kind) if self.rest.is_empty() => Err(io::Error::from(kind)),
+            _ => {
+                let count = buffer.len().min(self.rest.len()).min(1);
+                buffer[..count].copy_from_slice(&self.rest[..count]);
+                self.rest = &self.rest[count..];
+                Ok(count)
+            }
+        }
     }
 }
 
-#[test]
-fn interrupted_reads_are_made_again(rt: HostRuntime) -> Result<(), Fail> {
-    let alloc = rt.alloc();
-    let source = Interrupted {
-        rest: b"c1 mkdir /a\n\nc1 list /",
-        is_ready: true,
-    };
-    let mut reader = BufReader::new(alloc, source)?;
-    let mut writer = Vec::new(alloc);
-    let result = run_script(alloc, &small_cell(), &mut reader, &mut writer);
-    assert_eq!(rt; result, Ok(()));
-    assert_eq!(rt;
-        writer.as_slice(),
-        b"c1 done\nc1 names 2 .gone/ a/\n".as_slice()
-    );
-    Ok(())
-}
-
-/// Takes so many bytes, and then fails.
+/// Takes so many bytes and so many flushes, and then fails.
 #[derive(Drop)]
-struct Full {
+struct FullWriter {
     room: usize,
+    flushes: usize,
     kind: ErrorKind,
     seen: Vec<u8>,
 }
 
-impl Write for Full {
+impl Write for FullWriter {
     fn write(&mut self, bytes: &[u8]) -> io::Result<usize> {
         let room = self.room.saturating_sub(self.seen.len());
         if room == 0 && !bytes.is_empty() {
@@ -100,105 +53,95 @@ impl Write for Full {
     }
 
     fn flush(&mut self) -> io::Result<()> {
-        Ok(())
-    }
-}
-
-#[test]
-fn writer_fails(rt: HostRuntime) {
-    let alloc = rt.alloc();
-    for (kind, fault) in [
-        (ErrorKind::Other, ScriptFault::Write),
-        (ErrorKind::OutOfMemory, ScriptFault::NoMemory),
-    ] {
-        let mut reader = b"c1 mkdir /a\nc1 mkdir /b\nc1 fly /x\n".as_slice();
-        let mut writer = Full {
-            room: 11,
-            kind,
-            seen: Vec::new(alloc),
-        };
-        let result = run_script(alloc, &small_cell(), &mut reader, &mut writer);
-        assert_eq!(rt; result, Err(fault));
-        assert_eq!(rt; writer.seen.as_slice(), b"c1 done\nc1 ".as_slice());
-    }
-}
-
-/// Counts the lines that were not flushed when the next one began.
-#[derive(Drop)]
-struct Flushed {
-    seen: Vec<u8>,
-    /// How many bytes were there at the last flush.
-    flushed: usize,
-    late: usize,
-}
-
-impl Write for Flushed {
-    fn write(&mut self, bytes: &[u8]) -> io::Result<usize> {
-        let begins_a_line = self.seen.last() == Some(&b'\n');
-        if begins_a_line && !bytes.is_empty() && self.flushed != self.seen.len() {
-            self.late = self.late.saturating_add(1);
+        if self.flushes == 0 {
+            return Err(io::Error::from(self.kind));
         }
-        self.seen.extend_from_slice(bytes)?;
-        Ok(bytes.len())
-    }
-
-    fn flush(&mut self) -> io::Result<()> {
-        self.flushed = self.seen.len();
+        self.flushes = self.flushes.saturating_sub(1);
         Ok(())
     }
 }
 
+/// Whether a script whose reader ends so ends so itself, and prints this.
+fn reads_to(
+    alloc: Global,
+    reader_end: Option<ErrorKind>,
+    end: Result<(), ScriptFault>,
+    expected: &str,
+) -> bool {
+    let reader = SlowReader {
+        rest: b"c1 mkdir /a\n\nc1 list /",
+        end: reader_end,
+        is_ready: true,
+    };
+    let Ok(mut reader) = BufReader::new(alloc, reader) else {
+        return false;
+    };
+    let mut writer = Vec::new(alloc);
+    let result = run_script(alloc, &small_cell(), &mut reader, &mut writer);
+    result == end && writer.as_slice() == expected.as_bytes()
+}
+
 #[test]
-fn each_line_is_flushed(rt: HostRuntime) {
-    let alloc = rt.alloc();
-    let mut reader =
-        b"c1 create /f\nc1 open /f\nc1 append 1 ab\nregions /f 0\nreplicas /f 0\n".as_slice();
-    let mut writer = Flushed {
+fn readers_end_and_fail(rt: HostRuntime) {
+    let rows: [(Option<ErrorKind>, Result<(), ScriptFault>, &str); 3] = [
+        (None, Ok(()), "c1 done\nc1 names 2 .gone/ a/\n"),
+        (Some(ErrorKind::Other), Err(ScriptFault::Read), "c1 done\n"),
+        (
+            Some(ErrorKind::OutOfMemory),
+            Err(ScriptFault::NoMemory),
+            "c1 done\n",
+        ),
+    ];
+    for (reader_end, end, expected) in rows {
+        assert!(rt; reads_to(rt.alloc(), reader_end, end, expected));
+    }
+}
+
+const SCRIPT: &str = "c1 create /f\nc1 open /f\nc1 append 1 ab\nregions /f 0\nreplicas /f 0\n";
+
+const PRINTED: &str =
+    "c1 done\nc1 fd 1\nc1 at 0\nregions 0-2 determined\nreplicas 1 s1 v1 2, s2 v1 2, s3 v1 2\n";
+
+/// Where the lines of `PRINTED` end.
+const LINE_ENDS: [usize; 5] = [8, 16, 24, 47, 84];
+
+/// Whether the script ends so by a writer of this room and so many flushes, which then has seen so many bytes of what is printed.
+fn writes_to(
+    alloc: Global,
+    (room, flushes, kind): (usize, usize, ErrorKind),
+    end: Result<(), ScriptFault>,
+    count: usize,
+) -> bool {
+    let mut reader = SCRIPT.as_bytes();
+    let mut writer = FullWriter {
+        room,
+        flushes,
+        kind,
         seen: Vec::new(alloc),
-        flushed: 0,
-        late: 0,
     };
     let result = run_script(alloc, &small_cell(), &mut reader, &mut writer);
-    assert_eq!(rt; result, Ok(()));
-    let printed =
-        b"c1 done\nc1 fd 1\nc1 at 0\nregions 0-2 determined\nreplicas 1 s1 v1 2, s2 v1 2, s3 v1 2\n";
-    assert_eq!(rt; writer.seen.as_slice(), printed.as_slice());
-    assert_eq!(rt; writer.late, 0);
-    assert_eq!(rt; writer.flushed, printed.len());
+    result == end
+        && writer.seen.len() == count
+        && PRINTED.as_bytes().starts_with(writer.seen.as_slice())
 }
 
-/// Takes all bytes, and can't flush them.
-#[derive(Drop)]
-struct Stuck {
-    kind: ErrorKind,
-    seen: Vec<u8>,
-}
+/// The kinds of errors, and what the script's fault is then.
+const KINDS: [(ErrorKind, ScriptFault); 2] = [
+    (ErrorKind::Other, ScriptFault::Write),
+    (ErrorKind::OutOfMemory, ScriptFault::NoMemory),
+];
 
-impl Write for Stuck {
-    fn write(&mut self, bytes: &[u8]) -> io::Result<usize> {
-        self.seen.extend_from_slice(bytes)?;
-        Ok(bytes.len())
-    }
-
-    fn flush(&mut self) -> io::Result<()> {
-        Err(io::Error::from(self.kind))
-    }
-}
-
+// A writer fails at each byte in turn, and a flush after each line, before the next one is run.
 #[test]
-fn flush_fails(rt: HostRuntime) {
+fn writers_fail(rt: HostRuntime) {
     let alloc = rt.alloc();
-    for (kind, fault) in [
-        (ErrorKind::Other, ScriptFault::Write),
-        (ErrorKind::OutOfMemory, ScriptFault::NoMemory),
-    ] {
-        let mut reader = b"c1 mkdir /a\nc1 mkdir /b\n".as_slice();
-        let mut writer = Stuck {
-            kind,
-            seen: Vec::new(alloc),
-        };
-        let result = run_script(alloc, &small_cell(), &mut reader, &mut writer);
-        assert_eq!(rt; result, Err(fault));
-        assert_eq!(rt; writer.seen.as_slice(), b"c1 done\n".as_slice());
+    for (kind, fault) in KINDS {
+        for room in 0..PRINTED.len() {
+            assert!(rt; writes_to(alloc, (room, 9, kind), Err(fault), room));
+        }
+        for (flushes, end) in LINE_ENDS.iter().enumerate() {
+            assert!(rt; writes_to(alloc, (1_000, flushes, kind), Err(fault), *end));
+        }
     }
+    assert!(rt; writes_to(alloc, (84, 5, ErrorKind::Other), Ok(()), 84));
 }

@@ -1,192 +1,128 @@
-//! Lines that are refused.
+//! The lines of a script and of what it prints, as `docs/SCRIPT.md` has them.
 
-use crate::outcome::{outcome, small_cell};
-use script::script_fault::ScriptFault;
-use std::alloc::Global;
-use std::process::Abort;
-use std::test::Fail;
+use gfs_types::answer::Answer;
+use gfs_types::call::Call;
+use gfs_types::lists::Text;
+use gfs_types::refusal::Refusal;
+use std::fmt::Display;
+use std::io::{self, Write};
 
-/// What goes before each line.
-const BEFORE: &str = "c1 create /f\nc1 open /f\nc1 append 1 a\n";
-
-const PRINTED: &str = "c1 done\nc1 fd 1\nc1 at 0\n";
-
-/// Each line is a bad line where a file is there and open, and a chunk. What was printed before stays.
-fn are_bad(rt: &impl Abort, alloc: Global, lines: &[&[u8]]) -> Result<(), Fail> {
-    for line in lines {
-        let mut script = Vec::from_slice(alloc, BEFORE.as_bytes())?;
-        script.extend_from_slice(line)?;
-        let (printed, result) = outcome(alloc, &small_cell(), script.as_slice());
-        assert_eq!(rt; result, Err(ScriptFault::Line(4)), "{line:?}");
-        assert_eq!(rt; printed.as_slice(), PRINTED.as_bytes(), "{line:?}");
+/// A space and a word, for each word.
+fn write_words<W: Display>(text: &mut Vec<u8>, words: &[W]) -> io::Result<()> {
+    for word in words {
+        write!(text, " {word}")?;
     }
     Ok(())
 }
 
-#[test]
-fn words_and_spaces(rt: HostRuntime) -> Result<(), Fail> {
-    let lines: [&[u8]; 26] = [
-        b"c1 fly /x",
-        b"fly",
-        b"c1",
-        b"c1 mkdir",
-        b"c1 mkdir ",
-        b" ",
-        b" c1 mkdir /a",
-        b"c1 mkdir /a ",
-        b"c1  mkdir /a",
-        b"c1 mkdir  /a",
-        b"c1 mkdir /a /b",
-        b"c1\tmkdir\t/a",
-        b"c1 MKDIR /a",
-        b"\r",
-        b"c1 mkdir /a\r",
-        b"\0",
-        b"c1 mkdir /a\0",
-        b"c1 mkdir /\xff",
-        b"c1 mkdir /\xc3",
-        b"c1 mkdir /\xed\xa0\x80",
-        b"\xef\xbb\xbfc1 mkdir /a",
-        b"c1 rename /a",
-        b"c1 snapshot /a",
-        b"c1 delete",
-        b"c1 rmdir /a /b",
-        b"c1 close",
-    ];
-    are_bad(&rt, rt.alloc(), lines.as_slice())
+/// How a line of client 1 begins, or of an answer to it.
+fn write_start<W: Display>(text: &mut Vec<u8>, name: &str, words: &[W]) -> io::Result<()> {
+    write!(text, "c1 {name}")?;
+    write_words(text, words)
 }
 
-#[test]
-fn numbers_and_data(rt: HostRuntime) -> Result<(), Fail> {
-    let lines: [&[u8]; 26] = [
-        b"c1 read 1 0",
-        b"c1 read 1 0 +5",
-        b"c1 read 1 0 -5",
-        b"c1 read 1 0 5x",
-        b"c1 read 1 0 0x5",
-        b"c1 read 1 18446744073709551616 5",
-        b"c1 read 99999999999999999999 0 5",
-        b"c1 write 1 0 ",
-        b"c1 write +1 0 x",
-        b"c1 write 1 18446744073709551616 x",
-        b"c1 write 1 0 \x1f",
-        b"c1 write 1 0 a\x7f",
-        b"c1 write 1 0 \xc3\xa9",
-        b"c1 write 1 0 a*18446744073709551616",
-        b"c1 append 1",
-        b"c1 append 1 0 x",
-        b"c1 append x y",
-        b"c1 append 1 a*18446744073709551616",
-        b"c1 length",
-        b"c1 length -1",
-        b"c1 length 1 2",
-        b"c1 close x",
-        b"wait",
-        b"wait -1",
-        b"wait 18446744073709551616",
-        b"wait 1 2",
-    ];
-    are_bad(&rt, rt.alloc(), lines.as_slice())
+fn write_line<W: Display>(text: &mut Vec<u8>, name: &str, words: &[W]) -> io::Result<()> {
+    write_start(text, name, words)?;
+    writeln!(text)
 }
 
-#[test]
-fn nodes(rt: HostRuntime) -> Result<(), Fail> {
-    let lines: [&[u8]; 24] = [
-        b"c0 mkdir /a",
-        b"c3 mkdir /a",
-        b"c01 mkdir /a",
-        b"c+1 mkdir /a",
-        b"c18446744073709551616 mkdir /a",
-        b"C1 mkdir /a",
-        b"s1 mkdir /a",
-        b"master mkdir /a",
-        b"start c0 mkdir /a",
-        b"start c3 mkdir /a",
-        b"start s1 mkdir /a",
-        b"start mkdir /a",
-        b"start c1",
-        b"cut s0",
-        b"cut s4",
-        b"cut s65",
-        b"cut c0",
-        b"cut",
-        b"cut Master",
-        b"join s65536",
-        b"join c3",
-        b"restart s04",
-        b"restart m",
-        b"restart",
-    ];
-    are_bad(&rt, rt.alloc(), lines.as_slice())
+/// A line whose last word is data: more than three equal bytes, or none, in the short form.
+fn write_data(text: &mut Vec<u8>, name: &str, numbers: &[u64], data: &[u8]) -> io::Result<()> {
+    write_start(text, name, numbers)?;
+    text.push(b' ')?;
+    let first = data.first().copied().unwrap_or(b'z');
+    let are_equal = data.iter().all(|byte| *byte == first);
+    if data.is_empty() || (are_equal && data.len() > 3) {
+        text.push(first)?;
+        return writeln!(text, "*{}", data.len());
+    }
+    text.extend_from_slice(data)?;
+    writeln!(text)
 }
 
-#[test]
-fn orders(rt: HostRuntime) -> Result<(), Fail> {
-    let lines: [&[u8]; 28] = [
-        b"hold",
-        b"hold Forward",
-        b"hold Forward s65",
-        b"hold Forwards s1",
-        b"hold forward s1",
-        b"hold Forward s1 s2",
-        b"hold Forward c0",
-        b"twice",
-        b"twice Mutate",
-        b"twice Mutated s1",
-        b"twice Mutate s4",
-        b"free s1",
-        b"finish c1",
-        b"fuse",
-        b"fuse master",
-        b"fuse master 1",
-        b"fuse master 18446744073709551616 old",
-        b"fuse master -1 old",
-        b"fuse master 1 256",
-        b"fuse master 1 Old",
-        b"fuse s4 1 new",
-        b"fuse master 1 new 2",
-        b"rot s1 /f 0 0",
-        b"rot s1 /f 0 0 256",
-        b"rot s4 /f 0 0 1",
-        b"rot c1 /f 0 0 1",
-        b"rot s1 /g 0 0 1",
-        b"rot s1 /f 1 0 1",
-    ];
-    are_bad(&rt, rt.alloc(), lines.as_slice())
+/// The line of a call by client 1.
+pub fn write_call(text: &mut Vec<u8>, call: &Call) -> io::Result<()> {
+    match call {
+        Call::Mkdir(path) => write_line(text, "mkdir", &[path.as_str()]),
+        Call::Create(path) => write_line(text, "create", &[path.as_str()]),
+        Call::Open(path) => write_line(text, "open", &[path.as_str()]),
+        Call::List(path) => write_line(text, "list", &[path.as_str()]),
+        Call::Rmdir(path) => write_line(text, "rmdir", &[path.as_str()]),
+        Call::Rename(path, to) => write_line(text, "rename", &[path.as_str(), to.as_str()]),
+        Call::Close(fd) => write_line(text, "close", &[fd.0]),
+        Call::Length(fd) => write_line(text, "length", &[fd.0]),
+        Call::Read(fd, offset, count) => write_line(text, "read", &[fd.0, *offset, *count]),
+        Call::Append(fd, record) => write_data(text, "append", &[fd.0], record.as_slice()),
+        Call::Write(fd, offset, bytes) => {
+            write_data(text, "write", &[fd.0, *offset], bytes.as_slice())
+        }
+        _ => Ok(()),
+    }
 }
 
-#[test]
-fn chunks(rt: HostRuntime) -> Result<(), Fail> {
-    let lines: [&[u8]; 26] = [
-        // no such file or chunk
-        b"regions /f 1",
-        b"replicas /f 1",
-        b"regions /f 18446744073709551615",
-        b"regions /g 0",
-        b"replicas /g 0",
-        b"regions / 0",
-        b"replicas /.gone 0",
-        b"regions /f/x 0",
-        // no path
-        b"regions f 0",
-        b"replicas /f/ 0",
-        b"regions //f 0",
-        // not in the language
-        b"regions",
-        b"regions /f",
-        b"regions /f 0 0",
-        b"replicas /f 0 1",
-        b"regions /f x",
-        b"regions /f -1",
-        b"replicas /f +0",
-        b"regions /f 18446744073709551616",
-        b"regions /f\0 0",
-        b"replicas /\xff 0",
-        b"regions /f 0 ",
-        b"regions  /f 0",
-        b"Regions /f 0",
-        b"c1 regions /f 0",
-        b"s1 replicas /f 0",
-    ];
-    are_bad(&rt, rt.alloc(), lines.as_slice())
+/// The line that is printed of an answer to client 1.
+pub fn write_answer(text: &mut Vec<u8>, answer: &Answer) -> io::Result<()> {
+    match answer {
+        Answer::Done => writeln!(text, "c1 done"),
+        Answer::Fd(fd) => write_line(text, "fd", &[fd.0]),
+        Answer::Names(names) => write_names(text, names.as_slice()),
+        Answer::Length(length) => write_line(text, "length", &[*length]),
+        Answer::At(offset) => write_line(text, "at", &[*offset]),
+        Answer::Bytes { bytes, rounds } => {
+            write_bytes(text, bytes.as_slice())?;
+            write_rounds(text, rounds.as_slice())
+        }
+        Answer::Refused(refusal) => write_line(text, "refused", &[cause(*refusal)]),
+    }
+}
+
+fn write_names(text: &mut Vec<u8>, names: &[Text]) -> io::Result<()> {
+    write_start(text, "names", &[names.len()])?;
+    write_words(text, names)?;
+    writeln!(text)
+}
+
+fn write_bytes(text: &mut Vec<u8>, bytes: &[u8]) -> io::Result<()> {
+    write_start(text, "bytes", &[bytes.len()])?;
+    text.push(b' ')?;
+    for byte in bytes {
+        let byte = *byte;
+        write!(text, "{byte:02x}")?;
+    }
+    if bytes.is_empty() {
+        text.push(b'-')?;
+    }
+    Ok(())
+}
+
+/// The rounds of the chunks that were looked at.
+fn write_rounds(text: &mut Vec<u8>, rounds: &[u64]) -> io::Result<()> {
+    write!(text, " rounds ")?;
+    let mut comma = "";
+    for round in rounds {
+        write!(text, "{comma}{round}")?;
+        comma = ",";
+    }
+    if rounds.is_empty() {
+        write!(text, "-")?;
+    }
+    writeln!(text)
+}
+
+/// The number and the name of a refusal that a script of these tests may meet.
+fn cause(refusal: Refusal) -> &'static str {
+    match refusal {
+        Refusal::BadPath => "1 BadPath",
+        Refusal::NoParent => "2 NoParent",
+        Refusal::Exists => "3 Exists",
+        Refusal::NotFound => "4 NotFound",
+        Refusal::NotFile => "5 NotFile",
+        Refusal::NotDir => "6 NotDir",
+        Refusal::NotEmpty => "7 NotEmpty",
+        Refusal::Reserved => "8 Reserved",
+        Refusal::Inside => "9 Inside",
+        Refusal::TooLong => "11 TooLong",
+        Refusal::BadFd => "12 BadFd",
+        _ => "none",
+    }
 }

@@ -4,7 +4,6 @@ use crate::outcome::small_cell;
 use script::script_fault::ScriptFault;
 use shell::run::run_script_in_region;
 use std::alloc::{AllocError, Global};
-use std::test::Fail;
 
 /// What a script prints on a small cell whose names lie in a region of so many bytes, and its fault.
 fn outcome(alloc: Global, bytes: u64, script: &str) -> (String, Result<(), ScriptFault>) {
@@ -17,90 +16,75 @@ fn outcome(alloc: Global, bytes: u64, script: &str) -> (String, Result<(), Scrip
     )
 }
 
-#[test]
-fn no_cell_in_sixteen_bytes(rt: HostRuntime) -> Result<(), Fail> {
-    let (printed, result) = outcome(rt.alloc(), 16, "c1 mkdir /a\n");
-    assert_eq!(rt; printed.as_str(), "");
-    assert_eq!(rt; result, Err(ScriptFault::Start));
-    Ok(())
-}
-
-// A mkdir of each of so many directories in a row, and a listing.
+/// A line `mkdir` for each of so many directories.
 fn mkdirs(alloc: Global, front: &str, count: u64) -> Result<String, AllocError> {
     let mut script = String::new(alloc);
     for number in 1..=count {
-        let line = format!(in alloc; "c1 mkdir {front}{number}\n")?;
+        let line = format!(in alloc; "c1 mkdir {front}{number:03}\n")?;
         script.push_str(line.as_str())?;
     }
     Ok(script)
 }
 
-// The names that a listing of `/` shows after these answers to `mkdirs`: those of the calls that were done, in the order of their bytes.
-fn shown(alloc: Global, answers: &[&str]) -> Result<String, AllocError> {
-    let mut names = Vec::new(alloc);
-    for (number, answer) in (1u64..).zip(answers) {
-        if *answer == "c1 done" {
-            names.push(format!(in alloc; " d{number}/")?)?;
+/// The numbers of the directories whose `mkdir` was done, each between two texts.
+fn made(alloc: Global, printed: &str, front: &str, back: &str) -> Result<String, AllocError> {
+    let mut text = String::new(alloc);
+    for (number, answer) in (1u64..).zip(printed.lines()) {
+        if answer == "c1 done" {
+            let part = format!(in alloc; "{front}{number:03}{back}")?;
+            text.push_str(part.as_str())?;
         }
     }
-    names.sort_unstable();
-    let mut line = format!(in alloc; "c1 names {} .gone/", names.len().saturating_add(1))?;
-    for name in &names {
-        line.push_str(name.as_str())?;
-    }
-    Ok(line)
+    Ok(text)
 }
 
-#[test]
-fn a_region_of_sixteen_kilobytes(rt: HostRuntime) -> Result<(), Fail> {
-    let alloc = rt.alloc();
+fn count_done(printed: &str) -> usize {
+    printed.lines().filter(|line| *line == "c1 done").count()
+}
+
+/// Whether some of 600 directories are refused, and a listing shows just the others.
+fn are_listed(alloc: Global, printed: &str) -> Result<bool, AllocError> {
+    let names = made(alloc, printed, " d", "/")?;
+    let count = count_done(printed).saturating_add(1);
+    let list = format!(in alloc; "c1 names {count} .gone/{names}\n")?;
+    Ok(
+        printed.starts_with("c1 done\n")
+            && printed.contains("c1 refused 13 NamesFull\n")
+            && printed.ends_with(list.as_str())
+            && printed.lines().count() == 601,
+    )
+}
+
+/// Whether a region of sixteen kilobytes gets full, and has room again once the directories are gone.
+fn gets_full(alloc: Global) -> Result<bool, AllocError> {
     let mut script = mkdirs(alloc, "/d", 600)?;
     script.push_str("c1 list /\n")?;
-    let (first, result) = outcome(alloc, 16_384, script.as_str());
-    assert_eq!(rt; result, Ok(()));
-    let mut lines = Vec::new(alloc);
-    for line in first.lines() {
-        lines.push(line)?;
-    }
-    assert_eq!(rt; lines.len(), 601);
-    assert_eq!(rt; lines[0], "c1 done");
-    let answers = lines.as_slice().get(..600).unwrap_or_default();
-    assert!(rt; answers.contains(&"c1 refused 13 NamesFull"));
-    let expected = shown(alloc, answers)?;
-    assert_eq!(rt; lines[600], expected.as_str());
-    for (number, answer) in (1u64..).zip(answers) {
-        if *answer == "c1 done" {
-            let line = format!(in alloc; "c1 rmdir /d{number}\n")?;
-            script.push_str(line.as_str())?;
-        }
-    }
+    let (first, first_end) = outcome(alloc, 16_384, script.as_str());
+    let rmdirs = made(alloc, first.as_str(), "c1 rmdir /d", "\n")?;
+    script.push_str(rmdirs.as_str())?;
     script.push_str("c1 mkdir /a\nc1 list /\n")?;
-    let (second, result) = outcome(alloc, 16_384, script.as_str());
-    assert_eq!(rt; result, Ok(()));
-    assert!(rt; second.as_str().starts_with(first.as_str()));
-    assert!(rt; second.as_str().ends_with("c1 done\nc1 names 2 .gone/ a/\n"));
-    Ok(())
+    let (second, second_end) = outcome(alloc, 16_384, script.as_str());
+    Ok(
+        are_listed(alloc, first.as_str())?
+            && first_end == Ok(())
+            && second_end == Ok(())
+            && second.as_str().starts_with(first.as_str())
+            && second.as_str().ends_with("c1 done\nc1 names 2 .gone/ a/\n"),
+    )
 }
 
-// The log is replayed into the region, which the names of before fill.
-#[test]
-fn names_after_a_restart(rt: HostRuntime) -> Result<(), Fail> {
-    let alloc = rt.alloc();
-    let mut script = mkdirs(alloc, "/d", 600)?;
-    let mut restarted = script.clone()?;
-    script.push_str("c1 list /\n")?;
-    restarted.push_str("restart master\nc1 list /\n")?;
+/// Whether a master that begins again has the same names. Its log is replayed into the region, which the names of before fill.
+fn are_kept(alloc: Global) -> Result<bool, AllocError> {
+    let lines = mkdirs(alloc, "/d", 600)?;
+    let script = format!(in alloc; "{lines}c1 list /\n")?;
+    let restarted = format!(in alloc; "{lines}restart master\nc1 list /\n")?;
     let (first, _) = outcome(alloc, 16_384, script.as_str());
-    let (second, result) = outcome(alloc, 16_384, restarted.as_str());
-    assert_eq!(rt; result, Ok(()));
-    assert!(rt; first.lines().filter(|line| *line == "c1 done").count() > 100);
-    assert_eq!(rt; second.as_str(), first.as_str());
-    Ok(())
+    let (second, end) = outcome(alloc, 16_384, restarted.as_str());
+    Ok(end == Ok(()) && count_done(first.as_str()) > 100 && second.as_str() == first.as_str())
 }
 
-#[test]
-fn long_names_that_are_shared(rt: HostRuntime) -> Result<(), Fail> {
-    let alloc = rt.alloc();
+/// Whether 204 directories with long names in common have room in a region of 131,072 bytes.
+fn have_room(alloc: Global) -> Result<bool, AllocError> {
     let part = format!(in alloc; "/{:a<255}", "")?;
     let mut front = String::new(alloc);
     let mut script = String::new(alloc);
@@ -112,12 +96,22 @@ fn long_names_that_are_shared(rt: HostRuntime) -> Result<(), Fail> {
     front.push_str("/")?;
     let more = mkdirs(alloc, front.as_str(), 200)?;
     script.push_str(more.as_str())?;
-    let (printed, result) = outcome(alloc, 131_072, script.as_str());
-    assert_eq!(rt; result, Ok(()));
-    assert_eq!(rt;
-        printed.lines().filter(|line| *line == "c1 done").count(),
-        204
-    );
-    assert_eq!(rt; printed.lines().count(), 204);
-    Ok(())
+    let (printed, end) = outcome(alloc, 131_072, script.as_str());
+    let lines = printed.as_str().lines().count();
+    Ok(end == Ok(()) && lines == 204 && count_done(printed.as_str()) == 204)
+}
+
+/// Whether there is no cell in sixteen bytes.
+fn is_refused(alloc: Global) -> bool {
+    let (printed, end) = outcome(alloc, 16, "c1 mkdir /a\n");
+    printed.as_str() == "" && end == Err(ScriptFault::Start)
+}
+
+#[test]
+fn names_in_regions(rt: HostRuntime) {
+    let alloc = rt.alloc();
+    assert!(rt; is_refused(alloc));
+    assert!(rt; matches!(gets_full(alloc), Ok(true)));
+    assert!(rt; matches!(are_kept(alloc), Ok(true)));
+    assert!(rt; matches!(have_room(alloc), Ok(true)));
 }

@@ -1,9 +1,13 @@
 //! Runs the worked scripts and the examples that `scripts.txt` names, and tells of each whether it prints what it has to.
 #![tactic(auto)]
 
+mod bad_lines;
 mod row;
 
-use crate::row::{example_outcome, row_outcome, stopped_outcome, stopped_server_outcome};
+use crate::bad_lines::bad_lines_outcome;
+use crate::row::{
+    example_outcome, row_outcome, rows_outcome, stopped_outcome, stopped_server_outcome,
+};
 use anyhow::{Context, Result};
 use std::alloc::Global;
 use std::fs;
@@ -19,8 +23,19 @@ fn example(rt: &HostRuntime, alloc: Global, name: &str) -> Result<String> {
     example_outcome(alloc, script.as_str(), expected.as_str())
 }
 
+/// The outcome of a file: of bad lines, of many rows, or of one row.
+fn file_outcome(alloc: Global, name: &str, text: &str) -> Result<String> {
+    if name == "bad_lines.txt" {
+        bad_lines_outcome(alloc, text)
+    } else if name.ends_with(".rows") {
+        rows_outcome(alloc, text)
+    } else {
+        row_outcome(alloc, text)
+    }
+}
+
 /// The outcome of what a line of `scripts.txt` names: a file that is made while the master's disk stops, a record that is appended while a
-/// server's does, an example, or a row.
+/// server's does, an example, or another file.
 fn outcome_of(rt: &HostRuntime, alloc: Global, line: &str) -> Result<String> {
     if line.starts_with("fuse master ") {
         return stopped_outcome(alloc, line);
@@ -31,8 +46,7 @@ fn outcome_of(rt: &HostRuntime, alloc: Global, line: &str) -> Result<String> {
     if let Some(name) = line.strip_suffix(".gfs") {
         return example(rt, alloc, name);
     }
-    let row = text_of(rt, line)?;
-    row_outcome(alloc, row.as_str())
+    file_outcome(alloc, line, text_of(rt, line)?.as_str())
 }
 
 fn main(rt: HostRuntime) -> Result<()> {

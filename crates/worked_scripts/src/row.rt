@@ -10,6 +10,9 @@ use std::io::Write;
 /// Between a script and what it has to print.
 const RULE: &str = "\n----\n";
 
+/// Between two rows of one file.
+const NEXT_ROW: &str = "====\n";
+
 /// What goes before a comment's options.
 const OPTIONS: &str = "# --";
 
@@ -28,7 +31,7 @@ const TWO_APPENDS: &str =
     "c1 done\nc1 fd 1\nc1 at 0\nc1 refused 16 Failed\nc1 at 16\nreplicas 1 s1 v2 21, s2 v2 21, s3 v2 21\nc1 bytes 21 616161616161616161616161616262626363636363 rounds 2\n";
 
 /// These options and those in the script's comments.
-fn options_of(alloc: Global, first: &[&str], script: &str) -> Result<Options> {
+pub fn options_of(alloc: Global, first: &[&str], script: &str) -> Result<Options> {
     let mut words = Vec::new(alloc);
     for word in ["gfscell", "sim", "-"].iter().chain(first) {
         words.push(String::from_str(alloc, word)?)?;
@@ -46,21 +49,43 @@ fn options_of(alloc: Global, first: &[&str], script: &str) -> Result<Options> {
     }
 }
 
-/// Whether a script prints what it has to, in words; else all that it prints.
-fn outcome(alloc: Global, options: &Options, script: &str, expected: &str) -> Result<String> {
-    let mut reader = script.as_bytes();
+/// What a script prints, and its fault.
+pub fn printed_by(alloc: Global, options: &Options, script: &[u8]) -> Result<Vec<u8>> {
+    let mut reader = script;
     let mut printed = Vec::new(alloc);
     if let Err(fault) = run_script(alloc, options, &mut reader, &mut printed) {
         writeln!(printed, "{fault}")?;
     }
+    Ok(printed)
+}
+
+/// The outcome of what prints otherwise than it has to.
+pub fn otherwise(alloc: Global, what: &str, printed: &[u8]) -> Result<String> {
+    Ok(format!(in alloc; "{what} prints otherwise:\n{}", str::from_utf8(printed)?)?)
+}
+
+/// Whether a script prints what it has to, in words; else all that it prints.
+fn outcome(alloc: Global, options: &Options, script: &str, expected: &str) -> Result<String> {
+    let printed = printed_by(alloc, options, script.as_bytes())?;
     if printed.as_slice() == expected.as_bytes() {
         Ok(String::from_str(alloc, "prints what it has to")?)
     } else {
-        Ok(format!(in alloc;
-            "prints otherwise:\n{}",
-            str::from_utf8(printed.as_slice())?
-        )?)
+        otherwise(alloc, "it", printed.as_slice())
     }
+}
+
+/// The outcome of a file of rows, each of which has all its options: how many print what they have to, or what the first that doesn't prints.
+pub fn rows_outcome(alloc: Global, rows: &str) -> Result<String> {
+    let mut count: u64 = 0;
+    for row in rows.split(NEXT_ROW) {
+        let (script, expected) = row.split_once(RULE).context("a row has no rule")?;
+        let printed = printed_by(alloc, &options_of(alloc, &[], script)?, script.as_bytes())?;
+        if printed.as_slice() != expected.as_bytes() {
+            return otherwise(alloc, script, printed.as_slice());
+        }
+        count = count.wrapping_add(1);
+    }
+    Ok(format!(in alloc; "{count} scripts print what they have to")?)
 }
 
 /// The outcome of a row: a script, a rule and what it has to print. Without options of its own it has two clients and small chunks.

@@ -5,7 +5,7 @@ use gfs_types::answer::Answer;
 use gfs_types::refusal::Refusal;
 
 /// How many answers of each kind there were.
-#[derive(Clone, Copy, Debug, Default)]
+#[derive(Clone, Copy, Default)]
 pub struct Counts {
     /// Directories, files and writes that were done.
     pub done: u64,
@@ -29,10 +29,10 @@ pub struct Counts {
 impl Counts {
     /// Whether there was enough of each for the scripts of one test to tell something.
     pub fn are_enough(&self) -> bool {
-        let named = self.done >= 800 && self.opened >= 400 && self.listed >= 60;
-        let appended = self.appended >= 400 && self.in_later_chunks >= 100;
-        let looked = self.lengths >= 200 && self.read >= 300 && self.read_nothing >= 200;
-        let refused = self.too_long >= 100 && self.refused >= 400;
+        let named = self.done >= 1_600 && self.opened >= 800 && self.listed >= 120;
+        let appended = self.appended >= 800 && self.in_later_chunks >= 200;
+        let looked = self.lengths >= 400 && self.read >= 600 && self.read_nothing >= 400;
+        let refused = self.too_long >= 200 && self.refused >= 800;
         named && appended && looked && refused
     }
 

@@ -74,27 +74,39 @@ impl CallSource {
         })
     }
 
+    fn text(&self, path: &str) -> Result<Text, NoMemory> {
+        Text::from_str(path, self.alloc)
+    }
+
     fn name_call(&mut self) -> Result<Call, NoMemory> {
         let path = if self.numbers.random_ratio(85, 100) {
             PATHS.choose(&mut self.numbers).unwrap()
         } else {
             ODD_PATHS.choose(&mut self.numbers).unwrap()
         };
-        let path = Text::from_str(path, self.alloc)?;
-        Ok(match self.numbers.random_range(0..14) {
-            0..3 => Call::Mkdir(path),
-            3..6 => Call::Create(path),
-            6..9 => Call::Open(path),
-            9 => Call::Rmdir(path),
-            10..12 => {
-                let to = PATHS.choose(&mut self.numbers).unwrap();
-                Call::Rename(path, Text::from_str(to, self.alloc)?)
-            }
+        match self.numbers.random_range(0..14) {
+            0..3 => Ok(Call::Mkdir(self.text(path)?)),
+            3..6 => Ok(Call::Create(self.text(path)?)),
+            6..9 => Ok(Call::Open(self.text(path)?)),
+            9 => Ok(Call::Rmdir(self.text(path)?)),
+            10..12 => self.rename(path),
             _ => {
                 let directory = DIRECTORIES.choose(&mut self.numbers).unwrap();
-                Call::List(Text::from_str(directory, self.alloc)?)
+                Ok(Call::List(self.text(directory)?))
             }
-        })
+        }
+    }
+
+    fn rename(&mut self, path: &str) -> Result<Call, NoMemory> {
+        let to = PATHS.choose(&mut self.numbers).unwrap();
+        let from = self.text(path)?;
+        match self.text(to) {
+            Ok(to) => Ok(Call::Rename(from, to)),
+            Err(fault) => {
+                drop(from);
+                Err(fault)
+            }
+        }
     }
 
     fn file_call(&mut self, descriptors: u64) -> Result<Call, NoMemory> {

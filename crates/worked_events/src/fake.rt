@@ -1,9 +1,9 @@
 //! A cell of a few messages, which keeps its first events.
 //!
-//! - `list`: the client sends Ask to the master, which answers Wait; the call is then done. A client that ticks at 500
-//!   milliseconds or later gives such a call up, with the refusal Unknown.
-//! - Each other call: the master sends Create to each server, which answers Recorded; at the last of these the client is sent
-//!   Wait, and the call is done. It is never given up.
+//! - `mkdir`: the client sends Ask to the master, which sends Create to each server, which answers Recorded; at the last of these the
+//!   client is sent Wait, and the call is done. It is never given up.
+//! - Each other call: the master answers Ask by Wait at once. A client that ticks at 500 milliseconds or later gives such a call up, with
+//!   the refusal Unknown.
 //! - A node that starts anew sends Revoked to the master.
 
 ghost use Rattle.std.specs.Prelude.{⊤, ◌==◌, ◌-◌, nat_lt, if◌then◌else◌, [], ◌∷◌, Some, None, slice_get, codes, bytes_eq, true, false};
@@ -28,7 +28,7 @@ use std::alloc::Global;
 const HANDLE: Handle = Handle(1);
 
 /// The first events, of which so many are kept.
-const MAX_EVENTS: usize = 1_000;
+const MAX_EVENTS: usize = 40;
 
 const VERSION: Version = Version(1);
 
@@ -75,14 +75,14 @@ impl FakeCell {
         if self.open.contains(&client.0) {
             return;
         }
-        let is_list = matches!(call, Call::List(_));
+        let is_long = matches!(call, Call::Mkdir(_));
         let _ = self.open.push(client.0);
-        if !is_list {
+        if is_long {
             let _ = self.patient.push(client.0);
         }
         let body = Body::Ask {
             number: 1,
-            file: FileId(if is_list { 1 } else { 2 }),
+            file: FileId(if is_long { 2 } else { 1 }),
             wanted: Wanted::Last,
             deadline: Moment(0),
             lost_lease: false,
@@ -90,20 +90,21 @@ impl FakeCell {
         self.send(Node::Client(client), Node::Master, body);
     }
 
-    fn answers(&mut self, node: Node, answer: Answer) -> Option<Answer> {
+    /// A client's call is over, and whether one was open.
+    fn ends(&mut self, node: Node) -> bool {
         let Node::Client(client) = node else {
-            return None;
+            return false;
         };
         if !self.open.contains(&client.0) {
-            return None;
+            return false;
         }
         self.open.retain(|other| *other != client.0);
         self.patient.retain(|other| *other != client.0);
-        Some(answer)
+        true
     }
 
-    fn asked(&mut self, client: Node, is_list: bool) {
-        if is_list {
+    fn asked(&mut self, client: Node, is_long: bool) {
+        if !is_long {
             self.send(Node::Master, client, Body::Wait { number: 1 });
             return;
         }
@@ -132,15 +133,15 @@ impl FakeCell {
         let message = self.message(number)?;
         let sender = message.sender;
         let receiver = message.receiver;
-        let is_list = matches!(
+        let is_long = matches!(
             message.body,
             Body::Ask {
-                file: FileId(1),
+                file: FileId(2),
                 ..
             }
         );
         match Kind::of(&message.body) {
-            Kind::Ask => self.asked(sender, is_list),
+            Kind::Ask => self.asked(sender, is_long),
             Kind::Create => self.send(
                 receiver,
                 Node::Master,
@@ -150,7 +151,7 @@ impl FakeCell {
                 },
             ),
             Kind::Recorded => self.recorded(),
-            Kind::Wait => return self.answers(receiver, Answer::Done),
+            Kind::Wait if self.ends(receiver) => return Some(Answer::Done),
             _ => {}
         }
         None
@@ -160,10 +161,11 @@ impl FakeCell {
         let Node::Client(client) = node else {
             return None;
         };
-        if now.0 < 500 || self.patient.contains(&client.0) {
-            return None;
+        if now.0 >= 500 && !self.patient.contains(&client.0) && self.ends(node) {
+            Some(Answer::Refused(Refusal::Unknown))
+        } else {
+            None
         }
-        self.answers(node, Answer::Refused(Refusal::Unknown))
     }
 
     fn happens(&mut self, event: &Event) -> Option<Answer> {
@@ -203,6 +205,8 @@ impl SimulatedCell for FakeCell {
         let answer = self.happens(&event);
         if self.events.len() < MAX_EVENTS {
             let _ = self.events.push(event);
+        } else {
+            drop(event);
         }
         answer
     }

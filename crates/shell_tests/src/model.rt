@@ -46,6 +46,11 @@ impl PlainCell {
         })
     }
 
+    /// The bytes that a chunk may hold.
+    pub fn size(&self) -> u64 {
+        self.size
+    }
+
     /// How many descriptors were opened.
     pub fn descriptor_count(&self) -> u64 {
         self.opened.len() as u64

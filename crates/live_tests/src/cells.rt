@@ -1,0 +1,40 @@
+//! Small cells, and waiting for what comes to pass in them.
+
+use gfs_types::config::Config;
+use std::sync::atomic::{AtomicU64, Ordering};
+use std::thread;
+use std::time::{Clock, Duration};
+
+/// For how many milliseconds something may be waited for.
+const MOST_TURNS: u64 = 10_000;
+
+/// The settings of a cell of small chunks with so many replicas of each, where no attempt is over soon.
+pub fn small(goal: u32) -> Config {
+    Config {
+        chunk: 64,
+        block: 16,
+        slots: 64,
+        goal,
+        attempt_ms: 60_000,
+        ..Config::default()
+    }
+}
+
+/// The same where attempts are soon over, and clocks taken to be close.
+pub fn hasty(goal: u32) -> Config {
+    Config {
+        attempt_ms: 300,
+        skew_ms: 500,
+        ..small(goal)
+    }
+}
+
+/// Waits until so much was counted, but not for ever.
+pub fn wait_for<R: Clock>(rt: &R, counter: &AtomicU64, count: u64) {
+    for _ in 0..MOST_TURNS {
+        if counter.load(Ordering::SeqCst) >= count {
+            return;
+        }
+        thread::sleep(rt, Duration::from_millis(1));
+    }
+}
