@@ -30,19 +30,49 @@ fn lock_for_creation(
     table.try_take(&names)
 }
 
+// Why the set isn't locked. What owns a ticket or a table calls `drop` once: a drop at the end of a scope is proved anew at each place.
+fn fault_of(taken: Result<Ticket, TakeFault>) -> Option<TakeFault> {
+    let fault = match &taken {
+        Ok(_) => None,
+        Err(fault) => Some(*fault),
+    };
+    drop(taken);
+    fault
+}
+
+// Two creations in a directory, and the second of them once more.
+fn creations(
+    alloc: Global,
+    table: &mut LockTable,
+    directory: &Path,
+    a: &Path,
+    b: &Path,
+) -> [Option<TakeFault>; 3] {
+    let first = fault_of(lock_for_creation(alloc, table, directory, a));
+    let second = fault_of(lock_for_creation(alloc, table, directory, b));
+    let again = fault_of(lock_for_creation(alloc, table, directory, b));
+    [first, second, again]
+}
+
+fn conflicts_with_writer(table: &LockTable, directory: Path) -> bool {
+    let names = [(directory, Mode::Write)];
+    let conflicts = table.conflicts(&names);
+    drop(names);
+    conflicts
+}
+
 #[test]
 fn two_creations_in_a_directory(rt: HostRuntime) -> Result<(), Fail> {
     let alloc = rt.alloc();
-    let mut table = LockTable::new(alloc);
     let directory = Path::parse("/d", alloc)?;
     let a = Path::parse("/d/a", alloc)?;
     let b = Path::parse("/d/b", alloc)?;
-    let _a = lock_for_creation(alloc, &mut table, &directory, &a)?;
-    let _b = lock_for_creation(alloc, &mut table, &directory, &b)?;
-    let again = lock_for_creation(alloc, &mut table, &directory, &a).map(|_ticket| ());
-    assert_eq!(rt; again, Err(TakeFault::Conflict));
-    let names = [(directory, Mode::Write)];
-    assert!(rt; table.conflicts(&names));
+    let mut table = LockTable::new(alloc);
+    let faults = creations(alloc, &mut table, &directory, &a, &b);
+    let conflicts = conflicts_with_writer(&table, directory);
+    drop(table);
+    assert!(rt; faults == [None, None, Some(TakeFault::Conflict)]);
+    assert!(rt; conflicts);
     Ok(())
 }
 
@@ -65,6 +95,18 @@ fn two_names_again(
     }
 }
 
+// Whether the set is taken. Where memory is refused it is not, and goes through when it is tried again.
+fn is_taken(table: &mut LockTable, names: &[(Path, Mode)]) -> bool {
+    let first = fault_of(table.try_take(names));
+    if first == Some(TakeFault::NoMemory) {
+        if table.conflicts(names) {
+            return false;
+        }
+        return fault_of(table.try_take(names)).is_none() && table.conflicts(names);
+    }
+    first.is_none() && table.conflicts(names)
+}
+
 // It passes too where one allocation is refused, whichever that is (`tools/refused`): a refused call has taken nothing, and goes through when it is made again.
 #[test]
 fn a_refused_set_is_not_taken(rt: HostRuntime) -> Result<(), Fail> {
@@ -72,20 +114,14 @@ fn a_refused_set_is_not_taken(rt: HostRuntime) -> Result<(), Fail> {
     let first = two_names_again(alloc, "/a", "/b")?;
     let second = two_names_again(alloc, "/c", "/b")?;
     let mut table = LockTable::new(alloc);
-    for names in [&first, &second] {
-        let _ticket = match table.try_take(names) {
-            Ok(ticket) => ticket,
-            Err(fault) => {
-                assert_eq!(rt; fault, TakeFault::NoMemory);
-                assert!(rt; !table.conflicts(names));
-                table.try_take(names)?
-            }
-        };
-        assert!(rt; table.conflicts(names));
-    }
-    assert_eq!(rt;
-        table.try_take(&first).map(|_ticket| ()),
-        Err(TakeFault::Conflict)
-    );
+    let is_first_taken = is_taken(&mut table, &first);
+    let is_second_taken = is_taken(&mut table, &second);
+    let again = fault_of(table.try_take(&first));
+    drop(table);
+    drop(first);
+    drop(second);
+    assert!(rt; is_first_taken);
+    assert!(rt; is_second_taken);
+    assert!(rt; again == Some(TakeFault::Conflict));
     Ok(())
 }

@@ -1,10 +1,10 @@
 //! Names in a region: random calls beside a plain map, refused copies, and memory that comes back.
 
-use gfs_types::path::Path;
+use gfs_types::lists::Text;
+use gfs_types::no_memory::NoMemory;
+use gfs_types::path::{Path, PathFault};
 use linked_list_allocator::LocalHeap;
 use path_trie::trie::Trie;
-use rand::rngs::SmallRng;
-use rand::{RngExt, SeedableRng};
 use std::alloc::{Allocator, Global};
 use std::collections::BTreeMap;
 use std::test::Fail;
@@ -19,11 +19,19 @@ const PARTS: [&str; 6] = [
     "aaaaaaaaaaaaaaaaaaaaaaaaaaaaaaaaaaaaaaab",
 ];
 
+// Numbers by chance, each with its seed for the next: a linear congruential generator, of which the upper half is taken.
+fn draw(seed: &mut u64, below: u64) -> u64 {
+    *seed = seed
+        .wrapping_mul(6_364_136_223_846_793_005)
+        .wrapping_add(1_442_695_040_888_963_407);
+    (*seed >> 32).checked_rem(below).unwrap_or(0)
+}
+
 // A path of so many parts.
-fn drawn(numbers: &mut SmallRng, alloc: Global, parts: u64) -> Result<String, Fail> {
+fn drawn(seed: &mut u64, alloc: Global, parts: u64) -> Result<String, Fail> {
     let mut text = String::new(alloc);
     for _ in 0..parts {
-        let at = numbers.random_range(0..6usize);
+        let at = draw(seed, 6) as usize;
         text.push_str("/")?;
         text.push_str(PARTS.as_slice().get(at).copied().unwrap_or("a"))?;
     }
@@ -42,7 +50,7 @@ fn are_alike<A: Allocator + Clone>(
     alloc: Global,
     trie: &Trie<u64, A>,
     plain: &BTreeMap<String, u64>,
-) -> Result<bool, Fail> {
+) -> Result<bool, NoMemory> {
     let entries = trie.entries(alloc)?;
     let mut all = entries.len() == plain.len() && trie.len() == plain.len();
     for (entry, (name, value)) in entries.iter().zip(plain) {
@@ -51,105 +59,225 @@ fn are_alike<A: Allocator + Clone>(
     Ok(all)
 }
 
-// A value for a path, which needs no memory where one stands there. Whether it is put.
+// A value for a path, which needs no memory where one stands there. Whether it is put; None where another value came back, or one was to be replaced.
+fn put_in_trie<A: Allocator + Clone>(
+    trie: &mut Trie<u64, A>,
+    path: &Path,
+    value: u64,
+    was_there: bool,
+) -> Option<bool> {
+    match trie.insert(path, value) {
+        Ok(()) => Some(true),
+        Err((back, _)) => {
+            if back == value && !was_there {
+                Some(false)
+            } else {
+                None
+            }
+        }
+    }
+}
+
+// The same in both.
 fn put_in_both<A: Allocator + Clone>(
     alloc: Global,
     trie: &mut Trie<u64, A>,
     plain: &mut BTreeMap<String, u64>,
-    text: String,
+    text: &str,
     value: u64,
-) -> Result<bool, Fail> {
-    let path = Path::parse(text.as_str(), alloc)?;
-    match trie.insert(&path, value) {
-        Ok(()) => {
-            plain.insert(text, value)?;
-            Ok(true)
-        }
-        Err((back, _)) if back == value && plain.get(text.as_str()).is_none() => Ok(false),
-        Err(_) => Err(Fail::new("another value came back, or one was to be replaced")),
+) -> Result<Option<bool>, Fail> {
+    let path = Path::parse(text, alloc)?;
+    let was_there = plain.contains_key(text);
+    let is_put = put_in_trie(trie, &path, value, was_there);
+    if is_put == Some(true) {
+        plain.insert(String::from_str(alloc, text)?, value)?;
     }
+    Ok(is_put)
 }
 
-// What lies at a path and below it, at another. None where something stands there already, else whether it is copied.
+// Whether the same value, or none, is taken out of both.
+fn is_removed_alike<A: Allocator + Clone>(
+    alloc: Global,
+    trie: &mut Trie<u64, A>,
+    plain: &mut BTreeMap<String, u64>,
+    text: &str,
+) -> Result<bool, Fail> {
+    let path = Path::parse(text, alloc)?;
+    Ok(trie.remove(&path) == plain.remove(text))
+}
+
+/// What a copy came to.
+#[derive(Clone, Copy, PartialEq, Eq)]
+enum Copied {
+    // Something stands there already.
+    No,
+    Refused,
+    Yes,
+}
+
+// What lies at a path and below it, at another.
+fn copy_in_trie<A: Allocator + Clone>(
+    alloc: Global,
+    trie: &mut Trie<u64, A>,
+    from: &str,
+    to: &str,
+) -> Result<Copied, PathFault> {
+    let from = Path::parse(from, alloc)?;
+    let to = Path::parse(to, alloc)?;
+    if trie.has_at_or_below(&to) {
+        return Ok(Copied::No);
+    }
+    Ok(if trie.copy_below(&from, &to).is_ok() {
+        Copied::Yes
+    } else {
+        Copied::Refused
+    })
+}
+
+fn stands_at_or_below(plain: &BTreeMap<String, u64>, top: &str) -> bool {
+    let mut any = false;
+    for name in plain.keys() {
+        any = any || is_at_or_below(top, name.as_str());
+    }
+    any
+}
+
+// The names of the copies, with their values.
+fn copies_of(
+    alloc: Global,
+    plain: &BTreeMap<String, u64>,
+    from: &str,
+    to: &str,
+) -> Result<Vec<(String, u64)>, Fail> {
+    let mut copies = Vec::new(alloc);
+    for (name, value) in plain {
+        if is_at_or_below(from, name.as_str()) {
+            let rest = name.as_str().strip_prefix(from).unwrap_or_default();
+            copies.push((format!(in alloc; "{to}{rest}")?, *value))?;
+        }
+    }
+    Ok(copies)
+}
+
+fn copy_in_plain(
+    alloc: Global,
+    plain: &mut BTreeMap<String, u64>,
+    from: &str,
+    to: &str,
+) -> Result<(), Fail> {
+    for (name, value) in copies_of(alloc, plain, from, to)? {
+        plain.insert(name, value)?;
+    }
+    Ok(())
+}
+
+// The same in both; None where only one of them has something there.
 fn copy_in_both<A: Allocator + Clone>(
     alloc: Global,
     trie: &mut Trie<u64, A>,
     plain: &mut BTreeMap<String, u64>,
     from: &str,
     to: &str,
-) -> Result<Option<bool>, Fail> {
-    let (from_path, to_path) = (Path::parse(from, alloc)?, Path::parse(to, alloc)?);
-    let is_there = plain.keys().any(|name| is_at_or_below(to, name.as_str()));
-    if trie.has_at_or_below(&to_path) {
-        return if is_there {
-            Ok(None)
-        } else {
-            Err(Fail::new("nothing stands there"))
-        };
+) -> Result<Option<Copied>, Fail> {
+    let is_there = stands_at_or_below(plain, to);
+    let copied = copy_in_trie(alloc, trie, from, to)?;
+    if is_there != (copied == Copied::No) {
+        return Ok(None);
     }
-    if is_there {
-        return Err(Fail::new("something stands there"));
+    if copied == Copied::Yes {
+        copy_in_plain(alloc, plain, from, to)?;
     }
-    if trie.copy_below(&from_path, &to_path).is_err() {
-        return Ok(Some(false));
-    }
-    let mut copies = Vec::new(alloc);
-    for (name, value) in &*plain {
-        if is_at_or_below(from, name.as_str()) {
-            let rest = name.as_str().strip_prefix(from).unwrap_or_default();
-            copies.push((format!(in alloc; "{to}{rest}")?, *value))?;
-        }
-    }
-    for (name, value) in copies {
-        plain.insert(name, value)?;
-    }
-    Ok(Some(true))
+    Ok(Some(copied))
 }
 
 // The same between two paths of two parts, so that no copy has more than four.
 fn copy_drawn<A: Allocator + Clone>(
     alloc: Global,
-    numbers: &mut SmallRng,
+    seed: &mut u64,
     trie: &mut Trie<u64, A>,
     plain: &mut BTreeMap<String, u64>,
-) -> Result<Option<bool>, Fail> {
-    let from = drawn(numbers, alloc, 2)?;
-    let to = drawn(numbers, alloc, 2)?;
+) -> Result<Option<Copied>, Fail> {
+    let from = drawn(seed, alloc, 2)?;
+    let to = drawn(seed, alloc, 2)?;
     copy_in_both(alloc, trie, plain, from.as_str(), to.as_str())
+}
+
+// How often a name was refused, a copy was made, and one was refused.
+#[derive(Clone, Copy)]
+struct Counts {
+    refused: u64,
+    copied: u64,
+    refused_copies: u64,
+}
+
+// One call of both by chance. Whether they answer alike.
+fn call_drawn<A: Allocator + Clone>(
+    alloc: Global,
+    seed: &mut u64,
+    trie: &mut Trie<u64, A>,
+    plain: &mut BTreeMap<String, u64>,
+    counts: &mut Counts,
+    value: u64,
+) -> Result<bool, Fail> {
+    let parts = draw(seed, 4).saturating_add(1);
+    let text = drawn(seed, alloc, parts)?;
+    let kind = draw(seed, 10);
+    if kind <= 4 {
+        let is_put = put_in_both(alloc, trie, plain, text.as_str(), value)?;
+        counts.refused = counts
+            .refused
+            .saturating_add(u64::from(is_put == Some(false)));
+        Ok(is_put.is_some())
+    } else if kind <= 8 {
+        is_removed_alike(alloc, trie, plain, text.as_str())
+    } else {
+        let copied = copy_drawn(alloc, seed, trie, plain)?;
+        count_copy(counts, copied);
+        Ok(copied.is_some())
+    }
+}
+
+fn count_copy(counts: &mut Counts, copied: Option<Copied>) {
+    match copied {
+        Some(Copied::Yes) => counts.copied = counts.copied.saturating_add(1),
+        Some(Copied::Refused) => counts.refused_copies = counts.refused_copies.saturating_add(1),
+        Some(Copied::No) | None => {}
+    }
+}
+
+// The first of so many calls that isn't answered alike, or after which names or values differ, of which each fiftieth is looked at. None where there is none.
+fn first_unlike<A: Allocator + Clone>(
+    alloc: Global,
+    trie: &mut Trie<u64, A>,
+    counts: &mut Counts,
+    calls: u64,
+) -> Result<Option<u64>, Fail> {
+    let mut seed = 7;
+    let mut plain = BTreeMap::new(alloc);
+    for step in 0..calls {
+        let is_alike = call_drawn(alloc, &mut seed, trie, &mut plain, counts, step)?;
+        if !is_alike || (step % 50 == 0 && !are_alike(alloc, trie, &plain)?) {
+            return Ok(Some(step));
+        }
+    }
+    Ok(None)
 }
 
 #[test]
 fn random_calls(rt: HostRuntime) -> Result<(), Fail> {
     let alloc = rt.alloc();
     let heap = LocalHeap::new(alloc, 16_384)?;
-    let mut numbers = SmallRng::seed_from_u64(7);
     let mut trie = Trie::new(&heap)?;
-    let mut plain = BTreeMap::new(alloc);
-    let (mut refused, mut copied, mut refused_copies) = (0u64, 0u64, 0u64);
-    for step in 0..20_000u64 {
-        let parts = numbers.random_range(1..=4u64);
-        let text = drawn(&mut numbers, alloc, parts)?;
-        match numbers.random_range(0..10u64) {
-            0..=4 => {
-                let is_put = put_in_both(alloc, &mut trie, &mut plain, text, step)?;
-                refused = refused.saturating_add(u64::from(!is_put));
-            }
-            5..=8 => {
-                let path = Path::parse(text.as_str(), alloc)?;
-                assert_eq!(rt; trie.remove(&path), plain.remove(text.as_str()));
-            }
-            _ => {
-                let is_copied = copy_drawn(alloc, &mut numbers, &mut trie, &mut plain)?;
-                copied = copied.saturating_add(u64::from(is_copied == Some(true)));
-                refused_copies = refused_copies.saturating_add(u64::from(is_copied == Some(false)));
-            }
-        }
-        assert!(rt; step % 50 > 0 || are_alike(alloc, &trie, &plain)?, "{step}");
-    }
-    assert!(rt;
-        refused > 100 && copied > 10 && refused_copies > 10,
-        "{refused}, {copied}, {refused_copies}"
-    );
+    let mut counts = Counts {
+        refused: 0,
+        copied: 0,
+        refused_copies: 0,
+    };
+    let step = first_unlike(alloc, &mut trie, &mut counts, 20_000)?.unwrap_or(20_000);
+    assert!(rt; step == 20_000, "{step}");
+    assert!(rt; counts.refused > 100, "{}", counts.refused);
+    assert!(rt; counts.copied > 10, "{}", counts.copied);
+    assert!(rt; counts.refused_copies > 10, "{}", counts.refused_copies);
     Ok(())
 }
 
@@ -164,101 +292,168 @@ fn long(alloc: Global, front: &str, parts: u64, tail: &str) -> Result<String, Fa
     Ok(text)
 }
 
-// A copy of `/d` at a path, in a region of so many bytes, which has at first room for the names alone. None where it hasn't, else whether the copy
-// was refused; and what was refused, a name or the copy, left all as it was.
-fn is_copy_refused(
+// Names that begin with these bytes: so many parts of 255 bytes, and then these.
+fn names_below(alloc: Global, front: &str, tails: &[(u64, &str)]) -> Result<Vec<String>, Fail> {
+    let mut names = Vec::new(alloc);
+    for (parts, tail) in tails {
+        names.push(long(alloc, front, *parts, tail)?)?;
+    }
+    Ok(names)
+}
+
+/// What came of a copy in a region: there was no room for the names, it was refused, or it was made; or something else changed.
+#[derive(Clone, Copy, PartialEq, Eq)]
+enum Met {
+    NoRoom,
+    Refused,
+    Made,
+    Wrong,
+}
+
+// Puts the names, as long as there is room. Whether there was; None where a name that was refused left something.
+fn are_put(
     alloc: Global,
-    bytes: usize,
+    heap: &LocalHeap,
+    trie: &mut Trie<u64, &LocalHeap>,
+    plain: &mut BTreeMap<String, u64>,
     names: &[String],
-    to: &str,
 ) -> Result<Option<bool>, Fail> {
-    let heap = LocalHeap::new(alloc, bytes)?;
-    let mut trie = Trie::new(&heap)?;
-    let mut plain = BTreeMap::new(alloc);
     for name in names {
         let used = heap.used();
-        if !put_in_both(alloc, &mut trie, &mut plain, name.clone()?, 7)? {
-            return if are_alike(alloc, &trie, &plain)? && heap.used() == used {
-                Ok(None)
-            } else {
-                Err(Fail::new("a name that was refused left something"))
-            };
+        match put_in_both(alloc, trie, plain, name.as_str(), 7)? {
+            Some(true) => {}
+            Some(false) => {
+                let is_kept = are_alike(alloc, trie, plain)? && heap.used() == used;
+                return Ok(if is_kept { Some(false) } else { None });
+            }
+            None => return Ok(None),
         }
     }
-    let used = heap.used();
-    let is_copied = copy_in_both(alloc, &mut trie, &mut plain, "/d", to)?;
-    if !are_alike(alloc, &trie, &plain)? {
-        return Err(Fail::new("another name than the copies came or went"));
+    Ok(Some(true))
+}
+
+// A copy of `/d`. What was refused left all as it was, and no memory is lost.
+fn met_copy(
+    alloc: Global,
+    heap: &LocalHeap,
+    trie: &mut Trie<u64, &LocalHeap>,
+    plain: &mut BTreeMap<String, u64>,
+    to: &str,
+) -> Result<Met, Fail> {
+    let (used, count) = (heap.used(), plain.len());
+    let copied = copy_in_both(alloc, trie, plain, "/d", to)?;
+    if !are_alike(alloc, trie, plain)? {
+        return Ok(Met::Wrong);
     }
-    match is_copied {
-        Some(true) if plain.len() > names.len() => Ok(Some(false)),
-        Some(false) if plain.len() == names.len() && heap.used() == used => Ok(Some(true)),
-        _ => Err(Fail::new("memory is lost, or nothing is copied")),
+    Ok(match copied {
+        Some(Copied::Yes) if plain.len() > count => Met::Made,
+        Some(Copied::Refused) if plain.len() == count && heap.used() == used => Met::Refused,
+        _ => Met::Wrong,
+    })
+}
+
+// A copy of `/d` at a path, in an empty region, which has at first room for the names alone.
+fn met_in(alloc: Global, heap: &LocalHeap, names: &[String], to: &str) -> Result<Met, Fail> {
+    let mut trie = Trie::new(heap)?;
+    let mut plain = BTreeMap::new(alloc);
+    match are_put(alloc, heap, &mut trie, &mut plain, names)? {
+        Some(true) => met_copy(alloc, heap, &mut trie, &mut plain, to),
+        Some(false) => Ok(Met::NoRoom),
+        None => Ok(Met::Wrong),
     }
 }
 
-// How often it is refused, in ever larger regions, before it isn't.
+// How often it is refused, in ever larger regions, before it is made; 0 where it never is, or something is wrong.
 fn refused_copies(alloc: Global, names: &[String], to: &str, grows_by: usize) -> Result<u64, Fail> {
     let mut count = 0u64;
     for blocks in 1..2_000usize {
-        match is_copy_refused(alloc, blocks.saturating_mul(grows_by), names, to)? {
-            None => {}
-            Some(true) => count = count.saturating_add(1),
-            Some(false) => return Ok(count),
+        let heap = LocalHeap::new(alloc, blocks.saturating_mul(grows_by))?;
+        match met_in(alloc, &heap, names, to)? {
+            Met::NoRoom => {}
+            Met::Refused => count = count.saturating_add(1),
+            Met::Made => return Ok(count),
+            Met::Wrong => return Ok(0),
         }
     }
-    Err(Fail::new("it is always refused"))
+    Ok(0)
 }
 
 // One byte apart, prefix of one another, and longer than a label. The copies' names leave those that are there before them, within them and behind them.
 #[test]
 fn each_growth_of_a_copy(rt: HostRuntime) -> Result<(), Fail> {
     let alloc = rt.alloc();
-    let names = vec![in alloc;
-        long(alloc, "/d", 0, "")?,
-        long(alloc, "/d", 0, "/a")?,
-        long(alloc, "/d", 0, "/aaaaaaaaaaaaaaaaaaaaaaaaaaaaab")?,
-        long(alloc, "/d", 0, "/aaaaaaaaaaaaaaaaaaaaaaaaaaaaac")?,
-        long(alloc, "/d", 1, "/b")?,
-    ]?;
+    let tails = [
+        (0, ""),
+        (0, "/a"),
+        (0, "/aaaaaaaaaaaaaaaaaaaaaaaaaaaaab"),
+        (0, "/aaaaaaaaaaaaaaaaaaaaaaaaaaaaac"),
+        (1, "/b"),
+    ];
+    let names = names_below(alloc, "/d", &tails)?;
     for to in ["/c", "/d1", "/e", "/dddddddddddddddddddddddddddddd", "/d/b"] {
-        assert!(rt;
-            refused_copies(alloc, names.as_slice(), to, 16)? > 20,
-            "{to}"
-        );
+        let count = refused_copies(alloc, names.as_slice(), to, 16)?;
+        assert!(rt; count > 20, "{to}");
     }
     Ok(())
+}
+
+// `/d`, and eleven names below it by chance.
+fn drawn_names(seed: &mut u64, alloc: Global) -> Result<Vec<String>, Fail> {
+    let mut names = names_below(alloc, "/d", &[(0, "")])?;
+    for number in 0..11u64 {
+        let tail = drawn(seed, alloc, 2)?;
+        names.push(format!(in alloc; "/d{tail}{number}")?)?;
+    }
+    Ok(names)
 }
 
 // Twelve names by chance, ten times.
 #[test]
 fn each_growth_of_random_names(rt: HostRuntime) -> Result<(), Fail> {
     let alloc = rt.alloc();
-    let mut numbers = SmallRng::seed_from_u64(24);
+    let mut seed = 24;
     for _ in 0..10 {
-        let mut names = vec![in alloc; long(alloc, "/d", 0, "")?]?;
-        for number in 0..11u64 {
-            let tail = drawn(&mut numbers, alloc, 2)?;
-            names.push(format!(in alloc; "/d{tail}{number}")?)?;
-        }
-        assert!(rt; refused_copies(alloc, names.as_slice(), "/e", 16)? > 20);
+        let names = drawn_names(&mut seed, alloc)?;
+        let count = refused_copies(alloc, names.as_slice(), "/e", 16)?;
+        assert!(rt; count > 20);
     }
     Ok(())
 }
 
 // The longest of these paths have 4,096 bytes, and differ in the last one.
+fn longest_names(alloc: Global) -> Result<Vec<String>, Fail> {
+    let last = format!(in alloc; "/{:a<252}", "")?;
+    let front = long(alloc, "/d", 15, last.as_str())?;
+    let mut names = names_below(alloc, "/d", &[(8, "")])?;
+    for last in ["b", "c"] {
+        names.push(long(alloc, front.as_str(), 0, last)?)?;
+    }
+    Ok(names)
+}
+
 #[test]
 fn each_growth_of_a_copy_of_the_longest_path(rt: HostRuntime) -> Result<(), Fail> {
     let alloc = rt.alloc();
-    let last = format!(in alloc; "/{:a<252}", "")?;
-    let front = long(alloc, "/d", 15, last.as_str())?;
-    let names = vec![in alloc;
-        long(alloc, "/d", 8, "")?,
-        long(alloc, front.as_str(), 0, "b")?,
-        long(alloc, front.as_str(), 0, "c")?,
-    ]?;
-    assert!(rt; refused_copies(alloc, names.as_slice(), "/e", 256)? > 50);
+    let names = longest_names(alloc)?;
+    let count = refused_copies(alloc, names.as_slice(), "/e", 256)?;
+    assert!(rt; count > 50);
     Ok(())
+}
+
+// Puts a name at each of the first so many bytes of a path, but where a part begins, the longest first. Whether all are put.
+fn are_put_at_each_byte(
+    alloc: Global,
+    trie: &mut Trie<u64, Global>,
+    plain: &mut BTreeMap<String, u64>,
+    path: &str,
+) -> Result<bool, Fail> {
+    for at in 0..path.len() {
+        let front = path.get(..path.len() - at).unwrap_or_default();
+        if !front.ends_with('/') && put_in_both(alloc, trie, plain, front, 7)? != Some(true) {
+            return Ok(false);
+        }
+    }
+    Ok(true)
 }
 
 // A name at each byte of a path of 4,096 bytes, but where a part begins: as deep as names go.
@@ -268,29 +463,18 @@ fn the_deepest_names_are_listed(rt: HostRuntime) -> Result<(), Fail> {
     let path = long(alloc, "", 16, "")?;
     let mut trie = Trie::new(alloc)?;
     let mut plain = BTreeMap::new(alloc);
-    for at in 0..4_096usize {
-        let front = path.as_str().get(..4_096 - at).unwrap_or_default();
-        if !front.ends_with('/') {
-            put_in_both(
-                alloc,
-                &mut trie,
-                &mut plain,
-                String::from_str(alloc, front)?,
-                7,
-            )?;
-        }
-    }
-    assert_eq!(rt; plain.len(), 4_080);
-    assert!(rt; are_alike(alloc, &trie, &plain)?);
+    let are_put = are_put_at_each_byte(alloc, &mut trie, &mut plain, path.as_str())?;
+    let are_alike = are_alike(alloc, &trie, &plain)?;
+    assert!(rt; path.len() == 4_096);
+    assert!(rt; are_put);
+    assert!(rt; plain.len() == 4_080);
+    assert!(rt; are_alike);
     Ok(())
 }
 
-// Fills a region with names and a copy of some, and takes all out again: how many names there were, and the bytes that they took.
-fn filled(
-    alloc: Global,
-    trie: &mut Trie<u64, &LocalHeap>,
-    heap: &LocalHeap,
-) -> Result<(usize, usize), Fail> {
+// Fills a region with names and a copy of some. Whether the copy is made.
+fn fill(alloc: Global, trie: &mut Trie<u64, &LocalHeap>) -> Result<bool, Fail> {
+    let mut is_copied = false;
     for number in 0..1_000u64 {
         let text = format!(in alloc; "/d{}/f{}", number % 10, number)?;
         let path = Path::parse(text.as_str(), alloc)?;
@@ -298,36 +482,65 @@ fn filled(
             break;
         }
         if number == 9 {
-            let (from, to) = (Path::parse("/d7", alloc)?, Path::parse("/e", alloc)?);
-            if trie.has_at_or_below(&to) || trie.copy_below(&from, &to).is_err() {
-                return Err(Fail::new("it is not copied"));
-            }
+            is_copied = copy_in_trie(alloc, trie, "/d7", "/e")? == Copied::Yes;
         }
     }
-    let met = (trie.len(), heap.used());
+    Ok(is_copied)
+}
+
+// The names of all entries.
+fn all_names(alloc: Global, trie: &Trie<u64, &LocalHeap>) -> Result<Vec<Text>, Fail> {
     let mut names = Vec::new(alloc);
     for entry in trie.entries(alloc)? {
         names.push(entry.into_name())?;
     }
-    for name in &names {
+    Ok(names)
+}
+
+// Takes all names out. Whether each was there.
+fn take_all(alloc: Global, trie: &mut Trie<u64, &LocalHeap>) -> Result<bool, Fail> {
+    let mut all = true;
+    for name in &all_names(alloc, trie)? {
         let path = Path::parse(name.as_str(), alloc)?;
-        if trie.remove(&path).is_none() {
-            return Err(Fail::new("a name is lost"));
+        all = trie.remove(&path).is_some() && all;
+    }
+    Ok(all)
+}
+
+// Fills the region and takes all out again: how many names there were, and the bytes that they took. None where something is wrong, or something is left.
+fn filled(
+    alloc: Global,
+    trie: &mut Trie<u64, &LocalHeap>,
+    heap: &LocalHeap,
+) -> Result<Option<(usize, usize)>, Fail> {
+    let is_filled = fill(alloc, trie)?;
+    let (count, used) = (trie.len(), heap.used());
+    let are_taken = take_all(alloc, trie)?;
+    let is_empty = trie.len() == 0 && heap.used() == 0;
+    Ok(if is_filled && are_taken && is_empty {
+        Some((count, used))
+    } else {
+        None
+    })
+}
+
+// How many names a region takes, and takes again so many times with as many bytes; 0 where it doesn't.
+fn names_in_rounds(alloc: Global, heap: &LocalHeap, rounds: u64) -> Result<usize, Fail> {
+    let mut trie = Trie::new(heap)?;
+    let first = filled(alloc, &mut trie, heap)?;
+    for _ in 0..rounds {
+        if filled(alloc, &mut trie, heap)? != first {
+            return Ok(0);
         }
     }
-    Ok(met)
+    Ok(first.map_or(0, |met| met.0))
 }
 
 #[test]
 fn a_thousand_rounds(rt: HostRuntime) -> Result<(), Fail> {
     let alloc = rt.alloc();
     let heap = LocalHeap::new(alloc, 2_048)?;
-    let mut trie = Trie::new(&heap)?;
-    let first = filled(alloc, &mut trie, &heap)?;
-    assert!(rt; first.0 > 12, "{}", first.0);
-    for _ in 0..1_000 {
-        assert_eq!(rt; filled(alloc, &mut trie, &heap)?, first);
-        assert_eq!(rt; (trie.len(), heap.used()), (0, 0));
-    }
+    let count = names_in_rounds(alloc, &heap, 1_000)?;
+    assert!(rt; count > 12, "{count}");
     Ok(())
 }

@@ -165,6 +165,59 @@ fn ten_thousand(
     Ok(all)
 }
 
+// Whether both have the same value, or none, at a file's path.
+fn has_value_alike(
+    alloc: Global,
+    trie: &Trie<u64, Global>,
+    map: &BTreeMap<String, u64>,
+    number: u64,
+) -> Result<bool, Fail> {
+    let text = file_text(alloc, number)?;
+    Ok(at(alloc, trie, text.as_str())? == map.get(text.as_str()).copied())
+}
+
+// The first file at whose path they haven't; None where there is none.
+fn first_other_value(
+    alloc: Global,
+    trie: &Trie<u64, Global>,
+    map: &BTreeMap<String, u64>,
+) -> Result<Option<u64>, Fail> {
+    for i in 0..10_000u64 {
+        if !has_value_alike(alloc, trie, map, i)? {
+            return Ok(Some(i));
+        }
+    }
+    Ok(None)
+}
+
+// Whether both list the same right below a directory.
+fn lists_alike(
+    alloc: Global,
+    trie: &Trie<u64, Global>,
+    map: &BTreeMap<String, u64>,
+    text: &str,
+) -> Result<bool, Fail> {
+    let line = children_line(alloc, trie, text)?;
+    let searched = searched_line(alloc, map, text)?;
+    Ok(line.as_str() == searched.as_str())
+}
+
+// Whether both say the same of one of a hundred directories, or of `/d100`, which isn't there, and of a file.
+fn says_alike(
+    alloc: Global,
+    trie: &Trie<u64, Global>,
+    map: &BTreeMap<String, u64>,
+    number: u64,
+) -> Result<bool, Fail> {
+    let text = format!(in alloc; "/d{number}")?;
+    let file = file_text(alloc, number.saturating_mul(99))?;
+    Ok(
+        lists_alike(alloc, trie, map, text.as_str())?
+            && has_alike(alloc, trie, map, text.as_str())?
+            && has_alike(alloc, trie, map, file.as_str())?,
+    )
+}
+
 #[test]
 fn like_a_map_of_ten_thousand(rt: HostRuntime) -> Result<(), Fail> {
     let alloc = rt.alloc();
@@ -172,22 +225,11 @@ fn like_a_map_of_ten_thousand(rt: HostRuntime) -> Result<(), Fail> {
     let mut map = BTreeMap::new(alloc);
     assert!(rt; ten_thousand(alloc, &mut trie, &mut map)?);
     // 3,334 of them are multiples of three, and 66 more lie in `/d42`
-    assert_eq!(rt; trie.len(), 6_600);
-    for i in 0..10_000u64 {
-        let text = file_text(alloc, i)?;
-        assert_eq!(rt;
-            at(alloc, &trie, text.as_str())?,
-            map.get(text.as_str()).copied()
-        );
-    }
+    assert!(rt; trie.len() == 6_600);
+    let file = first_other_value(alloc, &trie, &map)?.unwrap_or(10_000);
+    assert!(rt; file == 10_000, "file {file}");
     for i in 0..101u64 {
-        let text = format!(in alloc; "/d{i}")?;
-        let line = children_line(alloc, &trie, text.as_str())?;
-        let searched = searched_line(alloc, &map, text.as_str())?;
-        assert_eq!(rt; line.as_str(), searched.as_str(), "{text}");
-        assert!(rt; has_alike(alloc, &trie, &map, text.as_str())?, "{text}");
-        let file = file_text(alloc, i * 99)?;
-        assert!(rt; has_alike(alloc, &trie, &map, file.as_str())?, "{file}");
+        assert!(rt; says_alike(alloc, &trie, &map, i)?, "/d{i}");
     }
     Ok(())
 }
@@ -232,6 +274,40 @@ fn copied<A: Allocator + Clone>(alloc: Global, trie: &mut Trie<u64, A>) -> Resul
     Ok(trie.copy_below(&from, &to).is_ok())
 }
 
+// Whether the map has so many names, so many of the eight and so many of the copies.
+fn has_names<A: Allocator + Clone>(
+    alloc: Global,
+    trie: &Trie<u64, A>,
+    names: usize,
+    copies: usize,
+) -> Result<bool, Fail> {
+    let are_there = names_there(alloc, trie, &NAMES)? == names;
+    let are_copied = names_there(alloc, trie, &COPIES)? == copies;
+    Ok(are_there && are_copied && trie.len() == names.saturating_add(copies))
+}
+
+/// How many names an empty heap takes, and whether a copy is made then, if all eight are there.
+#[derive(Clone, Copy)]
+struct Grown {
+    names: usize,
+    is_copied: bool,
+}
+
+// None where a refused call changed the map, or a refused copy kept memory.
+fn grown_in(alloc: Global, heap: &LocalHeap) -> Result<Option<Grown>, Fail> {
+    let mut trie = Trie::new(heap)?;
+    let names = names_put(alloc, &mut trie)?;
+    let are_put = has_names(alloc, &trie, names, 0)?;
+    let used = heap.used();
+    let is_copied = names == 8 && copied(alloc, &mut trie)?;
+    let is_well = has_names(alloc, &trie, names, if is_copied { 7 } else { 0 })?;
+    Ok(if are_put && is_well && (is_copied || heap.used() == used) {
+        Some(Grown { names, is_copied })
+    } else {
+        None
+    })
+}
+
 // Heaps that grow by the least block, so that each allocation in turn is the first to be refused: those of eight names, and those of a copy of seven.
 #[test]
 fn refused_memory_leaves_the_map(rt: HostRuntime) -> Result<(), Fail> {
@@ -239,28 +315,16 @@ fn refused_memory_leaves_the_map(rt: HostRuntime) -> Result<(), Fail> {
     let (mut met, mut refused_copies, mut copies) = ([false; 9], 0u64, 0u64);
     for size in 1..200 {
         let heap = LocalHeap::new(alloc, size * 16)?;
-        let mut trie = Trie::new(&heap)?;
-        let count = names_put(alloc, &mut trie)?;
-        met[count.min(8)] = true;
-        assert_eq!(rt; trie.len(), count, "heap {size}");
-        assert_eq!(rt; names_there(alloc, &trie, &NAMES)?, count, "heap {size}");
-        if count < 8 {
-            continue;
-        }
-        let used = heap.used();
-        let is_copied = copied(alloc, &mut trie)?;
-        let (more, len) = if is_copied { (7, 15) } else { (0, 8) };
-        assert_eq!(rt; trie.len(), len, "heap {size}");
-        assert_eq!(rt; names_there(alloc, &trie, &NAMES)?, 8, "heap {size}");
-        assert_eq!(rt; names_there(alloc, &trie, &COPIES)?, more, "heap {size}");
-        if is_copied {
-            copies = copies.saturating_add(1);
-        } else {
-            refused_copies = refused_copies.saturating_add(1);
-            assert_eq!(rt; heap.used(), used, "heap {size}");
+        let grown = grown_in(alloc, &heap)?;
+        assert!(rt; grown.is_some(), "heap {size}");
+        if let Some(grown) = grown {
+            met[grown.names.min(8)] = true;
+            let is_refused = grown.names == 8 && !grown.is_copied;
+            copies = copies.saturating_add(u64::from(grown.is_copied));
+            refused_copies = refused_copies.saturating_add(u64::from(is_refused));
         }
     }
-    assert_eq!(rt; met, [true; 9]);
+    assert!(rt; met == [true; 9]);
     assert!(rt;
         copies > 0 && refused_copies > 7,
         "{copies}, {refused_copies}"
@@ -305,6 +369,6 @@ fn a_refused_listing_is_made_again(rt: HostRuntime) -> Result<(), Fail> {
         Ok(values) => values,
         Err(NoMemory) => two_values(alloc, &trie, &directory)?,
     };
-    assert_eq!(rt; values, [1, 2]);
+    assert!(rt; values == [1, 2]);
     Ok(())
 }
