@@ -12,7 +12,7 @@ use std::alloc::Global;
 use std::test::Fail;
 
 /// What a call is to come to.
-#[derive(Drop)]
+#[derive(Clone, Copy)]
 enum Expected {
     Done,
     Opens(u64),
@@ -20,44 +20,33 @@ enum Expected {
     Refused(Refusal),
 }
 
-/// A name call by its script word, with one path or two.
-#[derive(Drop)]
-struct Step {
-    word: &'static str,
-    path: &'static str,
-    to: &'static str,
-    expected: Expected,
+#[derive(Clone, Copy)]
+enum Word {
+    Mkdir,
+    Rmdir,
+    Create,
+    Open,
+    List,
+    Delete,
+    Rename,
+    Snapshot,
 }
 
-fn one(word: &'static str, path: &'static str, expected: Expected) -> Step {
-    Step {
-        word,
-        path,
-        to: "",
-        expected,
-    }
-}
-
-fn two(word: &'static str, path: &'static str, to: &'static str, expected: Expected) -> Step {
-    Step {
-        word,
-        path,
-        to,
-        expected,
-    }
-}
+/// A name call by its script word, with one path or two, and what it is to come to.
+type Step = (Word, &'static str, &'static str, Expected);
 
 fn call_of(alloc: Global, step: &Step) -> Result<Call, NoMemory> {
-    let path = Text::from_str(step.path, alloc)?;
-    Ok(match step.word {
-        "mkdir" => Call::Mkdir(path),
-        "rmdir" => Call::Rmdir(path),
-        "create" => Call::Create(path),
-        "open" => Call::Open(path),
-        "list" => Call::List(path),
-        "delete" => Call::Delete(path),
-        "rename" => Call::Rename(path, Text::from_str(step.to, alloc)?),
-        _ => Call::Snapshot(path, Text::from_str(step.to, alloc)?),
+    let path = Text::from_str(step.1, alloc)?;
+    let to = Text::from_str(step.2, alloc)?;
+    Ok(match step.0 {
+        Word::Mkdir => Call::Mkdir(path),
+        Word::Rmdir => Call::Rmdir(path),
+        Word::Create => Call::Create(path),
+        Word::Open => Call::Open(path),
+        Word::List => Call::List(path),
+        Word::Delete => Call::Delete(path),
+        Word::Rename => Call::Rename(path, to),
+        Word::Snapshot => Call::Snapshot(path, to),
     })
 }
 
@@ -78,9 +67,32 @@ fn list_of(alloc: Global, names: &[&str]) -> Result<NameList, NoMemory> {
     Ok(list)
 }
 
+// What owns a call or an outcome calls `drop`: a drop at the end of a scope is proved anew at each place.
+fn are_equal(met: NameOutcome, wanted: NameOutcome) -> bool {
+    let are_equal = met == wanted;
+    drop(met);
+    drop(wanted);
+    are_equal
+}
+
+fn is_outcome(met: NameOutcome, wanted: Result<NameOutcome, NoMemory>) -> Result<bool, NoMemory> {
+    match wanted {
+        Ok(wanted) => Ok(are_equal(met, wanted)),
+        Err(fault) => {
+            drop(met);
+            Err(fault)
+        }
+    }
+}
+
 fn comes_out(table: &mut NameTable, alloc: Global, step: &Step) -> Result<bool, NoMemory> {
     let call = call_of(alloc, step)?;
-    Ok(table.name_step(&call, 5000)? == outcome_of(alloc, &step.expected)?)
+    let met = table.name_step(&call, 5000);
+    drop(call);
+    match met {
+        Ok(met) => is_outcome(met, outcome_of(alloc, &step.3)),
+        Err(fault) => Err(fault),
+    }
 }
 
 /// The first step that doesn't come to what is expected.
@@ -97,112 +109,182 @@ fn first_wrong(
     Ok(None)
 }
 
-fn wrong(alloc: Global, steps: &[Step]) -> Result<Option<usize>, NoMemory> {
+/// The same in a new table, and the number of steps where there is none.
+fn wrong(alloc: Global, steps: &[Step]) -> Result<usize, NoMemory> {
     let mut table = NameTable::new(alloc)?;
-    first_wrong(&mut table, alloc, steps)
+    let first = first_wrong(&mut table, alloc, steps);
+    drop(table);
+    Ok(first?.unwrap_or(steps.len()))
 }
+
+/// The hidden name of the deleted file, with the moment 5000 and its id.
+const HIDDEN: &str = "/.gone/00000000000000005000-0000000000000001";
+
+const DIRECTORIES_AND_FILES: [Step; 13] = [
+    (Word::Mkdir, "/d", "", Expected::Done),
+    (Word::Create, "/d/f", "", Expected::Done),
+    (Word::Open, "/d/f", "", Expected::Opens(1)),
+    (Word::Rmdir, "/d", "", Expected::Refused(Refusal::NotEmpty)),
+    (Word::Rename, "/d/f", "/g", Expected::Done),
+    (Word::Rmdir, "/d", "", Expected::Done),
+    (Word::Rmdir, "/g", "", Expected::Refused(Refusal::NotDir)),
+    (Word::List, "/", "", Expected::Names(&[".gone/", "g"])),
+    (Word::Rename, "/g", "/g", Expected::Refused(Refusal::Exists)),
+    (
+        Word::Rename,
+        "/g",
+        "/.gone/x",
+        Expected::Refused(Refusal::Reserved),
+    ),
+    (
+        Word::Create,
+        "/x/y",
+        "",
+        Expected::Refused(Refusal::NoParent),
+    ),
+    (Word::Mkdir, "/g", "", Expected::Refused(Refusal::Exists)),
+    (Word::Open, "/g", "", Expected::Opens(1)),
+];
 
 #[test]
 fn directories_and_files(rt: HostRuntime) -> Result<(), Fail> {
-    let steps = [
-        one("mkdir", "/d", Expected::Done),
-        one("create", "/d/f", Expected::Done),
-        one("open", "/d/f", Expected::Opens(1)),
-        one("rmdir", "/d", Expected::Refused(Refusal::NotEmpty)),
-        two("rename", "/d/f", "/g", Expected::Done),
-        one("rmdir", "/d", Expected::Done),
-        one("rmdir", "/g", Expected::Refused(Refusal::NotDir)),
-        one("list", "/", Expected::Names(&[".gone/", "g"])),
-        two("rename", "/g", "/g", Expected::Refused(Refusal::Exists)),
-        two(
-            "rename",
-            "/g",
-            "/.gone/x",
-            Expected::Refused(Refusal::Reserved),
-        ),
-        one("create", "/x/y", Expected::Refused(Refusal::NoParent)),
-        one("mkdir", "/g", Expected::Refused(Refusal::Exists)),
-        one("open", "/g", Expected::Opens(1)),
-    ];
-    assert_eq!(rt; wrong(rt.alloc(), &steps)?, None);
+    let place = wrong(rt.alloc(), &DIRECTORIES_AND_FILES)?;
+    assert!(rt; place == DIRECTORIES_AND_FILES.len(), "step {place}");
     Ok(())
 }
 
 /// A deleted file goes to a hidden name with the moment 5000 and its id, and comes back by a new name.
+const DELETION: [Step; 8] = [
+    (Word::Create, "/f", "", Expected::Done),
+    (Word::Delete, "/f", "", Expected::Done),
+    (Word::Open, "/f", "", Expected::Refused(Refusal::NotFound)),
+    (
+        Word::List,
+        "/.gone",
+        "",
+        Expected::Names(&["00000000000000005000-0000000000000001"]),
+    ),
+    (Word::Open, HIDDEN, "", Expected::Opens(1)),
+    (
+        Word::Delete,
+        HIDDEN,
+        "",
+        Expected::Refused(Refusal::Reserved),
+    ),
+    (Word::Rename, HIDDEN, "/g", Expected::Done),
+    (Word::Open, "/g", "", Expected::Opens(1)),
+];
+
 #[test]
 fn deletion(rt: HostRuntime) -> Result<(), Fail> {
-    let hidden = "/.gone/00000000000000005000-0000000000000001";
-    let steps = [
-        one("create", "/f", Expected::Done),
-        one("delete", "/f", Expected::Done),
-        one("open", "/f", Expected::Refused(Refusal::NotFound)),
-        one(
-            "list",
-            "/.gone",
-            Expected::Names(&["00000000000000005000-0000000000000001"]),
-        ),
-        one("open", hidden, Expected::Opens(1)),
-        one("delete", hidden, Expected::Refused(Refusal::Reserved)),
-        two("rename", hidden, "/g", Expected::Done),
-        one("open", "/g", Expected::Opens(1)),
-    ];
-    assert_eq!(rt; wrong(rt.alloc(), &steps)?, None);
+    let place = wrong(rt.alloc(), &DELETION)?;
+    assert!(rt; place == DELETION.len(), "step {place}");
     Ok(())
 }
 
 /// The copies get new ids in the order of their paths: `/e/a` has 3 and `/e/b` has 4.
+const SNAPSHOTS: [Step; 16] = [
+    (Word::Mkdir, "/d", "", Expected::Done),
+    (Word::Create, "/d/b", "", Expected::Done),
+    (Word::Create, "/d/a", "", Expected::Done),
+    (Word::Snapshot, "/d", "/e", Expected::Done),
+    (Word::Open, "/e/a", "", Expected::Opens(3)),
+    (Word::Open, "/d/a", "", Expected::Opens(2)),
+    (Word::Delete, "/e/b", "", Expected::Done),
+    (
+        Word::List,
+        "/.gone",
+        "",
+        Expected::Names(&["00000000000000005000-0000000000000004"]),
+    ),
+    (
+        Word::List,
+        "/",
+        "",
+        Expected::Names(&[".gone/", "d/", "e/"]),
+    ),
+    (
+        Word::Snapshot,
+        "/d",
+        "/d/x",
+        Expected::Refused(Refusal::Inside),
+    ),
+    (
+        Word::Snapshot,
+        "/",
+        "/x",
+        Expected::Refused(Refusal::Reserved),
+    ),
+    (
+        Word::Snapshot,
+        "/d",
+        "/e",
+        Expected::Refused(Refusal::Exists),
+    ),
+    (
+        Word::Snapshot,
+        "/no",
+        "/x",
+        Expected::Refused(Refusal::NotFound),
+    ),
+    (
+        Word::Snapshot,
+        "/d",
+        "/no/x",
+        Expected::Refused(Refusal::NoParent),
+    ),
+    (Word::Snapshot, "/d/b", "/c", Expected::Done),
+    (Word::Open, "/c", "", Expected::Opens(5)),
+];
+
 #[test]
 fn snapshots(rt: HostRuntime) -> Result<(), Fail> {
-    let steps = [
-        one("mkdir", "/d", Expected::Done),
-        one("create", "/d/b", Expected::Done),
-        one("create", "/d/a", Expected::Done),
-        two("snapshot", "/d", "/e", Expected::Done),
-        one("open", "/e/a", Expected::Opens(3)),
-        one("open", "/d/a", Expected::Opens(2)),
-        one("delete", "/e/b", Expected::Done),
-        one(
-            "list",
-            "/.gone",
-            Expected::Names(&["00000000000000005000-0000000000000004"]),
-        ),
-        one("list", "/", Expected::Names(&[".gone/", "d/", "e/"])),
-        two("snapshot", "/d", "/d/x", Expected::Refused(Refusal::Inside)),
-        two("snapshot", "/", "/x", Expected::Refused(Refusal::Reserved)),
-        two("snapshot", "/d", "/e", Expected::Refused(Refusal::Exists)),
-        two(
-            "snapshot",
-            "/no",
-            "/x",
-            Expected::Refused(Refusal::NotFound),
-        ),
-        two(
-            "snapshot",
-            "/d",
-            "/no/x",
-            Expected::Refused(Refusal::NoParent),
-        ),
-        two("snapshot", "/d/b", "/c", Expected::Done),
-        one("open", "/c", Expected::Opens(5)),
-    ];
-    assert_eq!(rt; wrong(rt.alloc(), &steps)?, None);
+    let place = wrong(rt.alloc(), &SNAPSHOTS)?;
+    assert!(rt; place == SNAPSHOTS.len(), "step {place}");
     Ok(())
 }
 
+const BAD_PATHS_COME_FIRST: [Step; 10] = [
+    (
+        Word::Mkdir,
+        "/x//y",
+        "",
+        Expected::Refused(Refusal::BadPath),
+    ),
+    (Word::Mkdir, "/..", "", Expected::Refused(Refusal::BadPath)),
+    (Word::Mkdir, "/a/", "", Expected::Refused(Refusal::BadPath)),
+    (
+        Word::Rename,
+        "/no",
+        "x",
+        Expected::Refused(Refusal::BadPath),
+    ),
+    (Word::Mkdir, "/", "", Expected::Refused(Refusal::Exists)),
+    (
+        Word::Mkdir,
+        "/.gone",
+        "",
+        Expected::Refused(Refusal::Reserved),
+    ),
+    (
+        Word::Mkdir,
+        "/.gone/x",
+        "",
+        Expected::Refused(Refusal::Reserved),
+    ),
+    (Word::Rmdir, "/", "", Expected::Refused(Refusal::Reserved)),
+    (Word::Open, "/", "", Expected::Refused(Refusal::NotFile)),
+    (
+        Word::Delete,
+        "/no",
+        "",
+        Expected::Refused(Refusal::NotFound),
+    ),
+];
+
 #[test]
 fn bad_paths_come_first(rt: HostRuntime) -> Result<(), Fail> {
-    let steps = [
-        one("mkdir", "/x//y", Expected::Refused(Refusal::BadPath)),
-        one("mkdir", "/..", Expected::Refused(Refusal::BadPath)),
-        one("mkdir", "/a/", Expected::Refused(Refusal::BadPath)),
-        two("rename", "/no", "x", Expected::Refused(Refusal::BadPath)),
-        one("mkdir", "/", Expected::Refused(Refusal::Exists)),
-        one("mkdir", "/.gone", Expected::Refused(Refusal::Reserved)),
-        one("mkdir", "/.gone/x", Expected::Refused(Refusal::Reserved)),
-        one("rmdir", "/", Expected::Refused(Refusal::Reserved)),
-        one("open", "/", Expected::Refused(Refusal::NotFile)),
-        one("delete", "/no", Expected::Refused(Refusal::NotFound)),
-    ];
-    assert_eq!(rt; wrong(rt.alloc(), &steps)?, None);
+    let place = wrong(rt.alloc(), &BAD_PATHS_COME_FIRST)?;
+    assert!(rt; place == BAD_PATHS_COME_FIRST.len(), "step {place}");
     Ok(())
 }
