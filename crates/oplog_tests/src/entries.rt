@@ -2,6 +2,7 @@
 
 ghost use Rattle.std.specs.Prelude.{◌≡◌, [], OnOk};
 
+use crate::refused::checkpoint;
 use crate::restarts::new_log;
 use gfs_types::ids::{FileId, Handle};
 use log_records::record::Record;
@@ -10,21 +11,35 @@ use operation_log::log::OperationLog;
 use std::alloc::Global;
 use std::test::Fail;
 
-const COUNTERS: Record = Record::Counters {
-    next_file: FileId(1),
-    next_handle: Handle(1),
-    epoch: 7,
-};
+fn epoch_of(record: &Record) -> Option<u64> {
+    match record {
+        Record::Epoch { epoch } | Record::Counters { epoch, .. } => Some(*epoch),
+        _ => None,
+    }
+}
 
 // The epoch that stands at a place; None where there is none, or it isn't read.
 fn epoch_at<L: OperationLog>(log: &mut L, place: u64) -> Option<u64>
     requires { L.under_way log.old ≡ [] }
     ensures { L.under_way log.new ≡ [] }
 {
-    match log.entry(place) {
-        Ok(Some(Record::Epoch { epoch } | Record::Counters { epoch, .. })) => Some(epoch),
+    let entry = log.entry(place);
+    let epoch = match &entry {
+        Ok(Some(record)) => epoch_of(record),
         _ => None,
-    }
+    };
+    drop(entry);
+    epoch
+}
+
+fn append<L: OperationLog>(log: &mut L, epoch: u64) -> Result<(), LogFault>
+    requires { L.under_way log.old ≡ [] }
+    ensures { OnOk result (L.under_way log.new ≡ []) }
+{
+    let record = Record::Epoch { epoch };
+    let appended = log.append(&record);
+    drop(record);
+    appended
 }
 
 // A checkpoint of one item, and a record.
@@ -32,10 +47,15 @@ fn fill<L: OperationLog>(log: &mut L) -> Result<(), LogFault>
     requires { L.under_way log.old ≡ [] }
     ensures { OnOk result (L.under_way log.new ≡ []) }
 {
-    log.begin_checkpoint()?;
-    log.add_item(&COUNTERS)?;
-    log.end_checkpoint()?;
-    log.append(&Record::Epoch { epoch: 8 })?;
+    let counters = Record::Counters {
+        next_file: FileId(1),
+        next_handle: Handle(1),
+        epoch: 7,
+    };
+    let written = checkpoint(log, &counters);
+    drop(counters);
+    written?;
+    append(log, 8)?;
     log.reopen()
 }
 
@@ -47,16 +67,24 @@ fn read<L: OperationLog>(log: &mut L) -> Result<[Option<u64>; 6], LogFault>
     let second = epoch_at(log, 1);
     let again = epoch_at(log, 0);
     let none = epoch_at(log, 2);
-    log.append(&Record::Epoch { epoch: 9 })?;
+    append(log, 9)?;
     let third = epoch_at(log, 2);
     let before = epoch_at(log, 1);
     Ok([first, second, again, none, third, before])
 }
 
+fn filled_and_read<L: OperationLog>(log: &mut L) -> Result<[Option<u64>; 6], LogFault>
+    requires { L.under_way log.old ≡ [] }
+{
+    fill(log)?;
+    read(log)
+}
+
 fn entries_read(alloc: Global) -> Option<[Option<u64>; 6]> {
     let mut log = new_log(alloc)?;
-    fill(&mut log).ok()?;
-    read(&mut log).ok()
+    let found = filled_and_read(&mut log);
+    drop(log);
+    found.ok()
 }
 
 #[test]

@@ -2,28 +2,38 @@
 
 use crate::calls::SIZE;
 use crate::plan::{Plan, STEPS, find, run};
-use crate::stops::{CALLS, OPENING_CALLS, is_after, stopped};
+use crate::stops::{CALLS, OPENING_CALLS, found_on, is_after, stopped};
 use disk::{Disk, FaultDisk, MemDisk};
 use gfs_types::torn::Torn;
 use oplog::LogFault;
-use std::alloc::Global;
+use std::alloc::{AllocError, Global};
 use std::test::Fail;
+
+// How many changes are made on a disk that fails at one call. None where that isn't answered Device, or another call is, or the changes aren't found again.
+fn made_with_fault(alloc: Global, plan: &Plan, calls: u64) -> Result<Option<usize>, AllocError> {
+    let disk = FaultDisk::new(MemDisk::new(alloc, SIZE)?, calls);
+    let (disk, made) = run(disk, alloc, plan);
+    let has_failed = disk.failures() == 1;
+    let found = found_on(disk.into_disk(), alloc, plan);
+    let is_device = made.fault == Some(LogFault::Device);
+    Ok(if is_device == has_failed && is_after(made, found) {
+        Some(made.count)
+    } else {
+        None
+    })
+}
 
 #[test]
 fn a_failed_call_answers_device(rt: HostRuntime) -> Result<(), Fail> {
     let alloc = rt.alloc();
     let plan = Plan::new(alloc)?;
-    let mut all = 0;
+    let mut last = None;
     for calls in 0..CALLS {
-        let disk = FaultDisk::new(MemDisk::new(alloc, SIZE)?, calls);
-        let (disk, made) = run(disk, alloc, &plan);
-        let is_device = made.fault == Some(LogFault::Device);
-        assert!(rt; is_device == (disk.failures() == 1), "call {calls}");
-        let (_disk, found) = find(disk.into_disk(), alloc, &plan);
-        assert!(rt; is_after(made, found.ok()), "call {calls}");
-        all = made.count;
+        last = made_with_fault(alloc, &plan, calls).unwrap_or(None);
+        assert!(rt; last.is_some(), "call {calls}");
     }
-    assert_eq!(rt; all, STEPS);
+    drop(plan);
+    assert!(rt; last == Some(STEPS));
     Ok(())
 }
 
@@ -31,11 +41,18 @@ fn a_failed_call_answers_device(rt: HostRuntime) -> Result<(), Fail> {
 fn found_after_fault(disk: MemDisk, alloc: Global, plan: &Plan, more: u64) -> Option<usize> {
     let (disk, first) = find(FaultDisk::new(disk, more), alloc, plan);
     let has_failed = disk.failures() == 1;
-    if has_failed != (first == Err(LogFault::Device)) {
-        return None;
+    let found = found_on(disk.into_disk(), alloc, plan);
+    if has_failed == (first == Err(LogFault::Device)) {
+        found
+    } else {
+        None
     }
-    let (_disk, found) = find(disk.into_disk(), alloc, plan);
-    found.ok()
+}
+
+fn is_found_again(alloc: Global, plan: &Plan, calls: u64, more: u64) -> Result<bool, AllocError> {
+    let (disk, made) = stopped(alloc, plan, calls)?;
+    let found = found_after_fault(disk.stop(Torn::Byte(1)), alloc, plan, more);
+    Ok(is_after(made, found))
 }
 
 #[test]
@@ -44,10 +61,10 @@ fn a_failed_opening_is_done_again(rt: HostRuntime) -> Result<(), Fail> {
     let plan = Plan::new(alloc)?;
     for calls in 0..CALLS {
         for more in 0..OPENING_CALLS {
-            let (disk, made) = stopped(alloc, &plan, calls)?;
-            let found = found_after_fault(disk.stop(Torn::Byte(1)), alloc, &plan, more);
-            assert!(rt; is_after(made, found), "call {calls}, {more}");
+            let is_found = is_found_again(alloc, &plan, calls, more).unwrap_or(false);
+            assert!(rt; is_found, "call {calls}, {more}");
         }
     }
+    drop(plan);
     Ok(())
 }

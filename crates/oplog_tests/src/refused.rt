@@ -5,6 +5,7 @@ ghost use Rattle.std.specs.Prelude.{◌≡◌, [], IfSome, OnOk};
 use crate::calls::create;
 use crate::restarts::new_log;
 use gfs_types::ids::{FileId, Handle};
+use gfs_types::no_memory::NoMemory;
 use log_records::record::Record;
 use operation_log::fault::LogFault;
 use operation_log::log::OperationLog;
@@ -43,7 +44,7 @@ fn grow<L: OperationLog>(log: &mut L, record: &Record) -> Result<(), LogFault>
     }
 }
 
-fn checkpoint<L: OperationLog>(log: &mut L, item: &Record) -> Result<(), LogFault>
+pub(crate) fn checkpoint<L: OperationLog>(log: &mut L, item: &Record) -> Result<(), LogFault>
     requires { L.under_way log.old ≡ [] }
     ensures { OnOk result (L.under_way log.new ≡ []) }
 {
@@ -93,9 +94,19 @@ fn counts(alloc: Global, record: &Record, item: &Record) -> Option<[u64; 3]> {
     match new_log_again(alloc) {
         Some(log) => {
             let mut log = log;
-            go_on(&mut log, record, item).ok()
+            let found = go_on(&mut log, record, item);
+            drop(log);
+            found.ok()
         }
         None => None,
+    }
+}
+
+// A record, made once more where memory was refused.
+fn create_again(alloc: Global) -> Result<Record, NoMemory> {
+    match create(alloc) {
+        Ok(record) => Ok(record),
+        Err(_) => create(alloc),
     }
 }
 
@@ -103,15 +114,15 @@ fn counts(alloc: Global, record: &Record, item: &Record) -> Option<[u64; 3]> {
 #[test]
 fn a_refused_allocation_leaves_the_log(rt: HostRuntime) -> Result<(), Fail> {
     let alloc = rt.alloc();
-    let record = match create(alloc) {
-        Ok(record) => record,
-        Err(_) => create(alloc)?,
-    };
+    let record = create_again(alloc)?;
     let item = Record::Counters {
         next_file: FileId(1),
         next_handle: Handle(1),
         epoch: 1,
     };
-    assert!(rt; counts(alloc, &record, &item) == Some([3, 1, 2]));
+    let counts = counts(alloc, &record, &item);
+    drop(record);
+    drop(item);
+    assert!(rt; counts == Some([3, 1, 2]));
     Ok(())
 }

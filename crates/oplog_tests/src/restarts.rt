@@ -40,6 +40,7 @@ pub(crate) fn new_log(alloc: Global) -> Option<DiskLog<NodeDisk>>
         return None;
     };
     if disk.size() != SIZE {
+        drop(disk);
         return None;
     }
     DiskLog::new(disk, alloc).ok()
@@ -49,7 +50,9 @@ fn is_kept_in_new_log(alloc: Global, record: &Record, calls: u64, torn: Torn) ->
     match new_log(alloc) {
         Some(log) => {
             let mut log = log;
-            is_kept(&mut log, record, calls, torn)
+            let is_kept = is_kept(&mut log, record, calls, torn);
+            drop(log);
+            is_kept
         }
         None => false,
     }
@@ -70,6 +73,8 @@ fn are_all_kept(alloc: Global, record: &Record) -> bool {
 fn a_stopped_append_is_there_or_it_is_not(rt: HostRuntime) -> Result<(), Fail> {
     let alloc = rt.alloc();
     let record = create(alloc)?;
-    assert!(rt; are_all_kept(alloc, &record));
+    let are_all_kept = are_all_kept(alloc, &record);
+    drop(record);
+    assert!(rt; are_all_kept);
     Ok(())
 }
