@@ -109,7 +109,11 @@ pub fn look<R: Wait + Clock>(
             let is_same = bytes.as_slice() == record;
             drop(rounds);
             drop(bytes);
-            if is_same { Found::Same } else { Found::Otherwise }
+            if is_same {
+                Found::Same
+            } else {
+                Found::Otherwise
+            }
         }
         Err(Refusal::NoReplica | Refusal::Unknown) => Found::Nothing,
         Err(_) => Found::Otherwise,
