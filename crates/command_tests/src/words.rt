@@ -87,19 +87,77 @@ fn words(alloc: Global, line: &str) -> Result<Vec<String>, AllocError> {
     Ok(words)
 }
 
-/// The settings of a command line that runs the script of this file.
-fn asked(alloc: Global, line: &str, file: &str) -> Result<Option<[u64; 16]>, AllocError> {
+/// What a command line asks for: a script's file, the size of the names' region and the settings that aren't the defaults; the same of a cell with threads, that
+/// has no region; a text with these words in it; or nothing.
+#[derive(Clone, Copy)]
+enum Asked<'a> {
+    Sim(&'a str, Option<u64>, &'a [(&'a str, u64)]),
+    Live(&'a str, &'a [(&'a str, u64)]),
+    Shows(&'a str),
+    Nothing,
+}
+
+fn is_sim(file: &str, names_heap: Option<u64>, options: &Options, wanted: &Asked) -> bool {
+    match wanted {
+        Asked::Sim(name, heap, changes) => {
+            file == *name && names_heap == *heap && numbers(options) == changed(changes)
+        }
+        _ => false,
+    }
+}
+
+fn is_live(file: &str, options: &Options, wanted: &Asked) -> bool {
+    match wanted {
+        Asked::Live(name, changes) => file == *name && numbers(options) == changed(changes),
+        _ => false,
+    }
+}
+
+fn shows(text: &str, wanted: &Asked) -> bool {
+    match wanted {
+        Asked::Shows(part) => text.contains(part),
+        _ => false,
+    }
+}
+
+/// Whether the request is the one that is wanted.
+fn is_request(request: &Request, wanted: &Asked) -> bool {
+    match request {
+        Request::Sim {
+            file,
+            names_heap,
+            options,
+        } => is_sim(file, *names_heap, options, wanted),
+        Request::Live { file, options } => is_live(file, options, wanted),
+        Request::Show(text) => shows(text.as_str(), wanted),
+    }
+}
+
+/// Whether a command line asks for what is wanted.
+fn asks_for(alloc: Global, line: &str, wanted: &Asked) -> Result<bool, AllocError> {
     let words = words(alloc, line)?;
     Ok(match parse(alloc, words.as_slice()) {
-        Ok(
-            Request::Sim {
-                file: f,
-                names_heap: None,
-                options,
-            },
-        ) if f == file => Some(numbers(&options)),
-        _ => None,
+        Ok(request) => {
+            let is_request = is_request(&request, wanted);
+            drop(request);
+            is_request
+        }
+        Err(CommandFault::Bad) => matches!(wanted, Asked::Nothing),
+        Err(_) => false,
     })
+}
+
+/// The first of these command lines that asks for something else.
+fn first_other<'a>(
+    alloc: Global,
+    lines: &[(&'a str, Asked<'a>)],
+) -> Result<Option<&'a str>, AllocError> {
+    for (line, wanted) in lines {
+        if !asks_for(alloc, line, wanted)? {
+            return Ok(Some(*line));
+        }
+    }
+    Ok(None)
 }
 
 #[test]
@@ -108,148 +166,123 @@ fn sets_each_option(rt: HostRuntime) -> Result<(), Fail> {
     for (name, _) in SETTINGS {
         let line = format!(in alloc; "gfscell sim a.gfs --{name} 77")?;
         // the greatest power of two that divides 77 is 1
-        let expected = if name == "chunk" {
-            changed(&[("chunk", 77), ("block", 1)])
+        let both = [("chunk", 77), ("block", 1)];
+        let one = [(name, 77)];
+        let changes = if name == "chunk" {
+            both.as_slice()
         } else {
-            changed(&[(name, 77)])
+            one.as_slice()
         };
-        let asked = asked(alloc, line.as_str(), "a.gfs")?;
-        assert_eq!(rt; asked, Some(expected), "{line}");
+        let is_set = asks_for(alloc, line.as_str(), &Asked::Sim("a.gfs", None, changes))?;
+        assert!(rt; is_set, "{line}");
     }
     Ok(())
 }
 
-#[test]
-fn asks_for_a_region(rt: HostRuntime) -> Result<(), Fail> {
-    let alloc = rt.alloc();
-    let words = words(alloc, "gfscell sim a.gfs --names-heap 16384 --servers 5")?;
-    let is_asked = match parse(alloc, words.as_slice()) {
-        Ok(
-            Request::Sim {
-                file: "a.gfs",
-                names_heap: Some(16_384),
-                options,
-            },
-        ) => numbers(&options) == changed(&[("servers", 5)]),
-        _ => false,
-    };
-    assert!(rt; is_asked);
-    Ok(())
-}
-
-#[test]
-fn asks_for_threads(rt: HostRuntime) -> Result<(), Fail> {
-    let alloc = rt.alloc();
-    let words = words(alloc, "gfscell live a.live --servers 5")?;
-    let is_asked = match parse(alloc, words.as_slice()) {
-        Ok(Request::Live { file, options }) => {
-            file == "a.live" && numbers(&options) == changed(&[("servers", 5)])
-        }
-        _ => false,
-    };
-    assert!(rt; is_asked);
-    Ok(())
-}
-
-/// Command lines, and the settings that they change.
-const LINES: [(&str, &[(&str, u64)]); 8] = [
-    ("gfscell sim a.gfs", &[]),
+/// Command lines that ask for a region, for threads, or for settings together.
+const LINES: [(&str, Asked); 12] = [
+    (
+        "gfscell sim a.gfs --names-heap 16384 --servers 5",
+        Asked::Sim("a.gfs", Some(16_384), &[("servers", 5)]),
+    ),
+    (
+        "gfscell live a.live --servers 5",
+        Asked::Live("a.live", &[("servers", 5)]),
+    ),
+    ("gfscell sim a.gfs", Asked::Sim("a.gfs", None, &[])),
     // the greatest power of two that divides the chunk and is at most 65,536
     (
         "gfscell sim a.gfs --chunk 64",
-        &[("chunk", 64), ("block", 64)],
+        Asked::Sim("a.gfs", None, &[("chunk", 64), ("block", 64)]),
     ),
     (
         "gfscell sim a.gfs --chunk 48",
-        &[("chunk", 48), ("block", 16)],
+        Asked::Sim("a.gfs", None, &[("chunk", 48), ("block", 16)]),
     ),
-    ("gfscell sim a.gfs --chunk 131072", &[("chunk", 131_072)]),
+    (
+        "gfscell sim a.gfs --chunk 131072",
+        Asked::Sim("a.gfs", None, &[("chunk", 131_072)]),
+    ),
     (
         "gfscell sim a.gfs --chunk 64 --block 16",
-        &[("chunk", 64), ("block", 16)],
+        Asked::Sim("a.gfs", None, &[("chunk", 64), ("block", 16)]),
     ),
     // other forms
-    ("gfscell sim --servers=007 a.gfs", &[("servers", 7)]),
+    (
+        "gfscell sim --servers=007 a.gfs",
+        Asked::Sim("a.gfs", None, &[("servers", 7)]),
+    ),
     (
         "gfscell sim a.gfs --servers 18446744073709551615",
-        &[("servers", u64::MAX)],
+        Asked::Sim("a.gfs", None, &[("servers", u64::MAX)]),
     ),
     (
         "gfscell sim a.gfs --goal 4294967298",
-        &[("goal", 4_294_967_295)],
+        Asked::Sim("a.gfs", None, &[("goal", 4_294_967_295)]),
     ),
+    ("gfscell sim -", Asked::Sim("-", None, &[])),
+    ("gfscell sim -- -f", Asked::Sim("-f", None, &[])),
 ];
 
 #[test]
 fn sets_options_together(rt: HostRuntime) -> Result<(), Fail> {
-    let alloc = rt.alloc();
-    for (line, changes) in LINES {
-        let asked = asked(alloc, line, "a.gfs")?;
-        assert_eq!(rt; asked, Some(changed(changes)), "{line}");
-    }
-    let defaults = changed(&[]);
-    assert_eq!(rt; numbers(&Options::default()), defaults);
-    assert_eq!(rt; asked(alloc, "gfscell sim -", "-")?, Some(defaults));
-    assert_eq!(rt; asked(alloc, "gfscell sim -- -f", "-f")?, Some(defaults));
+    let other = first_other(rt.alloc(), &LINES)?;
+    assert!(rt; other.is_none(), "{}", other.unwrap_or_default());
+    assert!(rt; numbers(&Options::default()) == changed(&[]));
     Ok(())
 }
+
+const REFUSED: [(&str, Asked); 26] = [
+    ("gfscell", Asked::Nothing),
+    ("gfscell help", Asked::Nothing),
+    ("gfscell live", Asked::Nothing),
+    ("gfscell live a.live b.live", Asked::Nothing),
+    ("gfscell sim", Asked::Nothing),
+    ("gfscell a.gfs", Asked::Nothing),
+    ("gfscell sim a.gfs b.gfs", Asked::Nothing),
+    ("gfscell sim a.gfs --fast", Asked::Nothing),
+    ("gfscell live a.live --names-heap 16384", Asked::Nothing),
+    ("gfscell sim a.gfs --names-heap 16k", Asked::Nothing),
+    ("gfscell sim a.gfs --serv 3", Asked::Nothing),
+    ("gfscell sim a.gfs -s 3", Asked::Nothing),
+    ("gfscell sim a.gfs --servers", Asked::Nothing),
+    ("gfscell sim a.gfs --servers ", Asked::Nothing),
+    ("gfscell sim a.gfs --servers= ", Asked::Nothing),
+    ("gfscell sim a.gfs --servers 3 --servers 3", Asked::Nothing),
+    ("gfscell sim a.gfs --servers -1", Asked::Nothing),
+    ("gfscell sim a.gfs --servers +1", Asked::Nothing),
+    ("gfscell sim a.gfs --servers 1.0", Asked::Nothing),
+    ("gfscell sim a.gfs --servers 0x1", Asked::Nothing),
+    ("gfscell sim a.gfs --servers 1k", Asked::Nothing),
+    (
+        "gfscell sim a.gfs --servers 18446744073709551616",
+        Asked::Nothing,
+    ),
+    ("gfscell sim a.gfs --chunk x", Asked::Nothing),
+    ("gfscell sim a.gfs --block x", Asked::Nothing),
+    ("gfscell sim a.gfs --journal x", Asked::Nothing),
+    ("gfscell sim --version", Asked::Nothing),
+];
 
 #[test]
 fn refuses_other_words(rt: HostRuntime) -> Result<(), Fail> {
-    let alloc = rt.alloc();
-    let lines = [
-        "gfscell",
-        "gfscell help",
-        "gfscell live",
-        "gfscell live a.live b.live",
-        "gfscell sim",
-        "gfscell a.gfs",
-        "gfscell sim a.gfs b.gfs",
-        "gfscell sim a.gfs --fast",
-        "gfscell live a.live --names-heap 16384",
-        "gfscell sim a.gfs --names-heap 16k",
-        "gfscell sim a.gfs --serv 3",
-        "gfscell sim a.gfs -s 3",
-        "gfscell sim a.gfs --servers",
-        "gfscell sim a.gfs --servers ",
-        "gfscell sim a.gfs --servers= ",
-        "gfscell sim a.gfs --servers 3 --servers 3",
-        "gfscell sim a.gfs --servers -1",
-        "gfscell sim a.gfs --servers +1",
-        "gfscell sim a.gfs --servers 1.0",
-        "gfscell sim a.gfs --servers 0x1",
-        "gfscell sim a.gfs --servers 1k",
-        "gfscell sim a.gfs --servers 18446744073709551616",
-        "gfscell sim a.gfs --chunk x",
-        "gfscell sim a.gfs --block x",
-        "gfscell sim a.gfs --journal x",
-        "gfscell sim --version",
-    ];
-    for line in lines {
-        let words = words(alloc, line)?;
-        let is_bad = matches!(&parse(alloc, words.as_slice()), Err(CommandFault::Bad));
-        assert!(rt; is_bad, "{line}");
-    }
+    let other = first_other(rt.alloc(), &REFUSED)?;
+    assert!(rt; other.is_none(), "{}", other.unwrap_or_default());
     Ok(())
 }
 
+const SHOWN: [(&str, Asked); 6] = [
+    ("gfscell --help", Asked::Shows("sim")),
+    ("gfscell -h", Asked::Shows("live")),
+    ("gfscell sim --help", Asked::Shows("--lease-ms")),
+    ("gfscell sim a.gfs --help", Asked::Shows("--journal")),
+    ("gfscell --version", Asked::Shows("gfscell 0.1.0")),
+    ("gfscell -V", Asked::Shows("gfscell 0.1.0")),
+];
+
 #[test]
 fn shows_help(rt: HostRuntime) -> Result<(), Fail> {
-    let alloc = rt.alloc();
-    for (line, part) in [
-        ("gfscell --help", "sim"),
-        ("gfscell -h", "live"),
-        ("gfscell sim --help", "--lease-ms"),
-        ("gfscell sim a.gfs --help", "--journal"),
-        ("gfscell --version", "gfscell 0.1.0"),
-        ("gfscell -V", "gfscell 0.1.0"),
-    ] {
-        let words = words(alloc, line)?;
-        let is_shown = match parse(alloc, words.as_slice()) {
-            Ok(Request::Show(text)) => text.as_str().contains(part),
-            _ => false,
-        };
-        assert!(rt; is_shown, "{line}");
-    }
+    let other = first_other(rt.alloc(), &SHOWN)?;
+    assert!(rt; other.is_none(), "{}", other.unwrap_or_default());
     Ok(())
 }
