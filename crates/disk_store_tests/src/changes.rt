@@ -97,7 +97,7 @@ pub(crate) fn commit_first<S: ReplicaStore>(
 
 /// What is seen of a store: its order, how many replicas there are, its list, and of three handles the row and the bytes. Lists and bytes
 /// are seen as a hash.
-#[derive(Clone, Copy, Debug, PartialEq, Eq)]
+#[derive(Clone, Copy, PartialEq, Eq)]
 pub(crate) struct Shown {
     order: OrderNo,
     count: usize,

@@ -71,17 +71,22 @@ fn are_always_alike<S: ReplicaStore, T: ReplicaStore>(
     Ok(true)
 }
 
-// Whether a store shows what one in memory does.
+// Whether a store shows what one in memory does. What owns a store has one way out, and calls `drop` there: a drop at the end of a scope is proved anew at each
+// place.
 fn is_as_in_memory<S: ReplicaStore>(alloc: Global, store: &mut S) -> Result<bool, StoreFault>
     requires { S.under_way store.old ≡ [] }
 {
     let mut model = MemoryStore::new(alloc, 16);
-    are_always_alike(alloc, store, &mut model)
+    let are_alike = are_always_alike(alloc, store, &mut model);
+    drop(model);
+    are_alike
 }
 
 fn new_is_as_in_memory(alloc: Global) -> Result<bool, StoreFault> {
     let mut store = new_store(alloc)?;
-    is_as_in_memory(alloc, &mut store)
+    let is_as_in_memory = is_as_in_memory(alloc, &mut store);
+    drop(store);
+    is_as_in_memory
 }
 
 #[test]
@@ -163,12 +168,16 @@ fn is_rotten_as_in_memory<S: ReplicaStore>(alloc: Global, store: &mut S) -> Resu
     requires { S.under_way store.old ≡ [] }
 {
     let mut model = MemoryStore::new(alloc, 16);
-    is_rotten_alike(alloc, store, &mut model)
+    let is_alike = is_rotten_alike(alloc, store, &mut model);
+    drop(model);
+    is_alike
 }
 
 fn new_is_rotten_as_in_memory(alloc: Global) -> Result<bool, StoreFault> {
     let mut store = new_store(alloc)?;
-    is_rotten_as_in_memory(alloc, &mut store)
+    let is_as_in_memory = is_rotten_as_in_memory(alloc, &mut store);
+    drop(store);
+    is_as_in_memory
 }
 
 #[test]

@@ -43,11 +43,23 @@ struct Stopped {
     found: Shown,
 }
 
+fn seen_after<S: ReplicaStore>(
+    alloc: Global,
+    store: &mut S,
+    count: u64,
+) -> Result<Shown, StoreFault>
+    requires { S.under_way store.old ≡ [] }
+{
+    commit_first(alloc, store, count)?;
+    seen(alloc, store)
+}
+
 // What a store in memory shows after so many changes.
 fn after(alloc: Global, count: u64) -> Result<Shown, StoreFault> {
     let mut model = MemoryStore::new(alloc, 16);
-    commit_first(alloc, &mut model, count)?;
-    seen(alloc, &mut model)
+    let shown = seen_after(alloc, &mut model, count);
+    drop(model);
+    shown
 }
 
 // The store is opened twice, and its disk stops in the first opening. Whether that succeeded.
@@ -84,7 +96,9 @@ fn stop_within<S: StoppableStore>(
 
 fn stop_new_store(alloc: Global, number: u64, stop: Stop) -> Result<Stopped, StoreFault> {
     let mut store = new_store(alloc)?;
-    stop_within(alloc, &mut store, number, stop)
+    let stopped = stop_within(alloc, &mut store, number, stop);
+    drop(store);
+    stopped
 }
 
 // What is seen before a change and after it; and whether one that failed was found made, and one not made.
@@ -176,7 +190,9 @@ fn stop_within_rot<S: StoppableStore>(
 
 fn is_rotten_or_not(alloc: Global, stop: Stop) -> Result<bool, StoreFault> {
     let mut store = new_store(alloc)?;
-    stop_within_rot(alloc, &mut store, stop)
+    let is_decided = stop_within_rot(alloc, &mut store, stop);
+    drop(store);
+    is_decided
 }
 
 fn are_rotten_or_not(alloc: Global, calls: u64) -> Result<bool, StoreFault> {
