@@ -4,5 +4,3 @@
 mod play;
 mod printing;
 pub mod run;
-#[cfg(test)]
-mod script_tests;

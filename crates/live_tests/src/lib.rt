@@ -13,3 +13,5 @@ mod producers;
 mod refusals;
 #[cfg(test)]
 mod restarts;
+#[cfg(test)]
+mod scripts;

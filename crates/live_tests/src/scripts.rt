@@ -1,21 +1,17 @@
-use crate::run::run_live;
-use gfs_types::config::Config;
+//! Scripts run on a cell, and those that are no script of it.
+
+use crate::cells::small;
+use live::run::run_live;
 use script::options::Options;
 use script::script_fault::ScriptFault;
 use std::str;
 use std::test::*;
 
-fn small(clients: u64) -> Options {
+fn three_servers(clients: u64) -> Options {
     Options {
         servers: 3,
         clients,
-        config: Config {
-            chunk: 64,
-            block: 16,
-            slots: 64,
-            attempt_ms: 60_000,
-            ..Config::default()
-        },
+        config: small(3),
     }
 }
 
@@ -30,7 +26,7 @@ fn two_clients_append(rt: HostRuntime) -> Result<(), Fail> {
         b"# two clients append to one file\nc1 create /f\nbarrier\nc1 open /f\nc2 open /f\nbarrier\n2 c1 append 1 a*8\n2 c2 append 1 b*8\nbarrier\nc1 length 1\n".as_slice();
     let mut out = Vec::new(alloc);
     assert_eq!(rt;
-        run_live(rt, alloc, &small(2), &mut script, &mut out),
+        run_live(rt, alloc, &three_servers(2), &mut script, &mut out),
         Ok(())
     );
     let text = str::from_utf8(out.as_slice())?;
@@ -57,14 +53,14 @@ fn no_bad_script_is_run(rt: HostRuntime) -> Result<(), Fail> {
     ] {
         let mut script = text.as_bytes();
         assert_eq!(rt;
-            run_live(rt, alloc, &small(2), &mut script, &mut out),
+            run_live(rt, alloc, &three_servers(2), &mut script, &mut out),
             Err(ScriptFault::Line(number)),
             "{text}"
         );
     }
     let mut script = b"".as_slice();
     assert_eq!(rt;
-        run_live(rt, alloc, &small(65), &mut script, &mut out),
+        run_live(rt, alloc, &three_servers(65), &mut script, &mut out),
         Err(ScriptFault::Start)
     );
     assert!(rt; out.is_empty());
