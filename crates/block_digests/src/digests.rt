@@ -1,27 +1,15 @@
 //! A digest for each block.
 
 ghost use Rattle.std.specs.Prelude.{◌≡◌, ◌≤◌, ◌*◌, ◌↔◌, length, IfOk, IsTrue};
-ghost use Rattle.sha2.specs.Sha256.{sha256};
 ghost use Rattle.block_digests.specs.Digests.{digests_of};
 
-use sha2::{Digest, Sha256};
+use crate::hashed_block::HashedBlock;
 use std::alloc::{AllocError, Global};
 
-// The digest of a block, where that of another one is known.
-fn digest_beside(known: &[u8], digest: [u8; 32], block: &[u8]) -> [u8; 32]
-    requires { digest ≡ sha256 known.now }
-    ensures { result ≡ sha256 block.now }
-{
-    if block == known {
-        digest
-    } else {
-        Sha256::digest(block)
-    }
-}
-
-/// The digests of so many blocks, one after another. One that is the same as that before it isn't hashed again.
+/// The digests of so many blocks, one after another. One that is the same as that hashed last isn't hashed again.
 pub fn digests_of_blocks(
     alloc: Global,
+    hashed: &mut HashedBlock,
     block: usize,
     count: usize,
     bytes: &[u8],
@@ -31,13 +19,10 @@ pub fn digests_of_blocks(
 {
     let mut digests = Vec::new(alloc);
     let mut rest = bytes;
-    let mut last = &bytes[..0];
-    let mut digest = Sha256::digest(last);
     for _ in 0..count {
         let (first, after) = rest.split_at(block);
-        digest = digest_beside(last, digest, first);
+        let digest = hashed.digest_of(first);
         digests.extend_from_slice(&digest)?;
-        last = first;
         rest = after;
     }
     Ok(digests)
@@ -46,6 +31,7 @@ pub fn digests_of_blocks(
 /// Whether so many blocks have just these digests.
 pub fn blocks_match(
     alloc: Global,
+    hashed: &mut HashedBlock,
     block: usize,
     count: usize,
     bytes: &[u8],
@@ -54,6 +40,6 @@ pub fn blocks_match(
     requires { count * block ≤ length bytes.now }
     ensures { IfOk result (λ b. IsTrue b ↔ digests_of block count bytes.now ≡ digests.now) }
 {
-    let found = digests_of_blocks(alloc, block, count, bytes)?;
+    let found = digests_of_blocks(alloc, hashed, block, count, bytes)?;
     Ok(found.as_slice() == digests)
 }

@@ -26,7 +26,7 @@ use Rattle.chunk_store.proofs.StillOpen.{row_held, still_open}
 module _ {D : Type 0} (seen : D → List ℕ) (may_leave : D → List ℕ → Type 0) (moment : D → ℕ) (left_since : D → ℕ → List ℕ → Type 0) (store : Store D) (disk : D) (index : IndexState) where
   -- what the store knows, with another disk and index
   abbrev then_store : Store D
-  then_store = record { disk = disk; layout = store.layout; order = store.order; index = index }
+  then_store = record { disk = disk; layout = store.layout; order = store.order; index = index; hashed = tt }
 
   -- nothing has changed
   pub refused_open : (d : ServerDisk) → IsOpen seen may_leave store d → index ≡ store.index → seen disk ≡ seen store.disk → IsAtRest seen may_leave (area_of store.layout.chunk store.layout.block) disk → IsOpen seen may_leave then_store d

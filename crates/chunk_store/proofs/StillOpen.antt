@@ -74,7 +74,7 @@ module _ {D : Type 0} (seen : D → List ℕ) (may_leave : D → List ℕ → Ty
 
   -- a change was made
   pub still_open : (disk : D) (index : IndexState) (order : OrderNo) (after : ServerDisk) → length (seen disk) ≡ length (seen store.disk) → order ≡ order_of after → IsAtRest seen may_leave (area_of store.layout.chunk store.layout.block) disk
-      → Says store.layout.chunk store.layout.block store.layout.slots index (seen disk) after → IsOpen seen may_leave (record { disk = disk; layout = store.layout; order = order; index = index }) after
+      → Says store.layout.chunk store.layout.block store.layout.slots index (seen disk) after → IsOpen seen may_leave (record { disk = disk; layout = store.layout; order = order; index = index; hashed = tt }) after
   still_open disk index order after size ordered rest says = record {
     says = says;
     order = ordered;
@@ -89,7 +89,7 @@ module _ {D : Type 0} (seen : D → List ℕ) (may_leave : D → List ℕ → Ty
     leaves_all only_now change = nothing_made seen may_leave moment left_since store.layout.chunk store.layout.block store.layout.slots store.index change store.disk is.rest.durable only_now
 
     -- the disk was read
-    pub read_open : (disk : D) → OnlyReads seen may_leave moment left_since store.disk disk → IsOpen seen may_leave (record { disk = disk; layout = store.layout; order = store.order; index = store.index }) d
+    pub read_open : (disk : D) → OnlyReads seen may_leave moment left_since store.disk disk → IsOpen seen may_leave (record { disk = disk; layout = store.layout; order = store.order; index = store.index; hashed = tt }) d
     read_open disk reads =
         let l = store.layout in
         still_open disk store.index store.order d (ap length reads.seen_same) is.order (record {

@@ -65,6 +65,7 @@ impl<D: Disk> Store<D> {
         let written = write(
             alloc,
             &mut self.disk,
+            &mut self.hashed,
             self.layout,
             &mut self.index,
             handle,

@@ -10,6 +10,7 @@ ghost use Rattle.store_opening.specs.declared.fault.OpenFault.TheVariants as fau
 ghost use Rattle.chunk_store.specs.Stores.{IsOpen};
 
 use crate::store::Store;
+use block_digests::HashedBlock;
 use disk::Disk;
 use std::alloc::Global;
 use store_layout::Layout;
@@ -34,6 +35,7 @@ pub fn open<D: Disk>(mut disk: D, alloc: Global, layout: Layout) -> Result<Store
             layout,
             order: found.order,
             index: found.index,
+            hashed: HashedBlock::new(alloc),
         }),
         Err(fault) => Err((disk, fault)),
     }

@@ -43,7 +43,15 @@ impl<D: Disk> Store<D> {
             Ok(found) => found,
             Err(fault) => return Err(fault),
         };
-        let read = read_replica(alloc, &mut self.disk, self.layout, found, offset, count)?;
+        let read = read_replica(
+            alloc,
+            &mut self.disk,
+            &mut self.hashed,
+            self.layout,
+            found,
+            offset,
+            count,
+        )?;
         match read {
             Some(bytes) => Ok(bytes),
             None => Err(StoreFault::Corrupt),

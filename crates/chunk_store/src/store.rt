@@ -5,6 +5,7 @@ ghost use Rattle.gated_disk.specs.Moments.{OnlyReads};
 ghost use Rattle.replica_store.specs.Replicas.{ServerDisk};
 ghost use Rattle.chunk_store.specs.Stores.{IsOpen};
 
+use block_digests::HashedBlock;
 use disk::Disk;
 use gfs_types::ids::OrderNo;
 use slot_index::SlotIndex;
@@ -17,6 +18,8 @@ pub struct Store<D: Disk> {
     pub layout: Layout,
     pub order: OrderNo,
     pub index: SlotIndex,
+    /// A block that is read or written again isn't hashed again.
+    pub hashed: HashedBlock,
 }
 
 impl<D: Disk> Store<D> {

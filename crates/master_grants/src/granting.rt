@@ -11,7 +11,7 @@ use log_records::record::Record;
 use master_plan::fault::PlanFault;
 use master_plan::logging::logs;
 use master_plan::plan::Plan;
-use master_plan::waiting::Attempt;
+use master_waits::waiting::Attempt;
 use messages::message::Body;
 use operation_log::log::OperationLog;
 use std::alloc::Allocator;

@@ -10,7 +10,7 @@ use gfs_types::ids::{Handle, ServerId, Version};
 use gfs_types::lists::ServerList;
 use master_plan::fault::PlanFault;
 use master_plan::plan::Plan;
-use master_plan::waiting::Attempt;
+use master_waits::waiting::Attempt;
 use operation_log::log::OperationLog;
 use server_lists::numbers::{has_number, put_number, rising, same_numbers};
 use std::alloc::{Allocator, Global};

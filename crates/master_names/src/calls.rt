@@ -15,9 +15,9 @@ use gfs_types::lists::Text;
 use log_records::record::Record;
 use master_plan::fault::PlanFault;
 use master_plan::plan::Plan;
-use master_plan::waiting::Pending;
 use master_snapshots::begins::begins_snapshot;
 use master_state::names::path_of;
+use master_waits::waiting::Pending;
 use operation_log::log::OperationLog;
 use std::alloc::Allocator;
 

@@ -8,9 +8,9 @@ use crate::answers::changes_names;
 use log_records::record::Record;
 use master_plan::fault::PlanFault;
 use master_plan::plan::Plan;
-use master_plan::waiting::Pending;
 use master_snapshots::awaited::has_waited;
 use master_snapshots::begins::lets_go;
+use master_waits::waiting::Pending;
 use operation_log::log::OperationLog;
 use std::alloc::Allocator;
 

@@ -4,8 +4,5 @@ pub mod Empty
 pub mod Reported
 pub mod FirstReports
 pub mod StillWhole
-pub mod Concerning
-pub mod Followed
 pub mod Granted
-pub mod Doubting
 pub mod Watching

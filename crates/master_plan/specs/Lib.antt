@@ -1,10 +1,7 @@
 pub mod Faults
-pub mod Coding
 pub mod Changes
 pub mod Plans
 pub mod Watched
-pub mod Concerned
-pub mod Doubts
 pub mod Sizes
 pub mod Logging
 pub mod Reports

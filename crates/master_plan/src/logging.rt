@@ -8,14 +8,14 @@ ghost use Rattle.master_plan.specs.Plans.{doing, appended, with_checkpoint};
 ghost use Rattle.master_plan.specs.Logging.{was_logged, tried};
 
 use crate::change::{Change, RecordList};
-use crate::concerned::{follow, stays_known, touches};
-use crate::doubts::doubt_granted;
 use crate::fault::PlanFault;
 use crate::plan::Plan;
 use crate::sizes::{bytes_used, checkpoint_bytes};
+use doubted_chunks::doubts::doubt_granted;
 use log_records::record::Record;
 use master_log::replay::replay;
 use master_looks::checkpoint::checkpoint_items;
+use master_waits::concerned::{follow, stays_known, touches};
 use operation_log::log::OperationLog;
 use operation_log::sizes::used_with;
 use std::alloc::Allocator;

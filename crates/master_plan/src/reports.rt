@@ -4,11 +4,11 @@ ghost use Rattle.std.specs.Prelude.{◌≡◌, ◌==◌, ◌&&◌, true, Some, n
 ghost use Rattle.std.specs.FinMap as map;
 ghost use Rattle.master_plan.specs.Reports.{with_holder, with_report, table_of_lines};
 
-use crate::doubts::{doubt, doubt_changed};
 use crate::fault::PlanFault;
 use crate::plan::Plan;
-use crate::waiting::Attempt;
+use doubted_chunks::doubts::{doubt, doubt_changed};
 use gfs_types::ids::{Handle, ServerId, Version};
+use master_waits::waiting::Attempt;
 use messages::message::ReplicaLine;
 use number_map::NumberMap;
 use ordered_map::OrderedMap;

@@ -3,11 +3,12 @@
 ghost use Rattle.std.specs.Prelude.{◌≡◌, ◌==◌, ◌&&◌, ◌++◌, ◌∷◌, [], not, filter, IfOk, OnOk};
 
 use crate::plan::Plan;
-use crate::waiting::{Awaited, Pending};
 use gfs_types::ids::ClientId;
 use gfs_types::no_memory::NoMemory;
+use master_waits::snapshots::{copies_of, note_at_call, remove_call};
+use master_waits::waiting::{Awaited, Pending};
 use ordered_map::OrderedMap;
-use std::alloc::{Allocator, Global};
+use std::alloc::Allocator;
 
 impl<A: Allocator + Clone> Plan<A> {
     /// A snapshot waits from now on, behind the others.
@@ -41,58 +42,5 @@ impl<A: Allocator + Clone> Plan<A> {
         ensures { IfOk result (λ v. v.items ≡ self.now.snapshots) }
     {
         copies_of(self.alloc, &self.snapshots)
-    }
-}
-
-fn remove_call(snapshots: &mut Vec<Pending>, client: ClientId, number: u64)
-    ensures { snapshots.new.items ≡ filter (λ other. not ((client.0 == other.client) && (number == other.number))) snapshots.old.items }
-{
-    snapshots.retain(|other| !(client.0 == other.client().0 && number == other.number()));
-}
-
-fn note_at_call(snapshots: &mut Vec<Pending>, client: ClientId, number: u64, awaited: Awaited)
-    ensures { snapshots.new.items ≡ snapshots.old.items }
-{
-    let mut awaited = Some(awaited);
-    for snapshot in snapshots.iter_mut() {
-        if snapshot.client == client.0 && snapshot.number == number {
-            snapshot.awaited = awaited.take();
-        }
-    }
-}
-
-fn copies_of(alloc: Global, snapshots: &[Pending]) -> Result<Vec<Pending>, NoMemory>
-    ensures { IfOk result (λ v. v.items ≡ snapshots.now) }
-{
-    let mut copies = Vec::new(alloc);
-    for snapshot in snapshots {
-        copies.push(snapshot.copy(alloc)?)?;
-    }
-    Ok(copies)
-}
-
-impl Pending {
-    /// An equal one.
-    pub fn copy(&self, alloc: Global) -> Result<Pending, NoMemory>
-        ensures { IfOk result (λ s. s ≡ self.now) }
-    {
-        Ok(Pending {
-            client: self.client,
-            number: self.number,
-            deadline: self.deadline,
-            from: self.from.copy(alloc)?,
-            to: self.to.copy(alloc)?,
-            awaited: self.copied_awaited(alloc)?,
-        })
-    }
-
-    fn copied_awaited(&self, alloc: Global) -> Result<Option<Awaited>, NoMemory> {
-        match &self.awaited {
-            Some(awaited) => Ok(Some(Awaited {
-                path: awaited.path.copy(alloc)?,
-                index: awaited.index,
-            })),
-            None => Ok(None),
-        }
     }
 }

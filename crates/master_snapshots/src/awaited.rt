@@ -15,7 +15,7 @@ use gfs_types::ids::{FileId, Handle};
 use gfs_types::path::Path;
 use master_plan::fault::PlanFault;
 use master_plan::plan::Plan;
-use master_plan::waiting::{Awaited, Pending};
+use master_waits::waiting::{Awaited, Pending};
 use namespace::name_kind::NameKind;
 use namespace::node::NameNode;
 use path_trie::child::Child;

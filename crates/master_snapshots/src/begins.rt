@@ -9,7 +9,7 @@ use crate::concerned::{snapshot_files, snapshot_handles};
 use crate::revokes::revokes_all;
 use master_plan::fault::PlanFault;
 use master_plan::plan::Plan;
-use master_plan::waiting::Pending;
+use master_waits::waiting::Pending;
 use std::alloc::Allocator;
 
 /// The locks are taken; version numbers of the chunks that are under way, and copies for the files, are given up, and leases are

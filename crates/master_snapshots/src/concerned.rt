@@ -7,7 +7,7 @@ ghost use Rattle.master_plan.specs.Plans.{known};
 use master_looks::snapshots;
 use master_plan::fault::PlanFault;
 use master_plan::plan::Plan;
-use master_plan::waiting::Pending;
+use master_waits::waiting::Pending;
 use std::alloc::Allocator;
 
 /// The chunks that a snapshot concerns, also those that were added meanwhile, in rising number.

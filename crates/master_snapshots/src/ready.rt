@@ -12,7 +12,7 @@ use gfs_types::ids::Handle;
 use leases::master::ended;
 use master_plan::fault::PlanFault;
 use master_plan::plan::Plan;
-use master_plan::waiting::Pending;
+use master_waits::waiting::Pending;
 use std::alloc::Allocator;
 
 /// Whether no lease of the chunks concerned is left to end.

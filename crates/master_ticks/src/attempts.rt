@@ -9,7 +9,7 @@ ghost use Rattle.master_ticks.specs.Late.{late_attempts};
 use gfs_types::no_memory::NoMemory;
 use master_plan::fault::PlanFault;
 use master_plan::plan::Plan;
-use master_plan::waiting::Attempt;
+use master_waits::waiting::Attempt;
 use std::alloc::Allocator;
 
 /// A version number that is under way too long is given up.

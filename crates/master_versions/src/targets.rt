@@ -12,7 +12,7 @@ use gfs_types::lists::{Sequence, ServerList};
 use gfs_types::no_memory::NoMemory;
 use master_plan::fault::PlanFault;
 use master_plan::plan::Plan;
-use master_plan::waiting::Attempt;
+use master_waits::waiting::Attempt;
 use std::alloc::{Allocator, Global};
 use std::marker::Model;
 

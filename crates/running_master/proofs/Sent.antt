@@ -21,8 +21,8 @@ use Rattle.master_state.proofs.kept.KeptCall.TheSendSync as kept
 use Rattle.master_state.proofs.kept.CopyRow.TheSendSync as copy
 use Rattle.master_state.specs.contracts.state.State as State
 use Rattle.master_plan.proofs.change.Change.TheSendSync as change
-use Rattle.master_plan.proofs.waiting.Attempt.TheSendSync as attempt
-use Rattle.master_plan.proofs.waiting.Pending.TheSendSync as pending
+use Rattle.master_waits.proofs.waiting.Attempt.TheSendSync as attempt
+use Rattle.master_waits.proofs.waiting.Pending.TheSendSync as pending
 use Rattle.master_plan.specs.contracts.plan.Plan as Plan
 use Rattle.operation_log.proofs.memory.MemoryLog.TheSendSync as memory
 use Rattle.operation_log.specs.contracts.memory.MemoryLogOperationLog.TheImpl as on_log

@@ -1,6 +1,6 @@
 //! Bytes of a disk, by hand.
 
-use block_digests::{blocks_match, digests_of_blocks};
+use block_digests::{HashedBlock, blocks_match, digests_of_blocks};
 use gfs_types::ids::{Handle, OrderNo, Serial, Version};
 use std::test::Fail;
 use store_header::{SlotHeader, read_header, read_order, write_head, write_header, write_order};
@@ -13,13 +13,37 @@ const TWO_DIGESTS: [u8; 64] = [
     0xb0, 0x03, 0x61, 0xa3, 0x96, 0x17, 0x7a, 0x9c, 0xb4, 0x10, 0xff, 0x61, 0xf2, 0x00, 0x15, 0xad,
 ];
 
+// Of `abd`, by another implementation.
+const OTHER_DIGEST: [u8; 32] = [
+    0xa5, 0x2d, 0x15, 0x9f, 0x26, 0x2b, 0x2c, 0x6d, 0xdb, 0x72, 0x4a, 0x61, 0x84, 0x0b, 0xef, 0xc3,
+    0x6e, 0xb3, 0x0c, 0x88, 0x87, 0x7a, 0x40, 0x30, 0xb6, 0x5c, 0xbe, 0x86, 0x29, 0x84, 0x49, 0xc9,
+];
+
 #[test]
 fn a_digest_for_each_block(rt: HostRuntime) -> Result<(), Fail> {
     let alloc = rt.alloc();
-    let digests = digests_of_blocks(alloc, 3, 2, b"abcabc")?;
+    let mut hashed = HashedBlock::new(alloc);
+    let digests = digests_of_blocks(alloc, &mut hashed, 3, 2, b"abcabc")?;
     assert!(rt; digests.as_slice() == TWO_DIGESTS.as_slice());
-    assert!(rt; blocks_match(alloc, 3, 2, b"abcabc", &digests)?);
-    assert!(rt; !blocks_match(alloc, 3, 2, b"abcabd", &digests)?);
+    assert!(rt; blocks_match(alloc, &mut hashed, 3, 2, b"abcabc", &digests)?);
+    assert!(rt; !blocks_match(alloc, &mut hashed, 3, 2, b"abcabd", &digests)?);
+    Ok(())
+}
+
+#[test]
+fn a_block_that_was_hashed_last(rt: HostRuntime) -> Result<(), Fail> {
+    let mut hashed = HashedBlock::new(rt.alloc());
+    let first = &TWO_DIGESTS[..32];
+    for (block, digest) in [
+        (b"abc", first),
+        (b"abc", first),
+        (b"abd", OTHER_DIGEST.as_slice()),
+        (b"abc", first),
+        (b"abd", OTHER_DIGEST.as_slice()),
+        (b"abd", OTHER_DIGEST.as_slice()),
+    ] {
+        assert!(rt; hashed.digest_of(block).as_slice() == digest);
+    }
     Ok(())
 }
 

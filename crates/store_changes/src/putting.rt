@@ -14,7 +14,7 @@ ghost use Rattle.store_layout.specs.Places.{disk_size, slot_place};
 ghost use Rattle.stored_replicas.specs.Stored.{header_of, slot_bytes};
 
 use crate::making::{change, one_range};
-use block_digests::digests_of_blocks;
+use block_digests::{HashedBlock, digests_of_blocks};
 use bytes::Bytes;
 use disk::{Disk, DiskFault};
 use gfs_types::ids::Handle;
@@ -46,7 +46,9 @@ fn slot_content(
     ensures { IfOk result (λ b. b ≡ slot_bytes layout.chunk layout.block header bytes.now) }
 {
     let all = whole_chunk(alloc, layout, bytes)?;
-    let digests = digests_of_blocks(alloc, layout.block as usize, layout.blocks(), &all)?;
+    let mut hashed = HashedBlock::new(alloc);
+    let block = layout.block as usize;
+    let digests = digests_of_blocks(alloc, &mut hashed, block, layout.blocks(), &all)?;
     let head = write_header(alloc, header)?;
     let mut out = Vec::with_capacity(alloc, layout.slot_size())?;
     out.extend_from_slice(&head)?;

@@ -9,6 +9,7 @@ ghost use Rattle.store_reads.specs.Reading.{checked_part};
 ghost use Rattle.store_edges.specs.Edging.{block_at, checked_edges};
 ghost use Rattle.stored_replicas.specs.Stored.{Holds};
 
+use block_digests::HashedBlock;
 use bytes::Bytes;
 use disk::{Disk, DiskFault};
 use std::alloc::Global;
@@ -34,6 +35,7 @@ fn is_aligned(block: usize, offset: usize, end: usize) -> bool
 fn read_last<D: Disk>(
     alloc: Global,
     disk: &mut D,
+    hashed: &mut HashedBlock,
     layout: Layout,
     slot: u32,
     one: &Bytes,
@@ -54,13 +56,14 @@ fn read_last<D: Disk>(
     if first == last {
         return Ok(Some(one.clone()?));
     }
-    read_blocks(alloc, disk, layout, slot, last, 1)
+    read_blocks(alloc, disk, hashed, layout, slot, last, 1)
 }
 
 // The first and the last block of a range. `None` where one of them doesn't match its digest.
 fn read_ends<D: Disk>(
     alloc: Global,
     disk: &mut D,
+    hashed: &mut HashedBlock,
     layout: Layout,
     slot: u32,
     first: usize,
@@ -76,10 +79,10 @@ fn read_ends<D: Disk>(
     ensures reads { OnlyReads D.seen D.may_leave D.moment D.left_since disk.old disk.new }
     ensures cause { HasCause (D.failed disk.old) (D.failed disk.new) result }
 {
-    let Some(one) = read_blocks(alloc, disk, layout, slot, first, 1)? else {
+    let Some(one) = read_blocks(alloc, disk, hashed, layout, slot, first, 1)? else {
         return Ok(None);
     };
-    let Some(two) = read_last(alloc, disk, layout, slot, &one, first, last)? else {
+    let Some(two) = read_last(alloc, disk, hashed, layout, slot, &one, first, last)? else {
         return Ok(None);
     };
     Ok(Some((one, two)))
@@ -89,6 +92,7 @@ fn read_ends<D: Disk>(
 pub fn read_edges<D: Disk>(
     alloc: Global,
     disk: &mut D,
+    hashed: &mut HashedBlock,
     layout: Layout,
     slot: u32,
     offset: usize,
@@ -112,7 +116,7 @@ pub fn read_edges<D: Disk>(
         }));
     }
     let last = (end - 1) / block;
-    let Some(ends) = read_ends(alloc, disk, layout, slot, offset / block, last)? else {
+    let Some(ends) = read_ends(alloc, disk, hashed, layout, slot, offset / block, last)? else {
         return Ok(None);
     };
     let before = ends.0.slice(..offset % block)?;

@@ -9,7 +9,7 @@ ghost use Rattle.store_reads.specs.Reading.{checked_part};
 ghost use Rattle.stored_replicas.specs.Stored.{Holds};
 
 use crate::parts::read_part;
-use block_digests::blocks_match;
+use block_digests::{HashedBlock, blocks_match};
 use bytes::Bytes;
 use disk::{Disk, DiskFault};
 use std::alloc::Global;
@@ -19,6 +19,7 @@ use store_layout::Layout;
 pub fn read_blocks<D: Disk>(
     alloc: Global,
     disk: &mut D,
+    hashed: &mut HashedBlock,
     layout: Layout,
     slot: u32,
     first: usize,
@@ -39,7 +40,7 @@ pub fn read_blocks<D: Disk>(
     let bytes = read_part(alloc, disk, place, count * block)?;
     let digests_place = layout.digests(slot) + 32 * first;
     let digests = read_part(alloc, disk, digests_place, 32 * count)?;
-    if blocks_match(alloc, block, count, &bytes, &digests)? {
+    if blocks_match(alloc, hashed, block, count, &bytes, &digests)? {
         Ok(Some(bytes))
     } else {
         Ok(None)
@@ -50,6 +51,7 @@ pub fn read_blocks<D: Disk>(
 pub fn read_range<D: Disk>(
     alloc: Global,
     disk: &mut D,
+    hashed: &mut HashedBlock,
     layout: Layout,
     slot: u32,
     offset: usize,
@@ -68,7 +70,7 @@ pub fn read_range<D: Disk>(
     let block = layout.block as usize;
     let first = offset / block;
     let count = (end - 1) / block + 1 - first;
-    let Some(bytes) = read_blocks(alloc, disk, layout, slot, first, count)? else {
+    let Some(bytes) = read_blocks(alloc, disk, hashed, layout, slot, first, count)? else {
         return Ok(None);
     };
     let before = offset % block;

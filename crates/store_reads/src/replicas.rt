@@ -12,6 +12,7 @@ ghost use Rattle.store_changes.specs.Changing.{Says};
 ghost use Rattle.store_layout.specs.Places.{disk_size};
 
 use crate::blocks::read_range;
+use block_digests::HashedBlock;
 use bytes::Bytes;
 use disk::{Disk, DiskFault};
 use slot_index::HeldReplica;
@@ -33,6 +34,7 @@ fn end_of(stored: u64, offset: u64, count: u64) -> u64
 pub fn read_replica<D: Disk>(
     alloc: Global,
     disk: &mut D,
+    hashed: &mut HashedBlock,
     layout: Layout,
     found: HeldReplica,
     offset: u64,
@@ -55,6 +57,7 @@ pub fn read_replica<D: Disk>(
     read_range(
         alloc,
         disk,
+        hashed,
         layout,
         found.slot,
         offset as usize,

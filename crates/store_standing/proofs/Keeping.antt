@@ -70,7 +70,7 @@ module _ {D : Type 0} (seen : D → List ℕ) (may_leave : D → List ℕ → Ty
   pub changing_kept : (new : Store D) (change : StoreChange) → new.layout ≡ store.layout → Kept Open → can_be_told store.layout.chunk rows change ≡ true → LeavesCareful may_leave (record store { disk = new.disk }) d change
       → IsKept seen may_leave new order rows d (Changing change)
   changing_kept new change same kept told leaves = in_layout Open (Changing change) new same kept
-      (subst (λ (l : Layout). (can_be_told l.chunk rows change ≡ true) × LeavesCareful may_leave (record { disk = new.disk; layout = l; order = new.order; index = new.index }) d change) (sym same) (told, leaves))
+      (subst (λ (l : Layout). (can_be_told l.chunk rows change ≡ true) × LeavesCareful may_leave (record { disk = new.disk; layout = l; order = new.order; index = new.index; hashed = tt }) d change) (sym same) (told, leaves))
 
   -- a change was made, or found made
   pub after_change : (new : Store D) (after : OrderNo) (found : Rows) (change : StoreChange) {standing : Standing} → new.layout ≡ store.layout → Kept standing → IsCareful store.layout.chunk d change → IsKnownOf after found (disk_changed d change)

@@ -40,7 +40,7 @@ module _ {D : Type 0} (seen : D → List ℕ) (may_leave : D → List ℕ → Ty
     module _ (disk : D) (found : Found) (among : IsFoundAmong seen (may_leave store.disk) disk store.layout.chunk store.layout.block store.layout.slots found)
         (rest : IsAtRest seen may_leave (area_of store.layout.chunk store.layout.block) disk) (large : disk_size store.layout.chunk store.layout.block store.layout.slots ≤ length (seen disk)) where
       abbrev at_found : Store D
-      at_found = record { disk = disk; layout = store.layout; order = found.order; index = found.index }
+      at_found = record { disk = disk; layout = store.layout; order = found.order; index = found.index; hashed = tt }
 
       one : (x : ServerDisk) × IsOpen seen may_leave at_found x × IsOneOf store.layout.chunk d standing x
       one = found_one seen may_leave store order rows d disk found among rest large standing other kept

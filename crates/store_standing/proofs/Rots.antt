@@ -28,9 +28,9 @@ pub rot_leaves : {D : Type 0} (seen : D → List ℕ) (may_leave : D → List �
     → (old new : Store D) (d : ServerDisk) (handle place byte : ℕ) → new.layout ≡ old.layout → IsOpen seen may_leave old d
     → LeavesRotten seen moment left_since old.layout.chunk old.layout.block old.layout.slots old.disk new.disk old.index handle place byte → Leaves may_leave new d (disk_rotten d handle place byte)
 rot_leaves {D = D} seen may_leave moment left_since counts_now old new d handle place byte same is rots =
-    subst (λ (l : Layout). Leaves may_leave (record { disk = new.disk; layout = l; order = new.order; index = new.index }) d (disk_rotten d handle place byte)) (sym same) either
+    subst (λ (l : Layout). Leaves may_leave (record { disk = new.disk; layout = l; order = new.order; index = new.index; hashed = tt }) d (disk_rotten d handle place byte)) (sym same) either
   where
-    either : Leaves may_leave (record { disk = new.disk; layout = old.layout; order = new.order; index = new.index }) d (disk_rotten d handle place byte)
+    either : Leaves may_leave (record { disk = new.disk; layout = old.layout; order = new.order; index = new.index; hashed = tt }) d (disk_rotten d handle place byte)
     either c left = let stands = rots d is.says in stands.stop.each c (counts_now new.disk (moment old.disk) c stands.stop.later left)
 
 module _ {D : Type 0} (seen : D → List ℕ) (may_leave : D → List ℕ → Type 0) (store : Store D) (order : OrderNo) (rows : Rows) (d : ServerDisk) (kept : IsKept seen may_leave store order rows d Open) (handle : Handle) (place byte : ℕ) (low : place < store.layout.chunk)

@@ -43,7 +43,7 @@ module _ {D : Type 0} (seen : D → List ℕ) (may_leave : D → List ℕ → Ty
   chunk = store.layout.chunk
 
   abbrev pub at_disk : D → OrderNo → IndexState → Store D
-  at_disk disk o x = record { disk = disk; layout = store.layout; order = o; index = x }
+  at_disk disk o x = record { disk = disk; layout = store.layout; order = o; index = x; hashed = tt }
 
   pub rot_within : (standing : Standing) → IsKept seen may_leave store order rows d standing → IsRotWithin store.layout.chunk (rotting_in standing)
   rot_within Open kept = tt

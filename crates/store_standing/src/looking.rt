@@ -48,6 +48,7 @@ pub fn is_writable<D: Disk>(
     match read_edges(
         alloc,
         &mut store.disk,
+        &mut store.hashed,
         layout,
         found.slot,
         offset as usize,

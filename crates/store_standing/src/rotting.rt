@@ -20,7 +20,7 @@ ghost use Rattle.store_standing.specs.declared.standing.Standing.TheVariants.{Op
 
 use crate::faults::{fault_of, fault_of_disk};
 use crate::standing::{RottingByte, Standing};
-use block_digests::blocks_match;
+use block_digests::{HashedBlock, blocks_match};
 use chunk_store::Store;
 use disk::{Disk, DiskFault};
 use gfs_types::ids::Handle;
@@ -61,7 +61,8 @@ fn has_digest(
     let mut other = block;
     other[at] = byte;
     let size = other.len();
-    blocks_match(alloc, size, 1, &other, digest)
+    let mut hashed = HashedBlock::new(alloc);
+    blocks_match(alloc, &mut hashed, size, 1, &other, digest)
 }
 
 // Whether the block of a place of the replica in a slot would have the stored digest, were this byte there.

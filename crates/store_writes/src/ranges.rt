@@ -7,7 +7,7 @@ ghost use Rattle.store_layout.specs.Places.{blocks_of};
 ghost use Rattle.store_writes.specs.Writing.{header_range_of, written_ranges};
 ghost use Rattle.stored_replicas.specs.Stored.{header_of as header_value};
 
-use block_digests::digests_of_blocks;
+use block_digests::{HashedBlock, digests_of_blocks};
 use bytes::Bytes;
 use gfs_types::ids::Handle;
 use redo_area::RedoRange;
@@ -50,6 +50,7 @@ pub(crate) fn header_range(
 /// The digests of the blocks from one to before another, once these bytes lie between the edges.
 pub(crate) fn new_digests(
     alloc: Global,
+    hashed: &mut HashedBlock,
     layout: Layout,
     edges: &Edges,
     bytes: &[u8],
@@ -63,13 +64,14 @@ pub(crate) fn new_digests(
     content.extend_from_slice(&edges.before)?;
     content.extend_from_slice(bytes)?;
     content.extend_from_slice(&edges.after)?;
-    let digests = digests_of_blocks(alloc, layout.block as usize, count, &content)?;
+    let digests = digests_of_blocks(alloc, hashed, layout.block as usize, count, &content)?;
     Ok(Bytes::from_vec(digests)?)
 }
 
 /// The header, the digests of the touched blocks, and the bytes.
 pub(crate) fn write_ranges(
     alloc: Global,
+    hashed: &mut HashedBlock,
     layout: Layout,
     slot: u32,
     handle: Handle,
@@ -90,7 +92,7 @@ pub(crate) fn write_ranges(
     let block = layout.block as usize;
     let first = offset / block;
     let count = (offset + bytes.len() - 1) / block + 1 - first;
-    let digests = new_digests(alloc, layout, edges, bytes, count)?;
+    let digests = new_digests(alloc, hashed, layout, edges, bytes, count)?;
     let mut ranges = header_range(alloc, layout, slot, handle, row)?;
     ranges.push(RedoRange {
         place: layout.digests(slot) + 32 * first,

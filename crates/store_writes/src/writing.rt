@@ -15,6 +15,7 @@ ghost use Rattle.store_writes.specs.Writing.{IsNoticedAt, LeavesWritten, checked
 ghost use Rattle.stored_replicas.specs.Stored.{Holds, header_of};
 
 use crate::ranges::{header_range, write_ranges};
+use block_digests::HashedBlock;
 use bytes::Bytes;
 use disk::{Disk, DiskFault};
 use gfs_types::ids::{Handle, Serial};
@@ -42,6 +43,7 @@ fn row_after(row: Row, serial: Serial, end: u64) -> Row
 fn checked_ranges<D: Disk>(
     alloc: Global,
     disk: &mut D,
+    hashed: &mut HashedBlock,
     layout: Layout,
     handle: Handle,
     new: HeldReplica,
@@ -66,11 +68,11 @@ fn checked_ranges<D: Disk>(
         return Ok(Some(header));
     }
     let end = offset + count;
-    let Some(edges) = read_edges(alloc, disk, layout, new.slot, offset, end)? else {
+    let Some(edges) = read_edges(alloc, disk, hashed, layout, new.slot, offset, end)? else {
         return Ok(None);
     };
     let ranges = write_ranges(
-        alloc, layout, new.slot, handle, new.row, &edges, offset, bytes,
+        alloc, hashed, layout, new.slot, handle, new.row, &edges, offset, bytes,
     )?;
     Ok(Some(ranges))
 }
@@ -81,6 +83,7 @@ fn checked_ranges<D: Disk>(
 pub fn write<D: Disk>(
     alloc: Global,
     disk: &mut D,
+    hashed: &mut HashedBlock,
     layout: Layout,
     index: &mut SlotIndex,
     handle: Handle,
@@ -114,7 +117,16 @@ pub fn write<D: Disk>(
         slot: found.slot,
         row,
     };
-    let Some(ranges) = checked_ranges(alloc, disk, layout, handle, new, offset as usize, bytes)?
+    let Some(ranges) = checked_ranges(
+        alloc,
+        disk,
+        hashed,
+        layout,
+        handle,
+        new,
+        offset as usize,
+        bytes,
+    )?
     else {
         return Ok(false);
     };

@@ -9,7 +9,7 @@ loop-preserved c =
     let rest = c.loop.rest.now in
     let all = digests_of c.args.block c.args.count c.args.bytes.now in
     let items = c.in_ok-extend_from_slice.ensures.items in
-    let digest = c.digest_beside-digest.ensures in
+    let digest = c.digest_of-digest.ensures in
     let front = c.split_at.ensures.front in
     let back = c.split_at.ensures.back in
     let next = goes_on c.args.block c.args.count c.loop.counter c.loop.digests.items rest all c.loop-test.true so_far.so_far in
@@ -17,5 +17,4 @@ loop-preserved c =
     record {
       so_far = rw (items, digest, front, back) next;
       room = omega (arith, left, ap length back, length-drop c.args.block rest);
-      known = digest;
     }

@@ -121,7 +121,7 @@ returns-in_default-clause-refused g c d is e =
     let store = c.args.self.now in
     let row : Row = record { version = c.args.version; serial = c.args.serial; count = length c.args.bytes.now } in
     let same = c.in_ok-slot.ensures.ok ∙ ap (λ (fs : List ℕ). index_with store.index c.args.handle.0 row fs) (none_free store.index.free (sym c.in_ok-slot.ensures.slot ∙ c.in_default.is)) in
-    subst (λ (x : IndexState). IsOpen g.D.Disk.seen g.D.Disk.may_leave (record { disk = store.disk; layout = store.layout; order = store.order; index = x }) d) (sym same) is
+    subst (λ (x : IndexState). IsOpen g.D.Disk.seen g.D.Disk.may_leave (record { disk = store.disk; layout = store.layout; order = store.order; index = x; hashed = tt }) d) (sym same) is
 
 pub returns-in_err-put_in_slot-clause-refused : goal.returns-in_err-put_in_slot-clause-refused
 returns-in_err-put_in_slot-clause-refused g c d is e =

@@ -1,0 +1,2 @@
+pub mod Concerning
+pub mod Followed

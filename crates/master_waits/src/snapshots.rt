@@ -1,0 +1,64 @@
+//! Lists of snapshots that wait (section 3.4).
+
+ghost use Rattle.std.specs.Prelude.{◌≡◌, ◌==◌, ◌&&◌, not, filter, IfOk};
+
+use crate::waiting::{Awaited, Pending};
+use gfs_types::ids::ClientId;
+use gfs_types::no_memory::NoMemory;
+use std::alloc::Global;
+
+/// Leaves out that of a client's call of this number.
+pub fn remove_call(snapshots: &mut Vec<Pending>, client: ClientId, number: u64)
+    ensures { snapshots.new.items ≡ filter (λ other. not ((client.0 == other.client) && (number == other.number))) snapshots.old.items }
+{
+    snapshots.retain(|other| !(client.0 == other.client().0 && number == other.number()));
+}
+
+/// Where a chunk was found that the snapshot of a client's call of this number waits for.
+pub fn note_at_call(snapshots: &mut Vec<Pending>, client: ClientId, number: u64, awaited: Awaited)
+    ensures { snapshots.new.items ≡ snapshots.old.items }
+{
+    let mut awaited = Some(awaited);
+    for snapshot in snapshots.iter_mut() {
+        if snapshot.client == client.0 && snapshot.number == number {
+            snapshot.awaited = awaited.take();
+        }
+    }
+}
+
+/// A copy of a list.
+pub fn copies_of(alloc: Global, snapshots: &[Pending]) -> Result<Vec<Pending>, NoMemory>
+    ensures { IfOk result (λ v. v.items ≡ snapshots.now) }
+{
+    let mut copies = Vec::new(alloc);
+    for snapshot in snapshots {
+        copies.push(snapshot.copy(alloc)?)?;
+    }
+    Ok(copies)
+}
+
+impl Pending {
+    /// An equal one.
+    pub fn copy(&self, alloc: Global) -> Result<Pending, NoMemory>
+        ensures { IfOk result (λ s. s ≡ self.now) }
+    {
+        Ok(Pending {
+            client: self.client,
+            number: self.number,
+            deadline: self.deadline,
+            from: self.from.copy(alloc)?,
+            to: self.to.copy(alloc)?,
+            awaited: self.copied_awaited(alloc)?,
+        })
+    }
+
+    fn copied_awaited(&self, alloc: Global) -> Result<Option<Awaited>, NoMemory> {
+        match &self.awaited {
+            Some(awaited) => Ok(Some(Awaited {
+                path: awaited.path.copy(alloc)?,
+                index: awaited.index,
+            })),
+            None => Ok(None),
+        }
+    }
+}
