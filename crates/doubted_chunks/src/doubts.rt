@@ -26,11 +26,7 @@ pub fn doubt(until: Option<u64>, doubted: &mut Doubted, handle: u64) -> Option<u
 }
 
 /// The chunk whose granted version a record sets, if it does.
-pub fn doubt_granted(
-    until: Option<u64>,
-    doubted: &mut Doubted,
-    entry: &Record,
-) -> Option<u64>
+pub fn doubt_granted(until: Option<u64>, doubted: &mut Doubted, entry: &Record) -> Option<u64>
     ensures kept { IfSome result (λ moment. until ≡ Some moment) }
     ensures doubted { IfSome result (λ _. doubted.new ≡ with_granted doubted.old (granted_chunk entry.now)) }
 {
