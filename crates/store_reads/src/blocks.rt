@@ -1,6 +1,6 @@
 //! Blocks of a replica, which are checked as they are read.
 
-ghost use Rattle.std.specs.Prelude.{◌≡◌, ◌≤◌, ◌<◌, ◌+◌, ◌*◌, ◌%◌, ℕ, length, IfOk, IfSome};
+ghost use Rattle.std.specs.Prelude.{◌≡◌, ◌≤◌, ◌<◌, ◌+◌, ◌*◌, ◌-◌, ◌%◌, ℕ, drop, length, take, IfOk, IfSome};
 ghost use Rattle.disk.specs.Device.{HasCause};
 ghost use Rattle.gated_disk.specs.Moments.{OnlyReads};
 ghost use Rattle.replica_store.specs.Replicas.{Replica};
@@ -12,7 +12,7 @@ use crate::parts::read_part;
 use block_digests::{HashedBlock, blocks_match};
 use bytes::Bytes;
 use disk::{Disk, DiskFault};
-use std::alloc::Global;
+use std::alloc::{AllocError, Global};
 use store_layout::Layout;
 
 /// So many blocks of the replica in a slot, from one on. `None` where one of them doesn't match its digest.
@@ -47,6 +47,15 @@ pub fn read_blocks<D: Disk>(
     }
 }
 
+// A part of some blocks. A slice of them would keep them all for as long as the answer to a read is kept.
+fn copy_of(alloc: Global, bytes: &[u8], from: usize, to: usize) -> Result<Bytes, AllocError>
+    requires order { from ≤ to }
+    requires within { to ≤ length bytes.now }
+    ensures { IfOk result (λ b. b ≡ take (to - from) (drop from bytes.now)) }
+{
+    Bytes::copy_from_slice(alloc, &bytes[from..to])
+}
+
 /// The bytes of the replica in a slot from `offset` to before `end`. `None` where a block that they touch doesn't match its digest.
 pub fn read_range<D: Disk>(
     alloc: Global,
@@ -74,5 +83,5 @@ pub fn read_range<D: Disk>(
         return Ok(None);
     };
     let before = offset % block;
-    Ok(Some(bytes.slice(before..before + (end - offset))?))
+    Ok(Some(copy_of(alloc, &bytes, before, before + (end - offset))?))
 }
