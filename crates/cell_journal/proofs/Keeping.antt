@@ -10,14 +10,14 @@ use prog.Atomic.{either}
 use Rattle.atomic_table.specs.Table.{State, Me, Act, Step, Allows, Splits, Valid, homes_after, carried_after, opening}
 use Rattle.atomic_table.specs.Table.Act.{keeps, takes, gives}
 use Rattle.atomic_table.proofs.Lists.{at_set, set_here, set_again}
-use Rattle.journal_list.proofs.Begins.{prefix_self, prefix_trans}
+use Rattle.cell_journal.proofs.Begins.{prefix_self, prefix_trans}
 use Rattle.gfs_types.specs.declared.ids.Node.{Node}
 use Rattle.protocol_journal.specs.Journal.{Entry, own}
-use Rattle.journal_pages.specs.Identity.{Identity, Filled}
+use Rattle.cell_journal.specs.Identity.{Identity, Filled}
 use Rattle.cell_journal.specs.declared.view.View.{View}
 use Rattle.cell_journal.specs.Roles.{WritesAs, own_of}
 use Rattle.cell_journal.specs.Rules.{IsJournalOf, Writes, Fits, AllFit, Apart, NoHolder, rooms_in, AtHome, Keeps, first_view, Took, HasTaken, Takes, gave, Gives, Marks, IsSame, LeavesRoom, Adds, next_place, after_next}
-use Rattle.cell_journal.proofs.Growing.{own_append, own_other, journal_grows, begins_lawful}
+use Rattle.cell_journal.proofs.Grown.{own_append, own_other, journal_grows, begins_lawful}
 use Rattle.cell_journal.proofs.Roles.{later_writes, next_writes, never_both, own_same, own_only}
 
 set_first : (ws : List ℕ) (n : ℕ) → 0 < length ws → slice_index (slice_set ws 0 n) 0 ≡ n

@@ -1,3 +1,14 @@
-pub mod Growing
+pub mod Stepping
+pub mod Begins
+pub mod Cells
+pub mod Turning
+pub mod Moving
+pub mod Rows
+pub mod Numbers
+pub mod Observed
+pub mod Grown
 pub mod Roles
 pub mod Keeping
+pub mod Lending
+pub mod Placing
+pub mod Slotting

@@ -1,2 +1,10 @@
+pub mod WordRules
+pub mod Log
+pub mod ListRules
+pub mod Clocks
+pub mod Entries
+pub mod Identity
+pub mod Rows
 pub mod Roles
 pub mod Rules
+pub mod Places

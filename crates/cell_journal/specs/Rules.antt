@@ -10,7 +10,7 @@ use Rattle.protocol.specs.World.{new_world}
 use Rattle.protocol_journal.specs.Journal.{Entry, NodeState, node_in, node_step, may_take, own, LeadsTo, sent_after, IsForNode, IsLawful}
 use Rattle.protocol.specs.Tables.{moment_limit}
 use Rattle.std.specs.Prelude.{nat_le}
-use Rattle.journal_pages.specs.Identity.{Identity, Filled}
+use Rattle.cell_journal.specs.Identity.{Identity, Filled}
 use Rattle.cell_journal.specs.declared.view.View.{View}
 use Rattle.cell_journal.specs.declared.view.Role.{Role}
 use Rattle.cell_journal.specs.declared.view.Role.TheVariants.{Nobody, Only, From}

@@ -1,9 +1,9 @@
 //! The rule of the table in which the journal lies, and its steps.
 
+use crate::identity::CellIdentity;
+use crate::pages::Pages;
 use crate::view::View;
 use atomic_table::{Play, Seat, Shared, Split, TableRule};
-use journal_pages::identity::CellIdentity;
-use journal_pages::pages::Pages;
 
 /// The rule.
 pub struct Law;

@@ -3,7 +3,7 @@
 ghost use Rattle.std.specs.Prelude.{◌≡◌, ◌≢◌, ◌∷◌, [], MatchBool, Some};
 ghost use Rattle.gfs_types.specs.declared.ids.Node.{Node};
 ghost use Rattle.protocol_journal.specs.Journal.{Entry as JournalEntry};
-ghost use Rattle.journal_pages.specs.Identity.{Filled};
+ghost use Rattle.cell_journal.specs.Identity.{Filled};
 ghost use Rattle.cell_journal.specs.Rules.{HasTaken, Writes, IsSame, Adds, gave, next_place, after_next};
 
 use crate::rule::{Book, Give, Mark, Next, Place, Take};

@@ -1,8 +1,8 @@
 //! What a place at the journal knows.
 
+use crate::entry::Entry;
+use crate::identity::CellIdentity;
 use gfs_types::ids::Node;
-use journal_pages::entry::Entry;
-use journal_pages::identity::CellIdentity;
 use std::collections::LinkedList;
 
 /// Whose steps a place writes: nobody's, one node's, or those of each node from a number on. No value of it is made.

@@ -9,7 +9,7 @@ use gfs_types::ids::{DataId, Serial, Version};
 use gfs_types::lists::ExactClone;
 use gfs_types::mutation::Mutation;
 use gfs_types::no_memory::NoMemory;
-use plain_programs::entry::Entry;
+use machine_programs::entry::Entry;
 use std::marker::Model;
 
 /// One entry, without the number of its call.

@@ -9,7 +9,7 @@ use crate::orders::Orders;
 use crate::placed::Numbered;
 use gfs_types::ids::Handle;
 use gfs_types::no_memory::NoMemory;
-use plain_programs::entry::Entry;
+use machine_programs::entry::Entry;
 use protocol::seen::SeenList;
 use relaxed_file::region::Region;
 use std::alloc::Global;
@@ -69,7 +69,7 @@ impl Sights {
         ensures { IfOk result (λ regions. regions.items ≡ regions_of chunk (entries_seen self.now.seen handle.0)) }
     {
         let entries = self.entries(alloc, chunk, handle)?;
-        Ok(plain_programs::regions::regions(alloc, chunk, entries.as_slice())?)
+        Ok(machine_programs::regions::regions(alloc, chunk, entries.as_slice())?)
     }
 
     fn entries(&self, alloc: Global, chunk: u64, handle: Handle) -> Result<Vec<Entry>, NoMemory>

@@ -1,1 +1,5 @@
+pub mod Stepping
+pub mod Sent
+pub mod Settings
+pub mod Standing
 pub mod NewSeats

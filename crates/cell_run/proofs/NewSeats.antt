@@ -4,15 +4,15 @@ use Rattle.gfs_types.specs.declared.ids.ClientId.{ClientId}
 use Rattle.gfs_types.specs.declared.ids.Node.{Node}
 use Rattle.gfs_types.specs.declared.ids.Node.TheVariants.{Client}
 use Rattle.protocol_journal.specs.Journal.{Entry, own}
-use Rattle.journal_list.specs.Log.{Listed, listed}
+use Rattle.cell_journal.specs.Log.{Listed, listed}
 use mathlib.Core.List.{IsPrefix}
 use Rattle.std.specs.Prelude.{IsTrue}
-use Rattle.journal_pages.specs.Clocks.{are_clocks_kept}
+use Rattle.cell_journal.specs.Clocks.{are_clocks_kept}
 use Rattle.cell_journal.specs.Rules.{IsJournalOf}
 use Rattle.cell_journal.specs.declared.view.View.{View}
-use Rattle.cell_journal.proofs.Growing.{begins_lawful}
-use Rattle.cell_making.specs.Making.{IsNewClient}
-use Rattle.cell_seat.specs.Seats.{IsSeat}
+use Rattle.cell_journal.proofs.Grown.{begins_lawful}
+use Rattle.cell_run.specs.Making.{IsNewClient}
+use Rattle.cell_seats.specs.Seats.{IsSeat}
 
 -- it has seen nothing of the journal
 pub new_seat : (id : ClientId) (v w : View) (n : Node) (nothing : Listed Entry) → IsNewClient id v n w → nothing ≡ listed v.of.name [] → IsSeat n w nothing 0 None

@@ -5,13 +5,13 @@ use Rattle.gfs_types.specs.declared.config.Config.{Config}
 use Rattle.gfs_types.specs.declared.ids.Node.{Node}
 use Rattle.gfs_types.specs.declared.ids.Node.TheVariants.{Client}
 use Rattle.protocol_journal.specs.Journal.{Entry}
-use Rattle.journal_list.specs.Log.{Listed, listed}
-use Rattle.journal_pages.specs.Identity.{Identity}
-use Rattle.cell_desk.specs.declared.asked.Asked.{Asked}
-use Rattle.cell_desk.specs.declared.asked.Asker.{Asker}
-use Rattle.cell_desk.specs.declared.post.Policy.{Policy}
-use Rattle.cell_desk.specs.Asked.{AsksOf, no_policy, restarted}
-use Rattle.cell_seat.specs.Seats.{SeatState, seat_state}
+use Rattle.cell_journal.specs.Log.{Listed, listed}
+use Rattle.cell_journal.specs.Identity.{Identity}
+use Rattle.cell_seats.specs.declared.asked.Asked.{Asked}
+use Rattle.cell_seats.specs.declared.asked.Asker.{Asker}
+use Rattle.cell_seats.specs.declared.post.Policy.{Policy}
+use Rattle.cell_seats.specs.Asked.{AsksOf, no_policy, restarted}
+use Rattle.cell_seats.specs.Seats.{SeatState, seat_state}
 use Rattle.cell_run.specs.declared.fault.SeatFault.{SeatFault}
 use Rattle.cell_run.specs.declared.fault.SeatFault.TheVariants.{Many, NoMemory}
 

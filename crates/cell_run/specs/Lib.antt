@@ -1,2 +1,5 @@
+pub mod Standing
+pub mod Making
+pub mod MakingFaults
 pub mod Cells
 pub mod Faults

@@ -2,32 +2,31 @@
 
 ghost use Rattle.std.specs.Prelude.{◌≡◌, ◌+◌, ◌≤◌, ◌<◌, [], IfOk, IfErr, OnOk, OnErr, vec_len, replicate};
 ghost use Rattle.std.specs.Arc.{arc_value};
-ghost use Rattle.journal_list.specs.Log.{listed};
-ghost use Rattle.cell_making.specs.Making.{IsFitting, IsSame};
-ghost use Rattle.cell_desk.specs.Asked.{AsksOf, no_policy, policy_in};
+ghost use Rattle.cell_journal.specs.Log.{listed};
+ghost use Rattle.cell_run.specs.Making.{IsFitting, IsSame};
+ghost use Rattle.cell_seats.specs.Asked.{AsksOf, no_policy, policy_in};
 ghost use Rattle.cell_run.specs.Cells.{IsCellOf, IsNewCell, IsNewSeat, IsSeatFault, more, with_policy, asked_again};
 
 use crate::fault::SeatFault;
+use crate::making::{are_fitting, client_slot, master_slot, server_slot};
+pub use crate::making_fault::StartFault;
+use crate::running_client::RunningClient;
 use crate::threads::{CLOSING, ENDED, serve, stop_all, tick, wait_for_clients};
-use cell_dealer::dealer::Dealer;
-use cell_desk::asked::{Asker, nothing_asked};
-use cell_desk::hall::{Hall, MOST_CLIENTS};
-use cell_desk::post::{Input, Letter, Mailboxes, Policy, Post};
-pub use cell_making::fault::StartFault;
-use cell_making::making::{are_fitting, client_slot, master_slot, server_slot};
-use cell_seat::journal::Journal;
-use cell_seat::seat::Seat;
-use cell_slot::gate::Gate;
-use cell_slot::slot::Slot;
-use cell_slot::stepper::Stepper;
+use cell_journal::entry::Entry;
+use cell_journal::pages::Pages;
+use cell_journal::{Beginning, open};
+use cell_seats::asked::{Asker, nothing_asked};
+use cell_seats::dealer::Dealer;
+use cell_seats::gate::Gate;
+use cell_seats::hall::{Hall, MOST_CLIENTS};
+use cell_seats::journal::Journal;
+use cell_seats::post::{Input, Letter, Mailboxes, Policy, Post};
+use cell_seats::seat::Seat;
+use cell_seats::slot::Slot;
+use cell_seats::stepper::Stepper;
 use crossbeam_channel::Receiver;
 use gfs_types::config::Config;
 use gfs_types::ids::{ClientId, Node, ServerId};
-use journal_calls::open;
-use journal_list::Beginning;
-use journal_pages::entry::Entry;
-use journal_pages::pages::Pages;
-use running_client::RunningClient;
 use std::alloc::Global;
 use std::marker::Model;
 use std::sync::atomic::{AtomicU64, Ordering};
@@ -79,7 +78,7 @@ impl Drop for Cell {
 impl Model for Cell {
     ghost use Rattle.std.specs.Prelude.{vec_len};
     ghost use Rattle.std.specs.Arc.{arc_value};
-    ghost use Rattle.cell_desk.specs.Asked.{policy_in};
+    ghost use Rattle.cell_seats.specs.Asked.{policy_in};
     ghost use Rattle.cell_run.specs.Cells.{CellState, cell_state, HasMade};
 
     ghost Value = { CellState };

@@ -1,11 +1,11 @@
 //! What the threads of a running cell do.
 
-use cell_asking::waiting::next_input;
-use cell_desk::hall::{Hall, MOST_CLIENTS};
-use cell_desk::post::{Input, Letter};
-use cell_slot::gate::Gate;
-use cell_slot::slot::Slot;
-use cell_slot::stepper::Stepper;
+use cell_seats::gate::Gate;
+use cell_seats::hall::{Hall, MOST_CLIENTS};
+use cell_seats::post::{Input, Letter};
+use cell_seats::slot::Slot;
+use cell_seats::stepper::Stepper;
+use cell_seats::waiting::next_input;
 use crossbeam_channel::Receiver;
 use gfs_types::ids::{ClientId, Node, ServerId};
 use std::sync::atomic::Ordering;

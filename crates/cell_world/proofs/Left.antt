@@ -39,7 +39,7 @@ left_on m middle held g k = record {
     by_case (inr (down, none)) (inl b) = inr (down, b ∙ none)
     by_case a (inr (down, none)) = inr (up_alike m middle g ∙ down, none)
 
--- A restart of a master as its code has it is a restart of the master of the definitions, for some choice. `protocol_laws` states the same.
+-- A restart of a master as its code has it is a restart of the master of the definitions, for some choice. `laws_base` states the same.
 
 abbrev pub IsGivenAs : Taken MasterState → Taken MasterState → Type 0
 IsGivenAs t held = (held.out ≡ t.out) × (held.seen ≡ t.seen) × IsLeftAs t.state held.state

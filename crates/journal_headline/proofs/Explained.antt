@@ -8,12 +8,12 @@ use Rattle.protocol.specs.World.{WorldState, is_kept}
 use Rattle.protocol_journal.specs.Journal.{observer_of}
 use Rattle.protocol_journal.specs.Laws.{Shows}
 use Rattle.protocol_journal.proofs.Journals.{journals_are_runs}
-use Rattle.protocol_replica_laws.proofs.AppliedReached.{kept_both}
-use Rattle.protocol_runs.proofs.SettingsInRange.{settings_in_range_are_so}
-use Rattle.protocol_runs.proofs.Induction.{answers_are_a_run}
-use Rattle.protocol_promises.specs.Promises.{Promises}
-use Rattle.protocol_promises.specs.ExplainedWorlds.{KeepsPromises}
-use Rattle.protocol_promises.proofs.KeptPromises.{explained_worlds_are_promised}
+use Rattle.laws_replicas.proofs.AppliedReached.{kept_both}
+use Rattle.headline.proofs.SettingsInRange.{settings_in_range_are_so}
+use Rattle.headline.proofs.Induction.{answers_are_a_run}
+use Rattle.promises.specs.Promises.{Promises}
+use Rattle.promises.specs.ExplainedWorlds.{KeepsPromises}
+use Rattle.promises.proofs.KeptPromises.{explained_worlds_are_promised}
 use Rattle.journal_headline.specs.Journals.{JournalsAreExplained}
 
 abbrev Explained : Config → List Visible → Type 0

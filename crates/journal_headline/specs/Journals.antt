@@ -6,7 +6,7 @@ use Rattle.gfs_types.specs.Settings.{first_out_of_range}
 use Rattle.relaxed_file.specs.Machine.{Machine}
 use Rattle.relaxed_file.specs.Run.{IsRunTo}
 use Rattle.protocol_journal.specs.Journal.{Entry, NodeState, IsLawful, observer_of}
-use Rattle.protocol_promises.specs.Promises.{Promises}
+use Rattle.promises.specs.Promises.{Promises}
 
 -- What a lawful journal shows of calls and answers, in its order, is a run of the machine, under settings in their ranges and where clocks were kept; and the run keeps all that users rely on.
 abbrev pub JournalsAreExplained : Type 0

@@ -19,10 +19,10 @@ use Rattle.live_script.specs.declared.lines.LiveLine.TheVariants as lines
 use Rattle.live_script.specs.Lines.{is_barrier}
 use Rattle.script.specs.declared.options.Options.{Options}
 use Rattle.protocol_journal.specs.Journal.{Entry, own}
-use Rattle.journal_pages.specs.Identity.{Identity}
+use Rattle.cell_journal.specs.Identity.{Identity}
 use Rattle.cell_journal.specs.Rules.{IsJournalOf}
-use Rattle.cell_asking.specs.Seen.{visible_of}
-use Rattle.cell_seat.specs.Seats.{SeatState, shown, IsAnswered, IsLost}
+use Rattle.cell_seats.specs.Seen.{visible_of}
+use Rattle.cell_seats.specs.Seats.{SeatState, shown, IsAnswered, IsLost}
 use Rattle.cell_run.specs.Cells.{IsCellOf}
 use Rattle.live.specs.declared.play.Player.{Player}
 use Rattle.live.specs.Live.{AreAnswersOf}

@@ -7,9 +7,9 @@ use Rattle.gfs_types.specs.declared.answer.Answer.{Answer}
 use Rattle.gfs_types.specs.declared.call.Call.{Call}
 use Rattle.gfs_types.specs.declared.ids.Node.TheVariants.{Client}
 use Rattle.protocol_journal.specs.Journal.{Entry, own}
-use Rattle.journal_pages.specs.Identity.{Identity}
+use Rattle.cell_journal.specs.Identity.{Identity}
 use Rattle.cell_journal.specs.Rules.{IsJournalOf}
-use Rattle.cell_asking.specs.Seen.{visible_of}
+use Rattle.cell_seats.specs.Seen.{visible_of}
 use Rattle.cell_run.specs.Cells.{IsCellOf}
 use Rattle.script.specs.declared.options.Options.{Options}
 use Rattle.script.specs.Answers.{answer_line}

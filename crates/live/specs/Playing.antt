@@ -6,9 +6,9 @@ use Rattle.gfs_types.specs.declared.call.Call.{Call}
 use Rattle.gfs_types.specs.declared.ids.Node.TheVariants.{Client}
 use Rattle.live_script.specs.declared.lines.LiveLine.{LiveLine}
 use Rattle.live_script.specs.declared.lines.LiveLine.TheVariants as lines
-use Rattle.journal_pages.specs.Identity.{Identity}
-use Rattle.cell_asking.specs.Seen.{Visible, Asked, Answered}
-use Rattle.cell_seat.specs.Seats.{seat_state, is_the_cells, shown}
+use Rattle.cell_journal.specs.Identity.{Identity}
+use Rattle.cell_seats.specs.Seen.{Visible, Asked, Answered}
+use Rattle.cell_seats.specs.Seats.{seat_state, is_the_cells, shown}
 use Rattle.live.specs.declared.play.Player.{Player}
 
 -- the calls of the client of this number, in order

@@ -12,11 +12,11 @@ use Rattle.script.specs.declared.options.Options.{Options}
 use Rattle.script.specs.declared.script_fault.ScriptFault.{ScriptFault}
 use Rattle.script.specs.declared.script_fault.ScriptFault.TheVariants as fault
 use Rattle.protocol.specs.World.{WorldState, happens, numbered_from_1, IsReached}
-use Rattle.client_answers.specs.Answered.{node_of as node_in}
+use Rattle.laws_clients.specs.Answered.{node_of as node_in}
 use Rattle.cell_world.specs.Held.{HeldCell, IsHeldAs}
-use Rattle.cell_headline.specs.Traced.{AddsToTrace}
-use Rattle.cell_headline.proofs.Traced.{events_add_to_the_trace}
-use Rattle.cell_headline.proofs.Explained.{explained, reached_on}
+use Rattle.cell_core.specs.Traced.{AddsToTrace}
+use Rattle.cell_core.proofs.Traced.{events_add_to_the_trace}
+use Rattle.cell_core.proofs.Explained.{explained, reached_on}
 use Rattle.cell_script.specs.declared.lines.Line.{Line}
 use Rattle.cell_simulator.specs.Cells.{Meaning}
 use Rattle.cell_simulator.specs.Steps.{Step, Simulated, Lead, Rise, line_of_step, lines_of, moment_of, node_of}

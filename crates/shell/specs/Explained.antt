@@ -11,7 +11,7 @@ use Rattle.protocol.specs.World.{WorldState, happens}
 use Rattle.protocol_invariant.specs.Explained.{Explains}
 use Rattle.cell_world.specs.Events.{MayBeRefused}
 use Rattle.cell_world.specs.Held.{HeldCell, IsHeldAs}
-use Rattle.cell_headline.specs.Traced.{AddsToTrace}
+use Rattle.cell_core.specs.Traced.{AddsToTrace}
 use Rattle.cell_script.specs.declared.lines.Line.{Line}
 use Rattle.cell_simulator.specs.Cells.{Meaning}
 use Rattle.cell_simulator.specs.Steps.{Step, Simulated, lines_of, with_feed}

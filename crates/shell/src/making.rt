@@ -9,8 +9,8 @@ ghost use Rattle.replica_store.specs.Replicas.{new_server_disk};
 ghost use Rattle.shell.specs.Cells.{IsNew, IsOfStart, are_in_range, is_count};
 ghost use Rattle.stored_log.specs.Kept.{IsDiskSize};
 
-use cell_headline::world::World;
-use cell_master::SeatedMaster;
+use cell_core::cell_master::SeatedMaster;
+use cell_core::world::World;
 use cell_world::master::CellMaster;
 use disk_store::disk_store::DiskStore;
 use gfs_types::config::Config;

@@ -13,8 +13,8 @@ use Rattle.messages.specs.declared.event.Event.TheVariants as event
 use Rattle.protocol.specs.Observer.{new_observer}
 use Rattle.protocol.specs.Client.{ClientState}
 use Rattle.protocol.specs.World.{WorldState, happens, numbered_from_1}
-use Rattle.client_answers.specs.Answered.{CountsIfUp, is_answer_of, is_open, is_taken, is_up, node_of as node_in}
-use Rattle.client_answers.proofs.Events.{counted, no_answer, still}
+use Rattle.laws_clients.specs.Answered.{CountsIfUp, is_answer_of, is_open, is_taken, is_up, node_of as node_in}
+use Rattle.laws_clients.proofs.Events.{counted, no_answer, still}
 use Rattle.cell_record.specs.Seeing.{orders_seen}
 use Rattle.cell_world.specs.Held.{AreHeldAs, HeldCell, IsHeldAs, HasEffect, uncounted}
 use Rattle.cell_world.specs.Looks.{waits_at}

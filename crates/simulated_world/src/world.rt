@@ -2,7 +2,7 @@
 
 ghost use Rattle.simulated_world.specs.Worlds.{meaning_of};
 
-use cell_headline::world::World;
+use cell_core::world::World;
 use cell_simulator::cell::SimulatedCell;
 use cell_world::master::CellMaster;
 use chunk_lines::stored::StoredReplica;

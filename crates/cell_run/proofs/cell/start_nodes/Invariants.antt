@@ -1,5 +1,5 @@
 use Rattle.std.proofs.Common.{◌≡◌, ◌+◌}
-use Rattle.cell_making.specs.Making.{IsSame}
+use Rattle.cell_run.specs.Making.{IsSame}
 use Rattle.cell_run.proofs.cell.start_nodes.Given as goal
 
 -- the master and so many servers have their places

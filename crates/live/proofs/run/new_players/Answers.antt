@@ -1,5 +1,5 @@
 use Rattle.std.proofs.Common.{◌+◌, ◌∙◌, length, refl, sym, ap, subst}
-use Rattle.journal_pages.specs.Identity.{Identity}
+use Rattle.cell_journal.specs.Identity.{Identity}
 use Rattle.live.specs.Playing.{IsNewPlayer, Each}
 use Rattle.live.proofs.Players.{each_more, each_of_none, count_more}
 use Rattle.live.proofs.run.new_players.Goals as goal

@@ -1,6 +1,6 @@
 use Rattle.std.proofs.Common.{◌∙◌, List, sym, ap, subst}
 use Rattle.std.specs.Prelude.{slice_get}
-use Rattle.journal_pages.specs.Identity.{Identity}
+use Rattle.cell_journal.specs.Identity.{Identity}
 use Rattle.cell_journal.specs.Rules.{IsJournalOf}
 use Rattle.live.specs.declared.play.Player.{Player}
 use Rattle.live.proofs.Players.{told_so}

@@ -1,0 +1,111 @@
+//! The master as a cell wants it: with the chunks of all files as they stood when it was last up.
+
+ghost use Rattle.std.specs.Prelude.{◌≡◌, ◌≤◌, true, [], IfOk};
+ghost use Rattle.std.specs.Coded.{→_prop, Coded-set, coded_ℕ, coded_list};
+ghost use Rattle.std.specs.FinMap as table;
+ghost use Rattle.protocol.specs.Logged.{new_log};
+ghost use Rattle.protocol.specs.MasterStep.{new_master};
+ghost use Rattle.shown_files.specs.Shown.{shown_in};
+
+use cell_world::master::CellMaster;
+use gfs_types::config::Config;
+use gfs_types::ids::{FileId, Handle, Moment};
+use gfs_types::path::Path;
+use gfs_types::torn::Torn;
+use master::fault::MasterFault;
+use master::master::Master;
+use messages::event::StepOut;
+use messages::message::Message;
+use namespace::name_kind::NameKind;
+use operation_log::log::OperationLog;
+use shown_files::shown::ShownFiles;
+use std::alloc::{Allocator, Global};
+use step_outcome::Outcome;
+use stored_log::stoppable::StoppableLog;
+
+/// A master over a log, and what is shown of its files: while it is up, these are its files. Its names lie in `A`.
+#[derive(Drop)]
+pub struct SeatedMaster<L: OperationLog, A: Allocator> {
+    master: Master<L, A>,
+    files: ShownFiles,
+    ghost shown: { master.up ≡ true → shown_in files ≡ master.logged.table.files } by { →_prop (Coded-set (table.code coded_ℕ (coded_list coded_ℕ)) _ _) },
+}
+
+impl<L: OperationLog + Drop, A: Allocator + Clone> SeatedMaster<L, A> {
+    /// The master of a new cell, whose log is new: the first epoch is logged. The settings are within their ranges.
+    #[tactic(auto, using(crate::proofs::Files::shown_first))]
+    pub fn new(
+        alloc: Global,
+        config: Config,
+        server_count: u16,
+        log: L,
+        names: A,
+    ) -> Result<Self, MasterFault>
+        requires lease { config.lease_ms ≤ 3600000 }
+        requires skew { config.skew_ms ≤ 60000 }
+        requires new { L.disk log ≡ new_log }
+        requires decided { L.under_way log ≡ [] }
+        ensures master { IfOk result (λ m. m.master ≡ new_master config server_count) }
+        ensures files { IfOk result (λ m. shown_in m.files ≡ table.empty) }
+    {
+        let master = Master::new(alloc, config, server_count, log, names)?;
+        Ok(SeatedMaster {
+            master,
+            files: ShownFiles::new(alloc),
+        })
+    }
+}
+
+impl<L: StoppableLog, A: Allocator + Clone> CellMaster for SeatedMaster<L, A> {
+    ghost state = { λ m. m.master };
+
+    ghost files = { λ m. shown_in m.files };
+
+    fn is_up(&self) -> bool {
+        self.master.is_up()
+    }
+
+    #[tactic(auto, using(crate::proofs::Files::none_down, crate::proofs::Files::no_name, crate::proofs::Files::a_file, crate::proofs::Files::a_directory))]
+    fn file(&self, path: &Path) -> Option<FileId> {
+        let Some(state) = self.master.state() else {
+            return None;
+        };
+        let Some(node) = state.node(path) else {
+            return None;
+        };
+        match node.kind() {
+            NameKind::File(id) => Some(id),
+            NameKind::Dir => None,
+        }
+    }
+
+    #[tactic(auto, using(crate::proofs::Files::no_file, crate::proofs::Files::no_chunk, crate::proofs::Files::a_chunk))]
+    fn handle_at(&self, file: FileId, index: u64) -> Option<Handle> {
+        let Some(handles) = self.files.get(file) else {
+            return None;
+        };
+        let Some(handle) = handles.as_slice().get(index as usize) else {
+            return None;
+        };
+        Some(Handle(*handle))
+    }
+
+    #[tactic(auto, using(crate::proofs::Files::shown_stopped))]
+    fn stop(&mut self) {
+        self.master.stop();
+    }
+
+    fn fuse(&mut self, calls: u64, torn: Torn) {
+        self.master.fuse(calls, torn);
+    }
+
+    #[tactic(auto, using(crate::proofs::Files::on_input, crate::proofs::Files::shown_up))]
+    fn step(&mut self, now: Moment, message: Option<&Message>) -> Outcome {
+        self.master.step(now, message, &mut self.files)
+    }
+
+    #[tactic(auto, using(crate::proofs::Files::shown_up))]
+    fn restart(&mut self, now: Moment) -> StepOut {
+        self.master.restart(now, &mut self.files)
+    }
+}

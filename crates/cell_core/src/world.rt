@@ -1,0 +1,177 @@
+//! A cell that a list of events led to, with the headline as the contract of its steps and runs.
+
+ghost use Rattle.std.specs.Prelude.{◌≡◌, ◌≤◌, [], length, map, option_map, All, IfOk, IfErr, OnErr};
+ghost use Rattle.std.specs.Option.{option_copied};
+ghost use Rattle.std.specs.FinMap as table;
+ghost use Rattle.gfs_types.specs.Settings.{largest_chunk};
+ghost use Rattle.protocol.specs.Lookups.{file_named, regions_at, replicas_at};
+ghost use Rattle.protocol.specs.MasterStep.{new_master};
+ghost use Rattle.protocol.specs.Sending.{file_id};
+ghost use Rattle.protocol.specs.World.{WorldState, happens, new_world, numbered_from_1};
+ghost use Rattle.replica_store.specs.Replicas.{new_server_disk};
+ghost use Rattle.cell_core.specs.Headline.{RunsAsMachine, StepsAsMachine};
+ghost use Rattle.cell_world.specs.AsStored.{as_stored};
+ghost use Rattle.cell_world.specs.Events.{MayBeRefused};
+ghost use Rattle.cell_world.specs.Held.{HasEffect, IsHeldAs};
+ghost use Rattle.cell_world.specs.Looks.{file_held, has_open_call, regions_held, replicas_held, server_count};
+ghost use Rattle.cell_world.specs.Runs.{Runs, RanUntil};
+
+use cell_world::cell::Cell;
+use cell_world::fault::RunFault;
+use cell_world::master::CellMaster;
+use chunk_lines::stored::StoredReplica;
+use gfs_types::answer::Answer;
+use gfs_types::config::Config;
+use gfs_types::ids::{ClientId, FileId, Handle};
+use gfs_types::no_memory::NoMemory;
+use gfs_types::path::Path;
+use messages::event::Event;
+use messages::message::Message;
+use relaxed_file::region::Region;
+use server_store::fault::StoreFault;
+use server_store::store::ReplicaStore;
+use std::alloc::Global;
+use std::marker::Model;
+use stoppable_store::StoppableStore;
+
+/// One master, and chunkservers and clients by their numbers, from 1, with each message that was ever sent. Each is what a list of events
+/// led to from a new cell.
+#[derive(Drop)]
+pub struct World<M: CellMaster, S: ReplicaStore> {
+    cell: Cell<M, S>,
+}
+
+impl<M: CellMaster, S: ReplicaStore> Model for World<M, S> {
+    ghost use Rattle.std.specs.Coded.{codes, coded_ℕ, coded_list};
+    ghost use Rattle.std.specs.FinMap as map;
+    ghost use Rattle.lru.specs.LruCache.{lru_cache_code};
+    ghost use Rattle.cell_world.specs.Held.{HeldCell};
+    ghost use Rattle.cell_core.specs.Standing.{HasReachedWorld};
+
+    ghost Value = { HeldCell };
+
+    ghost coded = { Prim.hlevel (codes, map.code, lru_cache_code, coded_list, coded_ℕ) };
+
+    ghost view = { λ w. w.cell };
+
+    ghost invariant = { λ w. HasReachedWorld w.cell };
+}
+
+impl<M: CellMaster + Drop, S: ReplicaStore + Drop> World<M, S> {
+    /// A new cell of a new master, with a new server over each of the new stores, and new clients. The settings are within their ranges.
+    pub fn new(
+        alloc: Global,
+        config: Config,
+        master: M,
+        stores: Vec<S>,
+        clients: u64,
+    ) -> Result<World<M, S>, NoMemory>
+        requires least { 64 ≤ config.chunk }
+        requires most { config.chunk ≤ largest_chunk }
+        requires skew { config.skew_ms ≤ 60000 }
+        requires stores { All (λ s. (S.disk s ≡ new_server_disk config.block) × (S.under_way s ≡ [])) stores.items }
+        requires count { length stores.items ≤ 65535 }
+        requires master { M.state master ≡ new_master config (length stores.items) }
+        requires files { M.files master ≡ table.empty }
+        ensures { IfOk result (λ world. IsHeldAs (new_world config (length stores.items) clients) world) }
+    {
+        let cell = Cell::new(alloc, config, master, stores, clients)?;
+        Ok(World { cell })
+    }
+}
+
+impl<M: CellMaster, S: StoppableStore> World<M, S> {
+    /// One event, and what it answers. One that names no such node, message, replica, place or moment, or a node that is down, changes
+    /// nothing. A run of the machine has the calls and answers so far, and led to what the cell shows. An error: a byte didn't
+    /// rot, as the store of its server couldn't take it, and nothing has changed.
+    pub fn step(&mut self, event: Event) -> Result<Option<Answer>, StoreFault>
+        ensures ok { IfOk result (λ answer. HasEffect self.old (λ w choice. happens w event choice) answer self.new) }
+        ensures explained { IfOk result (λ answer. StepsAsMachine self.old event answer self.new) }
+        ensures err { OnErr result (self.new ≡ self.old) }
+        ensures refused { OnErr result (MayBeRefused event) }
+    {
+        self.cell.step(event)
+    }
+
+    /// The events in order, and their answers: a run of the machine has the calls and answers so far, and led to what the cell shows.
+    ///
+    /// - `NoMemory`: memory was refused before the first event, and nothing has changed.
+    /// - `Rot`: a byte didn't rot. The events before it happened, as many as it says.
+    pub fn run(&mut self, alloc: Global, events: &[Event]) -> Result<Vec<Answer>, RunFault>
+        ensures ok { IfOk result (λ answers. Runs self.old events.now answers.items self.new) }
+        ensures explained { IfOk result (λ answers. RunsAsMachine self.old events.now answers.items self.new) }
+        ensures err { IfErr result (λ fault. RanUntil self.old events.now fault self.new) }
+    {
+        self.cell.run(alloc, events)
+    }
+
+    /// The file that a path names; none where it names no file, and while the master is down.
+    pub fn file(&self, path: &Path) -> Option<FileId>
+        ensures held { result ≡ file_held self.now path.now }
+        ensures world { (w : WorldState) → IsHeldAs w self.now → result ≡ option_map file_id (file_named w path.now) }
+    {
+        self.cell.file(path)
+    }
+
+    /// The regions of a file's chunk of this index, from 0.
+    pub fn regions(
+        &self,
+        alloc: Global,
+        file: FileId,
+        index: u64,
+    ) -> Result<Option<Vec<Region>>, NoMemory>
+        ensures held { IfOk result (λ found. option_map (λ v. v.items) found ≡ regions_held self.now file.0 index) }
+        ensures world { IfOk result (λ found. (w : WorldState) → IsHeldAs w self.now → option_map (λ v. v.items) found ≡ regions_at w file.0 index) }
+    {
+        self.cell.regions(alloc, file, index)
+    }
+
+    /// The handle of a file's chunk of this index, from 0, and each replica that is stored on a server that is up, by rising server.
+    pub fn replicas(
+        &self,
+        alloc: Global,
+        file: FileId,
+        index: u64,
+    ) -> Result<Option<(Handle, Vec<StoredReplica>)>, NoMemory>
+        ensures held { IfOk result (λ found. option_map (λ c. (c.0.0, map as_stored c.1.items)) found ≡ replicas_held self.now file.0 index) }
+        ensures world { IfOk result (λ found. (w : WorldState) → IsHeldAs w self.now → option_map (λ c. (c.0.0, map as_stored c.1.items)) found ≡ replicas_at w file.0 index) }
+    {
+        self.cell.replicas(alloc, file, index)
+    }
+
+    /// How many messages were sent so far, which is the last one's number.
+    pub fn message_count(&self) -> u64
+        ensures { result ≡ length self.now.sent }
+    {
+        self.cell.message_count()
+    }
+
+    /// The message of a number, from 1.
+    pub fn message(&self, number: u64) -> Option<&Message>
+        ensures { option_copied result ≡ numbered_from_1 self.now.sent number }
+    {
+        self.cell.message(number)
+    }
+
+    /// How many servers there are. They are numbered up to 65,535.
+    pub fn server_count(&self) -> u16
+        ensures { result ≡ server_count self.now }
+    {
+        self.cell.server_count()
+    }
+
+    /// How many clients there are.
+    pub fn client_count(&self) -> u64
+        ensures { result ≡ length self.now.clients }
+    {
+        self.cell.client_count()
+    }
+
+    /// Whether a client's call waits for its answer. False: no call of it is open, it takes no step any more, or there is no such
+    /// client.
+    pub fn has_open_call(&self, client: ClientId) -> bool
+        ensures { result ≡ has_open_call self.now client.0 }
+    {
+        self.cell.has_open_call(client)
+    }
+}

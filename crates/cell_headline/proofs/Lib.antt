@@ -1,4 +1,0 @@
-pub mod Traced
-pub mod Explained
-pub mod Reached
-pub mod CellLaws

@@ -1,5 +1,0 @@
-use Rattle.cell_headline.proofs.CellLaws.{log_has_all}
-use Rattle.cell_headline.proofs.laws.log_has_all.Goals as goal
-
-pub returns : goal.returns
-returns c = log_has_all

@@ -1,5 +1,0 @@
-use Rattle.cell_headline.proofs.CellLaws.{has_tree_of_names}
-use Rattle.cell_headline.proofs.laws.names_are_a_tree.Goals as goal
-
-pub returns : goal.returns
-returns c = has_tree_of_names

@@ -1,5 +1,0 @@
-use Rattle.cell_headline.proofs.CellLaws.{has_one_lasting}
-use Rattle.cell_headline.proofs.laws.one_lease_lasts.Goals as goal
-
-pub returns : goal.returns
-returns c = has_one_lasting

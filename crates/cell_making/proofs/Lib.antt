@@ -1,2 +1,0 @@
-pub mod Settings
-pub mod Standing

@@ -1,0 +1,55 @@
+-- The master, whose names lie in a tree of labels, may go to another thread.
+use denote.Param.Send.{IsSend, sendable}
+use denote.Param.SendFields.{declared_send}
+use Rattle.std.proofs.Crossing.{crosses}
+use Rattle.std.proofs.MapsCrossing as maps
+use Rattle.std.proofs.alloc.Global.TheSendSync as heap
+use Rattle.std.proofs.option.Option.TheSendSync as option
+use Rattle.std.specs.contracts.alloc.Global as Heap
+use Rattle.std.specs.contracts.impls.GlobalAllocator.TheImpl.{ghosts}
+use Rattle.label_tree.proofs.tree.Tree.TheLaws.TheKnot as knot
+use Rattle.label_tree.proofs.node.Node.TheSendSync as node
+use Rattle.namespace.proofs.node.NameNode.TheSendSync as name
+use Rattle.chunk_table.proofs.table.Table.TheSendSync as table
+use Rattle.ordered_map.proofs.OrderedMap.TheSendSync as ordered
+use Rattle.number_map.proofs.NumberMap.TheSendSync as number
+use Rattle.gfs_types.proofs.lists.Sequence.TheSendSync as sequence
+use Rattle.gfs_types.proofs.config.Config.TheSendSync as config
+use Rattle.messages.proofs.message.Message.TheSendSync as message
+use Rattle.protocol.proofs.seen.Seen.TheSendSync as seen
+use Rattle.master_state.proofs.kept.KeptCall.TheSendSync as kept
+use Rattle.master_state.proofs.kept.CopyRow.TheSendSync as copy
+use Rattle.master_state.specs.contracts.state.State as State
+use Rattle.master_plan.proofs.change.Change.TheSendSync as change
+use Rattle.master_waits.proofs.waiting.Attempt.TheSendSync as attempt
+use Rattle.master_waits.proofs.waiting.Pending.TheSendSync as pending
+use Rattle.master_plan.specs.contracts.plan.Plan as Plan
+use Rattle.operation_log.proofs.memory.MemoryLog.TheSendSync as memory
+use Rattle.operation_log.specs.contracts.memory.MemoryLogOperationLog.TheImpl as on_log
+use Rattle.operation_log.specs.contracts.memory.MemoryLog as Log
+use Rattle.master.specs.contracts.master.Master as Master
+use Rattle.shown_files.proofs.shown.ShownFiles.TheSendSync as shown
+use Rattle.cell_core.specs.contracts.cell_master.SeatedMaster as Seated
+use Rattle.cell_run.specs.contracts.master_stepper.MasterNode as Node
+use Rattle.cell_run.specs.contracts.running_master.RunningMaster as Running
+
+state_send : IsSend (State.the_row Heap.the_row ghosts)
+state_send = search (sendable, crosses, maps.crosses, heap.the_send, heap.the_field_send, knot.crosses, knot.send-Tree, knot.send-Link, node.the_send, node.the_field_send, name.the_send, table.the_send, ordered.the_send, kept.the_send, copy.the_send) depth 60
+
+plan_send : IsSend (Plan.the_row Heap.the_row ghosts)
+plan_send = search (sendable, crosses, maps.crosses, state_send, heap.the_field_send, config.the_field_send, number.the_send, ordered.the_send, option.the_field_send, sequence.the_send, change.the_send, attempt.the_send, pending.the_send, message.the_send, seen.the_send) depth 40
+
+log_send : IsSend Log.the_row
+log_send = memory.the_send
+
+master_send : IsSend (Master.the_row Log.the_row Heap.the_row on_log.ghosts ghosts)
+master_send = let a = log_send in let b = plan_send in search (sendable, crosses) depth 40 fits 100000
+
+seated_send : IsSend (Seated.the_row Log.the_row Heap.the_row on_log.ghosts ghosts)
+seated_send = declared_send (Seated.the_type Log.the_row Heap.the_row on_log.ghosts ghosts) (master_send, (shown.the_send, tt))
+
+node_send : IsSend (Node.the_row (Seated.the_row Log.the_row Heap.the_row on_log.ghosts ghosts))
+node_send = declared_send (Node.the_type (Seated.the_row Log.the_row Heap.the_row on_log.ghosts ghosts)) (seated_send, tt)
+
+pub running_send : IsSend Running.the_row
+running_send = declared_send Running.the_type (node_send, tt)

@@ -1,0 +1,38 @@
+//! A server of a running cell.
+
+ghost use Rattle.cell_run.specs.Standing.{ServerStands};
+
+use crate::given::message_in;
+use cell_journal::entry::Taking;
+use cell_seats::stepper::Stepper;
+use chunkserver::server::Chunkserver;
+use gfs_types::ids::Moment;
+use messages::event::StepOut;
+use server_store::store::ReplicaStore;
+
+/// A server that takes steps.
+#[derive(Drop)]
+pub struct ServerNode<S: ReplicaStore + Drop> {
+    pub server: Chunkserver<S>,
+}
+
+impl<S: ReplicaStore + Drop> Stepper for ServerNode<S> {
+    ghost stands = { λ n s. ServerStands n.server s };
+
+    fn may_take(&self, taking: &Taking) -> bool {
+        match taking {
+            Taking::Takes(_) => self.server.is_up(),
+            Taking::Restarts => true,
+            Taking::Calls(_) => false,
+        }
+    }
+
+    fn step(&mut self, now: Moment, taking: &Taking) -> StepOut {
+        match taking {
+            Taking::Takes(input) => self.server.step(now, message_in(input)).out,
+            Taking::Restarts => self.server.restart(now),
+            // It takes no call.
+            Taking::Calls(_) => self.server.step(now, None).out,
+        }
+    }
+}

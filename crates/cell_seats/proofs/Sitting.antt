@@ -1,0 +1,101 @@
+-- A client and its calls.
+use Rattle.std.proofs.Common.{◌≡◌, ℕ, Bool, true, false, List, [], ◌∷◌, ◌++◌, length, Option, Some, None, refl, sym, ap, subst, ◌∙◌}
+use Rattle.std.specs.Prelude.{Result, Ok, Err, IfOk, IfErr, IfSome, IsTrue}
+use mathlib.Core.List.{IsPrefix}
+use Rattle.gfs_types.specs.declared.answer.Answer.{Answer}
+use Rattle.gfs_types.specs.declared.call.Call.{Call}
+use Rattle.gfs_types.specs.declared.ids.Node.{Node}
+use Rattle.gfs_types.specs.declared.refusal.Refusal.{Refusal}
+use Rattle.protocol_journal.specs.Journal.{Entry, own}
+use Rattle.cell_journal.specs.Log.{Listed, listed}
+use Rattle.cell_journal.proofs.Begins.{prefix_self, prefix_trans}
+use Rattle.cell_journal.specs.Clocks.{are_clocks_kept}
+use Rattle.cell_journal.specs.declared.view.View.{View}
+use Rattle.cell_journal.specs.Rules.{IsJournalOf}
+use Rattle.cell_seats.specs.Seen.{Asked, Answered, visible_of, IsFurther, HasSeen}
+use Rattle.cell_seats.specs.Seats.{SeatState, seat_state, is_some, is_the_cells, IsSeat, IsAnswered, IsLost, Fails, AnswersSo, Loses, refusal_in, IsRefusal}
+
+items_of : (n : Node) (w : View) (now : Listed Entry) (after : ℕ) → HasSeen n w now after → now.items ≡ w.seen
+items_of n w now after has = ap (λ (l : Listed Entry). l.items) has.seen.0
+
+-- a client that was answered
+answered : (n m : Node) (v w : View) (was now : Listed Entry) (count after : ℕ) (call : Call) (reply : Answer) → m ≡ n → IsSeat n v was count None → IsFurther v w → HasSeen m w now after
+    → visible_of w.mine ≡ visible_of v.mine ++ Asked call ∷ Answered reply ∷ [] → IsAnswered (seat_state n v.of was.items false) (seat_state m w.of now.items false) call reply
+answered n m v w was now count after call reply same seat further has shows = record {
+  node = same;
+  cell = further.of;
+  begins = subst (IsPrefix was.items) (sym items) (prefix_trans was.items v.seen w.seen seat.begins further.grows);
+  lawful = subst (IsJournalOf w.of) (sym items) has.lawful;
+  clocks = subst (λ l. IsTrue (are_clocks_kept w.of l)) (sym items) has.clocks;
+  shows = ap (λ l. visible_of (own m l)) items ∙ (ap visible_of (sym has.own_is) ∙ (shows ∙ ap (λ l. visible_of l ++ Asked call ∷ Answered reply ∷ []) (sym (seat.own_is refl))));
+  was_open = refl;
+  still_open = refl;
+}
+  where
+    items : now.items ≡ w.seen
+    items = items_of m w now after has
+
+pub answered_here : (s : SeatState) (lost : Option Refusal) (n m : Node) (v w : View) (was now : Listed Entry) (count after : ℕ) (call : Call) (reply : Answer) → seat_state n v.of was.items (is_some lost) ≡ s → lost ≡ None
+    → m ≡ n → IsSeat n v was count lost → IsFurther v w → HasSeen m w now after → visible_of w.mine ≡ visible_of v.mine ++ Asked call ∷ Answered reply ∷ []
+    → IsAnswered s (seat_state m w.of now.items false) call reply
+answered_here s None n m v w was now count after call reply view none same seat further has shows =
+    subst (λ (x : SeatState). IsAnswered x (seat_state m w.of now.items false) call reply) view (answered n m v w was now count after call reply same seat further has shows)
+answered_here s (Some r) n m v w was now count after call reply view none same seat further has shows = absurd (let both : Some r ≡ None = none in cc)
+
+pub sits : (n : Node) (w : View) (now : Listed Entry) (after : ℕ) → HasSeen n w now after → IsSeat n w now after None
+sits n w now after has = record {
+  name = ap (λ (l : Listed Entry). l.name) has.seen.0;
+  count_is = has.seen.1 ∙ ap length (sym items);
+  begins = subst (λ l. IsPrefix l w.seen) (sym items) (prefix_self w.seen);
+  lawful = subst (IsJournalOf w.of) (sym items) has.lawful;
+  clocks = subst (λ l. IsTrue (are_clocks_kept w.of l)) (sym items) has.clocks;
+  own_is = λ _. ap (own n) items ∙ sym has.own_is;
+  refused = tt;
+}
+  where
+    items : now.items ≡ w.seen
+    items = items_of n w now after has
+
+-- one that was refused keeps what it saw
+pub sits_still : (n m : Node) (v w : View) (was : Listed Entry) (count : ℕ) (lost : Option Refusal) (refusal : Refusal) → IsSeat n v was count lost → IsFurther v w → IsTrue (is_the_cells refusal)
+    → IsSeat m w was count (Some refusal)
+sits_still n m v w was count lost refusal seat further of_it = record {
+  name = seat.name ∙ ap (λ c. c.name) (sym further.of);
+  count_is = seat.count_is;
+  begins = prefix_trans was.items v.seen w.seen seat.begins further.grows;
+  lawful = subst (λ c. IsJournalOf c was.items) (sym further.of) seat.lawful;
+  clocks = subst (λ c. IsTrue (are_clocks_kept c was.items)) (sym further.of) seat.clocks;
+  own_is = λ h. absurd (let both : Some refusal ≡ None = h in cc);
+  refused = of_it;
+}
+
+pub loses : (n m : Node) (v w : View) (was : Listed Entry) (lost : Option Refusal) (refusal : Refusal) → m ≡ n → IsFurther v w → IsTrue (is_the_cells refusal)
+    → IsLost (seat_state n v.of was.items (is_some lost)) (seat_state m w.of was.items true) refusal
+loses n m v w was lost refusal same further of_it = record { node = same; cell = further.of; seen = refl; lost = refl; refused = of_it }
+
+-- one that was refused before is refused again
+pub still_lost : (s : SeatState) (lost : Option Refusal) (refusal : Refusal) → lost ≡ Some refusal → s.is_lost ≡ is_some lost → IfSome lost (λ r. IsTrue (is_the_cells r)) → IsLost s s refusal
+still_lost s None refusal is same h = absurd (let both : None ≡ Some refusal = is in cc)
+still_lost s (Some r) refusal is same h = record {
+  node = refl;
+  cell = refl;
+  seen = refl;
+  lost = same;
+  refused = subst (λ (x : Refusal). IsTrue (is_the_cells x)) (let both : Some r ≡ Some refusal = is in cc) h;
+}
+
+-- what a call was answered
+pub answers : {X : Type 0} (r : Result Answer Refusal) (found : Result X Refusal) (old new : SeatState) (call : Call) (reply : X → Answer) → IfOk r (λ a. IsAnswered old new call a) → IfOk found (λ x. r ≡ Ok (reply x))
+    → IfOk found (λ x. IsAnswered old new call (reply x))
+answers r (Ok x) old new call reply h is = subst (λ (a : Result Answer Refusal). IfOk a (λ b. IsAnswered old new call b)) is h
+answers r (Err e) old new call reply h is = tt
+
+fails_with : (r : Result Answer Refusal) (refusal : Refusal) (old new : SeatState) (call : Call) → IfOk r (λ a. IsAnswered old new call a) → IfErr r (λ own_one. IsLost old new own_one) → IsRefusal r refusal
+    → Fails old new call refusal
+fails_with (Ok a) refusal old new call answered_so lost is = AnswersSo a answered_so is
+fails_with (Err e) refusal old new call answered_so lost is = Loses (subst (IsLost old new) is lost)
+
+pub fails : {X : Type 0} (r : Result Answer Refusal) (found : Result X Refusal) (old new : SeatState) (call : Call) → IfOk r (λ a. IsAnswered old new call a) → IfErr r (λ own_one. IsLost old new own_one)
+    → IfErr found (λ refusal. IsRefusal r refusal) → IfErr found (λ refusal. Fails old new call refusal)
+fails r (Ok x) old new call answered_so lost is = tt
+fails r (Err refusal) old new call answered_so lost is = fails_with r refusal old new call answered_so lost is

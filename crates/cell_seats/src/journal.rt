@@ -1,0 +1,78 @@
+//! The journal of a cell that was closed.
+
+ghost use Rattle.std.specs.Prelude.{◌≡◌, ◌≤◌, length, slice_get};
+ghost use Rattle.std.specs.Option.{option_copied};
+ghost use mathlib.Core.List.{IsPrefix};
+ghost use Rattle.cell_journal.specs.Clocks.{are_clocks_kept};
+ghost use Rattle.cell_journal.specs.Rules.{IsJournalOf};
+
+use crate::seat::Seat;
+use crate::stepper::Stepper;
+use cell_journal::closed;
+use cell_journal::closed::ClosedPages;
+use cell_journal::entry::Entry;
+use std::marker::Model;
+
+/// All steps of a cell that was closed, in one order.
+#[derive(Drop)]
+pub struct Journal {
+    pages: ClosedPages,
+}
+
+impl Model for Journal {
+    ghost use Rattle.cell_journal.specs.Identity.{Closed};
+    ghost use Rattle.cell_journal.specs.Rules.{IsJournalOf};
+
+    ghost Value = { Closed };
+
+    ghost view = { λ j. j.pages };
+
+    ghost invariant = { λ j. IsJournalOf j.pages.cell j.pages.entries };
+}
+
+impl Journal {
+    pub fn new(pages: ClosedPages) -> Journal
+        requires { IsJournalOf pages.cell pages.entries }
+        ensures { result ≡ pages }
+    {
+        Journal { pages }
+    }
+
+    /// How many steps there are. They are a lawful journal of the cell.
+    pub fn len(&self) -> usize
+        ensures count { result ≡ length self.now.entries }
+        ensures lawful { IsJournalOf self.now.cell self.now.entries }
+    {
+        self.pages.len()
+    }
+
+    /// Whether clocks were kept: no moment of a step is behind that of an earlier one by more than the clock bound.
+    pub fn are_clocks_kept(&self) -> bool
+        ensures { result ≡ are_clocks_kept self.now.cell self.now.entries }
+    {
+        self.pages.are_clocks_kept()
+    }
+
+    /// The step at a place, from 0.
+    pub fn event(&self, place: usize) -> Option<&Entry>
+        ensures { option_copied result ≡ slice_get self.now.entries place }
+    {
+        self.pages.event(place)
+    }
+}
+
+/// What a client has seen begins the journal of its cell.
+pub fn agree<N: Stepper + Drop>(seat: &Seat<N>, journal: &Journal)
+    requires { seat.now.cell.name ≡ journal.now.cell.name }
+    ensures { IsPrefix seat.now.seen journal.now.entries }
+{
+    closed::agree(seat.view(), &journal.pages);
+}
+
+/// Of what two clients of one cell have seen the shorter begins the longer.
+pub fn meet<N: Stepper + Drop>(one: &Seat<N>, other: &Seat<N>)
+    requires { one.now.cell.name ≡ other.now.cell.name }
+    ensures { length one.now.seen ≤ length other.now.seen → IsPrefix one.now.seen other.now.seen }
+{
+    cell_journal::meet(one.view(), other.view());
+}

@@ -1,0 +1,150 @@
+//! A client, which runs inside its calls.
+
+ghost use Rattle.std.specs.Prelude.{◌≡◌, IfOk, IfErr, None, false, length, IsTrue};
+ghost use Rattle.cell_journal.specs.Log.{listed};
+ghost use Rattle.cell_journal.specs.Clocks.{are_clocks_kept};
+ghost use Rattle.cell_journal.specs.Rules.{IsJournalOf};
+ghost use Rattle.cell_seats.specs.Seats.{IsAnswered, IsLost, seat_state, IsSeat, is_the_cells};
+
+use crate::asking::{Heard, ask};
+use crate::hall::Hall;
+use crate::post::Letter;
+use crate::slot::Slot;
+use crate::stepper::Stepper;
+use cell_journal::Beginning;
+use cell_journal::entry::Entry;
+use crossbeam_channel::Receiver;
+use gfs_types::answer::Answer;
+use gfs_types::call::Call;
+use gfs_types::refusal::Refusal;
+use std::marker::Model;
+use std::sync::Wait;
+use std::sync::atomic::Ordering;
+use std::time::Clock;
+
+/// A client of a running cell.
+pub struct Seat<N: Stepper + Drop> {
+    slot: Slot<N>,
+    inbox: Receiver<Letter>,
+    view: Beginning<Entry>,
+    count: usize,
+    /// The bit of this client among those that are in a call.
+    bit: u64,
+    /// Why no call of this client is taken any more.
+    lost: Option<Refusal>,
+}
+
+// Stands here, once, so that no crate above proves the drops of all that a client owns.
+impl<N: Stepper + Drop> Drop for Seat<N> {
+    fn drop(self) {
+        let Self {
+            slot: _slot,
+            inbox: _inbox,
+            view: _view,
+            count: _,
+            bit: _,
+            lost: _,
+        } = self;
+    }
+}
+
+impl<N: Stepper + Drop> Model for Seat<N> {
+    ghost use Rattle.cell_seats.specs.Seats.{SeatState, seat_state, is_some, IsSeat};
+
+    ghost Value = { SeatState };
+
+    ghost view = { λ s. seat_state s.slot.node s.slot.place.of s.view.items (is_some s.lost) };
+
+    ghost invariant = { λ s. IsSeat s.slot.node s.slot.place s.view s.count s.lost };
+}
+
+impl<N: Stepper + Drop> Seat<N> {
+    /// A client that made no call yet, and saw the journal so.
+    pub fn new(
+        slot: Slot<N>,
+        inbox: Receiver<Letter>,
+        view: Beginning<Entry>,
+        count: usize,
+        bit: u64,
+    ) -> Seat<N>
+        requires { IsSeat slot.node slot.place view count None }
+        ensures { result ≡ seat_state slot.node slot.place.of view.items false }
+    {
+        Seat {
+            slot,
+            inbox,
+            view,
+            count,
+            bit,
+            lost: None,
+        }
+    }
+
+    /// How many steps of the cell it has seen: all up to its last answer. They are a lawful journal of its cell, in which clocks were kept.
+    pub fn seen(&self) -> usize
+        ensures count { result ≡ length self.now.seen }
+        ensures lawful { IsJournalOf self.now.cell self.now.seen }
+        ensures clocks { IsTrue (are_clocks_kept self.now.cell self.now.seen) }
+    {
+        self.count
+    }
+
+    /// The journal as it was at the last answer.
+    pub fn view(&self) -> &Beginning<Entry>
+        ensures { result.now ≡ listed self.now.cell.name self.now.seen }
+    {
+        &self.view
+    }
+
+    /// Makes a call, and waits for its answer. After a refusal of the cell itself every later call is refused so too.
+    pub fn call<R: Wait + Clock>(&mut self, rt: &R, call: Call) -> Result<Answer, Refusal>
+        ensures ok { IfOk result (λ reply. IsAnswered self.old self.new call reply) }
+        ensures err { IfErr result (λ refusal. IsLost self.old self.new refusal) }
+    {
+        if let Some(refusal) = self.lost {
+            return Err(refusal);
+        }
+        self.lost = Some(Refusal::Closed);
+        mark_calling(self.slot.hall(), self.bit, true);
+        let asked = ask(rt, &mut self.slot, &self.inbox, call);
+        mark_calling(self.slot.hall(), self.bit, false);
+        match asked {
+            Ok(
+                Heard {
+                    answer,
+                    beginning,
+                    count,
+                },
+            ) => {
+                self.view = beginning;
+                self.count = count;
+                self.lost = None;
+                Ok(answer)
+            }
+            Err(refusal) => {
+                let own = of_the_cell(refusal);
+                self.lost = Some(own);
+                Err(own)
+            }
+        }
+    }
+}
+
+// The refusal, if it is one of the cell itself. One of another kind than it gives says no more than that the cell is closed.
+fn of_the_cell(refusal: Refusal) -> Refusal
+    ensures { IsTrue (is_the_cells result) }
+{
+    match refusal {
+        Refusal::ClockBroken => Refusal::ClockBroken,
+        Refusal::JournalFull => Refusal::JournalFull,
+        _ => Refusal::Closed,
+    }
+}
+
+fn mark_calling(hall: &Hall, bit: u64, is_calling: bool) {
+    if is_calling {
+        hall.calling.fetch_or(bit, Ordering::SeqCst);
+    } else {
+        hall.calling.fetch_and(!bit, Ordering::SeqCst);
+    }
+}

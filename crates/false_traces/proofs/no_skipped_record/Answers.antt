@@ -1,5 +1,0 @@
-use Rattle.false_traces.proofs.Skipped.{no_skipped_record}
-use Rattle.false_traces.proofs.no_skipped_record.Goals as goal
-
-pub returns : goal.returns
-returns c = no_skipped_record

@@ -1,4 +1,0 @@
-pub mod Begins
-pub mod Cells
-pub mod Turning
-pub mod Moving

@@ -1,6 +1,0 @@
-use Rattle.std.proofs.Common.{◌≡◌}
-use Rattle.journal_lock.proofs.acquire.Given as goal
-
--- the place is as it was
-abbrev pub invariant-loop : goal.invariant-loop
-invariant-loop g l = (l.place.table_id ≡ l.fn.place.table_id) × (l.place.id ≡ l.fn.place.id) × (l.place.me ≡ l.fn.place.me)

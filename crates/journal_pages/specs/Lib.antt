@@ -1,4 +1,0 @@
-pub mod Clocks
-pub mod Entries
-pub mod Identity
-pub mod Rows

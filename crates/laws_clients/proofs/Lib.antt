@@ -1,0 +1,4 @@
+pub mod NumbersRise
+pub mod Walk
+pub mod Steps
+pub mod Events

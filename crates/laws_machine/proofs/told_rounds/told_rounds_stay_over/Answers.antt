@@ -1,0 +1,5 @@
+use Rattle.laws_machine.proofs.ToldRounds.{told_rounds_stay_over}
+use Rattle.laws_machine.proofs.told_rounds.told_rounds_stay_over.Goals as goal
+
+pub returns : goal.returns
+returns c = told_rounds_stay_over

@@ -1,0 +1,23 @@
+//! Laws of what clients were told of chunks beside a machine that has the same chunks.
+
+ghost use Rattle.laws_machine.specs.ToldRounds.{CountingRoundsAreOpenWhereTold, NoRoundIsToldAtFirst, ToldRoundsGoOn, ToldRoundsStayOver};
+
+/// In a new cell nothing was told.
+pub fn no_round_is_told_at_first()
+    ensures { NoRoundIsToldAtFirst }
+{}
+
+/// A told round whose lease is over stays over.
+pub fn told_rounds_stay_over()
+    ensures { ToldRoundsStayOver }
+{}
+
+/// From one world to the next each told round is open in the file's chunk of the told index, or over.
+pub fn told_rounds_go_on()
+    ensures { ToldRoundsGoOn }
+{}
+
+/// The round under which a server may number a mutation is open in the file's chunk of the index for which a client was told it, and nowhere else.
+pub fn counting_rounds_are_open_where_told()
+    ensures { CountingRoundsAreOpenWhereTold }
+{}

@@ -1,0 +1,5 @@
+use Rattle.laws_names.proofs.Explained.{names_in_the_log_are_explained}
+use Rattle.laws_names.proofs.explained_names.names_in_the_log_are_explained.Goals as goal
+
+pub returns : goal.returns
+returns c = names_in_the_log_are_explained

@@ -1,0 +1,401 @@
+-- In each reached world with kept clocks and disks replicas and Images are images of their orders.
+use Rattle.std.proofs.Common.{◌≡◌, ℕ, zero, suc, Bool, true, false, List, [], ◌∷◌, ◌++◌, length, take, Option, Some, None, refl, sym, ap, subst, ◌∙◌, inl, inr}
+use Rattle.std.specs.Prelude.{◌&&◌, nat_le, not, filter, IsTrue, ◌+◌, ◌≤◌}
+use Rattle.std.specs.Option.{option_to_list}
+use Rattle.std.specs.FinMap as table
+use Rattle.std.specs.Ordering.{nat_cmp}
+use Rattle.std.proofs.lemmas.Bool.{and_parts, true≢false}
+use Rattle.gfs_types.specs.declared.answer.Answer.{Answer}
+use Rattle.gfs_types.specs.declared.config.Config.{Config}
+use Rattle.gfs_types.specs.Mutations.{start_of}
+use Rattle.messages.specs.declared.event.Event.{Event}
+use Rattle.messages.specs.declared.event.Input.{Input}
+use Rattle.messages.specs.declared.event.Input.TheVariants as input
+use Rattle.messages.specs.declared.message.Body.{Body}
+use Rattle.messages.specs.declared.message.Body.TheVariants as body
+use Rattle.messages.specs.declared.message.Message.{Message}
+use Rattle.relaxed_file.specs.Run.{Visible}
+use Rattle.replica_store.specs.declared.change.StoreChange.{StoreChange}
+use Rattle.replica_store.specs.Replicas.{Replica, ServerDisk, new_server_disk, replica_of, with_replica, rotten_replica, disk_changed_by_all}
+use Rattle.protocol.specs.Tables.{Table, element_at, with_at}
+use Rattle.protocol.specs.Choice.{Choice, Ending, Goes, Lost, Stops, decided_changes}
+use Rattle.protocol.specs.Seen.{is_numbering, Taken, no_step}
+use Rattle.protocol.specs.declared.seen.Seen.{Seen}
+use Rattle.protocol.specs.declared.seen.Seen.TheVariants.{Numbered}
+use Rattle.protocol.specs.Observer.{Placed, Observer, observed_moment, observed_call, observed_answer, placed_in, order_of, orders_after_all}
+use Rattle.protocol.specs.Client.{ClientState, ClientDoing}
+use Rattle.protocol.specs.ClientStep.{client_at, client_step, client_call}
+use Rattle.protocol.specs.Server.{ServerState, ServerDoing, started_server}
+use Rattle.protocol.specs.ServerStep.{found_disk, server_goes, server_ends, server_step, server_restarts, server_restart}
+use Rattle.protocol.specs.MasterStep.{master_step, master_restart}
+use Rattle.protocol.specs.World.{WorldState, new_world, stamped, after_server, happens, after_events, IsReached, is_kept}
+use Rattle.laws_base.proofs.Steps.{on_cond, none_some, same_some, put_cases}
+use Rattle.laws_base.proofs.Entries.{AllOf}
+use Rattle.laws_base.proofs.RisingOrders.{set_cases}
+use Rattle.laws_base.proofs.LeasesTold.{numbered_from}
+use Rattle.laws_base.proofs.MembersRecorded.{all_at}
+use Rattle.laws_base.proofs.MessagesSent.{IsSent, sent_cases, none_sent, numbered_sent}
+use Rattle.laws_steps.proofs.ClientNumbers.{IsSaid, IsStepOf, of_step, of_call}
+use Rattle.laws_steps.proofs.RequestsOnce.{numbered_reached}
+use Rattle.laws_steps.proofs.LeasesStayOver.{reached_later}
+use Rattle.laws_steps.proofs.MasterTalks.{is_masters, master_said, restart_said}
+use Rattle.laws_entries.proofs.Stemming.{came_in}
+use Rattle.laws_entries.proofs.Placing.{all_placed}
+use Rattle.protocol_invariant.specs.Versions.{AreRising}
+use Rattle.laws_replicas.proofs.Rising.{orders_rise}
+use Rattle.laws_entries.proofs.Within.{entries_lie_within_the_chunk}
+use Rattle.laws_entries.proofs.RoundsPassed.{IsOfServers, server_shown}
+use Rattle.laws_steps.proofs.Lengths.{settings_stay}
+use Rattle.laws_entries.proofs.Forwards.{images_are_of_replicas}
+use Rattle.laws_replicas.proofs.ExactEvents.{HoldsExactly, holds_exactly}
+use Rattle.laws_replicas.proofs.KeptDisks.{none_more, found_made, take_whole, frame_kept, replicas_are_read_as_stored}
+use Rattle.laws_replicas.specs.CopiedEntries.{Follows}
+use Rattle.laws_replicas.proofs.OrdersGrow.{IsAny, same_follows, all_grow, orders_grow}
+use Rattle.laws_replicas.specs.ReplicaImages.{ReplicasAreImages, SentImagesAreImages}
+use Rattle.laws_replicas.proofs.Images.{Carried, Holds, AreIn, holds_grown, IsImageSaid, starts_within, numbered_there, Leaves, Carries, after}
+
+-- what is seen
+
+pub kept_filtered : (xs : List Seen) (place : ℕ) (x : Seen) → element_at xs place ≡ Some x → is_numbering x ≡ true → (n : ℕ) × (element_at (filter is_numbering xs) n ≡ Some x)
+kept_filtered [] place x at is = none_some x at
+kept_filtered (y ∷ xs) zero x at is =
+    on_cond (λ (zs : List Seen). (n : ℕ) × (element_at zs n ≡ Some x)) (is_numbering y) (y ∷ filter is_numbering xs) (filter is_numbering xs) (λ _. (zero, at))
+    (λ no. absurd (true≢false (sym is ∙ ap is_numbering (sym (same_some y x at)) ∙ no)))
+kept_filtered (y ∷ xs) (suc place) x at is =
+    let rest = kept_filtered xs place x at is in
+    on_cond (λ (zs : List Seen). (n : ℕ) × (element_at zs n ≡ Some x)) (is_numbering y) (y ∷ filter is_numbering xs) (filter is_numbering xs) (λ _. (suc rest.0, rest.1)) (λ _. rest)
+
+-- nothing more is carried along
+abbrev pub Plain : Carried
+Plain handle version ps = Unit {0}
+
+plain_carried : (s : ServerState) (i : Input) → Carries s i Plain Plain
+plain_carried s i =
+    record {
+      more = λ handle version ps p h. tt;
+      created = λ m taken order handle version is new. tt;
+      imaged = λ m taken handle version serial bytes is ps h. tt;
+      raised = λ m taken order handle version base is new ps h. tt;
+      copied = λ m taken order handle from copy version is new ps h. tt;
+    }
+
+-- a server's replicas, however what is under way is decided; one that is up has nothing under way
+pub record IsGood (K : Carried) (size : ℕ) (orders : Table (List Placed)) (s : ServerState) : Type 0 where
+  pub found : (decided : List Bool) → AreIn K size orders (disk_changed_by_all s.disk (decided_changes decided s.under_way))
+  pub idle : s.up ≡ true → s.under_way ≡ []
+
+pub grown_good : (K : Carried) (size : ℕ) (from to : Table (List Placed)) (s : ServerState) → ((handle : ℕ) → Follows IsAny (placed_in from handle) (placed_in to handle)) → IsGood K size from s → IsGood K size to s
+grown_good K size from to s grown h =
+    record {
+      found = λ decided handle x is. holds_grown K size (placed_in from handle) (placed_in to handle) handle x.version x.serial x.bytes (grown handle) (h.found decided handle x is);
+      idle = h.idle;
+    }
+
+said_on : (size : ℕ) (from to : Table (List Placed)) (b : Body) → ((handle : ℕ) → Follows IsAny (placed_in from handle) (placed_in to handle)) → IsImageSaid Plain size from b → IsImageSaid Plain size to b
+said_on size from to (body.Image handle version serial bytes) grown h = holds_grown Plain size (placed_in from handle.0) (placed_in to handle.0) handle.0 version.0 serial.0 bytes (grown handle.0) h
+said_on size from to other grown h = tt
+
+record AreSelections (w : WorldState) : Type 0 where
+  servers : (index : ℕ) (s : ServerState) → element_at w.servers index ≡ Some s → IsGood Plain w.config.chunk w.observer.orders s
+  sent : (m : Message) → IsSent w.sent m → IsImageSaid Plain w.config.chunk w.observer.orders m.body
+
+-- who says no Image
+
+masters_said : (size : ℕ) (orders : Table (List Placed)) (b : Body) → is_masters b ≡ true → IsImageSaid Plain size orders b
+masters_said size orders (body.Image handle version serial bytes) is = absurd (let both : false ≡ true = is in cc)
+masters_said size orders other is = tt
+
+clients_said : (size : ℕ) (orders : Table (List Placed)) (s t : ClientState) (b : Body) → IsSaid s t b → IsImageSaid Plain size orders b
+clients_said size orders s t (body.Image handle version serial bytes) said = absurd said
+clients_said size orders s t other said = tt
+
+client_said : (size : ℕ) (orders : Table (List Placed)) (s : ClientState) (d : ClientDoing) (o : Option Message) → IsStepOf s d → d.sent ≡ o → AllOf (λ m. IsImageSaid Plain size orders m.body) (option_to_list o)
+client_said size orders s d None step is = tt
+client_said size orders s d (Some m) step is = (clients_said size orders s d.client m.body (step.says m is).1, tt)
+
+pub restarted_said : (P : Message → Type 0) (s : ServerState) (moment : ℕ) (choice : Choice) (e : Ending) → AllOf P (server_restarts s moment choice e).out.sent
+restarted_said P s moment choice Goes = tt
+restarted_said P s moment choice Lost = tt
+restarted_said P s moment choice (Stops made) = tt
+
+pub answered_kept : (o : Observer) (n : ℕ) (a : Option Answer) → IsTrue ((observed_answer o n a).are_clocks_kept && (observed_answer o n a).are_disks_kept) → IsTrue (o.are_clocks_kept && o.are_disks_kept)
+answered_kept o n None h = h
+answered_kept o n (Some reply) h = h
+
+-- a step of a server
+
+module _ (J K : Carried) (config : Config) (servers clients : ℕ) (w : WorldState) (r : IsReached config servers clients w) (clocks : IsTrue w.observer.are_clocks_kept) (disks : IsTrue w.observer.are_disks_kept)
+    (said : (m : Message) → IsSent w.sent m → IsImageSaid J w.config.chunk w.observer.orders m.body) (index moment : ℕ) (s : ServerState) (i : Input) (choice : Choice) (at : element_at w.servers index ≡ Some s) (up : IsTrue s.up)
+    (here : AreIn K w.config.chunk w.observer.orders s.disk) (idle : s.under_way ≡ []) (came : (m : Message) → i ≡ input.Deliver m → IsSent w.sent m) (k : Carries s i J K) where
+  abbrev trace : List Visible
+  trace = (observed_moment w.config.skew_ms w.observer moment).trace
+
+  -- the orders after the step, by what it shows
+  abbrev Orders : List Seen → Table (List Placed)
+  Orders seen = orders_after_all trace w.observer.orders seen
+
+  pub record AreLawful (seen : List Seen) : Type 0 where
+    pub of : AllOf IsOfServers seen
+    pub rising : (handle : ℕ) → AreRising (placed_in (Orders seen) handle)
+    pub within : (handle place : ℕ) (p : Placed) → element_at (placed_in (Orders seen) handle) place ≡ Some p → start_of p.entry.mutation ≤ w.config.chunk
+
+  grown : (seen : List Seen) → AllOf IsOfServers seen → (handle : ℕ) → Follows IsAny (placed_in w.observer.orders handle) (placed_in (Orders seen) handle)
+  grown seen of handle = all_grow trace w.observer.orders seen handle of
+
+  leaves : (seen : List Seen) → AreLawful seen → ((place : ℕ) (x : Seen) → element_at (server_goes s moment i).seen place ≡ Some x → is_numbering x ≡ true → (n : ℕ) × (element_at seen n ≡ Some x)) → Leaves w trace (server_goes s moment i).seen (Orders seen)
+  leaves seen l kept =
+      record {
+        grown = grown seen l.of;
+        rising = l.rising;
+        within = l.within;
+        shown = λ place handle version serial id m is.
+            let there = kept place (Numbered handle version serial id m) is refl in
+            numbered_there trace w.observer.orders seen there.0 handle version serial id m l.of there.1;
+      }
+
+  -- what a restart finds after some of the changes
+  after_some : (seen : List Seen) → AreLawful seen → ((place : ℕ) (x : Seen) → element_at (server_goes s moment i).seen place ≡ Some x → is_numbering x ≡ true → (n : ℕ) × (element_at seen n ≡ Some x)) → (n : ℕ)
+      → AreIn K w.config.chunk (Orders seen) (disk_changed_by_all s.disk (take n (server_goes s moment i).changes))
+  after_some seen l kept n = after J K config servers clients w r clocks disks said index s at here moment i came k trace (Orders seen) (leaves seen l kept) n
+
+  abbrev IsDone : Taken ServerState → Type 0
+  IsDone t = AreLawful t.seen → IsGood K w.config.chunk (Orders t.seen) t.state
+
+  ends_done : (e : Ending) → IsDone (server_ends s (server_goes s moment i) choice e)
+  ends_done Goes l =
+      let d : ServerDoing = server_goes s moment i in
+      let frame = frame_kept s moment i in
+      let all : AreIn K w.config.chunk (Orders d.seen) (disk_changed_by_all d.server.disk d.changes) =
+      subst (λ (x : ServerDisk). AreIn K w.config.chunk (Orders d.seen) (disk_changed_by_all x d.changes)) (sym frame.0)
+      (subst (λ (xs : List StoreChange). AreIn K w.config.chunk (Orders d.seen) (disk_changed_by_all s.disk xs)) (take_whole d.changes) (after_some d.seen l (λ place x is _. (place, is)) (length d.changes))) in
+      record {
+        found = λ decided.
+            subst (λ (xs : List StoreChange). AreIn K w.config.chunk (Orders d.seen) (disk_changed_by_all (disk_changed_by_all d.server.disk d.changes) (decided_changes decided xs))) (sym (frame.1 ∙ idle))
+            (subst (AreIn K w.config.chunk (Orders d.seen)) (sym (none_more (disk_changed_by_all d.server.disk d.changes) decided)) all);
+        idle = λ _. frame.1 ∙ idle;
+      }
+  ends_done Lost l =
+      record { found = λ decided. subst (AreIn K w.config.chunk w.observer.orders) (sym (none_more s.disk decided)) here; idle = λ on. refl }
+  ends_done (Stops made) l =
+      let d : ServerDoing = server_goes s moment i in
+      record {
+        found = λ decided.
+            let one = found_made s.disk decided made d.changes in
+            subst (AreIn K w.config.chunk (Orders (filter is_numbering d.seen))) (sym one.1) (after_some (filter is_numbering d.seen) l (λ place x is numbering. kept_filtered d.seen place x is numbering) one.0);
+        idle = λ on. absurd (true≢false (sym on));
+      }
+
+  pub step_done : IsDone (server_step s moment i choice)
+  step_done =
+      on_cond IsDone s.up (server_ends s (server_goes s moment i) choice choice.ending) (no_step s) (λ _. ends_done choice.ending) (λ down. absurd (true≢false (sym up ∙ down)))
+
+module _ (config : Config) (servers clients : ℕ) (w : WorldState) (r : IsReached config servers clients w) (clocks : IsTrue w.observer.are_clocks_kept) (disks : IsTrue w.observer.are_disks_kept) (h : AreSelections w) where
+  module _ (index moment : ℕ) (s : ServerState) (i : Input) (choice : Choice) (at : element_at w.servers index ≡ Some s) where
+    -- what it says
+    says_images : (orders : Table (List Placed)) → ((handle : ℕ) → Follows IsAny (placed_in w.observer.orders handle) (placed_in orders handle)) → AllOf (λ m. IsImageSaid Plain w.config.chunk orders m.body) (server_step s moment i choice).out.sent
+    says_images orders more =
+        all_placed (λ m. IsImageSaid Plain w.config.chunk orders m.body) (server_step s moment i choice).out.sent (λ place m is. one place m is m.body refl)
+      where
+        one : (place : ℕ) (m : Message) → element_at (server_step s moment i choice).out.sent place ≡ Some m → (b : Body) → m.body ≡ b → IsImageSaid Plain w.config.chunk orders b
+        one place m is (body.Image handle version serial bytes) body_is =
+            let of = images_are_of_replicas s moment i choice place m is handle version serial bytes body_is in
+            let same : bytes ≡ of.0.bytes = (replicas_are_read_as_stored config servers clients w r disks index s at handle.0 of.0 of.1).0 bytes of.4 in
+            holds_grown Plain w.config.chunk (placed_in w.observer.orders handle.0) (placed_in orders handle.0) handle.0 version.0 serial.0 bytes (more handle.0)
+            (subst (λ (n : ℕ). Holds Plain w.config.chunk (placed_in w.observer.orders handle.0) handle.0 n serial.0 bytes) of.2
+            (subst (λ (n : ℕ). Holds Plain w.config.chunk (placed_in w.observer.orders handle.0) handle.0 of.0.version n bytes) of.3
+            (subst (λ (bs : List ℕ). Holds Plain w.config.chunk (placed_in w.observer.orders handle.0) handle.0 of.0.version of.0.serial bs) (sym same) ((h.servers index s at).found [] handle.0 of.0 of.1))))
+        one place m is other body_is = tt
+
+  -- what stays over an event
+
+  kept_servers : (orders : Table (List Placed)) → ((handle : ℕ) → Follows IsAny (placed_in w.observer.orders handle) (placed_in orders handle)) → (index : ℕ) (s : ServerState) → element_at w.servers index ≡ Some s → IsGood Plain w.config.chunk orders s
+  kept_servers orders more index s at = grown_good Plain w.config.chunk w.observer.orders orders s more (h.servers index s at)
+
+  one_server : (orders : Table (List Placed)) → ((handle : ℕ) → Follows IsAny (placed_in w.observer.orders handle) (placed_in orders handle)) → (index : ℕ) (t : ServerState) → IsGood Plain w.config.chunk orders t
+      → (other : ℕ) (u : ServerState) → element_at (with_at w.servers index t) other ≡ Some u → IsGood Plain w.config.chunk orders u
+  one_server orders more index t new other u is =
+      elim (set_cases w.servers index t other u is) [
+        | inl both ↦ subst (IsGood Plain w.config.chunk orders) (sym both.1) new
+        | inr there ↦ kept_servers orders more other u there
+      ]
+
+  more_said : (orders : Table (List Placed)) → ((handle : ℕ) → Follows IsAny (placed_in w.observer.orders handle) (placed_in orders handle)) → (k : ℕ) (ms : List Message) → AllOf (λ m. IsImageSaid Plain w.config.chunk orders m.body) ms
+      → (m : Message) → IsSent (w.sent ++ stamped k ms) m → IsImageSaid Plain w.config.chunk orders m.body
+  more_said orders more k ms all m there =
+      elim (sent_cases w.sent (stamped k ms) m there) [
+        | inl old ↦ said_on w.config.chunk w.observer.orders orders m.body more (h.sent m old)
+        | inr now ↦
+            let was = numbered_sent k ms now.0 m now.1 in
+            subst (λ (b : Body). IsImageSaid Plain w.config.chunk orders b) (was.2).2 (all_at (λ (x : Message). IsImageSaid Plain w.config.chunk orders x.body) ms (was.1).0 was.0 all (was.1).1)
+      ]
+
+  restart_good : (orders : Table (List Placed)) → ((handle : ℕ) → Follows IsAny (placed_in w.observer.orders handle) (placed_in orders handle)) → (index moment : ℕ) (s : ServerState) (choice : Choice) → element_at w.servers index ≡ Some s → (e : Ending)
+      → IsGood Plain w.config.chunk orders (server_restarts s moment choice e).state
+  restart_good orders more index moment s choice at Lost = record { found = (kept_servers orders more index s at).found; idle = λ on. absurd (true≢false (sym on)) }
+  restart_good orders more index moment s choice at (Stops made) =
+      record { found = λ decided. subst (AreIn Plain w.config.chunk orders) (sym (none_more (found_disk s choice) decided)) ((kept_servers orders more index s at).found choice.decided); idle = λ on. refl }
+  restart_good orders more index moment s choice at Goes =
+      record { found = λ decided. subst (AreIn Plain w.config.chunk orders) (sym (none_more (found_disk s choice) decided)) ((kept_servers orders more index s at).found choice.decided); idle = λ on. refl }
+
+  -- rot changes no byte that was stored
+  rotten_good : (index handle : ℕ) (s : ServerState) (x : Replica) (place byte : ℕ) → element_at w.servers index ≡ Some s → replica_of s.disk handle ≡ Some x → IsTrue s.up
+      → IsGood Plain w.config.chunk w.observer.orders (record s { disk = with_replica s.disk handle (rotten_replica x place byte) })
+  rotten_good index handle s x place byte at there up =
+      let good = h.servers index s at in
+      let none = good.idle up in
+      record {
+        found = λ decided.
+            subst (λ (xs : List StoreChange). AreIn Plain w.config.chunk w.observer.orders (disk_changed_by_all (with_replica s.disk handle (rotten_replica x place byte)) (decided_changes decided xs))) (sym none)
+            (subst (AreIn Plain w.config.chunk w.observer.orders) (sym (none_more (with_replica s.disk handle (rotten_replica x place byte)) decided)) rotten);
+        idle = λ on. none;
+      }
+    where
+      rotten : AreIn Plain w.config.chunk w.observer.orders (with_replica s.disk handle (rotten_replica x place byte))
+      rotten k y is =
+          elim (put_cases s.disk.replicas handle (rotten_replica x place byte) k y is) [
+            | inl same ↦ subst (λ (n : ℕ). Holds Plain w.config.chunk (placed_in w.observer.orders n) n y.version y.serial y.bytes) (sym same.0)
+                (subst (λ (z : Replica). Holds Plain w.config.chunk (placed_in w.observer.orders handle) handle z.version z.serial z.bytes) same.1 ((h.servers index s at).found [] handle x there))
+            | inr before ↦ (h.servers index s at).found [] k y before
+          ]
+
+-- events
+
+abbrev Images : WorldState → Type 0
+Images w = IsTrue (is_kept w) → AreSelections w
+
+module _ (config : Config) (servers clients : ℕ) (w : WorldState) (r : IsReached config servers clients w) (h : Images w) where
+  abbrev Later : WorldState → Type 0
+  Later v = IsReached config servers clients v → Images v
+
+  kept_of : (clocks more disks : Bool) → IsTrue ((clocks && more) && disks) → IsTrue (clocks && disks)
+  kept_of true more disks is = (and_parts (true && more) disks is).1
+  kept_of false more disks is = absurd (true≢false (sym is))
+
+  clocks_of : (clocks disks : Bool) → IsTrue (clocks && disks) → IsTrue clocks × IsTrue disks
+  clocks_of clocks disks is = and_parts clocks disks is
+
+  was_kept : (moment : ℕ) → IsTrue ((observed_moment w.config.skew_ms w.observer moment).are_clocks_kept && w.observer.are_disks_kept) → IsTrue (is_kept w)
+  was_kept moment is = kept_of w.observer.are_clocks_kept (nat_le w.observer.greatest (moment + w.config.skew_ms)) w.observer.are_disks_kept is
+
+  each_later : HoldsExactly w (λ e x. Later x.world)
+  each_later =
+      let k : ℕ = suc (length w.sent) in
+      let grow = orders_grow config servers clients w r in
+      record {
+        nothing = λ e later kept. h kept;
+        masters = λ e moment i choice is up later kept.
+            let before = was_kept moment kept in
+            let both = and_parts w.observer.are_clocks_kept w.observer.are_disks_kept before in
+            let orders : Table (List Placed) = orders_after_all (observed_moment w.config.skew_ms w.observer moment).trace w.observer.orders (master_step w.master moment i choice).seen in
+            let more = grow.masters e moment i choice is up in
+            record {
+              servers = kept_servers config servers clients w r both.0 both.1 (h before) orders more;
+              sent = more_said config servers clients w r both.0 both.1 (h before) orders more k (master_step w.master moment i choice).out.sent
+                  (master_said (λ m. IsImageSaid Plain w.config.chunk orders m.body) (record { plain = λ receiver b is. masters_said w.config.chunk orders b is; locates = λ receiver number l current. tt }) w.master moment i choice);
+            };
+        opens = λ e moment choice later kept.
+            let before = was_kept moment kept in
+            let both = and_parts w.observer.are_clocks_kept w.observer.are_disks_kept before in
+            let orders : Table (List Placed) = orders_after_all (observed_moment w.config.skew_ms w.observer moment).trace w.observer.orders (master_restart w.master moment choice).seen in
+            let more = grow.opens e moment choice in
+            record {
+              servers = kept_servers config servers clients w r both.0 both.1 (h before) orders more;
+              sent = more_said config servers clients w r both.0 both.1 (h before) orders more k (master_restart w.master moment choice).out.sent
+                  (restart_said (λ m. IsImageSaid Plain w.config.chunk orders m.body) (record { plain = λ receiver b is. masters_said w.config.chunk orders b is; locates = λ receiver number l current. tt }) w.master moment choice);
+            };
+        serves = λ e index moment s i choice at is up later kept.
+            let before = was_kept moment kept in
+            let both = and_parts w.observer.are_clocks_kept w.observer.are_disks_kept before in
+            let v : WorldState = (after_server w index moment (server_step s moment i choice)).world in
+            let orders : Table (List Placed) = orders_after_all (observed_moment w.config.skew_ms w.observer moment).trace w.observer.orders (server_step s moment i choice).seen in
+            let more = grow.serves e index moment s i choice at is up in
+            let clocks = (and_parts (observed_moment w.config.skew_ms w.observer moment).are_clocks_kept w.observer.are_disks_kept kept).0 in
+            let came = came_in w e (suc index) moment i is in
+            record {
+              servers = one_server config servers clients w r both.0 both.1 (h before) orders more index (server_step s moment i choice).state
+                  (step_done Plain Plain config servers clients w r both.0 both.1 (h before).sent index moment s i choice at up (((h before).servers index s at).found []) (((h before).servers index s at).idle up) came (plain_carried s i)
+                  (record { of = server_shown s moment i choice; rising = λ handle. orders_rise config servers clients v later clocks handle; within = λ handle place p there. entry_within v later handle place p there }));
+              sent = more_said config servers clients w r both.0 both.1 (h before) orders more k (server_step s moment i choice).out.sent (says_images config servers clients w r both.0 both.1 (h before) index moment s i choice at orders more);
+            };
+        restarts = λ e index moment s choice at later kept.
+            let before = was_kept moment kept in
+            let both = and_parts w.observer.are_clocks_kept w.observer.are_disks_kept before in
+            let orders : Table (List Placed) = orders_after_all (observed_moment w.config.skew_ms w.observer moment).trace w.observer.orders (server_restart s moment choice).seen in
+            let more = grow.restarts e index moment s choice at in
+            record {
+              servers = one_server config servers clients w r both.0 both.1 (h before) orders more index (server_restart s moment choice).state (restart_good config servers clients w r both.0 both.1 (h before) orders more index moment s choice at choice.ending);
+              sent = more_said config servers clients w r both.0 both.1 (h before) orders more k (server_restart s moment choice).out.sent (restarted_said (λ m. IsImageSaid Plain w.config.chunk orders m.body) s moment choice choice.ending);
+            };
+        steps = λ e index moment s i choice at is up later kept.
+            let before = was_kept moment (answered_kept (observed_moment w.config.skew_ms w.observer moment) (suc index) (client_step s moment i choice).out.answer kept) in
+            let both = and_parts w.observer.are_clocks_kept w.observer.are_disks_kept before in
+            let orders : Table (List Placed) = (observed_answer (observed_moment w.config.skew_ms w.observer moment) (suc index) (client_step s moment i choice).out.answer).orders in
+            let more = grow.steps e index moment s i choice at is up in
+            record {
+              servers = kept_servers config servers clients w r both.0 both.1 (h before) orders more;
+              sent = more_said config servers clients w r both.0 both.1 (h before) orders more k (client_step s moment i choice).out.sent
+                  (of_step (λ t xs. AllOf (λ m. IsImageSaid Plain w.config.chunk orders m.body) xs) s moment i choice ((numbered_reached config servers clients w r).each index s at).named
+                  (λ d step. client_said w.config.chunk orders (client_at s moment) d d.sent step refl) tt tt);
+            };
+        calls = λ e index moment s c choice at may later kept.
+            let seen : Observer = observed_call (observed_moment w.config.skew_ms w.observer moment) (suc index) c in
+            let twice = answered_kept (observed_moment w.config.skew_ms seen moment) (suc index) (client_call s moment c choice).out.answer kept in
+            let before = was_kept moment (kept_of seen.are_clocks_kept (nat_le seen.greatest (moment + w.config.skew_ms)) w.observer.are_disks_kept twice) in
+            let both = and_parts w.observer.are_clocks_kept w.observer.are_disks_kept before in
+            let orders : Table (List Placed) = (observed_answer (observed_moment w.config.skew_ms seen moment) (suc index) (client_call s moment c choice).out.answer).orders in
+            let more = grow.calls e index moment s c choice at may in
+            record {
+              servers = kept_servers config servers clients w r both.0 both.1 (h before) orders more;
+              sent = more_said config servers clients w r both.0 both.1 (h before) orders more k (client_call s moment c choice).out.sent
+                  (of_call (λ t xs. AllOf (λ m. IsImageSaid Plain w.config.chunk orders m.body) xs) s moment c choice ((numbered_reached config servers clients w r).each index s at).named
+                  (λ d step. client_said w.config.chunk orders (client_at s moment) d d.sent step refl) tt);
+            };
+        rots = λ e index handle s x place byte at there up later kept.
+            let parts = and_parts w.observer.are_clocks_kept (w.observer.are_disks_kept && not _) kept in
+            let disks = (and_parts w.observer.are_disks_kept (not _) parts.1).0 in
+            let before = kept_both w.observer.are_clocks_kept w.observer.are_disks_kept parts.0 disks in
+            record {
+              servers = one_server config servers clients w r parts.0 disks (h before) w.observer.orders (λ k. same_follows IsAny (placed_in w.observer.orders k)) index _ (rotten_good config servers clients w r parts.0 disks (h before) index handle s x place byte at there up);
+              sent = (h before).sent;
+            };
+      }
+    where
+      entry_within : (v : WorldState) → IsReached config servers clients v → (handle place : ℕ) (p : Placed) → element_at (order_of v.observer handle) place ≡ Some p → start_of p.entry.mutation ≤ w.config.chunk
+      entry_within v later handle place p there =
+          subst (λ (c : Config). start_of p.entry.mutation ≤ c.chunk) (sym (settings_stay config servers clients w r))
+          (starts_within config.chunk p.entry.mutation (entries_lie_within_the_chunk config servers clients later.0 handle place p (ap (λ (u : WorldState). element_at (order_of u.observer handle) place) later.1 ∙ there)))
+
+      kept_both : (a b : Bool) → IsTrue a → IsTrue b → IsTrue (a && b)
+      kept_both true b x y = y
+      kept_both false b x y = absurd (true≢false (sym x))
+
+images_on : (config : Config) (servers clients : ℕ) (w : WorldState) (steps : List (Event × Choice)) → IsReached config servers clients w → Images w → Images (after_events w steps)
+images_on config servers clients w [] r h = h
+images_on config servers clients w (step ∷ rest) r h =
+    let v : WorldState = (happens w step.0 step.1).world in
+    let later : IsReached config servers clients v = reached_later config servers clients w (step ∷ []) r in
+    images_on config servers clients v rest later (holds_exactly w (λ e x. Later config servers clients w r h x.world) (each_later config servers clients w r h) step.0 step.1 later)
+
+new_images : (config : Config) (servers clients : ℕ) → AreSelections (new_world config servers clients)
+new_images config servers clients =
+    record {
+      servers = λ index s at.
+          subst (IsGood Plain config.chunk table.empty) (sym (numbered_from (λ n. started_server config n (new_server_disk config.block) 0) servers index s at))
+          (record { found = λ decided handle x is. none_some x (sym (table.get-empty nat_cmp handle) ∙ ap (λ (d : ServerDisk). replica_of d handle) (sym (none_more (new_server_disk config.block) decided)) ∙ is); idle = λ on. refl });
+      sent = λ m there. none_sent m there;
+    }
+
+images_reached : (config : Config) (servers clients : ℕ) (w : WorldState) → IsReached config servers clients w → Images w
+images_reached config servers clients w r = subst Images r.1 (images_on config servers clients (new_world config servers clients) r.0 ([], refl) (λ kept. new_images config servers clients))
+
+pub said_reached : (config : Config) (servers clients : ℕ) (w : WorldState) → IsReached config servers clients w → IsTrue (is_kept w) → (m : Message) → IsSent w.sent m → IsImageSaid Plain w.config.chunk w.observer.orders m.body
+said_reached config servers clients w r kept = (images_reached config servers clients w r kept).sent
+
+pub replicas_are_images : ReplicasAreImages
+replicas_are_images config servers clients w r kept index s at =
+    let good = (images_reached config servers clients w r kept).servers index s at in
+    (λ handle x is. (good.found [] handle x is).0, λ choice handle x is. (good.found choice.decided handle x is).0)
+
+pub sent_images_are_images : SentImagesAreImages
+sent_images_are_images config servers clients w r kept place m at handle version serial bytes is =
+    (subst (λ (b : Body). IsImageSaid Plain w.config.chunk w.observer.orders b) is ((images_reached config servers clients w r kept).sent m (place, at))).0

@@ -1,0 +1,139 @@
+-- What a server numbers may follow the chunk's order: it is placed at the end of its server's replica, which is the image of a selection of the order.
+use Rattle.std.proofs.Common.{◌≡◌, ◌⊎◌, ℕ, zero, suc, ◌+◌, ◌≤◌, ◌<◌, Bool, true, false, List, [], ◌∷◌, map, length, Some, refl, sym, ap, subst, ◌∙◌, inl, inr, arith}
+use Rattle.std.specs.Prelude.{◌==◌, ◌||◌, max, IsTrue}
+use Rattle.std.specs.List.{AllByRecursion, list_any}
+use Rattle.std.proofs.lemmas.Bool.{cases_lt, true≢false}
+use Rattle.gfs_types.specs.declared.config.Config.{Config}
+use Rattle.gfs_types.specs.declared.ids.DataId.{DataId}
+use Rattle.gfs_types.specs.declared.ids.Handle.{Handle}
+use Rattle.gfs_types.specs.declared.ids.Serial.{Serial}
+use Rattle.gfs_types.specs.declared.ids.Version.{Version}
+use Rattle.gfs_types.specs.declared.mutation.Mutation.{Mutation}
+use Rattle.gfs_types.specs.declared.mutation.Mutation.TheVariants.{Write, Append, Pad}
+use Rattle.gfs_types.specs.Mutations.{end_of}
+use Rattle.gfs_types.specs.Image.{image_length}
+use Rattle.messages.specs.declared.event.Input.{Input}
+use Rattle.messages.specs.declared.event.Input.TheVariants as input
+use Rattle.messages.specs.declared.message.Message.{Message}
+use Rattle.relaxed_file.specs.Order.{Entry, mutations_of, IsSelection, empty, takes, leaves}
+use Rattle.relaxed_file.specs.Chunks.{is_an_end}
+use Rattle.protocol.specs.Tables.{element_at}
+use Rattle.protocol.specs.Choice.{Choice}
+use Rattle.protocol.specs.declared.seen.Seen.TheVariants.{Numbered}
+use Rattle.protocol.specs.Observer.{Placed, order_of, entries_of}
+use Rattle.protocol.specs.Server.{ServerState}
+use Rattle.protocol.specs.ServerStep.{server_step}
+use Rattle.protocol.specs.World.{WorldState, IsReached}
+use Rattle.laws_base.proofs.Entries.{same_number}
+use Rattle.laws_base.proofs.Steps.{same_some}
+use Rattle.laws_steps.specs.Replicas.{IsPlacedBehind, IsPlacedByReplica}
+use Rattle.laws_steps.proofs.Lengths.{servers_within, settings_stay}
+use Rattle.laws_steps.proofs.Placings.{mutations_are_placed_by_replicas}
+use Rattle.laws_entries.specs.Entries.{IsAmong, IsPushed}
+use Rattle.laws_replicas.specs.HeldRounds.{ComesBehind}
+use Rattle.laws_replicas.specs.LawfulOrders.{MayFollow, IsMadeOf, NumberedMutationsMayFollow}
+use Rattle.laws_replicas.proofs.HeldRounds.{records_come_behind_their_round}
+use Rattle.laws_replicas.proofs.KeptData.{kept_was_pushed}
+use Rattle.laws_replicas.proofs.RecordPlaces.{IsShort, numbered_short}
+use Rattle.laws_replicas.proofs.Selections.{replicas_are_selections}
+use Rattle.laws_replicas.proofs.SettledEnds.{length_from, records_come_behind_settled_entries}
+
+-- the end of an image
+
+one_more_end : (a b c : Bool) → IsTrue (a || c) → IsTrue (a || (b || c))
+one_more_end true b c h = refl
+one_more_end false true c h = refl
+one_more_end false false c h = h
+
+this_end : (a b c : Bool) → IsTrue b → IsTrue (a || (b || c))
+this_end true b c h = refl
+this_end false true c h = refl
+this_end false false c h = absurd (true≢false (sym h))
+
+greater : (a b : ℕ) → (max a b ≡ a) ⊎ (max a b ≡ b)
+greater a b = elim (cases_lt a b) [ inl less ↦ inr (omega (arith, less)) | inr least ↦ inl (omega (arith, least)) ]
+
+-- a selection's image ends at 0 or at an entry's end
+ends_at : (size last : ℕ) {order chosen : List Entry} → IsSelection last order chosen → IsTrue (is_an_end size order (image_length size (mutations_of chosen)))
+ends_at size last empty = refl
+ends_at size last (takes {e} {order} {chosen} low rest) =
+    let n : ℕ = image_length size (mutations_of chosen) in
+    let at : ℕ = end_of size e.mutation in
+    elim (greater at n) [
+      | inl here ↦ subst (λ (k : ℕ). IsTrue ((k == 0) || ((at == k) || list_any (λ x. end_of size x.mutation == k) order))) (sym here) (this_end (at == 0) (at == at) (list_any (λ x. end_of size x.mutation == at) order) (same_number at))
+      | inr there ↦ subst (λ (k : ℕ). IsTrue ((k == 0) || ((at == k) || list_any (λ x. end_of size x.mutation == k) order))) (sym there)
+          (one_more_end (n == 0) (at == n) (list_any (λ x. end_of size x.mutation == n) order) (ends_at size last rest))
+    ]
+ends_at size last (leaves {e} {order} {chosen} late rest) =
+    let n : ℕ = image_length size (mutations_of chosen) in
+    one_more_end (n == 0) (end_of size e.mutation == n) (list_any (λ x. end_of size x.mutation == n) order) (ends_at size last rest)
+
+-- each entry of an order, without its serial
+pub all_entries : (P : Entry → Type 0) (ps : List Placed) → ((place : ℕ) (p : Placed) → element_at ps place ≡ Some p → P p.entry) → AllByRecursion P (map (λ p. p.entry) ps)
+all_entries P [] each = tt
+all_entries P (p ∷ ps) each = (each zero p refl, all_entries P ps (λ place q at. each (suc place) q at))
+
+made_of : (size count : ℕ) (bytes : List ℕ) (m : Mutation) → IsPlacedBehind size count bytes m → IsShort size bytes m → IsMadeOf size bytes m
+made_of size count bytes (Write offset written) by short = by.0
+made_of size count bytes (Append offset written) by short = (by.0, short.0)
+made_of size count bytes (Pad offset) by short = (short, by.2)
+
+module _ (config : Config) (servers clients : ℕ) (w : WorldState) (r : IsReached config servers clients w) (index : ℕ) (s : ServerState) (at : element_at w.servers index ≡ Some s) (moment : ℕ) (i : Input) (choice : Choice)
+    (came : (m : Message) → i ≡ input.Deliver m → IsAmong w.sent m) (shown : ℕ) (handle : Handle) (version : Version) (serial : Serial) (id : DataId) (m : Mutation)
+    (seen : element_at (server_step s moment i choice).seen shown ≡ Some (Numbered handle version serial id m)) where
+  placed : IsPlacedByReplica config.chunk s handle.0 version.0 serial.0 id m
+  placed = mutations_are_placed_by_replicas config servers clients w r index s at moment i choice shown handle version serial id m seen
+
+  short : IsShort config.chunk placed.bytes m
+  short =
+      let one = numbered_short config servers clients w r index s at moment i choice came shown handle version serial id m seen in
+      subst (λ (c : Config). IsShort c.chunk placed.bytes m) (servers_within config servers clients w r index s at).set
+      (subst (λ (bs : List ℕ). IsShort s.config.chunk bs m) (same_some one.0 placed.bytes (sym one.1 ∙ placed.pushed)) one.2)
+
+  -- of which data it is made
+  pub numbered_data : (bytes : List ℕ) × IsPushed w.sent id bytes × IsMadeOf config.chunk bytes m
+  numbered_data = (placed.bytes, kept_was_pushed config servers clients w r index s at id placed.bytes placed.pushed, made_of config.chunk (length (placed.replica).bytes) placed.bytes m placed.placed short)
+
+pub numbered_mutations_may_follow : NumberedMutationsMayFollow
+numbered_mutations_may_follow config servers clients w r kept index s at moment i choice came clocks shown handle version serial id m seen =
+    (follows m by.placed (short config servers clients w r index s at moment i choice came shown handle version serial id m seen) behind, numbered_data config servers clients w r index s at moment i choice came shown handle version serial id m seen)
+  where
+    by : IsPlacedByReplica config.chunk s handle.0 version.0 serial.0 id m
+    by = placed config servers clients w r index s at moment i choice came shown handle version serial id m seen
+
+    order : List Entry
+    order = entries_of w.observer handle.0
+
+    count : ℕ
+    count = length (by.replica).bytes
+
+    an_end : IsTrue (is_an_end config.chunk order count)
+    an_end =
+        let selected = (replicas_are_selections config servers clients w r kept index s at).0 handle.0 by.replica by.replica_is in
+        let long : count ≡ image_length w.config.chunk (mutations_of selected.0) =
+        ap (λ (bs : List ℕ). length bs) selected.2 ∙ length_from w.config.chunk (mutations_of selected.0) 0 (image_length w.config.chunk (mutations_of selected.0)) in
+        subst (λ (c : Config). IsTrue (is_an_end c.chunk order count)) (settings_stay config servers clients w r)
+        (subst (λ (n : ℕ). IsTrue (is_an_end w.config.chunk order n)) (sym long) (ends_at w.config.chunk (by.replica).version selected.1))
+
+    behind : (place : ℕ) (e : Placed) → element_at (order_of w.observer handle.0) place ≡ Some e → IsTrue e.entry.settled ⊎ (e.entry.round ≡ version.0) → ComesBehind (end_of config.chunk e.entry.mutation) m
+    behind place e there which =
+        elim (which) [
+          | inl settled ↦ records_come_behind_settled_entries config servers clients w r kept index s at moment i choice came clocks shown handle version serial id m seen place e there settled
+          | inr round ↦ records_come_behind_their_round config servers clients w r index s at moment i choice shown handle version serial id m seen place e there round
+        ]
+
+    past : (start : ℕ) → ((place : ℕ) (e : Placed) → element_at (order_of w.observer handle.0) place ≡ Some e → IsTrue e.entry.settled ⊎ (e.entry.round ≡ version.0) → end_of config.chunk e.entry.mutation ≤ start)
+        → AllByRecursion (λ e. (IsTrue e.settled ⊎ (e.round ≡ version.0)) → end_of config.chunk e.mutation ≤ start) order
+    past start each = all_entries (λ e. (IsTrue e.settled ⊎ (e.round ≡ version.0)) → end_of config.chunk e.mutation ≤ start) (order_of w.observer handle.0) each
+
+    end_here : (offset : ℕ) → offset ≡ count → IsTrue (is_an_end config.chunk order offset)
+    end_here offset same = subst (λ (n : ℕ). IsTrue (is_an_end config.chunk order n)) (sym same) an_end
+
+    below : (offset long : ℕ) → offset + long ≤ config.chunk → (offset ≡ config.chunk → ⊥) → offset < config.chunk
+    below offset long fits apart = elim (cases_lt offset config.chunk) [ inl less ↦ less | inr least ↦ absurd (apart (omega (arith, least, fits))) ]
+
+    follows : (x : Mutation) → IsPlacedBehind config.chunk count by.bytes x → IsShort config.chunk by.bytes x
+        → ((place : ℕ) (e : Placed) → element_at (order_of w.observer handle.0) place ≡ Some e → IsTrue e.entry.settled ⊎ (e.entry.round ≡ version.0) → ComesBehind (end_of config.chunk e.entry.mutation) x) → MayFollow config.chunk order version.0 x
+    follows (Write offset bytes) where_ small each = where_.1
+    follows (Append offset bytes) where_ small each = (below offset (length bytes) where_.2 small.1, end_here offset where_.1, (past offset each, where_.2))
+    follows (Pad offset) where_ small each = (where_.1, end_here offset where_.0, (past offset each, omega arith))

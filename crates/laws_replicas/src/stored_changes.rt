@@ -1,0 +1,13 @@
+//! Laws of every lawful list of events from a new cell: restarts, stops in a step, losses, repeats, refused memory and rot.
+
+ghost use Rattle.laws_replicas.specs.StoredChanges.{ReplicasAreReadAsStored, ReadsAreAsStored};
+
+/// Where disks are kept, the whole of a replica is read as it was stored, and so it is copied on its disk.
+pub fn replicas_are_read_as_stored()
+    ensures { ReplicasAreReadAsStored }
+{}
+
+/// Where disks are kept, what is read of a range of a replica is what was stored there.
+pub fn reads_are_as_stored()
+    ensures { ReadsAreAsStored }
+{}

@@ -1,0 +1,274 @@
+-- In each world that is reached, each replica lies within the chunk, however what was under way is decided.
+use Rattle.std.proofs.Common.{◌≡◌, ℕ, zero, suc, ◌+◌, ◌-◌, ◌≤◌, Bool, true, false, List, [], ◌∷◌, ◌++◌, length, take, drop, replicate, Option, Some, None, refl, sym, ap, subst, ◌∙◌, inl, inr, arith}
+use Rattle.std.specs.Prelude.{slice_set}
+use Rattle.std.specs.FinMap as table
+use Rattle.std.specs.Ordering.{nat_cmp}
+use Rattle.gfs_types.specs.declared.config.Config.{Config}
+use Rattle.gfs_types.specs.declared.mutation.Mutation.{Mutation}
+use Rattle.gfs_types.specs.declared.mutation.Mutation.TheVariants as mutation
+use Rattle.messages.specs.declared.event.Input.{Input}
+use Rattle.data_push.specs.Buffers.{PushBuffer}
+use Rattle.replica_store.specs.declared.row.Row.{Row}
+use Rattle.replica_store.specs.declared.change.StoreChange.{StoreChange}
+use Rattle.replica_store.specs.declared.change.StoreChange.TheVariants.{SetOrder, Put, Write, Zero, Raise, Copy, Remove}
+use Rattle.replica_store.specs.Replicas.{Replica, ServerDisk, new_server_disk, replica_of, with_replica, replica_becomes, stored_replica, written_replica, raised_replica, rotten_replica, with_others, bytes_on_disk, with_bytes, disk_changed, disk_changed_by_all, row_of, row_at}
+use Rattle.protocol.specs.Tables.{element_at, with_at}
+use Rattle.protocol.specs.Choice.{Choice, Ending, Goes, Lost, Stops, decided_changes}
+use Rattle.protocol.specs.Seen.{Taken, no_step}
+use Rattle.protocol.specs.Server.{ServerState, ServerDoing, started_server}
+use Rattle.protocol.specs.ServerWrites.{stored_as}
+use Rattle.protocol.specs.ServerStep.{server_goes, server_ends, server_step, server_restarts, server_restart}
+use Rattle.protocol.specs.World.{WorldState, new_world, IsReached}
+use Rattle.laws_base.proofs.Steps.{on_cond, none_some, put_cases, gone_split}
+use Rattle.laws_base.proofs.Entries.{AllOf, all_joined}
+use Rattle.laws_base.proofs.RisingOrders.{set_cases}
+use Rattle.laws_base.proofs.LeasesTold.{numbered_from}
+use Rattle.laws_steps.proofs.Events.{HoldsAfter, holds_on, world_reached}
+use Rattle.laws_steps.specs.Replicas.{AreWithin, ReplicasLieWithinTheChunk}
+use Rattle.laws_steps.proofs.ServerActs.{Acting, acting, with_change, IsPlacedAt, IsWriting, KeepsActs, goes_fine}
+
+-- lists
+
+pub all_taken : {X : Type 0} (P : X → Type 0) (count : ℕ) (xs : List X) → AllOf P xs → AllOf P (take count xs)
+all_taken P zero xs all = tt
+all_taken P (suc count) [] all = tt
+all_taken P (suc count) (x ∷ xs) all = (all.0, all_taken P count xs all.1)
+
+pub all_dropped : {X : Type 0} (P : X → Type 0) (count : ℕ) (xs : List X) → AllOf P xs → AllOf P (drop count xs)
+all_dropped P zero xs all = all
+all_dropped P (suc count) [] all = tt
+all_dropped P (suc count) (x ∷ xs) all = all_dropped P count xs all.1
+
+pub all_decided : {X : Type 0} (P : X → Type 0) (decided : List Bool) (xs : List X) → AllOf P xs → AllOf P (decided_changes decided xs)
+all_decided P [] xs all = tt
+all_decided P (made ∷ rest) [] all = tt
+all_decided P (true ∷ rest) (x ∷ xs) all = (all.0, all_decided P rest xs all.1)
+all_decided P (false ∷ rest) (x ∷ xs) all = all_decided P rest xs all.1
+
+pub length-joined : {X : Type 0} (xs ys : List X) → length (xs ++ ys) ≡ length xs + length ys
+length-joined [] ys = omega arith
+length-joined (x ∷ xs) ys = let rest = length-joined xs ys in omega (arith, rest)
+
+pub length-alike : (n x : ℕ) → length (replicate n x) ≡ n
+length-alike zero x = refl
+length-alike (suc n) x = ap suc (length-alike n x)
+
+length-taken : {X : Type 0} (n : ℕ) (xs : List X) → (length (take n xs) ≤ n) × (length (take n xs) ≤ length xs)
+length-taken zero xs = (omega arith, omega arith)
+length-taken (suc n) [] = (omega arith, omega arith)
+length-taken (suc n) (x ∷ xs) = let rest = length-taken n xs in let a = rest.0 in let b = rest.1 in (omega (arith, a), omega (arith, b))
+
+pub length-left : {X : Type 0} (n : ℕ) (xs : List X) → length (drop n xs) ≡ length xs - n
+length-left zero xs = omega arith
+length-left (suc n) [] = omega arith
+length-left (suc n) (x ∷ xs) = let rest = length-left n xs in omega (arith, rest)
+
+length-set : {X : Type 0} (xs : List X) (n : ℕ) (x : X) → length (slice_set xs n x) ≡ length xs
+length-set [] n x = refl
+length-set (y ∷ xs) zero x = refl
+length-set (y ∷ xs) (suc n) x = ap suc (length-set xs n x)
+
+-- bytes
+
+others_long : (es : List (ℕ × ℕ)) (bytes : List ℕ) → length (with_others es bytes) ≡ length bytes
+others_long [] bytes = refl
+others_long (e ∷ es) bytes = others_long es (slice_set bytes e.0 e.1) ∙ length-set bytes e.0 e.1
+
+written_within : (size : ℕ) (old : List ℕ) (offset : ℕ) (new : List ℕ) → length old ≤ size → offset + length new ≤ size → length (with_bytes old offset new) ≤ size
+written_within size old offset new short fits =
+    let first : List ℕ = take offset old in
+    let hole : List ℕ = replicate (offset - length old) 0 in
+    let rest : List ℕ = drop (offset + length new) old in
+    let whole : length (with_bytes old offset new) ≡ length (first ++ hole ++ new) + length rest = length-joined (first ++ hole ++ new) rest in
+    let front : length (first ++ hole ++ new) ≡ length (first ++ hole) + length new = length-joined (first ++ hole) new in
+    let begin : length (first ++ hole) ≡ length first + length hole = length-joined first hole in
+    let taken = length-taken offset old in
+    let taken_low = taken.0 in
+    let taken_short = taken.1 in
+    let filled = length-alike (offset - length old) 0 in
+    let left = length-left (offset + length new) old in
+    omega (arith, whole, front, begin, taken_low, taken_short, filled, left, short, fits)
+
+module _ (size : ℕ) where
+  put_within : (d : ServerDisk) (at : ℕ) (new : Replica) → length new.bytes ≤ size → AreWithin size d → AreWithin size (with_replica d at new)
+  put_within d at new short h handle r is =
+      elim (put_cases d.replicas at new handle r is) [
+        | inl same ↦ subst (λ (x : Replica). length x.bytes ≤ size) same.1 short
+        | inr before ↦ h handle r before
+      ]
+
+  becomes_within : (f : Replica → Replica) (d : ServerDisk) (at from : ℕ) (o : Option Replica) → replica_of d from ≡ o → ((r : Replica) → length r.bytes ≤ size → length (f r).bytes ≤ size) → AreWithin size d
+      → AreWithin size (replica_becomes f d at o)
+  becomes_within f d at from None is go h = h
+  becomes_within f d at from (Some r) is go h = put_within d at (f r) (go r (h from r is)) h
+
+  -- a change leaves replicas within the chunk
+  abbrev pub IsShort : StoreChange → Type 0
+  IsShort (Put handle version serial bytes) = length bytes ≤ size
+  IsShort (Write handle serial offset bytes) = offset + length bytes ≤ size
+  IsShort (Zero handle serial offset count) = offset + count ≤ size
+  IsShort other = Unit {0}
+
+  changed_within : (d : ServerDisk) (x : StoreChange) → IsShort x → AreWithin size d → AreWithin size (disk_changed d x)
+  changed_within d (SetOrder order) short h = h
+  changed_within d (Put handle version serial bytes) short h = put_within d handle.0 (stored_replica version.0 serial.0 bytes) short h
+  changed_within d (Write handle serial offset bytes) short h =
+      becomes_within (λ r. written_replica r serial.0 offset bytes) d handle.0 handle.0 (replica_of d handle.0) refl (λ r old. written_within size r.bytes offset bytes old short) h
+  changed_within d (Zero handle serial offset count) short h =
+      becomes_within (λ r. written_replica r serial.0 offset (replicate count 0)) d handle.0 handle.0 (replica_of d handle.0) refl
+      (λ r old. written_within size r.bytes offset (replicate count 0) old (let same = length-alike count 0 in omega (arith, same, short))) h
+  changed_within d (Raise handle version) short h = becomes_within (λ r. raised_replica r version.0) d handle.0 handle.0 (replica_of d handle.0) refl (λ r old. old) h
+  changed_within d (Copy handle copy version) short h =
+      becomes_within (λ r. stored_replica version.0 0 (bytes_on_disk r)) d copy.0 handle.0 (replica_of d handle.0) refl (λ r old. let same = others_long (table.entries r.changed) r.bytes in omega (arith, same, old)) h
+  changed_within d (Remove handle) short h = λ k r is. h k r (gone_split d.replicas handle.0 k r is).1
+
+  all_within : (d : ServerDisk) (xs : List StoreChange) → AllOf IsShort xs → AreWithin size d → AreWithin size (disk_changed_by_all d xs)
+  all_within d [] short h = h
+  all_within d (x ∷ xs) short h = all_within (disk_changed d x) xs short.1 (changed_within d x short.0 h)
+
+-- acts
+
+abbrev Within : Config → Acting → Type 0
+Within config c = (c.config ≡ config) × AreWithin config.chunk c.disk × AllOf (IsShort config.chunk) c.changes × AllOf (IsShort config.chunk) c.under_way
+
+more_within : (config : Config) (c : Acting) (x : StoreChange) → IsShort config.chunk x → Within config c → Within config (with_change c x)
+more_within config c x short h = (h.0, h.1, all_joined (IsShort config.chunk) c.changes (x ∷ []) h.2 (short, tt), h.3)
+
+row_within : (size : ℕ) (d : ServerDisk) (handle : ℕ) (r : Row) → row_at d handle ≡ Some r → AreWithin size d → r.count ≤ size
+row_within size d handle r there h = by_replica (replica_of d handle) refl there
+  where
+    by_replica : (o : Option Replica) → replica_of d handle ≡ o → row_of o ≡ Some r → r.count ≤ size
+    by_replica None is g = none_some r g
+    by_replica (Some x) is g = let short = h handle x is in let same : length x.bytes ≡ r.count = ap (λ (o : Option Row). count_of o) g in omega (arith, short, same)
+      where
+        count_of : Option Row → ℕ
+        count_of None = 0
+        count_of (Some y) = y.count
+
+placed_short : (size handle serial count : ℕ) (bytes : List ℕ) (m : Mutation) → count ≤ size → IsPlacedAt size count bytes m → IsShort size (stored_as size handle serial m)
+placed_short size handle serial count bytes (mutation.Write offset written) low placed = placed.1
+placed_short size handle serial count bytes (mutation.Append offset written) low placed = placed.2
+placed_short size handle serial count bytes (mutation.Pad offset) low placed = let at = placed.0 in omega (arith, low, at)
+
+writing_short : (size handle serial : ℕ) (x : StoreChange) → IsWriting size handle serial x → IsShort size x
+writing_short size handle serial (Write h n offset bytes) is = is.2
+writing_short size handle serial (Zero h n offset count) is = is.2
+writing_short size handle serial (SetOrder order) is = absurd is
+writing_short size handle serial (Put h version n bytes) is = absurd is
+writing_short size handle serial (Raise h version) is = absurd is
+writing_short size handle serial (Copy h copy version) is = absurd is
+writing_short size handle serial (Remove h) is = absurd is
+
+acts_within : (config : Config) (kept : PushBuffer) → KeepsActs kept (Within config) (Within config)
+acts_within config kept =
+    record {
+      begins = λ c h. h;
+      orders = λ c order h. more_within config c _ tt h;
+      drops = λ c handle h. more_within config c _ tt h;
+      puts = λ c handle version serial bytes none short h. more_within config c _ (subst (λ (x : Config). length bytes ≤ x.chunk) h.0 short) h;
+      raises = λ c handle version r there h. more_within config c _ tt h;
+      copies = λ c handle copy version none h. more_within config c _ tt h;
+      grants = λ c handle version until members holds h. h;
+      holds = λ c leases from h. h;
+      settles = λ c handle version serial h. h;
+      numbers = λ c handle p id m n h.
+          more_within config c _
+          (subst (λ (x : Config). IsShort config.chunk (stored_as x.chunk handle (p.serial + 1) m)) (sym h.0)
+          (placed_short config.chunk handle (p.serial + 1) n.row.count n.bytes m (row_within config.chunk c.disk handle n.row n.there h.1) (subst (λ (x : Config). IsPlacedAt x.chunk n.row.count n.bytes m) h.0 n.placed))) h;
+      spoils = λ c handle p id m n h. more_within config c _ tt h;
+      applies = λ c handle serial r x there less writing h. more_within config c x (writing_short config.chunk handle serial x (subst (λ (y : Config). IsWriting y.chunk handle serial x) h.0 writing)) h;
+    }
+
+-- a server, between its steps
+pub record IsWithin (config : Config) (s : ServerState) : Type 0 where
+  pub set : s.config ≡ config
+  pub disk : AreWithin config.chunk s.disk
+  pub under_way : AllOf (IsShort config.chunk) s.under_way
+
+ends_within : (config : Config) (s : ServerState) (d : ServerDoing) (choice : Choice) (e : Ending) → IsWithin config s → Within config (acting d) → IsWithin config (server_ends s d choice e).state
+ends_within config s d choice Goes h g = record { set = g.0; disk = all_within config.chunk d.server.disk d.changes g.2 g.1; under_way = g.3 }
+ends_within config s d choice Lost h g = record { set = h.set; disk = h.disk; under_way = tt }
+ends_within config s d choice (Stops made) h g =
+    record {
+      set = h.set;
+      disk = all_within config.chunk s.disk (take made d.changes) (all_taken (IsShort config.chunk) made d.changes g.2) h.disk;
+      under_way = all_taken (IsShort config.chunk) 1 (drop made d.changes) (all_dropped (IsShort config.chunk) made d.changes g.2);
+    }
+
+step_within : (config : Config) (s : ServerState) (moment : ℕ) (i : Input) (choice : Choice) → IsWithin config s → IsWithin config (server_step s moment i choice).state
+step_within config s moment i choice h =
+    on_cond (λ (t : Taken ServerState). IsWithin config t.state) s.up (server_ends s (server_goes s moment i) choice choice.ending) (no_step s)
+    (λ _. ends_within config s (server_goes s moment i) choice choice.ending h (goes_fine s (Within config) (Within config) (acts_within config s.pushed) moment i (h.set, h.disk, tt, h.under_way))) (λ _. h)
+
+found_within : (config : Config) (s : ServerState) (decided : List Bool) → IsWithin config s → AreWithin config.chunk (disk_changed_by_all s.disk (decided_changes decided s.under_way))
+found_within config s decided h = all_within config.chunk s.disk (decided_changes decided s.under_way) (all_decided (IsShort config.chunk) decided s.under_way h.under_way) h.disk
+
+restart_within : (config : Config) (s : ServerState) (moment : ℕ) (choice : Choice) (e : Ending) → IsWithin config s → IsWithin config (server_restarts s moment choice e).state
+restart_within config s moment choice Lost h = record { set = h.set; disk = h.disk; under_way = h.under_way }
+restart_within config s moment choice (Stops made) h = record { set = h.set; disk = found_within config s choice.decided h; under_way = tt }
+restart_within config s moment choice Goes h = record { set = h.set; disk = found_within config s choice.decided h; under_way = tt }
+
+-- worlds
+
+abbrev pub AllWithin : WorldState → Type 0
+AllWithin w = (index : ℕ) (s : ServerState) → element_at w.servers index ≡ Some s → IsWithin w.config s
+
+one_within : (config : Config) (servers : List ServerState) (index : ℕ) (t : ServerState) → IsWithin config t → ((other : ℕ) (u : ServerState) → element_at servers other ≡ Some u → IsWithin config u) → (other : ℕ) (u : ServerState)
+    → element_at (with_at servers index t) other ≡ Some u → IsWithin config u
+one_within config servers index t new h other u is =
+    elim (set_cases servers index t other u is) [
+      | inl both ↦ subst (λ (v : ServerState). IsWithin config v) (sym both.1) new
+      | inr there ↦ h other u there
+    ]
+
+rotten_within : (config : Config) (s : ServerState) (handle : ℕ) (r : Replica) (place byte : ℕ) → replica_of s.disk handle ≡ Some r → IsWithin config s
+    → IsWithin config (record s { disk = with_replica s.disk handle (rotten_replica r place byte) })
+rotten_within config s handle r place byte there h =
+    record { set = h.set; disk = put_within config.chunk s.disk handle (rotten_replica r place byte) (h.disk handle r there) h.disk; under_way = h.under_way }
+
+each_event : (w : WorldState) → AllWithin w → HoldsAfter w (λ e h. AllWithin h.world)
+each_event w h =
+    record {
+      nothing = λ e. h;
+      masters = λ e moment i choice is up. h;
+      opens = λ e moment choice. h;
+      serves = λ e index moment s i choice at is up. one_within w.config w.servers index (server_step s moment i choice).state (step_within w.config s moment i choice (h index s at)) h;
+      restarts = λ e index moment s choice at. one_within w.config w.servers index (server_restart s moment choice).state (restart_within w.config s moment choice choice.ending (h index s at)) h;
+      steps = λ e index moment s i choice at is up. h;
+      calls = λ e index moment s c choice at may. h;
+      rots = λ e index handle s r place byte is_kept at there up. one_within w.config w.servers index _ (rotten_within w.config s handle r place byte there (h index s at)) h;
+    }
+
+new_within : (config : Config) (servers clients : ℕ) → AllWithin (new_world config servers clients)
+new_within config servers clients index s at =
+    subst (λ (t : ServerState). IsWithin config t) (sym (numbered_from (λ n. started_server config n (new_server_disk config.block) 0) servers index s at))
+    (record { set = refl; disk = λ handle r is. none_some r (sym (table.get-empty nat_cmp handle) ∙ is); under_way = tt })
+
+-- the settings of a world are those that it began with
+abbrev IsSetAs : Config → WorldState → Type 0
+IsSetAs config w = w.config ≡ config
+
+each_set : (config : Config) (w : WorldState) → IsSetAs config w → HoldsAfter w (λ e h. IsSetAs config h.world)
+each_set config w h =
+    record {
+      nothing = λ e. h;
+      masters = λ e moment i choice is up. h;
+      opens = λ e moment choice. h;
+      serves = λ e index moment s i choice at is up. h;
+      restarts = λ e index moment s choice at. h;
+      steps = λ e index moment s i choice at is up. h;
+      calls = λ e index moment s c choice at may. h;
+      rots = λ e index handle s r place byte is_kept at there up. h;
+    }
+
+pub settings_stay : (config : Config) (servers clients : ℕ) (w : WorldState) → IsReached config servers clients w → w.config ≡ config
+settings_stay config servers clients w r = subst (λ (v : WorldState). v.config ≡ config) r.1 (holds_on (IsSetAs config) (each_set config) (new_world config servers clients) r.0 refl)
+
+pub servers_within : (config : Config) (servers clients : ℕ) (w : WorldState) → IsReached config servers clients w → (index : ℕ) (s : ServerState) → element_at w.servers index ≡ Some s → IsWithin config s
+servers_within config servers clients w r index s at =
+    subst (λ (c : Config). IsWithin c s) (settings_stay config servers clients w r) (world_reached AllWithin each_event new_within config servers clients w r index s at)
+
+pub replicas_lie_within_the_chunk : ReplicasLieWithinTheChunk
+replicas_lie_within_the_chunk config servers clients w r index s at =
+    let one = servers_within config servers clients w r index s at in
+    (one.disk, λ choice. found_within config s choice.decided one)

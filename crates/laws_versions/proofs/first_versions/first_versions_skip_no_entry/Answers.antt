@@ -1,0 +1,5 @@
+use Rattle.laws_versions.proofs.FirstVersions.{first_versions_skip_no_entry}
+use Rattle.laws_versions.proofs.first_versions.first_versions_skip_no_entry.Goals as goal
+
+pub returns : goal.returns
+returns c = first_versions_skip_no_entry

@@ -1,0 +1,6 @@
+pub mod SnapshotLocks
+pub mod NameRuns
+pub mod NameProjections
+pub mod UnseenRuns
+pub mod NameTraces
+pub mod NamedFiles

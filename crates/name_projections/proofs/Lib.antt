@@ -1,4 +1,0 @@
-pub mod Calls
-pub mod Effects
-pub mod Actions
-pub mod Chunks

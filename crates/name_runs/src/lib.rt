@@ -1,4 +1,0 @@
-//! Runs of the machine by what is done to names alone.
-#![tactic(auto)]
-
-pub mod laws;

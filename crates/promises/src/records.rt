@@ -1,0 +1,32 @@
+//! Laws of each run of the machine, in the words of calls and answers.
+
+ghost use Rattle.promises.specs.Promises.{InEachRun, AnsweredRecordsLieApart, AnsweredRecordsStand, AppendedRecordsAreReadBack, AppendsLeaveRecordsAlone, DescriptorsAreOfOneFile, OwnRecordsAreRead, RecordsAreRead, RecordsKeepTheirPlace, SeenRoundsSuffice};
+
+/// A client's descriptor is of one file for good.
+pub fn descriptors_are_of_one_file()
+    ensures { InEachRun DescriptorsAreOfOneFile }
+{}
+
+/// A record whose append was answered stands at its place of the file of its descriptor, and keeps that place for good.
+pub fn answered_records_stand()
+    ensures stand { InEachRun AnsweredRecordsStand }
+    ensures keep { InEachRun RecordsKeepTheirPlace }
+{}
+
+/// Two records whose appends to one file were answered share no place of it.
+pub fn answered_records_lie_apart()
+    ensures { InEachRun AnsweredRecordsLieApart }
+{}
+
+/// A later read whose answer reaches past a record shows it whole, until a later mutation covers some of it; that of another client, where it names a round no earlier than the record's.
+pub fn records_are_read()
+    ensures any { InEachRun RecordsAreRead }
+    ensures own { InEachRun OwnRecordsAreRead }
+    ensures seen { InEachRun SeenRoundsSuffice }
+{}
+
+/// In a file that nobody writes into, each record stands uncovered, and its client reads it back.
+pub fn appended_records_are_read_back()
+    ensures alone { InEachRun AppendsLeaveRecordsAlone }
+    ensures back { InEachRun AppendedRecordsAreReadBack }
+{}

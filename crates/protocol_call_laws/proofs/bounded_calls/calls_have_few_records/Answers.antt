@@ -1,5 +1,0 @@
-use Rattle.protocol_call_laws.proofs.AskedParts.{calls_have_few_records}
-use Rattle.protocol_call_laws.proofs.bounded_calls.calls_have_few_records.Goals as goal
-
-pub returns : goal.returns
-returns c = calls_have_few_records

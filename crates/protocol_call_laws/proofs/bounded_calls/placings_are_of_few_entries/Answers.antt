@@ -1,5 +1,0 @@
-use Rattle.protocol_call_laws.proofs.BoundedCalls.{placings_are_of_few_entries}
-use Rattle.protocol_call_laws.proofs.bounded_calls.placings_are_of_few_entries.Goals as goal
-
-pub returns : goal.returns
-returns c = placings_are_of_few_entries

@@ -1,5 +1,0 @@
-use Rattle.protocol_call_laws.proofs.FullBefore.{asks_past_a_chunk_find_it_full}
-use Rattle.protocol_call_laws.proofs.full_before.asks_past_a_chunk_find_it_full.Goals as goal
-
-pub returns : goal.returns
-returns c = asks_past_a_chunk_find_it_full

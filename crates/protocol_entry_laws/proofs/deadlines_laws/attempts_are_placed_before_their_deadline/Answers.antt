@@ -1,5 +1,0 @@
-use Rattle.protocol_entry_laws.proofs.Deadlines.{attempts_are_placed_before_their_deadline}
-use Rattle.protocol_entry_laws.proofs.deadlines_laws.attempts_are_placed_before_their_deadline.Goals as goal
-
-pub returns : goal.returns
-returns c = attempts_are_placed_before_their_deadline

@@ -1,5 +1,0 @@
-use Rattle.protocol_entry_laws.proofs.KeptAttempts.{numbers_that_wait_are_kept}
-use Rattle.protocol_entry_laws.proofs.kept_attempts.numbers_that_wait_are_kept.Goals as goal
-
-pub returns : goal.returns
-returns c = numbers_that_wait_are_kept

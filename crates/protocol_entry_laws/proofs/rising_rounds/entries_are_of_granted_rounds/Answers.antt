@@ -1,5 +1,0 @@
-use Rattle.protocol_entry_laws.proofs.RisingRounds.{entries_are_of_granted_rounds}
-use Rattle.protocol_entry_laws.proofs.rising_rounds.entries_are_of_granted_rounds.Goals as goal
-
-pub returns : goal.returns
-returns c = entries_are_of_granted_rounds

@@ -1,5 +1,0 @@
-use Rattle.protocol_entry_laws.proofs.SettledEntries.{waiting_mutations_have_entries}
-use Rattle.protocol_entry_laws.proofs.settled_entries.waiting_mutations_have_entries.Goals as goal
-
-pub returns : goal.returns
-returns c = waiting_mutations_have_entries

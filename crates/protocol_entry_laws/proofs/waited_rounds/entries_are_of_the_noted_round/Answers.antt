@@ -1,5 +1,0 @@
-use Rattle.protocol_entry_laws.proofs.NotedRounds.{entries_are_of_the_noted_round}
-use Rattle.protocol_entry_laws.proofs.waited_rounds.entries_are_of_the_noted_round.Goals as goal
-
-pub returns : goal.returns
-returns c = entries_are_of_the_noted_round

@@ -1,5 +1,0 @@
-use Rattle.protocol_laws.proofs.LastingLeases.{lasting_leases_are_in_the_log}
-use Rattle.protocol_laws.proofs.laws.lasting_leases_are_in_the_log.Goals as goal
-
-pub returns : goal.returns
-returns c = lasting_leases_are_in_the_log

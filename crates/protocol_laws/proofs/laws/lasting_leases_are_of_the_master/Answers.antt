@@ -1,5 +1,0 @@
-use Rattle.protocol_laws.proofs.LastingLeases.{lasting_leases_are_of_the_master}
-use Rattle.protocol_laws.proofs.laws.lasting_leases_are_of_the_master.Goals as goal
-
-pub returns : goal.returns
-returns c = lasting_leases_are_of_the_master

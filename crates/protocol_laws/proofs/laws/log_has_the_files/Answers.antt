@@ -1,5 +1,0 @@
-use Rattle.protocol_laws.proofs.NamesLogged.{log_has_the_files}
-use Rattle.protocol_laws.proofs.laws.log_has_the_files.Goals as goal
-
-pub returns : goal.returns
-returns c = log_has_the_files

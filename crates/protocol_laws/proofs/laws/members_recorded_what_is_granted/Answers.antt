@@ -1,5 +1,0 @@
-use Rattle.protocol_laws.proofs.MembersRecorded.{members_recorded_what_is_granted}
-use Rattle.protocol_laws.proofs.laws.members_recorded_what_is_granted.Goals as goal
-
-pub returns : goal.returns
-returns c = members_recorded_what_is_granted

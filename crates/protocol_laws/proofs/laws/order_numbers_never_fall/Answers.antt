@@ -1,5 +1,0 @@
-use Rattle.protocol_laws.proofs.RisingOrders.{order_numbers_never_fall}
-use Rattle.protocol_laws.proofs.laws.order_numbers_never_fall.Goals as goal
-
-pub returns : goal.returns
-returns c = order_numbers_never_fall

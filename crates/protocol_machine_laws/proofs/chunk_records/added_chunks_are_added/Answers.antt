@@ -1,5 +1,0 @@
-use Rattle.protocol_machine_laws.proofs.Adds.{added_chunks_are_added}
-use Rattle.protocol_machine_laws.proofs.chunk_records.added_chunks_are_added.Goals as goal
-
-pub returns : goal.returns
-returns c = added_chunks_are_added

@@ -1,5 +1,0 @@
-use Rattle.protocol_machine_laws.proofs.Copies.{copies_take_their_place}
-use Rattle.protocol_machine_laws.proofs.chunk_records.copies_take_their_place.Goals as goal
-
-pub returns : goal.returns
-returns c = copies_take_their_place

@@ -1,5 +1,0 @@
-use Rattle.protocol_machine_laws.proofs.Plain.{rows_of_no_file_may_change}
-use Rattle.protocol_machine_laws.proofs.chunk_records.rows_of_no_file_may_change.Goals as goal
-
-pub returns : goal.returns
-returns c = rows_of_no_file_may_change

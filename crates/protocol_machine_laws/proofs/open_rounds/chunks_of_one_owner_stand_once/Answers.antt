@@ -1,5 +1,0 @@
-use Rattle.protocol_machine_laws.proofs.OpenRounds.{chunks_of_one_owner_stand_once}
-use Rattle.protocol_machine_laws.proofs.open_rounds.chunks_of_one_owner_stand_once.Goals as goal
-
-pub returns : goal.returns
-returns c = chunks_of_one_owner_stand_once

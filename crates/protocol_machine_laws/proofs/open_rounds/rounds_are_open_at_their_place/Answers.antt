@@ -1,5 +1,0 @@
-use Rattle.protocol_machine_laws.proofs.OpenRounds.{rounds_are_open_at_their_place}
-use Rattle.protocol_machine_laws.proofs.open_rounds.rounds_are_open_at_their_place.Goals as goal
-
-pub returns : goal.returns
-returns c = rounds_are_open_at_their_place

@@ -1,5 +1,0 @@
-use Rattle.protocol_machine_laws.proofs.OpenRounds.{rounds_go_with_leases}
-use Rattle.protocol_machine_laws.proofs.open_rounds.rounds_go_with_leases.Goals as goal
-
-pub returns : goal.returns
-returns c = rounds_go_with_leases

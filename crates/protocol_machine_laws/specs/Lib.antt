@@ -1,4 +1,0 @@
-pub mod ChunksAlike
-pub mod ChunkRecords
-pub mod EntrySteps
-pub mod OpenRounds

@@ -1,5 +1,0 @@
-use Rattle.protocol_name_laws.proofs.ChunkStepsBeside.{chunk_messages_change_no_names}
-use Rattle.protocol_name_laws.proofs.chunk_steps.chunk_messages_change_no_names.Goals as goal
-
-pub returns : goal.returns
-returns c = chunk_messages_change_no_names

@@ -1,5 +1,0 @@
-use Rattle.protocol_name_laws.proofs.Explained.{name_calls_came_to_their_answer}
-use Rattle.protocol_name_laws.proofs.explained_names.name_calls_came_to_their_answer.Goals as goal
-
-pub returns : goal.returns
-returns c = name_calls_came_to_their_answer

@@ -1,5 +1,0 @@
-use Rattle.protocol_name_laws.proofs.Explained.{names_are_explained}
-use Rattle.protocol_name_laws.proofs.explained_names.names_are_explained.Goals as goal
-
-pub returns : goal.returns
-returns c = names_are_explained

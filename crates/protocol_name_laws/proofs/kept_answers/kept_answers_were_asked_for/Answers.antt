@@ -1,5 +1,0 @@
-use Rattle.protocol_name_laws.proofs.KeptAnswersReached.{kept_answers_were_asked_for}
-use Rattle.protocol_name_laws.proofs.kept_answers.kept_answers_were_asked_for.Goals as goal
-
-pub returns : goal.returns
-returns c = kept_answers_were_asked_for

@@ -1,5 +1,0 @@
-use Rattle.protocol_name_laws.proofs.KeptAnswersReached.{waiting_snapshots_were_asked_for}
-use Rattle.protocol_name_laws.proofs.kept_answers.waiting_snapshots_were_asked_for.Goals as goal
-
-pub returns : goal.returns
-returns c = waiting_snapshots_were_asked_for

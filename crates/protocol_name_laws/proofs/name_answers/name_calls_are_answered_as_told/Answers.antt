@@ -1,8 +1,0 @@
-use Rattle.protocol_name_laws.proofs.Steps.{name_calls_begin, name_calls_are_answered_as_told}
-use Rattle.protocol_name_laws.proofs.name_answers.name_calls_are_answered_as_told.Goals as goal
-
-pub returns-clause-begins : goal.returns-clause-begins
-returns-clause-begins c = name_calls_begin
-
-pub returns-clause-answered : goal.returns-clause-answered
-returns-clause-answered c = name_calls_are_answered_as_told

@@ -1,5 +1,0 @@
-use Rattle.protocol_name_laws.proofs.OpenRequestsLemmas.{answered_names_are_kept}
-use Rattle.protocol_name_laws.proofs.open_requests.answered_names_are_kept.Goals as goal
-
-pub returns : goal.returns
-returns c = answered_names_are_kept

@@ -1,5 +1,0 @@
-use Rattle.protocol_name_laws.proofs.WaitingSnapshotsWalk.{steps_leave_snapshots_unrefused}
-use Rattle.protocol_name_laws.proofs.waiting_snapshots.steps_leave_snapshots_unrefused.Goals as goal
-
-pub returns : goal.returns
-returns c = steps_leave_snapshots_unrefused

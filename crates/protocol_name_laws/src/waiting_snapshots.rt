@@ -1,8 +1,0 @@
-//! Laws of the snapshots that wait at the master.
-
-ghost use Rattle.protocol_name_laws.specs.WaitingSnapshots.{StepsLeaveSnapshotsUnrefused};
-
-/// Each step of the master leaves the snapshots that wait unrefused by the names.
-pub fn steps_leave_snapshots_unrefused()
-    ensures { StepsLeaveSnapshotsUnrefused }
-{}

@@ -1,5 +1,0 @@
-use Rattle.protocol_promises.proofs.WorkedTrace.{record_is_read_afterwards}
-use Rattle.protocol_promises.proofs.examples.record_is_read_afterwards.Goals as goal
-
-pub returns : goal.returns
-returns c = record_is_read_afterwards

@@ -1,5 +1,0 @@
-use Rattle.protocol_promises.proofs.StandingRecords.{answered_records_lie_apart}
-use Rattle.protocol_promises.proofs.records.answered_records_lie_apart.Goals as goal
-
-pub returns : goal.returns
-returns c = answered_records_lie_apart

@@ -1,9 +1,0 @@
-use Rattle.protocol_promises.proofs.LeftAlone.{appends_leave_records_alone}
-use Rattle.protocol_promises.proofs.ReadRecords.{appended_records_are_read_back}
-use Rattle.protocol_promises.proofs.records.appended_records_are_read_back.Goals as goal
-
-pub returns-clause-alone : goal.returns-clause-alone
-returns-clause-alone c = appends_leave_records_alone
-
-pub returns-clause-back : goal.returns-clause-back
-returns-clause-back c = appended_records_are_read_back

@@ -1,5 +1,0 @@
-use Rattle.protocol_promises.proofs.AnswerMoments.{descriptors_are_of_one_file}
-use Rattle.protocol_promises.proofs.records.descriptors_are_of_one_file.Goals as goal
-
-pub returns : goal.returns
-returns c = descriptors_are_of_one_file

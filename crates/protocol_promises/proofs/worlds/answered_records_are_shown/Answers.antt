@@ -1,5 +1,0 @@
-use Rattle.protocol_promises.proofs.KeptPromises.{answered_records_are_shown}
-use Rattle.protocol_promises.proofs.worlds.answered_records_are_shown.Goals as goal
-
-pub returns : goal.returns
-returns c = answered_records_are_shown

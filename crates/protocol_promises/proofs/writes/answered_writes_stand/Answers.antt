@@ -1,5 +1,0 @@
-use Rattle.protocol_promises.proofs.WrittenParts.{answered_writes_stand}
-use Rattle.protocol_promises.proofs.writes.answered_writes_stand.Goals as goal
-
-pub returns : goal.returns
-returns c = answered_writes_stand

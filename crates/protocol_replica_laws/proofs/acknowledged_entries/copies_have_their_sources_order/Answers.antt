@@ -1,5 +1,0 @@
-use Rattle.protocol_replica_laws.proofs.SkippedRounds.{copies_have_their_sources_order}
-use Rattle.protocol_replica_laws.proofs.acknowledged_entries.copies_have_their_sources_order.Goals as goal
-
-pub returns : goal.returns
-returns c = copies_have_their_sources_order

@@ -1,5 +1,0 @@
-use Rattle.protocol_replica_laws.proofs.Selections.{images_have_settled_entries}
-use Rattle.protocol_replica_laws.proofs.acknowledged_entries.images_have_settled_entries.Goals as goal
-
-pub returns : goal.returns
-returns c = images_have_settled_entries

@@ -1,5 +1,0 @@
-use Rattle.protocol_replica_laws.proofs.CopiedEntries.{copies_go_above_their_source}
-use Rattle.protocol_replica_laws.proofs.copied_entries.copies_go_above_their_source.Goals as goal
-
-pub returns : goal.returns
-returns c = copies_go_above_their_source

@@ -1,5 +1,0 @@
-use Rattle.protocol_replica_laws.proofs.HeldRounds.{records_come_behind_their_round}
-use Rattle.protocol_replica_laws.proofs.held_rounds.records_come_behind_their_round.Goals as goal
-
-pub returns : goal.returns
-returns c = records_come_behind_their_round

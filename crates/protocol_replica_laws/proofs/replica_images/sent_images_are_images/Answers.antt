@@ -1,5 +1,0 @@
-use Rattle.protocol_replica_laws.proofs.ImagesReached.{sent_images_are_images}
-use Rattle.protocol_replica_laws.proofs.replica_images.sent_images_are_images.Goals as goal
-
-pub returns : goal.returns
-returns c = sent_images_are_images

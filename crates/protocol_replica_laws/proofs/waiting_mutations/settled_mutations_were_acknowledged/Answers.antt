@@ -1,5 +1,0 @@
-use Rattle.protocol_replica_laws.proofs.Acknowledging.{settled_mutations_were_acknowledged}
-use Rattle.protocol_replica_laws.proofs.waiting_mutations.settled_mutations_were_acknowledged.Goals as goal
-
-pub returns : goal.returns
-returns c = settled_mutations_were_acknowledged

@@ -1,5 +1,0 @@
-use Rattle.protocol_runs.proofs.AskedAdds.{asks_add_the_next_chunk}
-use Rattle.protocol_runs.proofs.asked_chunks.asks_add_the_next_chunk.Goals as goal
-
-pub returns : goal.returns
-returns c = asks_add_the_next_chunk

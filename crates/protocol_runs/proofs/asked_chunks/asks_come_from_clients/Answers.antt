@@ -1,5 +1,0 @@
-use Rattle.protocol_runs.proofs.AskSenders.{asks_come_from_clients}
-use Rattle.protocol_runs.proofs.asked_chunks.asks_come_from_clients.Goals as goal
-
-pub returns : goal.returns
-returns c = asks_come_from_clients

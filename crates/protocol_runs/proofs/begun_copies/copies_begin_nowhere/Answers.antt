@@ -1,5 +1,0 @@
-use Rattle.protocol_runs.proofs.BegunCopies.{copies_begin_nowhere}
-use Rattle.protocol_runs.proofs.begun_copies.copies_begin_nowhere.Goals as goal
-
-pub returns : goal.returns
-returns c = copies_begin_nowhere

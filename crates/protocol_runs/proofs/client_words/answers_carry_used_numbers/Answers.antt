@@ -1,5 +1,0 @@
-use Rattle.protocol_runs.proofs.ClientWords.{answers_carry_used_numbers}
-use Rattle.protocol_runs.proofs.client_words.answers_carry_used_numbers.Goals as goal
-
-pub returns : goal.returns
-returns c = answers_carry_used_numbers

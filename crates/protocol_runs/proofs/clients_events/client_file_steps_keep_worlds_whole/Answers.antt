@@ -1,5 +1,0 @@
-use Rattle.protocol_runs.proofs.ClientsFileSteps.{client_file_steps_keep_worlds_whole}
-use Rattle.protocol_runs.proofs.clients_events.client_file_steps_keep_worlds_whole.Goals as goal
-
-pub returns : goal.returns
-returns c = client_file_steps_keep_worlds_whole

@@ -1,5 +1,0 @@
-use Rattle.protocol_runs.proofs.ClientsEvents.{clients_events_keep_worlds_whole}
-use Rattle.protocol_runs.proofs.clients_events.clients_events_keep_worlds_whole.Goals as goal
-
-pub returns : goal.returns
-returns c = clients_events_keep_worlds_whole

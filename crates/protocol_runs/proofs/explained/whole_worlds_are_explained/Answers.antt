@@ -1,5 +1,0 @@
-use Rattle.protocol_runs.proofs.ShownFiles.{whole_worlds_are_explained}
-use Rattle.protocol_runs.proofs.explained.whole_worlds_are_explained.Goals as goal
-
-pub returns : goal.returns
-returns c = whole_worlds_are_explained

@@ -1,5 +1,0 @@
-use Rattle.protocol_runs.proofs.HoldersGoOn.{holders_may_go_on}
-use Rattle.protocol_runs.proofs.holders_go_on.holders_may_go_on.Goals as goal
-
-pub returns : goal.returns
-returns c = holders_may_go_on

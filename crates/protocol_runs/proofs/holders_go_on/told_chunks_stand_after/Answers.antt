@@ -1,5 +1,0 @@
-use Rattle.protocol_runs.proofs.ToldStands.{told_chunks_stand_after}
-use Rattle.protocol_runs.proofs.holders_go_on.told_chunks_stand_after.Goals as goal
-
-pub returns : goal.returns
-returns c = told_chunks_stand_after

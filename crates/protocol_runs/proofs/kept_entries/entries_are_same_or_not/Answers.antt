@@ -1,5 +1,0 @@
-use Rattle.protocol_runs.proofs.KeptEntries.{entries_are_same_or_not}
-use Rattle.protocol_runs.proofs.kept_entries.entries_are_same_or_not.Goals as goal
-
-pub returns : goal.returns
-returns c = entries_are_same_or_not

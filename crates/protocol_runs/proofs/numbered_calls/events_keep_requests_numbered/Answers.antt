@@ -1,5 +1,0 @@
-use Rattle.protocol_runs.proofs.RequestsNumbered.{events_keep_requests_numbered}
-use Rattle.protocol_runs.proofs.numbered_calls.events_keep_requests_numbered.Goals as goal
-
-pub returns : goal.returns
-returns c = events_keep_requests_numbered

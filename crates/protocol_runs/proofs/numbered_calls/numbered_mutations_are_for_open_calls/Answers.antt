@@ -1,5 +1,0 @@
-use Rattle.protocol_runs.proofs.NumberedCalls.{numbered_mutations_are_for_open_calls}
-use Rattle.protocol_runs.proofs.numbered_calls.numbered_mutations_are_for_open_calls.Goals as goal
-
-pub returns : goal.returns
-returns c = numbered_mutations_are_for_open_calls

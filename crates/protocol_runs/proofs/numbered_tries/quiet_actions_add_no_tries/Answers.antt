@@ -1,5 +1,0 @@
-use Rattle.protocol_runs.proofs.QuietTries.{quiet_actions_add_no_tries}
-use Rattle.protocol_runs.proofs.numbered_tries.quiet_actions_add_no_tries.Goals as goal
-
-pub returns : goal.returns
-returns c = quiet_actions_add_no_tries

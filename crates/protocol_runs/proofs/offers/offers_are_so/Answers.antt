@@ -1,5 +1,0 @@
-use Rattle.protocol_runs.proofs.AllOffers.{offers_are_so}
-use Rattle.protocol_runs.proofs.offers.offers_are_so.Goals as goal
-
-pub returns : goal.returns
-returns c = offers_are_so

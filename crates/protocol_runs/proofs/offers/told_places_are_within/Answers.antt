@@ -1,5 +1,0 @@
-use Rattle.protocol_runs.proofs.ToldPlaces.{told_places_are_within}
-use Rattle.protocol_runs.proofs.offers.told_places_are_within.Goals as goal
-
-pub returns : goal.returns
-returns c = told_places_are_within

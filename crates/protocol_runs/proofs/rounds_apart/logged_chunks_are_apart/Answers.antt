@@ -1,5 +1,0 @@
-use Rattle.protocol_runs.proofs.RoundsApart.{logged_chunks_are_apart}
-use Rattle.protocol_runs.proofs.rounds_apart.logged_chunks_are_apart.Goals as goal
-
-pub returns : goal.returns
-returns c = logged_chunks_are_apart

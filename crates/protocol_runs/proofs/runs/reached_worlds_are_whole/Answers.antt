@@ -1,5 +1,0 @@
-use Rattle.protocol_runs.proofs.Induction.{reached_worlds_are_whole}
-use Rattle.protocol_runs.proofs.runs.reached_worlds_are_whole.Goals as goal
-
-pub returns : goal.returns
-returns c = reached_worlds_are_whole

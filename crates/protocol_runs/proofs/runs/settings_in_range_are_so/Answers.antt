@@ -1,5 +1,0 @@
-use Rattle.protocol_runs.proofs.SettingsInRange.{settings_in_range_are_so}
-use Rattle.protocol_runs.proofs.runs.settings_in_range_are_so.Goals as goal
-
-pub returns : goal.returns
-returns c = settings_in_range_are_so

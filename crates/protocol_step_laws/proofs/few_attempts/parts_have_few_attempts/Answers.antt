@@ -1,5 +1,0 @@
-use Rattle.protocol_step_laws.proofs.FewAttempts.{parts_have_few_attempts}
-use Rattle.protocol_step_laws.proofs.few_attempts.parts_have_few_attempts.Goals as goal
-
-pub returns : goal.returns
-returns c = parts_have_few_attempts

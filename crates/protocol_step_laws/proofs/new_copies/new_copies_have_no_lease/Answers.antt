@@ -1,5 +1,0 @@
-use Rattle.protocol_step_laws.proofs.Unleased.{new_copies_have_no_lease}
-use Rattle.protocol_step_laws.proofs.new_copies.new_copies_have_no_lease.Goals as goal
-
-pub returns : goal.returns
-returns c = new_copies_have_no_lease

@@ -1,5 +1,0 @@
-use Rattle.protocol_step_laws.proofs.ReadAnswers.{reads_are_of_the_told_version}
-use Rattle.protocol_step_laws.proofs.reads.reads_are_of_the_told_version.Goals as goal
-
-pub returns : goal.returns
-returns c = reads_are_of_the_told_version

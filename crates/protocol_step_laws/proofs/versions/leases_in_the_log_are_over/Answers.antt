@@ -1,5 +1,0 @@
-use Rattle.protocol_step_laws.proofs.EndedLeases.{leases_in_the_log_are_over}
-use Rattle.protocol_step_laws.proofs.versions.leases_in_the_log_are_over.Goals as goal
-
-pub returns : goal.returns
-returns c = leases_in_the_log_are_over

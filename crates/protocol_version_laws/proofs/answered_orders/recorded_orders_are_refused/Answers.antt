@@ -1,5 +1,0 @@
-use Rattle.protocol_version_laws.proofs.AnsweredOrders.{recorded_orders_are_refused}
-use Rattle.protocol_version_laws.proofs.answered_orders.recorded_orders_are_refused.Goals as goal
-
-pub returns : goal.returns
-returns c = recorded_orders_are_refused

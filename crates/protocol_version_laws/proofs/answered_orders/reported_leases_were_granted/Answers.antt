@@ -1,5 +1,0 @@
-use Rattle.protocol_version_laws.proofs.AnsweredOrders.{reported_leases_were_granted}
-use Rattle.protocol_version_laws.proofs.answered_orders.reported_leases_were_granted.Goals as goal
-
-pub returns : goal.returns
-returns c = reported_leases_were_granted

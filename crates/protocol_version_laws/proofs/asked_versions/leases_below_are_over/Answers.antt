@@ -1,5 +1,0 @@
-use Rattle.protocol_version_laws.proofs.LeasesBelow.{leases_below_are_over}
-use Rattle.protocol_version_laws.proofs.asked_versions.leases_below_are_over.Goals as goal
-
-pub returns : goal.returns
-returns c = leases_below_are_over

@@ -1,5 +1,0 @@
-use Rattle.protocol_version_laws.proofs.AwaitedChunks.{awaited_chunks_are_not_tried}
-use Rattle.protocol_version_laws.proofs.awaited_chunks.awaited_chunks_are_not_tried.Goals as goal
-
-pub returns : goal.returns
-returns c = awaited_chunks_are_not_tried

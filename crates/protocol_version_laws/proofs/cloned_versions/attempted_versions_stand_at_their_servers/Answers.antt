@@ -1,5 +1,0 @@
-use Rattle.protocol_version_laws.proofs.ClonedVersions.{attempted_versions_stand_at_their_servers}
-use Rattle.protocol_version_laws.proofs.cloned_versions.attempted_versions_stand_at_their_servers.Goals as goal
-
-pub returns : goal.returns
-returns c = attempted_versions_stand_at_their_servers

@@ -1,5 +1,0 @@
-use Rattle.protocol_version_laws.proofs.CopySources.{copies_are_of_closed_versions}
-use Rattle.protocol_version_laws.proofs.cloned_versions.copies_are_of_closed_versions.Goals as goal
-
-pub returns : goal.returns
-returns c = copies_are_of_closed_versions

@@ -1,5 +1,0 @@
-use Rattle.protocol_version_laws.proofs.ClonedVersions.{ordered_versions_were_issued}
-use Rattle.protocol_version_laws.proofs.cloned_versions.ordered_versions_were_issued.Goals as goal
-
-pub returns : goal.returns
-returns c = ordered_versions_were_issued

@@ -1,5 +1,0 @@
-use Rattle.protocol_version_laws.proofs.ClonedVersions.{replicas_are_of_issued_versions}
-use Rattle.protocol_version_laws.proofs.cloned_versions.replicas_are_of_issued_versions.Goals as goal
-
-pub returns : goal.returns
-returns c = replicas_are_of_issued_versions

@@ -1,5 +1,0 @@
-use Rattle.protocol_version_laws.proofs.UsedGrants.{entries_are_of_used_grants}
-use Rattle.protocol_version_laws.proofs.empty_grants.entries_are_of_used_grants.Goals as goal
-
-pub returns : goal.returns
-returns c = entries_are_of_used_grants

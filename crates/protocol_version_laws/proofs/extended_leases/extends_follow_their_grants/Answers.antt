@@ -1,5 +1,0 @@
-use Rattle.protocol_version_laws.proofs.ExtendLaws.{extends_follow_their_grants}
-use Rattle.protocol_version_laws.proofs.extended_leases.extends_follow_their_grants.Goals as goal
-
-pub returns : goal.returns
-returns c = extends_follow_their_grants

@@ -1,5 +1,0 @@
-use Rattle.protocol_version_laws.proofs.RefusedOrders.{held_versions_refuse_their_order}
-use Rattle.protocol_version_laws.proofs.given_once.held_versions_refuse_their_order.Goals as goal
-
-pub returns : goal.returns
-returns c = held_versions_refuse_their_order

@@ -1,5 +1,0 @@
-use Rattle.protocol_version_laws.proofs.GivenOnce.{versions_are_given_once}
-use Rattle.protocol_version_laws.proofs.given_once.versions_are_given_once.Goals as goal
-
-pub returns : goal.returns
-returns c = versions_are_given_once

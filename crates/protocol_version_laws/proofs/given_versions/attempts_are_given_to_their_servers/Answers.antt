@@ -1,5 +1,0 @@
-use Rattle.protocol_version_laws.proofs.GivenVersions.{attempts_are_given_to_their_servers}
-use Rattle.protocol_version_laws.proofs.given_versions.attempts_are_given_to_their_servers.Goals as goal
-
-pub returns : goal.returns
-returns c = attempts_are_given_to_their_servers

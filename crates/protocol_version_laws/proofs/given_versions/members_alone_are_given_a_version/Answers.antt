@@ -1,5 +1,0 @@
-use Rattle.protocol_version_laws.proofs.GivenVersions.{members_alone_are_given_a_version}
-use Rattle.protocol_version_laws.proofs.given_versions.members_alone_are_given_a_version.Goals as goal
-
-pub returns : goal.returns
-returns c = members_alone_are_given_a_version

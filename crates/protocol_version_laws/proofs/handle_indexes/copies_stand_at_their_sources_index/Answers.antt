@@ -1,5 +1,0 @@
-use Rattle.protocol_version_laws.proofs.CopiesPlaced.{copies_stand_at_their_sources_index}
-use Rattle.protocol_version_laws.proofs.handle_indexes.copies_stand_at_their_sources_index.Goals as goal
-
-pub returns : goal.returns
-returns c = copies_stand_at_their_sources_index

@@ -1,5 +1,0 @@
-use Rattle.protocol_version_laws.proofs.EntryIndexes.{entries_stand_at_their_told_index}
-use Rattle.protocol_version_laws.proofs.handle_indexes.entries_stand_at_their_told_index.Goals as goal
-
-pub returns : goal.returns
-returns c = entries_stand_at_their_told_index

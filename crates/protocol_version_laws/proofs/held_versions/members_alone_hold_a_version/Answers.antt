@@ -1,5 +1,0 @@
-use Rattle.protocol_version_laws.proofs.HeldVersions.{members_alone_hold_a_version}
-use Rattle.protocol_version_laws.proofs.held_versions.members_alone_hold_a_version.Goals as goal
-
-pub returns : goal.returns
-returns c = members_alone_hold_a_version

@@ -1,5 +1,0 @@
-use Rattle.protocol_version_laws.proofs.IssuedVersions.{issued_chunks_have_no_lease}
-use Rattle.protocol_version_laws.proofs.issued_versions.issued_chunks_have_no_lease.Goals as goal
-
-pub returns : goal.returns
-returns c = issued_chunks_have_no_lease

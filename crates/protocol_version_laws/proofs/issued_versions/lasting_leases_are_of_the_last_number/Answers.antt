@@ -1,5 +1,0 @@
-use Rattle.protocol_version_laws.proofs.IssuedVersions.{lasting_leases_are_of_the_last_number}
-use Rattle.protocol_version_laws.proofs.issued_versions.lasting_leases_are_of_the_last_number.Goals as goal
-
-pub returns : goal.returns
-returns c = lasting_leases_are_of_the_last_number

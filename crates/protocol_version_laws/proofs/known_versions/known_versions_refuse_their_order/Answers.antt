@@ -1,5 +1,0 @@
-use Rattle.protocol_version_laws.proofs.KnownVersions.{known_versions_refuse_their_order}
-use Rattle.protocol_version_laws.proofs.known_versions.known_versions_refuse_their_order.Goals as goal
-
-pub returns : goal.returns
-returns c = known_versions_refuse_their_order

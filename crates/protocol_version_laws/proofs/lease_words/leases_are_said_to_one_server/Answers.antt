@@ -1,5 +1,0 @@
-use Rattle.protocol_version_laws.proofs.LeaseWords.{leases_are_said_to_one_server}
-use Rattle.protocol_version_laws.proofs.lease_words.leases_are_said_to_one_server.Goals as goal
-
-pub returns : goal.returns
-returns c = leases_are_said_to_one_server

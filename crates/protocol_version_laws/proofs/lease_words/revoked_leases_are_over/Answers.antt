@@ -1,5 +1,0 @@
-use Rattle.protocol_version_laws.proofs.LeaseLaws.{revoked_leases_are_over}
-use Rattle.protocol_version_laws.proofs.lease_words.revoked_leases_are_over.Goals as goal
-
-pub returns : goal.returns
-returns c = revoked_leases_are_over

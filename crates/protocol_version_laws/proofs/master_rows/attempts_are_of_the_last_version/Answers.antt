@@ -1,5 +1,0 @@
-use Rattle.protocol_version_laws.proofs.AttemptedNumbers.{attempts_are_of_the_last_version}
-use Rattle.protocol_version_laws.proofs.master_rows.attempts_are_of_the_last_version.Goals as goal
-
-pub returns : goal.returns
-returns c = attempts_are_of_the_last_version

@@ -1,5 +1,0 @@
-use Rattle.protocol_version_laws.proofs.MasterRows.{grants_agree_with_rows}
-use Rattle.protocol_version_laws.proofs.master_rows.grants_agree_with_rows.Goals as goal
-
-pub returns : goal.returns
-returns c = grants_agree_with_rows

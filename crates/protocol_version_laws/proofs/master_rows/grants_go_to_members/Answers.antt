@@ -1,5 +1,0 @@
-use Rattle.protocol_version_laws.proofs.GrantedMembers.{grants_go_to_members}
-use Rattle.protocol_version_laws.proofs.master_rows.grants_go_to_members.Goals as goal
-
-pub returns : goal.returns
-returns c = grants_go_to_members

@@ -1,5 +1,0 @@
-use Rattle.protocol_version_laws.proofs.MasterRows.{held_leases_have_used_grants}
-use Rattle.protocol_version_laws.proofs.master_rows.held_leases_have_used_grants.Goals as goal
-
-pub returns : goal.returns
-returns c = held_leases_have_used_grants

@@ -1,5 +1,0 @@
-use Rattle.protocol_version_laws.proofs.MasterRows.{orders_are_of_used_handles}
-use Rattle.protocol_version_laws.proofs.master_rows.orders_are_of_used_handles.Goals as goal
-
-pub returns : goal.returns
-returns c = orders_are_of_used_handles

@@ -1,5 +1,0 @@
-use Rattle.protocol_version_laws.proofs.NodeClocks.{no_node_is_ahead}
-use Rattle.protocol_version_laws.proofs.node_clocks.no_node_is_ahead.Goals as goal
-
-pub returns : goal.returns
-returns c = no_node_is_ahead

@@ -1,5 +1,0 @@
-use Rattle.protocol_version_laws.proofs.RaisedVersions.{raises_skip_no_grant}
-use Rattle.protocol_version_laws.proofs.raised_versions.raises_skip_no_grant.Goals as goal
-
-pub returns : goal.returns
-returns c = raises_skip_no_grant

@@ -1,5 +1,0 @@
-use Rattle.protocol_version_laws.proofs.ReplacedChunks.{replaced_chunks_have_no_lease}
-use Rattle.protocol_version_laws.proofs.replaced_chunks.replaced_chunks_have_no_lease.Goals as goal
-
-pub returns : goal.returns
-returns c = replaced_chunks_have_no_lease

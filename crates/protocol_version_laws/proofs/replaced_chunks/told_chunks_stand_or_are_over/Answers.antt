@@ -1,5 +1,0 @@
-use Rattle.protocol_version_laws.proofs.ReplacedChunks.{told_chunks_stand_or_are_over}
-use Rattle.protocol_version_laws.proofs.replaced_chunks.told_chunks_stand_or_are_over.Goals as goal
-
-pub returns : goal.returns
-returns c = told_chunks_stand_or_are_over

@@ -1,5 +1,0 @@
-use Rattle.protocol_version_laws.proofs.TakenOrders.{pending_clones_are_of_taken_orders}
-use Rattle.protocol_version_laws.proofs.taken_orders.pending_clones_are_of_taken_orders.Goals as goal
-
-pub returns : goal.returns
-returns c = pending_clones_are_of_taken_orders

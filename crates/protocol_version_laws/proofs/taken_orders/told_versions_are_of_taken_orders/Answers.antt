@@ -1,5 +1,0 @@
-use Rattle.protocol_version_laws.proofs.ToldOrders.{told_versions_are_of_taken_orders}
-use Rattle.protocol_version_laws.proofs.taken_orders.told_versions_are_of_taken_orders.Goals as goal
-
-pub returns : goal.returns
-returns c = told_versions_are_of_taken_orders

@@ -1,5 +1,0 @@
-use Rattle.protocol_whole_laws.proofs.ChunkReadings.{selections_go_by_rounds}
-use Rattle.protocol_whole_laws.proofs.chunk_readings.selections_go_by_rounds.Goals as goal
-
-pub returns : goal.returns
-returns c = selections_go_by_rounds

@@ -1,5 +1,0 @@
-use Rattle.protocol_whole_laws.proofs.ChunksBeside.{new_chunks_are_beside}
-use Rattle.protocol_whole_laws.proofs.chunks_beside.new_chunks_are_beside.Goals as goal
-
-pub returns : goal.returns
-returns c = new_chunks_are_beside

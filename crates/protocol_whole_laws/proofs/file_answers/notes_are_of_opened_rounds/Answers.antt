@@ -1,5 +1,0 @@
-use Rattle.protocol_whole_laws.proofs.NotesBelow.{notes_are_of_opened_rounds}
-use Rattle.protocol_whole_laws.proofs.file_answers.notes_are_of_opened_rounds.Goals as goal
-
-pub returns : goal.returns
-returns c = notes_are_of_opened_rounds

@@ -1,5 +1,0 @@
-use Rattle.protocol_whole_laws.proofs.FileAnswers.{settled_entries_are_successes}
-use Rattle.protocol_whole_laws.proofs.file_answers.settled_entries_are_successes.Goals as goal
-
-pub returns : goal.returns
-returns c = settled_entries_are_successes

@@ -1,5 +1,0 @@
-use Rattle.protocol_whole_laws.proofs.FileCallsBegun.{file_calls_are_begun}
-use Rattle.protocol_whole_laws.proofs.file_calls_begin.file_calls_are_begun.Goals as goal
-
-pub returns : goal.returns
-returns c = file_calls_are_begun

@@ -1,5 +1,0 @@
-use Rattle.protocol_whole_laws.proofs.FileClientsStay.{file_clients_stay}
-use Rattle.protocol_whole_laws.proofs.file_clients_stay.file_clients_stay.Goals as goal
-
-pub returns : goal.returns
-returns c = file_clients_stay

@@ -1,5 +1,0 @@
-use Rattle.protocol_whole_laws.proofs.FileOpenings.{name_steps_keep_files}
-use Rattle.protocol_whole_laws.proofs.file_openings.name_steps_keep_files.Goals as goal
-
-pub returns : goal.returns
-returns c = name_steps_keep_files

@@ -1,5 +1,0 @@
-use Rattle.protocol_whole_laws.proofs.RecordDues.{steps_log_what_is_due}
-use Rattle.protocol_whole_laws.proofs.record_dues.steps_log_what_is_due.Goals as goal
-
-pub returns : goal.returns
-returns c = steps_log_what_is_due

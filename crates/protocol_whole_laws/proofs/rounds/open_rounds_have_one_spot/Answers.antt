@@ -1,5 +1,0 @@
-use Rattle.protocol_whole_laws.proofs.EndedRounds.{open_rounds_have_one_spot}
-use Rattle.protocol_whole_laws.proofs.rounds.open_rounds_have_one_spot.Goals as goal
-
-pub returns : goal.returns
-returns c = open_rounds_have_one_spot

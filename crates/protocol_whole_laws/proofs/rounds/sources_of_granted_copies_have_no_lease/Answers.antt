@@ -1,5 +1,0 @@
-use Rattle.protocol_whole_laws.proofs.GrantedSources.{sources_of_granted_copies_have_no_lease}
-use Rattle.protocol_whole_laws.proofs.rounds.sources_of_granted_copies_have_no_lease.Goals as goal
-
-pub returns : goal.returns
-returns c = sources_of_granted_copies_have_no_lease

@@ -1,5 +1,0 @@
-use Rattle.protocol_whole_laws.proofs.ToldHolders.{answers_show_the_chunk}
-use Rattle.protocol_whole_laws.proofs.told_holders.answers_show_the_chunk.Goals as goal
-
-pub returns : goal.returns
-returns c = answers_show_the_chunk

@@ -1,5 +1,0 @@
-use Rattle.protocol_whole_laws.proofs.ToldHolders.{logged_chunks_are_last_rounds}
-use Rattle.protocol_whole_laws.proofs.told_holders.logged_chunks_are_last_rounds.Goals as goal
-
-pub returns : goal.returns
-returns c = logged_chunks_are_last_rounds

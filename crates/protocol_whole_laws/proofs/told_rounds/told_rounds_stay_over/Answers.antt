@@ -1,5 +1,0 @@
-use Rattle.protocol_whole_laws.proofs.ToldRounds.{told_rounds_stay_over}
-use Rattle.protocol_whole_laws.proofs.told_rounds.told_rounds_stay_over.Goals as goal
-
-pub returns : goal.returns
-returns c = told_rounds_stay_over

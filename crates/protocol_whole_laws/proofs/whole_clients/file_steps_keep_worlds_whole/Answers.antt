@@ -1,5 +1,0 @@
-use Rattle.protocol_whole_laws.proofs.WholeClients.{file_steps_keep_worlds_whole}
-use Rattle.protocol_whole_laws.proofs.whole_clients.file_steps_keep_worlds_whole.Goals as goal
-
-pub returns : goal.returns
-returns c = file_steps_keep_worlds_whole

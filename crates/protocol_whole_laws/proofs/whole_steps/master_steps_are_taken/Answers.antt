@@ -1,5 +1,0 @@
-use Rattle.protocol_whole_laws.proofs.WholeSteps.{master_steps_are_taken}
-use Rattle.protocol_whole_laws.proofs.whole_steps.master_steps_are_taken.Goals as goal
-
-pub returns : goal.returns
-returns c = master_steps_are_taken

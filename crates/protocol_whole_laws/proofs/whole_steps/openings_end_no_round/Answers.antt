@@ -1,5 +1,0 @@
-use Rattle.protocol_whole_laws.proofs.WholeRestarts.{openings_end_no_round}
-use Rattle.protocol_whole_laws.proofs.whole_steps.openings_end_no_round.Goals as goal
-
-pub returns : goal.returns
-returns c = openings_end_no_round

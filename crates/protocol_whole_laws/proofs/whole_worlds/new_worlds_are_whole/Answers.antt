@@ -1,5 +1,0 @@
-use Rattle.protocol_whole_laws.proofs.WholeWorlds.{new_worlds_are_whole}
-use Rattle.protocol_whole_laws.proofs.whole_worlds.new_worlds_are_whole.Goals as goal
-
-pub returns : goal.returns
-returns c = new_worlds_are_whole

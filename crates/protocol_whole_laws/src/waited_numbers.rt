@@ -1,8 +1,0 @@
-//! Laws of the numbers of data for whose place clients wait.
-
-ghost use Rattle.protocol_whole_laws.specs.WaitedNumbers.{WaitedNumbersAreOfTheOpenCall};
-
-/// A number for whose data a client waits was used in the call that is open.
-pub fn waited_numbers_are_of_the_open_call()
-    ensures { WaitedNumbersAreOfTheOpenCall }
-{}

@@ -1,2 +1,0 @@
-pub mod PathsApart
-pub mod Unrefused

@@ -1,0 +1,32 @@
+//! Tests of `shell`, and callers of the tables that stand alone.
+#![tactic(auto)]
+
+pub mod callers;
+#[cfg(test)]
+mod chunk;
+#[cfg(test)]
+mod counts;
+#[cfg(test)]
+mod failing;
+#[cfg(test)]
+mod file;
+#[cfg(test)]
+mod lines;
+#[cfg(test)]
+mod model;
+#[cfg(test)]
+mod outcome;
+#[cfg(test)]
+mod primary;
+#[cfg(test)]
+mod random;
+#[cfg(test)]
+mod records;
+#[cfg(test)]
+mod refused;
+#[cfg(test)]
+mod region;
+#[cfg(test)]
+mod small;
+#[cfg(test)]
+mod source;

@@ -1,0 +1,158 @@
+//! One server's read is held up until another's was answered.
+
+use crate::cells::{small, wait_for};
+use crate::producers::{Found, append, create, look, open};
+use cell_journal::entry::Taking;
+use cell_run::cell::{Cell, ClientSeat};
+use cell_seats::gate::Gate;
+use gfs_types::ids::{Node, ServerId};
+use messages::event::Input;
+use messages::message::Body;
+use std::alloc::{AllocError, Global};
+use std::sync::atomic::{AtomicU64, Ordering};
+use std::sync::{Arc, Wait};
+use std::test::*;
+use std::thread;
+use std::thread::Threads;
+use std::time::Clock;
+
+/// Holds the reads of server 1 until `answered` is set, at most for so many milliseconds; then it sets it to 2 itself. Counts them.
+#[derive(Drop)]
+struct ReadGate<R: Clock + Copy + Drop> {
+    clock: R,
+    answered: Arc<AtomicU64>,
+    held: Arc<AtomicU64>,
+}
+
+const RECORD: [u8; 8] = *b"a record";
+
+impl<R: Clock + Copy + Drop> Clone for ReadGate<R> {
+    fn clone(&self) -> Result<ReadGate<R>, AllocError> {
+        Ok(ReadGate {
+            clock: self.clock,
+            answered: Arc::try_clone(&self.answered)?,
+            held: Arc::try_clone(&self.held)?,
+        })
+    }
+}
+
+fn is_read(taking: &Taking) -> bool {
+    match taking {
+        Taking::Takes(Input::Deliver(message)) => matches!(message.body, Body::Read { .. }),
+        _ => false,
+    }
+}
+
+impl<R: Clock + Copy + Drop> Gate for ReadGate<R> {
+    fn before(&self, node: Node, taking: &Taking) {
+        if node != Node::Server(ServerId(1)) || !is_read(taking) {
+            return;
+        }
+        self.held.fetch_add(1, Ordering::SeqCst);
+        wait_for(&self.clock, &self.answered, 1);
+        if self.answered.load(Ordering::SeqCst) == 0 {
+            self.answered.store(2, Ordering::SeqCst);
+        }
+    }
+}
+
+// Makes a file with one record, and tells whether it did.
+fn fill<R: Wait + Clock>(rt: &R, alloc: Global, seat: &mut ClientSeat, name: &str) -> bool {
+    if !create(rt, alloc, seat, name) {
+        return false;
+    }
+    match open(rt, alloc, seat, name) {
+        Some(fd) => append(rt, alloc, seat, fd, &RECORD).is_ok(),
+        None => false,
+    }
+}
+
+fn reads<R: Wait + Clock>(rt: &R, alloc: Global, seat: &mut ClientSeat, name: &str) -> bool {
+    match open(rt, alloc, seat, name) {
+        Some(fd) => look(rt, seat, fd, 0, &RECORD) == Found::Same,
+        None => false,
+    }
+}
+
+/// A client, and whether it read what it had to.
+#[derive(Drop)]
+struct Reader {
+    seat: ClientSeat,
+    has_read: bool,
+}
+
+impl Reader {
+    // The first one reads where reads are held. Once one is, the second one reads elsewhere, and then lets the first one's pass.
+    fn read<R: Wait + Clock>(
+        &mut self,
+        rt: &R,
+        alloc: Global,
+        place: usize,
+        (held, answered): (&AtomicU64, &AtomicU64),
+    ) {
+        if place == 0 {
+            self.has_read = reads(rt, alloc, &mut self.seat, "/a");
+        } else {
+            wait_for(rt, held, 1);
+            let has_read = reads(rt, alloc, &mut self.seat, "/b");
+            let before = answered.swap(1, Ordering::SeqCst);
+            self.has_read = has_read && before == 0;
+        }
+    }
+}
+
+// Two readers, and a file on each server.
+fn new_readers<R: Wait + Clock>(rt: &R, alloc: Global, cell: &mut Cell) -> Option<Vec<Reader>> {
+    let mut seat = cell.client().ok()?;
+    let are_full = fill(rt, alloc, &mut seat, "/a") && fill(rt, alloc, &mut seat, "/b");
+    drop(seat);
+    if !are_full {
+        return None;
+    }
+    let mut all = Vec::new(alloc);
+    for _ in 0..2 {
+        let reader = Reader {
+            seat: cell.client().ok()?,
+            has_read: false,
+        };
+        all.push(reader).ok()?;
+    }
+    Some(all)
+}
+
+fn both_read<R: Threads + Wait + Clock + Sync>(
+    rt: &R,
+    alloc: Global,
+    cell: &mut Cell,
+    held: &AtomicU64,
+    answered: &AtomicU64,
+) -> bool {
+    let Some(mut readers) = new_readers(rt, alloc, cell) else {
+        return false;
+    };
+    thread::for_each_mut(
+        rt,
+        readers.as_mut_slice(),
+        2,
+        &|place, reader| reader.read(rt, alloc, place, (held, answered)),
+    );
+    readers.iter().all(|reader| reader.has_read)
+}
+
+#[test]
+fn one_server_is_held_and_another_answers(rt: HostRuntime) -> Result<(), Fail> {
+    let alloc = rt.alloc();
+    let answered = Arc::new(alloc, AtomicU64::new(0))?;
+    let held = Arc::new(alloc, AtomicU64::new(0))?;
+    let gate = ReadGate {
+        clock: rt,
+        answered: Arc::try_clone(&answered)?,
+        held: Arc::try_clone(&held)?,
+    };
+    let mut cell = Cell::start(rt, alloc, small(1), 2, gate)?;
+    let have_read = both_read(&rt, alloc, &mut cell, &held, &answered);
+    drop(cell.close(&rt));
+    assert!(rt; have_read);
+    assert!(rt; held.load(Ordering::SeqCst) == 1);
+    Ok(())
+}

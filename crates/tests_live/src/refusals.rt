@@ -1,0 +1,171 @@
+//! What a running cell itself refuses.
+
+use crate::cells::small;
+use cell_run::cell::{Cell, ClientSeat};
+use cell_seats::gate::OpenGate;
+use cell_seats::post::Policy;
+use gfs_types::config::Config;
+use gfs_types::lists::Text;
+use gfs_types::refusal::Refusal;
+use std::alloc::Global;
+use std::sync::Wait;
+use std::test::*;
+use std::thread::{JoinHandle, Threads};
+use std::time::{Clock, Duration};
+use std::{io, thread};
+
+/// A clock that is ahead by an hour, or can't be read.
+#[derive(Clone, Copy)]
+struct OddClock<R> {
+    rt: R,
+    is_broken: bool,
+}
+
+impl<R: Wait> Wait for OddClock<R> {}
+
+impl<R: Clock> Clock for OddClock<R> {
+    fn monotonic(&self) -> io::Result<Duration> {
+        if self.is_broken {
+            return Err(io::Error::from(io::ErrorKind::Unsupported));
+        }
+        Ok(
+            self.rt
+                .monotonic()?
+                .saturating_add(Duration::from_secs(3_600)),
+        )
+    }
+
+    fn since_1970(&self) -> io::Result<Duration> {
+        self.rt.since_1970()
+    }
+}
+
+fn mkdir<R: Wait + Clock>(
+    rt: &R,
+    alloc: Global,
+    seat: &mut ClientSeat,
+    name: &str,
+) -> Result<(), Refusal> {
+    match Text::from_str(name, alloc) {
+        Ok(path) => seat.mkdir(rt, path),
+        Err(_) => Err(Refusal::NoMemory),
+    }
+}
+
+// How many of a hundred calls were refused since the journal is full, if none after the first such was not.
+fn full_calls<R: Wait + Clock>(rt: &R, alloc: Global, cell: &mut Cell) -> Option<u64> {
+    let mut seat = cell.client().ok()?;
+    let mut full: u64 = 0;
+    for _ in 0..100 {
+        match mkdir(rt, alloc, &mut seat, "/d") {
+            Err(Refusal::JournalFull) => full = full.wrapping_add(1),
+            _ if full > 0 => return None,
+            _ => {}
+        }
+    }
+    Some(full)
+}
+
+#[test]
+fn a_full_journal_is_refused(rt: HostRuntime) -> Result<(), Fail> {
+    let alloc = rt.alloc();
+    let config = Config {
+        journal: 16,
+        ..small(3)
+    };
+    let mut cell = Cell::start(rt, alloc, config, 3, OpenGate)?;
+    let full = full_calls(&rt, alloc, &mut cell);
+    let journal = cell.close(&rt);
+    let count = journal.len();
+    drop(journal);
+    assert!(rt; count == 16);
+    assert!(rt; full > Some(90));
+    Ok(())
+}
+
+// Whether a call by an odd clock is refused so, and each later one too, whatever its clock: of that client where the clock can't be read, and
+// of another where it is ahead of the master's.
+fn are_refused<R: Wait + Clock + Copy>(
+    rt: &R,
+    alloc: Global,
+    cell: &mut Cell,
+    is_broken: bool,
+) -> bool {
+    let Ok(mut odd) = cell.client() else {
+        return false;
+    };
+    let Ok(mut other) = cell.client() else {
+        return false;
+    };
+    let clock = OddClock { rt: *rt, is_broken };
+    let before = mkdir(rt, alloc, &mut other, "/d");
+    let first = mkdir(&clock, alloc, &mut odd, "/e");
+    let later = if is_broken {
+        mkdir(rt, alloc, &mut odd, "/f")
+    } else {
+        mkdir(rt, alloc, &mut other, "/f")
+    };
+    before == Ok(()) && first == Err(Refusal::ClockBroken) && later == first
+}
+
+#[test]
+fn odd_clocks_are_refused(rt: HostRuntime) -> Result<(), Fail> {
+    let alloc = rt.alloc();
+    for is_broken in [true, false] {
+        let mut cell = Cell::start(rt, alloc, small(3), 1, OpenGate)?;
+        let is_well = are_refused(&rt, alloc, &mut cell, is_broken);
+        let journal = cell.close(&rt);
+        let are_kept = journal.are_clocks_kept();
+        drop(journal);
+        assert!(rt; is_well);
+        assert!(rt; is_broken || !are_kept);
+    }
+    Ok(())
+}
+
+#[test]
+fn there_are_64_clients(rt: HostRuntime) -> Result<(), Fail> {
+    let alloc = rt.alloc();
+    let mut cell = Cell::start(rt, alloc, small(3), 1, OpenGate)?;
+    let mut made: u64 = 0;
+    for _ in 0..66 {
+        if cell.client().is_ok() {
+            made = made.wrapping_add(1);
+        }
+    }
+    drop(cell.close(&rt));
+    assert!(rt; made == 64);
+    Ok(())
+}
+
+// A call that waits on a thread of its own; then its client is dropped. Tells whether it was refused since the cell closes.
+fn waiting_call<R: Threads + Wait + Clock + Copy + Send + 'static>(
+    rt: R,
+    alloc: Global,
+    cell: &mut Cell,
+) -> Option<JoinHandle<bool>> {
+    let mut seat = cell.client().ok()?;
+    let job = move || mkdir(&rt, alloc, &mut seat, "/d") == Err(Refusal::Closed);
+    thread::spawn(&rt, job).ok()
+}
+
+#[test]
+fn closing_ends_calls(rt: HostRuntime) -> Result<(), Fail> {
+    let alloc = rt.alloc();
+    let mut cell = Cell::start(rt, alloc, small(3), 3, OpenGate)?;
+    // All messages are lost, so a call comes back only when the cell closes.
+    let lossy = Policy {
+        drop_every: 1,
+        ..Policy::NONE
+    };
+    cell.net(lossy);
+    let waiting = waiting_call(rt, alloc, &mut cell);
+    thread::sleep(&rt, Duration::from_millis(300));
+    drop(cell.close(&rt));
+    let is_refused = match waiting {
+        Some(thread) => thread.join(&rt),
+        None => false,
+    };
+    assert!(rt; is_refused);
+    Ok(())
+}

@@ -1,0 +1,2 @@
+pub mod LogsGoing
+pub mod ChunksGoing

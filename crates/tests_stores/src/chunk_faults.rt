@@ -1,0 +1,61 @@
+//! A store whose disk fails in one call and goes on.
+
+ghost use Rattle.std.specs.Prelude.{◌≡◌, false, IfOk};
+ghost use Rattle.store_format.specs.Formats.{is_head_open};
+
+use crate::chunk_calls::{Listing, SIZE, STEPS, fused, listed, run};
+use crate::chunk_stops::{CALLS, OPENING_CALLS, all_states, are_after};
+use disk::{Disk, FaultDisk, MemDisk};
+use gfs_types::torn::Torn;
+use std::alloc::{AllocError, Global};
+use std::test::Fail;
+use store_opening::OpenFault;
+
+// A new disk that fails the call after so many.
+fn faulty(alloc: Global, calls: u64) -> Result<FaultDisk, AllocError>
+    ensures { IfOk result (λ disk. is_head_open disk.disk.bytes ≡ false) }
+{
+    Ok(FaultDisk::new(MemDisk::new(alloc, SIZE)?, calls))
+}
+
+#[test]
+fn a_failed_call_answers_device(rt: HostRuntime) -> Result<(), Fail> {
+    let alloc = rt.alloc();
+    let states = all_states(alloc);
+    let mut all = 0;
+    for calls in 0..CALLS {
+        let (disk, ran) = run(faulty(alloc, calls)?, alloc, STEPS + 1);
+        assert!(rt; ran.is_device == (disk.failures() == 1), "call {calls}");
+        let (_disk, found) = listed(disk.into_disk(), alloc);
+        assert!(rt; are_after(&states, ran.done, found.ok()), "call {calls}");
+        all = ran.done;
+    }
+    assert_eq!(rt; all, STEPS + 1);
+    Ok(())
+}
+
+// What is listed of a disk whose opening fails at one call and is done again; None where a failure isn't answered Device, or Device without one.
+fn listed_after_fault(disk: MemDisk, alloc: Global, more: u64) -> Option<Listing> {
+    let (disk, first) = listed(FaultDisk::new(disk, more), alloc);
+    let has_failed = disk.failures() == 1;
+    if has_failed != (first == Err(OpenFault::Device)) {
+        return None;
+    }
+    let (_disk, found) = listed(disk.into_disk(), alloc);
+    found.ok()
+}
+
+// The steps stop, and so the opening has a change to end.
+#[test]
+fn a_failed_opening_is_done_again(rt: HostRuntime) -> Result<(), Fail> {
+    let alloc = rt.alloc();
+    let states = all_states(alloc);
+    for calls in 0..CALLS {
+        for more in 0..OPENING_CALLS {
+            let (disk, ran) = run(fused(alloc, calls)?, alloc, STEPS + 1);
+            let found = listed_after_fault(disk.stop(Torn::New), alloc, more);
+            assert!(rt; are_after(&states, ran.done, found));
+        }
+    }
+    Ok(())
+}

@@ -1,0 +1,35 @@
+//! Tests of the store of replicas and of the operation log: stops at each moment, faults, and calls by chance.
+#![tactic(auto)]
+
+#[cfg(test)]
+mod changes;
+#[cfg(test)]
+mod chunk_calls;
+#[cfg(test)]
+mod chunk_faults;
+#[cfg(test)]
+mod chunk_stops;
+#[cfg(test)]
+mod disk_stops;
+#[cfg(test)]
+mod entries;
+#[cfg(test)]
+mod log_bytes;
+#[cfg(test)]
+mod log_calls;
+#[cfg(test)]
+mod log_faults;
+#[cfg(test)]
+mod log_stops;
+#[cfg(test)]
+mod places;
+#[cfg(test)]
+mod plan;
+#[cfg(test)]
+mod refused;
+#[cfg(test)]
+mod restarts;
+#[cfg(test)]
+mod rotten;
+#[cfg(test)]
+mod same;

@@ -1,0 +1,106 @@
+//! The bytes of a log's disk.
+
+use crate::log_calls::{Ran, SIZE, append, create};
+use disk::{Disk, MemDisk};
+use log_disk::read_range;
+use log_records::record::Record;
+use oplog::LogFault;
+use std::alloc::{AllocError, Global};
+use std::test::Fail;
+
+// The head and its open gate.
+const HEAD: [u8; 16] = [71, 70, 83, 76, 1, 0, 0, 0, 0, 0, 0, 0, 0, 0, 0, 1];
+
+// An open area's gate, its number, and the length of a checkpoint with no items.
+const AREA: [u8; 13] = [1, 1, 0, 0, 0, 0, 0, 0, 0, 0, 0, 0, 0];
+
+// Epoch 1 behind its open gate.
+const EPOCH: [u8; 14] = [1, 9, 0, 0, 0, 1, 1, 0, 0, 0, 0, 0, 0, 0];
+
+// A Create's 34 bytes on the disk: an open gate, the length 29, and the payload.
+const CREATE: [u8; 34] = [
+    1, 29, 0, 0, 0, 4, 1, 0, 0, 0, 0, 0, 0, 0, 1, 0, 0, 0, 0, 0, 0, 0, 1, 0, 0, 0, 0, 0, 0, 0, 2,
+    0, 47, 97,
+];
+
+// Whether these bytes stand on the disk at this place.
+fn holds<D: Disk>(disk: &mut D, alloc: Global, place: usize, wanted: &[u8]) -> bool {
+    let size = disk.size();
+    if place > size || wanted.len() > size - place {
+        return false;
+    }
+    match read_range(disk, alloc, place, wanted.len()) {
+        Ok(bytes) => bytes.as_slice() == wanted,
+        Err(_) => false,
+    }
+}
+
+// Whether Epoch 1 and the Create stand there, with the closed gate after them, and nothing in the second area.
+fn are_in_place<D: Disk>(disk: &mut D, alloc: Global) -> bool {
+    holds(disk, alloc, 0, &HEAD)
+        && holds(disk, alloc, 16, &AREA)
+        && holds(disk, alloc, 29, &EPOCH)
+        && holds(disk, alloc, 43, &CREATE)
+        && holds(disk, alloc, 77, &[0])
+        && holds(disk, alloc, 2_048, &[0])
+}
+
+// What owns a record, a disk or a log calls `drop` once: a drop at the end of a scope is proved anew at each place.
+fn append_epoch(disk: MemDisk, alloc: Global) -> (MemDisk, Ran) {
+    let epoch = Record::Epoch { epoch: 1 };
+    let appended = append(disk, alloc, &epoch);
+    drop(epoch);
+    appended
+}
+
+// Whether a new disk has both records in their places, once each was appended.
+fn are_appended(disk: MemDisk, alloc: Global, record: &Record) -> bool {
+    let (disk, first) = append_epoch(disk, alloc);
+    let (mut disk, second) = append(disk, alloc, record);
+    let are_in_place = are_in_place(&mut disk, alloc);
+    drop(disk);
+    first.found == 0 && second.found == 1 && are_in_place
+}
+
+fn full_at(ran: Ran) -> Option<usize> {
+    match ran.fault {
+        Some(LogFault::Full) => Some(ran.found),
+        _ => None,
+    }
+}
+
+// How many records there are once an append is Full; None where another fault comes, or none in a hundred appends.
+fn filled(new: MemDisk, alloc: Global, record: &Record) -> Option<usize> {
+    let mut disk = new;
+    let mut found = None;
+    for _ in 0..100 {
+        let (next, ran) = append(disk, alloc, record);
+        disk = next;
+        if ran.fault.is_some() {
+            found = full_at(ran);
+            break;
+        }
+    }
+    drop(disk);
+    found
+}
+
+fn are_appended_in_place(alloc: Global, record: &Record) -> Result<bool, AllocError> {
+    Ok(are_appended(MemDisk::new(alloc, SIZE)?, alloc, record))
+}
+
+fn filled_with(alloc: Global, record: &Record) -> Result<Option<usize>, AllocError> {
+    Ok(filled(MemDisk::new(alloc, SIZE)?, alloc, record))
+}
+
+#[test]
+fn records_lie_in_their_places(rt: HostRuntime) -> Result<(), Fail> {
+    let alloc = rt.alloc();
+    let record = create(alloc)?;
+    let are_appended = are_appended_in_place(alloc, &record);
+    let filled = filled_with(alloc, &record);
+    drop(record);
+    assert!(rt; are_appended?);
+    assert!(rt; filled? == Some(59), "so many Creates fit");
+    Ok(())
+}

@@ -1,0 +1,78 @@
+//! A log whose disk stops at each of its calls.
+
+use crate::log_calls::{SIZE, WAYS};
+use crate::plan::{Made, Plan, STEPS, find, run};
+use disk::{Disk, FuseDisk, MemDisk};
+use gfs_types::torn::Torn;
+use std::alloc::{AllocError, Global};
+use std::test::Fail;
+
+/// Opening a new disk and all changes take fewer calls of the disk.
+pub(crate) const CALLS: u64 = 40;
+
+/// An opening takes 5 calls of the disk, and one that formats 14 at most.
+pub(crate) const OPENING_CALLS: u64 = 15;
+
+/// All changes on a new disk that stops after so many calls.
+pub(crate) fn stopped(
+    alloc: Global,
+    plan: &Plan,
+    calls: u64,
+) -> Result<(FuseDisk, Made), AllocError> {
+    let mut disk = FuseDisk::new(MemDisk::new(alloc, SIZE)?);
+    disk.arm(calls);
+    Ok(run(disk, alloc, plan))
+}
+
+/// Whether a log has what it had after these changes; or, where one failed, with that one.
+pub(crate) fn is_after(made: Made, found: Option<usize>) -> bool {
+    match found {
+        Some(count) => count == made.count
+            || (made.fault.is_some() && count == made.count.saturating_add(1)),
+        None => false,
+    }
+}
+
+/// After how many changes the log on a disk has what it has.
+pub(crate) fn found_on(disk: MemDisk, alloc: Global, plan: &Plan) -> Option<usize> {
+    let (disk, found) = find(disk, alloc, plan);
+    drop(disk);
+    found.ok()
+}
+
+// What is found once the changes and then an opening stopped.
+fn found_after(disk: MemDisk, alloc: Global, plan: &Plan, more: u64, torn: Torn) -> Option<usize> {
+    let mut second = FuseDisk::new(disk);
+    second.arm(more);
+    let (second, _stopped) = find(second, alloc, plan);
+    found_on(second.stop(torn), alloc, plan)
+}
+
+// The same for each opening and each tear; how many changes were made.
+fn stopped_at(alloc: Global, plan: &Plan, calls: u64) -> Result<Option<usize>, AllocError> {
+    let mut last = None;
+    for more in 0..OPENING_CALLS {
+        for torn in WAYS {
+            let (disk, made) = stopped(alloc, plan, calls)?;
+            if !is_after(made, found_after(disk.stop(torn), alloc, plan, more, torn)) {
+                return Ok(None);
+            }
+            last = Some(made.count);
+        }
+    }
+    Ok(last)
+}
+
+#[test]
+fn each_change_is_made_or_not(rt: HostRuntime) -> Result<(), Fail> {
+    let alloc = rt.alloc();
+    let plan = Plan::new(alloc)?;
+    let mut last = None;
+    for calls in 0..CALLS {
+        last = stopped_at(alloc, &plan, calls).unwrap_or(None);
+        assert!(rt; last.is_some(), "call {calls}");
+    }
+    drop(plan);
+    assert!(rt; last == Some(STEPS));
+    Ok(())
+}

@@ -1,8 +1,0 @@
-//! A law of runs by names that show nothing.
-
-ghost use Rattle.unseen_runs.specs.Laws.{UnseenRunsLeaveClients};
-
-/// Open calls stay open, no other call is, and clocks and settings are the same.
-pub fn unseen_runs_leave_clients()
-    ensures { UnseenRunsLeaveClients }
-{}
