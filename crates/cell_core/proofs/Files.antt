@@ -19,8 +19,8 @@ use Rattle.protocol.specs.World.{files_seen}
 use Rattle.protocol.specs.Sending.{file_id, handle_of}
 use Rattle.protocol.specs.Tables.{Table, element_at}
 use Rattle.cell_world.specs.FileNames.{file_in}
-use Rattle.chunkserver.specs.Inputs.{input_of}
-use Rattle.master.specs.Inputs.{input_of as master_input}
+use Rattle.server_cell.specs.Inputs.{input_of}
+use Rattle.master_cell.specs.Inputs.{input_of as master_input}
 
 -- what a master shows of its log
 abbrev pub shown_by : MasterState → Option Logged

@@ -9,7 +9,7 @@ use Rattle.protocol.specs.Choice.{Choice}
 use Rattle.protocol.specs.Conforms.{WorldRuns}
 use Rattle.protocol.specs.World.{WorldState, happens, IsReached, is_kept}
 use Rattle.promises.specs.ExplainedWorlds.{KeepsPromises}
-use Rattle.protocol_invariant.specs.Explained.{Explains}
+use Rattle.protocol.specs.Explained.{Explains}
 use Rattle.cell_world.specs.Held.{HeldCell, IsHeldAs}
 use Rattle.cell_core.specs.Traced.{AddsToTrace}
 

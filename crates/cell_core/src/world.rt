@@ -19,7 +19,6 @@ ghost use Rattle.cell_world.specs.Runs.{Runs, RanUntil};
 use cell_world::cell::Cell;
 use cell_world::fault::RunFault;
 use cell_world::master::CellMaster;
-use chunk_lines::stored::StoredReplica;
 use gfs_types::answer::Answer;
 use gfs_types::config::Config;
 use gfs_types::ids::{ClientId, FileId, Handle};
@@ -28,11 +27,12 @@ use gfs_types::path::Path;
 use messages::event::Event;
 use messages::message::Message;
 use relaxed_file::region::Region;
+use script::stored::StoredReplica;
 use server_store::fault::StoreFault;
+use server_store::stoppable_store::StoppableStore;
 use server_store::store::ReplicaStore;
 use std::alloc::Global;
 use std::marker::Model;
-use stoppable_store::StoppableStore;
 
 /// One master, and chunkservers and clients by their numbers, from 1, with each message that was ever sent. Each is what a list of events
 /// led to from a new cell.

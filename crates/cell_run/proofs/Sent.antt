@@ -7,12 +7,12 @@ use Rattle.std.proofs.alloc.Global.TheSendSync as heap
 use Rattle.std.proofs.option.Option.TheSendSync as option
 use Rattle.std.specs.contracts.alloc.Global as Heap
 use Rattle.std.specs.contracts.impls.GlobalAllocator.TheImpl.{ghosts}
-use Rattle.label_tree.proofs.tree.Tree.TheLaws.TheKnot as knot
-use Rattle.label_tree.proofs.node.Node.TheSendSync as node
-use Rattle.namespace.proofs.node.NameNode.TheSendSync as name
+use Rattle.path_trie.proofs.tree.Tree.TheLaws.TheKnot as knot
+use Rattle.path_trie.proofs.node.Node.TheSendSync as node
+use Rattle.master_state.proofs.node.NameNode.TheSendSync as name
 use Rattle.chunk_table.proofs.table.Table.TheSendSync as table
 use Rattle.ordered_map.proofs.OrderedMap.TheSendSync as ordered
-use Rattle.number_map.proofs.NumberMap.TheSendSync as number
+use Rattle.ordered_map.proofs.number_map.NumberMap.TheSendSync as number
 use Rattle.gfs_types.proofs.lists.Sequence.TheSendSync as sequence
 use Rattle.gfs_types.proofs.config.Config.TheSendSync as config
 use Rattle.messages.proofs.message.Message.TheSendSync as message
@@ -21,14 +21,14 @@ use Rattle.master_state.proofs.kept.KeptCall.TheSendSync as kept
 use Rattle.master_state.proofs.kept.CopyRow.TheSendSync as copy
 use Rattle.master_state.specs.contracts.state.State as State
 use Rattle.master_plan.proofs.change.Change.TheSendSync as change
-use Rattle.master_waits.proofs.waiting.Attempt.TheSendSync as attempt
-use Rattle.master_waits.proofs.waiting.Pending.TheSendSync as pending
+use Rattle.master_plan.proofs.waiting.Attempt.TheSendSync as attempt
+use Rattle.master_plan.proofs.waiting.Pending.TheSendSync as pending
 use Rattle.master_plan.specs.contracts.plan.Plan as Plan
 use Rattle.operation_log.proofs.memory.MemoryLog.TheSendSync as memory
 use Rattle.operation_log.specs.contracts.memory.MemoryLogOperationLog.TheImpl as on_log
 use Rattle.operation_log.specs.contracts.memory.MemoryLog as Log
-use Rattle.master.specs.contracts.master.Master as Master
-use Rattle.shown_files.proofs.shown.ShownFiles.TheSendSync as shown
+use Rattle.master_cell.specs.contracts.master.Master as Master
+use Rattle.master_cell.proofs.shown.ShownFiles.TheSendSync as shown
 use Rattle.cell_core.specs.contracts.cell_master.SeatedMaster as Seated
 use Rattle.cell_run.specs.contracts.master_stepper.MasterNode as Node
 use Rattle.cell_run.specs.contracts.running_master.RunningMaster as Running

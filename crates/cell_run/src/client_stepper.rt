@@ -8,8 +8,8 @@ ghost use Rattle.cell_run.specs.Standing.{ClientStands};
 
 use cell_journal::entry::Taking;
 use cell_seats::stepper::Stepper;
-use client_node::client::Client;
-use client_steps::step::step;
+use client::step::step;
+use client_calls::client::Client;
 use gfs_types::call::Call;
 use gfs_types::ids::Moment;
 use messages::event::StepOut;

@@ -2,7 +2,7 @@
 
 ghost use Rattle.std.specs.Prelude.{◌≡◌};
 ghost use Rattle.std.specs.Option.{option_copied};
-ghost use Rattle.chunkserver.specs.Inputs.{input_of};
+ghost use Rattle.server_cell.specs.Inputs.{input_of};
 
 use messages::event::Input;
 use messages::message::Message;

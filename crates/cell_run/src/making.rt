@@ -20,7 +20,7 @@ use cell_world::master::CellMaster;
 use gfs_types::config::Config;
 use gfs_types::ids::{ClientId, Node, ServerId};
 use gfs_types::no_memory::NoMemory;
-use master::fault::MasterFault;
+use master_cell::fault::MasterFault;
 use operation_log::memory::MemoryLog;
 use std::alloc::Global;
 

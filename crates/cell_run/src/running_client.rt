@@ -6,7 +6,7 @@ ghost use Rattle.protocol.specs.Client.{new_client};
 use crate::client_stepper::ClientNode;
 use cell_journal::entry::Taking;
 use cell_seats::stepper::Stepper;
-use client_node::client::Client;
+use client_calls::client::Client;
 use gfs_types::config::Config;
 use gfs_types::ids::{ClientId, Moment};
 use gfs_types::no_memory::NoMemory;

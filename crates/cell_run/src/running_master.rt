@@ -10,7 +10,7 @@ use cell_seats::stepper::Stepper;
 use cell_world::master::CellMaster;
 use gfs_types::config::Config;
 use gfs_types::ids::Moment;
-use master::fault::MasterFault;
+use master_cell::fault::MasterFault;
 use messages::event::StepOut;
 use operation_log::memory::MemoryLog;
 use std::alloc::Global;

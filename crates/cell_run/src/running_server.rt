@@ -8,11 +8,11 @@ ghost use Rattle.replica_store.specs.Replicas.{new_server_disk};
 use crate::server_stepper::ServerNode;
 use cell_journal::entry::Taking;
 use cell_seats::stepper::Stepper;
-use chunkserver::server::Chunkserver;
 use gfs_types::config::Config;
 use gfs_types::ids::{Moment, ServerId};
 use memory_store::MemoryStore;
 use messages::event::StepOut;
+use server_cell::server::Chunkserver;
 use std::alloc::Global;
 
 /// A server of a running cell. Its drop stands here, once, so that no crate above proves those of all that a server owns.

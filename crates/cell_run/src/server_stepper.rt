@@ -5,9 +5,9 @@ ghost use Rattle.cell_run.specs.Standing.{ServerStands};
 use crate::given::message_in;
 use cell_journal::entry::Taking;
 use cell_seats::stepper::Stepper;
-use chunkserver::server::Chunkserver;
 use gfs_types::ids::Moment;
 use messages::event::StepOut;
+use server_cell::server::Chunkserver;
 use server_store::store::ReplicaStore;
 
 /// A server that takes steps.

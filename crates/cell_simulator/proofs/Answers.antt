@@ -4,8 +4,8 @@ use Rattle.std.specs.Prelude.{not, ◌||◌, IsTrue}
 use Rattle.std.proofs.lemmas.List.Elements.{All-head, All-tail}
 use Rattle.gfs_types.specs.declared.ids.ClientId.{ClientId}
 use Rattle.messages.specs.declared.event.Event.{Event}
-use Rattle.cell_script.specs.declared.lines.ClientCall.{ClientCall}
-use Rattle.cell_script.specs.declared.lines.Line.TheVariants as line
+use Rattle.script.specs.declared.cell_lines.ClientCall.{ClientCall}
+use Rattle.script.specs.declared.cell_lines.Line.TheVariants as line
 use Rattle.cell_simulator.specs.Cells.{Meaning}
 use Rattle.cell_simulator.specs.Steps.{Step, Simulated, is_of_round, Lead, Only}
 use Rattle.cell_simulator.specs.Shown.{has_client, call_event}

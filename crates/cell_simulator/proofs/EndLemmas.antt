@@ -3,7 +3,7 @@ use Rattle.std.proofs.Common.{◌≡◌, ℕ, true, false, List, [], Option, Som
 use Rattle.std.specs.Prelude.{is_none, IfSome}
 use Rattle.std.specs.Option.{is_some}
 use Rattle.std.specs.Io.KnownBytes.{Appends, Keeps}
-use Rattle.cell_script.specs.declared.lines.Line.{Line}
+use Rattle.script.specs.declared.cell_lines.Line.{Line}
 use Rattle.cell_simulator.specs.Cells.{Meaning}
 use Rattle.cell_simulator.specs.Steps.{Step, Simulated, lines_of, Goes}
 use Rattle.cell_simulator.specs.Lines.{is_bad, Makes, printed_by, Leaves, Runs, IsRefused}

@@ -11,9 +11,9 @@ use Rattle.std.proofs.lemmas.List.Elements.{All-cons, All-nil, All-append}
 use Rattle.std.proofs.lemmas.Grind.{flat_map-append}
 use Rattle.std.proofs.lemmas.List.Splits.{slice_split_none, slice_split_at}
 use Rattle.script.specs.Lines.{is_skipped, words_of}
-use Rattle.cell_script.specs.declared.lines.Line.{Line}
-use Rattle.cell_script.specs.declared.lines.Line.TheVariants as line
-use Rattle.cell_script.specs.Lines.{line_of, line_for}
+use Rattle.script.specs.declared.cell_lines.Line.{Line}
+use Rattle.script.specs.declared.cell_lines.Line.TheVariants as line
+use Rattle.script.specs.CellLines.{line_of, line_for}
 use Rattle.cell_simulator.specs.Cells.{Meaning}
 use Rattle.cell_simulator.specs.Steps.{Simulated, line_feed}
 use Rattle.cell_simulator.specs.Lines.{Runs}

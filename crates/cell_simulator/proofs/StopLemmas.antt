@@ -12,9 +12,9 @@ use Rattle.script.specs.Lines.{is_skipped, words_of}
 use Rattle.script.specs.ScriptFaults.{IsOfRead, IsOfWrite}
 use Rattle.script.specs.declared.script_fault.ScriptFault.{ScriptFault}
 use Rattle.script.specs.declared.script_fault.ScriptFault.TheVariants as fault
-use Rattle.cell_script.specs.declared.lines.Line.{Line}
-use Rattle.cell_script.specs.declared.lines.Line.TheVariants as line
-use Rattle.cell_script.specs.Lines.{line_of, line_for}
+use Rattle.script.specs.declared.cell_lines.Line.{Line}
+use Rattle.script.specs.declared.cell_lines.Line.TheVariants as line
+use Rattle.script.specs.CellLines.{line_of, line_for}
 use Rattle.cell_simulator.specs.Cells.{Meaning}
 use Rattle.cell_simulator.specs.Steps.{Simulated, line_feed}
 use Rattle.cell_simulator.specs.declared.lines.LineEnd.{LineEnd}

@@ -8,7 +8,7 @@ use Rattle.gfs_types.specs.Paths.{Path}
 use Rattle.messages.specs.declared.event.Event.{Event}
 use Rattle.messages.specs.declared.message.Message.{Message}
 use Rattle.relaxed_file.specs.declared.region.Region.{Region}
-use Rattle.chunk_lines.specs.declared.stored.StoredReplica.{StoredReplica}
+use Rattle.script.specs.declared.stored.StoredReplica.{StoredReplica}
 
 pub record Meaning (C : Type 0) : Type 1 where
   -- what an event may come to: its answer, and the cell after it

@@ -4,9 +4,9 @@ use Rattle.std.specs.Io.KnownBytes.{Appends, Keeps}
 use Rattle.gfs_types.specs.declared.ids.Handle.{Handle}
 use Rattle.gfs_types.specs.declared.ids.Node.TheVariants as node
 use Rattle.messages.specs.declared.event.Event.TheVariants as event
-use Rattle.cell_script.specs.declared.lines.ClientCall.{ClientCall}
-use Rattle.cell_script.specs.declared.lines.Line.{Line}
-use Rattle.cell_script.specs.declared.lines.Line.TheVariants as line
+use Rattle.script.specs.declared.cell_lines.ClientCall.{ClientCall}
+use Rattle.script.specs.declared.cell_lines.Line.{Line}
+use Rattle.script.specs.declared.cell_lines.Line.TheVariants as line
 use Rattle.cell_simulator.specs.Cells.{Meaning}
 use Rattle.cell_simulator.specs.Steps.{Step, Simulated, Lead, Rise, lines_of, Only, Just, First, Goes, is_delivery, is_of_round, later, after_rounds, most_rounds}
 use Rattle.cell_simulator.specs.Shown.{regions_shown, replicas_shown, handle_shown, has_node, has_client, NoneOpen, IsWaiting, call_event}

@@ -2,8 +2,8 @@
 use Rattle.std.specs.Prelude.{◌≡◌, ℕ, List, Some, slice_get}
 use Rattle.std.specs.List.{remove}
 use Rattle.messages.specs.declared.message.Message.{Message}
-use Rattle.cell_script.specs.Kinds.{kind_of}
-use Rattle.cell_script.specs.declared.lines.Matter.{Matter}
+use Rattle.script.specs.Kinds.{kind_of}
+use Rattle.script.specs.declared.cell_lines.Matter.{Matter}
 
 -- the kind of a message and its receiver
 abbrev pub matter_of : Message → Matter

@@ -5,8 +5,8 @@ use Rattle.std.specs.Option.{option_to_list}
 use Rattle.std.specs.Io.KnownBytes.{Appends, Keeps}
 use Rattle.script.specs.declared.script_fault.ScriptFault.{ScriptFault}
 use Rattle.script.specs.declared.script_fault.ScriptFault.TheVariants as fault
-use Rattle.cell_script.specs.declared.lines.Line.{Line}
-use Rattle.cell_script.specs.Lines.{line_of}
+use Rattle.script.specs.declared.cell_lines.Line.{Line}
+use Rattle.script.specs.CellLines.{line_of}
 use Rattle.cell_simulator.specs.Cells.{Meaning}
 use Rattle.cell_simulator.specs.Steps.{Simulated, line_feed}
 use Rattle.cell_simulator.specs.Lines.{is_bad, ComesTo, Runs, IsEndless}

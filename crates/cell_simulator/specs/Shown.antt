@@ -7,9 +7,9 @@ use Rattle.gfs_types.specs.declared.ids.Node.{Node}
 use Rattle.gfs_types.specs.declared.ids.Node.TheVariants as node
 use Rattle.messages.specs.declared.event.Event.{Event}
 use Rattle.messages.specs.declared.event.Event.TheVariants as event
-use Rattle.chunk_lines.specs.Chunks.{regions_line, replicas_line}
+use Rattle.script.specs.Chunks.{regions_line, replicas_line}
 use Rattle.script.specs.declared.lines.FileChunk.{FileChunk}
-use Rattle.cell_script.specs.declared.lines.ClientCall.{ClientCall}
+use Rattle.script.specs.declared.cell_lines.ClientCall.{ClientCall}
 use Rattle.cell_simulator.specs.Cells.{Meaning}
 use Rattle.cell_simulator.specs.Steps.{Simulated, with_feed}
 use Rattle.cell_simulator.specs.declared.simulator.Simulator.{Simulator}

@@ -4,7 +4,6 @@ ghost use Rattle.std.specs.Prelude.{◌≡◌, IfOk, option_map};
 ghost use Rattle.std.specs.Option.{option_copied};
 ghost use Rattle.cell_simulator.specs.Cells.{Meaning};
 
-use chunk_lines::stored::StoredReplica;
 use gfs_types::answer::Answer;
 use gfs_types::ids::{ClientId, FileId, Handle};
 use gfs_types::no_memory::NoMemory;
@@ -12,6 +11,7 @@ use gfs_types::path::Path;
 use messages::event::Event;
 use messages::message::Message;
 use relaxed_file::region::Region;
+use script::stored::StoredReplica;
 use std::alloc::Global;
 
 /// A cell that takes events. Servers and clients count from 1.

@@ -8,9 +8,9 @@ ghost use Rattle.cell_simulator.specs.Shown.{handle_shown, regions_shown, replic
 
 use crate::cell::SimulatedCell;
 use crate::printing::print_line;
-use chunk_lines::{RegionsLine, ReplicasLine};
 use gfs_types::ids::Handle;
 use gfs_types::no_memory::NoMemory;
+use script::chunk_lines::{RegionsLine, ReplicasLine};
 use script::lines::FileChunk;
 use script::script_fault::ScriptFault;
 use std::alloc::Global;

@@ -4,11 +4,11 @@ ghost use Rattle.std.specs.Prelude.{◌≡◌, ◌≢◌, ◌∷◌, ◌++◌, [
 ghost use Rattle.std.specs.List.{list_any};
 ghost use Rattle.cell_simulator.specs.Network.{TakesOrder, matter_of};
 
-use cell_script::kinds::Kind;
-use cell_script::lines::Matter;
 use gfs_types::ids::Node;
 use gfs_types::no_memory::NoMemory;
 use messages::message::Message;
+use script::cell_lines::Matter;
+use script::kinds::Kind;
 use std::alloc::Global;
 use std::mem;
 

@@ -7,9 +7,9 @@ ghost use Rattle.cell_simulator.specs.Shown.{call_event, NoneOpen, IsWaiting, st
 
 use crate::cell::SimulatedCell;
 use crate::simulator::Simulator;
-use cell_script::lines::ClientCall;
 use gfs_types::ids::{ClientId, Moment, Node, ServerId};
 use messages::event::Event;
+use script::cell_lines::ClientCall;
 use script::script_fault::ScriptFault;
 use std::io::Write;
 

@@ -8,7 +8,7 @@ use crate::cell::SimulatedCell;
 use crate::lines::LineEnd;
 use crate::reading::read_line;
 use crate::simulator::Simulator;
-use cell_script::lines::parse;
+use script::cell_lines::parse;
 use script::script_fault::ScriptFault;
 use std::alloc::Global;
 use std::io::{BufRead, Write};

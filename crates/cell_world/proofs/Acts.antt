@@ -6,7 +6,7 @@ use Rattle.protocol.specs.Tables.{element_at}
 use Rattle.protocol.specs.Choice.{Choice, Goes, Lost}
 use Rattle.protocol.specs.World.{WorldState, Happened, nothing_happens, numbered_from_1}
 use Rattle.cell_world.specs.Held.{HeldCell, IsHeldAs, HasEffect}
-use Rattle.cell_record.proofs.Numbers.{none_past}
+use Rattle.cell_world.proofs.Numbers.{none_past}
 
 -- where nothing is done the choice is any
 abbrev pub no_choice : Choice

@@ -13,11 +13,11 @@ use Rattle.protocol.specs.Client.{ClientState}
 use Rattle.protocol.specs.Observer.{Observer, Placed, observed_moment, observed_call, observed_answer, orders_after_all}
 use Rattle.protocol.specs.World.{WorldState, stamped, files_seen, after_master, after_server, after_client}
 use Rattle.protocol.specs.Conforms.{IsLeftAs}
-use Rattle.cell_record.proofs.Seeing.{after_both}
-use Rattle.cell_record.specs.Seeing.{orders_seen}
+use Rattle.cell_world.proofs.Seeing.{after_both}
+use Rattle.cell_world.specs.Seeing.{orders_seen}
 use Rattle.cell_world.specs.Held.{HeldCell, IsHeldAs, AreHeldAs}
 use Rattle.cell_world.proofs.Left.{files_alike}
-use Rattle.cell_world.proofs.Orders.{after_all}
+use Rattle.cell_world.proofs.WorldOrders.{after_all}
 
 abbrev pub sent_after : List Message → List Message → List Message
 sent_after sent more = sent ++ stamped (suc (length sent)) more

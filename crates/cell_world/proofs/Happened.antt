@@ -15,12 +15,12 @@ use Rattle.messages.specs.declared.event.Input.TheVariants as input
 use Rattle.messages.specs.declared.message.Message.{Message}
 use Rattle.gfs_types.specs.declared.torn.Torn.{Torn}
 use Rattle.replica_store.specs.Replicas.{Replica, replica_of, replica_becomes, with_replica, rotten_replica}
-use Rattle.chunkserver.specs.Inputs.{input_of}
+use Rattle.server_cell.specs.Inputs.{input_of}
 use Rattle.protocol.specs.Tables.{element_at, with_at, moment_limit}
 use Rattle.protocol.specs.Choice.{Choice}
 use Rattle.protocol.specs.Server.{ServerState}
 use Rattle.protocol.specs.World.{WorldState, Happened, nothing_happens, at_moment, happens, call_moves, delivered, moves, restarts, rots_on, rots_replica, numbered_from_1}
-use Rattle.cell_record.specs.Batches.{message_named}
+use Rattle.cell_world.specs.Batches.{message_named}
 use Rattle.cell_world.specs.Held.{HeldCell, IsHeldAs, HasEffect}
 use Rattle.cell_world.specs.Steps.{IsUpAt, RotsAt}
 use Rattle.cell_world.proofs.Acts.{does_as, does_nothing, no_choice, missing, at_place, place_is, there}

@@ -1,4 +1,6 @@
-pub mod Orders
+pub mod Numbers
+pub mod Seeing
+pub mod WorldOrders
 pub mod Left
 pub mod After
 pub mod Acts

@@ -6,7 +6,7 @@ use Rattle.std.specs.FinMap as table
 use Rattle.gfs_types.specs.declared.ids.Handle.{Handle}
 use Rattle.relaxed_file.specs.Regions.{regions_of}
 use Rattle.relaxed_file.specs.declared.region.Region.{Region}
-use Rattle.cell_record.specs.Seeing.{entries_seen}
+use Rattle.cell_world.specs.Seeing.{entries_seen}
 use Rattle.client_state.specs.declared.call.CurrentCall.{CurrentCall}
 use Rattle.protocol.specs.Client.{ClientState}
 use Rattle.protocol.specs.ClientStep.{has_room_to_count, may_call, may_step}

@@ -17,7 +17,7 @@ use Rattle.protocol.specs.Client.{ClientState, stopped_client}
 use Rattle.protocol.specs.ClientStep.{may_step, client_step, client_ends, client_goes}
 use Rattle.protocol.specs.World.{stamped}
 use Rattle.protocol.specs.Conforms.{IsLeftAs, ServerSteps, ClientSteps, ClientCalls}
-use Rattle.cell_record.specs.declared.record.CellRecord.{CellRecord}
+use Rattle.cell_world.specs.declared.record.CellRecord.{CellRecord}
 use Rattle.cell_world.specs.Steps.{IsRecorded, MasterStepsSo}
 use Rattle.cell_world.proofs.Acts.{lost_choice}
 use Rattle.cell_world.proofs.Left.{same_left}

@@ -15,7 +15,7 @@ use Rattle.protocol.specs.Server.{started_server}
 use Rattle.protocol.specs.MasterStep.{new_master}
 use Rattle.protocol.specs.World.{new_world}
 use Rattle.protocol.specs.Conforms.{IsLeftAs}
-use Rattle.cell_record.specs.Seeing.{orders_seen}
+use Rattle.cell_world.specs.Seeing.{orders_seen}
 use Rattle.cell_world.specs.Held.{HeldCell, IsHeldAs, AreHeldAs, uncounted}
 use Rattle.cell_world.proofs.Left.{same_left}
 

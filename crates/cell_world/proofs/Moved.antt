@@ -24,7 +24,7 @@ use Rattle.protocol.specs.ClientStep.{may_call, client_call, client_step}
 use Rattle.protocol.specs.Observer.{observed_call, observed_moment}
 use Rattle.protocol.specs.World.{WorldState, Happened, nothing_happens, files_seen, after_master, after_server, after_client, numbered_from_1, server_moves, client_moves, moves, restarts, server_restarts_at, call_moves}
 use Rattle.protocol.specs.Conforms.{MasterRestarts, ServerSteps}
-use Rattle.cell_record.specs.declared.record.CellRecord.{CellRecord}
+use Rattle.cell_world.specs.declared.record.CellRecord.{CellRecord}
 use Rattle.cell_world.specs.Held.{HeldCell, IsHeldAs, HasEffect}
 use Rattle.cell_world.specs.Steps.{IsRecorded, StepsAt, IsUpAt, RestartsAt, MasterStepsSo, ClientStepsSo, ClientCallsSo}
 use Rattle.cell_world.proofs.Left.{same_up, left_on, restarts_of_what_is_left}

@@ -18,7 +18,7 @@ use Rattle.std.specs.List.{filter_map}
 use Rattle.protocol.specs.Master.{MasterState}
 use Rattle.cell_world.specs.FileNames.{file_in}
 use Rattle.protocol.specs.Lookups.{StoredAt, handle_at, regions_at, replicas_at, replicas_of, stored_on, file_named}
-use Rattle.cell_record.specs.Seeing.{entries_seen}
+use Rattle.cell_world.specs.Seeing.{entries_seen}
 use Rattle.cell_world.specs.Held.{HeldCell, IsHeldAs, uncounted}
 
 abbrev entries_in : List Placed → List Entry

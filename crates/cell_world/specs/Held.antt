@@ -12,7 +12,7 @@ use Rattle.protocol.specs.Client.{ClientState}
 use Rattle.protocol.specs.Observer.{Placed, placed_in}
 use Rattle.protocol.specs.World.{WorldState, Happened}
 use Rattle.protocol.specs.Conforms.{IsLeftAs}
-use Rattle.cell_record.specs.Seeing.{orders_seen}
+use Rattle.cell_world.specs.Seeing.{orders_seen}
 
 -- No code holds the trace, the moments that passed, or whether clocks and disks kept what is asked of them.
 pub record HeldCell : Type 0 where

@@ -1,3 +1,6 @@
+pub mod Batches
+pub mod Recording
+pub mod Seeing
 pub mod Events
 pub mod Held
 pub mod Runs

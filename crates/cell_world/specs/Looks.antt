@@ -6,7 +6,7 @@ use Rattle.gfs_types.specs.Paths.{Path}
 use Rattle.gfs_types.specs.declared.ids.FileId.{FileId}
 use Rattle.relaxed_file.specs.Regions.{regions_of}
 use Rattle.relaxed_file.specs.declared.region.Region.{Region}
-use Rattle.cell_record.specs.Seeing.{entries_seen}
+use Rattle.cell_world.specs.Seeing.{entries_seen}
 use Rattle.protocol.specs.Client.{ClientState}
 use Rattle.protocol.specs.ClientStep.{may_step}
 use Rattle.protocol.specs.Lookups.{StoredAt, stored_on}

@@ -12,7 +12,7 @@ use Rattle.protocol.specs.Client.{ClientState}
 use Rattle.protocol.specs.World.{stamped}
 use Rattle.protocol.specs.Conforms.{ServerRestarts, MasterSteps, ClientSteps, ClientCalls}
 use Rattle.server_store.specs.Stores.{disk_rotten}
-use Rattle.cell_record.specs.declared.record.CellRecord.{CellRecord}
+use Rattle.cell_world.specs.declared.record.CellRecord.{CellRecord}
 
 -- what a step gave and what was seen of it are recorded
 pub record IsRecorded (before : CellRecord) (out : StepOut) (seen : List Seen) (answer : Option Answer) (after : CellRecord) : Type 0 where

@@ -2,8 +2,8 @@
 
 ghost use Rattle.std.specs.Prelude.{◌≡◌, ◌≤◌, ◌-◌, None, IfOk, OnOk, OnErr};
 ghost use Rattle.gfs_types.specs.declared.ids.Node.TheVariants as node;
-ghost use Rattle.chunkserver.specs.Inputs.{input_of};
-ghost use Rattle.cell_record.specs.Batches.{message_named};
+ghost use Rattle.server_cell.specs.Inputs.{input_of};
+ghost use Rattle.cell_world.specs.Batches.{message_named};
 ghost use Rattle.protocol.specs.Tables.{moment_limit};
 ghost use Rattle.protocol.specs.World.{call_moves, delivered, happens, moves, numbered_from_1, restarts, rots_on};
 ghost use Rattle.cell_world.specs.Held.{HasEffect};
@@ -12,22 +12,22 @@ ghost use Rattle.cell_world.specs.Events.{MayBeRefused};
 use crate::clients::{client_calls, client_may_call, client_place, client_steps, is_client_up};
 use crate::master::CellMaster;
 use crate::masters::master_steps;
+use crate::record::CellRecord;
 use crate::servers::{
     is_server_up, server_fuses, server_place, server_restarts, server_rots, server_steps,
 };
-use cell_record::record::CellRecord;
-use chunkserver::server::Chunkserver;
-use client_node::client::Client;
+use client_calls::client::Client;
 use gfs_types::answer::Answer;
 use gfs_types::call::Call;
 use gfs_types::config::Config;
 use gfs_types::ids::{ClientId, Handle, MAX_MOMENT, Moment, Node, ServerId};
 use gfs_types::torn::Torn;
 use messages::event::Event;
+use server_cell::server::Chunkserver;
 use server_store::fault::StoreFault;
+use server_store::stoppable_store::StoppableStore;
 use server_store::store::ReplicaStore;
 use std::marker::Model;
-use stoppable_store::StoppableStore;
 
 /// A cell of one master, and of servers and clients by their numbers, from 1.
 #[derive(Drop)]

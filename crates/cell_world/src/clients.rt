@@ -2,18 +2,18 @@
 
 ghost use Rattle.std.specs.Prelude.{◌≡◌, ◌⊎◌, ◌<◌, suc, if◌then◌else◌, true, length, IfOk, MatchOption};
 ghost use Rattle.std.specs.Option.{option_copied};
-ghost use Rattle.chunkserver.specs.Inputs.{input_of};
+ghost use Rattle.server_cell.specs.Inputs.{input_of};
 ghost use Rattle.protocol.specs.Client.{stopped_client};
 ghost use Rattle.protocol.specs.ClientStep.{may_call, may_step};
 ghost use Rattle.protocol.specs.Conforms.{ClientSteps};
 ghost use Rattle.protocol.specs.Seen.{down_output, no_output};
-ghost use Rattle.cell_record.specs.Batches.{message_named};
+ghost use Rattle.cell_world.specs.Batches.{message_named};
 ghost use Rattle.cell_world.specs.Steps.{StepsAt, ClientStepsSo, ClientCallsSo, IsUpAt};
 
 use crate::numbered::place_of;
-use cell_record::record::CellRecord;
-use client_node::client::Client;
-use client_steps::step::step;
+use crate::record::CellRecord;
+use client::step::step;
+use client_calls::client::Client;
 use gfs_types::answer::Answer;
 use gfs_types::call::Call;
 use gfs_types::ids::{ClientId, Moment};

@@ -7,7 +7,7 @@ ghost use Rattle.cell_world.specs.Steps.{IsUpAt};
 use crate::cell::Cell;
 use crate::clients::client_place;
 use crate::master::CellMaster;
-use client_node::client::Client;
+use client_calls::client::Client;
 use gfs_types::ids::ClientId;
 use server_store::store::ReplicaStore;
 

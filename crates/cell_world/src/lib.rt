@@ -2,6 +2,7 @@
 #![tactic(auto)]
 
 mod answers;
+mod batch;
 pub mod cell;
 mod clients;
 mod counts;
@@ -9,7 +10,12 @@ pub mod fault;
 mod making;
 pub mod master;
 mod masters;
+pub mod network;
 mod numbered;
+mod orders;
+mod placed;
+pub mod record;
 mod run;
 mod servers;
 mod shown;
+pub mod sights;

@@ -13,12 +13,12 @@ ghost use Rattle.cell_world.specs.Held.{IsHeldAs};
 
 use crate::cell::Cell;
 use crate::master::CellMaster;
-use cell_record::record::CellRecord;
-use chunkserver::server::Chunkserver;
-use client_node::client::Client;
+use crate::record::CellRecord;
+use client_calls::client::Client;
 use gfs_types::config::Config;
 use gfs_types::ids::{ClientId, Moment, ServerId};
 use gfs_types::no_memory::NoMemory;
+use server_cell::server::Chunkserver;
 use server_store::store::ReplicaStore;
 use std::alloc::Global;
 

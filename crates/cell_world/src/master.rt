@@ -3,7 +3,7 @@
 ghost use Rattle.std.specs.Prelude.{◌≡◌, ◌≤◌, List, ℕ, [], true, option_map, option_and_then};
 ghost use Rattle.std.specs.Option.{option_copied};
 ghost use Rattle.std.specs.FinMap as table;
-ghost use Rattle.chunkserver.specs.Inputs.{input_of};
+ghost use Rattle.server_cell.specs.Inputs.{input_of};
 ghost use Rattle.protocol.specs.Conforms.{MasterSteps, MasterRestarts};
 ghost use Rattle.protocol.specs.Master.{MasterState, stopped_master};
 ghost use Rattle.protocol.specs.Sending.{file_id, handle_of};

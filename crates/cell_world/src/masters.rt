@@ -1,14 +1,14 @@
 //! Steps of the master.
 
 ghost use Rattle.std.specs.Prelude.{◌≡◌, ◌≤◌, true};
-ghost use Rattle.chunkserver.specs.Inputs.{input_of};
+ghost use Rattle.server_cell.specs.Inputs.{input_of};
 ghost use Rattle.protocol.specs.Tables.{moment_limit};
 ghost use Rattle.protocol.specs.World.{files_seen};
-ghost use Rattle.cell_record.specs.Batches.{message_named};
+ghost use Rattle.cell_world.specs.Batches.{message_named};
 ghost use Rattle.cell_world.specs.Steps.{MasterStepsSo};
 
 use crate::master::CellMaster;
-use cell_record::record::CellRecord;
+use crate::record::CellRecord;
 use gfs_types::answer::Answer;
 use gfs_types::ids::Moment;
 use messages::event::StepOut;

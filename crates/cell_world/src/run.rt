@@ -10,9 +10,9 @@ use crate::master::CellMaster;
 use gfs_types::answer::Answer;
 use gfs_types::no_memory::NoMemory;
 use messages::event::Event;
+use server_store::stoppable_store::StoppableStore;
 use std::alloc::Global;
 use std::collections::VecDeque;
-use stoppable_store::StoppableStore;
 
 impl<M: CellMaster, S: StoppableStore> Cell<M, S> {
     /// The events in order, and their answers.

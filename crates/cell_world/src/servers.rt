@@ -2,23 +2,23 @@
 
 ghost use Rattle.std.specs.Prelude.{◌≡◌, ◌⊎◌, ◌≤◌, ◌<◌, suc, MatchOption, true, length, OnOk, OnErr};
 ghost use Rattle.std.specs.Option.{option_copied};
-ghost use Rattle.chunkserver.specs.Inputs.{input_of};
+ghost use Rattle.server_cell.specs.Inputs.{input_of};
 ghost use Rattle.protocol.specs.Conforms.{ServerSteps};
 ghost use Rattle.protocol.specs.Tables.{moment_limit, element_at};
-ghost use Rattle.cell_record.specs.Batches.{message_named};
+ghost use Rattle.cell_world.specs.Batches.{message_named};
 ghost use Rattle.cell_world.specs.Steps.{StepsAt, RestartsAt, RotsAt, IsUpAt};
 
 use crate::numbered::place_of;
-use cell_record::record::CellRecord;
-use chunkserver::server::Chunkserver;
+use crate::record::CellRecord;
 use gfs_types::answer::Answer;
 use gfs_types::ids::{Handle, Moment, ServerId};
 use gfs_types::torn::Torn;
 use messages::event::StepOut;
+use server_cell::server::Chunkserver;
 use server_store::fault::StoreFault;
+use server_store::stoppable_store::StoppableStore;
 use server_store::store::ReplicaStore;
 use step_outcome::Outcome;
-use stoppable_store::StoppableStore;
 
 /// The place of a server's number.
 pub(crate) fn server_place<S: ReplicaStore>(

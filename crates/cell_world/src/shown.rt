@@ -12,13 +12,13 @@ ghost use Rattle.cell_world.specs.Looks.{file_held, regions_held, replicas_held}
 
 use crate::cell::Cell;
 use crate::master::CellMaster;
-use chunk_lines::stored::StoredReplica;
-use chunkserver::server::Chunkserver;
 use gfs_types::ids::{FileId, Handle};
 use gfs_types::no_memory::NoMemory;
 use gfs_types::path::Path;
 use messages::message::Message;
 use relaxed_file::region::Region;
+use script::stored::StoredReplica;
+use server_cell::server::Chunkserver;
 use server_store::store::ReplicaStore;
 use std::alloc::Global;
 

@@ -6,21 +6,21 @@ use Rattle.gfs_types.specs.declared.ids.Handle.{Handle}
 use Rattle.gfs_types.specs.declared.ids.Serial.{Serial}
 use Rattle.gfs_types.specs.declared.ids.Version.{Version}
 use Rattle.gfs_types.specs.declared.mutation.Mutation.{Mutation}
-use Rattle.redo_area.specs.Redo.{IsAtRest, StandsOnly}
+use Rattle.disk_redo.specs.Redo.{IsAtRest, StandsOnly}
 use Rattle.replica_store.specs.declared.change.StoreChange.TheVariants.{Write}
 use Rattle.replica_store.specs.declared.row.Row.{Row}
 use Rattle.replica_store.specs.Replicas.{ServerDisk, disk_changed, is_writable_at, replica_of, row_at, written_replica}
-use Rattle.slot_index.specs.Index.{IndexState}
-use Rattle.slot_index.specs.declared.held.HeldReplica.{HeldReplica}
+use Rattle.store_disk.specs.Index.{IndexState}
+use Rattle.store_disk.specs.declared.held.HeldReplica.{HeldReplica}
 use Rattle.store_changes.specs.Areas.{area_of}
 use Rattle.store_changes.specs.Changing.{Says}
 use Rattle.store_changes.proofs.Mutated.{change_same}
-use Rattle.store_writes.specs.Writing.{LeavesWritten}
-use Rattle.stored_replicas.specs.Stored.{IsStored}
+use Rattle.store_changes.specs.Writing.{LeavesWritten}
+use Rattle.store_disk.specs.Stored.{IsStored}
 use Rattle.store_changes.specs.Mutations.{bytes_of, change_of, place_of}
 use Rattle.chunk_store.specs.Stores.{IsOpen}
 use Rattle.chunk_store.specs.declared.store.Store.{Store}
-use Rattle.stored_replicas.proofs.Looked.{one_row, order_of, order_stays}
+use Rattle.store_disk.proofs.Looked.{one_row, order_of, order_stays}
 use Rattle.chunk_store.proofs.StillOpen.{row_held, still_open}
 
 module _ {D : Type 0} (seen : D → List ℕ) (may_leave : D → List ℕ → Type 0) (moment : D → ℕ) (left_since : D → ℕ → List ℕ → Type 0) (store : Store D) (disk : D) (index : IndexState) where

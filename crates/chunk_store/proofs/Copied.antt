@@ -1,18 +1,18 @@
 -- A copy of a replica: its bytes are read, and stored under another handle.
 use Rattle.std.proofs.Common.{◌≡◌, ◌⊎◌, inl, inr, ℕ, ◌≤◌, List, length, sym, subst, arith, Some}
 use Rattle.std.specs.FinMap as map
-use Rattle.gated_disk.specs.Moments.{OnlyReads}
-use Rattle.gated_disk.proofs.Moments.{joined, weaker}
-use Rattle.redo_area.specs.Redo.{StandsOnly, stands_for}
-use Rattle.redo_area.specs.declared.range.RedoArea.{RedoArea}
+use Rattle.disk_redo.specs.GateMoments.{OnlyReads}
+use Rattle.disk_redo.proofs.Moments.{joined, weaker}
+use Rattle.disk_redo.specs.Redo.{StandsOnly, stands_for}
+use Rattle.disk_redo.specs.declared.range.RedoArea.{RedoArea}
 use Rattle.replica_store.specs.declared.change.StoreChange.{StoreChange}
 use Rattle.replica_store.specs.Replicas.{ServerDisk, disk_changed, replica_of}
-use Rattle.slot_index.specs.declared.held.HeldReplica.{HeldReplica}
+use Rattle.store_disk.specs.declared.held.HeldReplica.{HeldReplica}
 use Rattle.store_changes.specs.Areas.{area_of}
 use Rattle.store_changes.specs.Changing.{Says}
-use Rattle.stored_replicas.specs.Stored.{IsDiskOf, IsStored}
-use Rattle.store_reads.specs.Images.{image_at}
-use Rattle.store_reads.proofs.Imaged.{image_length}
+use Rattle.store_disk.specs.Stored.{IsDiskOf, IsStored}
+use Rattle.store_changes.specs.Images.{image_at}
+use Rattle.store_changes.proofs.Imaged.{image_length}
 use Rattle.chunk_store.specs.Stores.{IsOpen, LeavesChange}
 use Rattle.chunk_store.specs.declared.store.Store.{Store}
 use Rattle.chunk_store.proofs.StillOpen.{held_within, row_held, says_open}

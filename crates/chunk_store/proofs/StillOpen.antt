@@ -2,25 +2,25 @@
 use Rattle.std.proofs.Common.{◌≡◌, ◌≢◌, ℕ, ◌<◌, ◌≤◌, true, List, [], ◌∷◌, drop, length, slice_get, sym, ap, ◌∙◌, subst, arith, None, Some}
 use Rattle.std.specs.Prelude.{◌↔◌}
 use Rattle.std.specs.FinMap as map
-use Rattle.gated_disk.specs.Moments.{OnlyReads}
+use Rattle.disk_redo.specs.GateMoments.{OnlyReads}
 use Rattle.gfs_types.specs.declared.ids.OrderNo.{OrderNo}
 use Rattle.gfs_types.specs.declared.ids.Version.{Version}
-use Rattle.redo_area.specs.Redo.{IsAtRest, is_open, stands_for}
+use Rattle.disk_redo.specs.Redo.{IsAtRest, is_open, stands_for}
 use Rattle.replica_store.specs.declared.change.StoreChange.{StoreChange}
 use Rattle.replica_store.specs.declared.row.Row.{Row}
 use Rattle.replica_store.specs.Replicas.{ServerDisk, is_disk_full, row_at}
-use Rattle.slot_index.specs.Index.{IndexState}
-use Rattle.slot_index.specs.declared.held.HeldReplica.{HeldReplica}
+use Rattle.store_disk.specs.Index.{IndexState}
+use Rattle.store_disk.specs.declared.held.HeldReplica.{HeldReplica}
 use Rattle.store_changes.specs.Areas.{area_of}
 use Rattle.store_changes.specs.Changing.{Says}
 use Rattle.store_changes.proofs.Areas.{rest_size}
 use Rattle.store_changes.proofs.Made.{nothing_made}
-use Rattle.store_layout.specs.Places.{disk_size}
-use Rattle.stored_replicas.proofs.Changing.{within}
-use Rattle.stored_replicas.proofs.Looked.{first_free, no_row, one_row, order_of}
-use Rattle.stored_replicas.proofs.Counted.{full_known}
-use Rattle.stored_replicas.proofs.Listed.{row_found, row_known}
-use Rattle.stored_replicas.proofs.Replicas.{its_replica}
+use Rattle.store_disk.specs.Places.{disk_size}
+use Rattle.store_disk.proofs.Changing.{within}
+use Rattle.store_disk.proofs.Looked.{first_free, no_row, one_row, order_of}
+use Rattle.store_disk.proofs.Counted.{full_known}
+use Rattle.store_disk.proofs.Listed.{row_found, row_known}
+use Rattle.store_disk.proofs.Replicas.{its_replica}
 use Rattle.chunk_store.specs.Stores.{IsOpen, LeavesChange}
 use Rattle.chunk_store.specs.declared.store.Store.{Store}
 

@@ -1,1 +1,4 @@
+pub mod Finding
+pub mod Faults
+pub mod Opening
 pub mod Stores

@@ -1,11 +1,11 @@
 -- A store that is open on its disk.
 use Rattle.std.specs.Prelude.{◌≡◌, ℕ, ◌≤◌, ◌%◌, List, length}
-use Rattle.redo_area.specs.Redo.{IsAtRest}
+use Rattle.disk_redo.specs.Redo.{IsAtRest}
 use Rattle.replica_store.specs.Replicas.{ServerDisk}
 use Rattle.replica_store.specs.declared.change.StoreChange.{StoreChange}
 use Rattle.store_changes.specs.Areas.{area_of}
 use Rattle.store_changes.specs.Changing.{LeavesEither, Says}
-use Rattle.store_layout.specs.Places.{disk_size}
+use Rattle.store_disk.specs.Places.{disk_size}
 use Rattle.chunk_store.specs.declared.store.Store.{Store}
 
 -- The store is open: its disk says this, for good, and the store knows where. Each chunk is of whole blocks.

@@ -1,10 +1,10 @@
 //! Applying mutations.
 
 ghost use Rattle.std.specs.Prelude.{◌≡◌, ◌≢◌, ◌≤◌, ◌+◌, ◌↔◌, true, false, length, IfOk, OnOk, IsErrOf, None, Some};
-ghost use Rattle.gated_disk.specs.Moments.{OnlyReads};
+ghost use Rattle.disk_redo.specs.GateMoments.{OnlyReads};
 ghost use Rattle.replica_store.specs.declared.row.Row.{Row};
 ghost use Rattle.replica_store.specs.Replicas.{ServerDisk, disk_changed, is_writable_at, row_at};
-ghost use Rattle.store_writes.specs.Writing.{IsNoticedAt, LeavesWritten};
+ghost use Rattle.store_changes.specs.Writing.{IsNoticedAt, LeavesWritten};
 ghost use Rattle.store_changes.specs.Faults.{IsRefused, MayFail};
 ghost use Rattle.store_changes.specs.Mutations.{bytes_of as bytes_value, change_of, place_of as place_value};
 ghost use Rattle.chunk_store.specs.Stores.{IsOpen};
@@ -15,8 +15,7 @@ use disk::Disk;
 use gfs_types::ids::{Handle, Serial, Version};
 use gfs_types::mutation::Mutation;
 use std::alloc::Global;
-use store_changes::{StoreFault, bytes_of, place_of};
-use store_writes::write;
+use store_changes::{StoreFault, bytes_of, place_of, write};
 
 impl<D: Disk> Store<D> {
     /// Applies a mutation to a replica of exactly this version, where its serial is greater than the last one. Before part of a block is written over, the first and the last block of the range are checked.

@@ -5,7 +5,7 @@ ghost use Rattle.replica_store.specs.declared.change.StoreChange.TheVariants.{Co
 ghost use Rattle.replica_store.specs.declared.row.Row.{Row};
 ghost use Rattle.replica_store.specs.Replicas.{ServerDisk, disk_changed, is_disk_full, row_at};
 ghost use Rattle.store_changes.specs.Faults.{IsRefused, MayFail};
-ghost use Rattle.store_reads.specs.Images.{image_at};
+ghost use Rattle.store_changes.specs.Images.{image_at};
 ghost use Rattle.chunk_store.specs.Stores.{IsOpen, LeavesChange};
 ghost use Rattle.store_changes.specs.declared.fault.StoreFault.TheVariants as faults;
 

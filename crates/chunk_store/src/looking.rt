@@ -5,7 +5,7 @@ ghost use Rattle.std.specs.FinMap as map;
 ghost use Rattle.std.specs.Option.{option_map};
 ghost use Rattle.replica_store.specs.declared.row.Row.{Row};
 ghost use Rattle.replica_store.specs.Replicas.{ServerDisk, row_at};
-ghost use Rattle.stored_replicas.specs.Rows.{rows_of};
+ghost use Rattle.store_disk.specs.Rows.{rows_of};
 ghost use Rattle.store_changes.specs.declared.fault.StoreFault.TheVariants as faults;
 ghost use Rattle.chunk_store.specs.Stores.{IsOpen};
 
@@ -13,9 +13,9 @@ use crate::store::Store;
 use disk::Disk;
 use gfs_types::ids::{Handle, OrderNo, Version};
 use replica_store::row::Row;
-use slot_index::HeldReplica;
 use std::alloc::{AllocError, Global};
 use store_changes::StoreFault;
+use store_disk::HeldReplica;
 
 impl<D: Disk> Store<D> {
     // Where a replica of exactly this version lies.

@@ -1,20 +1,19 @@
 //! Opening a store.
 
 ghost use Rattle.std.specs.Prelude.{◌≡◌, ◌<◌, ◌≤◌, ◌%◌, true, length, IfErr, IfOk};
-ghost use Rattle.gated_disk.specs.Moments.{LeavesOnly};
+ghost use Rattle.disk_redo.specs.GateMoments.{LeavesOnly};
 ghost use Rattle.replica_store.specs.Replicas.{ServerDisk};
-ghost use Rattle.store_format.specs.Formats.{is_head_open};
-ghost use Rattle.store_layout.specs.Places.{disk_size};
-ghost use Rattle.store_opening.specs.Opening.{HoldsReplicas, IsHeadOf, IsOpening};
-ghost use Rattle.store_opening.specs.declared.fault.OpenFault.TheVariants as faults;
+ghost use Rattle.store_disk.specs.Formats.{is_head_open};
+ghost use Rattle.store_disk.specs.Places.{disk_size};
+ghost use Rattle.chunk_store.specs.Opening.{HoldsReplicas, IsHeadOf, IsOpening};
+ghost use Rattle.chunk_store.specs.declared.fault.OpenFault.TheVariants as faults;
 ghost use Rattle.chunk_store.specs.Stores.{IsOpen};
 
 use crate::store::Store;
-use block_digests::HashedBlock;
+use crate::{OpenFault, open_disk};
 use disk::Disk;
 use std::alloc::Global;
-use store_layout::Layout;
-use store_opening::{OpenFault, open_disk};
+use store_disk::{HashedBlock, Layout};
 
 /// Opens a store, for chunks of whole blocks. A disk whose head is closed is formatted, and holds no replicas.
 ///

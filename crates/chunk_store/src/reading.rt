@@ -1,11 +1,11 @@
 //! Reading replicas.
 
 ghost use Rattle.std.specs.Prelude.{◌≡◌, ◌≢◌, ◌↔◌, IfOk, IsErrOf, None, Some};
-ghost use Rattle.gated_disk.specs.Moments.{OnlyReads};
+ghost use Rattle.disk_redo.specs.GateMoments.{OnlyReads};
 ghost use Rattle.replica_store.specs.declared.row.Row.{Row};
 ghost use Rattle.replica_store.specs.Replicas.{ServerDisk, read_at, row_at};
 ghost use Rattle.store_changes.specs.Faults.{MayFail};
-ghost use Rattle.store_reads.specs.Images.{image_at};
+ghost use Rattle.store_changes.specs.Images.{image_at};
 ghost use Rattle.chunk_store.specs.Stores.{IsOpen};
 ghost use Rattle.store_changes.specs.declared.fault.StoreFault.TheVariants as faults;
 
@@ -14,8 +14,7 @@ use bytes::Bytes;
 use disk::Disk;
 use gfs_types::ids::{Handle, Version};
 use std::alloc::Global;
-use store_changes::StoreFault;
-use store_reads::read_replica;
+use store_changes::{StoreFault, read_replica};
 
 impl<D: Disk> Store<D> {
     /// The bytes of a replica of exactly this version from `offset` on, at most `count`; those past its end aren't there. Bytes of a block that doesn't match its digest are never answered.

@@ -2,7 +2,7 @@
 
 ghost use Rattle.std.specs.Prelude.{◌≡◌, ◌<◌, ◌↔◌, OnOk, IsErrOf, None};
 ghost use Rattle.replica_store.specs.Replicas.{ServerDisk, row_at};
-ghost use Rattle.store_writes.specs.Rotting.{LeavesRotten, disk_rotten};
+ghost use Rattle.store_changes.specs.Rotting.{LeavesRotten, disk_rotten};
 ghost use Rattle.store_changes.specs.Faults.{IsRefused, MayFail};
 ghost use Rattle.chunk_store.specs.Stores.{IsOpen};
 ghost use Rattle.store_changes.specs.declared.fault.StoreFault.TheVariants as faults;
@@ -11,8 +11,7 @@ use crate::store::Store;
 use disk::Disk;
 use gfs_types::ids::Handle;
 use std::alloc::Global;
-use store_changes::StoreFault;
-use store_writes::rot;
+use store_changes::{StoreFault, rot};
 
 impl<D: Disk> Store<D> {
     /// A byte of a replica becomes another on the disk, past its digest, as a failing disk might do. The simulator's alone.

@@ -1,15 +1,13 @@
 //! The store over its disk.
 
 ghost use Rattle.std.specs.Prelude.{◌≡◌};
-ghost use Rattle.gated_disk.specs.Moments.{OnlyReads};
+ghost use Rattle.disk_redo.specs.GateMoments.{OnlyReads};
 ghost use Rattle.replica_store.specs.Replicas.{ServerDisk};
 ghost use Rattle.chunk_store.specs.Stores.{IsOpen};
 
-use block_digests::HashedBlock;
 use disk::Disk;
 use gfs_types::ids::OrderNo;
-use slot_index::SlotIndex;
-use store_layout::Layout;
+use store_disk::{HashedBlock, Layout, SlotIndex};
 
 /// A store that is open on its disk: the number of the last order that was taken, and where the replicas lie.
 #[derive(Drop)]

@@ -10,7 +10,7 @@ use crate::chunk::Chunk;
 use gfs_types::ids::{Moment, ServerId, Version};
 use gfs_types::lists::ServerList;
 use gfs_types::no_memory::NoMemory;
-use number_map::NumberMap;
+use ordered_map::number_map::NumberMap;
 use std::alloc::Global;
 
 pub(crate) fn issue_at(chunks: &mut NumberMap<Chunk>, handle: u64, version: Version)

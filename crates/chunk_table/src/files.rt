@@ -10,7 +10,7 @@ use crate::chunk::Chunk;
 use crate::chunks::share_each;
 use gfs_types::lists::HandleList;
 use gfs_types::no_memory::NoMemory;
-use number_map::NumberMap;
+use ordered_map::number_map::NumberMap;
 use std::alloc::Global;
 use std::mem;
 

@@ -15,7 +15,7 @@ use crate::files::{push_at, set_at, share_file};
 use gfs_types::ids::{FileId, Handle, MAX_COUNTER, Moment, ServerId, Version};
 use gfs_types::lists::{HandleList, ServerList};
 use gfs_types::no_memory::NoMemory;
-use number_map::NumberMap;
+use ordered_map::number_map::NumberMap;
 use std::alloc::Global;
 use std::marker::Model;
 

@@ -3,32 +3,32 @@
 ghost use Rattle.std.specs.Prelude.{◌≡◌, ◌%◌, [], IfOk};
 ghost use Rattle.replica_store.specs.Replicas.{new_server_disk};
 
+use crate::change::SaidChange;
+use crate::committing::commit;
+use crate::faults::fault_of_opening;
+use crate::finding::has_open_head;
+use crate::known::Known;
+use crate::looking::{is_copyable, is_writable, read};
+use crate::reopening::{made_in, open_again};
+use crate::rotting::rot;
+use crate::said::SaidDisk;
+use crate::standing::{Standing, closed};
 use bytes::Bytes;
 use chunk_store::{Store, open};
 use disk::Disk;
 use gfs_types::ids::{Handle, OrderNo};
 use gfs_types::no_memory::NoMemory;
 use gfs_types::torn::Torn;
-use known_replicas::known::Known;
 use messages::message_lists::ReplicaList;
 use replica_store::change::StoreChange;
 use replica_store::row::Row;
-use said_disk::change::SaidChange;
-use said_disk::said::SaidDisk;
 use server_store::fault::StoreFault;
+use server_store::stoppable_store::StoppableStore;
 use server_store::store::ReplicaStore;
 use std::alloc::Global;
 use std::marker::Model;
 use std::mem;
-use stoppable_store::StoppableStore;
-use store_layout::Layout;
-use store_standing::committing::commit;
-use store_standing::faults::fault_of_opening;
-use store_standing::finding::has_open_head;
-use store_standing::looking::{is_copyable, is_writable, read};
-use store_standing::reopening::{made_in, open_again};
-use store_standing::rotting::rot;
-use store_standing::standing::{Standing, closed};
+use store_disk::Layout;
 use stored_log::stoppable::StoppableDisk;
 
 /// A server's replicas on a disk. In memory it keeps the last order's number and each replica's row, so that it answers them while its disk
@@ -59,7 +59,7 @@ impl<D: StoppableDisk> Model for DiskStore<D> {
     ghost use Rattle.std.specs.Coded.{codes, coded_ℕ};
     ghost use Rattle.replica_store.specs.Replicas.{ServerDisk};
     ghost use Rattle.replica_store.specs.declared.change.StoreChange.{StoreChange as StoreChangeValue};
-    ghost use Rattle.store_standing.specs.Standing.{IsKept, changes_of};
+    ghost use Rattle.disk_store.specs.Standing.{IsKept, changes_of};
 
     ghost Value = { ServerDisk × List StoreChangeValue };
 

@@ -15,7 +15,7 @@ use Rattle.laws_versions.proofs.ClosedVersions.{clocks_before}
 use Rattle.laws_replicas.proofs.AppliedReached.{kept_both}
 use Rattle.laws_entries.specs.Entries.{IsAmong}
 use Rattle.laws_base.proofs.Steps.{none_some}
-use Rattle.protocol_invariant.specs.Explained.{AreSettings}
+use Rattle.protocol.specs.Explained.{AreSettings}
 use Rattle.laws_machine.specs.ChunksBeside.{IsMastersEvent}
 use Rattle.laws_machine.specs.Rounds.{IsMastersInput}
 use Rattle.laws_machine.specs.WholeWorlds.{IsWholeWorld, IsServersEvent}

@@ -25,7 +25,7 @@ use Rattle.laws_base.proofs.MessagesSent.{none_sent}
 use Rattle.laws_names.specs.Beside.{WasSent}
 use Rattle.laws_names.specs.FollowedSteps.{opened}
 use Rattle.laws_machine.specs.ChunksAlike.{ChunkSides}
-use Rattle.protocol_invariant.specs.Explained.{AreSettings}
+use Rattle.protocol.specs.Explained.{AreSettings}
 use Rattle.laws_machine.specs.OverRounds as over
 use Rattle.laws_machine.specs.Rounds.{log_as, IsMastersInput}
 use Rattle.laws_machine.specs.ChunksBeside.{IsMastersEvent}

@@ -45,7 +45,7 @@ use Rattle.laws_calls.proofs.BoundedCalls.{placings_are_of_few_entries}
 use Rattle.laws_calls.proofs.OpenEntries.{config_stays, entries_are_of_open_calls, entries_were_asked_for_in_their_call}
 use Rattle.laws_calls.proofs.ToldOnce.{handles_are_told_at_one_index}
 use Rattle.protocol_invariant.specs.Actions.{Spot}
-use Rattle.protocol_invariant.specs.Explained.{AreSettings}
+use Rattle.protocol.specs.Explained.{AreSettings}
 use Rattle.laws_machine.specs.ChunksAlike.{ChunkSides}
 use Rattle.laws_machine.specs.ServerSteps.{AreDataOf, HasPartLeft, IsForOpenCall, AreForOpenCalls}
 use Rattle.laws_machine.specs.WholeWorlds.{IsBeside}

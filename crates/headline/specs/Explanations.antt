@@ -3,7 +3,7 @@ use Rattle.std.specs.Prelude.{◌≡◌, ℕ, IsTrue}
 use Rattle.gfs_types.specs.declared.config.Config.{Config}
 use Rattle.relaxed_file.specs.Machine.{Machine}
 use Rattle.protocol.specs.World.{WorldState, IsReached, is_kept}
-use Rattle.protocol_invariant.specs.Explained.{Explains}
+use Rattle.protocol.specs.Explained.{Explains}
 use Rattle.laws_machine.specs.WholeWorlds.{IsWholeWorld}
 
 -- While the master is up, its files are shown.

@@ -9,7 +9,7 @@ use Rattle.protocol.specs.Choice.{Choice, Goes}
 use Rattle.protocol.specs.Master.{PendingSnapshot}
 use Rattle.protocol.specs.MasterStep.{master_goes}
 use Rattle.protocol.specs.World.{WorldState, happens, IsReached, is_kept}
-use Rattle.protocol_invariant.specs.Explained.{AreSettings}
+use Rattle.protocol.specs.Explained.{AreSettings}
 use Rattle.laws_machine.specs.ChunksAlike.{ChunkSides, AreChunksAlike, KeepsRounds}
 use Rattle.laws_machine.specs.Rounds.{IsLogOf, IsEnded, IsMastersInput, SentGrantsAreOpen}
 use Rattle.laws_machine.specs.ServerSteps.{AreGoneOrdersAlike}

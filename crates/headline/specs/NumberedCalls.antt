@@ -7,7 +7,7 @@ use Rattle.relaxed_file.specs.Run.{LeadsTo, IsRunTo}
 use Rattle.protocol.specs.Choice.{Choice}
 use Rattle.protocol.specs.Master.{PendingSnapshot}
 use Rattle.protocol.specs.World.{WorldState, happens, IsReached, is_kept}
-use Rattle.protocol_invariant.specs.Explained.{AreSettings}
+use Rattle.protocol.specs.Explained.{AreSettings}
 use Rattle.laws_machine.specs.ChunksAlike.{ChunkSides}
 use Rattle.laws_machine.specs.SentRequests.{AreRequestsOfCalls}
 use Rattle.laws_machine.specs.ServerSteps.{AreForOpenCalls}

@@ -5,7 +5,7 @@ use Rattle.gfs_types.specs.Settings.{first_out_of_range}
 use Rattle.messages.specs.declared.event.Event.{Event}
 use Rattle.protocol.specs.Choice.{Choice}
 use Rattle.protocol.specs.World.{WorldState, happens, IsReached, is_kept}
-use Rattle.protocol_invariant.specs.Explained.{AreSettings, IsExplained}
+use Rattle.protocol.specs.Explained.{AreSettings, IsExplained}
 use Rattle.laws_machine.specs.WholeWorlds.{IsWholeWorld}
 
 -- An event keeps the whole machine beside each world that is reached, where clocks and disks are kept.

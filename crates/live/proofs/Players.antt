@@ -12,11 +12,11 @@ use Rattle.gfs_types.specs.declared.refusal.Refusal.{Refusal}
 use Rattle.gfs_types.specs.declared.call.Call.{Call}
 use Rattle.gfs_types.specs.declared.ids.ClientId.{ClientId}
 use Rattle.gfs_types.specs.declared.no_memory.NoMemory.{NoMemory}
-use Rattle.cell_script.specs.declared.lines.ClientCall.{ClientCall}
+use Rattle.script.specs.declared.cell_lines.ClientCall.{ClientCall}
 use Rattle.gfs_types.specs.declared.ids.Node.{Node}
-use Rattle.live_script.specs.declared.lines.LiveLine.{LiveLine}
-use Rattle.live_script.specs.declared.lines.LiveLine.TheVariants as lines
-use Rattle.live_script.specs.Lines.{is_barrier}
+use Rattle.script.specs.declared.live_lines.LiveLine.{LiveLine}
+use Rattle.script.specs.declared.live_lines.LiveLine.TheVariants as lines
+use Rattle.script.specs.LiveLines.{is_barrier}
 use Rattle.script.specs.declared.options.Options.{Options}
 use Rattle.protocol_journal.specs.Journal.{Entry, own}
 use Rattle.cell_journal.specs.Identity.{Identity}

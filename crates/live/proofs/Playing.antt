@@ -6,7 +6,7 @@ use Rattle.gfs_types.specs.declared.answer.Answer.{Answer}
 use Rattle.gfs_types.specs.declared.answer.Answer.TheVariants as answer
 use Rattle.gfs_types.specs.declared.call.Call.{Call}
 use Rattle.gfs_types.specs.declared.refusal.Refusal.{Refusal}
-use Rattle.live_script.specs.declared.lines.LiveLine.{LiveLine}
+use Rattle.script.specs.declared.live_lines.LiveLine.{LiveLine}
 use Rattle.cell_seats.specs.Seen.{Visible, Asked, Answered}
 use Rattle.cell_seats.specs.Seats.{is_the_cells}
 use Rattle.live.specs.Playing.{calls_on, calls_of, shown_as, AreOfTheCell, AreAnswered, HasPlayed}

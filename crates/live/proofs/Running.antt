@@ -2,8 +2,8 @@
 use Rattle.std.proofs.Common.{◌≡◌, ℕ, List, Option, Some, None, map, subst, ◌∙◌}
 use Rattle.std.specs.Prelude.{IfSome}
 use Rattle.std.specs.Io.KnownBytes.{Appends}
-use Rattle.live_script.specs.declared.lines.LiveLine.{LiveLine}
-use Rattle.live_script.specs.Scripts.{AreLines}
+use Rattle.script.specs.declared.live_lines.LiveLine.{LiveLine}
+use Rattle.script.specs.Scripts.{AreLines}
 use Rattle.script.specs.declared.options.Options.{Options}
 use Rattle.live.specs.declared.play.Player.{Player}
 use Rattle.live.specs.Live.{AreAnswersOf, Prints, told_from}

@@ -15,8 +15,8 @@ use Rattle.script.specs.declared.options.Options.{Options}
 use Rattle.script.specs.Answers.{answer_line}
 use Rattle.script.specs.declared.script_fault.ScriptFault.{ScriptFault}
 use Rattle.script.specs.declared.script_fault.ScriptFault.TheVariants as fault
-use Rattle.live_script.specs.declared.lines.LiveLine.{LiveLine}
-use Rattle.live_script.specs.Scripts.{lines_in, AreLines, IsFirstBad}
+use Rattle.script.specs.declared.live_lines.LiveLine.{LiveLine}
+use Rattle.script.specs.Scripts.{lines_in, AreLines, IsFirstBad}
 use Rattle.live.specs.Playing.{calls_of, AreAnswered}
 
 -- each line is in the language, and names no client but the first so many

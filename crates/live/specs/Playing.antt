@@ -4,8 +4,8 @@ use Rattle.gfs_types.specs.declared.answer.Answer.{Answer}
 use Rattle.gfs_types.specs.declared.answer.Answer.TheVariants as answer
 use Rattle.gfs_types.specs.declared.call.Call.{Call}
 use Rattle.gfs_types.specs.declared.ids.Node.TheVariants.{Client}
-use Rattle.live_script.specs.declared.lines.LiveLine.{LiveLine}
-use Rattle.live_script.specs.declared.lines.LiveLine.TheVariants as lines
+use Rattle.script.specs.declared.live_lines.LiveLine.{LiveLine}
+use Rattle.script.specs.declared.live_lines.LiveLine.TheVariants as lines
 use Rattle.cell_journal.specs.Identity.{Identity}
 use Rattle.cell_seats.specs.Seen.{Visible, Asked, Answered}
 use Rattle.cell_seats.specs.Seats.{seat_state, is_the_cells, shown}

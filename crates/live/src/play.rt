@@ -8,7 +8,7 @@ use gfs_types::answer::Answer;
 use gfs_types::call::Call;
 use gfs_types::ids::ClientId;
 use gfs_types::no_memory::NoMemory;
-use live_script::lines::LiveLine;
+use script::live_lines::LiveLine;
 use std::alloc::Global;
 use std::sync::Wait;
 use std::time::Clock;

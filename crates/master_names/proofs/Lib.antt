@@ -1,2 +1,4 @@
+pub mod Sources
+pub mod Waits
 pub mod Parts
 pub mod Snapshots

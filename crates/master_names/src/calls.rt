@@ -10,14 +10,14 @@ ghost use Rattle.master_plan.specs.Plans.{doing};
 ghost use Rattle.master_names.specs.Doing.{answered, IsPlanned};
 
 use crate::answers::{changes_names, settles_name};
+use crate::begins::begins_snapshot;
 use gfs_types::ids::{ClientId, MAX_COUNTER, Moment};
 use gfs_types::lists::Text;
 use log_records::record::Record;
 use master_plan::fault::PlanFault;
 use master_plan::plan::Plan;
-use master_snapshots::begins::begins_snapshot;
+use master_plan::waiting::Pending;
 use master_state::names::path_of;
-use master_waits::waiting::Pending;
 use operation_log::log::OperationLog;
 use std::alloc::Allocator;
 

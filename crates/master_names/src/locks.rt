@@ -10,7 +10,7 @@ use gfs_types::call::Call;
 use gfs_types::ids::ClientId;
 use gfs_types::lists::Text;
 use master_plan::plan::Plan;
-use master_waits::waiting::Pending;
+use master_plan::waiting::Pending;
 use path_trie::parts::is_below;
 use std::alloc::Allocator;
 

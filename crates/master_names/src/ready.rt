@@ -5,12 +5,12 @@ ghost use Rattle.protocol.specs.MasterSnapshots.{is_ready, takes_snapshot, takes
 ghost use Rattle.master_names.specs.Doing.{IsPlanned};
 
 use crate::answers::changes_names;
+use crate::awaited::has_waited;
+use crate::begins::lets_go;
 use log_records::record::Record;
 use master_plan::fault::PlanFault;
 use master_plan::plan::Plan;
-use master_snapshots::awaited::has_waited;
-use master_snapshots::begins::lets_go;
-use master_waits::waiting::Pending;
+use master_plan::waiting::Pending;
 use operation_log::log::OperationLog;
 use std::alloc::Allocator;
 

@@ -9,8 +9,8 @@ use crate::locks::is_busy;
 use gfs_types::call::Call;
 use gfs_types::no_memory::NoMemory;
 use gfs_types::refusal::Refusal;
-use master_looks::refusals::{rmdir_refusal, snapshot_refusal};
 use master_plan::plan::Plan;
+use master_replay::refusals::{rmdir_refusal, snapshot_refusal};
 use std::alloc::Allocator;
 
 // Why a call is refused now: its paths first, then locks, then the names.

@@ -11,7 +11,7 @@ use Rattle.chunk_table.specs.ChunkTable.{NumberTable, ChunkRow, ChunkTable, new_
 use Rattle.chunk_table.proofs.Lookups.{at_key, get_changed, get_left, row_after}
 use Rattle.protocol.specs.Tables.{removed_all}
 use Rattle.protocol.specs.Logged.{Logged, Copy, after_record, swapped_in, with_copied_node, with_copied_nodes, copies_given_up, copies_for_file}
-use Rattle.doubted_chunks.specs.Doubts.{granted_chunk}
+use Rattle.rereplicate.specs.Doubts.{granted_chunk}
 
 abbrev pub granted_of : Option ChunkRow → ℕ
 granted_of None = 0

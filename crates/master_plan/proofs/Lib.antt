@@ -1,3 +1,5 @@
+pub mod Concerning
+pub mod Followed
 pub mod Logs
 pub mod LogBytes
 pub mod Empty

@@ -17,7 +17,7 @@ use Rattle.rereplicate.specs.Whole.{lacks, lacks_of}
 use Rattle.rereplicate.proofs.Wholeness.{more_present, same_versions, whole_before, undoubted}
 use Rattle.master_plan.specs.Plans.{known, started}
 use Rattle.master_plan.specs.Watched.{IsWholeAt, AllStay}
-use Rattle.doubted_chunks.specs.Doubts.{granted_chunk, with_granted, held_in}
+use Rattle.rereplicate.specs.Doubts.{granted_chunk, with_granted, held_in}
 use Rattle.master_plan.proofs.Granted.{granted_of, kept, ended, all_removed}
 
 -- whether a chunk of which this version is granted lacks replicas

@@ -7,9 +7,9 @@ use Rattle.chunk_table.specs.ChunkTable.{set_end}
 use Rattle.protocol.specs.Tables.{Table}
 use Rattle.protocol.specs.Logged.{Logged, after_record, copies_given_up}
 use Rattle.master_plan.specs.Watched.{IsWholeAt}
-use Rattle.doubted_chunks.specs.Doubts.{granted_chunk, with_granted, held_in, AreDoubtedAsChanged}
+use Rattle.rereplicate.specs.Doubts.{granted_chunk, with_granted, held_in, AreDoubtedAsChanged}
 use Rattle.master_plan.proofs.StillWhole.{whole_appended, whole_given_up, whole_ended, whole_held, as_noted}
-use Rattle.doubted_chunks.proofs.Doubting.{after_change, mapped_if}
+use Rattle.rereplicate.proofs.Doubting.{after_change, mapped_if}
 
 module _ (config : Config) (server_count : ℕ) (reported : Table ℕ) (o n : Option ℕ) (kept : IfSome n (λ m. o ≡ Some m)) where
   abbrev whole : Logged → Table (Table ℕ) → Table Unit → ℕ → Type 0

@@ -1,3 +1,5 @@
+pub mod Coding
+pub mod Concerned
 pub mod Faults
 pub mod Changes
 pub mod Plans

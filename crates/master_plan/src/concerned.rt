@@ -6,8 +6,8 @@ ghost use Rattle.master_plan.specs.Plans.{known};
 
 use crate::fault::PlanFault;
 use crate::plan::Plan;
+use crate::waiting_concerned::{chunks_of_all, files_of_all, has};
 use gfs_types::ids::Handle;
-use master_waits::concerned::{chunks_of_all, files_of_all, has};
 use std::alloc::Allocator;
 
 impl<A: Allocator + Clone> Plan<A> {

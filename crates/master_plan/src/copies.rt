@@ -9,8 +9,8 @@ ghost use Rattle.master_plan.specs.Plans.{without_copies, without_attempts, with
 
 use crate::fault::PlanFault;
 use crate::plan::Plan;
+use crate::waiting::Attempt;
 use gfs_types::ids::{Handle, Moment};
-use master_waits::waiting::Attempt;
 use ordered_map::OrderedMap;
 use std::alloc::Allocator;
 

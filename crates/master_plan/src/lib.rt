@@ -14,4 +14,7 @@ pub mod reports;
 pub mod room;
 pub mod sizes;
 pub mod snapshots;
+pub mod waiting;
+pub mod waiting_concerned;
+pub mod waiting_snapshots;
 pub mod whole;

@@ -11,13 +11,13 @@ use crate::change::{Change, RecordList};
 use crate::fault::PlanFault;
 use crate::plan::Plan;
 use crate::sizes::{bytes_used, checkpoint_bytes};
-use doubted_chunks::doubts::doubt_granted;
+use crate::waiting_concerned::{follow, stays_known, touches};
 use log_records::record::Record;
-use master_log::replay::replay;
-use master_looks::checkpoint::checkpoint_items;
-use master_waits::concerned::{follow, stays_known, touches};
+use master_replay::checkpoint::checkpoint_items;
+use master_replay::replay::replay;
 use operation_log::log::OperationLog;
 use operation_log::sizes::used_with;
+use rereplicate::doubts::doubt_granted;
 use std::alloc::Allocator;
 
 /// Logs a record, after a checkpoint where there is no room for it, and the state follows. False: there is no room even so, or the

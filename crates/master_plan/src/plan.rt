@@ -9,16 +9,16 @@ ghost use Rattle.master_plan.specs.Plans.{known, told};
 
 use crate::change::ChangeList;
 use crate::fault::PlanFault;
+use crate::waiting::{Attempt, Pending};
 use chunk_table::chunk::Chunk;
 use gfs_types::config::Config;
 use gfs_types::ids::{Handle, Moment, Node, Version};
 use leases::master::ended;
 use master_state::state::State;
-use master_waits::waiting::{Attempt, Pending};
 use messages::message::{Body, Message};
 use messages::message_lists::MessageList;
-use number_map::NumberMap;
 use ordered_map::OrderedMap;
+use ordered_map::number_map::NumberMap;
 use protocol::seen::{Seen, SeenList};
 use rereplicate::whole::Doubted;
 use std::alloc::{Allocator, Global};
@@ -82,7 +82,7 @@ impl<A: Allocator> Model for Plan<A> {
     ghost use Rattle.master_plan.specs.Changes.{changes_of};
     ghost use Rattle.master_plan.specs.Plans.{PlanState};
     ghost use Rattle.master_plan.specs.Watched.{IsWholeAt};
-    ghost use Rattle.master_waits.specs.Concerned.{AreConcerned, IfKnown};
+    ghost use Rattle.master_plan.specs.Concerned.{AreConcerned, IfKnown};
 
     ghost Value = { PlanState };
 

@@ -6,12 +6,12 @@ ghost use Rattle.master_plan.specs.Reports.{with_holder, with_report, table_of_l
 
 use crate::fault::PlanFault;
 use crate::plan::Plan;
-use doubted_chunks::doubts::{doubt, doubt_changed};
+use crate::waiting::Attempt;
 use gfs_types::ids::{Handle, ServerId, Version};
-use master_waits::waiting::Attempt;
 use messages::message::ReplicaLine;
-use number_map::NumberMap;
 use ordered_map::OrderedMap;
+use ordered_map::number_map::NumberMap;
+use rereplicate::doubts::{doubt, doubt_changed};
 use std::alloc::{AllocError, Allocator, Global};
 
 impl<A: Allocator + Clone> Plan<A> {

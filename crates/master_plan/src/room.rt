@@ -8,7 +8,7 @@ use gfs_types::ids::Moment;
 use gfs_types::lists::Text;
 use gfs_types::no_memory::NoMemory;
 use gfs_types::path::Path;
-use master_looks::room::has_room_to_copy;
+use master_replay::room::has_room_to_copy;
 use std::alloc::Allocator;
 
 impl<A: Allocator + Clone> Plan<A> {

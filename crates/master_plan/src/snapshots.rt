@@ -3,10 +3,10 @@
 ghost use Rattle.std.specs.Prelude.{◌≡◌, ◌==◌, ◌&&◌, ◌++◌, ◌∷◌, [], not, filter, IfOk, OnOk};
 
 use crate::plan::Plan;
+use crate::waiting::{Awaited, Pending};
+use crate::waiting_snapshots::{copies_of, note_at_call, remove_call};
 use gfs_types::ids::ClientId;
 use gfs_types::no_memory::NoMemory;
-use master_waits::snapshots::{copies_of, note_at_call, remove_call};
-use master_waits::waiting::{Awaited, Pending};
 use ordered_map::OrderedMap;
 use std::alloc::Allocator;
 

@@ -7,14 +7,14 @@ ghost use Rattle.protocol.specs.Logged.{after_record, snapshot_logged};
 ghost use Rattle.master_state.specs.Follows.{follows, copies_follow, node_follows, table_of};
 ghost use Rattle.master_state.specs.declared.fault.ReplayFault.TheVariants.{Damaged};
 
+use crate::copied::copied_names;
 use gfs_types::ids::ClientId;
 use gfs_types::lists::Text;
-use master_looks::copied::copied_names;
 use master_state::fault::ReplayFault;
+use master_state::name_kind::NameKind;
 use master_state::names::path_of;
+use master_state::node::NameNode;
 use master_state::state::State;
-use namespace::name_kind::NameKind;
-use namespace::node::NameNode;
 use std::alloc::Allocator;
 
 /// The replay of a Snapshot: each name at the source or below it is copied, and its file's chunks are shared. Damaged: a text is no

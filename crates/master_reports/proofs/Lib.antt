@@ -1,2 +1,5 @@
 pub mod Extended
 mod Learning
+pub mod Kept
+pub mod Held
+pub mod Files

@@ -6,7 +6,7 @@ ghost use Rattle.protocol.specs.MasterReports.{holds_now, takes_recorded, takes_
 ghost use Rattle.master_plan.specs.Plans.{doing};
 
 use gfs_types::ids::{Handle, Moment, ServerId, Version};
-use master_grants::learning::learns;
+use master_chunks::learning::learns;
 use master_plan::fault::PlanFault;
 use master_plan::plan::Plan;
 use operation_log::log::OperationLog;

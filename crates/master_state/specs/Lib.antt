@@ -1,3 +1,4 @@
+pub mod NameKinds
 pub mod Faults
 pub mod Coding
 pub mod Follows

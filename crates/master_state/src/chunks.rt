@@ -12,11 +12,11 @@ ghost use Rattle.master_state.specs.declared.fault.ReplayFault.TheVariants.{Dama
 use crate::fault::ReplayFault;
 use crate::kept::CopyRow;
 use crate::names::path_of;
+use crate::node::NameNode;
 use crate::state::State;
 use chunk_table::fault::TableFault;
 use gfs_types::ids::{ClientId, FileId, Handle, ServerId, Version};
 use gfs_types::lists::{ServerList, Text};
-use namespace::node::NameNode;
 use std::alloc::Allocator;
 
 impl<A: Allocator + Clone> State<A> {

@@ -11,12 +11,12 @@ ghost use Rattle.master_state.specs.declared.fault.ReplayFault.TheVariants.{Dama
 
 use crate::fault::ReplayFault;
 use crate::names::path_of;
+use crate::node::NameNode;
 use crate::state::State;
 use chunk_table::fault::TableFault;
 use chunk_table::table::Table;
 use gfs_types::ids::{FileId, Handle};
 use gfs_types::lists::{HandleList, Text};
-use namespace::node::NameNode;
 use std::alloc::Allocator;
 use std::mem;
 

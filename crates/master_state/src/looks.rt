@@ -8,6 +8,7 @@ ghost use Rattle.relaxed_file.specs.NameStep.{outcome_by};
 ghost use Rattle.protocol.specs.MasterNames.{reply_by};
 ghost use Rattle.master_state.specs.Refusals.{refusal_by};
 
+use crate::name_kind::NameKind;
 use crate::refusals::parsed;
 use crate::state::State;
 use gfs_types::answer::Answer;
@@ -15,7 +16,6 @@ use gfs_types::lists::Text;
 use gfs_types::no_memory::NoMemory;
 use gfs_types::refusal::Refusal;
 use messages::message::NameReply;
-use namespace::name_kind::NameKind;
 use std::alloc::Allocator;
 
 impl<A: Allocator + Clone> State<A> {

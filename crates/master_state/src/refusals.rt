@@ -7,13 +7,13 @@ ghost use Rattle.relaxed_file.specs.Names.{is_dir, is_dir_node, is_taken};
 ghost use Rattle.relaxed_file.specs.NameStep.{is_in_trash};
 ghost use Rattle.master_state.specs.Refusals.{refusal_by};
 
+use crate::name_kind::NameKind;
+use crate::node::NameNode;
 use crate::state::State;
 use gfs_types::lists::Text;
 use gfs_types::no_memory::NoMemory;
 use gfs_types::path::{Path, PathFault};
 use gfs_types::refusal::Refusal;
-use namespace::name_kind::NameKind;
-use namespace::node::NameNode;
 use path_trie::parts;
 use std::alloc::{Allocator, Global};
 

@@ -3,22 +3,22 @@ use Rattle.std.proofs.Common.{◌≡◌, ℕ, ◌+◌, ◌<◌, ◌≤◌, ◌^�
 use Rattle.std.proofs.lemmas.Bool.{leb-true}
 use Rattle.disk.specs.Bytes.{put_at}
 use Rattle.disk.specs.Device.{Only}
-use Rattle.gated_disk.specs.Gates.{committed, IsCommitting, IsUncommitted}
-use Rattle.gated_disk.specs.Moments.{LeavesOnly}
-use Rattle.gated_disk.proofs.Moments.{started}
-use Rattle.gated_disk.proofs.Ranges.{put_changes}
+use Rattle.disk_redo.specs.Gates.{committed, IsCommitting, IsUncommitted}
+use Rattle.disk_redo.specs.GateMoments.{LeavesOnly}
+use Rattle.disk_redo.proofs.Moments.{started}
+use Rattle.disk_redo.proofs.Ranges.{put_changes}
 use Rattle.log_records.specs.declared.record.Record.{Record}
 use Rattle.log_codec.specs.Payloads.{payload}
-use Rattle.log_area.specs.Entries.{entry, IsLogged}
-use Rattle.log_area.specs.Areas.{AreaState, end_of}
-use Rattle.log_area.specs.Layout.{area_at, area_size, record_fits}
-use Rattle.log_area.proofs.Parsing.{entry_len}
-use Rattle.log_disk.specs.Disks.{DiskSays, HasLog}
-use Rattle.log_disk.specs.Changes.{appended, IsBeforeOrAfter}
+use Rattle.oplog.specs.Entries.{entry, IsLogged}
+use Rattle.oplog.specs.Areas.{AreaState, end_of}
+use Rattle.oplog.specs.Layout.{area_at, area_size, record_fits}
+use Rattle.oplog.proofs.Parsing.{entry_len}
+use Rattle.oplog.specs.Disks.{DiskSays, HasLog}
+use Rattle.oplog.specs.Changes.{appended, IsBeforeOrAfter}
 use Rattle.oplog.specs.Logs.{IsOpen}
 use Rattle.oplog.specs.declared.log.Log.{Log}
-use Rattle.log_disk.proofs.Areas.{end_more}
-use Rattle.log_disk.proofs.Disks.{areas_fit, has_log, first_write, both_written, stopped, room}
+use Rattle.oplog.proofs.DiskAreas.{end_more}
+use Rattle.oplog.proofs.Disks.{areas_fit, has_log, first_write, both_written, stopped, room}
 
 module _ {D : Type 0} (seen : D → List ℕ) (may_leave : D → List ℕ → Type 0) (log : Log D) (area : AreaState) (is_open : IsOpen seen may_leave log area) where
   -- before the first call, and where there is none

@@ -1,2 +1,14 @@
+pub mod Counted
+pub mod Entries
+pub mod Order
+pub mod Areas
+pub mod Layout
+pub mod Walks
+pub mod Disks
+pub mod Changes
 pub mod Faults
 pub mod Logs
+pub mod Writing
+pub mod Checkpoints
+pub mod NewLogs
+pub mod Opening

@@ -1,9 +1,9 @@
 -- A log that is open on its disk.
 use Rattle.std.specs.Prelude.{◌≡◌, ℕ, ◌<◌, ◌≤◌, List, Result, IsErrOf}
 use Rattle.disk.specs.Device.{Only}
-use Rattle.log_area.specs.Areas.{AreaState, end_of}
-use Rattle.log_area.specs.Layout.{area_at, area_size}
-use Rattle.log_disk.specs.Disks.{DiskSays}
+use Rattle.oplog.specs.Areas.{AreaState, end_of}
+use Rattle.oplog.specs.Layout.{area_at, area_size}
+use Rattle.oplog.specs.Disks.{DiskSays}
 use Rattle.oplog.specs.declared.fault.LogFault.{LogFault}
 use Rattle.oplog.specs.declared.fault.LogFault.TheVariants.{Device}
 use Rattle.oplog.specs.declared.log.Log.{Log}

@@ -2,23 +2,23 @@
 
 ghost use Rattle.std.specs.Prelude.{◌≡◌, ◌<◌, ◌≤◌, ◌+◌, ◌⊎◌, ◌↔◌, ◌++◌, ◌∷◌, [], true, false, length, IfOk, OnOk, IsErrOf};
 ghost use Rattle.disk.specs.Device.{HasCause, Only};
-ghost use Rattle.gated_disk.specs.Gates.{committed, IsCommitting, IsUncommitted};
-ghost use Rattle.gated_disk.specs.Moments.{LeavesOnly};
+ghost use Rattle.disk_redo.specs.Gates.{committed, IsCommitting, IsUncommitted};
+ghost use Rattle.disk_redo.specs.GateMoments.{LeavesOnly};
 ghost use Rattle.disk.specs.declared.device.DiskFault.TheVariants as disk_faults;
 ghost use Rattle.log_codec.specs.Fields.{IsIndex};
 ghost use Rattle.log_codec.specs.Payloads.{is_item, payload, IsWritable};
-ghost use Rattle.log_area.specs.Areas.{AreaState};
-ghost use Rattle.log_area.specs.Entries.{entry, IsEntry};
-ghost use Rattle.log_area.specs.Layout.{area_size, record_fits};
-ghost use Rattle.log_disk.specs.Changes.{appended, IsBeforeOrAfter};
+ghost use Rattle.oplog.specs.Areas.{AreaState};
+ghost use Rattle.oplog.specs.Entries.{entry, IsEntry};
+ghost use Rattle.oplog.specs.Layout.{area_size, record_fits};
+ghost use Rattle.oplog.specs.Changes.{appended, IsBeforeOrAfter};
 ghost use Rattle.oplog.specs.Logs.{IsOpen, MayFail};
 ghost use Rattle.oplog.specs.declared.fault.LogFault.TheVariants as faults;
 
 use crate::fault::LogFault;
+use crate::put_entry;
 use disk::{Disk, DiskFault};
-use gated_disk::commit;
+use disk_redo::gate::commit;
 use gfs_types::no_memory::NoMemory;
-use log_area::put_entry;
 use log_codec::encoded_len;
 use log_records::record::Record;
 use std::alloc::Global;

@@ -10,9 +10,9 @@ use Rattle.std.proofs.lemmas.Bool.Decides.{nat_tests}
 use Rattle.std.proofs.Math.Logic.{⊎_elim}
 use Rattle.std.specs.Map.{lookup}
 use Rattle.std.specs.BTreeMap.{is_at}
-use Rattle.number_map.specs.Places.{at_number}
-use Rattle.number_map.proofs.Maps.{find_lookup}
-use Rattle.number_map.proofs.Places.{same_number, other_number, get-at_number, at_another}
+use Rattle.ordered_map.specs.Places.{at_number}
+use Rattle.ordered_map.proofs.Maps.{find_lookup}
+use Rattle.ordered_map.proofs.NumberPlaces.{same_number, other_number, get-at_number, at_another}
 use Rattle.ordered_map.specs.Rising.{IsRising, flat, IsTied, IsForest}
 use Rattle.ordered_map.proofs.Places.{first, second, both, less, after_lt, not_below}
 

@@ -1,3 +1,10 @@
+pub mod Numbers
+pub mod Blocks
+pub mod Items
+pub mod Maps
+pub mod NumberPlaces
+pub mod Ranks
+pub mod NumberVariants
 pub mod Counts
 pub mod Filtered
 pub mod Forests

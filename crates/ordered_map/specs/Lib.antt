@@ -1,3 +1,6 @@
+pub mod BlockLending
+pub mod NumberLending
+pub mod Places
 pub mod ForestLending
 pub mod LeafLending
 pub mod Lending

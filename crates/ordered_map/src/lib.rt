@@ -1,9 +1,11 @@
 //! A finite map from numbers whose entries can be gone through in order. Contracts see it as the map alone.
 #![tactic(auto)]
 
+mod block;
 mod forest;
 pub mod iter;
 mod leaf;
+pub mod number_map;
 
 ghost use Rattle.std.specs.Prelude.{◌≡◌, ℕ, IfNone, IfOk, OnOk, OnErr};
 ghost use Rattle.std.specs.Option.{option_copied, option_copied_mut};

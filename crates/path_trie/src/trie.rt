@@ -5,14 +5,14 @@ ghost use Rattle.std.specs.FinMap as map;
 ghost use Rattle.gfs_types.specs.Paths.{front_below};
 ghost use Rattle.path_trie.specs.Below.{children_by_part, has_below, has_at_or_below};
 
+use crate::below::{has_more, has_slash_behind};
 use crate::child::Child;
 use crate::entries::{add_behind, add_names};
+use crate::insert::insert;
+use crate::remove::remove;
+use crate::tree::Tree;
 use gfs_types::no_memory::NoMemory;
 use gfs_types::path::Path;
-use label_tree::below::{has_more, has_slash_behind};
-use label_tree::tree::Tree;
-use label_tree_changes::insert::insert;
-use label_tree_changes::remove::remove;
 use std::alloc::{Allocator, Global};
 use std::marker::Model;
 

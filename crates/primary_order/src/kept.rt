@@ -7,7 +7,7 @@ ghost use Rattle.primary_order.specs.PrimaryOrder.{answer_by, restored, with_sta
 use crate::answer::{Accept, Settled};
 use gfs_types::ids::ClientId;
 use gfs_types::refusal::Refusal;
-use number_map::NumberMap;
+use ordered_map::number_map::NumberMap;
 
 /// What became of an attempt that the primary took.
 #[derive(Clone, Copy, Debug, PartialEq, Eq)]

@@ -14,7 +14,7 @@ use gfs_types::ids::{ClientId, DataId, Moment, Serial, ServerId};
 use gfs_types::no_memory::NoMemory;
 use gfs_types::refusal::Refusal;
 use leases::lease::Lease;
-use number_map::NumberMap;
+use ordered_map::number_map::NumberMap;
 use std::alloc::Global;
 
 /// A lease with the last serial, whether it numbered a mutation since the last report, each client's last attempt, and the mutations

@@ -8,7 +8,7 @@ ghost use Rattle.primary_order.specs.PrimaryOrder.{settled_by, waiting_by, witho
 use gfs_types::ids::ClientId;
 use gfs_types::lists::ServerList;
 use gfs_types::no_memory::NoMemory;
-use number_map::NumberMap;
+use ordered_map::number_map::NumberMap;
 use std::alloc::Global;
 use std::marker::Model;
 

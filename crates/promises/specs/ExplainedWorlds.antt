@@ -10,7 +10,7 @@ use Rattle.relaxed_file.specs.Machine.{Machine}
 use Rattle.protocol.specs.Tables.{element_at}
 use Rattle.protocol.specs.Observer.{entries_of}
 use Rattle.protocol.specs.World.{WorldState, IsReached, is_kept}
-use Rattle.protocol_invariant.specs.Explained.{AreSettings, Explains, IsExplained}
+use Rattle.protocol.specs.Explained.{AreSettings, Explains, IsExplained}
 use Rattle.promises.specs.Answered.{WasAnswered, IsOf}
 use Rattle.promises.specs.Promises.{Promises}
 

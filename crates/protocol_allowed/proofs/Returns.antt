@@ -14,7 +14,7 @@ use Rattle.relaxed_file.specs.Parts.{has_part}
 use Rattle.relaxed_file.specs.Machine.{Machine, OpenCall, chunk_size, chunk_count}
 use Rattle.relaxed_file.specs.Chunks.{tries_below}
 use Rattle.relaxed_file.specs.Answers.{HasSuccess, IsWrite, IsAppendAt, IsDone, IsCause, MayReturn, is_too_long, uses_chunks}
-use Rattle.protocol_invariant.specs.Each.{EachNumber}
+use Rattle.protocol.specs.Each.{EachNumber}
 use Rattle.protocol_invariant.specs.Allowed.{HasOne, is_write, is_append_at, IsAnswer, IsCauseOf, IsReturn}
 use Rattle.protocol_allowed.proofs.Tests.{on_some, is_there}
 use Rattle.protocol_allowed.proofs.Successes.{write_is, append_is, has_success, part_below}

@@ -16,7 +16,7 @@ use Rattle.relaxed_file.specs.Machine.{Machine, OpenCall, chunk_size, chunk_coun
 use Rattle.relaxed_file.specs.Chunks.{tries_below}
 use Rattle.relaxed_file.specs.Answers.{HasSuccess, IsWrite, IsAppendAt, IsDone, IsCause, MayReturn, is_too_long, uses_chunks}
 use Rattle.relaxed_file.specs.Run.{IsReached}
-use Rattle.protocol_invariant.specs.Each.{EachNumber}
+use Rattle.protocol.specs.Each.{EachNumber}
 use Rattle.protocol_invariant.specs.Allowed.{HasOne, is_write, is_append_at, is_read_as, IsAnswer, IsCauseOf, IsReturn}
 use Rattle.protocol_allowed.proofs.Tests.{has_value}
 use Rattle.protocol_allowed.proofs.SuccessesBack.{write_passes, append_passes, has_one, place_within}

@@ -21,7 +21,7 @@ use Rattle.relaxed_file.specs.Reads.{MayOffer, MayNote, MayLookPast, MayMeasureN
 use Rattle.relaxed_file.specs.Machine as machine
 use Rattle.relaxed_file.specs.Answers.{may_give_up, is_too_long, uses_chunks, MayReturnFd}
 use Rattle.relaxed_file.specs.Run.{Action, Invoke, Return, ReturnFd, Step, FindBusy, FindFull, Lock, Expire, Add, OpenRound, CloseRound, Place, Settle, Tell, Note, Look, LookPast, Measure, MeasureNone, Pass, MayExpire}
-use Rattle.protocol_invariant.specs.Each.{EachNumber}
+use Rattle.protocol.specs.Each.{EachNumber}
 
 -- of the client's open call, which it has
 abbrev pub OnOpenCall : Machine → ℕ → (OpenCall → Type 0) → Type 0

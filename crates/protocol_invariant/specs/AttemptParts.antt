@@ -27,7 +27,7 @@ use Rattle.client_state.specs.declared.call.Stage.{Stage}
 use Rattle.client_state.specs.declared.call.Stage.TheVariants.{SentData, SentMutate}
 use Rattle.protocol.specs.Observer.{Placed, order_of, calls_made}
 use Rattle.protocol.specs.World.{WorldState}
-use Rattle.protocol_invariant.specs.Each.{EachEntry, EachServer}
+use Rattle.protocol.specs.Each.{EachEntry, EachServer}
 use Rattle.protocol_invariant.specs.Sent.{Granted, Mutated, grant_of, get_under}
 use Rattle.protocol_invariant.specs.Ghost.{Ghost, Purpose, purpose_of}
 use Rattle.protocol_invariant.specs.Leases.{IsStale}

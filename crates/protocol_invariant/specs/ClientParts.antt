@@ -34,7 +34,7 @@ use Rattle.protocol.specs.ClientAttempts.{is_length, read_start, read_count}
 use Rattle.protocol.specs.ClientCache.{last_opened}
 use Rattle.protocol.specs.Observer.{entries_of}
 use Rattle.protocol.specs.World.{WorldState}
-use Rattle.protocol_invariant.specs.Each.{EachEntry, EachClient, EachNumber}
+use Rattle.protocol.specs.Each.{EachEntry, EachClient, EachNumber}
 use Rattle.protocol_invariant.specs.Ghost.{Ghost, Purpose, purpose_of, logged_of}
 use Rattle.protocol_invariant.specs.Allowed.{AreEarlierSettled, IsReturn, IsCauseOf, HasOne, is_write}
 

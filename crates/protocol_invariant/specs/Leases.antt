@@ -11,7 +11,7 @@ use Rattle.protocol.specs.Tables.{has_number}
 use Rattle.replica_store.specs.Replicas.{is_new_order}
 use Rattle.protocol.specs.Server.{ServerState}
 use Rattle.protocol.specs.World.{WorldState}
-use Rattle.protocol_invariant.specs.Each.{EachEntry, EachServer, EachClient, AtServer}
+use Rattle.protocol.specs.Each.{EachEntry, EachServer, EachClient, AtServer}
 use Rattle.protocol_invariant.specs.Sent.{Granted, grant_of, grants_of}
 use Rattle.protocol_invariant.specs.Ghost.{Ghost, logged_of}
 

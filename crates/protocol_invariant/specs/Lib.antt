@@ -1,4 +1,3 @@
-pub mod Each
 pub mod Sent
 pub mod Ghost
 pub mod Leases
@@ -8,7 +7,6 @@ pub mod ReplicaParts
 pub mod AttemptParts
 pub mod Advance
 pub mod Allowed
-pub mod Explained
 pub mod Actions
 pub mod MachineParts
 pub mod ClientParts

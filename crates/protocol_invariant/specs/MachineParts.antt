@@ -8,7 +8,7 @@ use Rattle.primary_order.specs.declared.order.SerialOrder.{SerialOrder}
 use Rattle.protocol.specs.Client.{ClientState}
 use Rattle.protocol.specs.Observer.{entries_of, calls_made}
 use Rattle.protocol.specs.World.{WorldState}
-use Rattle.protocol_invariant.specs.Each.{EachEntry, EachPlace, EachNumber, EachServer, EachClient}
+use Rattle.protocol.specs.Each.{EachEntry, EachPlace, EachNumber, EachServer, EachClient}
 use Rattle.protocol_invariant.specs.Ghost.{logged_of}
 use Rattle.protocol_invariant.specs.Actions.{Spot}
 

@@ -11,7 +11,7 @@ use Rattle.protocol.specs.Tables.{has_number}
 use Rattle.protocol.specs.Sending.{server_number, order_number}
 use Rattle.protocol.specs.Observer.{order_of}
 use Rattle.protocol.specs.World.{WorldState}
-use Rattle.protocol_invariant.specs.Each.{AtServer}
+use Rattle.protocol.specs.Each.{AtServer}
 use Rattle.protocol_invariant.specs.Sent.{grant_of, order_giving}
 use Rattle.protocol_invariant.specs.Ghost.{Ghost, logged_of}
 use Rattle.protocol_invariant.specs.Leases.{IsStaleAt, IsOver, IfRow}

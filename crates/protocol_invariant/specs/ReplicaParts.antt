@@ -22,7 +22,7 @@ use Rattle.gfs_types.specs.declared.mutation.Mutation.TheVariants as mutation
 use Rattle.primary_order.specs.PrimaryOrder.{place_of}
 use Rattle.protocol.specs.Observer.{Placed, order_of, is_placed_as}
 use Rattle.protocol.specs.World.{WorldState}
-use Rattle.protocol_invariant.specs.Each.{EachEntry, EachServer, EachReplica, AtReplica}
+use Rattle.protocol.specs.Each.{EachEntry, EachServer, EachReplica, AtReplica}
 use Rattle.protocol_invariant.specs.Sent.{Granted, under, get_under}
 use Rattle.protocol_invariant.specs.Ghost.{Ghost, EntryName, is_named, named_in, entries_among, applied_at}
 use Rattle.protocol_invariant.specs.Leases.{IsEnded, IsOver, IsStaleAt}

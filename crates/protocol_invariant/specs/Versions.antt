@@ -9,7 +9,7 @@ use Rattle.protocol.specs.Master.{VersionAttempt}
 use Rattle.protocol.specs.MasterClones.{is_attempt_at}
 use Rattle.protocol.specs.Observer.{Placed, order_of}
 use Rattle.protocol.specs.World.{WorldState}
-use Rattle.protocol_invariant.specs.Each.{EachEntry, EachServer, EachReplica}
+use Rattle.protocol.specs.Each.{EachEntry, EachServer, EachReplica}
 use Rattle.protocol_invariant.specs.Sent.{grant_of, grants_of, order_giving, under}
 use Rattle.protocol_invariant.specs.Ghost.{Ghost, logged_of}
 use Rattle.protocol_invariant.specs.Leases.{IsEnded, IsStaleAt, IfRow}

@@ -2,6 +2,7 @@
 #![tactic(auto)]
 
 pub mod clone_order;
+pub mod doubts;
 pub mod holders;
 pub mod next;
 mod servers;

@@ -5,3 +5,9 @@ pub mod Lines
 pub mod Answers
 pub mod Faults
 pub mod ScriptFaults
+pub mod Kinds
+pub mod CellNodes
+pub mod CellLines
+pub mod LiveLines
+pub mod Scripts
+pub mod Chunks

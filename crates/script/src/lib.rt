@@ -3,10 +3,17 @@
 #![tactic(auto)]
 
 pub mod answers;
+pub mod cell_lines;
+pub mod cell_nodes;
+pub mod chunk_lines;
 pub mod fault;
+pub mod kinds;
 pub mod lines;
+pub mod live_lines;
 pub mod nodes;
 pub mod numbers;
 pub mod options;
+pub mod plan;
 pub mod script_fault;
+pub mod stored;
 pub mod words;

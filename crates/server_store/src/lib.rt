@@ -2,4 +2,5 @@
 #![tactic(auto)]
 
 pub mod fault;
+pub mod stoppable_store;
 pub mod store;

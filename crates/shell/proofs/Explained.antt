@@ -17,11 +17,11 @@ use Rattle.cell_world.specs.Held.{HeldCell, IsHeldAs}
 use Rattle.cell_core.specs.Traced.{AddsToTrace}
 use Rattle.cell_core.proofs.Traced.{events_add_to_the_trace}
 use Rattle.cell_core.proofs.Explained.{explained, reached_on}
-use Rattle.cell_script.specs.declared.lines.Line.{Line}
+use Rattle.script.specs.declared.cell_lines.Line.{Line}
 use Rattle.cell_simulator.specs.Cells.{Meaning}
 use Rattle.cell_simulator.specs.Steps.{Step, Simulated, Lead, Rise, line_of_step, lines_of, moment_of, node_of}
 use Rattle.cell_simulator.specs.Scripts.{ComeTo, RunsOn, StopsWith}
-use Rattle.simulated_world.specs.Worlds.{Steps}
+use Rattle.shell.specs.Worlds.{Steps}
 use Rattle.shell.specs.Cells.{IsNew, are_in_range, is_count, world_of}
 use Rattle.shell.specs.Explained.{LeadsTo, DoesNotRot, LeadTo, IsRunOfMachine, AreRunsOfMachine, AreExplained, IsEndlessExplained, AreExplainedUntil}
 use Rattle.shell.specs.Scripts.{at_0}

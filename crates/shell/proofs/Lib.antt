@@ -1,3 +1,5 @@
+pub mod Shown
+pub mod Counted
 pub mod Settings
 pub mod Clocks
 pub mod Printed

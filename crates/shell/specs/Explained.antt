@@ -8,11 +8,11 @@ use Rattle.relaxed_file.specs.Machine.{Machine}
 use Rattle.relaxed_file.specs.Run.{Visible, Called, Answered, Passed}
 use Rattle.protocol.specs.Choice.{Choice}
 use Rattle.protocol.specs.World.{WorldState, happens}
-use Rattle.protocol_invariant.specs.Explained.{Explains}
+use Rattle.protocol.specs.Explained.{Explains}
 use Rattle.cell_world.specs.Events.{MayBeRefused}
 use Rattle.cell_world.specs.Held.{HeldCell, IsHeldAs}
 use Rattle.cell_core.specs.Traced.{AddsToTrace}
-use Rattle.cell_script.specs.declared.lines.Line.{Line}
+use Rattle.script.specs.declared.cell_lines.Line.{Line}
 use Rattle.cell_simulator.specs.Cells.{Meaning}
 use Rattle.cell_simulator.specs.Steps.{Step, Simulated, lines_of, with_feed}
 use Rattle.cell_simulator.specs.Lines.{IsEndless}

@@ -9,19 +9,19 @@ ghost use Rattle.replica_store.specs.Replicas.{new_server_disk};
 ghost use Rattle.shell.specs.Cells.{IsNew, IsOfStart, are_in_range, is_count};
 ghost use Rattle.stored_log.specs.Kept.{IsDiskSize};
 
+use crate::world::SimulatedWorld;
 use cell_core::cell_master::SeatedMaster;
 use cell_core::world::World;
 use cell_world::master::CellMaster;
 use disk_store::disk_store::DiskStore;
 use gfs_types::config::Config;
-use master::fault::MasterFault;
+use master_cell::fault::MasterFault;
 use operation_log::fault::LogFault;
 use script::options::Options;
 use script::script_fault::ScriptFault;
 use server_store::fault::StoreFault;
-use simulated_world::world::SimulatedWorld;
 use std::alloc::{Allocator, Global};
-use store_layout::Layout;
+use store_disk::Layout;
 use stored_log::disk_log::DiskLog;
 use stored_log::node_disk::NodeDisk;
 

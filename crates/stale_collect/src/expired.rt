@@ -10,8 +10,8 @@ ghost use Rattle.stale_collect.specs.Expiry.{AreExpired, old_at, is_kept_long};
 use gfs_types::ids::{FileId, Moment};
 use gfs_types::no_memory::NoMemory;
 use gfs_types::path::{Path, PathFault};
-use namespace::name_kind::NameKind;
-use namespace::node::{NameNode, Namespace};
+use master_state::name_kind::NameKind;
+use master_state::node::{NameNode, Namespace};
 use path_trie::child::Child;
 use std::alloc::{Allocator, Global};
 

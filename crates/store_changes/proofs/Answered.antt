@@ -6,7 +6,7 @@ use Rattle.disk.specs.declared.device.DiskFault.TheVariants as disk
 use Rattle.gfs_types.specs.declared.ids.Version.{Version}
 use Rattle.replica_store.specs.declared.row.Row.{Row}
 use Rattle.replica_store.specs.Replicas.{ServerDisk, row_at}
-use Rattle.stored_replicas.proofs.Looked.{no_row, one_row}
+use Rattle.store_disk.proofs.Looked.{no_row, one_row}
 use Rattle.store_changes.specs.Faults.{IsRefused, fault_of, is_refusal}
 use Rattle.store_changes.specs.declared.fault.StoreFault.{StoreFault}
 use Rattle.store_changes.specs.declared.fault.StoreFault.TheVariants as store

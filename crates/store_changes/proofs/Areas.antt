@@ -3,11 +3,11 @@ use Rattle.std.proofs.Common.{◌≡◌, ℕ, ◌+◌, ◌*◌, ◌≤◌, false
 use Rattle.std.proofs.lemmas.List.{append-nil}
 use Rattle.std.proofs.lemmas.Bool.Decides.{nat_tests}
 use Rattle.gfs_types.specs.Settings.{largest_chunk}
-use Rattle.redo_area.proofs.Applied.{length_blanked}
-use Rattle.redo_area.specs.Redo.{FitsArea, IsAreaOf, blanked, is_open, redo_in, redone, stands_for}
-use Rattle.redo_area.specs.declared.range.RedoArea.{RedoArea}
+use Rattle.disk_redo.proofs.Applied.{length_blanked}
+use Rattle.disk_redo.specs.Redo.{FitsArea, IsAreaOf, blanked, is_open, redo_in, redone, stands_for}
+use Rattle.disk_redo.specs.declared.range.RedoArea.{RedoArea}
 use Rattle.store_changes.specs.Areas.{area_of}
-use Rattle.store_layout.specs.Places.{blocks_of, disk_size, redo_size, slot_place}
+use Rattle.store_disk.specs.Places.{blocks_of, disk_size, redo_size, slot_place}
 
 -- what a disk at rest stands for has its size
 pub length_at_rest : (area : RedoArea) (c : List ℕ) → area.place + area.size ≤ length c → is_open area c ≡ false → length (stands_for area c) ≡ length c

@@ -4,3 +4,17 @@ pub mod Made
 pub mod Slots
 pub mod Puts
 pub mod Mutated
+pub mod Bounds
+pub mod Checked
+pub mod ReadRanges
+pub mod Rested
+pub mod Imaged
+pub mod Ends
+pub mod Pairs
+pub mod Fitting
+pub mod Holding
+pub mod Moments
+pub mod Planning
+pub mod Plans
+pub mod Stored
+pub mod Rotten

@@ -1,17 +1,17 @@
 -- What a change leaves.
 use Rattle.std.proofs.Common.{◌≡◌, ◌⊎◌, inl, inr, ℕ, List, sym, subst}
 use Rattle.disk.specs.Device.{Only}
-use Rattle.gated_disk.proofs.Moments.{started}
-use Rattle.redo_area.proofs.Whole.{stands_as}
-use Rattle.redo_area.specs.Changes.{applied}
-use Rattle.redo_area.specs.Redo.{IsBeforeOrAfter, StandsOnly, stands_for}
-use Rattle.redo_area.specs.declared.range.RedoRange.{RedoRange}
+use Rattle.disk_redo.proofs.Moments.{started}
+use Rattle.disk_redo.proofs.Whole.{stands_as}
+use Rattle.disk_redo.specs.Changes.{applied}
+use Rattle.disk_redo.specs.Redo.{IsBeforeOrAfter, StandsOnly, stands_for}
+use Rattle.disk_redo.specs.declared.range.RedoRange.{RedoRange}
 use Rattle.replica_store.specs.declared.change.StoreChange.{StoreChange}
 use Rattle.replica_store.specs.Replicas.{ServerDisk, disk_changed}
-use Rattle.slot_index.specs.Index.{IndexState}
+use Rattle.store_disk.specs.Index.{IndexState}
 use Rattle.store_changes.specs.Areas.{area_of}
 use Rattle.store_changes.specs.Changing.{IsChanged, LeavesEither, Says}
-use Rattle.stored_replicas.specs.Stored.{IsDiskOf, IsStored}
+use Rattle.store_disk.specs.Stored.{IsDiskOf, IsStored}
 
 module _ {D : Type 0} (seen : D → List ℕ) (may_leave : D → List ℕ → Type 0) (moment : D → ℕ) (left_since : D → ℕ → List ℕ → Type 0) (chunk block slots : ℕ) (index : IndexState) (change : StoreChange) where
   Either : ServerDisk → List ℕ → Type 0

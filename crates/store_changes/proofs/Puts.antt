@@ -1,22 +1,22 @@
 -- A new replica, on a disk at rest.
 use Rattle.std.proofs.Common.{◌≡◌, ℕ, ◌<◌, ◌≤◌, false, List, [], ◌∷◌, length, sym, subst, arith, None}
 use Rattle.std.specs.FinMap as map
-use Rattle.redo_area.specs.Redo.{FitsArea, is_open, stands_for}
-use Rattle.redo_area.specs.Changes.{applied}
-use Rattle.redo_area.specs.declared.range.RedoRange.{RedoRange}
+use Rattle.disk_redo.specs.Redo.{FitsArea, is_open, stands_for}
+use Rattle.disk_redo.specs.Changes.{applied}
+use Rattle.disk_redo.specs.declared.range.RedoRange.{RedoRange}
 use Rattle.replica_store.specs.declared.change.StoreChange.TheVariants.{Put}
 use Rattle.replica_store.specs.declared.row.Row.{Row}
 use Rattle.replica_store.specs.Replicas.{ServerDisk, disk_changed}
-use Rattle.slot_index.specs.Index.{IndexState, index_with}
+use Rattle.store_disk.specs.Index.{IndexState, index_with}
 use Rattle.store_changes.specs.Areas.{area_of}
 use Rattle.store_changes.specs.Changing.{Says}
 use Rattle.store_changes.proofs.Areas.{rest_size}
 use Rattle.store_changes.proofs.Slots.{slot_range_fits}
-use Rattle.store_header.specs.Fields.{FitsHeader}
-use Rattle.store_layout.specs.Places.{disk_size, slot_place}
-use Rattle.stored_replicas.specs.Stored.{IsDiskOf, header_of, slot_bytes}
-use Rattle.stored_replicas.proofs.Puts.{length_slot}
-use Rattle.stored_replicas.proofs.Stores.{put_stored}
+use Rattle.store_disk.specs.Fields.{FitsHeader}
+use Rattle.store_disk.specs.Places.{disk_size, slot_place}
+use Rattle.store_disk.specs.Stored.{IsDiskOf, header_of, slot_bytes}
+use Rattle.store_disk.proofs.Puts.{length_slot}
+use Rattle.store_disk.proofs.Stores.{put_stored}
 
 pub put_fits : (chunk block slots handle slot : ℕ) (disk : List ℕ) (row : Row) (bytes : List ℕ) (ranges : List RedoRange) → disk_size chunk block slots ≤ length disk → slot < slots → length bytes ≤ chunk
     → ranges ≡ record { place = slot_place chunk block slot; bytes = slot_bytes chunk block (header_of handle row) bytes } ∷ []

@@ -1,21 +1,21 @@
 -- A change of one slot, on a disk at rest.
 use Rattle.std.proofs.Common.{◌≡◌, ℕ, ◌<◌, ◌≤◌, false, List, [], ◌∷◌, length, sym, subst, arith, Some}
 use Rattle.std.specs.FinMap as map
-use Rattle.redo_area.specs.Redo.{FitsArea, is_open, stands_for}
-use Rattle.redo_area.specs.Changes.{applied}
-use Rattle.redo_area.specs.declared.range.RedoRange.{RedoRange}
+use Rattle.disk_redo.specs.Redo.{FitsArea, is_open, stands_for}
+use Rattle.disk_redo.specs.Changes.{applied}
+use Rattle.disk_redo.specs.declared.range.RedoRange.{RedoRange}
 use Rattle.replica_store.specs.declared.change.StoreChange.TheVariants.{Raise, Remove}
 use Rattle.replica_store.specs.Replicas.{ServerDisk, disk_changed}
-use Rattle.slot_index.specs.Index.{IndexState, index_without}
-use Rattle.slot_index.specs.declared.held.HeldReplica.{HeldReplica}
+use Rattle.store_disk.specs.Index.{IndexState, index_without}
+use Rattle.store_disk.specs.declared.held.HeldReplica.{HeldReplica}
 use Rattle.store_changes.specs.Areas.{area_of}
 use Rattle.store_changes.specs.Changing.{Says}
 use Rattle.store_changes.proofs.Areas.{one_fits, rest_size}
-use Rattle.store_format.proofs.Slots.{slot_before}
-use Rattle.store_header.specs.Fields.{FitsHeader, header_bytes}
-use Rattle.store_layout.specs.Places.{disk_size, slot_place, slot_size}
-use Rattle.stored_replicas.specs.Stored.{IsDiskOf, header_of, raised_row}
-use Rattle.stored_replicas.proofs.Stores.{raise_stored, remove_stored, slot_fits}
+use Rattle.store_disk.proofs.FormatSlots.{slot_before}
+use Rattle.store_disk.specs.Fields.{FitsHeader, header_bytes}
+use Rattle.store_disk.specs.Places.{disk_size, slot_place, slot_size}
+use Rattle.store_disk.specs.Stored.{IsDiskOf, header_of, raised_row}
+use Rattle.store_disk.proofs.Stores.{raise_stored, remove_stored, slot_fits}
 
 module _ (chunk block slots : ℕ) (index : IndexState) (disk : List ℕ) (size : disk_size chunk block slots ≤ length disk) where
   -- bytes at the front of a slot have room in the area

@@ -1,7 +1,7 @@
 -- The redo area of a chunkserver's disk.
 use Rattle.std.specs.Prelude.{ℕ}
-use Rattle.redo_area.specs.declared.range.RedoArea.{RedoArea}
-use Rattle.store_layout.specs.Places.{redo_size}
+use Rattle.disk_redo.specs.declared.range.RedoArea.{RedoArea}
+use Rattle.store_disk.specs.Places.{redo_size}
 
 abbrev pub area_of : ℕ → ℕ → RedoArea
 area_of chunk block = record { place = 48; size = redo_size chunk block }

@@ -1,11 +1,11 @@
 -- A change of a chunkserver's disk, for chunks of so many bytes in blocks of so many, in so many slots.
 use Rattle.std.specs.Prelude.{◌⊎◌, ℕ, List}
-use Rattle.redo_area.specs.Redo.{StandsOnly, stands_for}
+use Rattle.disk_redo.specs.Redo.{StandsOnly, stands_for}
 use Rattle.replica_store.specs.declared.change.StoreChange.{StoreChange}
 use Rattle.replica_store.specs.Replicas.{ServerDisk, disk_changed}
-use Rattle.slot_index.specs.Index.{IndexState}
+use Rattle.store_disk.specs.Index.{IndexState}
 use Rattle.store_changes.specs.Areas.{area_of}
-use Rattle.stored_replicas.specs.Stored.{IsDiskOf, IsStored}
+use Rattle.store_disk.specs.Stored.{IsDiskOf, IsStored}
 
 -- what the disk's bytes stand for says this, and the index knows where
 abbrev pub Says : ℕ → ℕ → ℕ → IndexState → List ℕ → ServerDisk → Type 0

@@ -2,16 +2,16 @@
 
 ghost use Rattle.std.specs.Prelude.{◌≡◌, ◌≤◌, [], ◌∷◌, length, IfOk, OnOk};
 ghost use Rattle.disk.specs.Device.{HasCause};
-ghost use Rattle.redo_area.specs.Changes.{applied};
-ghost use Rattle.redo_area.specs.Redo.{FitsArea, IsAtRest, IsBeforeOrAfter, StandsOnly, stands_for};
+ghost use Rattle.disk_redo.specs.Changes.{applied};
+ghost use Rattle.disk_redo.specs.Redo.{FitsArea, IsAtRest, IsBeforeOrAfter, StandsOnly, stands_for};
 ghost use Rattle.store_changes.specs.Areas.{area_of};
-ghost use Rattle.store_layout.specs.Places.{disk_size};
+ghost use Rattle.store_disk.specs.Places.{disk_size};
 
 use bytes::Bytes;
 use disk::{Disk, DiskFault};
-use redo_area::{RedoArea, RedoRange, commit};
+use disk_redo::{RedoArea, RedoRange, commit};
 use std::alloc::{AllocError, Global};
-use store_layout::Layout;
+use store_disk::Layout;
 
 fn redo_area_of(layout: Layout) -> RedoArea
     ensures { result ≡ area_of layout.chunk layout.block }

@@ -2,21 +2,20 @@
 
 ghost use Rattle.std.specs.Prelude.{◌≡◌, ◌≤◌, [], ◌∷◌, length, IfOk, OnOk};
 ghost use Rattle.disk.specs.Device.{HasCause};
-ghost use Rattle.redo_area.specs.Redo.{IsAtRest};
+ghost use Rattle.disk_redo.specs.Redo.{IsAtRest};
 ghost use Rattle.replica_store.specs.declared.change.StoreChange.TheVariants.{SetOrder};
-ghost use Rattle.slot_index.specs.Index.{IndexState};
+ghost use Rattle.store_disk.specs.Index.{IndexState};
 ghost use Rattle.store_changes.specs.Areas.{area_of};
 ghost use Rattle.store_changes.specs.Changing.{IsChanged, LeavesEither};
-ghost use Rattle.store_header.specs.Fields.{FitsOrder, order_bytes};
-ghost use Rattle.store_layout.specs.Places.{disk_size};
+ghost use Rattle.store_disk.specs.Fields.{FitsOrder, order_bytes};
+ghost use Rattle.store_disk.specs.Places.{disk_size};
 
 use crate::making::{change, one_range};
 use disk::{Disk, DiskFault};
+use disk_redo::RedoRange;
 use gfs_types::ids::OrderNo;
-use redo_area::RedoRange;
 use std::alloc::{AllocError, Global};
-use store_header::write_order;
-use store_layout::Layout;
+use store_disk::{Layout, write_order};
 
 fn order_ranges(alloc: Global, order: OrderNo) -> Result<Vec<RedoRange>, AllocError>
     ensures ranges { IfOk result (λ v. v.items ≡ record { place = 32; bytes = order_bytes order } ∷ []) }

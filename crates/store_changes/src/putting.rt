@@ -3,26 +3,24 @@
 ghost use Rattle.std.specs.Prelude.{◌≡◌, ◌≤◌, ◌<◌, ℕ, List, [], ◌∷◌, length, IfOk, OnOk, None};
 ghost use Rattle.std.specs.FinMap as map;
 ghost use Rattle.disk.specs.Device.{HasCause};
-ghost use Rattle.redo_area.specs.Redo.{IsAtRest};
+ghost use Rattle.disk_redo.specs.Redo.{IsAtRest};
 ghost use Rattle.replica_store.specs.declared.change.StoreChange.TheVariants.{Put};
 ghost use Rattle.replica_store.specs.Replicas.{filled_to};
-ghost use Rattle.slot_index.specs.Index.{IndexState, index_with};
+ghost use Rattle.store_disk.specs.Index.{IndexState, index_with};
 ghost use Rattle.store_changes.specs.Areas.{area_of};
 ghost use Rattle.store_changes.specs.Changing.{IsChanged, LeavesEither};
-ghost use Rattle.store_header.specs.Fields.{FitsHeader};
-ghost use Rattle.store_layout.specs.Places.{disk_size, slot_place};
-ghost use Rattle.stored_replicas.specs.Stored.{header_of, slot_bytes};
+ghost use Rattle.store_disk.specs.Fields.{FitsHeader};
+ghost use Rattle.store_disk.specs.Places.{disk_size, slot_place};
+ghost use Rattle.store_disk.specs.Stored.{header_of, slot_bytes};
 
 use crate::making::{change, one_range};
-use block_digests::{HashedBlock, digests_of_blocks};
 use bytes::Bytes;
 use disk::{Disk, DiskFault};
+use disk_redo::RedoRange;
 use gfs_types::ids::Handle;
-use redo_area::RedoRange;
 use replica_store::row::Row;
 use std::alloc::{AllocError, Global};
-use store_header::{SlotHeader, write_header};
-use store_layout::Layout;
+use store_disk::{HashedBlock, Layout, SlotHeader, digests_of_blocks, write_header};
 
 // The bytes, and zeros up to the chunk's end.
 fn whole_chunk(alloc: Global, layout: Layout, bytes: &[u8]) -> Result<Vec<u8>, AllocError>

@@ -3,24 +3,22 @@
 ghost use Rattle.std.specs.Prelude.{◌≡◌, ◌≤◌, ◌<◌, [], ◌∷◌, length, IfOk, OnOk, Some};
 ghost use Rattle.std.specs.FinMap as map;
 ghost use Rattle.disk.specs.Device.{HasCause};
-ghost use Rattle.redo_area.specs.Redo.{IsAtRest};
+ghost use Rattle.disk_redo.specs.Redo.{IsAtRest};
 ghost use Rattle.replica_store.specs.declared.change.StoreChange.TheVariants.{Raise};
 ghost use Rattle.replica_store.specs.Replicas.{ServerDisk};
 ghost use Rattle.store_changes.specs.Areas.{area_of};
 ghost use Rattle.store_changes.specs.Changing.{IsChanged, LeavesEither, Says};
-ghost use Rattle.store_header.specs.Fields.{FitsHeader, header_bytes};
-ghost use Rattle.store_layout.specs.Places.{disk_size, slot_place};
-ghost use Rattle.stored_replicas.specs.Stored.{header_of, raised_row};
+ghost use Rattle.store_disk.specs.Fields.{FitsHeader, header_bytes};
+ghost use Rattle.store_disk.specs.Places.{disk_size, slot_place};
+ghost use Rattle.store_disk.specs.Stored.{header_of, raised_row};
 
 use crate::making::{change, one_range};
 use disk::{Disk, DiskFault};
+use disk_redo::RedoRange;
 use gfs_types::ids::{Handle, Serial, Version};
-use redo_area::RedoRange;
 use replica_store::row::Row;
-use slot_index::{HeldReplica, SlotIndex};
 use std::alloc::{AllocError, Global};
-use store_header::{SlotHeader, write_header};
-use store_layout::Layout;
+use store_disk::{HeldReplica, Layout, SlotHeader, SlotIndex, write_header};
 
 fn raised_header(handle: Handle, version: Version, row: Row) -> SlotHeader
     ensures value { result ≡ header_of handle.0 (raised_row version.0 row) }

@@ -3,21 +3,20 @@
 ghost use Rattle.std.specs.Prelude.{◌≡◌, ◌≤◌, ◌<◌, [], ◌∷◌, length, IfOk, OnOk, Some};
 ghost use Rattle.std.specs.FinMap as map;
 ghost use Rattle.disk.specs.Device.{HasCause};
-ghost use Rattle.redo_area.specs.Redo.{IsAtRest};
+ghost use Rattle.disk_redo.specs.Redo.{IsAtRest};
 ghost use Rattle.replica_store.specs.declared.change.StoreChange.TheVariants.{Remove};
 ghost use Rattle.replica_store.specs.Replicas.{ServerDisk};
 ghost use Rattle.store_changes.specs.Areas.{area_of};
 ghost use Rattle.store_changes.specs.Changing.{IsChanged, LeavesEither, Says};
-ghost use Rattle.store_layout.specs.Places.{disk_size, slot_place};
+ghost use Rattle.store_disk.specs.Places.{disk_size, slot_place};
 
 use crate::making::{change, one_range};
 use bytes::Bytes;
 use disk::{Disk, DiskFault};
+use disk_redo::RedoRange;
 use gfs_types::ids::Handle;
-use redo_area::RedoRange;
-use slot_index::{HeldReplica, SlotIndex};
 use std::alloc::{AllocError, Global};
-use store_layout::Layout;
+use store_disk::{HeldReplica, Layout, SlotIndex};
 
 fn remove_ranges(alloc: Global, layout: Layout, slot: u32) -> Result<Vec<RedoRange>, AllocError>
     requires { slot < layout.slots }

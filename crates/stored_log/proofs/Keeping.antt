@@ -2,17 +2,17 @@
 use Rattle.std.proofs.Common.{◌≡◌, ◌⊎◌, ℕ, ◌+◌, ◌≤◌, List, [], ◌∷◌, ◌++◌, refl, sym, subst, ◌∙◌, arith}
 use Rattle.std.specs.List.{AllByRecursion}
 use Rattle.disk.specs.Device.{NoMore}
-use Rattle.gated_disk.specs.Moments.{LeavesOnly}
-use Rattle.log_area.specs.Areas.{AreaState}
+use Rattle.disk_redo.specs.GateMoments.{LeavesOnly}
+use Rattle.oplog.specs.Areas.{AreaState}
 use Rattle.log_codec.specs.Payloads.{IsWritable}
-use Rattle.log_disk.specs.Changes.{appended, IsBeforeOrAfter}
-use Rattle.log_disk.specs.Disks.{DiskSays, HasLog}
-use Rattle.log_disk.proofs.Disks.{has_log}
+use Rattle.oplog.specs.Changes.{appended, IsBeforeOrAfter}
+use Rattle.oplog.specs.Disks.{DiskSays, HasLog}
+use Rattle.oplog.proofs.Disks.{has_log}
 use Rattle.log_records.specs.declared.record.Record.{Record}
 use Rattle.oplog.specs.Logs.{IsOpen}
 use Rattle.oplog.specs.declared.log.Log.{Log}
-use Rattle.oplog_areas.specs.Writing.{area_with}
-use Rattle.oplog_checkpoint.specs.Checkpoints.{IsOldOrNew}
+use Rattle.oplog.specs.Writing.{area_with}
+use Rattle.oplog.specs.Checkpoints.{IsOldOrNew}
 use Rattle.stored_log.specs.declared.standing.Standing.{Standing}
 use Rattle.stored_log.specs.declared.standing.Standing.TheVariants.{Open, Unread, Appending, Checkpointing}
 use Rattle.stored_log.specs.Kept.{closed, IsKept, IsWritten, Leaves, Takes}

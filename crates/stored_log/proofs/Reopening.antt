@@ -1,15 +1,15 @@
 -- A log that is opened again has what one of the disks has that a stop may leave.
 use Rattle.std.proofs.Common.{◌≡◌, ℕ, ◌≤◌, true, false, List, [], ◌∷◌, ◌++◌, length, inl, inr, ⊎_elim, refl, sym, ap, subst, ◌∙◌, arith}
 use Rattle.disk.specs.Device.{Follows, NoMore, Only}
-use Rattle.gated_disk.specs.Moments.{LeavesOnly}
-use Rattle.log_area.specs.Areas.{AreaState, AreaSays}
-use Rattle.log_area.proofs.Areas.{area_unique}
-use Rattle.log_disk.specs.Disks.{area_of, is_formatted, HasLog}
+use Rattle.disk_redo.specs.GateMoments.{LeavesOnly}
+use Rattle.oplog.specs.Areas.{AreaState, AreaSays}
+use Rattle.oplog.proofs.Areas.{area_unique}
+use Rattle.oplog.specs.Disks.{area_of, is_formatted, HasLog}
 use Rattle.log_records.specs.declared.record.Record.{Record}
-use Rattle.oplog_format.specs.NewLogs.{IsLogOf}
-use Rattle.oplog_opening.specs.Opening.{IsOpening}
-use Rattle.oplog_opening.proofs.Newest.{current_is, only_area}
-use Rattle.oplog_opening.proofs.Whole.{front_formatted, opened_log}
+use Rattle.oplog.specs.NewLogs.{IsLogOf}
+use Rattle.oplog.specs.Opening.{IsOpening}
+use Rattle.oplog.proofs.NewestArea.{current_is, only_area}
+use Rattle.oplog.proofs.Whole.{front_formatted, opened_log}
 use Rattle.operation_log.specs.Logs.{IsDecided}
 use Rattle.protocol.specs.Logged.{LogDisk}
 use Rattle.stored_log.specs.declared.standing.Standing.{Standing}

@@ -6,12 +6,12 @@ use Rattle.log_records.specs.declared.record.Record.{Record}
 use Rattle.log_records.specs.declared.record.Record.TheVariants as log
 use Rattle.log_codec.specs.Payloads.{payload}
 use Rattle.log_codec.proofs.Lengths.{payload_len}
-use Rattle.log_area.specs.Areas.{AreaState, AreaSays, end_of}
-use Rattle.log_area.specs.Entries.{entries, entry, open_entries}
-use Rattle.log_area.specs.Layout.{area_at, area_size}
-use Rattle.log_area.proofs.Parsing.{entries_cons, entries_nil, entry_len, open_cons, open_nil}
-use Rattle.log_disk.proofs.Areas.{front_len, front_of, parts_of}
-use Rattle.log_disk.specs.Disks.{area_of}
+use Rattle.oplog.specs.Areas.{AreaState, AreaSays, end_of}
+use Rattle.oplog.specs.Entries.{entries, entry, open_entries}
+use Rattle.oplog.specs.Layout.{area_at, area_size}
+use Rattle.oplog.proofs.Parsing.{entries_cons, entries_nil, entry_len, open_cons, open_nil}
+use Rattle.oplog.proofs.DiskAreas.{front_len, front_of, parts_of}
+use Rattle.oplog.specs.Disks.{area_of}
 use Rattle.disk.specs.Bytes.{range_at}
 use Rattle.oplog.specs.Logs.{IsOpen}
 use Rattle.oplog.specs.declared.log.Log.{Log}

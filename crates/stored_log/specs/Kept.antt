@@ -3,12 +3,12 @@ use Rattle.std.specs.Prelude.{◌≡◌, ◌⊎◌, ℕ, ◌<◌, ◌≤◌, ◌
 use Rattle.std.specs.List.{AllByRecursion}
 use Rattle.log_records.specs.declared.record.Record.{Record}
 use Rattle.log_codec.specs.Payloads.{IsWritable}
-use Rattle.log_disk.specs.Disks.{is_formatted, HasLog}
+use Rattle.oplog.specs.Disks.{is_formatted, HasLog}
 use Rattle.protocol.specs.Logged.{LogDisk, LogChange, AppendRecord, WriteCheckpoint}
 use Rattle.protocol.specs.LogSizes.{used_size}
 use Rattle.oplog.specs.Logs.{IsOpen}
 use Rattle.oplog.specs.declared.log.Log.{Log}
-use Rattle.oplog_format.specs.NewLogs.{IsLogOf}
+use Rattle.oplog.specs.NewLogs.{IsLogOf}
 use Rattle.stored_log.specs.declared.standing.Standing.{Standing}
 use Rattle.stored_log.specs.declared.standing.Standing.TheVariants.{Open, Unread, Appending, Checkpointing}
 

@@ -2,13 +2,13 @@
 
 ghost use Rattle.std.specs.Prelude.{◌≡◌, ◌<◌, ◌≤◌, ◌+◌, ◌*◌, ◌^◌, ◌++◌, ◌∷◌, [], ℕ, List, length, is_some, nat_le, slice_get, IfErr, IfOk, IfSome, OnOk};
 ghost use Rattle.disk.specs.Device.{Follows, Only};
-ghost use Rattle.log_area.specs.Areas.{AreaState};
-ghost use Rattle.log_area.specs.Walks.{IsWalk};
+ghost use Rattle.oplog.specs.Areas.{AreaState};
+ghost use Rattle.oplog.specs.Walks.{IsWalk};
 ghost use Rattle.log_records.specs.declared.record.Record.{Record};
-ghost use Rattle.log_disk.specs.Disks.{HasLog};
+ghost use Rattle.oplog.specs.Disks.{HasLog};
 ghost use Rattle.oplog.specs.Logs.{IsOpen};
-ghost use Rattle.oplog_format.specs.NewLogs.{IsLogOf};
-ghost use Rattle.oplog_opening.specs.Opening.{area_found, IsFound, WalksThrough};
+ghost use Rattle.oplog.specs.NewLogs.{IsLogOf};
+ghost use Rattle.oplog.specs.Opening.{area_found, IsFound, WalksThrough};
 ghost use Rattle.protocol.specs.Logged.{new_log};
 ghost use Rattle.protocol.specs.LogSizes.{checkpoint_fits, checkpoint_size, payload_size, used_size};
 ghost use Rattle.operation_log.specs.Logs.{IsDecided};
@@ -18,18 +18,17 @@ ghost use Rattle.stored_log.specs.Kept.{closed, IsAmong, IsDiskSize, IsReopened,
 use crate::entries::{entry_at, fault_of};
 use crate::standing::Standing;
 use crate::stoppable::{StoppableDisk, StoppableLog};
-use counted_records::CountedRecords;
 use disk::DiskFault;
 use gfs_types::torn::Torn;
-use log_area::{Walk, area_at, area_size, is_checkpoint};
 use log_codec::{is_item, is_writable};
 use log_records::record::Record;
 use operation_log::fault::LogFault;
 use operation_log::log::OperationLog;
 use operation_log::sizes::used_with;
-use oplog::Log;
-use oplog_checkpoint::checkpoint;
-use oplog_opening::{Found, Opened, open, open_disk};
+use oplog::{
+    CountedRecords, Found, Log, Opened, Walk, area_at, area_size, checkpoint, is_checkpoint, open,
+    open_disk,
+};
 use std::alloc::Global;
 use std::marker::Model;
 use std::mem;
@@ -63,7 +62,7 @@ pub struct DiskLog<D: StoppableDisk> {
 
 impl<D: StoppableDisk> Model for DiskLog<D> {
     ghost use Rattle.std.specs.Prelude.{◌++◌};
-    ghost use Rattle.oplog_opening.specs.Opening.{WalksThrough};
+    ghost use Rattle.oplog.specs.Opening.{WalksThrough};
     ghost use Rattle.stored_log.specs.Kept.{changes_of, DiskLogState, IsDiskSize, IsKept, IsWritten, Takes};
 
     ghost Value = { DiskLogState };

@@ -2,18 +2,16 @@
 
 ghost use Rattle.std.specs.Prelude.{◌≡◌, ◌<◌, ◌≤◌, ◌++◌, List, length, slice_get, IfOk};
 ghost use Rattle.log_records.specs.declared.record.Record.{Record};
-ghost use Rattle.log_area.specs.Areas.{AreaState};
-ghost use Rattle.log_area.specs.Walks.{IsWalk};
+ghost use Rattle.oplog.specs.Areas.{AreaState};
+ghost use Rattle.oplog.specs.Walks.{IsWalk};
 ghost use Rattle.oplog.specs.Logs.{IsOpen};
-ghost use Rattle.oplog_opening.specs.Opening.{WalksThrough};
+ghost use Rattle.oplog.specs.Opening.{WalksThrough};
 
 use disk::Disk;
-use log_area::Walk;
 use log_codec::DecodeFault;
 use log_records::record::Record;
 use operation_log::fault::LogFault;
-use oplog::Log;
-use oplog_opening::read_again;
+use oplog::{Log, Walk, read_again};
 use std::alloc::Global;
 
 pub(crate) fn fault_of(fault: oplog::LogFault) -> LogFault {

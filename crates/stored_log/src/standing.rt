@@ -1,7 +1,7 @@
 //! How a log stands to its disk.
 
-use counted_records::CountedRecords;
 use log_records::record::Record;
+use oplog::CountedRecords;
 
 /// What the log in memory knows of its disk.
 #[derive(Drop)]

@@ -1,4 +1,4 @@
-//! The callers of the pages `CALLING.md` of `chunk_table`, `leases`, `primary_order`, `record_append` and `number_map`.
+//! The callers of the pages `CALLING.md` of `chunk_table`, `leases`, `primary_order`, `record_append` and `ordered_map`.
 
 ghost use Rattle.std.specs.Prelude.{◌≡◌, ◌↔◌, ℕ, IfNone, IfOk, IfSome, IsErrOf, IsSome, OnOk, OnErr};
 ghost use Rattle.std.specs.FinMap as map;
@@ -18,7 +18,7 @@ use gfs_types::lists::ServerList;
 use gfs_types::no_memory::NoMemory;
 use gfs_types::refusal::Refusal;
 use leases::held::Held;
-use number_map::NumberMap;
+use ordered_map::number_map::NumberMap;
 use primary_order::answer::Accept;
 use primary_order::primary::Primary;
 use record_append::place;

@@ -1,9 +1,11 @@
 //! Bytes of a disk, by hand.
 
-use block_digests::{HashedBlock, blocks_match, digests_of_blocks};
 use gfs_types::ids::{Handle, OrderNo, Serial, Version};
 use std::test::Fail;
-use store_header::{SlotHeader, read_header, read_order, write_head, write_header, write_order};
+use store_disk::{
+    HashedBlock, SlotHeader, blocks_match, digests_of_blocks, read_header, read_order, write_head,
+    write_header, write_order,
+};
 
 // Of `abc`, from the standard, twice.
 const TWO_DIGESTS: [u8; 64] = [

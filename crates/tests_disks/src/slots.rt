@@ -2,8 +2,8 @@
 
 use gfs_types::ids::{Handle, Serial, Version};
 use replica_store::row::Row;
-use slot_index::{FreeSlots, HeldReplica, SlotIndex};
 use std::test::Fail;
+use store_disk::{FreeSlots, HeldReplica, SlotIndex};
 
 fn row(count: u64) -> Row {
     Row {

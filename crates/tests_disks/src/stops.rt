@@ -4,9 +4,8 @@ ghost use Rattle.std.specs.Prelude.{◌≡◌, [], ◌∷◌, IfOk};
 
 use bytes::Bytes;
 use disk::{Disk, DiskFault, FuseDisk, MemDisk};
+use disk_redo::{RedoArea, RedoRange, commit, open};
 use gfs_types::torn::Torn;
-use redo_area::{RedoArea, RedoRange, commit};
-use redo_opening::open;
 use std::alloc::{AllocError, Global};
 use std::test::Fail;
 

@@ -3,8 +3,8 @@
 ghost use Rattle.std.specs.Prelude.{◌≡◌, IfErr};
 
 use gfs_types::no_memory::NoMemory;
-use label_tree::tree::Tree;
-use label_tree_changes::insert::insert;
+use path_trie::insert::insert;
+use path_trie::tree::Tree;
 use std::alloc::Allocator;
 
 /// Puts a value at a path, or hands it back where the path is empty or memory is refused.

@@ -2,9 +2,9 @@
 
 use crate::put::put;
 use gfs_types::no_memory::NoMemory;
-use label_tree::tree::Tree;
-use label_tree_changes::remove::remove;
 use linked_list_allocator::LocalHeap;
+use path_trie::remove::remove;
+use path_trie::tree::Tree;
 use std::alloc::{AllocError, Allocator, Global};
 use std::test::Fail;
 

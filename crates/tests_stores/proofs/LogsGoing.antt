@@ -2,7 +2,7 @@
 use Rattle.std.proofs.Common.{ℕ, List, Result}
 use Rattle.std.specs.Prelude.{OnOk}
 use Rattle.std.proofs.lemmas.Result.{on_ok_weaker}
-use Rattle.log_area.specs.Areas.{AreaState}
+use Rattle.oplog.specs.Areas.{AreaState}
 use Rattle.oplog.specs.Logs.{IsOpen}
 use Rattle.oplog.specs.declared.log.Log.{Log}
 

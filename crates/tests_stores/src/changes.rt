@@ -9,7 +9,7 @@ use replica_store::row::Row;
 use server_store::fault::StoreFault;
 use server_store::store::ReplicaStore;
 use std::alloc::{AllocError, Global};
-use store_layout::Layout;
+use store_disk::Layout;
 
 pub(crate) const CHANGES: u64 = 12;
 

@@ -1,18 +1,17 @@
 //! Calls of a store, with two slots, for chunks of 64 bytes in blocks of 16.
 
 ghost use Rattle.std.specs.Prelude.{◌≡◌, ◌%◌, false, IfOk, OnOk};
-ghost use Rattle.store_format.specs.Formats.{is_head_open};
+ghost use Rattle.store_disk.specs.Formats.{is_head_open};
 ghost use Rattle.tests_stores.specs.Usable.{IsUsable};
 
 use bytes::Bytes;
-use chunk_store::{Store, StoreFault, open};
+use chunk_store::{OpenFault, Store, StoreFault, open};
 use disk::{Disk, FuseDisk, MemDisk};
 use gfs_types::ids::{Handle, OrderNo, Serial, Version};
 use gfs_types::mutation::Mutation;
 use replica_store::row::Row;
 use std::alloc::{AllocError, Global};
-use store_layout::Layout;
-use store_opening::OpenFault;
+use store_disk::Layout;
 
 pub(crate) const SIZE: usize = 960;
 

@@ -1,15 +1,15 @@
 //! A store whose disk fails in one call and goes on.
 
 ghost use Rattle.std.specs.Prelude.{◌≡◌, false, IfOk};
-ghost use Rattle.store_format.specs.Formats.{is_head_open};
+ghost use Rattle.store_disk.specs.Formats.{is_head_open};
 
 use crate::chunk_calls::{Listing, SIZE, STEPS, fused, listed, run};
 use crate::chunk_stops::{CALLS, OPENING_CALLS, all_states, are_after};
+use chunk_store::OpenFault;
 use disk::{Disk, FaultDisk, MemDisk};
 use gfs_types::torn::Torn;
 use std::alloc::{AllocError, Global};
 use std::test::Fail;
-use store_opening::OpenFault;
 
 // A new disk that fails the call after so many.
 fn faulty(alloc: Global, calls: u64) -> Result<FaultDisk, AllocError>

@@ -1,7 +1,7 @@
 //! A store whose disk stops at each of its calls.
 
 ghost use Rattle.std.specs.Prelude.{◌≡◌, false, IfOk};
-ghost use Rattle.store_format.specs.Formats.{is_head_open};
+ghost use Rattle.store_disk.specs.Formats.{is_head_open};
 
 use crate::chunk_calls::{Listing, STEPS, fused, listed, run};
 use disk::{Disk, FuseDisk};

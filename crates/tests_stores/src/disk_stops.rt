@@ -8,10 +8,10 @@ use gfs_types::ids::Handle;
 use gfs_types::torn::Torn;
 use memory_store::MemoryStore;
 use server_store::fault::StoreFault;
+use server_store::stoppable_store::StoppableStore;
 use server_store::store::ReplicaStore;
 use std::alloc::Global;
 use std::test::Fail;
-use stoppable_store::StoppableStore;
 
 const WAYS: [Torn; 5] = [
     Torn::Old,

@@ -2,9 +2,8 @@
 
 use crate::log_calls::{Ran, SIZE, append, create};
 use disk::{Disk, MemDisk};
-use log_disk::read_range;
 use log_records::record::Record;
-use oplog::LogFault;
+use oplog::{LogFault, read_range};
 use std::alloc::{AllocError, Global};
 use std::test::Fail;
 

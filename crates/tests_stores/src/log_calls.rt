@@ -9,8 +9,7 @@ use gfs_types::no_memory::NoMemory;
 use gfs_types::torn::Torn;
 use log_codec::{is_item, is_writable};
 use log_records::record::Record;
-use oplog::{Log, LogFault};
-use oplog_opening::{Opened, open};
+use oplog::{Log, LogFault, Opened, open};
 use std::alloc::Global;
 
 pub(crate) const SIZE: usize = 4_096;

@@ -5,7 +5,7 @@ use disk::Disk;
 use gfs_types::torn::Torn;
 use std::alloc::Global;
 use std::test::Fail;
-use store_reads::read_part;
+use store_changes::read_part;
 
 // A slot's header: it is used, handle 7, version 8, no serial, 3 bytes.
 const HEADER: [u8; 40] = [

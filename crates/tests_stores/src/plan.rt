@@ -2,24 +2,21 @@
 
 ghost use Rattle.std.specs.Prelude.{◌≡◌, true, List, OnOk};
 ghost use Rattle.std.specs.List.{AllByRecursion};
-ghost use Rattle.log_area.specs.Areas.{AreaState};
+ghost use Rattle.oplog.specs.Areas.{AreaState};
 ghost use Rattle.log_codec.specs.Payloads.{IsWritable};
-ghost use Rattle.log_area.specs.Walks.{IsWalk};
+ghost use Rattle.oplog.specs.Walks.{IsWalk};
 ghost use Rattle.log_records.specs.declared.record.Record.{Record};
 ghost use Rattle.oplog.specs.Logs.{IsOpen};
-ghost use Rattle.oplog_opening.specs.Opening.{WalksThrough};
+ghost use Rattle.oplog.specs.Opening.{WalksThrough};
 
 use crate::log_calls::{SIZE, create};
 use disk::Disk;
 use gfs_types::ids::{FileId, Handle};
 use gfs_types::lists::Text;
 use gfs_types::no_memory::NoMemory;
-use log_area::{Walk, is_checkpoint};
 use log_codec::{DecodeFault, is_item, is_writable};
 use log_records::record::Record;
-use oplog::{Log, LogFault};
-use oplog_checkpoint::checkpoint;
-use oplog_opening::{Opened, open};
+use oplog::{Log, LogFault, Opened, Walk, checkpoint, is_checkpoint, open};
 use std::alloc::Global;
 
 /// How many changes there are.

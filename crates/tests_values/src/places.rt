@@ -1,7 +1,7 @@
 //! Where the parts of a disk lie, worked out by hand.
 
 use std::test::Fail;
-use store_layout::Layout;
+use store_disk::Layout;
 
 #[test]
 fn chunks_of_64_bytes_in_blocks_of_16(rt: HostRuntime) -> Result<(), Fail> {

@@ -10,9 +10,7 @@ ghost use Rattle.std.specs.Prelude.{⊤, ◌==◌, ◌-◌, nat_lt, if◌then◌
 ghost use Rattle.std.specs.List.{list_any};
 ghost use Rattle.relaxed_file.specs.declared.region.Region.{Region as RegionShown};
 
-use cell_script::kinds::Kind;
 use cell_simulator::cell::SimulatedCell;
-use chunk_lines::stored::StoredReplica;
 use gfs_types::answer::Answer;
 use gfs_types::call::Call;
 use gfs_types::ids::{ClientId, FileId, Handle, Moment, Node, OrderNo, ServerId, Version};
@@ -22,6 +20,8 @@ use gfs_types::refusal::Refusal;
 use messages::event::Event;
 use messages::message::{Body, Message, Wanted};
 use relaxed_file::region::Region;
+use script::kinds::Kind;
+use script::stored::StoredReplica;
 use std::alloc::Global;
 
 /// The chunk that all messages are about.

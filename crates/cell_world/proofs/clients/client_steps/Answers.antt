@@ -1,10 +1,10 @@
 use Rattle.std.proofs.Common.{List, [], ◌++◌, Option, refl, sym, subst, ap, ◌∙◌}
 use Rattle.messages.specs.declared.event.Input.{Input}
 use Rattle.messages.specs.declared.message.Message.{Message}
-use Rattle.chunkserver.specs.Inputs.{input_of}
+use Rattle.server_cell.specs.Inputs.{input_of}
 use Rattle.protocol.specs.Client.{ClientState}
 use Rattle.protocol.specs.Conforms.{ClientSteps}
-use Rattle.cell_record.specs.Batches.{message_named}
+use Rattle.cell_world.specs.Batches.{message_named}
 use Rattle.cell_world.proofs.Lost.{at, unrecorded, recorded_so, client_lost, lost_out, lost_quietly}
 use Rattle.cell_world.proofs.clients.client_steps.Goals as goal
 

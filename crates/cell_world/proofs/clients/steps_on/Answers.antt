@@ -1,7 +1,7 @@
 use Rattle.std.proofs.Common.{subst}
 use Rattle.std.specs.Option.{option_copied}
 use Rattle.messages.specs.declared.event.Input.{Input}
-use Rattle.chunkserver.specs.Inputs.{input_of}
+use Rattle.server_cell.specs.Inputs.{input_of}
 use Rattle.protocol.specs.Conforms.{ClientSteps}
 use Rattle.cell_world.proofs.Lost.{client_gave_up}
 use Rattle.cell_world.proofs.clients.steps_on.Goals as goal

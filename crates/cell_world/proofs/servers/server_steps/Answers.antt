@@ -1,10 +1,10 @@
 use Rattle.std.proofs.Common.{List, [], Option, refl, sym, subst, ap, ◌∙◌}
 use Rattle.messages.specs.declared.message.Message.{Message}
-use Rattle.chunkserver.specs.Inputs.{input_of}
+use Rattle.server_cell.specs.Inputs.{input_of}
 use Rattle.protocol.specs.Seen.{down_output}
 use Rattle.protocol.specs.Server.{ServerState}
 use Rattle.protocol.specs.Conforms.{ServerSteps}
-use Rattle.cell_record.specs.Batches.{message_named}
+use Rattle.cell_world.specs.Batches.{message_named}
 use Rattle.cell_world.proofs.Lost.{at, unrecorded, recorded_so, server_lost}
 use Rattle.cell_world.proofs.servers.server_steps.Goals as goal
 

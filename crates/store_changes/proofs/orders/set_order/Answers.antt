@@ -1,15 +1,15 @@
 use Rattle.std.proofs.Common.{List, sym, ◌∙◌, subst}
 use Rattle.std.proofs.lemmas.Result.{on_ok_weaker}
-use Rattle.redo_area.specs.Changes.{applied}
-use Rattle.redo_area.specs.Redo.{stands_for}
-use Rattle.redo_area.specs.declared.range.RedoRange.{RedoRange}
+use Rattle.disk_redo.specs.Changes.{applied}
+use Rattle.disk_redo.specs.Redo.{stands_for}
+use Rattle.disk_redo.specs.declared.range.RedoRange.{RedoRange}
 use Rattle.replica_store.specs.declared.change.StoreChange.TheVariants.{SetOrder}
 use Rattle.replica_store.specs.Replicas.{disk_changed}
 use Rattle.store_changes.specs.Areas.{area_of}
 use Rattle.store_changes.proofs.Areas.{rest_size}
 use Rattle.store_changes.proofs.Made.{change_made, nothing_made, says_so}
-use Rattle.stored_replicas.specs.Stored.{IsDiskOf}
-use Rattle.stored_replicas.proofs.Keeping.{order_stored}
+use Rattle.store_disk.specs.Stored.{IsDiskOf}
+use Rattle.store_disk.proofs.Keeping.{order_stored}
 use Rattle.store_changes.proofs.orders.set_order.Goals as goal
 
 pub returns-in_err-ranges-clause-any_moment : goal.returns-in_err-ranges-clause-any_moment

@@ -1,7 +1,7 @@
 use Rattle.std.proofs.Common.{◌∷◌, ◌∙◌}
 use Rattle.std.proofs.lemmas.Result.{on_ok_weaker}
 use Rattle.replica_store.specs.declared.change.StoreChange.TheVariants.{Put}
-use Rattle.slot_index.specs.Index.{index_with}
+use Rattle.store_disk.specs.Index.{index_with}
 use Rattle.store_changes.proofs.Made.{change_made, nothing_made, says_so}
 use Rattle.store_changes.proofs.Puts.{new_put, put_fits}
 use Rattle.store_changes.proofs.putting.put_in_slot.Goals as goal

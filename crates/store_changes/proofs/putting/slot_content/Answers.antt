@@ -1,6 +1,6 @@
 use Rattle.std.proofs.Common.{◌≡◌, ℕ, ◌*◌, ◌/◌, ◌≤◌, length, ap, ◌∙◌, arith}
 use Rattle.std.proofs.Math.Nat.{div-mul-le_self}
-use Rattle.stored_replicas.proofs.Puts.{length_filled}
+use Rattle.store_disk.proofs.Puts.{length_filled}
 use Rattle.store_changes.proofs.putting.slot_content.Goals as goal
 
 pub digests_of_blocks-requires : goal.digests_of_blocks-requires

@@ -1,16 +1,16 @@
 use Rattle.std.proofs.Common.{List, length, sym, ◌∙◌, subst, arith}
 use Rattle.std.specs.FinMap as map
 use Rattle.std.proofs.lemmas.Result.{on_ok_weaker}
-use Rattle.redo_area.specs.Redo.{FitsArea}
-use Rattle.redo_area.specs.declared.range.RedoRange.{RedoRange}
+use Rattle.disk_redo.specs.Redo.{FitsArea}
+use Rattle.disk_redo.specs.declared.range.RedoRange.{RedoRange}
 use Rattle.replica_store.specs.declared.change.StoreChange.TheVariants.{Raise}
-use Rattle.slot_index.specs.Index.{IndexState}
+use Rattle.store_disk.specs.Index.{IndexState}
 use Rattle.store_changes.specs.Areas.{area_of}
 use Rattle.store_changes.specs.Changing.{IsChanged}
 use Rattle.store_changes.proofs.Made.{change_made, nothing_made, says_so}
 use Rattle.store_changes.proofs.Slots.{raised, slot_range_fits, slot_there}
-use Rattle.store_header.specs.Fields.{header_bytes}
-use Rattle.stored_replicas.specs.Stored.{header_of, raised_row}
+use Rattle.store_disk.specs.Fields.{header_bytes}
+use Rattle.store_disk.specs.Stored.{header_of, raised_row}
 use Rattle.store_changes.proofs.raising.raise.Goals as goal
 
 pub raise_ranges-requires : goal.raise_ranges-requires

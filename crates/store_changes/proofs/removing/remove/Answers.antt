@@ -1,9 +1,9 @@
 use Rattle.std.proofs.Common.{List, [], ◌∷◌, length, sym, ap, ◌∙◌, subst, arith, Some}
 use Rattle.std.proofs.lemmas.Result.{on_ok_weaker}
-use Rattle.redo_area.specs.Redo.{FitsArea}
-use Rattle.redo_area.specs.declared.range.RedoRange.{RedoRange}
+use Rattle.disk_redo.specs.Redo.{FitsArea}
+use Rattle.disk_redo.specs.declared.range.RedoRange.{RedoRange}
 use Rattle.replica_store.specs.declared.change.StoreChange.TheVariants.{Remove}
-use Rattle.slot_index.specs.Index.{IndexState, index_without}
+use Rattle.store_disk.specs.Index.{IndexState, index_without}
 use Rattle.store_changes.specs.Areas.{area_of}
 use Rattle.store_changes.specs.Changing.{IsChanged}
 use Rattle.store_changes.proofs.Made.{change_made, nothing_made, says_so}

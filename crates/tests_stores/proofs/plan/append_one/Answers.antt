@@ -1,5 +1,5 @@
 use Rattle.std.proofs.lemmas.Result.{on_ok_weaker}
-use Rattle.log_disk.specs.Changes.{appended}
+use Rattle.oplog.specs.Changes.{appended}
 use Rattle.oplog.specs.Logs.{IsOpen}
 use Rattle.tests_stores.proofs.plan.append_one.Goals as goal
 

@@ -1,4 +1,4 @@
-use Rattle.log_area.specs.Areas.{AreaState}
+use Rattle.oplog.specs.Areas.{AreaState}
 use Rattle.oplog.specs.Logs.{IsOpen}
 use Rattle.tests_stores.proofs.plan.change_all.Given as goal
 

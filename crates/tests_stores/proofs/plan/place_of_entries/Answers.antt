@@ -1,6 +1,6 @@
 use Rattle.std.proofs.Common.{◌≡◌, Option, subst}
-use Rattle.log_area.specs.declared.walk.Walk.{Walk}
-use Rattle.oplog_opening.specs.Opening.{WalksThrough}
+use Rattle.oplog.specs.declared.walk.Walk.{Walk}
+use Rattle.oplog.specs.Opening.{WalksThrough}
 use Rattle.tests_stores.proofs.plan.place_of_entries.Goals as goal
 
 pub next_entries-requires : goal.next_entries-requires

@@ -1,8 +1,8 @@
 use Rattle.std.proofs.Common.{None, refl, sym, subst, ◌∙◌}
 use Rattle.gfs_types.specs.declared.ids.Node.TheVariants as node
-use Rattle.chunkserver.specs.Inputs.{input_of}
+use Rattle.server_cell.specs.Inputs.{input_of}
 use Rattle.protocol.specs.World.{moves}
-use Rattle.cell_record.specs.Batches.{message_named}
+use Rattle.cell_world.specs.Batches.{message_named}
 use Rattle.cell_world.specs.Held.{HeldCell, HasEffect}
 use Rattle.cell_world.proofs.Moved.{master_down, master_did}
 use Rattle.cell_world.proofs.cell.Cell.master_moves.Goals as goal

@@ -1,6 +1,6 @@
 use Rattle.std.proofs.Common.{ap, ◌∙◌}
 use Rattle.relaxed_file.specs.Regions.{regions_of}
-use Rattle.cell_record.specs.Seeing.{entries_seen}
+use Rattle.cell_world.specs.Seeing.{entries_seen}
 use Rattle.cell_world.proofs.Looked.{regions_are_held}
 use Rattle.cell_world.proofs.Regions.{shown_regions}
 use Rattle.cell_world.specs.Held.{HeldCell}

@@ -1,6 +1,6 @@
 use Rattle.std.proofs.Common.{refl, ◌∙◌}
-use Rattle.chunkserver.specs.Inputs.{input_of}
-use Rattle.cell_record.specs.Batches.{message_named}
+use Rattle.server_cell.specs.Inputs.{input_of}
+use Rattle.cell_world.specs.Batches.{message_named}
 use Rattle.cell_world.proofs.Moved.{no_server, server_down, server_did}
 use Rattle.cell_world.specs.Held.{HeldCell}
 use Rattle.cell_world.proofs.cell.Cell.server_moves.Goals as goal

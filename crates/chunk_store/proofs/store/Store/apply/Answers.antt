@@ -1,5 +1,5 @@
 use Rattle.std.proofs.Common.{length, refl, sym, ap, ◌∙◌, arith}
-use Rattle.gated_disk.proofs.Moments.{reads_nothing}
+use Rattle.disk_redo.proofs.Moments.{reads_nothing}
 use Rattle.store_changes.specs.Faults.{fault_of}
 use Rattle.store_changes.specs.Mutations.{change_of}
 use Rattle.store_changes.specs.declared.fault.StoreFault.TheVariants as faults

@@ -1,4 +1,4 @@
-use Rattle.gated_disk.proofs.Moments.{reads_one}
+use Rattle.disk_redo.proofs.Moments.{reads_one}
 use Rattle.chunk_store.proofs.StillOpen.{read_open}
 use Rattle.chunk_store.proofs.store.Store.arm.Goals as goal
 

@@ -5,12 +5,12 @@ use Rattle.std.proofs.lemmas.Result.{on_ok_weaker}
 use Rattle.replica_store.specs.declared.change.StoreChange.TheVariants.{Copy, Put}
 use Rattle.replica_store.specs.declared.row.Row.{Row}
 use Rattle.replica_store.specs.Replicas.{ServerDisk, is_disk_full, row_at}
-use Rattle.stored_replicas.proofs.Looked.{no_row, one_row, test_none, test_some}
+use Rattle.store_disk.proofs.Looked.{no_row, one_row, test_none, test_some}
 use Rattle.chunk_store.specs.Stores.{IsOpen}
 use Rattle.store_changes.specs.declared.fault.StoreFault.{StoreFault}
 use Rattle.store_changes.specs.declared.fault.StoreFault.TheVariants as faults
 use Rattle.store_changes.proofs.Answered.{handed_on, handed_over, not_old}
-use Rattle.store_reads.proofs.Imaged.{put_copies}
+use Rattle.store_changes.proofs.Imaged.{put_copies}
 use Rattle.chunk_store.proofs.Copied.{change_leaves, image_fits, read_leaves}
 use Rattle.chunk_store.proofs.StillOpen.{chunk_there, leaves_all, none_held, row_held}
 use Rattle.chunk_store.proofs.store.Store.copy_local.Goals as goal

@@ -1,5 +1,5 @@
 use Rattle.std.proofs.Common.{ℕ, refl, sym, ap, ◌∙◌}
-use Rattle.stored_replicas.proofs.Looked.{no_row}
+use Rattle.store_disk.proofs.Looked.{no_row}
 use Rattle.chunk_store.proofs.StillOpen.{chunk_there, none_held, row_held, version_there}
 use Rattle.chunk_store.proofs.store.Store.find.Goals as goal
 

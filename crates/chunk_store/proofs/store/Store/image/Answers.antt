@@ -2,8 +2,8 @@ use Rattle.std.proofs.Common.{◌≡◌, sym, ap, ◌∙◌, Some}
 use Rattle.std.specs.Prelude.{unwrap_or}
 use Rattle.std.proofs.lemmas.Result.{IfOk-weaker}
 use Rattle.replica_store.specs.Replicas.{read_at}
-use Rattle.store_reads.specs.Images.{image_at}
-use Rattle.store_reads.proofs.Imaged.{image_read}
+use Rattle.store_changes.specs.Images.{image_at}
+use Rattle.store_changes.proofs.Imaged.{image_read}
 use Rattle.chunk_store.proofs.store.Store.image.Goals as goal
 
 pub returns-clause-ok : goal.returns-clause-ok

@@ -4,13 +4,13 @@ use Rattle.std.specs.FinMap as map
 use Rattle.replica_store.specs.declared.change.StoreChange.TheVariants.{Put}
 use Rattle.replica_store.specs.declared.row.Row.{Row}
 use Rattle.replica_store.specs.Replicas.{disk_changed}
-use Rattle.slot_index.specs.Index.{IndexState, index_with}
+use Rattle.store_disk.specs.Index.{IndexState, index_with}
 use Rattle.store_changes.specs.Changing.{Says}
 use Rattle.store_changes.specs.declared.fault.StoreFault.TheVariants as faults
 use Rattle.store_changes.specs.Faults.{fault_of}
 use Rattle.chunk_store.specs.Stores.{IsOpen}
 use Rattle.store_changes.proofs.Answered.{disk_never, never, not_refused}
-use Rattle.stored_replicas.proofs.Looked.{first_free, no_row, none_free, test_none, test_some}
+use Rattle.store_disk.proofs.Looked.{first_free, no_row, none_free, test_none, test_some}
 use Rattle.chunk_store.proofs.StillOpen.{free_within, full_open, leaves_all, none_held, room_there, row_held, still_open}
 use Rattle.chunk_store.proofs.store.Store.install.Goals as goal
 

@@ -1,11 +1,11 @@
 use Rattle.std.proofs.Common.{◌≡◌, map as mapped, ◌∙◌}
 use Rattle.std.proofs.lemmas.Result.{IfOk-weaker}
 use Rattle.std.specs.FinMap as map
-use Rattle.redo_area.specs.Redo.{stands_for}
-use Rattle.slot_index.specs.Index.{row_in}
+use Rattle.disk_redo.specs.Redo.{stands_for}
+use Rattle.store_disk.specs.Index.{row_in}
 use Rattle.store_changes.specs.Areas.{area_of}
-use Rattle.stored_replicas.proofs.Listed.{rows_listed}
-use Rattle.stored_replicas.specs.Rows.{rows_of}
+use Rattle.store_disk.proofs.Listed.{rows_listed}
+use Rattle.store_disk.specs.Rows.{rows_of}
 use Rattle.chunk_store.proofs.store.Store.list.Goals as goal
 
 pub returns : goal.returns

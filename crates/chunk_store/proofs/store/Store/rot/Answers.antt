@@ -1,8 +1,8 @@
 use Rattle.std.proofs.Common.{refl, sym, ◌∙◌}
 use Rattle.replica_store.specs.Replicas.{replica_of, rotten_replica}
-use Rattle.store_writes.specs.Rotting.{disk_rotten}
-use Rattle.store_writes.proofs.Rotten.{nothing_rots}
-use Rattle.stored_replicas.proofs.Looked.{order_stays}
+use Rattle.store_changes.specs.Rotting.{disk_rotten}
+use Rattle.store_changes.proofs.Rotten.{nothing_rots}
+use Rattle.store_disk.proofs.Looked.{order_stays}
 use Rattle.store_changes.specs.Faults.{fault_of}
 use Rattle.store_changes.proofs.Answered.{disk_never, not_refused}
 use Rattle.chunk_store.proofs.StillOpen.{chunk_there, none_held, still_open}

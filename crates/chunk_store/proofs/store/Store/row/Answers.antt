@@ -1,5 +1,5 @@
 use Rattle.std.proofs.Common.{sym, ap, ◌∙◌}
-use Rattle.stored_replicas.proofs.Listed.{row_found}
+use Rattle.store_disk.proofs.Listed.{row_found}
 use Rattle.chunk_store.proofs.StillOpen.{its_row}
 use Rattle.chunk_store.proofs.store.Store.row.Goals as goal
 

@@ -5,7 +5,7 @@ use Rattle.store_changes.specs.declared.fault.StoreFault.{StoreFault}
 use Rattle.store_changes.specs.declared.fault.StoreFault.TheVariants as faults
 use Rattle.store_changes.specs.Faults.{fault_of}
 use Rattle.store_changes.proofs.Answered.{disk_never, handed_over, never, not_refused}
-use Rattle.stored_replicas.proofs.Looked.{order_stays}
+use Rattle.store_disk.proofs.Looked.{order_stays}
 use Rattle.chunk_store.proofs.StillOpen.{chunk_there, leaves_all, still_open, version_there}
 use Rattle.chunk_store.proofs.store.Store.set_version.Goals as goal
 

@@ -1,7 +1,7 @@
 use Rattle.std.proofs.Common.{◌≡◌, inl, false, refl, sym, ap, ◌∙◌}
 use Rattle.replica_store.specs.Replicas.{new_server_disk}
-use Rattle.store_format.specs.Formats.{is_head_open}
-use Rattle.store_standing.proofs.Quiet.{new_kept}
+use Rattle.store_disk.specs.Formats.{is_head_open}
+use Rattle.disk_store.proofs.Quiet.{new_kept}
 use Rattle.disk_store.proofs.disk_store.DiskStore.new.Goals as goal
 
 pub invariant_of-result : goal.invariant_of-result

@@ -1,9 +1,9 @@
 use Rattle.std.proofs.Common.{List, refl, ap, ◌∙◌}
 use Rattle.replica_store.specs.Replicas.{ServerDisk, disk_changed}
 use Rattle.replica_store.specs.declared.change.StoreChange.{StoreChange}
-use Rattle.store_standing.specs.Standing.{changes_of}
-use Rattle.store_standing.specs.declared.standing.Standing.TheVariants.{Open}
-use Rattle.store_standing.proofs.Keeping.{as_said}
+use Rattle.disk_store.specs.Standing.{changes_of}
+use Rattle.disk_store.specs.declared.standing.Standing.TheVariants.{Open}
+use Rattle.disk_store.proofs.Keeping.{as_said}
 use Rattle.disk_store.proofs.disk_store.DiskStoreReplicaStore.commit.Goals as goal
 
 pub commit-requires-clause-kept : goal.commit-requires-clause-kept

@@ -2,8 +2,8 @@ use Rattle.std.proofs.Common.{◌≡◌, List, sym, ap, ◌∙◌, subst, false}
 use Rattle.std.specs.Prelude.{IfOk}
 use Rattle.replica_store.specs.Replicas.{ServerDisk, is_copyable_at}
 use Rattle.replica_store.specs.declared.change.StoreChange.{StoreChange}
-use Rattle.store_standing.proofs.Commits.{looked_kept, open_as}
-use Rattle.store_standing.proofs.Looked.{none_copyable}
+use Rattle.disk_store.proofs.Commits.{looked_kept, open_as}
+use Rattle.disk_store.proofs.Looked.{none_copyable}
 use Rattle.disk_store.proofs.disk_store.DiskStoreReplicaStore.is_copyable.Goals as goal
 
 pub returns-in_default-clause-value : goal.returns-in_default-clause-value

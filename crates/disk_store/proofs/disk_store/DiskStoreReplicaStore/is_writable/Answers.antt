@@ -2,7 +2,7 @@ use Rattle.std.proofs.Common.{◌≡◌, List, ap, ◌∙◌, subst}
 use Rattle.std.specs.Prelude.{IfOk}
 use Rattle.replica_store.specs.Replicas.{ServerDisk, is_writable_at}
 use Rattle.replica_store.specs.declared.change.StoreChange.{StoreChange}
-use Rattle.store_standing.proofs.Commits.{looked_kept, open_as}
+use Rattle.disk_store.proofs.Commits.{looked_kept, open_as}
 use Rattle.disk_store.proofs.disk_store.DiskStoreReplicaStore.is_writable.Goals as goal
 
 pub is_writable-requires : goal.is_writable-requires

@@ -2,9 +2,9 @@ use Rattle.std.proofs.Common.{inl, List, refl, sym, ap, ◌∙◌, subst}
 use Rattle.replica_store.specs.Replicas.{ServerDisk}
 use Rattle.replica_store.specs.declared.change.StoreChange.{StoreChange}
 use Rattle.server_store.specs.Stores.{IsFound}
-use Rattle.store_standing.specs.Standing.{changes_of, closed, found_made, with_made}
-use Rattle.store_standing.specs.declared.standing.Standing.TheVariants.{Open}
-use Rattle.store_standing.proofs.Keeping.{as_said, closed_is, closed_kept, closed_not_open, found_said, found_under_way}
+use Rattle.disk_store.specs.Standing.{changes_of, closed, found_made, with_made}
+use Rattle.disk_store.specs.declared.standing.Standing.TheVariants.{Open}
+use Rattle.disk_store.proofs.Keeping.{as_said, closed_is, closed_kept, closed_not_open, found_said, found_under_way}
 use Rattle.disk_store.proofs.disk_store.DiskStoreReplicaStore.reopen.Goals as goal
 
 pub open_again-requires-clause-kept : goal.open_again-requires-clause-kept

@@ -1,7 +1,7 @@
 use Rattle.std.proofs.Common.{List, ap}
 use Rattle.replica_store.specs.Replicas.{ServerDisk}
 use Rattle.replica_store.specs.declared.change.StoreChange.{StoreChange}
-use Rattle.store_standing.proofs.Quiet.{quiet_kept}
+use Rattle.disk_store.proofs.Quiet.{quiet_kept}
 use Rattle.disk_store.proofs.disk_store.DiskStoreStoppableStore.stop_after_restart.Goals as goal
 
 pub invariant_of-self : goal.invariant_of-self

@@ -1,7 +1,7 @@
 use Rattle.std.proofs.Common.{List, sym, ap, ◌∙◌}
 use Rattle.protocol.specs.Master.{PendingSnapshot}
-use Rattle.master_waits.specs.Concerned.{touches}
-use Rattle.master_waits.proofs.Followed.{appended_if as concerned_if}
+use Rattle.master_plan.specs.Concerned.{touches}
+use Rattle.master_plan.proofs.Followed.{appended_if as concerned_if}
 use Rattle.master_plan.proofs.Watching.{appended_if}
 use Rattle.master_plan.proofs.plan.Plan.append.Goals as goal
 

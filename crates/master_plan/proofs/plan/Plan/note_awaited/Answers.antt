@@ -1,6 +1,6 @@
 use Rattle.std.proofs.Common.{List, sym, subst}
 use Rattle.protocol.specs.Master.{PendingSnapshot}
-use Rattle.master_waits.specs.Concerned.{AreConcerned, IfKnown}
+use Rattle.master_plan.specs.Concerned.{AreConcerned, IfKnown}
 use Rattle.master_plan.proofs.plan.Plan.note_awaited.Goals as goal
 
 pub invariant_of-self : goal.invariant_of-self

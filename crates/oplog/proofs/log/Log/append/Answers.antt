@@ -1,10 +1,10 @@
 use Rattle.std.proofs.Common.{◌≡◌, ◌+◌, ◌≤◌, true, List, ℕ, [], ◌∷◌, ◌++◌, length, sym, subst, ap, ◌∙◌, arith}
 use Rattle.std.specs.Prelude.{Err}
-use Rattle.gated_disk.specs.Gates.{committed, IsCommitting, IsUncommitted}
-use Rattle.gated_disk.proofs.Moments.{weaker}
-use Rattle.log_area.specs.Entries.{entry}
-use Rattle.log_area.specs.Layout.{area_size, record_fits}
-use Rattle.log_disk.specs.Changes.{appended, IsBeforeOrAfter}
+use Rattle.disk_redo.specs.Gates.{committed, IsCommitting, IsUncommitted}
+use Rattle.disk_redo.proofs.Moments.{weaker}
+use Rattle.oplog.specs.Entries.{entry}
+use Rattle.oplog.specs.Layout.{area_size, record_fits}
+use Rattle.oplog.specs.Changes.{appended, IsBeforeOrAfter}
 use Rattle.oplog.specs.Logs.{IsOpen}
 use Rattle.oplog.proofs.Refusing.{was_refused}
 use Rattle.oplog.proofs.Appending.{after_stop, appends, stays, within}

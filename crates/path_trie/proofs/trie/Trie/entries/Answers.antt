@@ -1,6 +1,6 @@
 use Rattle.std.proofs.Common.{◌++◌, [], None, ap, ◌∙◌}
-use Rattle.label_tree.specs.Entries.{under}
-use Rattle.label_tree.proofs.Fronts.{under_nil}
+use Rattle.path_trie.specs.Entries.{under}
+use Rattle.path_trie.proofs.Fronts.{under_nil}
 use Rattle.path_trie.specs.Texts.{are_texts}
 use Rattle.path_trie.specs.Walks.{wanted}
 use Rattle.path_trie.proofs.LowerNames.{these}

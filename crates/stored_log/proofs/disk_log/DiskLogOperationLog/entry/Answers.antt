@@ -1,10 +1,10 @@
 use Rattle.std.proofs.Common.{◌≡◌, ◌++◌, Option, None, sym, subst, arith}
 use Rattle.std.specs.Prelude.{slice_get}
 use Rattle.std.proofs.lemmas.Option.{slice_get_past}
-use Rattle.log_area.specs.Areas.{AreaState}
-use Rattle.log_area.specs.declared.walk.Walk.{Walk}
+use Rattle.oplog.specs.Areas.{AreaState}
+use Rattle.oplog.specs.declared.walk.Walk.{Walk}
 use Rattle.operation_log.proofs.Growth.{count_is, count_within}
-use Rattle.oplog_opening.specs.Opening.{WalksThrough}
+use Rattle.oplog.specs.Opening.{WalksThrough}
 use Rattle.stored_log.specs.Kept.{DiskLogState, IsKept}
 use Rattle.stored_log.proofs.Keeping.{refused_kept}
 use Rattle.stored_log.proofs.disk_log.DiskLogOperationLog.entry.Goals as goal

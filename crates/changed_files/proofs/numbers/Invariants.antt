@@ -1,7 +1,0 @@
-use Rattle.std.proofs.Common.{◌≡◌, ◌-◌, ◌≤◌}
-use Rattle.std.specs.Prelude.{max}
-use Rattle.changed_files.specs.Files.{numbers_from}
-use Rattle.changed_files.proofs.numbers.Given as goal
-
-abbrev pub invariant-loop-number : goal.invariant-loop-number
-invariant-loop-number l = (l.numbers.items ≡ numbers_from l.first (l.number - l.first)) × (l.first ≤ l.number) × (l.number ≤ max l.first l.end)

@@ -1,0 +1,57 @@
+use Rattle.std.proofs.Common.{◌≡◌, ◌==◌, ℕ, Bool, true, false, List, take, sym, ap, ◌∙◌, subst}
+use Rattle.std.specs.Prelude.{slice_index}
+use Rattle.std.proofs.lemmas.Result.{IfOk-weaker, on_ok_weaker}
+use Rattle.disk_redo.specs.Redo.{stands_for}
+use Rattle.replica_store.specs.Replicas.{ServerDisk, new_server_disk}
+use Rattle.store_changes.specs.Areas.{area_of}
+use Rattle.store_disk.specs.Formats.{is_head_open}
+use Rattle.chunk_store.specs.Opening.{HoldsReplicas, IsFound}
+use Rattle.store_disk.specs.Stored.{IsStored}
+use Rattle.chunk_store.proofs.Fronts.{gate_read, head_read}
+use Rattle.chunk_store.proofs.Moments.{begins, closed_holds, open_holds, redoes}
+use Rattle.chunk_store.proofs.disk_opening.open_disk.Goals as goal
+
+pub returns-then-is_open-clause-found : goal.returns-then-is_open-clause-found
+returns-then-is_open-clause-found g c =
+    let seen = g.D.Disk.seen in
+    let layout = c.args.layout in
+    let area = area_of layout.chunk layout.block in
+    let old = seen c.args.disk.now in
+    let opened = gate_read old c.in_ok-head.head true c.in_ok-head.ensures.bytes c.if-is_open.ensures in
+    IfOk-weaker c.open_headed.result
+    (λ found. (d : ServerDisk) → IsStored layout.chunk layout.block layout.slots (stands_for area (seen c.read_head.new.disk)) d → IsFound layout.chunk layout.block layout.slots found (stands_for area (seen c.open_headed.new.disk)) d)
+    (λ found. (d : ServerDisk) → HoldsReplicas layout.chunk layout.block layout.slots old d → IsFound layout.chunk layout.block layout.slots found (stands_for area (seen c.open_headed.new.disk)) d)
+    (λ found says d holds.
+    says d (subst (λ (l : List ℕ). IsStored layout.chunk layout.block layout.slots (stands_for area l) d) (sym c.read_head.ensures.reads.seen_same) (open_holds layout.chunk layout.block layout.slots old d opened holds)))
+    c.open_headed.ensures.found
+
+pub returns-then-is_open-clause-its_head : goal.returns-then-is_open-clause-its_head
+returns-then-is_open-clause-its_head g c opened =
+    on_ok_weaker c.open_headed.result (λ is. sym (head_read (g.D.Disk.seen c.args.disk.now) c.in_ok-head.head c.in_ok-head.ensures.bytes) ∙ is) c.open_headed.ensures.its_head
+
+pub returns-then-is_open-clause-any_moment : goal.returns-then-is_open-clause-any_moment
+returns-then-is_open-clause-any_moment g c =
+    let disk = g.D.Disk in
+    let layout = c.args.layout in
+    let opened = gate_read (disk.seen c.args.disk.now) c.in_ok-head.head true c.in_ok-head.ensures.bytes c.if-is_open.ensures in
+    redoes disk.seen disk.may_leave disk.moment disk.left_since layout.chunk layout.block layout.slots c.args.disk.now c.read_head.new.disk c.open_headed.new.disk opened c.read_head.ensures.reads c.open_headed.ensures.any_moment
+
+pub returns-else-is_open-clause-found : goal.returns-else-is_open-clause-found
+returns-else-is_open-clause-found g c =
+    let seen = g.D.Disk.seen in
+    let layout = c.args.layout in
+    let area = area_of layout.chunk layout.block in
+    let old = seen c.args.disk.now in
+    let closed = gate_read old c.in_ok-head.head false c.in_ok-head.ensures.bytes c.if-is_open.ensures in
+    IfOk-weaker c.open_new.result
+    (λ found. IsFound layout.chunk layout.block layout.slots found (stands_for area (seen c.open_new.new.disk)) (new_server_disk layout.block))
+    (λ found. (d : ServerDisk) → HoldsReplicas layout.chunk layout.block layout.slots old d → IsFound layout.chunk layout.block layout.slots found (stands_for area (seen c.open_new.new.disk)) d)
+    (λ found none d holds.
+    subst (λ (e : ServerDisk). IsFound layout.chunk layout.block layout.slots found (stands_for area (seen c.open_new.new.disk)) e) (sym (closed_holds layout.chunk layout.block layout.slots old d closed holds)) none)
+    c.open_new.ensures.found
+
+pub returns-else-is_open-clause-any_moment : goal.returns-else-is_open-clause-any_moment
+returns-else-is_open-clause-any_moment g c =
+    let disk = g.D.Disk in
+    let layout = c.args.layout in
+    begins disk.seen disk.may_leave disk.moment disk.left_since layout.chunk layout.block layout.slots c.args.disk.now c.read_head.new.disk c.open_new.new.disk c.read_head.ensures.reads c.open_new.ensures.any_moment

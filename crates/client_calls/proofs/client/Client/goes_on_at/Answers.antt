@@ -1,0 +1,11 @@
+use Rattle.std.proofs.Common.{◌∙◌, ap, sym}
+use Rattle.protocol.specs.Client.{client_begins}
+use Rattle.client_calls.specs.Attempts.{follows}
+use Rattle.client_calls.proofs.Attempts.{goes_as_planned}
+use Rattle.client_calls.proofs.client.Client.goes_on_at.Goals as goal
+
+pub returns : goal.returns
+returns c =
+    goes_as_planned (client_begins c.args.self.now) c.args.current c.args.location.now
+    ∙ ap (follows (client_begins c.args.self.now) c.args.current) (sym c.in_ok-plan.ensures)
+    ∙ c.follows.ensures

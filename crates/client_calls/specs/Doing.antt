@@ -1,0 +1,6 @@
+-- What a client's code hands back of a step that goes through.
+use Rattle.protocol.specs.Client.{ClientState, ClientDoing}
+use Rattle.client_calls.specs.declared.effects.Effects.{Effects}
+
+abbrev pub doing : ClientState → Effects → ClientDoing
+doing s e = record { client = s; sent = e.sent; answer = e.answer }

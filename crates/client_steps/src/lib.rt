@@ -1,5 +1,0 @@
-//! A client's steps: on a message, and on a tick, at which attempts that had no answer end and the next ones begin (sections 2.7.1, 2.7.2 and 3.1).
-#![tactic(auto)]
-
-pub mod step;
-mod ticks;

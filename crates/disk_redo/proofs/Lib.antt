@@ -1,0 +1,10 @@
+pub mod Moments
+pub mod Ranges
+pub mod Applied
+pub mod ParsedArea
+pub mod Places
+pub mod Runs
+pub mod Stands
+pub mod Whole
+pub mod Loop
+pub mod Shutting

@@ -1,0 +1,97 @@
+-- What a fault is answered as, and its cause.
+use Rattle.std.proofs.Common.{◌≡◌, ◌⊎◌, inl, inr, ℕ, Bool, true, false, refl, sym, ap, ◌∙◌, None, Some, Result, Ok, Err}
+use Rattle.std.specs.Prelude.{◌↔◌, ◌≢◌, IsErrOf}
+use Rattle.disk.specs.Device.{HasCause as IsOfDisk}
+use Rattle.disk.specs.declared.device.DiskFault.{DiskFault}
+use Rattle.disk.specs.declared.device.DiskFault.TheVariants as disk
+use Rattle.gfs_types.specs.declared.ids.Version.{Version}
+use Rattle.replica_store.specs.declared.change.StoreChange.{StoreChange}
+use Rattle.replica_store.specs.declared.row.Row.{Row}
+use Rattle.replica_store.specs.Replicas.{ServerDisk, row_at}
+use Rattle.server_store.specs.declared.fault.StoreFault.{StoreFault}
+use Rattle.server_store.specs.declared.fault.StoreFault.TheVariants as store
+use Rattle.store_changes.specs.Faults.{IsRefused, MayFail, is_refusal}
+use Rattle.store_changes.specs.declared.fault.StoreFault.{StoreFault as ChangeFault}
+use Rattle.store_changes.specs.declared.fault.StoreFault.TheVariants as change
+use Rattle.store_disk.proofs.Looked.{no_row, one_row}
+use Rattle.disk_store.specs.Faults.{HasCause, of_change, of_disk}
+use Rattle.disk_store.specs.Standing.{writes}
+
+-- a disk's fault is no want of room
+pub disk_has_room : {T : Type 0} (f : DiskFault) (x : StoreFault) → x ≡ of_disk f → IsErrOf {T = T} (Err x) store.NoRoom → ⊥
+disk_has_room disk.Device x is e = absurd cc
+disk_has_room disk.NoMemory x is e = absurd cc
+
+pub disk_cause : {T U : Type 0} (before now : ℕ) (f : DiskFault) (x : StoreFault) → x ≡ of_disk f → IsOfDisk {T = T} before now (Err f) → HasCause {T = U} before now (Err x)
+disk_cause before now disk.Device x is h = record { later = h.later; failed = λ e. h.failed refl }
+disk_cause before now disk.NoMemory x is h = record { later = h.later; failed = λ e. absurd cc }
+
+-- a change's fault that is none of these is the disk's, or want of memory or room
+pub change_cause : {T U : Type 0} (before now : ℕ) (f : ChangeFault) (x : StoreFault) → x ≡ of_change f → (f ≡ change.NoChunk → ⊥) → (f ≡ change.Version → ⊥) → (f ≡ change.OldSerial → ⊥) → (f ≡ change.Corrupt → ⊥)
+    → MayFail {T = T} before now (Err f) → HasCause {T = U} before now (Err x)
+change_cause before now change.NoChunk x is chunk version serial intact h = absurd (chunk refl)
+change_cause before now change.Version x is chunk version serial intact h = absurd (version refl)
+change_cause before now change.OldSerial x is chunk version serial intact h = absurd (serial refl)
+change_cause before now change.Corrupt x is chunk version serial intact h = absurd (intact refl)
+change_cause before now change.NoRoom x is chunk version serial intact h = record { later = h.later; failed = λ e. absurd cc }
+change_cause before now change.Device x is chunk version serial intact h = record { later = h.later; failed = λ e. h.failed refl }
+change_cause before now change.NoMemory x is chunk version serial intact h = record { later = h.later; failed = λ e. absurd cc }
+
+pub change_has_room : {T : Type 0} (f : ChangeFault) (x : StoreFault) → x ≡ of_change f → (f ≡ change.NoRoom → ⊥) → IsErrOf {T = T} (Err x) store.NoRoom → ⊥
+change_has_room change.NoChunk x is room e = absurd cc
+change_has_room change.Version x is room e = absurd cc
+change_has_room change.OldSerial x is room e = absurd cc
+change_has_room change.Corrupt x is room e = absurd cc
+change_has_room change.NoRoom x is room e = room refl
+change_has_room change.Device x is room e = absurd cc
+change_has_room change.NoMemory x is room e = absurd cc
+
+-- a look at a replica of this version, each block of which matches
+pub look_cause : {T U : Type 0} (before now : ℕ) (d : ServerDisk) (h : ℕ) (version : Version) (row : Row) (f : ChangeFault) (x : StoreFault) → x ≡ of_change f → (IsErrOf {T = T} (Err f) change.NoChunk ↔ row_at d h ≡ None)
+    → (IsErrOf {T = T} (Err f) change.Version ↔ (held : Row) × (row_at d h ≡ Some held) × (held.version ≢ version)) → (IsErrOf {T = T} (Err f) change.OldSerial → ⊥) → (f ≡ change.Corrupt → ⊥) → row_at d h ≡ Some row → row.version ≡ version
+    → MayFail {T = T} before now (Err f) → HasCause {T = U} before now (Err x)
+look_cause before now d h version row f x is chunk other serial intact at same may =
+    change_cause before now f x is (λ e. no_row (row_at d h) row (chunk.0 (ap (λ (y : ChangeFault). Err y) e)) at)
+    (λ e. let p = other.0 (ap (λ (y : ChangeFault). Err y) e) in p.2 (ap (λ (r : Row). r.version) (one_row (row_at d h) p.0 row p.1 at) ∙ same)) (λ e. serial (ap (λ (y : ChangeFault). Err y) e)) intact may
+
+-- want of room is a change's own
+pub only_room : (f : ChangeFault) (x : StoreFault) → x ≡ of_change f → x ≡ store.NoRoom → f ≡ change.NoRoom
+only_room change.NoChunk x is e = absurd cc
+only_room change.Version x is e = absurd cc
+only_room change.OldSerial x is e = absurd cc
+only_room change.Corrupt x is e = absurd cc
+only_room change.NoRoom x is e = refl
+only_room change.Device x is e = absurd cc
+only_room change.NoMemory x is e = absurd cc
+
+-- a block that doesn't match is refused
+pub corrupt_refused : {T : Type 0} (r : Result T ChangeFault) → IsErrOf r change.Corrupt → IsRefused r
+corrupt_refused (Ok x) e = absurd cc
+corrupt_refused (Err f) e = let is : f ≡ change.Corrupt = cc in ap is_refusal is
+
+-- a change that failed writes over a range that can't be written over, or it doesn't
+abbrev IsUnfitOr : ChangeFault → StoreChange → Type 0
+IsUnfitOr f x = ((f ≡ change.Corrupt) × (writes x ≡ true)) ⊎ (f ≡ change.Corrupt → writes x ≡ false)
+
+corrupt_or : (x : StoreChange) (b : Bool) → writes x ≡ b → IsUnfitOr change.Corrupt x
+corrupt_or x true e = inl (refl, e)
+corrupt_or x false e = inr (λ same. e)
+
+pub unfit_or : (f : ChangeFault) (x : StoreChange) → ((f ≡ change.Corrupt) × (writes x ≡ true)) ⊎ (f ≡ change.Corrupt → writes x ≡ false)
+unfit_or change.NoChunk x = inr (λ e. absurd cc)
+unfit_or change.Version x = inr (λ e. absurd cc)
+unfit_or change.OldSerial x = inr (λ e. absurd cc)
+unfit_or change.Corrupt x = corrupt_or x (writes x) refl
+unfit_or change.NoRoom x = inr (λ e. absurd cc)
+unfit_or change.Device x = inr (λ e. absurd cc)
+unfit_or change.NoMemory x = inr (λ e. absurd cc)
+
+-- what is refused for want of a replica alone isn't refused for want of room
+pub rot_has_room : {T : Type 0} (r : Result T ChangeFault) → (IsRefused r → IsErrOf r change.NoChunk) → IsErrOf r change.NoRoom → ⊥
+rot_has_room (Ok x) only e = absurd cc
+rot_has_room (Err f) only e =
+    let is : f ≡ change.NoRoom = cc in
+    let none = only (ap is_refusal is) in
+    let other : f ≡ change.NoChunk = cc in
+    let both : change.NoRoom ≡ change.NoChunk = sym is ∙ other in
+    absurd cc

@@ -1,0 +1,115 @@
+-- Rows and the disk that they are known of.
+use Rattle.std.proofs.Common.{◌≡◌, inl, inr, ℕ, ◌+◌, ◌-◌, ◌≤◌, Bool, true, false, cond, List, [], ◌∷◌, map as mapped, length, replicate, refl, sym, ap, ◌∙◌, arith, Option, None, Some}
+use Rattle.std.specs.Prelude.{max}
+use Rattle.std.specs.FinMap as map
+use Rattle.std.specs.Cmp.{nat_cmp_total}
+use Rattle.std.specs.Option.{option_map}
+use Rattle.std.specs.Ordering.{eq_by_cmp, nat_cmp}
+use Rattle.std.proofs.lemmas.Bool.{cases_eq, cases_lt}
+use Rattle.std.proofs.lemmas.List.{length-replicate}
+use Rattle.gfs_types.specs.declared.ids.Handle.{Handle}
+use Rattle.messages.specs.declared.message.ReplicaLine.{ReplicaLine}
+use Rattle.store_disk.proofs.Others.{length_others}
+use Rattle.store_disk.proofs.BlockPuts.{length_with}
+use Rattle.replica_store.specs.declared.row.Row.{Row}
+use Rattle.replica_store.specs.declared.change.StoreChange.{StoreChange}
+use Rattle.replica_store.specs.declared.change.StoreChange.TheVariants.{SetOrder, Put, Write, Zero, Raise, Copy, Remove}
+use Rattle.replica_store.specs.Replicas.{Replica, ServerDisk, bytes_on_disk, disk_changed, new_server_disk, raised_replica, replica_becomes, replica_of, row_at, row_of, stored_replica, with_replica, written_replica}
+use Rattle.server_store.specs.Stores.{line_of, replica_lines}
+use Rattle.store_disk.specs.declared.held.HeldReplica.{HeldReplica}
+use Rattle.store_disk.specs.Index.{row_in}
+use Rattle.store_disk.specs.Rows.{known_row}
+use Rattle.store_disk.proofs.Listed.{same_len, same_listed}
+use Rattle.store_disk.proofs.Lookups.{found_elsewhere, found_here, gone_here, kept_elsewhere}
+use Rattle.store_disk.proofs.Looked.{order_stays}
+use Rattle.disk_store.specs.Known.{IsKnownOf, Rows, entry_of, longer_row, raised_row, row_line, rows_with}
+
+-- of a new disk
+pub new_rows : (block handle : ℕ) → map.get (map.empty {X = Row} {R = nat_cmp}) handle ≡ row_at (new_server_disk block) handle
+new_rows block handle = map.get-empty nat_cmp handle ∙ sym (ap row_of (map.get-empty nat_cmp handle))
+
+module _ (d : ServerDisk) (rows : Rows) (known : (h : ℕ) → map.get rows h ≡ row_at d h) where
+  pub insert_known : (h : ℕ) (r : Replica) (row : Row) → row_of (Some r) ≡ Some row → (q : ℕ) → map.get (map.insert rows h row) q ≡ row_at (with_replica d h r) q
+  insert_known h r row is q = elim (cases_eq q h) [
+    | inl same ↦ ap (λ (k : ℕ). map.get (map.insert rows h row) k) same ∙ found_here rows h row ∙ sym (ap (λ (k : ℕ). row_at (with_replica d h r) k) same ∙ ap row_of (found_here d.replicas h r) ∙ is)
+    | inr other ↦ found_elsewhere rows h row q other ∙ known q ∙ sym (ap row_of (found_elsewhere d.replicas h r q other))
+  ]
+
+  becomes_known : (f : Replica → Replica) (g : Row → Row) → ((r : Replica) → row_of (Some (f r)) ≡ Some (g (known_row r))) → (from to q : ℕ)
+      → map.get (rows_with g rows to (map.get rows from)) q ≡ row_at (replica_becomes f d to (replica_of d from)) q
+  becomes_known f g alike from to q = by (replica_of d from) refl
+    where
+      by : (o : Option Replica) → replica_of d from ≡ o → map.get (rows_with g rows to (map.get rows from)) q ≡ row_at (replica_becomes f d to o) q
+      by None e = ap (λ o. map.get (rows_with g rows to o) q) (known from ∙ ap row_of e) ∙ known q
+      by (Some r) e = ap (λ o. map.get (rows_with g rows to o) q) (known from ∙ ap row_of e) ∙ insert_known to (f r) (g (known_row r)) (alike r) q
+
+  pub remove_known : (h q : ℕ) → map.get (map.remove rows h) q ≡ row_at (record d { replicas = map.remove d.replicas h }) q
+  remove_known h q = elim (cases_eq q h) [
+    | inl same ↦ ap (λ (k : ℕ). map.get (map.remove rows h) k) same ∙ gone_here rows h ∙ sym (ap (λ (k : ℕ). row_at (record d { replicas = map.remove d.replicas h }) k) same ∙ ap row_of (gone_here d.replicas h))
+    | inr other ↦ kept_elsewhere rows h q other ∙ known q ∙ sym (ap row_of (kept_elsewhere d.replicas h q other))
+  ]
+
+  longer_is : (serial offset : ℕ) (content : List ℕ) (r : Replica) → row_of (Some (written_replica r serial offset content)) ≡ Some (longer_row (known_row r) serial (offset + length content))
+  longer_is serial offset content r =
+      ap (λ (n : ℕ). Some (record { version = record { 0 = r.version }; serial = record { 0 = serial }; count = n })) (length_with r.bytes content offset ∙ most (length r.bytes) (offset + length content))
+    where
+      most : (a b : ℕ) → b + (a - b) ≡ max a b
+      most a b = omega arith
+
+  pub write_known : (h serial offset : ℕ) (content : List ℕ) (q : ℕ)
+      → map.get (rows_with (λ row. longer_row row serial (offset + length content)) rows h (map.get rows h)) q ≡ row_at (replica_becomes (λ r. written_replica r serial offset content) d h (replica_of d h)) q
+  write_known h serial offset content q = becomes_known (λ r. written_replica r serial offset content) (λ row. longer_row row serial (offset + length content)) (longer_is serial offset content) h h q
+
+  pub zero_known : (h serial offset count : ℕ) (q : ℕ)
+      → map.get (rows_with (λ row. longer_row row serial (offset + count)) rows h (map.get rows h)) q ≡ row_at (replica_becomes (λ r. written_replica r serial offset (replicate count 0)) d h (replica_of d h)) q
+  zero_known h serial offset count q =
+      ap (λ (n : ℕ). map.get (rows_with (λ row. longer_row row serial (offset + n)) rows h (map.get rows h)) q) (sym (length-replicate {A = ℕ} count 0))
+      ∙ write_known h serial offset (replicate count 0) q
+
+  pub raise_known : (h version q : ℕ) → map.get (rows_with (λ row. raised_row row version) rows h (map.get rows h)) q ≡ row_at (replica_becomes (λ r. raised_replica r version) d h (replica_of d h)) q
+  raise_known h version q = becomes_known (λ r. raised_replica r version) (λ row. raised_row row version) (λ r. refl) h h q
+
+  pub copy_known : (h copy version q : ℕ) → map.get (rows_with (λ row. raised_row row version) rows copy (map.get rows h)) q ≡ row_at (replica_becomes (λ r. stored_replica version 0 (bytes_on_disk r)) d copy (replica_of d h)) q
+  copy_known h copy version q = becomes_known (λ r. stored_replica version 0 (bytes_on_disk r)) (λ row. raised_row row version)
+      (λ r. ap (λ (n : ℕ). Some (record { version = record { 0 = version }; serial = record { 0 = 0 }; count = n })) (length_others (map.entries r.changed) r.bytes)) h copy q
+
+  -- how many, and in what order
+
+  row_is : (o : Option Replica) → row_of o ≡ option_map known_row o
+  row_is None = refl
+  row_is (Some r) = refl
+
+  same_row : (o : Option Row) → option_map (λ (row : Row). row) o ≡ o
+  same_row None = refl
+  same_row (Some row) = refl
+
+  alike : (q : ℕ) → option_map (λ (row : Row). row) (map.get rows q) ≡ option_map known_row (map.get d.replicas q)
+  alike q = same_row (map.get rows q) ∙ known q ∙ row_is (replica_of d q)
+
+  pub len_known : map.len rows ≡ map.len d.replicas
+  len_known = same_len (λ (row : Row). row) known_row rows d.replicas alike
+
+  again : {X : Type 0} (f : X → Row) (es : List (ℕ × X)) → mapped (λ e. row_line (e.0, f e.1)) es ≡ mapped row_line (mapped (λ e. (e.0, f e.1)) es)
+  again f [] = refl
+  again f (e ∷ es) = ap (λ l. row_line (e.0, f e.1) ∷ l) (again f es)
+
+  pub lines_known : mapped row_line (map.entries rows) ≡ replica_lines d
+  lines_known =
+      again (λ (row : Row). row) (map.entries rows) ∙ ap (mapped row_line) (same_listed (λ (row : Row). row) known_row rows d.replicas alike) ∙ sym (again known_row (map.entries d.replicas))
+
+-- The rows of an index.
+
+find_rows : (q : ℕ) (es : List (ℕ × HeldReplica)) → map.find nat_cmp q (mapped entry_of (mapped row_in es)) ≡ option_map (λ found. found.row) (map.find nat_cmp q es)
+find_rows q [] = refl
+find_rows q (e ∷ es) = by (find_rows q es) (eq_by_cmp nat_cmp q e.0)
+  where
+    rest : Option Row
+    rest = map.find nat_cmp q (mapped entry_of (mapped row_in es))
+
+    by : rest ≡ option_map (λ (found : HeldReplica). found.row) (map.find nat_cmp q es) → (b : Bool) → cond b (Some e.1.row) rest ≡ option_map (λ (found : HeldReplica). found.row) (cond b (Some e.1) (map.find nat_cmp q es))
+    by same true = refl
+    by same false = same
+
+pub rows_found : (m : map.FinMap nat_cmp HeldReplica) (q : ℕ) → map.get (map.from_entries {R = nat_cmp} (mapped entry_of (mapped row_in (map.entries m)))) q ≡ option_map (λ found. found.row) (map.get m q)
+rows_found m q =
+    map.get-from_entries nat_cmp_total (mapped entry_of (mapped row_in (map.entries m))) q ∙ find_rows q (map.entries m) ∙ ap (option_map (λ (found : HeldReplica). found.row)) (sym (map.get-entries m q))

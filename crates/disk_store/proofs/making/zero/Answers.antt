@@ -1,0 +1,58 @@
+use Rattle.std.proofs.Common.{◌≡◌, ℕ, ◌+◌, true, false, List, length, sym, ap, ◌∙◌, subst}
+use Rattle.std.specs.Prelude.{OnOk}
+use Rattle.std.proofs.lemmas.List.{length-replicate}
+use Rattle.disk_redo.proofs.Moments.{reads_nothing}
+use Rattle.replica_store.specs.Replicas.{disk_changed, is_writable_at}
+use Rattle.replica_store.specs.declared.change.StoreChange.TheVariants.{Write, Zero}
+use Rattle.chunk_store.specs.Stores.{IsOpen}
+use Rattle.disk_store.specs.Standing.{LeavesMade}
+use Rattle.disk_store.proofs.Causes.{corrupt_refused}
+use Rattle.disk_store.proofs.Made.{none_made, write_made}
+use Rattle.disk_store.proofs.making.zero.Goals as goal
+
+pub returns-in_default-clause-any_moment : goal.returns-in_default-clause-any_moment
+returns-in_default-clause-any_moment g c =
+    let disk = g.D.Disk in
+    none_made disk.seen disk.may_leave disk.moment disk.left_since c.args.store.now (g.met.D.Disk.only_now c.args.store.now.disk) (Zero c.args.handle c.args.serial c.args.offset c.args.count)
+
+pub returns-in_err-zeros-clause-any_moment : goal.returns-in_err-zeros-clause-any_moment
+returns-in_err-zeros-clause-any_moment g c =
+    let disk = g.D.Disk in
+    none_made disk.seen disk.may_leave disk.moment disk.left_since c.args.store.now (g.met.D.Disk.only_now c.args.store.now.disk) (Zero c.args.handle c.args.serial c.args.offset c.args.count)
+
+pub returns-clause-ok : goal.returns-clause-ok
+returns-clause-ok g c d is noticed =
+    subst (λ (b : List ℕ). OnOk c.apply.result (IsOpen g.D.Disk.seen g.D.Disk.may_leave c.apply.new.self (disk_changed d (Write c.args.handle c.args.serial c.args.offset b)))) c.in_ok-zeros.ensures (c.apply.ensures.ok d is (noticed c.args.handle.0))
+
+pub returns-clause-any_moment : goal.returns-clause-any_moment
+returns-clause-any_moment g c =
+    let disk = g.D.Disk in
+    subst (λ (b : List ℕ). LeavesMade disk.seen disk.may_leave disk.moment disk.left_since c.args.store.now c.apply.new.self (Write c.args.handle c.args.serial c.args.offset b)) c.in_ok-zeros.ensures
+    (write_made disk.seen disk.may_leave disk.moment disk.left_since c.args.store.now c.apply.new.self c.args.handle.0 (Write c.args.handle c.args.serial c.args.offset c.in_ok-zeros.field-0) c.apply.ensures.any_moment)
+
+pub returns-in_default-clause-untouched : goal.returns-in_default-clause-untouched
+returns-in_default-clause-untouched g c d is none =
+    let disk = g.D.Disk in
+    reads_nothing disk.seen disk.may_leave disk.moment disk.left_since c.args.store.now.disk (g.met.D.Disk.only_now c.args.store.now.disk)
+
+pub returns-in_err-zeros-clause-untouched : goal.returns-in_err-zeros-clause-untouched
+returns-in_err-zeros-clause-untouched g c d is none =
+    let disk = g.D.Disk in
+    reads_nothing disk.seen disk.may_leave disk.moment disk.left_since c.args.store.now.disk (g.met.D.Disk.only_now c.args.store.now.disk)
+
+pub returns-clause-writable : goal.returns-clause-writable
+returns-clause-writable g c d is =
+    let size : length c.in_ok-zeros.field-0 ≡ c.args.count = ap length c.in_ok-zeros.ensures ∙ length-replicate {A = ℕ} c.args.count 0 in
+    subst (λ (n : ℕ). OnOk c.apply.result (is_writable_at d c.args.handle.0 c.args.offset (c.args.offset + n) ≡ true)) size (c.apply.ensures.writable d is)
+
+pub returns-clause-corrupt : goal.returns-clause-corrupt
+returns-clause-corrupt g c d is e =
+    let size : length c.in_ok-zeros.field-0 ≡ c.args.count = ap length c.in_ok-zeros.ensures ∙ length-replicate {A = ℕ} c.args.count 0 in (
+      subst (λ (n : ℕ). is_writable_at d c.args.handle.0 c.args.offset (c.args.offset + n) ≡ false) size (c.apply.ensures.corrupt d is e),
+      c.apply.ensures.refused d is (corrupt_refused c.apply.result e),
+    )
+
+pub returns-clause-untouched : goal.returns-clause-untouched
+returns-clause-untouched g c d is none =
+    let size : length c.in_ok-zeros.field-0 ≡ c.args.count = ap length c.in_ok-zeros.ensures ∙ length-replicate {A = ℕ} c.args.count 0 in
+    c.apply.ensures.untouched d is (subst (λ (n : ℕ). is_writable_at d c.args.handle.0 c.args.offset (c.args.offset + n) ≡ false) (sym size) none)

@@ -1,0 +1,5 @@
+pub mod Known
+pub mod Noticed
+pub mod Said
+pub mod Faults
+pub mod Standing

@@ -1,6 +1,0 @@
-use Rattle.std.proofs.Common.{◌∙◌}
-use Rattle.known_replicas.proofs.Rows.{len_known}
-use Rattle.known_replicas.proofs.known.Known.len.Goals as goal
-
-pub returns : goal.returns
-returns c d is = c.len.ensures ∙ len_known d c.args.self.now.rows is.rows_are

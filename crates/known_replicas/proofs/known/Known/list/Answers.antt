@@ -1,7 +1,0 @@
-use Rattle.std.proofs.Common.{◌∙◌}
-use Rattle.std.proofs.lemmas.Result.{IfOk-weaker}
-use Rattle.known_replicas.proofs.Rows.{lines_known}
-use Rattle.known_replicas.proofs.known.Known.list.Goals as goal
-
-pub returns : goal.returns
-returns c d is = IfOk-weaker c.lines_of.result _ _ (λ lines made. made ∙ lines_known d c.args.self.now.rows is.rows_are) c.lines_of.ensures

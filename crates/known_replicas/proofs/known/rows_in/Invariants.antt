@@ -1,7 +1,0 @@
-use Rattle.std.proofs.Common.{◌≡◌, ◌-◌, drop, length, map as mapped}
-use Rattle.std.specs.FinMap as map
-use Rattle.known_replicas.specs.Known.{entry_of}
-use Rattle.known_replicas.proofs.known.rows_in.Given as goal
-
-abbrev pub invariant-loop-done : goal.invariant-loop-done
-invariant-loop-done l = l.rows ≡ map.from_entries (mapped entry_of (drop (length l.list - l.done) l.list))

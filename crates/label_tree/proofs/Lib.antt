@@ -1,4 +1,0 @@
-pub mod Behind
-pub mod FirstNode
-pub mod Fronts
-pub mod Levels

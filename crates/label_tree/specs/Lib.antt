@@ -1,4 +1,0 @@
-pub mod Behind
-pub mod Entries
-pub mod Falls
-pub mod Nodes

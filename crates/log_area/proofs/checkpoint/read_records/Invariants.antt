@@ -1,9 +1,0 @@
-use Rattle.std.proofs.Common.{length}
-use Rattle.log_area.proofs.Parsing.{ReadRecords}
-use Rattle.log_area.proofs.checkpoint.read_records.Given as goal
-
-abbrev pub invariant-loop-alloc : goal.invariant-loop-alloc
-invariant-loop-alloc l = ReadRecords l.records l.rest l.bytes
-
-abbrev pub decreases-loop-alloc : goal.decreases-loop-alloc
-decreases-loop-alloc l = length l.rest

@@ -1,5 +1,0 @@
-use Rattle.master.proofs.Parts.{ticks}
-use Rattle.master.proofs.planned.plan_tick.Goals as goal
-
-pub returns : goal.returns
-returns g c = ticks (g.L.OperationLog.disk c.args.log.now) c.args.plan.now c.master_ticks.new.plan c.in_ok-master_ticks.ensures

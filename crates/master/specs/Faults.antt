@@ -1,9 +1,0 @@
--- The texts of why a master can't be made.
-use Rattle.std.specs.Prelude.{ℕ, List, codes}
-use Rattle.master.specs.declared.fault.MasterFault.{MasterFault}
-use Rattle.master.specs.declared.fault.MasterFault.TheVariants.{NoMemory, Log}
-use Rattle.operation_log.specs.Faults.{fault_text as log_text}
-
-abbrev pub fault_text : MasterFault → List ℕ
-fault_text NoMemory = codes "no memory"
-fault_text (Log fault) = log_text fault

@@ -1,0 +1,17 @@
+pub mod Copying
+pub mod Updating
+pub mod Steady
+pub mod Settings
+pub mod StatedLimits
+pub mod FileRecords
+pub mod StatedFiles
+pub mod Noting
+pub mod Showing
+pub mod Steps
+pub mod Restarts
+pub mod Parts
+pub mod Limits
+pub mod Openings
+pub mod Committing
+pub mod Files
+pub mod Drafting

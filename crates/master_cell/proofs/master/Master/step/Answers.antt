@@ -1,0 +1,58 @@
+use Rattle.std.proofs.Common.{◌≡◌, true, false, subst, ◌∙◌, rules}
+use Rattle.std.specs.Option.{option_copied}
+use Rattle.protocol.specs.Master.{MasterState}
+use Rattle.protocol.specs.Conforms.{MasterSteps}
+use Rattle.master_plan.specs.Changes.{changes_of}
+use Rattle.master_cell.specs.Shown.{shown_in}
+use Rattle.master_cell.specs.Inputs.{input_of}
+use Rattle.master_cell.specs.Standing.{standing}
+use Rattle.master_cell.proofs.Steps.{stays_down, drafted_went, drafted_rests, is_up_as, up_is}
+use Rattle.master_cell.proofs.Files.{shown_down, shown_before, step_shows}
+use Rattle.master_cell.proofs.master.Master.step.Goals as goal
+
+pub returns-then-not-self-clause-steps : goal.returns-then-not-self-clause-steps
+returns-then-not-self-clause-steps g c =
+    let down : c.args.self.now.up ≡ false =
+    up_is c.self.inside.up (g.L.OperationLog.disk c.self.inside.log) (g.L.OperationLog.under_way c.self.inside.log) c.self.inside.config c.self.inside.server_count c.self.inside.plan c.args.self.now (search rules) c.self.view_is in
+    stays_down c.args.self.now c.args.now.0 (input_of (option_copied c.args.message)) c.nothing.result.out c.nothing.result.seen down c.nothing.ensures.out c.nothing.ensures.seen
+
+pub returns-then-not-self-clause-files : goal.returns-then-not-self-clause-files
+returns-then-not-self-clause-files g c =
+    let down : c.args.self.now.up ≡ false =
+    up_is c.self.inside.up (g.L.OperationLog.disk c.self.inside.log) (g.L.OperationLog.under_way c.self.inside.log) c.self.inside.config c.self.inside.server_count c.self.inside.plan c.args.self.now (search rules) c.self.view_is in
+    shown_down c.args.self.now (shown_in c.args.shown.now) down
+
+pub drafts-requires-clause-shown : goal.drafts-requires-clause-shown
+drafts-requires-clause-shown g c =
+    let disk = g.L.OperationLog.disk c.self.inside.log in
+    let under_way = g.L.OperationLog.under_way c.self.inside.log in
+    let up : c.self.inside.up ≡ true = search rules in
+    shown_before disk under_way c.self.inside.config c.self.inside.server_count c.self.inside.plan c.args.self.now (shown_in c.args.shown.now)
+    (is_up_as c.self.inside.up disk under_way c.self.inside.config c.self.inside.server_count c.self.inside.plan c.args.self.now up c.self.view_is) c.requires.shown
+
+pub invariant_of-self-2 : goal.invariant_of-self-2
+invariant_of-self-2 g c =
+    let disk = g.L.OperationLog.disk c.self.inside.log in
+    let under_way = g.L.OperationLog.under_way c.self.inside.log in
+    let up : c.self.inside.up ≡ true = search rules in
+    let rests = drafted_rests disk under_way c.self.inside.config c.self.inside.server_count c.self.inside.plan c.args.now.0 (input_of (option_copied c.args.message)) (c.self.invariant.2 up) (changes_of c.in-Ok.draft.changes) c.drafts.new.plan c.in-Ok.ensures.drafts
+    (g.L.OperationLog.disk c.makes_all.new.log) (g.L.OperationLog.under_way c.makes_all.new.log) c.outcome_of.new.plan c.outcome_of.ensures.rest c.if-not-makes_all.ensures.none in
+    (c.self.invariant.0, c.self.invariant.1, λ _. rests)
+
+pub returns-clause-files : goal.returns-clause-files
+returns-clause-files g c =
+    step_shows (g.L.OperationLog.disk c.makes_all.new.log) (g.L.OperationLog.under_way c.makes_all.new.log) c.self.inside.config c.self.inside.server_count
+    c.drafts.new.plan c.outcome_of.new.plan (shown_in c.put.new.self) (shown_in c.args.shown.now) c.outcome_of.ensures.rest (c.put.ensures ∙ c.in-Ok.ensures.copies)
+
+pub returns-clause-steps : goal.returns-clause-steps
+returns-clause-steps g c =
+    let disk = g.L.OperationLog.disk c.self.inside.log in
+    let under_way = g.L.OperationLog.under_way c.self.inside.log in
+    let i = input_of (option_copied c.args.message) in
+    let up : c.self.inside.up ≡ true = search rules in
+    let old = is_up_as c.self.inside.up disk under_way c.self.inside.config c.self.inside.server_count c.self.inside.plan c.args.self.now up c.self.view_is in
+    let new_disk = g.L.OperationLog.disk c.makes_all.new.log in
+    let new_under_way = g.L.OperationLog.under_way c.makes_all.new.log in
+    subst (λ (m : MasterState). MasterSteps m c.args.now.0 i c.outcome_of.result.out c.outcome_of.result.seen (standing true new_disk new_under_way c.self.inside.config c.self.inside.server_count c.outcome_of.new.plan)) old
+    (drafted_went disk under_way c.self.inside.config c.self.inside.server_count c.self.inside.plan c.args.now.0 i (search rules) (changes_of c.in-Ok.draft.changes) c.drafts.new.plan c.in-Ok.ensures.drafts new_disk new_under_way
+    c.outcome_of.new.plan c.outcome_of.result.out c.outcome_of.result.seen c.outcome_of.ensures.rest c.outcome_of.ensures.out c.outcome_of.ensures.seen c.if-not-makes_all.ensures)

@@ -1,0 +1,12 @@
+pub mod Copies
+pub mod Shown
+pub mod Kinds
+pub mod ChangedFiles
+pub mod Files
+pub mod Faults
+pub mod Commits
+pub mod Standing
+pub mod Ends
+pub mod Opens
+pub mod Inputs
+pub mod Drafts

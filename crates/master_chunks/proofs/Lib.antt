@@ -1,0 +1,7 @@
+pub mod Places
+pub mod Grants
+pub mod Servers
+pub mod Ranks
+pub mod Issues
+pub mod Copies
+pub mod Handles

@@ -1,0 +1,5 @@
+pub mod Places
+pub mod Askers
+pub mod VersionPlaces
+pub mod Tests
+pub mod Copying

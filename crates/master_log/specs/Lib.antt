@@ -1,4 +1,0 @@
-pub mod Faults
-pub mod Items
-pub mod Changes
-pub mod Restarts

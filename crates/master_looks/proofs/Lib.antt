@@ -1,4 +1,0 @@
-pub mod Listed
-pub mod Sets
-pub mod Handles
-pub mod Trial

@@ -1,4 +1,0 @@
-pub mod Copied
-pub mod Listing
-pub mod Checkpoints
-pub mod Room

@@ -1,0 +1,37 @@
+//! How a snapshot takes its locks, and gives them back.
+
+ghost use Rattle.std.specs.Prelude.{◌≡◌, OnOk};
+ghost use Rattle.protocol.specs.Logged.{LogDisk};
+ghost use Rattle.protocol.specs.MasterSnapshots.{begins_snapshot, lets_go};
+ghost use Rattle.master_plan.specs.Plans.{doing};
+
+use crate::concerned::{snapshot_files, snapshot_handles};
+use crate::revokes::revokes_all;
+use master_plan::fault::PlanFault;
+use master_plan::plan::Plan;
+use master_plan::waiting::Pending;
+use std::alloc::Allocator;
+
+/// The locks are taken; version numbers of the chunks that are under way, and copies for the files, are given up, and leases are
+/// revoked.
+pub fn begins_snapshot<A: Allocator + Clone>(
+    plan: &mut Plan<A>,
+    snapshot: Pending,
+) -> Result<(), PlanFault>
+    ensures { OnOk result ((disk : LogDisk) → begins_snapshot (doing disk plan.old) snapshot ≡ doing disk plan.new) }
+{
+    let handles = snapshot_handles(plan, &snapshot)?;
+    let files = snapshot_files(plan, &snapshot)?;
+    let copies = plan.state().copies_for_files(&files)?;
+    plan.put_snapshot(snapshot)?;
+    plan.remove_attempts(&handles);
+    plan.give_up_copies(&copies)?;
+    revokes_all(plan, &handles)
+}
+
+/// The locks go back. Takes no memory.
+pub fn lets_go<A: Allocator + Clone>(plan: &mut Plan<A>, snapshot: &Pending)
+    ensures { (disk : LogDisk) → lets_go (doing disk plan.old) snapshot.now ≡ doing disk plan.new }
+{
+    plan.remove_snapshot(snapshot.client(), snapshot.number());
+}

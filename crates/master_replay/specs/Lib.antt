@@ -1,0 +1,8 @@
+pub mod Copied
+pub mod Listing
+pub mod Checkpoints
+pub mod Room
+pub mod Faults
+pub mod Items
+pub mod Changes
+pub mod Restarts

@@ -1,3 +1,0 @@
-pub mod Servers
-pub mod Ranks
-pub mod Issues

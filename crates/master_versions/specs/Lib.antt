@@ -1,3 +1,0 @@
-pub mod Askers
-pub mod Places
-pub mod Tests

@@ -1,2 +1,0 @@
-pub mod Concerning
-pub mod Followed

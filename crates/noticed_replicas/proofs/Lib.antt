@@ -1,4 +1,0 @@
-pub mod Blocks
-pub mod Writes
-pub mod Rot
-pub mod Changes

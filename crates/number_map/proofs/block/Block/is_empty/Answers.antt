@@ -1,8 +1,0 @@
-use Rattle.std.proofs.Common.{T, sym, ap, subst, ◌∙◌}
-use Rattle.std.proofs.Math.Facts.{eqb_yes}
-use Rattle.number_map.specs.Places.{block_values}
-use Rattle.number_map.proofs.Blocks.{without_any}
-use Rattle.number_map.proofs.block.Block.is_empty.Goals as goal
-
-pub returns : goal.returns
-returns g c h = sym c.self.view_is ∙ ap (λ m. block_values m c.self.inside.values.items) (eqb_yes (subst T (sym h) tt)) ∙ without_any c.self.inside.values.items

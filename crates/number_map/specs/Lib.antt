@@ -1,3 +1,0 @@
-pub mod BlockLending
-pub mod Lending
-pub mod Places

@@ -1,0 +1,78 @@
+//! Writing a checkpoint.
+
+ghost use Rattle.std.specs.Prelude.{◌≡◌, ◌⊎◌, ◌<◌, ◌≤◌, ◌+◌, ◌↔◌, ◌==◌, true, false, length, slice_index_or as get_or, OnOk, IsErrOf};
+ghost use Rattle.std.specs.List.{AllByRecursion};
+ghost use Rattle.disk.specs.Device.{ChangesOnly, HasCause, Only};
+ghost use Rattle.disk.specs.declared.device.DiskFault.TheVariants as disk_faults;
+ghost use Rattle.disk_redo.specs.GateMoments.{LeavesOnly};
+ghost use Rattle.log_codec.specs.Payloads.{IsWritable};
+ghost use Rattle.oplog.specs.Areas.{AreaState};
+ghost use Rattle.oplog.specs.Order.{is_checkpoint};
+ghost use Rattle.oplog.specs.Logs.{IsOpen, MayFail};
+ghost use Rattle.oplog.specs.declared.fault.LogFault.TheVariants as faults;
+ghost use Rattle.oplog.specs.Writing.{area_with};
+ghost use Rattle.oplog.specs.Checkpoints.{has_place, IsClosing, IsOldOrNew};
+
+use crate::{Log, LogFault, area_at, room_left, write_area};
+use disk::{Disk, DiskFault};
+use disk_redo::close;
+use log_records::record::Record;
+use std::alloc::Global;
+
+// Closes a gate where it is open. A stop at any moment leaves the disk as it was, or with that gate closed.
+fn close_if_open<D: Disk>(disk: &mut D, gate: usize) -> Result<(), DiskFault>
+    requires durable { Only (D.seen disk.old) (D.may_leave disk.old) }
+    requires room { gate < length (D.seen disk.old) }
+    ensures closed { OnOk result (get_or (D.seen disk.new) gate 0 == 1 ≡ false) }
+    ensures changed { OnOk result (ChangesOnly gate 1 (D.seen disk.old) (D.seen disk.new)) }
+    ensures durable { OnOk result (Only (D.seen disk.new) (D.may_leave disk.new)) }
+    ensures refused { IsErrOf result disk_faults.NoMemory → (D.seen disk.new ≡ D.seen disk.old) × Only (D.seen disk.new) (D.may_leave disk.new) }
+    ensures any_moment { LeavesOnly D.moment D.left_since disk.old disk.new (IsClosing gate (D.seen disk.old)) }
+    ensures cause { HasCause (D.failed disk.old) (D.failed disk.new) result }
+{
+    let mut byte = [0; 1];
+    disk.read(gate, &mut byte)?;
+    if byte[0] != 1 {
+        return Ok(());
+    }
+    close(disk, gate)
+}
+
+/// Writes a checkpoint into the other area: its items take the place of the log's items and records. At `Ok` they have, for good.
+///
+/// `Full`: it has no room, or the areas' numbers have come to an end. `NoMemory`: an allocator refused what the call needs. Both leave the log as it was. `Device`: the disk failed in this call; the log is open no more, and its disk holds the items and records from before, or the new items alone.
+pub fn checkpoint<D: Disk>(
+    log: &mut Log<D>,
+    alloc: Global,
+    items: &[Record],
+) -> Result<(), LogFault>
+    requires writable { AllByRecursion IsWritable items.now }
+    requires order { is_checkpoint items.now ≡ true }
+    requires is_open { (area : AreaState) × IsOpen D.seen D.may_leave log.old area }
+
+    ensures ok { (area : AreaState) → IsOpen D.seen D.may_leave log.old area → OnOk result (IsOpen D.seen D.may_leave log.new (area_with (area.number + 1) items.now)) }
+    ensures full { (area : AreaState) → IsOpen D.seen D.may_leave log.old area → (IsErrOf result faults.Full ↔ (has_place log.old.size area items.now ≡ false)) }
+    ensures still_open { (area : AreaState) → IsOpen D.seen D.may_leave log.old area → IsErrOf result faults.NoMemory → IsOpen D.seen D.may_leave log.new area }
+    ensures unchanged { IsErrOf result faults.Full → log.new ≡ log.old }
+    ensures undamaged { IsErrOf result faults.Damaged → ⊥ }
+    // A stop at any moment of the call leaves the items and records from before it, or the new items alone.
+    ensures any_moment { (area : AreaState) → IsOpen D.seen D.may_leave log.old area → LeavesOnly D.moment D.left_since log.old.disk log.new.disk (IsOldOrNew area items.now) }
+    ensures cause { MayFail (D.failed log.old.disk) (D.failed log.new.disk) result }
+{
+    let Some(number) = log.number.checked_add(1) else {
+        return Err(LogFault::Full);
+    };
+    let Some(left) = room_left(items, log.room.saturating_sub(14)) else {
+        return Err(LogFault::Full);
+    };
+    let other = 1 - log.which;
+    let start = area_at(log.size, other);
+    log.disk.forget_past();
+    close_if_open(&mut log.disk, start)?;
+    write_area(&mut log.disk, alloc, other, number, items)?;
+    log.which = other;
+    log.start = start;
+    log.number = number;
+    log.end = log.room - 1 - left;
+    Ok(())
+}

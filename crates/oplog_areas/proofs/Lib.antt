@@ -1,4 +1,0 @@
-pub mod Changes
-pub mod Entries
-pub mod Whole
-pub mod Current

@@ -1,4 +1,0 @@
-pub mod Newest
-pub mod Refused
-pub mod Starting
-pub mod Whole

@@ -1,7 +1,0 @@
-use Rattle.std.proofs.Common.{◌≡◌, ◌-◌, ◌++◌}
-use Rattle.std.specs.Option.{option_map}
-use Rattle.redo_area.specs.Redo.{ranges_in}
-use Rattle.redo_opening.proofs.parsing.parse.Given as goal
-
-abbrev pub invariant-loop : goal.invariant-loop
-invariant-loop l = option_map (λ rs. l.found.items ++ rs) (ranges_in (l.count - l.counter) l.rest) ≡ ranges_in l.count l.fn.bytes

@@ -1,9 +1,0 @@
--- One change more.
-use Rattle.std.proofs.Common.{◌≡◌, ℕ, List, [], ◌∷◌, ◌++◌, refl}
-use Rattle.replica_store.specs.Replicas.{ServerDisk}
-use Rattle.said_disk.specs.Said.{said_after, said_changed}
-use Rattle.said_disk.specs.declared.change.SaidChange.{SaidChange}
-
-pub said_pushed : {M : Type 0} (d : ServerDisk) (changes : List (SaidChange × M)) (change : SaidChange × M) → said_after d (changes ++ change ∷ []) ≡ said_changed (said_after d changes) change.0
-said_pushed d [] change = refl
-said_pushed d (first ∷ rest) change = said_pushed (said_changed d first.0) rest change

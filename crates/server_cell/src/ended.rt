@@ -1,0 +1,39 @@
+//! How a step ends.
+
+ghost use Rattle.std.specs.Prelude.{◌≡◌, []};
+ghost use Rattle.server_cell.specs.Ends.{Ends};
+ghost use Rattle.server_handlers.specs.Doing.{doing};
+
+use crate::numberings::numberings;
+use messages::event::StepOut;
+use server_handlers::effects::Effects;
+use server_handlers::server::Server;
+use server_store::store::ReplicaStore;
+use step_outcome::Outcome;
+
+// The changes of the disk are made, and then the messages are sent. Where a change fails, the server stops.
+pub(crate) fn ends<S: ReplicaStore>(server: &mut Server<S>, effects: Effects) -> Outcome
+    requires { server.old.under_way ≡ [] }
+    ensures { Ends server.old (doing server.old effects) result.out result.seen server.new }
+{
+    let alloc = server.alloc();
+    let Effects {
+        sent,
+        changes,
+        seen,
+    } = effects;
+    match server.commit(changes) {
+        Ok(()) => {
+            let out = StepOut {
+                sent,
+                answer: None,
+                down: false,
+            };
+            Outcome { out, seen }
+        }
+        Err(_) => {
+            server.stop();
+            Outcome::down(alloc, numberings(seen))
+        }
+    }
+}

@@ -1,0 +1,90 @@
+//! Messages that come from the master; of other kinds nothing is taken.
+
+ghost use Rattle.std.specs.Prelude.{◌≡◌, false, [], OnOk};
+ghost use Rattle.protocol.specs.Server.{frame};
+ghost use Rattle.protocol.specs.ServerStep.{server_takes};
+ghost use Rattle.server_handlers.specs.Doing.{doing};
+ghost use Rattle.server_cell.specs.Kinds.{is_of_clients, is_of_servers};
+
+use crate::ordered::{
+    orders_clone, orders_copy_local, orders_create, orders_drop, orders_grant, orders_revoke,
+    orders_set_version,
+};
+use messages::message::{Body, Message};
+use server_handlers::effects::Effects;
+use server_handlers::server::Server;
+use server_store::fault::StoreFault;
+use server_store::store::ReplicaStore;
+
+pub(crate) fn takes_of_master<S: ReplicaStore>(
+    server: &mut Server<S>,
+    effects: &mut Effects,
+    message: &Message,
+) -> Result<(), StoreFault>
+    requires nothing { server.old.under_way ≡ [] }
+    requires clients { is_of_clients message.now.body ≡ false }
+    requires servers { is_of_servers message.now.body ≡ false }
+    ensures goes { OnOk result (server_takes (doing server.old effects.old) message.now message.now.body ≡ doing server.new effects.new) }
+    ensures frame { frame server.new ≡ frame server.old }
+{
+    match &message.body {
+        Body::Create {
+            order,
+            handle,
+            version,
+        } => orders_create(server, effects, *order, *handle, *version),
+        Body::SetVersion {
+            order,
+            handle,
+            version,
+            base,
+        } => orders_set_version(server, effects, *order, *handle, *version, *base),
+        Body::Grant {
+            order,
+            handle,
+            version,
+            end,
+            members,
+        } => orders_grant(server, effects, *order, *handle, *version, *end, members),
+        Body::Revoke {
+            order,
+            handle,
+            version,
+        } => orders_revoke(server, effects, *order, *handle, *version),
+        Body::Drop {
+            order,
+            handle,
+            version,
+        } => orders_drop(server, effects, *order, *handle, *version),
+        Body::Clone {
+            order,
+            handle,
+            version,
+            source,
+        } => orders_clone(server, effects, *order, *handle, *version, *source),
+        Body::CopyLocal {
+            order,
+            handle,
+            version,
+            copy,
+            copy_version,
+        } => orders_copy_local(
+            server,
+            effects,
+            *order,
+            *handle,
+            *version,
+            *copy,
+            *copy_version,
+        ),
+        Body::Extend {
+            handle,
+            version,
+            end,
+        } => {
+            server.takes_extend(effects, *handle, *version, *end);
+            Ok(())
+        }
+        _ => Ok(()),
+    }
+}

@@ -1,0 +1,150 @@
+//! The chunkserver.
+
+ghost use Rattle.std.specs.Prelude.{◌≡◌, ◌≤◌, [], true, OnOk, OnErr};
+ghost use Rattle.std.specs.Option.{option_copied};
+ghost use Rattle.gfs_types.specs.Settings.{largest_chunk};
+ghost use Rattle.protocol.specs.Conforms.{ServerSteps, ServerRestarts};
+ghost use Rattle.protocol.specs.Server.{started_server, stopped_server};
+ghost use Rattle.protocol.specs.Tables.{moment_limit};
+ghost use Rattle.replica_store.specs.Replicas.{row_at};
+ghost use Rattle.server_store.specs.Stores.{disk_rotten};
+ghost use Rattle.server_cell.specs.Inputs.{input_of};
+
+use crate::ended::ends;
+use crate::planned::plan_step;
+use gfs_types::config::Config;
+use gfs_types::ids::{Handle, Moment, ServerId};
+use gfs_types::lists::Sequence;
+use gfs_types::torn::Torn;
+use messages::event::StepOut;
+use messages::message::Message;
+use replica_store::row::Row;
+use server_handlers::server::Server;
+use server_store::fault::StoreFault;
+use server_store::stoppable_store::StoppableStore;
+use server_store::store::ReplicaStore;
+use std::alloc::Global;
+use std::marker::Model;
+use step_outcome::{Outcome, down_output, no_output};
+
+/// A chunkserver over a store of its replicas. While it is up, nothing is under way on its disk.
+#[derive(Drop)]
+pub struct Chunkserver<S: ReplicaStore> {
+    server: Server<S>,
+}
+
+impl<S: ReplicaStore> Model for Chunkserver<S> {
+    ghost use Rattle.std.specs.Prelude.{◌≡◌, true, []};
+    ghost use Rattle.std.specs.FinMap as map;
+    ghost use Rattle.std.specs.Coded.{codes, coded_ℕ};
+    ghost use Rattle.protocol.specs.Server.{ServerState};
+
+    ghost Value = { ServerState };
+
+    ghost coded = { Prim.hlevel (codes, map.code, coded_ℕ) };
+
+    ghost view = { λ c. c.server };
+
+    ghost invariant = { λ c. c.server.up ≡ true → c.server.under_way ≡ [] };
+}
+
+impl<S: ReplicaStore> Chunkserver<S> {
+    /// One that starts at a moment on a store, with nothing under way. The settings are within their ranges. Takes no memory.
+    pub fn new(alloc: Global, config: Config, id: ServerId, store: S, now: Moment) -> Chunkserver<S>
+        requires least { 64 ≤ config.chunk }
+        requires most { config.chunk ≤ largest_chunk }
+        requires skew { config.skew_ms ≤ 60000 }
+        requires moment { now.0 ≤ moment_limit }
+        requires nothing { S.under_way store ≡ [] }
+        ensures { result ≡ started_server config id.0 (S.disk store) now.0 }
+    {
+        Chunkserver {
+            server: Server::new(alloc, config, id, store, now),
+        }
+    }
+
+    /// Whether it is up. One that is down takes no step.
+    pub fn is_up(&self) -> bool
+        ensures { result ≡ self.now.up }
+    {
+        self.server.is_up()
+    }
+
+    /// Its number.
+    pub fn id(&self) -> ServerId
+        ensures { result.0 ≡ self.now.id }
+    {
+        self.server.id()
+    }
+
+    /// What it knows of a replica.
+    pub fn row(&self, handle: Handle) -> Option<Row>
+        ensures { result ≡ row_at self.now.disk handle.0 }
+    {
+        self.server.row(handle)
+    }
+
+    /// It is put down in a step, before it changed anything. Takes no memory.
+    pub fn stop(&mut self)
+        requires { self.old.up ≡ true }
+        ensures { self.new ≡ stopped_server self.old self.old.disk [] }
+    {
+        self.server.stop();
+    }
+
+    /// A byte of a replica becomes another on the disk, past its digest; nothing happens where there is no such replica. At an error
+    /// nothing has changed.
+    pub fn rot(&mut self, handle: Handle, place: u64, byte: u8) -> Result<(), StoreFault>
+        requires { self.old.up ≡ true }
+        ensures ok { OnOk result (self.new ≡ record self.old { disk = disk_rotten self.old.disk handle.0 place byte }) }
+        ensures err { OnErr result (self.new ≡ self.old) }
+    {
+        self.server.rot(handle, place, byte)
+    }
+
+    /// A step on a message, or on a tick.
+    pub fn step(&mut self, now: Moment, message: Option<&Message>) -> Outcome
+        requires { now.0 ≤ moment_limit }
+        ensures { ServerSteps self.old now.0 (input_of (option_copied message.entry)) result.out result.seen self.new }
+    {
+        let alloc = self.server.alloc();
+        if !self.server.is_up() {
+            return Outcome::nothing(alloc);
+        }
+        match plan_step(&mut self.server, now, message) {
+            Ok(effects) => ends(&mut self.server, effects),
+            Err(_) => {
+                self.server.stop();
+                Outcome::down(alloc, Sequence::empty(alloc))
+            }
+        }
+    }
+
+    /// It begins again, whether it was up or down.
+    pub fn restart(&mut self, now: Moment) -> StepOut
+        requires { now.0 ≤ moment_limit }
+        ensures { ServerRestarts self.old now.0 result self.new }
+    {
+        let alloc = self.server.alloc();
+        match self.server.reopen() {
+            Ok(()) => {
+                self.server.start(now);
+                no_output(alloc)
+            }
+            Err(_) => {
+                self.server.stop();
+                down_output(alloc)
+            }
+        }
+    }
+}
+
+impl<S: StoppableStore> Chunkserver<S> {
+    /// Its disk lets so many calls pass and fails each later one until the next restart, which finds what was under way as `torn` says.
+    /// That of a server that is down does so once the next restart has begun.
+    pub fn fuse(&mut self, calls: u64, torn: Torn)
+        ensures { self.new ≡ self.old }
+    {
+        self.server.fuse(calls, torn);
+    }
+}

@@ -1,0 +1,126 @@
+//! How a primary places, numbers, applies and forwards the mutations of clients, as the protocol's definitions have it (sections 3.1
+//! and 3.3).
+
+ghost use Rattle.std.specs.Prelude.{◌≡◌, ◌+◌, [], length, nat_lt, if◌then◌else◌, OnOk};
+ghost use Rattle.primary_order.specs.declared.answer.Attempted.TheVariants.{IsNew};
+ghost use Rattle.gfs_types.specs.declared.mutation.Mutation.TheVariants as mutation;
+ghost use Rattle.protocol.specs.Server.{frame};
+ghost use Rattle.protocol.specs.ServerWrites.{takes_mutate, mutates_as, appends_as, places};
+ghost use Rattle.record_append.specs.Placing.{placing};
+ghost use Rattle.server_handlers.specs.Doing.{doing, OnHeld};
+
+use crate::placed::places;
+use bytes::Bytes;
+use gfs_types::ids::{DataId, Handle, Moment, Version};
+use gfs_types::mutation::Mutation;
+use gfs_types::refusal::Refusal;
+use messages::message::Target;
+use primary_order::answer::Attempted;
+use primary_order::kept::Standing;
+use record_append::place;
+use record_append::placing::Placing;
+use server_handlers::effects::Effects;
+use server_handlers::server::Server;
+use server_store::fault::StoreFault;
+use server_store::store::ReplicaStore;
+
+/// A Mutate.
+pub fn takes_mutate<S: ReplicaStore>(
+    server: &mut Server<S>,
+    effects: &mut Effects,
+    id: DataId,
+    handle: Handle,
+    version: Version,
+    target: Target,
+    deadline: Moment,
+) -> Result<(), StoreFault>
+    requires { server.old.under_way ≡ [] }
+    ensures goes { OnOk result (takes_mutate (doing server.old effects.old) id handle.0 version.0 target deadline.0 ≡ doing server.new effects.new) }
+    ensures frame { frame server.new ≡ frame server.old }
+{
+    let Some(primary) = server.primary_of(handle, version) else {
+        return server.refuses_attempt(effects, id, Refusal::NoLease);
+    };
+    if deadline <= server.clock() {
+        return server.refuses_attempt(effects, id, Refusal::Late);
+    }
+    match primary.attempted(id.client, id.seq) {
+        Attempted::IsOld => server.refuses_attempt(effects, id, Refusal::OldRequest),
+        Attempted::IsRepeat(Standing::IsPending) => Ok(()),
+        Attempted::IsRepeat(Standing::IsSettled(place)) => {
+            server.answers_settled(effects, id, place)
+        }
+        Attempted::IsRepeat(Standing::IsRefused(refusal)) => {
+            server.refuses_attempt(effects, id, refusal)
+        }
+        Attempted::IsNew => mutates_new(server, effects, id, handle, target),
+    }
+}
+
+fn mutates_new<S: ReplicaStore>(
+    server: &mut Server<S>,
+    effects: &mut Effects,
+    id: DataId,
+    handle: Handle,
+    target: Target,
+) -> Result<(), StoreFault>
+    requires { server.old.under_way ≡ [] }
+    ensures goes { OnOk result (OnHeld server.old handle.0 (λ p. mutates_as (doing server.old effects.old) handle.0 p id target IsNew ≡ doing server.new effects.new)) }
+    ensures frame { frame server.new ≡ frame server.old }
+{
+    let Some(row) = server.row(handle) else {
+        return Ok(());
+    };
+    let Some(bytes) = server.data(id) else {
+        return server.denies(effects, id, handle, Refusal::NoData);
+    };
+    let bytes = bytes.clone()?;
+    match target {
+        Target::Write(offset) => writes(server, effects, id, handle, offset, bytes),
+        Target::Append => appends(server, effects, id, handle, row.count, bytes),
+    }
+}
+
+// What doesn't lie within the chunk changes nothing and is not answered.
+fn writes<S: ReplicaStore>(
+    server: &mut Server<S>,
+    effects: &mut Effects,
+    id: DataId,
+    handle: Handle,
+    offset: u64,
+    bytes: Bytes,
+) -> Result<(), StoreFault>
+    requires { server.old.under_way ≡ [] }
+    ensures goes { OnOk result (OnHeld server.old handle.0 (λ p. (if nat_lt server.old.config.chunk (offset + length bytes) then doing server.old effects.old else places (doing server.old effects.old) handle.0 p id (mutation.Write offset bytes)) ≡ doing server.new effects.new)) }
+    ensures frame { frame server.new ≡ frame server.old }
+{
+    let chunk = server.chunk();
+    let count = bytes.len() as u64;
+    if count > chunk || offset > chunk - count {
+        return Ok(());
+    }
+    places(server, effects, id, handle, Mutation::Write(offset, bytes))
+}
+
+// A record, behind so many bytes of the chunk.
+fn appends<S: ReplicaStore>(
+    server: &mut Server<S>,
+    effects: &mut Effects,
+    id: DataId,
+    handle: Handle,
+    count: u64,
+    bytes: Bytes,
+) -> Result<(), StoreFault>
+    requires { server.old.under_way ≡ [] }
+    ensures goes { OnOk result (OnHeld server.old handle.0 (λ p. appends_as (doing server.old effects.old) handle.0 p id bytes (placing count (length bytes) server.old.config.chunk) ≡ doing server.new effects.new)) }
+    ensures frame { frame server.new ≡ frame server.old }
+{
+    match place(count, bytes.len() as u64, server.chunk()) {
+        Placing::At(offset) => {
+            places(server, effects, id, handle, Mutation::Append(offset, bytes))
+        }
+        Placing::Pad(offset) => places(server, effects, id, handle, Mutation::Pad(offset)),
+        Placing::Full => server.denies(effects, id, handle, Refusal::ChunkFull),
+        Placing::TooLong => server.denies(effects, id, handle, Refusal::ServerTooLong),
+    }
+}

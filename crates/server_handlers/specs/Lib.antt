@@ -1,0 +1,3 @@
+pub mod Reported
+pub mod Doing
+pub mod Pushing

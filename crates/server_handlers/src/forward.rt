@@ -1,0 +1,182 @@
+//! How a member applies what its primary forwards (section 3.1).
+
+ghost use Rattle.std.specs.Prelude.{◌≡◌, ◌+◌, ◌-◌, [], length, nat_le, OnOk};
+ghost use Rattle.data_push.specs.Buffers.{data_of};
+ghost use Rattle.replica_store.specs.Replicas.{is_writable_at};
+ghost use Rattle.protocol.specs.Server.{frame, takes_data};
+ghost use Rattle.protocol.specs.ServerWrites.{takes_forward, applies_change, applies_data, applies_pad, member_stores, nacks};
+ghost use Rattle.server_handlers.specs.Doing.{doing};
+
+use crate::effects::Effects;
+use crate::server::Server;
+use gfs_types::ids::{DataId, Handle, Node, Serial, Version};
+use gfs_types::refusal::Refusal;
+use messages::message::{Body, Change};
+use replica_store::change::StoreChange;
+use server_store::fault::StoreFault;
+use server_store::store::ReplicaStore;
+
+/// What a primary asks of a member.
+#[derive(Clone, Copy)]
+pub struct Asked {
+    pub primary: Node,
+    pub handle: Handle,
+    pub version: Version,
+    pub serial: Serial,
+    pub id: DataId,
+}
+
+impl<S: ReplicaStore> Server<S> {
+    /// A Forward.
+    pub fn takes_forward(
+        &mut self,
+        effects: &mut Effects,
+        asked: Asked,
+        change: Change,
+    ) -> Result<(), StoreFault>
+        requires { self.old.under_way ≡ [] }
+        ensures goes { OnOk result (takes_forward (doing self.old effects.old) asked.primary asked.handle.0 asked.version.0 asked.serial.0 asked.id change ≡ doing self.new effects.new) }
+        ensures frame { frame self.new ≡ frame self.old }
+    {
+        let Some(row) = self.store.row(asked.handle) else {
+            return self.nacks(effects, asked, Refusal::NoChunk);
+        };
+        if row.version != asked.version {
+            return self.nacks(effects, asked, Refusal::Version);
+        }
+        if asked.serial <= row.serial {
+            return self.nacks(effects, asked, Refusal::OldSerial);
+        }
+        self.applies_change(effects, asked, change)
+    }
+
+    fn nacks(&self, effects: &mut Effects, asked: Asked, refusal: Refusal) -> Result<(), StoreFault>
+        ensures { OnOk result (nacks (doing self.now effects.old) asked.primary asked.handle.0 asked.version.0 asked.serial.0 refusal ≡ doing self.now effects.new) }
+    {
+        let Asked {
+            primary,
+            handle,
+            version,
+            serial,
+            ..
+        } = asked;
+        let body = Body::Nacked {
+            handle,
+            version,
+            serial,
+            refusal,
+        };
+        self.send(effects, primary, body)
+    }
+
+    fn applies_change(
+        &mut self,
+        effects: &mut Effects,
+        asked: Asked,
+        change: Change,
+    ) -> Result<(), StoreFault>
+        requires { self.old.under_way ≡ [] }
+        ensures goes { OnOk result (applies_change (doing self.old effects.old) asked.primary asked.handle.0 asked.version.0 asked.serial.0 asked.id change ≡ doing self.new effects.new) }
+        ensures frame { frame self.new ≡ frame self.old }
+    {
+        match change {
+            Change::Write(offset) | Change::Append(offset) => {
+                self.applies_data(effects, asked, offset)
+            }
+            Change::Pad(offset) => self.applies_pad(effects, asked, offset),
+        }
+    }
+
+    fn applies_data(
+        &mut self,
+        effects: &mut Effects,
+        asked: Asked,
+        offset: u64,
+    ) -> Result<(), StoreFault>
+        requires { self.old.under_way ≡ [] }
+        ensures goes { OnOk result (applies_data (doing self.old effects.old) asked.primary asked.handle.0 asked.version.0 asked.serial.0 asked.id offset (data_of self.old.pushed asked.id) ≡ doing self.new effects.new) }
+        ensures frame { frame self.new ≡ frame self.old }
+    {
+        let Some(bytes) = self.pushed.get(asked.id) else {
+            return self.nacks(effects, asked, Refusal::NoData);
+        };
+        let bytes = bytes.clone()?;
+        let count = bytes.len() as u64;
+        if !self.is_within(offset, count) {
+            return Ok(());
+        }
+        let change = StoreChange::Write {
+            handle: asked.handle,
+            serial: asked.serial,
+            offset,
+            bytes,
+        };
+        self.member_stores(effects, asked, change, offset, offset + count)
+    }
+
+    fn applies_pad(
+        &mut self,
+        effects: &mut Effects,
+        asked: Asked,
+        offset: u64,
+    ) -> Result<(), StoreFault>
+        requires { self.old.under_way ≡ [] }
+        ensures goes { OnOk result (applies_pad (doing self.old effects.old) asked.primary asked.handle.0 asked.version.0 asked.serial.0 asked.id offset (self.old.config.chunk - offset) ≡ doing self.new effects.new) }
+        ensures frame { frame self.new ≡ frame self.old }
+    {
+        let count = u64::from(self.config.chunk).saturating_sub(offset);
+        if !self.is_within(offset, count) {
+            return Ok(());
+        }
+        let change = StoreChange::Zero {
+            handle: asked.handle,
+            serial: asked.serial,
+            offset,
+            count,
+        };
+        self.member_stores(effects, asked, change, offset, offset + count)
+    }
+
+    // A member applies a mutation that lies within the chunk.
+    fn member_stores(
+        &mut self,
+        effects: &mut Effects,
+        asked: Asked,
+        change: StoreChange,
+        offset: u64,
+        end: u64,
+    ) -> Result<(), StoreFault>
+        requires { self.old.under_way ≡ [] }
+        ensures goes { OnOk result (member_stores (is_writable_at self.old.disk asked.handle.0 offset end) (takes_data (doing self.old effects.old) asked.id) asked.primary asked.handle.0 asked.version.0 asked.serial.0 change ≡ doing self.new effects.new) }
+        ensures frame { frame self.new ≡ frame self.old }
+    {
+        let is_writable = self.store.is_writable(asked.handle, offset, end)?;
+        self.pushed.take(asked.id);
+        if !is_writable {
+            self.drops_corrupt(effects, asked.handle)?;
+            return self.nacks(effects, asked, Refusal::Corrupt);
+        }
+        effects.change(change)?;
+        let Asked {
+            primary,
+            handle,
+            version,
+            serial,
+            ..
+        } = asked;
+        let body = Body::Acked {
+            handle,
+            version,
+            serial,
+        };
+        self.send(effects, primary, body)
+    }
+
+    /// Whether so many bytes lie within the chunk.
+    pub fn is_within(&self, offset: u64, count: u64) -> bool
+        ensures { result ≡ nat_le (offset + count) self.now.config.chunk }
+    {
+        let chunk = u64::from(self.config.chunk);
+        count <= chunk && offset <= chunk - count
+    }
+}

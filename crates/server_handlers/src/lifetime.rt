@@ -1,0 +1,103 @@
+//! How a server begins, makes the changes of its disk, stops, and begins again (section 2.6.2).
+
+ghost use Rattle.std.specs.Prelude.{◌≡◌, ◌≤◌, [], OnOk, OnErr};
+ghost use Rattle.gfs_types.specs.Settings.{largest_chunk};
+ghost use Rattle.replica_store.specs.Replicas.{disk_changed_by_all};
+ghost use Rattle.server_store.specs.Stores.{IsFound, MadePart, disk_rotten};
+ghost use Rattle.protocol.specs.Tables.{moment_limit};
+ghost use Rattle.protocol.specs.Server.{started_server, stopped_server};
+
+use crate::held_leases::LeaseTable;
+use crate::pushed::Pushed;
+use crate::server::Server;
+use gfs_types::config::Config;
+use gfs_types::ids::{Handle, Moment, ServerId};
+use ordered_map::number_map::NumberMap;
+use replica_store::change::ChangeList;
+use server_store::fault::StoreFault;
+use server_store::store::{ReplicaStore, commit_all};
+use std::alloc::Global;
+
+impl<S: ReplicaStore> Server<S> {
+    /// One that starts at a moment on a store, with nothing under way. The settings are within their ranges. Takes no memory.
+    pub fn new(alloc: Global, config: Config, id: ServerId, store: S, now: Moment) -> Server<S>
+        requires least { 64 ≤ config.chunk }
+        requires most { config.chunk ≤ largest_chunk }
+        requires skew { config.skew_ms ≤ 60000 }
+        requires moment { now.0 ≤ moment_limit }
+        requires nothing { S.under_way store ≡ [] }
+        ensures { result ≡ started_server config id.0 (S.disk store) now.0 }
+    {
+        Server {
+            config,
+            id,
+            up: true,
+            clock: now.0,
+            store,
+            leases: LeaseTable::new(alloc),
+            pushed: Pushed::new(config.push_entries),
+            clones: NumberMap::new(alloc),
+            alloc,
+        }
+    }
+
+    /// It begins again, and knows what is on its disk alone.
+    pub fn start(&mut self, now: Moment)
+        requires moment { now.0 ≤ moment_limit }
+        requires nothing { self.old.under_way ≡ [] }
+        ensures { self.new ≡ started_server self.old.config self.old.id self.old.disk now.0 }
+    {
+        self.forget();
+        self.up = true;
+        self.clock = now.0;
+    }
+
+    /// It stops, and keeps its disk alone, with what is under way there.
+    pub fn stop(&mut self)
+        ensures { self.new ≡ stopped_server self.old self.old.disk self.old.under_way }
+    {
+        self.forget();
+        self.up = false;
+        self.clock = 0;
+    }
+
+    fn forget(&mut self)
+        ensures { self.new ≡ record (started_server self.old.config self.old.id self.old.disk self.old.now) { up = self.old.up; under_way = self.old.under_way } }
+    {
+        self.leases = LeaseTable::new(self.alloc);
+        self.pushed = Pushed::new(self.config.push_entries);
+        self.clones = NumberMap::new(self.alloc);
+    }
+
+    /// The changes of its disk are made in their order. At an error some were made, from the first on, and the next one is under way.
+    pub fn commit(&mut self, changes: ChangeList) -> Result<(), StoreFault>
+        requires { self.old.under_way ≡ [] }
+        ensures ok { OnOk result (self.new ≡ record self.old { disk = disk_changed_by_all self.old.disk changes }) }
+        ensures err { OnErr result (MadePart self.old.disk changes self.new.disk self.new.under_way) }
+        ensures config { self.new.config ≡ self.old.config }
+        ensures id { self.new.id ≡ self.old.id }
+    {
+        commit_all(&mut self.store, changes)
+    }
+
+    /// The disk is opened again, and what was under way is found made or not. An error leaves all as it was.
+    pub fn reopen(&mut self) -> Result<(), StoreFault>
+        ensures found { OnOk result (IsFound self.old.disk self.old.under_way self.new.disk) }
+        ensures nothing { OnOk result (self.new.under_way ≡ []) }
+        ensures err { OnErr result (self.new ≡ self.old) }
+        ensures config { self.new.config ≡ self.old.config }
+        ensures id { self.new.id ≡ self.old.id }
+    {
+        self.store.reopen()
+    }
+
+    /// A byte of a replica becomes another on the disk, past its digest; nothing happens where there is no such replica. NoRoom: no
+    /// replica of this store can have a byte at that place. At an error nothing has changed.
+    pub fn rot(&mut self, handle: Handle, place: u64, byte: u8) -> Result<(), StoreFault>
+        requires { self.old.under_way ≡ [] }
+        ensures ok { OnOk result (self.new ≡ record self.old { disk = disk_rotten self.old.disk handle.0 place byte }) }
+        ensures err { OnErr result (self.new ≡ self.old) }
+    {
+        self.store.rot(handle, place, byte)
+    }
+}

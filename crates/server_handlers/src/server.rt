@@ -1,0 +1,222 @@
+//! The chunkserver, and what all handlers share.
+
+ghost use Rattle.std.specs.Prelude.{◌≡◌, ◌≤◌, [], OnOk, IfOk};
+ghost use Rattle.std.specs.Option.{option_copied};
+ghost use Rattle.std.specs.FinMap as map;
+ghost use Rattle.gfs_types.specs.Settings.{largest_chunk};
+ghost use Rattle.data_push.specs.Buffers.{data_of};
+ghost use Rattle.replica_store.specs.Replicas.{row_at, is_writable_at};
+ghost use Rattle.protocol.specs.Tables.{moment_limit};
+ghost use Rattle.protocol.specs.Server.{sends, refuses, drops_corrupt, primary_of, frame};
+ghost use Rattle.protocol.specs.ServerStep.{server_at};
+ghost use Rattle.protocol.specs.ServerWrites.{refuses_attempt, answers_settled};
+ghost use Rattle.server_handlers.specs.Doing.{doing};
+
+use crate::effects::Effects;
+use crate::held_leases::LeaseTable;
+use crate::pushed::Pushed;
+use bytes::Bytes;
+use gfs_types::config::Config;
+use gfs_types::ids::{DataId, Handle, Moment, Node, ServerId, Version};
+use gfs_types::refusal::Refusal;
+use messages::message::{Body, Message};
+use ordered_map::number_map::NumberMap;
+use primary_order::order::SerialOrder;
+use replica_store::change::StoreChange;
+use replica_store::row::Row;
+use server_store::fault::StoreFault;
+use server_store::store::ReplicaStore;
+use std::alloc::Global;
+use std::marker::Model;
+
+/// A chunkserver (section 2.3).
+#[derive(Drop)]
+pub struct Server<S: ReplicaStore> {
+    pub(crate) config: Config,
+    pub(crate) id: ServerId,
+    pub(crate) up: bool,
+    pub(crate) clock: u64,
+    pub(crate) store: S,
+    pub(crate) leases: LeaseTable,
+    pub(crate) pushed: Pushed,
+    pub(crate) clones: NumberMap<u64>,
+    pub(crate) alloc: Global,
+}
+
+impl<S: ReplicaStore> Model for Server<S> {
+    ghost use Rattle.std.specs.Prelude.{◌≡◌, ◌≤◌, max};
+    ghost use Rattle.std.specs.FinMap as map;
+    ghost use Rattle.std.specs.Coded.{codes, coded_ℕ};
+    ghost use Rattle.protocol.specs.Server.{ServerState};
+    ghost use Rattle.protocol.specs.Tables.{moment_limit};
+    ghost use Rattle.gfs_types.specs.Settings.{largest_chunk};
+
+    ghost Value = { ServerState };
+
+    ghost coded = { Prim.hlevel (codes, map.code, coded_ℕ) };
+
+    ghost view = { λ s. record {
+      config = s.config;
+      id = s.id.0;
+      up = s.up;
+      now = s.clock;
+      disk = S.disk s.store;
+      under_way = S.under_way s.store;
+      leases = s.leases;
+      pushed = s.pushed;
+      clones = s.clones;
+    } };
+
+    ghost invariant = { λ s. (64 ≤ s.config.chunk) × (s.config.chunk ≤ largest_chunk) × (s.config.skew_ms ≤ 60000) × (s.clock ≤ moment_limit) × (s.pushed.limit ≡ max 1 s.config.push_entries) };
+}
+
+impl<S: ReplicaStore> Server<S> {
+    /// Whether it is up.
+    pub fn is_up(&self) -> bool
+        ensures { result ≡ self.now.up }
+    {
+        self.up
+    }
+
+    /// Its number.
+    pub fn id(&self) -> ServerId
+        ensures { result.0 ≡ self.now.id }
+    {
+        self.id
+    }
+
+    /// The bytes of a chunk.
+    pub fn chunk(&self) -> u64
+        ensures size { result ≡ self.now.config.chunk }
+        ensures bound { result ≤ largest_chunk }
+    {
+        u64::from(self.config.chunk)
+    }
+
+    /// The greatest moment that it was given.
+    pub fn clock(&self) -> Moment
+        ensures { result.0 ≡ self.now.now }
+    {
+        Moment(self.clock)
+    }
+
+    pub fn alloc(&self) -> Global {
+        self.alloc
+    }
+
+    /// What it knows of a replica.
+    pub fn row(&self, handle: Handle) -> Option<Row>
+        ensures { result ≡ row_at self.now.disk handle.0 }
+    {
+        self.store.row(handle)
+    }
+
+    /// The data that were pushed under an id.
+    pub fn data(&self, id: DataId) -> Option<&Bytes>
+        ensures { option_copied result ≡ data_of self.now.pushed id }
+    {
+        self.pushed.get(id)
+    }
+
+    /// The lease of a chunk.
+    pub fn lease(&self, handle: Handle) -> Option<&SerialOrder>
+        ensures { option_copied result ≡ map.get self.now.leases handle.0 }
+    {
+        self.leases.get(handle.0)
+    }
+
+    /// Whether a range of a replica can be written over.
+    pub fn is_writable(&mut self, handle: Handle, offset: u64, end: u64) -> Result<bool, StoreFault>
+        requires { self.old.under_way ≡ [] }
+        ensures value { IfOk result (λ b. b ≡ is_writable_at self.old.disk handle.0 offset end) }
+        ensures same { self.new ≡ self.old }
+    {
+        self.store.is_writable(handle, offset, end)
+    }
+
+    /// Goes on to a moment.
+    pub fn move_clock(&mut self, now: Moment)
+        requires { now.0 ≤ moment_limit }
+        ensures { self.new ≡ server_at self.old now.0 }
+    {
+        self.clock = self.clock.max(now.0);
+    }
+
+    /// A message is sent.
+    pub fn send(&self, effects: &mut Effects, receiver: Node, body: Body) -> Result<(), StoreFault>
+        ensures { OnOk result (sends (doing self.now effects.old) receiver body ≡ doing self.now effects.new) }
+    {
+        effects.send(Message {
+            number: 0,
+            sender: Node::Server(self.id),
+            receiver,
+            body,
+        })
+    }
+
+    /// A refusal is sent.
+    pub fn refuses(
+        &self,
+        effects: &mut Effects,
+        receiver: Node,
+        number: u64,
+        refusal: Refusal,
+    ) -> Result<(), StoreFault>
+        ensures { OnOk result (refuses (doing self.now effects.old) receiver number refusal ≡ doing self.now effects.new) }
+    {
+        self.send(effects, receiver, Body::Refused { number, refusal })
+    }
+
+    /// The client of an attempt is refused.
+    pub fn refuses_attempt(
+        &self,
+        effects: &mut Effects,
+        id: DataId,
+        refusal: Refusal,
+    ) -> Result<(), StoreFault>
+        ensures { OnOk result (refuses_attempt (doing self.now effects.old) id refusal ≡ doing self.now effects.new) }
+    {
+        self.refuses(effects, Node::Client(id.client), id.seq, refusal)
+    }
+
+    /// The client of a settled attempt is answered: its place, or that the chunk is full now.
+    pub fn answers_settled(
+        &self,
+        effects: &mut Effects,
+        id: DataId,
+        place: Option<u64>,
+    ) -> Result<(), StoreFault>
+        ensures { OnOk result (answers_settled (doing self.now effects.old) id place ≡ doing self.now effects.new) }
+    {
+        match place {
+            None => self.refuses_attempt(effects, id, Refusal::ChunkFull),
+            Some(place) => {
+                let body = Body::Done { data: id, place };
+                self.send(effects, Node::Client(id.client), body)
+            }
+        }
+    }
+
+    /// A replica that doesn't match its checksums is dropped, and with it the lease.
+    pub fn drops_corrupt(&mut self, effects: &mut Effects, handle: Handle) -> Result<(), StoreFault>
+        ensures goes { OnOk result (drops_corrupt (doing self.old effects.old) handle.0 ≡ doing self.new effects.new) }
+        ensures frame { frame self.new ≡ frame self.old }
+    {
+        self.leases.remove(handle.0);
+        effects.change(StoreChange::Remove(handle))
+    }
+
+    /// The lease of a chunk, where it is of that version and counts now.
+    pub fn primary_of(&self, handle: Handle, version: Version) -> Option<&SerialOrder>
+        ensures { option_copied result ≡ primary_of self.now handle.0 version.0 }
+    {
+        let primary = self.leases.get(handle.0)?;
+        let held = primary.held();
+        let counts = held.counts(self.config.skew_ms, Moment(self.clock));
+        if held.version() == version && counts {
+            Some(primary)
+        } else {
+            None
+        }
+    }
+}

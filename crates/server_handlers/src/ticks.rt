@@ -1,0 +1,27 @@
+//! What a server does at a tick (sections 2.6.2 and 3.1).
+
+ghost use Rattle.std.specs.Prelude.{◌≡◌, OnOk};
+ghost use Rattle.protocol.specs.Server.{frame};
+ghost use Rattle.protocol.specs.ServerStep.{server_ticks};
+ghost use Rattle.server_handlers.specs.Doing.{doing};
+
+use crate::effects::Effects;
+use crate::held_leases::report;
+use crate::server::Server;
+use gfs_types::ids::{Moment, Node};
+use messages::message::Body;
+use server_store::fault::StoreFault;
+use server_store::store::ReplicaStore;
+
+impl<S: ReplicaStore> Server<S> {
+    /// A tick: leases that no longer count are forgotten, and the replicas and leases are reported to the master.
+    pub fn ticks(&mut self, effects: &mut Effects) -> Result<(), StoreFault>
+        ensures goes { OnOk result (server_ticks (doing self.old effects.old) ≡ doing self.new effects.new) }
+        ensures frame { frame self.new ≡ frame self.old }
+    {
+        let now = Moment(self.clock);
+        let leases = report(self.alloc, &mut self.leases, self.config.skew_ms, now)?;
+        let replicas = self.store.list(self.alloc)?;
+        self.send(effects, Node::Master, Body::Report { replicas, leases })
+    }
+}

@@ -1,8 +1,0 @@
-use Rattle.std.proofs.Common.{◌≡◌, drop}
-use Rattle.std.specs.FinMap as map
-use Rattle.shown_files.specs.Copies.{with_lists}
-use Rattle.shown_files.specs.Shown.{shown_in}
-use Rattle.shown_files.proofs.shown.ShownFiles.get.Given as goal
-
-abbrev pub invariant-loop-copy : goal.invariant-loop-copy
-invariant-loop-copy l = map.get (with_lists l.self.files (drop l.copy-index l.self.late.items)) l.file.0 ≡ map.get (shown_in l.self) l.file.0

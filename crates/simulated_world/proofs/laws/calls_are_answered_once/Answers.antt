@@ -1,5 +1,0 @@
-use Rattle.simulated_world.proofs.Counted.{answers_once}
-use Rattle.simulated_world.proofs.laws.calls_are_answered_once.Goals as goal
-
-pub returns : goal.returns
-returns c = answers_once (λ h. h)

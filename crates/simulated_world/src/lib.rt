@@ -1,5 +1,0 @@
-//! The cell of many servers, as scripts drive it.
-#![tactic(auto)]
-
-pub mod laws;
-pub mod world;

@@ -1,0 +1,8 @@
+pub mod Blocks
+pub mod Places
+pub mod Fields
+pub mod Digests
+pub mod Index
+pub mod Formats
+pub mod Stored
+pub mod Rows

@@ -1,6 +1,0 @@
-//! Formatting a chunkserver's disk.
-#![tactic(auto)]
-
-mod formatting;
-
-pub use formatting::format;

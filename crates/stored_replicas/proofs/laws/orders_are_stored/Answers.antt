@@ -1,5 +1,0 @@
-use Rattle.stored_replicas.proofs.Keeping.{order_stored}
-use Rattle.stored_replicas.proofs.laws.orders_are_stored.Goals as goal
-
-pub returns : goal.returns
-returns c chunk block slots index disk d order small fits is = order_stored chunk block slots index disk d order small fits is

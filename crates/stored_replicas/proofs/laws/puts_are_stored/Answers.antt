@@ -1,5 +1,0 @@
-use Rattle.stored_replicas.proofs.Stores.{put_stored}
-use Rattle.stored_replicas.proofs.laws.puts_are_stored.Goals as goal
-
-pub returns : goal.returns
-returns c chunk block slots index disk d handle slot rest row bytes fits is none first le count small = put_stored chunk block slots index disk d fits is handle slot rest row bytes none first le count small

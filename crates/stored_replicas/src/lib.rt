@@ -1,4 +1,0 @@
-//! What the bytes of a chunkserver's disk say of its replicas.
-#![tactic(auto)]
-
-pub mod laws;

@@ -1,2 +1,0 @@
-mod Shared
-mod Turned
