@@ -15,7 +15,7 @@ use crate::said::SaidDisk;
 use crate::standing::{Standing, closed};
 use bytes::Bytes;
 use chunk_store::{Store, open};
-use disk::Disk;
+use disk::{Disk, StoppableDisk};
 use gfs_types::ids::{Handle, OrderNo};
 use gfs_types::no_memory::NoMemory;
 use gfs_types::torn::Torn;
@@ -29,7 +29,6 @@ use std::alloc::Global;
 use std::marker::Model;
 use std::mem;
 use store_disk::Layout;
-use stored_log::stoppable::StoppableDisk;
 
 /// A server's replicas on a disk. In memory it keeps the last order's number and each replica's row, so that it answers them while its disk
 /// is to be read anew. Its drop stands here, once, so that no crate above proves those of all that it owns.

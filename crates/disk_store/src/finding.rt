@@ -15,12 +15,11 @@ ghost use Rattle.disk_store.specs.Standing.{IsFoundAmong, StillSays};
 
 use crate::faults::{fault_of_disk, fault_of_opening};
 use chunk_store::{Found, open_disk};
-use disk::Disk;
+use disk::{Disk, StoppableDisk};
 use disk_redo::step::read;
 use server_store::fault::StoreFault;
 use std::alloc::Global;
 use store_disk::Layout;
-use stored_log::stoppable::StoppableDisk;
 
 /// Whether the head of a disk is open.
 pub fn has_open_head<D: Disk>(disk: &mut D) -> Result<bool, StoreFault>

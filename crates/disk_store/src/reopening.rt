@@ -13,10 +13,10 @@ use crate::known::Known;
 use crate::rotting::rots;
 use crate::standing::{Standing, rotting_in};
 use chunk_store::Store;
+use disk::StoppableDisk;
 use replica_store::change::StoreChange;
 use server_store::fault::StoreFault;
 use std::alloc::Global;
-use stored_log::stoppable::StoppableDisk;
 
 /// The disk begins again and is read, and a byte that was to rot is rotten. What is known of it then tells whether the change that was
 /// under way was made.

@@ -13,6 +13,7 @@ use crate::world::SimulatedWorld;
 use cell_core::cell_master::SeatedMaster;
 use cell_core::world::World;
 use cell_world::master::CellMaster;
+use disk::NodeDisk;
 use disk_store::disk_store::DiskStore;
 use gfs_types::config::Config;
 use master_cell::fault::MasterFault;
@@ -23,7 +24,6 @@ use server_store::fault::StoreFault;
 use std::alloc::{Allocator, Global};
 use store_disk::Layout;
 use stored_log::disk_log::DiskLog;
-use stored_log::node_disk::NodeDisk;
 
 /// A master's log on a disk.
 pub type ScriptLog = DiskLog<NodeDisk>;

@@ -17,14 +17,14 @@ ghost use Rattle.stored_log.specs.Kept.{closed, IsAmong, IsDiskSize, IsReopened,
 
 use crate::entries::{entry_at, fault_of};
 use crate::standing::Standing;
-use crate::stoppable::{StoppableDisk, StoppableLog};
-use disk::DiskFault;
+use disk::{DiskFault, StoppableDisk};
 use gfs_types::torn::Torn;
 use log_codec::{is_item, is_writable};
 use log_records::record::Record;
 use operation_log::fault::LogFault;
 use operation_log::log::OperationLog;
 use operation_log::sizes::used_with;
+use operation_log::stoppable::StoppableLog;
 use oplog::{
     CountedRecords, Found, Log, Opened, Walk, area_at, area_size, checkpoint, is_checkpoint, open,
     open_disk,

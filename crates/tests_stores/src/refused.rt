@@ -4,6 +4,7 @@ ghost use Rattle.std.specs.Prelude.{◌≡◌, [], IfSome, OnOk};
 
 use crate::log_calls::create;
 use crate::restarts::new_log;
+use disk::NodeDisk;
 use gfs_types::ids::{FileId, Handle};
 use gfs_types::no_memory::NoMemory;
 use log_records::record::Record;
@@ -12,7 +13,6 @@ use operation_log::log::OperationLog;
 use std::alloc::Global;
 use std::test::Fail;
 use stored_log::disk_log::DiskLog;
-use stored_log::node_disk::NodeDisk;
 
 // How often a record is appended.
 const APPENDS: u64 = 3;

@@ -3,6 +3,7 @@
 ghost use Rattle.std.specs.Prelude.{◌≡◌, [], IfOk, OnOk};
 
 use crate::changes::{CHANGES, change_of, commit_first, layout, seen};
+use disk::NodeDisk;
 use disk_store::disk_store::DiskStore;
 use gfs_types::ids::Handle;
 use memory_store::MemoryStore;
@@ -10,7 +11,6 @@ use server_store::fault::StoreFault;
 use server_store::store::ReplicaStore;
 use std::alloc::Global;
 use std::test::Fail;
-use stored_log::node_disk::NodeDisk;
 
 pub(crate) fn new_store(alloc: Global) -> Result<DiskStore<NodeDisk>, StoreFault>
     ensures { IfOk result (λ s. s.1 ≡ []) }

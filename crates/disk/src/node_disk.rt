@@ -4,8 +4,10 @@ ghost use Rattle.std.specs.Prelude.{◌≡◌, IfOk, OnErr, OnOk};
 ghost use Rattle.disk.specs.Laws.{left_now, left_only_now};
 ghost use Rattle.disk.specs.Writes.{LeftBy, LeftSince, moment_of, new_disk};
 
+use crate::device::{Disk, DiskFault};
+use crate::fuse::FuseDisk;
+use crate::memory::MemDisk;
 use crate::stoppable::StoppableDisk;
-use disk::{Disk, DiskFault, FuseDisk, MemDisk};
 use gfs_types::torn::Torn;
 use std::alloc::{AllocError, Global};
 use std::mem;
