@@ -4,7 +4,7 @@ use Rattle.std.proofs.lemmas.List.{append-nil}
 use mathlib.Core.List.{IsPrefix}
 use Rattle.gfs_types.specs.declared.ids.Node.{Node}
 use Rattle.messages.specs.declared.message.Message.{Message}
-use Rattle.messages.specs.declared.event.Input.TheVariants as input
+use Rattle.messages.specs.declared.event.NodeInput.TheVariants as input
 use Rattle.protocol.specs.Tables.{element_at}
 use Rattle.protocol.specs.World.{new_world, numbered_from_1, stamped}
 use Rattle.protocol_journal.specs.Journal.{Taking, Calls, Takes, Restarts, Entry, NodeState, node_in, is_node, own, LeadsTo, with_messages, sent_after, IsForNode, IsLawful, with_end}

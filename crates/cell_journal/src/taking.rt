@@ -1,12 +1,12 @@
 //! What a node takes a step on.
 
 use gfs_types::call::Call;
-use messages::event::Input;
+use messages::event::NodeInput;
 
 /// What a node takes a step on.
 pub enum Taking {
     Calls(Call),
-    Takes(Input),
+    Takes(NodeInput),
     Restarts,
 }
 

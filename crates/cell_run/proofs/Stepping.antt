@@ -2,7 +2,7 @@
 use Rattle.std.proofs.Common.{◌≡◌, ℕ, Bool, true, false, List, refl, sym, ap, subst, ◌∙◌}
 use Rattle.std.specs.Prelude.{IsTrue}
 use Rattle.gfs_types.specs.declared.call.Call.{Call}
-use Rattle.messages.specs.declared.event.Input.{Input}
+use Rattle.messages.specs.declared.event.NodeInput.{NodeInput}
 use Rattle.messages.specs.declared.event.StepOut.{StepOut}
 use Rattle.protocol.specs.Client.{ClientState}
 use Rattle.protocol.specs.ClientStep.{may_call}
@@ -35,10 +35,10 @@ taken_on s t u is h = subst (λ (x : CodeTaking). IsTrue (may_take s (taking_of 
 
 -- the master
 
-held_up : (held : MasterState) (s : NodeState) (i : Input) → MasterStands held s → held.up ≡ may_take s (Takes i)
+held_up : (held : MasterState) (s : NodeState) (i : NodeInput) → MasterStands held s → held.up ≡ may_take s (Takes i)
 held_up held s i stands = subst (λ (x : NodeState). held.up ≡ may_take x (Takes i)) (sym stands.is) (ap (λ (x : MasterState). x.up) stands.left_as.but_under_way)
 
-pub master_takes : (held : MasterState) (s : NodeState) (t : CodeTaking) (i : Input) (b : Bool) → MasterStands held s → t ≡ code.Takes i → b ≡ held.up → b ≡ may_take s (taking_of t)
+pub master_takes : (held : MasterState) (s : NodeState) (t : CodeTaking) (i : NodeInput) (b : Bool) → MasterStands held s → t ≡ code.Takes i → b ≡ held.up → b ≡ may_take s (taking_of t)
 master_takes held s t i b stands is up = may_on s t (code.Takes i) b is (up ∙ held_up held s i stands)
 
 pub master_restarts : (held : MasterState) (s : NodeState) (t : CodeTaking) → MasterStands held s → t ≡ code.Restarts → true ≡ may_take s (taking_of t)
@@ -47,7 +47,7 @@ master_restarts held s t stands is = may_on s t code.Restarts true is (subst (λ
 pub master_calls : (held : MasterState) (s : NodeState) (t : CodeTaking) (c : Call) → MasterStands held s → t ≡ code.Calls c → false ≡ may_take s (taking_of t)
 master_calls held s t c stands is = may_on s t (code.Calls c) false is (subst (λ (x : NodeState). false ≡ may_take x (Calls c)) (sym stands.is) refl)
 
-stepped : (held new : MasterState) (s : NodeState) (moment : ℕ) (i : Input) (out : StepOut) (seen : List Seen) → MasterStands held s → IsTrue (may_take s (Takes i)) → MasterSteps held moment i out seen new
+stepped : (held new : MasterState) (s : NodeState) (moment : ℕ) (i : NodeInput) (out : StepOut) (seen : List Seen) → MasterStands held s → IsTrue (may_take s (Takes i)) → MasterSteps held moment i out seen new
     → StepsSo s moment (Takes i) out (MasterStands new)
 stepped held new s moment i out seen stands may steps =
     let up : held.up ≡ true = held_up held s i stands ∙ may in
@@ -59,11 +59,11 @@ stepped held new s moment i out seen stands may steps =
       stands = record { master = (master_step held moment i steps.choice).state; is = refl; left_as = steps.gives.left_as };
     })
 
-pub master_stepped : (held new : MasterState) (s : NodeState) (t : CodeTaking) (i given : Input) (moment : ℕ) (out : StepOut) (seen : List Seen) → MasterStands held s → IsTrue (may_take s (taking_of t))
+pub master_stepped : (held new : MasterState) (s : NodeState) (t : CodeTaking) (i given : NodeInput) (moment : ℕ) (out : StepOut) (seen : List Seen) → MasterStands held s → IsTrue (may_take s (taking_of t))
     → t ≡ code.Takes i → given ≡ i → MasterSteps held moment given out seen new → StepsSo s moment (taking_of t) out (MasterStands new)
 master_stepped held new s t i given moment out seen stands may is same steps =
     steps_on s t (code.Takes i) moment out (MasterStands new) is
-    (stepped held new s moment i out seen stands (taken_on s t (code.Takes i) is may) (subst (λ (x : Input). MasterSteps held moment x out seen new) same steps))
+    (stepped held new s moment i out seen stands (taken_on s t (code.Takes i) is may) (subst (λ (x : NodeInput). MasterSteps held moment x out seen new) same steps))
 
 pub master_restarted : (held new : MasterState) (s : NodeState) (t : CodeTaking) (moment : ℕ) (out : StepOut) → MasterStands held s → t ≡ code.Restarts → MasterRestarts held moment out new
     → StepsSo s moment (taking_of t) out (MasterStands new)
@@ -87,7 +87,7 @@ master_never_calls held s t c moment out After stands may is = not_taken (master
 
 -- a server
 
-pub server_takes : (held : ServerState) (s : NodeState) (t : CodeTaking) (i : Input) (b : Bool) → ServerStands held s → t ≡ code.Takes i → b ≡ held.up → b ≡ may_take s (taking_of t)
+pub server_takes : (held : ServerState) (s : NodeState) (t : CodeTaking) (i : NodeInput) (b : Bool) → ServerStands held s → t ≡ code.Takes i → b ≡ held.up → b ≡ may_take s (taking_of t)
 server_takes held s t i b stands is up = may_on s t (code.Takes i) b is (up ∙ subst (λ (x : NodeState). held.up ≡ may_take x (Takes i)) (sym stands) refl)
 
 pub server_restarts : (held : ServerState) (s : NodeState) (t : CodeTaking) → ServerStands held s → t ≡ code.Restarts → true ≡ may_take s (taking_of t)
@@ -96,10 +96,10 @@ server_restarts held s t stands is = may_on s t code.Restarts true is (subst (λ
 pub server_calls : (held : ServerState) (s : NodeState) (t : CodeTaking) (c : Call) → ServerStands held s → t ≡ code.Calls c → false ≡ may_take s (taking_of t)
 server_calls held s t c stands is = may_on s t (code.Calls c) false is (subst (λ (x : NodeState). false ≡ may_take x (Calls c)) (sym stands) refl)
 
-pub server_stepped : (held new : ServerState) (s : NodeState) (t : CodeTaking) (i given : Input) (moment : ℕ) (out : StepOut) (seen : List Seen) → ServerStands held s → t ≡ code.Takes i → given ≡ i
+pub server_stepped : (held new : ServerState) (s : NodeState) (t : CodeTaking) (i given : NodeInput) (moment : ℕ) (out : StepOut) (seen : List Seen) → ServerStands held s → t ≡ code.Takes i → given ≡ i
     → ServerSteps held moment given out seen new → StepsSo s moment (taking_of t) out (ServerStands new)
 server_stepped held new s t i given moment out seen stands is same steps =
-    let same_steps : ServerSteps held moment i out seen new = subst (λ (x : Input). ServerSteps held moment x out seen new) same steps in
+    let same_steps : ServerSteps held moment i out seen new = subst (λ (x : NodeInput). ServerSteps held moment x out seen new) same steps in
     steps_on s t (code.Takes i) moment out (ServerStands new) is
     (subst (λ (x : NodeState). StepsSo x moment (Takes i) out (ServerStands new)) (sym stands)
     (record { choice = same_steps.choice; gives = same_steps.gives.out_is; stands = ap (λ (x : ServerState). ServerIs x) same_steps.gives.state_is }))
@@ -117,7 +117,7 @@ server_never_calls held s t c moment out After stands may is = not_taken (server
 
 -- a client
 
-pub client_takes : (held : ClientState) (s : NodeState) (t : CodeTaking) (i : Input) (b : Bool) → ClientStands held s → t ≡ code.Takes i → b ≡ held.up → b ≡ may_take s (taking_of t)
+pub client_takes : (held : ClientState) (s : NodeState) (t : CodeTaking) (i : NodeInput) (b : Bool) → ClientStands held s → t ≡ code.Takes i → b ≡ held.up → b ≡ may_take s (taking_of t)
 client_takes held s t i b stands is up = may_on s t (code.Takes i) b is (up ∙ subst (λ (x : NodeState). held.up ≡ may_take x (Takes i)) (sym stands) refl)
 
 pub client_calls : (held : ClientState) (s : NodeState) (t : CodeTaking) (c : Call) (b : Bool) → ClientStands held s → t ≡ code.Calls c → b ≡ may_call held → b ≡ may_take s (taking_of t)
@@ -126,7 +126,7 @@ client_calls held s t c b stands is may = may_on s t (code.Calls c) b is (may �
 pub client_restarts : (held : ClientState) (s : NodeState) (t : CodeTaking) → ClientStands held s → t ≡ code.Restarts → false ≡ may_take s (taking_of t)
 client_restarts held s t stands is = may_on s t code.Restarts false is (subst (λ (x : NodeState). false ≡ may_take x Restarts) (sym stands) refl)
 
-pub client_stepped : (held new : ClientState) (s : NodeState) (t : CodeTaking) (i : Input) (moment : ℕ) (out : StepOut) → ClientStands held s → t ≡ code.Takes i → ClientSteps held moment i out new
+pub client_stepped : (held new : ClientState) (s : NodeState) (t : CodeTaking) (i : NodeInput) (moment : ℕ) (out : StepOut) → ClientStands held s → t ≡ code.Takes i → ClientSteps held moment i out new
     → StepsSo s moment (taking_of t) out (ClientStands new)
 client_stepped held new s t i moment out stands is steps =
     steps_on s t (code.Takes i) moment out (ClientStands new) is

@@ -4,15 +4,15 @@ ghost use Rattle.std.specs.Prelude.{◌≡◌};
 ghost use Rattle.std.specs.Option.{option_copied};
 ghost use Rattle.server_cell.specs.Inputs.{input_of};
 
-use messages::event::Input;
+use messages::event::NodeInput;
 use messages::message::Message;
 
 /// The message that a step is taken on; none at a tick.
-pub(crate) fn message_in(input: &Input) -> Option<&Message>
+pub(crate) fn message_in(input: &NodeInput) -> Option<&Message>
     ensures { input_of (option_copied result) ≡ input.now }
 {
     match input {
-        Input::Deliver(message) => Some(message),
-        Input::Tick => None,
+        NodeInput::Deliver(message) => Some(message),
+        NodeInput::Tick => None,
     }
 }

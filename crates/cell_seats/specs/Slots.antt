@@ -7,7 +7,7 @@ use Rattle.gfs_types.specs.declared.refusal.Refusal.{Refusal}
 use Rattle.gfs_types.specs.declared.refusal.Refusal.TheVariants.{ClockBroken}
 use Rattle.messages.specs.declared.message.Message.{Message}
 use Rattle.messages.specs.declared.event.StepOut.{StepOut}
-use Rattle.messages.specs.declared.event.Input.TheVariants as input
+use Rattle.messages.specs.declared.event.NodeInput.TheVariants as input
 use Rattle.protocol.specs.Choice.{Choice}
 use Rattle.protocol.specs.World.{new_world, numbered_from_1}
 use Rattle.protocol_journal.specs.Journal.{Taking, Takes, Restarts, Entry, NodeState, node_in, node_step, sent_after, LeadsTo}

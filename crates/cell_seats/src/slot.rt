@@ -18,7 +18,7 @@ use gfs_types::answer::Answer;
 use gfs_types::call::Call;
 use gfs_types::ids::Moment;
 use gfs_types::refusal::Refusal;
-use messages::event::Input as NodeInput;
+use messages::event::NodeInput;
 use messages::message::Message;
 use std::alloc::Global;
 use std::marker::Model;

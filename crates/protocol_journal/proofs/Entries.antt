@@ -9,8 +9,8 @@ use Rattle.gfs_types.specs.declared.ids.ClientId.{ClientId}
 use Rattle.gfs_types.specs.declared.call.Call.{Call}
 use Rattle.messages.specs.declared.event.Event.{Event}
 use Rattle.messages.specs.declared.event.Event.TheVariants as event
-use Rattle.messages.specs.declared.event.Input.{Input}
-use Rattle.messages.specs.declared.event.Input.TheVariants as input
+use Rattle.messages.specs.declared.event.NodeInput.{NodeInput}
+use Rattle.messages.specs.declared.event.NodeInput.TheVariants as input
 use Rattle.messages.specs.declared.event.StepOut.{StepOut}
 use Rattle.protocol.specs.Tables.{moment_limit}
 use Rattle.protocol.specs.Choice.{Choice}
@@ -79,7 +79,7 @@ cond_is : {X : Type 0} (b : Bool) (x y : X) → b ≡ true → cond b x y ≡ x
 cond_is b x y h = ap (λ (c : Bool). cond c x y) h
 
 -- the event of a message or a tick
-input_event : (w : WorldState) (n : Node) (moment : ℕ) (i : Input) (choice : Choice) → nat_le moment moment_limit ≡ true → IsForNode w.sent n (Takes i)
+input_event : (w : WorldState) (n : Node) (moment : ℕ) (i : NodeInput) (choice : Choice) → nat_le moment moment_limit ≡ true → IsForNode w.sent n (Takes i)
     → (e : Event) × (happens w e choice ≡ moves w n moment i choice)
 input_event w n moment (input.Deliver m) choice limit is = (
   event.Deliver is.0 (record { 0 = moment }),

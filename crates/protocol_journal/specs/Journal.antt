@@ -7,8 +7,8 @@ use Rattle.gfs_types.specs.declared.ids.Node.TheVariants as node
 use Rattle.gfs_types.specs.declared.call.Call.{Call}
 use Rattle.gfs_types.specs.declared.answer.Answer.{Answer}
 use Rattle.messages.specs.declared.message.Message.{Message}
-use Rattle.messages.specs.declared.event.Input.{Input}
-use Rattle.messages.specs.declared.event.Input.TheVariants as input
+use Rattle.messages.specs.declared.event.NodeInput.{NodeInput}
+use Rattle.messages.specs.declared.event.NodeInput.TheVariants as input
 use Rattle.messages.specs.declared.event.StepOut.{StepOut}
 use Rattle.protocol.specs.Tables.{moment_limit}
 use Rattle.protocol.specs.Choice.{Choice}
@@ -25,7 +25,7 @@ use Rattle.protocol.specs.World.{WorldState, new_world, numbered_from_1, stamped
 -- what a node takes a step on
 pub data Taking : Type 0 where
   Calls : (call : Call) → Taking
-  Takes : (given : Input) → Taking
+  Takes : (given : NodeInput) → Taking
   Restarts : Taking
 
 -- a step of a node, and what it gave

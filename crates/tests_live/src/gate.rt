@@ -6,7 +6,7 @@ use cell_journal::entry::Taking;
 use cell_run::cell::{Cell, ClientSeat};
 use cell_seats::gate::Gate;
 use gfs_types::ids::{Node, ServerId};
-use messages::event::Input;
+use messages::event::NodeInput;
 use messages::message::Body;
 use std::alloc::{AllocError, Global};
 use std::sync::atomic::{AtomicU64, Ordering};
@@ -38,7 +38,7 @@ impl<R: Clock + Copy + Drop> Clone for ReadGate<R> {
 
 fn is_read(taking: &Taking) -> bool {
     match taking {
-        Taking::Takes(Input::Deliver(message)) => matches!(message.body, Body::Read { .. }),
+        Taking::Takes(NodeInput::Deliver(message)) => matches!(message.body, Body::Read { .. }),
         _ => false,
     }
 }
