@@ -5,7 +5,7 @@ import subprocess
 import tempfile
 
 import kit
-from crate_copy import TOP, copy_with
+from crate_copy import copy_with
 from unproved import build
 
 CRATES = {'one_node': 'anyhow bytes chunk_table server_cell client_calls client_state client data_push gfs_types leases log_records master_cell master_replay master_plan '
