@@ -36,7 +36,7 @@ class Simulation:
         self.parts = [(name, self.definition(module, name)) for module, name in PARTS]
         self.message_parts = [(name, self.definition(module, name)) for module, name in MESSAGE_PARTS]
         self.machine_part = self.definition('MachineParts', 'IsMachine')
-        self.shown_part = self.definition('Explained', 'IsShown')
+        self.shown_part = program.function(state.PROTOCOL, 'Explained', 'IsShown')
         self.clients_part = self.definition('ClientParts', 'AreClients')
         self.client_message = self.definition('ClientParts', 'ClientInFlight')
         self.actions_at = self.definition('Actions', 'actions_at')
