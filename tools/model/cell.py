@@ -1,5 +1,6 @@
 """A cell that runs by the definitions: events in, answers and messages out."""
 import state
+from rebased import Rebased
 from translate import Program
 from words import apply
 
@@ -88,9 +89,14 @@ class Cell:
         self.happens = self.definition('World', 'happens')
         self.messages = [None]
         self.event_count = 0
+        # the cell beside this one that dropped its messages, if it was rebased
+        self.rebased = None
 
     def definition(self, module, name):
         return self.program.function(state.PROTOCOL, module, name)
+
+    def rebase_definition(self, name):
+        return self.program.function(state.REBASE, 'Rebased', name)
 
     def nodes(self):
         return (['master'] + [f's{i + 1}' for i in range(self.server_count)]
@@ -105,6 +111,8 @@ class Cell:
         if choice is None:
             choice = self.choose(event, self) if self.choose else GOES
         happened = apply(self.happens, self.world, event, choice)
+        if self.rebased:
+            self.rebased.take(event, choice, happened)
         self.world = happened['world']
         for message in state.sent(self.world)[len(self.messages) - 1:]:
             self.messages.append(SentMessage(message))
@@ -122,6 +130,15 @@ class Cell:
 
     def restart(self, node, now):
         self.take(('Restart', node_of(node), wrapped(now)))
+
+    def rebase(self, now):
+        """The master and each server begin again, and messages are counted anew. This cell keeps all; beside it goes one that doesn't."""
+        for event in apply(self.rebase_definition('restart_events'), self.server_count, now):
+            self.take(event)
+        self.drop_messages()
+
+    def drop_messages(self):
+        self.rebased = Rebased(self)
 
     def rot(self, server, handle, place, byte):
         self.take(('Rot', wrapped(int(server[1:])), wrapped(handle), place, byte))

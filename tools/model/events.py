@@ -4,8 +4,9 @@ import random
 
 import state
 from answer_facts import AnswerFacts
-from cell import GOES, Cell, call_of, node_of, wrapped
-from facts import Facts
+from cell import GOES, Cell, call_of, node_name, node_of, wrapped
+from facts import Broken, Facts
+from rebased import Rebases, Unlike
 
 PATHS = [b'/a', b'/d', b'/d/f', b'/d/g', b'/e', b'/e/f']
 # names that soon fill a log of 4,096 bytes
@@ -41,8 +42,9 @@ def random_settings(rnd):
 class Explorer:
     """One random list of events."""
 
-    def __init__(self, seed, has_faults, program):
+    def __init__(self, seed, has_faults, program, are_rebased=False):
         self.rnd = rnd = random.Random(seed)
+        self.rebases = Rebases(seed, are_rebased)
         self.has_faults = has_faults
         self.cell = Cell(random_settings(rnd), rnd.choice([2, 3, 3, 4]), 2, program=program)
         self.facts = Facts(self.cell)
@@ -73,8 +75,7 @@ class Explorer:
         self.nodes_that_stop = [node for node in self.cell.nodes() if node[0] != 'c']
         self.clock = 0
         self.first_calls = rnd.choice([FIRST_CALLS, FIRST_OF_TWO_CHUNKS]) + (LONG_CALLS if rnd.random() < .6 else [])
-        self.copies = 0
-        self.letter = 0
+        self.copies = self.letter = 0
         self.pending = []
         # messages that come later, with the count of events at which they do; and all messages by kind
         self.aside = []
@@ -178,6 +179,9 @@ class Explorer:
         """An event and its node, or None."""
         rnd = self.rnd
         cell = self.cell
+        restart = self.rebases.next_restart(cell, now)
+        if restart:
+            return restart, node_name(restart[1])
         for node in self.nodes_that_stop:
             found = state.master(cell.world) if node == 'master' else state.server(cell.world, node)
             if not state.is_up(found) and rnd.random() < .2:
@@ -199,7 +203,7 @@ class Explorer:
         if chance < .15 and free:
             client = rnd.choice(free)
             return self.call_event(client, now), f'c{client}'
-        if chance < .82 and self.pending or chance < .2 and len(cell.messages) > 1:
+        if chance < .82 and self.pending or chance < .2 and self.by_kind:
             number = self.next_message()
             return number and (('Deliver', number, wrapped(now)), cell.messages[number].receiver)
         node = rnd.choice(cell.nodes())
@@ -239,7 +243,10 @@ class Explorer:
         event, node = found
         before = cell.world
         count = len(cell.messages)
-        answer = cell.take(event, self.choice(event, node))
+        try:
+            answer = cell.take(event, self.choice(event, node))
+        except Unlike as difference:
+            raise Broken(f'a cell that dropped its messages: {difference}') from None
         for message in cell.messages[count:]:
             self.pending.append(message.number)
             self.by_kind.setdefault(message.kind, []).append(message.number)
@@ -248,6 +255,13 @@ class Explorer:
         self.count(event, before, cell.messages[count:], answer)
         self.facts.check(event, before)
         self.answer_facts.check(event, before, answer)
+        if event is self.rebases.last_restart:
+            self.drop_messages()
+
+    def drop_messages(self):
+        self.counts['rebases'] += 1
+        self.pending, self.aside, self.by_kind = [], [], {}
+        self.cell.drop_messages()
 
     def count(self, event, before, new, answer):
         """What happened often enough to have been tested."""

@@ -17,13 +17,13 @@ class Unrunnable(Exception):
     """The definitions or the tools fail in a list."""
 
 
-def explore(seeds, events, has_faults, program, end, simulates=False):
+def explore(seeds, events, has_faults, program, end, simulates=False, are_rebased=False):
     """What broke first, as (seed, event, fact), or None; the counts of what happened."""
     counts = collections.Counter()
     for seed in seeds:
         if time.process_time() > end:
             break
-        explorer = Explorer(seed, has_faults, program)
+        explorer = Explorer(seed, has_faults, program, are_rebased)
         if simulates:
             Simulation(explorer, program)
         for place in range(events):

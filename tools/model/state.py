@@ -6,6 +6,8 @@ from collections import namedtuple
 
 # the crate that has World, Lookups, Logged and MasterStep
 PROTOCOL = 'protocol'
+# the crate that has Rebased
+REBASE = 'laws_rebase'
 
 Entry = namedtuple('Entry', 'client call attempt round serial kind offset content is_settled')
 Row = namedtuple('Row', 'granted issued references primary members lease_end')

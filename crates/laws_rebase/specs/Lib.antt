@@ -1,0 +1,4 @@
+pub mod Rebased
+pub mod CutWorlds
+pub mod Whole
+pub mod Journals
