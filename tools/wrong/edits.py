@@ -11,7 +11,7 @@ HERE = os.path.dirname(os.path.abspath(__file__))
 KINDS = ('explore', 'parts', 'laws', 'statements', 'above')
 # the crate whose definitions an edit of `laws` changes, by the crate of the laws
 DEFINITIONS = {'laws_base': state.PROTOCOL, 'protocol_allowed': 'protocol_invariant'}
-WORDS = ('file', 'old', 'new', 'seed', 'row', 'facts', 'branch', 'becomes')
+WORDS = ('file', 'old', 'new', 'seed', 'row', 'facts', 'rebases', 'branch', 'becomes')
 
 
 class StaleEdit(Exception):

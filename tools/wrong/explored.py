@@ -18,7 +18,7 @@ def broken_by_events(edit, folder, options, simulates):
     for has_faults in (False, True):
         for events in (SHORT, options.events):
             end = time.process_time() + 15 * options.minutes
-            broken = explore(seeds, events, has_faults, Statements(folder), end, simulates)[0]
+            broken = explore(seeds, events, has_faults, Statements(folder), end, simulates, edit.line('rebases') is not None)[0]
             if broken:
                 return broken
     return None
