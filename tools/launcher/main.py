@@ -1,0 +1,111 @@
+"""What `./gfscell` does: looks at the words first, answers what needs no program, and else runs the program, which it builds where none stands."""
+import os
+import signal
+import sys
+
+sys.dont_write_bytecode = True
+HERE = os.path.dirname(os.path.abspath(__file__))
+sys.path[:0] = [HERE, os.path.join(os.path.dirname(HERE), 'model')]
+import building  # noqa: E402
+import command_line  # noqa: E402
+from building import say  # noqa: E402
+
+USAGE = """usage: ./gfscell sim FILE [options]       runs a script on a simulated cell
+       ./gfscell live FILE [options]      runs calls on a cell with threads
+       ./gfscell show FILE [--trace] [--picture] [--svg FILE] [options]
+                                          runs a script by the definitions, with nothing built; -i takes lines from a terminal
+       ./gfscell example [NAME]           runs an example, and compares what it prints
+       ./gfscell prove                    proves the program, and builds it
+       ./gfscell soak [--minutes M]       random scripts and lists of events"""
+
+
+def print_text(text):
+    """What the program shows; the exit status."""
+    try:
+        sys.stdout.buffer.write(text.encode())
+        sys.stdout.buffer.flush()
+        return 0
+    except OSError:
+        say('cannot write')
+        return 1
+
+
+def is_in_range(asked):
+    return command_line.out_of_range(asked.given) is None
+
+
+def fault_of(asked):
+    """What the program says before it makes a cell, or None. It looks at FILE's opening first, and `live` at all lines before the settings."""
+    if asked.file != '-' and not os.access(asked.file, os.R_OK):
+        return 'cannot read'
+    if asked.way == 'sim' and not is_in_range(asked):
+        return 'cannot start' if asked.file == '-' or not os.path.isdir(asked.file) else None
+    if asked.file != '-' and os.path.isdir(asked.file):
+        return 'cannot read'
+    return None
+
+
+def become(program, words):
+    """This process goes on as the program, with signals as a shell gives them."""
+    for name in ('SIGPIPE', 'SIGXFSZ'):
+        signal.signal(getattr(signal, name), signal.SIG_DFL)
+    os.execv(program, [program, *words])
+
+
+def run_program(words):
+    try:
+        asked = command_line.parse(words)
+    except command_line.Shown as shown:
+        return print_text(str(shown))
+    except command_line.Bad:
+        say('bad command line')
+        if not words and sys.stderr.isatty():
+            print(USAGE, file=sys.stderr)
+        return 2
+    fault = fault_of(asked)
+    if fault:
+        say(fault)
+        return 1
+    program, is_proved = building.program()
+    if not is_proved:
+        say(building.NOT_PROVED)
+    return become(program, words)
+
+
+def prove(words):
+    if words:
+        say('bad command line')
+        return 2
+    building.prove()
+    return 0
+
+
+def run_own(way, words):
+    """The launcher's own words."""
+    if way == 'prove':
+        return prove(words)
+    if way == 'show':
+        from show import show
+        return show(words)
+    if way == 'example':
+        from example import example
+        return example(words, run_program)
+    from soak import soak
+    return soak(words)
+
+
+def main(words):
+    signal.signal(signal.SIGTERM, lambda *_: sys.exit(128 + signal.SIGTERM))
+    try:
+        if words and words[0] in ('prove', 'show', 'example', 'soak'):
+            return run_own(words[0], words[1:])
+        return run_program(words)
+    except building.CannotBuild as cause:
+        say(str(cause))
+        return building.CANNOT_BUILD
+    except KeyboardInterrupt:
+        return 128 + signal.SIGINT
+
+
+if __name__ == '__main__':
+    sys.exit(main(sys.argv[1:]))
