@@ -32,6 +32,23 @@ def say(text):
     print(f'gfscell: {text}', file=sys.stderr, flush=True)
 
 
+def end_output():
+    """Nothing more is written to a standard output that can't be written."""
+    os.dup2(os.open(os.devnull, os.O_WRONLY), sys.stdout.fileno())
+
+
+def print_text(text):
+    """Prints a text as the program does; the exit status."""
+    try:
+        sys.stdout.buffer.write(text.encode())
+        sys.stdout.buffer.flush()
+        return 0
+    except OSError:
+        end_output()
+        say('cannot write')
+        return 1
+
+
 def duration(seconds):
     minutes, seconds = divmod(int(seconds), 60)
     hours, minutes = divmod(minutes, 60)

@@ -1,7 +1,9 @@
 """A script that goes on with a chart of its messages: what was sent from node to node, put aside, lost, or delivered again."""
+import time
 from xml.sax.saxutils import escape
 
-from script import Simulator
+from building import SECONDS_BETWEEN_LINES, say
+from script import MOST_ROUNDS, Simulator
 
 LANE = 13
 MARGIN = 9
@@ -51,6 +53,18 @@ class Charted(Simulator):
                 self.note(number, 'held')
             elif number not in pending and self.cell.messages[number].kind not in USUAL:
                 self.note(number, 'lost')
+
+    def rounds_while(self, goes_on):
+        """Tells of a line that goes on for long; the program ends one that has no end in some seconds."""
+        told, begun = time.monotonic(), self.clock
+
+        def going():
+            nonlocal told
+            if time.monotonic() > told + SECONDS_BETWEEN_LINES:
+                told = time.monotonic()
+                say(f'this line goes on: {(self.clock - begun) // 100:,} rounds so far, of {MOST_ROUNDS:,} at most')
+            return goes_on()
+        super().rounds_while(going)
 
     def line_cut(self, word):
         before = list(self.pending)

@@ -8,7 +8,7 @@ HERE = os.path.dirname(os.path.abspath(__file__))
 sys.path[:0] = [HERE, os.path.join(os.path.dirname(HERE), 'model')]
 import building  # noqa: E402
 import command_line  # noqa: E402
-from building import say  # noqa: E402
+from building import print_text, say  # noqa: E402
 
 USAGE = """usage: ./gfscell sim FILE [options]       runs a script on a simulated cell
        ./gfscell live FILE [options]      runs calls on a cell with threads
@@ -17,17 +17,6 @@ USAGE = """usage: ./gfscell sim FILE [options]       runs a script on a simulate
        ./gfscell example [NAME]           runs an example, and compares what it prints
        ./gfscell prove                    proves the program, and builds it
        ./gfscell soak [--minutes M]       random scripts and lists of events"""
-
-
-def print_text(text):
-    """What the program shows; the exit status."""
-    try:
-        sys.stdout.buffer.write(text.encode())
-        sys.stdout.buffer.flush()
-        return 0
-    except OSError:
-        say('cannot write')
-        return 1
 
 
 def is_in_range(asked):
@@ -104,7 +93,8 @@ def main(words):
         say(str(cause))
         return building.CANNOT_BUILD
     except KeyboardInterrupt:
-        return 128 + signal.SIGINT
+        # a script may go on in a thread of its own
+        os._exit(128 + signal.SIGINT)
 
 
 if __name__ == '__main__':

@@ -2,7 +2,7 @@
 import state
 
 WIDTH = 96
-MARGIN = 24
+MARGIN = 26
 
 
 def shown(byte):
@@ -18,7 +18,7 @@ def bar(places, scale):
 
 
 def entry_row(entry, scale):
-    label = f'{"settled" if entry.is_settled else "open   "} r{entry.round} c{entry.client} call {entry.call}'
+    label = f'{"settled" if entry.is_settled else "unsettled":<9} r{entry.round} c{entry.client} call {entry.call}'
     name = '' if entry.kind != 'Pad' else ' pad'
     return f'  {label + name:<{MARGIN}}|{bar({entry.offset + at: shown(byte) for at, byte in enumerate(entry.content)}, scale)}'
 

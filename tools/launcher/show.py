@@ -4,7 +4,7 @@ import sys
 from collections import namedtuple
 
 import command_line
-from building import say
+from building import end_output, print_text, say
 from causes import Causes
 from chart import Charted, header, lanes_of, svg_of, text_of
 from pictures import all_pictures, picture
@@ -45,11 +45,11 @@ def wanted_by(words):
 class Show:
     """A script that is shown on `out`, a stream of bytes."""
 
-    def __init__(self, wanted, given, out):
+    def __init__(self, wanted, given, out, program=None):
         from cell import Cell
         servers, clients, settings = command_line.settings_of(given)
         self.wanted, self.out, self.rows = wanted, out, []
-        self.cell = Cell(settings, servers, clients)
+        self.cell = Cell(settings, servers, clients, None, program)
         self.lanes = lanes_of(self.cell)
         self.has_regions = False
         self.simulator = Charted(self.cell, self.answer, self.row)
@@ -139,17 +139,24 @@ def asked_by(rest):
     return asked
 
 
-def run(wanted, asked, out):
-    """The exit status, as the program has it."""
-    text = b'' if wanted.is_talking else read(asked.file)
-    given = command_line.options_in(text) | asked.given
+def shown_text(wanted, given, text, out, program=None):
+    """Shows a script, or the lines of a terminal; the fault that ends it, or None."""
     wrong = command_line.out_of_range(given)
     if wrong:
-        say(f'cannot start: {wrong}')
-        return 1
-    shown = Show(wanted, given, out)
+        return f'cannot start: {wrong}'
+    shown = Show(wanted, given, out, program)
     fault = shown.talk(sys.stdin.buffer) if wanted.is_talking else shown.script(text)
     shown.end()
+    return fault
+
+
+def run(wanted, given, text, out):
+    """The exit status, as the program has it."""
+    try:
+        fault = shown_text(wanted, given, text, out)
+    except OSError:
+        fault = 'cannot write'
+        end_output()
     if fault:
         say(fault)
     return 1 if fault else 0
@@ -158,17 +165,18 @@ def run(wanted, asked, out):
 def show(words):
     from exploring import in_deep_stack
     if words[:1] in (['--help'], ['-h']):
-        sys.stdout.write(USAGE)
-        return 0
+        return print_text(USAGE)
     try:
         wanted = wanted_by(words)
-        return in_deep_stack(run, wanted, asked_by(wanted.rest), sys.stdout.buffer)
-    except (command_line.Bad, command_line.Shown) as cause:
-        if isinstance(cause, command_line.Shown):
-            sys.stdout.write(USAGE)
-            return 0
+        asked = asked_by(wanted.rest)
+        text = b'' if wanted.is_talking else read(asked.file)
+        given = command_line.options_in(text) | asked.given
+    except command_line.Shown:
+        return print_text(USAGE)
+    except command_line.Bad as cause:
         say(f'bad command line: {cause}')
         return 2
     except OSError as cause:
         say(f'cannot read: {cause.strerror}')
         return 1
+    return in_deep_stack(run, wanted, given, text, sys.stdout.buffer)
