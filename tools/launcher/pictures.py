@@ -50,8 +50,15 @@ def picture(cell, title, file, index, handle):
     yield regions_row(regions, scale)
 
 
+def name_of(cell, file):
+    """A name of a file, in what the master's log says."""
+    names = state.names(state.logged(state.master(cell.world)))
+    found = [bytes(path).decode('utf-8', 'replace') for path, node in names.items() if node[0] == 'File' and state.number(node[1]) == file]
+    return min(found, default=f'file {file}, which has no name')
+
+
 def all_pictures(cell):
     """The pictures of all chunks."""
     for file, handles in sorted(state.files_seen(cell.world).items()):
         for index, handle in enumerate(handles):
-            yield from picture(cell, f'file {file}, chunk {index}', file, index, handle)
+            yield from picture(cell, f'{name_of(cell, file)}, chunk {index}', file, index, handle)

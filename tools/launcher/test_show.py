@@ -90,11 +90,22 @@ def causes(program):
     return len(lines) + 1, faults
 
 
-def drawn(name, program):
+def drawn(name, program, flags=('--trace', '--picture')):
     """The chart and the pictures of an example."""
     with open(os.path.join(TOP, 'examples', name + '.gfs'), 'rb') as file:
         text = file.read()
-    return shown(text, command_line.options_in(text), program, PLAIN._replace(is_traced=True, is_drawn=True))[0]
+    return shown(text, command_line.options_in(text), program, PLAIN._replace(is_traced='--trace' in flags, is_drawn='--picture' in flags))[0]
+
+
+def pages(program):
+    """What pages show of `show` is what it prints."""
+    count, faults = 0, []
+    for page in glob.glob(os.path.join(TOP, 'docs', '*.md')) + [os.path.join(TOP, 'README.md')]:
+        for name, flags, text in re.findall(r'^    \./gfscell show examples/(\w+)\.gfs([^\n]*)\n\nprints\n\n```text\n(.*?)```', command_line.text_of(page), re.S | re.M):
+            count += 1
+            if drawn(name, program, flags.split()) != text:
+                faults.append(f'{page}: show examples/{name}.gfs{flags} prints something else')
+    return count, faults if count else ['no page has a block of show']
 
 
 EXPECTED_TEXTS = {
@@ -122,7 +133,7 @@ def faults():
     """How many things were tested, and what is wrong."""
     from translate import Program
     program = Program()
-    parts = [part(program) for part in (rows, examples, causes, charts, svg)]
+    parts = [part(program) for part in (rows, examples, causes, charts, svg, pages)]
     return sum(count for count, _ in parts), [fault for _, part in parts for fault in part]
 
 
