@@ -20,8 +20,9 @@ PROVED, PROVED_MARK = os.path.join(OUT, 'gfscell'), os.path.join(OUT, 'gfscell.b
 UNPROVED, UNPROVED_MARK = os.path.join(OUT, 'unproved', 'gfscell'), os.path.join(OUT, 'unproved', 'built')
 CANNOT_BUILD = 70
 SECONDS_OF_A_BUILD = 190
+# (tests have less)
 SECONDS_BETWEEN_LINES = float(os.environ.get('GFSCELL_SECONDS', 10))
-NOT_PROVED = 'this run is not proved: ./gfscell prove proves the program and builds it so, in an hour or more (minutes after .ci/run)'
+NOT_PROVED = 'this run is not proved; ./gfscell prove proves the program and builds it so, in an hour or more'
 
 
 class CannotBuild(Exception):

@@ -183,7 +183,7 @@ def options_in(script):
     for place, line in enumerate(script.split(b'\n'), 1):
         if line and not line.startswith(b'#'):
             break
-        if line.startswith(b'# --'):
+        if re.match(rb'# --[a-z]', line):
             try:
                 given.update(parse(['sim', '-', *line[2:].decode('utf-8', 'surrogateescape').split()]).given)
             except (Bad, Shown) as fault:

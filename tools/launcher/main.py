@@ -10,13 +10,14 @@ import building  # noqa: E402
 import command_line  # noqa: E402
 from building import print_text, say  # noqa: E402
 
-USAGE = """usage: ./gfscell sim FILE [options]       runs a script on a simulated cell
-       ./gfscell live FILE [options]      runs calls on a cell with threads
-       ./gfscell show FILE [--trace] [--picture] [--svg FILE] [options]
-                                          runs a script by the definitions, with nothing built; -i takes lines from a terminal
-       ./gfscell example [NAME]           runs an example, and compares what it prints
-       ./gfscell prove                    proves the program, and builds it
-       ./gfscell soak [--minutes M]       random scripts and lists of events"""
+# behind the program's own words, on a terminal alone
+USAGE = """
+./gfscell also takes:
+  show FILE [--trace] [--picture] [--svg FILE] [options]
+                      runs a script by the definitions, with nothing built; -i takes lines from a terminal
+  example [NAME]      runs an example, and compares what it prints
+  prove               proves the program, and builds it
+  soak [--minutes M]  random scripts and lists of events"""
 
 
 def is_in_range(asked):
@@ -41,15 +42,21 @@ def become(program, words):
     os.execv(program, [program, *words])
 
 
+def tell_own(is_wanted):
+    if is_wanted and sys.stderr.isatty():
+        print(USAGE, file=sys.stderr)
+
+
 def run_program(words):
     try:
         asked = command_line.parse(words)
     except command_line.Shown as shown:
-        return print_text(str(shown))
+        status = print_text(str(shown))
+        tell_own(str(shown) == command_line.program_help())
+        return status
     except command_line.Bad:
         say('bad command line')
-        if not words and sys.stderr.isatty():
-            print(USAGE, file=sys.stderr)
+        tell_own(not words)
         return 2
     fault = fault_of(asked)
     if fault:
