@@ -12,8 +12,8 @@ use Rattle.gfs_types.specs.declared.ids.Node.TheVariants as node
 use Rattle.messages.specs.declared.message.Message.{Message}
 use Rattle.messages.specs.declared.event.Event.{Event}
 use Rattle.messages.specs.declared.event.Event.TheVariants as event
-use Rattle.messages.specs.declared.event.Input.{Input}
-use Rattle.messages.specs.declared.event.Input.TheVariants as input
+use Rattle.messages.specs.declared.event.NodeInput.{NodeInput}
+use Rattle.messages.specs.declared.event.NodeInput.TheVariants as input
 use Rattle.relaxed_file.specs.Run.{Visible, Called, Passed}
 use Rattle.replica_store.specs.Replicas.{Replica, replica_of}
 use Rattle.protocol.specs.Tables.{moment_limit}
@@ -120,25 +120,25 @@ module _ (w : WorldState) where
             ∙ ap (λ (n : ℕ). ((T ++ k.0) ++ called) ++ answered (Some n) t.out.answer) (sym is));
       }
 
-  master_moved : (e : Event) (moment : ℕ) (i : Input) (choice : Choice) → moment_given e ≡ Some moment → client_of w e ≡ None → Q e (master_moves w moment i choice)
+  master_moved : (e : Event) (moment : ℕ) (i : NodeInput) (choice : Choice) → moment_given e ≡ Some moment → client_of w e ≡ None → Q e (master_moves w moment i choice)
   master_moved e moment i choice at none =
       on_cond (Q e) w.master.up (after_master w moment (master_step w.master moment i choice)) (nothing_happens w)
       (λ _. let t = master_step w.master moment i choice in others e moment t.out.answer (after_master w moment t).world at none refl) (λ _. nothing e)
 
-  server_moved : (e : Event) (n moment : ℕ) (i : Input) (choice : Choice) (o : Option ServerState) → moment_given e ≡ Some moment → client_of w e ≡ None → Q e (server_moves w (n - 1) moment i choice o)
+  server_moved : (e : Event) (n moment : ℕ) (i : NodeInput) (choice : Choice) (o : Option ServerState) → moment_given e ≡ Some moment → client_of w e ≡ None → Q e (server_moves w (n - 1) moment i choice o)
   server_moved e n moment i choice None at none = nothing e
   server_moved e n moment i choice (Some s) at none =
       on_cond (Q e) s.up (after_server w (n - 1) moment (server_step s moment i choice)) (nothing_happens w)
       (λ _. let t = server_step s moment i choice in others e moment t.out.answer (after_server w (n - 1) moment t).world at none refl) (λ _. nothing e)
 
-  client_moved : (e : Event) (n moment : ℕ) (i : Input) (choice : Choice) (o : Option ClientState) → numbered_from_1 w.clients n ≡ o → moment_given e ≡ Some moment → client_of w e ≡ Some n → Q e (client_moves w (n - 1) moment i choice o)
+  client_moved : (e : Event) (n moment : ℕ) (i : NodeInput) (choice : Choice) (o : Option ClientState) → numbered_from_1 w.clients n ≡ o → moment_given e ≡ Some moment → client_of w e ≡ Some n → Q e (client_moves w (n - 1) moment i choice o)
   client_moved e n moment i choice None there at is = nothing e
   client_moved e zero moment i choice (Some s) there at is = none_some s there
   client_moved e (suc n) moment i choice (Some s) there at is =
       on_cond (Q e) s.up (after_client w (suc n - 1) moment (client_step s moment i choice)) (nothing_happens w)
       (λ _. subst (λ (index : ℕ). Q e (after_client w index moment (client_step s moment i choice))) (omega arith) (steps e n moment (client_step s moment i choice) at is)) (λ _. nothing e)
 
-  moved : (e : Event) (n : Node) (moment : ℕ) (i : Input) (choice : Choice) → moment_given e ≡ Some moment → client_of w e ≡ client_at n → Q e (moves w n moment i choice)
+  moved : (e : Event) (n : Node) (moment : ℕ) (i : NodeInput) (choice : Choice) → moment_given e ≡ Some moment → client_of w e ≡ client_at n → Q e (moves w n moment i choice)
   moved e node.Master moment i choice at is = master_moved e moment i choice at is
   moved e (node.Server s) moment i choice at is = server_moved e s.0 moment i choice (numbered_from_1 w.servers s.0) at is
   moved e (node.Client c) moment i choice at is = client_moved e c.0 moment i choice (numbered_from_1 w.clients c.0) refl at is

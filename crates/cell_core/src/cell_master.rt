@@ -19,9 +19,9 @@ use master_state::name_kind::NameKind;
 use messages::event::StepOut;
 use messages::message::Message;
 use operation_log::log::OperationLog;
+use operation_log::stoppable::StoppableLog;
 use std::alloc::{Allocator, Global};
 use step_outcome::Outcome;
-use stored_log::stoppable::StoppableLog;
 
 /// A master over a log, and what is shown of its files: while it is up, these are its files. Its names lie in `A`.
 #[derive(Drop)]

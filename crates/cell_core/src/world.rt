@@ -16,7 +16,7 @@ ghost use Rattle.cell_world.specs.Held.{HasEffect, IsHeldAs};
 ghost use Rattle.cell_world.specs.Looks.{file_held, has_open_call, regions_held, replicas_held, server_count};
 ghost use Rattle.cell_world.specs.Runs.{Runs, RanUntil};
 
-use cell_world::cell::Cell;
+use cell_world::cell::CellState;
 use cell_world::fault::RunFault;
 use cell_world::master::CellMaster;
 use gfs_types::answer::Answer;
@@ -28,7 +28,7 @@ use messages::event::Event;
 use messages::message::Message;
 use relaxed_file::region::Region;
 use script::stored::StoredReplica;
-use server_store::fault::StoreFault;
+use server_store::fault::ReplicaStoreFault;
 use server_store::stoppable_store::StoppableStore;
 use server_store::store::ReplicaStore;
 use std::alloc::Global;
@@ -38,7 +38,7 @@ use std::marker::Model;
 /// led to from a new cell.
 #[derive(Drop)]
 pub struct World<M: CellMaster, S: ReplicaStore> {
-    cell: Cell<M, S>,
+    cell: CellState<M, S>,
 }
 
 impl<M: CellMaster, S: ReplicaStore> Model for World<M, S> {
@@ -75,7 +75,7 @@ impl<M: CellMaster + Drop, S: ReplicaStore + Drop> World<M, S> {
         requires files { M.files master ≡ table.empty }
         ensures { IfOk result (λ world. IsHeldAs (new_world config (length stores.items) clients) world) }
     {
-        let cell = Cell::new(alloc, config, master, stores, clients)?;
+        let cell = CellState::new(alloc, config, master, stores, clients)?;
         Ok(World { cell })
     }
 }
@@ -84,7 +84,7 @@ impl<M: CellMaster, S: StoppableStore> World<M, S> {
     /// One event, and what it answers. One that names no such node, message, replica, place or moment, or a node that is down, changes
     /// nothing. A run of the machine has the calls and answers so far, and led to what the cell shows. An error: a byte didn't
     /// rot, as the store of its server couldn't take it, and nothing has changed.
-    pub fn step(&mut self, event: Event) -> Result<Option<Answer>, StoreFault>
+    pub fn step(&mut self, event: Event) -> Result<Option<Answer>, ReplicaStoreFault>
         ensures ok { IfOk result (λ answer. HasEffect self.old (λ w choice. happens w event choice) answer self.new) }
         ensures explained { IfOk result (λ answer. StepsAsMachine self.old event answer self.new) }
         ensures err { OnErr result (self.new ≡ self.old) }

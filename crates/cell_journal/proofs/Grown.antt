@@ -4,10 +4,10 @@ use Rattle.std.proofs.lemmas.List.{append-nil}
 use mathlib.Core.List.{IsPrefix}
 use Rattle.gfs_types.specs.declared.ids.Node.{Node}
 use Rattle.messages.specs.declared.message.Message.{Message}
-use Rattle.messages.specs.declared.event.Input.TheVariants as input
+use Rattle.messages.specs.declared.event.NodeInput.TheVariants as input
 use Rattle.protocol.specs.Tables.{element_at}
 use Rattle.protocol.specs.World.{new_world, numbered_from_1, stamped}
-use Rattle.protocol_journal.specs.Journal.{Taking, Calls, Takes, Restarts, Entry, NodeState, node_in, is_node, own, LeadsTo, with_messages, sent_after, IsForNode, IsLawful, with_end}
+use Rattle.protocol_journal.specs.Journal.{StepCause, Calls, Takes, Restarts, Entry, NodeState, node_in, is_node, own, LeadsTo, with_messages, sent_after, IsForNode, IsLawful, with_end}
 use Rattle.protocol_journal.proofs.Nodes.{node_is, node_itself}
 use Rattle.protocol_journal.proofs.Journals.{journals_grow}
 use Rattle.cell_journal.specs.Identity.{Identity}
@@ -50,17 +50,17 @@ sent_append : (sent : List Message) (xs ys : List Entry) → sent_after sent (xs
 sent_append sent [] ys = refl
 sent_append sent (x ∷ xs) ys = sent_append (with_messages sent x) xs ys
 
-for_node_more : (sent more : List Message) (n : Node) (taking : Taking) → IsForNode sent n taking → IsForNode (sent ++ more) n taking
+for_node_more : (sent more : List Message) (n : Node) (cause : StepCause) → IsForNode sent n cause → IsForNode (sent ++ more) n cause
 for_node_more sent more n (Calls call) h = tt
 for_node_more sent more n Restarts h = tt
 for_node_more sent more n (Takes input.Tick) h = tt
 for_node_more sent more n (Takes (input.Deliver m)) h = (h.0, numbered_stays sent more h.0 m h.1, h.2)
 
-pub for_node_stays : (xs ys : List Entry) (n : Node) (taking : Taking) → IsPrefix xs ys → IsForNode (sent_after [] xs) n taking → IsForNode (sent_after [] ys) n taking
-for_node_stays xs ys n taking p h =
+pub for_node_stays : (xs ys : List Entry) (n : Node) (cause : StepCause) → IsPrefix xs ys → IsForNode (sent_after [] xs) n cause → IsForNode (sent_after [] ys) n cause
+for_node_stays xs ys n cause p h =
     let more = sent_more (sent_after [] xs) p.0 in
     let all : sent_after [] ys ≡ sent_after [] xs ++ more.0 = ap (sent_after []) (sym p.1) ∙ (sent_append [] xs p.0 ∙ more.1) in
-    subst (λ (ms : List Message). IsForNode ms n taking) (sym all) (for_node_more (sent_after [] xs) more.0 n taking h)
+    subst (λ (ms : List Message). IsForNode ms n cause) (sym all) (for_node_more (sent_after [] xs) more.0 n cause h)
 
 ends_so : (b : Bool) (s : NodeState) (o : Option NodeState) (first : Option NodeState) (es : List Entry) → (b ≡ true → LeadsTo first es (Some s)) → LeadsTo first es o → LeadsTo first es (cond b (Some s) o)
 ends_so true s o first es here else_so = here refl
@@ -82,8 +82,8 @@ journal_grows cell log v e of here mine lawful step =
     (subst (λ (k : Identity). LeadsTo (node_in (new_world k.config k.servers k.clients) e.node) v.mine (Some step.state)) of step.leads) in
     let ends = with_end lawful.0 e.node step.state in
     let at : ends e.node ≡ Some step.state = ap (λ (b : Bool). cond b (Some step.state) (lawful.0 e.node)) (node_itself e.node) in
-    let reads : IsForNode (sent_after [] log) e.node e.taking =
-    subst (λ (es : List Entry). IsForNode (sent_after [] es) e.node e.taking) (sym here) (for_node_stays step.read v.seen e.node e.taking step.before step.reads) in
+    let reads : IsForNode (sent_after [] log) e.node e.cause =
+    subst (λ (es : List Entry). IsForNode (sent_after [] es) e.node e.cause) (sym here) (for_node_stays step.read v.seen e.node e.cause step.before step.reads) in
     (_, journals_grow cell.config cell.servers cell.clients log ends (at_state cell log e.node step.state lawful.0 lawful.1 leads) e step.state step.choice at (step.moment, reads) step.may step.gives)
 
 first_leads : (o : Option NodeState) → LeadsTo o [] o

@@ -16,7 +16,7 @@ use Rattle.protocol_journal.specs.Journal.{Entry, own}
 use Rattle.cell_journal.specs.Identity.{Identity, Filled}
 use Rattle.cell_journal.specs.declared.view.View.{View}
 use Rattle.cell_journal.specs.Roles.{WritesAs, own_of}
-use Rattle.cell_journal.specs.Rules.{IsJournalOf, Writes, Fits, AllFit, Apart, NoHolder, rooms_in, AtHome, Keeps, first_view, Took, HasTaken, Takes, gave, Gives, Marks, IsSame, LeavesRoom, Adds, next_place, after_next}
+use Rattle.cell_journal.specs.Rules.{IsJournalOf, Writes, Fits, AllFit, Apart, NoHolder, rooms_in, AtHome, Keeps, first_view, Took, HasTaken, Takes, gave, Gives, Marks, IsSame, LeavesRoom, Adds, next_writer, after_next}
 use Rattle.cell_journal.proofs.Grown.{own_append, own_other, journal_grows, begins_lawful}
 use Rattle.cell_journal.proofs.Roles.{later_writes, next_writes, never_both, own_same, own_only}
 
@@ -34,7 +34,7 @@ at_new [] a b (suc j) e = absurd (some-ne-none b (sym e))
 at_new (x ∷ xs) a b zero e = inl e
 at_new (x ∷ xs) a b (suc j) e = ⊎_elim (λ h. inl h) (λ t. inr (ap suc t.0, t.1)) (at_new xs a b j e)
 
--- the room of all places, where one of them has another
+-- the room of all writers, where one of them has another
 rooms_set : (vs : List View) (id : ℕ) (v w : View) → get_elem? vs id ≡ some v → rooms_in (slice_set vs id w) + v.rooms ≡ rooms_in vs + w.rooms
 rooms_set [] id v w at = absurd (some-ne-none v (sym at))
 rooms_set (x ∷ xs) zero v w at =
@@ -57,7 +57,7 @@ rooms_more : (vs : List View) (w : View) → w.rooms ≡ 0 → rooms_in (vs ++ w
 rooms_more [] w none = omega (arith, none)
 rooms_more (x ∷ xs) w none = ap (λ n. x.rooms + n) (rooms_more xs w none)
 
--- a place writes for no other node than before
+-- a writer writes for no other node than before
 abbrev Less : View → View → Type 0
 Less v w = (n : Node) → Writes w n → Writes v n
 
@@ -85,7 +85,7 @@ module _ (views : List View) (id : ℕ) (v w : View) (at : get_elem? views id �
   no_holder_set alone not_it j b e h =
       ⊎_elim (λ t. let f : b.holds ≡ false = subst (λ x. x.holds ≡ false) t.1 not_it in cc (f, h)) (λ t. alone j b t.0 t.1 h) (at_set views id j w b e)
 
--- a word that is not 0, and the places as they were
+-- a word that is not 0, and the writers as they were
 marked : (cell : Identity) (s : State (Option Filled) View) (id : ℕ) (v : View) (n : ℕ) → Keeps cell s → get_elem? s.views id ≡ some v → (n ≡ 0 → ⊥)
     → Keeps cell (record { words = slice_set s.words 0 n; homes = s.homes; views = slice_set s.views id v })
 marked cell s id v n k at some_word = record {
@@ -261,8 +261,8 @@ marks_step cell slots id old new v c st some_old some_new s k homes at range = b
         let word_is : word ≡ slice_index s.words 0 = ap (λ b. either b new (slice_index s.words 0)) is in
         (v, keeps, tt, unchanged cell s id v word k at word_is, refl)
 
--- a place for the next node
-pub splits_step : (cell : Identity) (id : ℕ) (v : View) → Splits (Keeps cell) id v (after_next v) (next_place v)
+-- a writer for the next node
+pub splits_step : (cell : Identity) (id : ℕ) (v : View) → Splits (Keeps cell) id v (after_next v) (next_writer v)
 splits_step cell id v s k at = record {
   log = k.log;
   lawful = k.lawful;
@@ -281,7 +281,7 @@ splits_step cell id v s k at = record {
     left = after_next v
 
     right : View
-    right = next_place v
+    right = next_writer v
 
     set_views : List View
     set_views = slice_set s.views id left

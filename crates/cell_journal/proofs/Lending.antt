@@ -1,9 +1,9 @@
--- A place that has the journal lends it, and has it again as it was left.
+-- A writer that has the journal lends it, and has it again as it was left.
 use Rattle.std.proofs.Common.{◌≡◌, ℕ, List, [], ◌∷◌, Option, Some, None, sym, ap, ◌∙◌}
 use Rattle.atomic_table.specs.Table.{rest}
 use Rattle.cell_journal.specs.Identity.{Filled}
 
--- a place lends what it has
+-- a writer lends what it has
 pub lends : (l : List (ℕ × Option Filled)) (y : Filled) → l ≡ (0, Some y) ∷ [] → l ≡ (0, Some y) ∷ rest l
 lends l y has = has ∙ ap (λ (r : List (ℕ × Option Filled)). (0, Some y) ∷ rest r) (sym has)
 

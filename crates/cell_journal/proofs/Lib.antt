@@ -3,12 +3,12 @@ pub mod Begins
 pub mod Cells
 pub mod Turning
 pub mod Moving
-pub mod Rows
+pub mod CountedEntries
 pub mod Numbers
 pub mod Observed
 pub mod Grown
 pub mod Roles
 pub mod Keeping
 pub mod Lending
-pub mod Placing
+pub mod WriterSteps
 pub mod Slotting

@@ -7,20 +7,20 @@ use Rattle.messages.specs.declared.message.Message.{Message}
 use Rattle.protocol.specs.Tables.{element_at}
 use Rattle.protocol.specs.World.{numbered_from_1, stamped}
 use Rattle.protocol_journal.specs.Journal.{Entry, with_messages, sent_after}
-use Rattle.cell_journal.specs.declared.row.Row.{Row}
-use Rattle.cell_journal.specs.Rows.{entries_in, sent_in, AreCounted, IsIn}
+use Rattle.cell_journal.specs.declared.counted_entry.CountedEntry.{CountedEntry}
+use Rattle.cell_journal.specs.CountedEntries.{entries_in, sent_in, AreCounted, IsIn}
 
-before_is : (before : ℕ) (rows : List Row) (place : ℕ) (d : Row) → AreCounted before rows → place < length rows → (get_or rows place d).before ≡ before + length (sent_in (take place rows))
+before_is : (before : ℕ) (rows : List CountedEntry) (place : ℕ) (d : CountedEntry) → AreCounted before rows → place < length rows → (get_or rows place d).before ≡ before + length (sent_in (take place rows))
 before_is before [] place d h within = absurd (omega (arith, within))
 before_is before (r ∷ rows) zero d h within = h.0 ∙ omega arith
 before_is before (r ∷ rows) (suc place) d h within =
     before_is (before + length r.entry.out.sent) rows place d h.1 (omega (arith, within)) ∙ omega (arith, length-append r.entry.out.sent (sent_in (take place rows)))
 
-pub some_row : (rows : List Row) (number : ℕ) → 0 < number → number ≤ length (sent_in rows) → 0 < length rows
+pub some_row : (rows : List CountedEntry) (number : ℕ) → 0 < number → number ≤ length (sent_in rows) → 0 < length rows
 some_row [] number h most = absurd (omega (arith, h, most))
 some_row (r ∷ rows) number h most = omega arith
 
-pub in_all : (rows : List Row) (number : ℕ) → number ≤ length (sent_in rows) → number ≤ length (sent_in (take (length rows) rows))
+pub in_all : (rows : List CountedEntry) (number : ℕ) → number ≤ length (sent_in rows) → number ≤ length (sent_in (take (length rows) rows))
 in_all rows number h = rw (take_all (length rows) rows (omega arith)) h
 
 element_of_append : {X : Type 0} (xs ys : List X) (n : ℕ) → n < length xs → element_at (xs ++ ys) n ≡ slice_get xs n
@@ -42,7 +42,7 @@ none_past (x ∷ xs) zero h = absurd (omega (arith, h))
 none_past (x ∷ xs) (suc n) h = none_past xs n (omega (arith, h))
 
 -- a message of a row: how far it is from the row's first
-in_row : (rows : List Row) (place n : ℕ) (d : Row) → place < length rows → length (sent_in (take place rows)) ≤ n → n < length (sent_in (take (suc place) rows))
+in_row : (rows : List CountedEntry) (place n : ℕ) (d : CountedEntry) → place < length rows → length (sent_in (take place rows)) ≤ n → n < length (sent_in (take (suc place) rows))
     → element_at (sent_in rows) n ≡ slice_get (get_or rows place d).entry.out.sent (n - length (sent_in (take place rows)))
 in_row [] place n d within h until = absurd (omega (arith, within))
 in_row (r ∷ rows) zero n d within h until =
@@ -57,25 +57,25 @@ in_row (r ∷ rows) (suc place) n d within h until =
     ∙ (in_row rows place (n - count) d (omega (arith, within)) (omega (arith, h, here)) (omega (arith, until, there, h, here))
     ∙ ap (slice_get (get_or rows place d).entry.out.sent) (omega (arith, h, here))))
 
-pub before_at : (rows : List Row) (place : ℕ) (r : Row) → AreCounted 0 rows → place < length rows → r ≡ get_or rows place r → r.before ≡ length (sent_in (take place rows))
-before_at rows place r h within is = ap (λ (x : Row). x.before) is ∙ (before_is 0 rows place r h within ∙ omega arith)
+pub before_at : (rows : List CountedEntry) (place : ℕ) (r : CountedEntry) → AreCounted 0 rows → place < length rows → r ≡ get_or rows place r → r.before ≡ length (sent_in (take place rows))
+before_at rows place r h within is = ap (λ (x : CountedEntry). x.before) is ∙ (before_is 0 rows place r h within ∙ omega arith)
 
 -- the middle of two places, where they are apart
 pub between : (low high : ℕ) → 1 < high - low → (low < low + (high - low) / 2) × (low + (high - low) / 2 < high)
 between low high h = (omega (arith, h), omega (arith, h))
 
-pub begun_after : (rows : List Row) (place number : ℕ) (r : Row) → AreCounted 0 rows → place < length rows → r ≡ get_or rows place r → r.before < number → length (sent_in (take place rows)) < number
+pub begun_after : (rows : List CountedEntry) (place number : ℕ) (r : CountedEntry) → AreCounted 0 rows → place < length rows → r ≡ get_or rows place r → r.before < number → length (sent_in (take place rows)) < number
 begun_after rows place number r h within is from = omega (arith, before_at rows place r h within is, from)
 
-pub not_begun : (rows : List Row) (place number : ℕ) (r : Row) → AreCounted 0 rows → place < length rows → r ≡ get_or rows place r → number ≤ r.before → number ≤ length (sent_in (take place rows))
+pub not_begun : (rows : List CountedEntry) (place number : ℕ) (r : CountedEntry) → AreCounted 0 rows → place < length rows → r ≡ get_or rows place r → number ≤ r.before → number ≤ length (sent_in (take place rows))
 not_begun rows place number r h within is before = omega (arith, before_at rows place r h within is, before)
 
-pub only_place : (rows : List Row) (number low high : ℕ) → low < high → high - low ≤ 1 → number ≤ length (sent_in (take high rows)) → number ≤ length (sent_in (take (suc low) rows))
+pub only_place : (rows : List CountedEntry) (number low high : ℕ) → low < high → high - low ≤ 1 → number ≤ length (sent_in (take high rows)) → number ≤ length (sent_in (take (suc low) rows))
 only_place rows number low high apart near h =
     let same : high ≡ suc low = omega (arith, apart, near) in
     subst (λ n. number ≤ length (sent_in (take n rows))) same h
 
-pub begins_before : (rows : List Row) (number place : ℕ) (r : Row) → AreCounted 0 rows → IsIn rows number place → r ≡ get_or rows place r → r.before ≤ number - 1
+pub begins_before : (rows : List CountedEntry) (number place : ℕ) (r : CountedEntry) → AreCounted 0 rows → IsIn rows number place → r ≡ get_or rows place r → r.before ≤ number - 1
 begins_before rows number place r h at is = omega (arith, before_at rows place r h at.within is, at.after)
 
 numbered_before : {X : Type 0} (xs : List X) (n : ℕ) → 0 < n → numbered_from_1 xs n ≡ element_at xs (n - 1)
@@ -83,13 +83,13 @@ numbered_before xs zero h = absurd (omega (arith, h))
 numbered_before xs (suc n) h = ap (element_at xs) (omega arith)
 
 -- the message of a number in its row
-pub got : (rows : List Row) (number place : ℕ) (r : Row) → AreCounted 0 rows → IsIn rows number place → r ≡ get_or rows place r
+pub got : (rows : List CountedEntry) (number place : ℕ) (r : CountedEntry) → AreCounted 0 rows → IsIn rows number place → r ≡ get_or rows place r
     → slice_get r.entry.out.sent (number - 1 - r.before) ≡ numbered_from_1 (sent_in rows) number
 got rows number place r h at is =
     let first = before_at rows place r h at.within is in
     sym (numbered_before (sent_in rows) number (omega (arith, at.after))
     ∙ (in_row rows place (number - 1) r at.within (omega (arith, at.after)) (omega (arith, at.after, at.until))
-    ∙ (ap (λ (x : Row). slice_get x.entry.out.sent (number - 1 - length (sent_in (take place rows)))) (sym is)
+    ∙ (ap (λ (x : CountedEntry). slice_get x.entry.out.sent (number - 1 - length (sent_in (take place rows)))) (sym is)
     ∙ ap (slice_get r.entry.out.sent) (omega (arith, first, at.after)))))
 
 -- no message has a number past the last one's
@@ -111,7 +111,7 @@ stamped_at n (x ∷ xs) zero = ap (λ j. Some (record x { number = j })) (omega 
 stamped_at n (x ∷ xs) (suc k) = stamped_at (suc n) xs k ∙ ap (λ j. option_map (λ (m : Message). record m { number = j }) (element_at xs k)) (omega arith)
 
 -- the rows' messages get the next numbers
-sent_all : (before : List Message) (rows : List Row) → sent_after before (entries_in rows) ≡ before ++ stamped (suc (length before)) (sent_in rows)
+sent_all : (before : List Message) (rows : List CountedEntry) → sent_after before (entries_in rows) ≡ before ++ stamped (suc (length before)) (sent_in rows)
 sent_all before [] = sym (append-nil before)
 sent_all before (r ∷ rows) =
     let own = stamped (suc (length before)) r.entry.out.sent in
@@ -125,9 +125,9 @@ numbered_stamped : (xs : List Message) (number : ℕ) → numbered_from_1 (stamp
 numbered_stamped xs zero = refl
 numbered_stamped xs (suc k) = stamped_at 1 xs k ∙ ap (λ j. option_map (λ (m : Message). record m { number = j }) (element_at xs k)) (omega arith)
 
-pub sent_count : (rows : List Row) → length (sent_after [] (entries_in rows)) ≡ length (sent_in rows)
+pub sent_count : (rows : List CountedEntry) → length (sent_after [] (entries_in rows)) ≡ length (sent_in rows)
 sent_count rows = ap length (sent_all [] rows) ∙ stamped_length 1 (sent_in rows)
 
 -- the message of a number, as it was sent
-pub numbered : (rows : List Row) (number : ℕ) → numbered_from_1 (sent_after [] (entries_in rows)) number ≡ option_map (λ (m : Message). record m { number = number }) (numbered_from_1 (sent_in rows) number)
+pub numbered : (rows : List CountedEntry) (number : ℕ) → numbered_from_1 (sent_after [] (entries_in rows)) number ≡ option_map (λ (m : Message). record m { number = number }) (numbered_from_1 (sent_in rows) number)
 numbered rows number = ap (λ ms. numbered_from_1 ms number) (sent_all [] rows) ∙ numbered_stamped (sent_in rows) number

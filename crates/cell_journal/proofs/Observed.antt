@@ -8,7 +8,7 @@ use Rattle.gfs_types.specs.declared.config.Config.{Config}
 use Rattle.gfs_types.specs.declared.ids.Node.{Node}
 use Rattle.gfs_types.specs.declared.ids.Node.TheVariants as node
 use Rattle.protocol.specs.Observer.{Observer, new_observer}
-use Rattle.protocol_journal.specs.Journal.{Taking, Calls, Takes, Restarts, Entry, asked, answered, entry_observed, observed_after, observer_of}
+use Rattle.protocol_journal.specs.Journal.{StepCause, Calls, Takes, Restarts, Entry, asked, answered, entry_observed, observed_after, observer_of}
 use Rattle.cell_journal.specs.declared.clocks.Clocks.{Clocks}
 use Rattle.cell_journal.specs.Clocks.{moved, clocks_of, clocks_after}
 
@@ -44,7 +44,7 @@ answer_moves_nothing o (node.Server s) reply = refl
 answer_moves_nothing o (node.Client c) None = refl
 answer_moves_nothing o (node.Client c) (Some answer) = refl
 
-asked_moves : (skew : ℕ) (o : Observer) (m : ℕ) (n : Node) (t : Taking) → moved skew (clocks_of (asked skew o m n t)) m ≡ moved skew (clocks_of o) m
+asked_moves : (skew : ℕ) (o : Observer) (m : ℕ) (n : Node) (t : StepCause) → moved skew (clocks_of (asked skew o m n t)) m ≡ moved skew (clocks_of o) m
 asked_moves skew o m node.Master t = refl
 asked_moves skew o m (node.Server s) t = refl
 asked_moves skew o m (node.Client c) (Calls call) = moved_twice skew (clocks_of o) m
@@ -52,7 +52,7 @@ asked_moves skew o m (node.Client c) (Takes given) = refl
 asked_moves skew o m (node.Client c) Restarts = refl
 
 step_moves : (skew : ℕ) (o : Observer) (e : Entry) → clocks_of (entry_observed skew o e) ≡ moved skew (clocks_of o) e.moment
-step_moves skew o e = answer_moves_nothing _ e.node e.out.answer ∙ asked_moves skew o e.moment e.node e.taking
+step_moves skew o e = answer_moves_nothing _ e.node e.out.answer ∙ asked_moves skew o e.moment e.node e.cause
 
 observed_more : (skew : ℕ) (o : Observer) (es : List Entry) (e : Entry) → observed_after skew o (es ++ e ∷ []) ≡ entry_observed skew (observed_after skew o es) e
 observed_more skew o [] e = refl

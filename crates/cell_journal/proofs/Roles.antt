@@ -1,4 +1,4 @@
--- Whose steps a place writes.
+-- Whose steps a writer writes.
 use Rattle.std.proofs.Common.{◌≡◌, ◌≢◌, ℕ, zero, suc, ◌+◌, ◌-◌, ◌≤◌, ◌<◌, Bool, true, false, List, [], ◌∷◌, ◌++◌, refl, sym, ap, subst, ◌∙◌, arith, if◌then◌else◌}
 use Rattle.std.proofs.lemmas.Bool.Decides.{nat_tests}
 use Rattle.std.specs.Prelude.{nat_le}
@@ -41,7 +41,7 @@ never_both servers (From k) n h g =
     let same : number_of servers n ≡ k = ap (number_of servers) (sym g) ∙ number_at servers k in
     absurd (omega (arith, same, h))
 
--- what a place knows of its own node's steps is what the journal has of them
+-- what a writer knows of its own node's steps is what the journal has of them
 pub own_same : (servers : ℕ) (r : Role) (mine : List Entry) (n : Node) (log : List Entry) → WritesAs servers r n → own n log ≡ mine → own n (log ++ []) ≡ own_of r mine (log ++ [])
 own_same servers Nobody mine n log w h = absurd w
 own_same servers (Only m) mine n log w h = ap (λ k. own k (log ++ [])) (sym w)

@@ -6,7 +6,7 @@ use Rattle.gfs_types.specs.declared.refusal.Refusal.{Refusal}
 use Rattle.messages.specs.declared.message.Message.{Message}
 use Rattle.protocol_journal.specs.Journal.{sent_after}
 use Rattle.cell_journal.specs.Identity.{Filled, filled}
-use Rattle.cell_journal.specs.Places.{IsRead}
+use Rattle.cell_journal.specs.Writers.{IsRead}
 
 module _ (slot : Option Filled) (p new : Filled) (is : slot ≡ Some p) where
   pub in_slot_ok : (n : Node) (number : Option ℕ) (r : Result (Option Message) Refusal) → IfOk r (λ m. (new ≡ filled p.cell p.entries (p.reserved + 1)) × IsRead (sent_after [] p.entries) n number m)

@@ -2,14 +2,14 @@
 use Rattle.std.specs.Prelude.{ℕ}
 use Rattle.gfs_types.specs.declared.ids.Node.{Node}
 use Rattle.messages.specs.declared.event.StepOut.{StepOut}
-use Rattle.protocol_journal.specs.Journal.{Taking, Calls, Takes, Restarts, Entry}
-use Rattle.cell_journal.specs.declared.taking.Taking.{Taking as CodeTaking}
-use Rattle.cell_journal.specs.declared.taking.Taking.TheVariants as code
+use Rattle.protocol_journal.specs.Journal.{StepCause, Calls, Takes, Restarts, Entry}
+use Rattle.cell_journal.specs.declared.step_cause.StepCause.{StepCause as CodeStepCause}
+use Rattle.cell_journal.specs.declared.step_cause.StepCause.TheVariants as code
 
-abbrev pub taking_of : CodeTaking → Taking
-taking_of (code.Calls call) = Calls call
-taking_of (code.Takes given) = Takes given
-taking_of code.Restarts = Restarts
+abbrev pub cause_of : CodeStepCause → StepCause
+cause_of (code.Calls call) = Calls call
+cause_of (code.Takes given) = Takes given
+cause_of code.Restarts = Restarts
 
-abbrev pub entry : Node → ℕ → Taking → StepOut → Entry
-entry node moment taking out = record { node = node; moment = moment; taking = taking; out = out }
+abbrev pub entry : Node → ℕ → StepCause → StepOut → Entry
+entry node moment cause out = record { node = node; moment = moment; cause = cause; out = out }

@@ -4,7 +4,7 @@ pub mod ListRules
 pub mod Clocks
 pub mod Entries
 pub mod Identity
-pub mod Rows
+pub mod CountedEntries
 pub mod Roles
 pub mod Rules
-pub mod Places
+pub mod Writers

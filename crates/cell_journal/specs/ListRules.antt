@@ -1,4 +1,4 @@
--- The rule of the book, and what its steps tell.
+-- The rule of a list's log, and what its steps tell.
 use Rattle.std.specs.Prelude.{◌≡◌, ℕ, ◌==◌, true, List, [], ◌∷◌, ◌++◌, MatchBool}
 use mathlib.Core.List.{IsPrefix}
 use Rattle.logbook.specs.Pages.{Cell, cell, Step, View, Book, Named, may_make}

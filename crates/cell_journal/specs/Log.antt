@@ -1,4 +1,4 @@
--- What the book's log comes to.
+-- What a list's log comes to.
 use Rattle.std.specs.Prelude.{◌≡◌, ℕ, Bool, true, false, List, [], ◌∷◌, ◌++◌, if◌then◌else◌}
 use Rattle.logbook.specs.Pages.{Cell, cell, Book}
 use Rattle.cell_journal.specs.declared.note.Note.{Note}
@@ -11,7 +11,7 @@ pub record Written (T : Type 0) : Type 0 where
   pub over : Bool
   pub items : List T
 
--- a list under the name of its book
+-- a list under its name
 pub record Listed (T : Type 0) : Type 0 where
   pub name : Book
   pub items : List T

@@ -1,4 +1,4 @@
--- One journal lies in the table's slot. It is lawful, and each place knows its own part of it.
+-- One journal lies in the table's slot. It is lawful, and each writer knows its own part of it.
 use Rattle.std.specs.Prelude.{◌≡◌, ℕ, suc, ◌+◌, ◌-◌, ◌<◌, ◌≤◌, ◌==◌, Bool, true, false, List, [], ◌∷◌, ◌++◌, length, slice_index, MatchBool, Option, Some, None, IsTrue}
 use mathlib.Core.Option.{some}
 use mathlib.Core.List.{IsPrefix}
@@ -23,7 +23,7 @@ IsJournalOf cell entries = (ends : Node → Option NodeState) × IsLawful cell.c
 abbrev pub Writes : View → Node → Type 0
 Writes v n = WritesAs v.of.servers v.role n
 
--- what a place knows of the journal
+-- what a writer knows of the journal
 pub record Fits (cell : Identity) (log : List Entry) (v : View) : Type 0 where
   pub of : (n : Node) → Writes v n → v.of ≡ cell
   pub seen : IsPrefix v.seen log
@@ -33,7 +33,7 @@ pub record Fits (cell : Identity) (log : List Entry) (v : View) : Type 0 where
 abbrev pub AllFit : Identity → List Entry → List View → Type 0
 AllFit cell log views = (id : ℕ) (v : View) → get_elem? views id ≡ some v → Fits cell log v
 
--- no two places write for one node, and no two have the journal
+-- no two writers write for one node, and no two have the journal
 pub record Apart (views : List View) : Type 0 where
   pub roles : (i j : ℕ) (v w : View) (n : Node) → get_elem? views i ≡ some v → get_elem? views j ≡ some w → Writes v n → Writes w n → i ≡ j
   pub holders : (i j : ℕ) (v w : View) → get_elem? views i ≡ some v → get_elem? views j ≡ some w → v.holds ≡ true → w.holds ≡ true → i ≡ j
@@ -41,7 +41,7 @@ pub record Apart (views : List View) : Type 0 where
 abbrev pub NoHolder : List View → Type 0
 NoHolder views = (id : ℕ) (v : View) → get_elem? views id ≡ some v → v.holds ≡ true → ⊥
 
--- for how many steps all places have room
+-- for how many steps all writers have room
 abbrev pub rooms_in : List View → ℕ
 rooms_in [] = 0
 rooms_in (v ∷ rest) = v.rooms + rooms_in rest
@@ -59,7 +59,7 @@ pub record Keeps (cell : Identity) (s : State (Option Filled) View) : Type 0 whe
   pub home : AtHome cell log s
   pub room : (id : ℕ) (v : View) → get_elem? s.views id ≡ some v → v.holds ≡ true → rooms_in s.views ≤ v.found
 
--- the first place writes for every node
+-- the first writer writes for every node
 abbrev pub first_view : Identity → View
 first_view cell = record { of = cell; role = From 0; mine = []; holds = false; seen = []; rooms = 0; found = 0 }
 
@@ -78,7 +78,7 @@ HasTaken v w = (y : Filled) × (w.1 ≡ (0, Some y) ∷ []) × Took v.0 w.0 y
 abbrev pub Takes : Step (Option Filled) → Me (Option Filled) View → ℕ → Me (Option Filled) View → Type 0
 Takes s v found w = MatchBool (found == 0) (HasTaken v w) (w ≡ v)
 
--- it was given back, with the entries that it has now; what room was added is the place's
+-- it was given back, with the entries that it has now; what room was added is the writer's
 abbrev pub gave : View → Filled → View
 gave v y = record v { holds = false; seen = y.entries; mine = own_of v.role v.mine y.entries; rooms = v.rooms + y.reserved - v.found }
 
@@ -91,24 +91,24 @@ Gives s v found w = Gave v w
 abbrev pub Marks : Step (Option Filled) → Me (Option Filled) View → ℕ → Me (Option Filled) View → Type 0
 Marks s v found w = w ≡ v
 
--- The next step of a place's own node: for some choice it is the step from the state that the node's own steps led to. What it takes was sent in a beginning of the journal.
+-- The next step of a writer's own node: for some choice it is the step from the state that the node's own steps led to. What it takes was sent in a beginning of the journal.
 pub record IsStepOf (v : View) (e : Entry) : Type 0 where
   pub role : v.role ≡ Only e.node
   pub state : NodeState
   pub choice : Choice
   pub leads : LeadsTo (node_in (new_world v.of.config v.of.servers v.of.clients) e.node) v.mine (Some state)
-  pub may : IsTrue (may_take state e.taking)
-  pub gives : (node_step state e.moment e.taking choice).out ≡ e.out
+  pub may : IsTrue (may_take state e.cause)
+  pub gives : (node_step state e.moment e.cause choice).out ≡ e.out
   pub moment : IsTrue (nat_le e.moment moment_limit)
   pub read : List Entry
   pub before : IsPrefix read v.seen
-  pub reads : IsForNode (sent_after [] read) e.node e.taking
+  pub reads : IsForNode (sent_after [] read) e.node e.cause
 
--- no other place's room is taken away
+-- no other writer's room is taken away
 abbrev pub LeavesRoom : View → Filled → Type 0
 LeavesRoom v y = v.found ≤ v.rooms + y.reserved
 
--- the journal as a place that has it may give it back: the same, or with one step more of the place's own node
+-- the journal as a writer that has it may give it back: the same, or with one step more of the writer's own node
 abbrev pub IsSame : View → Filled → Type 0
 IsSame v y = (v.holds ≡ true) × (y.cell ≡ v.of) × (y.entries ≡ v.seen) × LeavesRoom v y
 
@@ -119,9 +119,9 @@ pub record Adds (v : View) (e : Entry) (y : Filled) : Type 0 where
   pub is : y.entries ≡ v.seen ++ e ∷ []
   pub room : LeavesRoom v y
 
--- a place for the next node, and the place that is left
-abbrev pub next_place : View → View
-next_place v = record v { role = next_role v.of.servers v.role; holds = false; rooms = 0 }
+-- a writer for the next node, and the writer that is left
+abbrev pub next_writer : View → View
+next_writer v = record v { role = next_role v.of.servers v.role; holds = false; rooms = 0 }
 
 abbrev pub after_next : View → View
 after_next v = record v { role = later_roles v.role }

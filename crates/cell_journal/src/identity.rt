@@ -4,14 +4,14 @@ ghost use Rattle.std.specs.Prelude.{◌≡◌};
 ghost use Rattle.cell_journal.specs.Identity.{identity};
 
 use crate::Beginning;
-use crate::entry::Entry;
+use crate::journal_entry::JournalEntry;
 use gfs_types::config::Config;
 use std::marker::Model;
 
 /// The cell of a journal: the name of its list, its settings, and how many servers and clients it may have.
 #[derive(Drop)]
 pub struct CellIdentity {
-    list: Beginning<Entry>,
+    list: Beginning<JournalEntry>,
     config: Config,
     servers: u64,
     clients: u64,
@@ -26,7 +26,12 @@ impl Model for CellIdentity {
 }
 
 impl CellIdentity {
-    pub fn new(list: Beginning<Entry>, config: Config, servers: u64, clients: u64) -> CellIdentity
+    pub fn new(
+        list: Beginning<JournalEntry>,
+        config: Config,
+        servers: u64,
+        clients: u64,
+    ) -> CellIdentity
         ensures { result ≡ identity list.name config servers clients }
     {
         CellIdentity {

@@ -5,8 +5,8 @@ ghost use Rattle.gfs_types.specs.declared.ids.Node.{Node};
 ghost use Rattle.cell_journal.specs.Identity.{Filled};
 ghost use Rattle.cell_journal.specs.Rules.{HasTaken, IsSame, Writes, gave};
 
-use crate::steps::{give_back, mark, take};
-use crate::{Book, Place};
+use crate::journal_steps::{give_back, mark, take};
+use crate::{JournalWriter, SharedHistory};
 use std::sync::Wait;
 use std::thread::yield_now;
 
@@ -24,45 +24,45 @@ const CLOSED: u64 = 3;
 const LOOKS: u32 = 100;
 
 /// Takes the journal, once it is there. False: the cell was closed.
-pub fn acquire(rt: &impl Wait, book: &Book, place: &mut Place) -> bool
-    requires book { (book.now.table_id.words ≡ 1) × (book.now.table_id.slots ≡ 1) × (place.old.table_id ≡ book.now.table_id) }
-    requires none { place.old.me.1 ≡ [] }
-    requires writes { (n : Node) × Writes place.old.me.0 n }
-    ensures same { (place.new.table_id ≡ place.old.table_id) × (place.new.id ≡ place.old.id) }
-    ensures took { MatchBool result (HasTaken place.old.me place.new.me) (place.new.me ≡ place.old.me) }
+pub fn acquire(rt: &impl Wait, shared: &SharedHistory, writer: &mut JournalWriter) -> bool
+    requires shared { (shared.now.table_id.words ≡ 1) × (shared.now.table_id.slots ≡ 1) × (writer.old.table_id ≡ shared.now.table_id) }
+    requires none { writer.old.me.1 ≡ [] }
+    requires writes { (n : Node) × Writes writer.old.me.0 n }
+    ensures same { (writer.new.table_id ≡ writer.old.table_id) × (writer.new.id ≡ writer.old.id) }
+    ensures took { MatchBool result (HasTaken writer.old.me writer.new.me) (writer.new.me ≡ writer.old.me) }
 {
-    if take(book, place, TAKEN) {
+    if take(shared, writer, TAKEN) {
         return true;
     }
-    if take_soon(book, place) {
+    if take_soon(shared, writer) {
         return true;
     }
     for _ in rt.forever() {
-        if take(book, place, WAITED_FOR) {
+        if take(shared, writer, WAITED_FOR) {
             return true;
         }
-        let found = mark(book, place, TAKEN, WAITED_FOR);
+        let found = mark(shared, writer, TAKEN, WAITED_FOR);
         if found == CLOSED {
             return false;
         }
         if found != 0 {
-            book.park(rt, 0, WAITED_FOR as u32);
+            shared.park(rt, 0, WAITED_FOR as u32);
         }
     }
     unreachable!()
 }
 
 // Takes the journal, if it is back before long.
-fn take_soon(book: &Book, place: &mut Place) -> bool
-    requires book { (book.now.table_id.words ≡ 1) × (book.now.table_id.slots ≡ 1) × (place.old.table_id ≡ book.now.table_id) }
-    requires none { place.old.me.1 ≡ [] }
-    requires writes { (n : Node) × Writes place.old.me.0 n }
-    ensures same { (place.new.table_id ≡ place.old.table_id) × (place.new.id ≡ place.old.id) }
-    ensures took { MatchBool result (HasTaken place.old.me place.new.me) (place.new.me ≡ place.old.me) }
+fn take_soon(shared: &SharedHistory, writer: &mut JournalWriter) -> bool
+    requires shared { (shared.now.table_id.words ≡ 1) × (shared.now.table_id.slots ≡ 1) × (writer.old.table_id ≡ shared.now.table_id) }
+    requires none { writer.old.me.1 ≡ [] }
+    requires writes { (n : Node) × Writes writer.old.me.0 n }
+    ensures same { (writer.new.table_id ≡ writer.old.table_id) × (writer.new.id ≡ writer.old.id) }
+    ensures took { MatchBool result (HasTaken writer.old.me writer.new.me) (writer.new.me ≡ writer.old.me) }
 {
     for _ in 0..LOOKS {
         yield_now();
-        if take(book, place, TAKEN) {
+        if take(shared, writer, TAKEN) {
             return true;
         }
     }
@@ -70,33 +70,33 @@ fn take_soon(book: &Book, place: &mut Place) -> bool
 }
 
 /// Gives the journal back as it was taken, and wakes one who waits.
-pub fn release(book: &Book, place: &mut Place)
-    requires book { (book.now.table_id.words ≡ 1) × (book.now.table_id.slots ≡ 1) × (place.old.table_id ≡ book.now.table_id) }
-    requires writes { (n : Node) × Writes place.old.me.0 n }
-    requires has { (y : Filled) × (place.old.me.1 ≡ (0, Some y) ∷ []) × IsSame place.old.me.0 y }
-    ensures same { (place.new.table_id ≡ place.old.table_id) × (place.new.id ≡ place.old.id) }
-    ensures gave { (y : Filled) → place.old.me.1 ≡ (0, Some y) ∷ [] → place.new.me ≡ (gave place.old.me.0 y, []) }
+pub fn release(shared: &SharedHistory, writer: &mut JournalWriter)
+    requires shared { (shared.now.table_id.words ≡ 1) × (shared.now.table_id.slots ≡ 1) × (writer.old.table_id ≡ shared.now.table_id) }
+    requires writes { (n : Node) × Writes writer.old.me.0 n }
+    requires has { (y : Filled) × (writer.old.me.1 ≡ (0, Some y) ∷ []) × IsSame writer.old.me.0 y }
+    ensures same { (writer.new.table_id ≡ writer.old.table_id) × (writer.new.id ≡ writer.old.id) }
+    ensures gave { (y : Filled) → writer.old.me.1 ≡ (0, Some y) ∷ [] → writer.new.me ≡ (gave writer.old.me.0 y, []) }
 {
-    let found = give_back(book, place);
-    wake(book, found);
+    let found = give_back(shared, writer);
+    wake(shared, found);
 }
 
 /// Wakes one who waits for the journal, where the word that was found says that there may be one.
-pub fn wake(book: &Book, found: u64)
-    requires { book.now.table_id.words ≡ 1 }
+pub fn wake(shared: &SharedHistory, found: u64)
+    requires { shared.now.table_id.words ≡ 1 }
 {
     if found == WAITED_FOR {
-        book.wake_one(0);
+        shared.wake_one(0);
     }
 }
 
 /// Says that the journal, which is out, never comes back, to whoever waits and to whoever comes.
-pub fn shut(book: &Book, place: &mut Place)
-    requires book { (book.now.table_id.words ≡ 1) × (book.now.table_id.slots ≡ 1) × (place.old.table_id ≡ book.now.table_id) }
-    ensures same { (place.new.table_id ≡ place.old.table_id) × (place.new.id ≡ place.old.id) × (place.new.me ≡ place.old.me) }
+pub fn shut(shared: &SharedHistory, writer: &mut JournalWriter)
+    requires shared { (shared.now.table_id.words ≡ 1) × (shared.now.table_id.slots ≡ 1) × (writer.old.table_id ≡ shared.now.table_id) }
+    ensures same { (writer.new.table_id ≡ writer.old.table_id) × (writer.new.id ≡ writer.old.id) × (writer.new.me ≡ writer.old.me) }
 {
-    if mark(book, place, TAKEN, CLOSED) != TAKEN {
-        mark(book, place, WAITED_FOR, CLOSED);
+    if mark(shared, writer, TAKEN, CLOSED) != TAKEN {
+        mark(shared, writer, WAITED_FOR, CLOSED);
     }
-    book.wake_all(0);
+    shared.wake_all(0);
 }

@@ -3,13 +3,13 @@
 ghost use Rattle.std.specs.Prelude.{◌≡◌, ◌≤◌, length};
 ghost use mathlib.Core.List.{IsPrefix};
 
-use crate::list_rule::Page;
+use crate::list_rule::LogPrefix;
 use std::marker::Model;
 
 /// A beginning of a list, under the list's name. It takes no memory.
 #[derive(Drop)]
 pub struct Beginning<T> {
-    pub(crate) seen: Page<T>,
+    pub(crate) seen: LogPrefix<T>,
 }
 
 impl<T> Model for Beginning<T> {
@@ -43,7 +43,7 @@ pub fn meet<T>(one: &Beginning<T>, other: &Beginning<T>)
 /// A whole list, whose writer closed it.
 #[derive(Drop)]
 pub struct WholeList<T> {
-    pub(crate) seen: Page<T>,
+    pub(crate) seen: LogPrefix<T>,
 }
 
 impl<T> Model for WholeList<T> {

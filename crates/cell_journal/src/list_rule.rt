@@ -1,12 +1,12 @@
-//! The rule of the book, and its steps.
+//! The rule of a list's log, and its steps.
 
 use crate::note::Note;
 use logbook::{Gain, Plain, Play, Rule, Seen, Word};
 
 /// The rule.
-pub struct Law;
+pub struct ListRule;
 
-impl<T> Rule<Note<T>, u64> for Law {
+impl<T> Rule<Note<T>, u64> for ListRule {
     ghost use Rattle.std.specs.Prelude.{[]};
     ghost use base.Fml.{ftrue};
     ghost use Rattle.cell_journal.specs.ListRules.{IsKept};
@@ -96,8 +96,8 @@ impl<T> Plain<u64, Note<T>, u64> for End {
     ghost state = { λ x. None };
 }
 
-/// A beginning of the book's log.
-pub type Page<T> = Seen<Note<T>, u64, Law>;
+/// A prefix of a list's log.
+pub type LogPrefix<T> = Seen<Note<T>, u64, ListRule>;
 
-/// A word of the book.
-pub type Line<T> = Word<Note<T>, u64, Law>;
+/// A word of a list.
+pub type ListWord<T> = Word<Note<T>, u64, ListRule>;

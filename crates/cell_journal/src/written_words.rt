@@ -8,9 +8,9 @@ use std::alloc::{AllocError, Global};
 use std::collections::LinkedList;
 
 /// The rule: there is one writer, which knows the words.
-pub struct Law;
+pub struct WordRule;
 
-impl TableRule<u64, LinkedList<u64>, Vec<u64>> for Law {
+impl TableRule<u64, LinkedList<u64>, Vec<u64>> for WordRule {
     ghost use Rattle.cell_journal.specs.WordRules.{AreKnown};
 
     ghost holds = { λ _ s. AreKnown s };
@@ -19,31 +19,31 @@ impl TableRule<u64, LinkedList<u64>, Vec<u64>> for Law {
 }
 
 /// A word is written.
-pub struct Writing;
+pub struct WriteWord;
 
-impl Play<u64, LinkedList<u64>> for Writing {
+impl Play<u64, LinkedList<u64>> for WriteWord {
     ghost use Rattle.cell_journal.specs.WordRules.{Writes};
 
     ghost then = { Writes };
 }
 
 /// A word becomes greater by one.
-pub struct Raising;
+pub struct RaiseWord;
 
-impl Play<u64, LinkedList<u64>> for Raising {
+impl Play<u64, LinkedList<u64>> for RaiseWord {
     ghost use Rattle.cell_journal.specs.WordRules.{Raises};
 
     ghost then = { Raises };
 }
 
 /// The words.
-pub type WordTable = Table<u64, LinkedList<u64>, Vec<u64>, Law, Global>;
+pub type WordTable = Table<u64, LinkedList<u64>, Vec<u64>, WordRule, Global>;
 
 /// The one writer, which knows what the words are. It takes no memory.
-pub type Writer = Seat<u64, LinkedList<u64>>;
+pub type WordWriter = Seat<u64, LinkedList<u64>>;
 
 /// These words, and their writer.
-pub fn table_with(alloc: Global, words: Vec<u64>) -> Result<(WordTable, Writer), AllocError>
+pub fn table_with(alloc: Global, words: Vec<u64>) -> Result<(WordTable, WordWriter), AllocError>
     ensures writer { IfOk result (λ t. IsWriterOf t.0.shared.table_id t.1.table_id t.1.me.0) }
     ensures words { IfOk result (λ t. t.1.me.0 ≡ words.items) }
 {
@@ -51,25 +51,25 @@ pub fn table_with(alloc: Global, words: Vec<u64>) -> Result<(WordTable, Writer),
 }
 
 /// A word is this from now on, until it is written again.
-pub fn write(table: &WordTable, writer: &mut Writer, place: usize, word: u64)
+pub fn write(table: &WordTable, writer: &mut WordWriter, place: usize, word: u64)
     requires writer { IsWriterOf table.now.shared.table_id writer.old.table_id writer.old.me.0 }
     requires place { place < length writer.old.me.0 }
     ensures writer { IsWriterOf table.now.shared.table_id writer.new.table_id writer.new.me.0 }
     ensures count { length writer.new.me.0 ≡ length writer.old.me.0 }
     ensures words { writer.new.me.0 ≡ slice_set writer.old.me.0 place word }
 {
-    table.shared.store::<Writing>(writer, place, word)
+    table.shared.store::<WriteWord>(writer, place, word)
 }
 
 /// A word becomes greater by one, and 0 after the greatest.
-pub fn raise(table: &WordTable, writer: &mut Writer, place: usize)
+pub fn raise(table: &WordTable, writer: &mut WordWriter, place: usize)
     requires writer { IsWriterOf table.now.shared.table_id writer.old.table_id writer.old.me.0 }
     requires place { place < length writer.old.me.0 }
     ensures writer { IsWriterOf table.now.shared.table_id writer.new.table_id writer.new.me.0 }
     ensures count { length writer.new.me.0 ≡ length writer.old.me.0 }
     ensures words { writer.new.me.0 ≡ slice_set writer.old.me.0 place ((slice_index writer.old.me.0 place + 1) % 2 ^ 64) }
 {
-    table.shared.fetch_add::<Raising>(writer, place, 1);
+    table.shared.fetch_add::<RaiseWord>(writer, place, 1);
 }
 
 /// The word at a place, as it is now; 0 where there is none.

@@ -11,7 +11,7 @@ use Rattle.cell_journal.specs.Clocks.{are_clocks_kept}
 use Rattle.cell_journal.specs.Rules.{IsJournalOf}
 use Rattle.cell_journal.specs.declared.view.View.{View}
 use Rattle.cell_journal.proofs.Grown.{begins_lawful}
-use Rattle.cell_run.specs.Making.{IsNewClient}
+use Rattle.cell_run.specs.NewNodes.{IsNewClient}
 use Rattle.cell_seats.specs.Seats.{IsSeat}
 
 -- it has seen nothing of the journal

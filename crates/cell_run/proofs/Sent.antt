@@ -8,7 +8,7 @@ use Rattle.std.proofs.option.Option.TheSendSync as option
 use Rattle.std.specs.contracts.alloc.Global as Heap
 use Rattle.std.specs.contracts.impls.GlobalAllocator.TheImpl.{ghosts}
 use Rattle.path_trie.proofs.tree.Tree.TheLaws.TheKnot as knot
-use Rattle.path_trie.proofs.node.Node.TheSendSync as node
+use Rattle.path_trie.proofs.node.TrieNode.TheSendSync as node
 use Rattle.master_state.proofs.node.NameNode.TheSendSync as name
 use Rattle.chunk_table.proofs.table.Table.TheSendSync as table
 use Rattle.ordered_map.proofs.OrderedMap.TheSendSync as ordered
@@ -20,8 +20,8 @@ use Rattle.protocol.proofs.seen.Seen.TheSendSync as seen
 use Rattle.master_state.proofs.kept.KeptCall.TheSendSync as kept
 use Rattle.master_state.proofs.kept.CopyRow.TheSendSync as copy
 use Rattle.master_state.specs.contracts.state.State as State
-use Rattle.master_plan.proofs.change.Change.TheSendSync as change
-use Rattle.master_plan.proofs.waiting.Attempt.TheSendSync as attempt
+use Rattle.master_plan.proofs.change.LogChange.TheSendSync as change
+use Rattle.master_plan.proofs.waiting.VersionAttempt.TheSendSync as attempt
 use Rattle.master_plan.proofs.waiting.Pending.TheSendSync as pending
 use Rattle.master_plan.specs.contracts.plan.Plan as Plan
 use Rattle.operation_log.proofs.memory.MemoryLog.TheSendSync as memory

@@ -7,7 +7,7 @@ use Rattle.gfs_types.specs.declared.config.Config.{Config}
 use Rattle.gfs_types.specs.declared.config.ConfigFault.{ConfigFault}
 use Rattle.gfs_types.specs.declared.config.ConfigFault.TheVariants.{Chunk, Block, Goal, LeaseMs, SkewMs}
 use Rattle.gfs_types.specs.Settings.{first_out_of_range, first_that_fails, ranges, is_within, largest_chunk}
-use Rattle.cell_run.specs.Making.{IsFitting}
+use Rattle.cell_run.specs.NewNodes.{IsFitting}
 
 on_none : {F : Type 0} (b : Bool) (rest : Option F) (f : F) → cond b rest (Some f) ≡ None → (b ≡ true) × (rest ≡ None)
 on_none true rest f h = (refl, h)

@@ -16,34 +16,34 @@ use Rattle.cell_journal.specs.declared.view.View.{View}
 use Rattle.cell_world.proofs.Left.{same_left}
 use Rattle.cell_seats.specs.Slots.{IsLedTo, SlotState, slot_state}
 use Rattle.cell_run.specs.Standing.{MasterStands, ServerStands, ClientStands}
-use Rattle.cell_seats.specs.Dealing.{IsDealt}
-use Rattle.cell_run.specs.Making.{IsNewNode}
+use Rattle.cell_seats.specs.Registry.{IsRegistered}
+use Rattle.cell_run.specs.NewNodes.{IsNewNode}
 use Rattle.cell_seats.proofs.Starting.{numbered_is, led_new}
 
-pub master_led : (config : Config) (servers : ℕ) (n : Node) (v w : View) (held : MasterState) → IsDealt config servers node.Master v n w → held ≡ new_master config servers → IsLedTo w n (MasterStands held)
-master_led config servers n v w held dealt is =
+pub master_led : (config : Config) (servers : ℕ) (n : Node) (v w : View) (held : MasterState) → IsRegistered config servers node.Master v n w → held ≡ new_master config servers → IsLedTo w n (MasterStands held)
+master_led config servers n v w held registered is =
     let state : MasterState = new_master config servers in
-    led_new config servers node.Master n v w (MasterStands held) (MasterIs state) dealt refl
+    led_new config servers node.Master n v w (MasterStands held) (MasterIs state) registered refl
     (subst (λ (x : MasterState). MasterStands x (MasterIs state)) (sym is) (record { master = state; is = refl; left_as = same_left state }))
 
-pub server_led : (config : Config) (servers : ℕ) (id : ServerId) (n : Node) (v w : View) (held : ServerState) → 0 < id.0 → id.0 ≤ servers → IsDealt config servers (node.Server id) v n w
+pub server_led : (config : Config) (servers : ℕ) (id : ServerId) (n : Node) (v w : View) (held : ServerState) → 0 < id.0 → id.0 ≤ servers → IsRegistered config servers (node.Server id) v n w
     → held ≡ started_server config id.0 (new_server_disk config.block) 0 → IsLedTo w n (ServerStands held)
-server_led config servers id n v w held some within dealt is =
+server_led config servers id n v w held some within registered is =
     let new : ℕ → ServerState = λ s. started_server config s (new_server_disk config.block) 0 in
-    led_new config servers (node.Server id) n v w (ServerStands held) (ServerIs (new id.0)) dealt
+    led_new config servers (node.Server id) n v w (ServerStands held) (ServerIs (new id.0)) registered
     (ap (option_map (λ (x : ServerState). ServerIs x)) (numbered_is new servers id.0 some within)) (ap (λ (x : ServerState). ServerIs x) (sym is))
 
-pub client_led : (config : Config) (servers : ℕ) (id : ClientId) (n : Node) (v w : View) (held : ClientState) → 0 < id.0 → id.0 ≤ 64 → IsDealt config servers (node.Client id) v n w
+pub client_led : (config : Config) (servers : ℕ) (id : ClientId) (n : Node) (v w : View) (held : ClientState) → 0 < id.0 → id.0 ≤ 64 → IsRegistered config servers (node.Client id) v n w
     → held ≡ new_client config id.0 → IsLedTo w n (ClientStands held)
-client_led config servers id n v w held some within dealt is =
-    led_new config servers (node.Client id) n v w (ClientStands held) (ClientIs (new_client config id.0)) dealt
+client_led config servers id n v w held some within registered is =
+    led_new config servers (node.Client id) n v w (ClientStands held) (ClientIs (new_client config id.0)) registered
     (ap (option_map (λ (x : ClientState). ClientIs x)) (numbered_is (new_client config) 64 id.0 some within)) (ap (λ (x : ClientState). ClientIs x) (sym is))
 
--- the place that was dealt is the slot's
-pub new_node : (config : Config) (servers : ℕ) (node n : Node) (v w : View) (s : SlotState) → IsDealt config servers node v n w → s ≡ slot_state n w → IsNewNode node v s.node s.place
-new_node config servers node n v w s dealt is =
-    subst (λ (x : SlotState). IsNewNode node v x.node x.place) (sym is) (record { node_is = dealt.node_is; of = dealt.of; mine = dealt.mine; seen = dealt.seen })
+-- the writer that was made is the slot's
+pub new_node : (config : Config) (servers : ℕ) (node n : Node) (v w : View) (s : SlotState) → IsRegistered config servers node v n w → s ≡ slot_state n w → IsNewNode node v s.node s.view
+new_node config servers node n v w s registered is =
+    subst (λ (x : SlotState). IsNewNode node v x.node x.view) (sym is) (record { node_is = registered.node_is; of = registered.of; mine = registered.mine; seen = registered.seen })
 
--- few places were dealt
-pub few : (dealt servers id : ℕ) → dealt ≡ servers + id → id ≤ 64 → servers < 65536 → dealt < 4611686018427387904
-few dealt servers id is within small = omega (arith, is, within, small)
+-- few nodes were registered
+pub few : (registered servers id : ℕ) → registered ≡ servers + id → id ≤ 64 → servers < 65536 → registered < 4611686018427387904
+few registered servers id is within small = omega (arith, is, within, small)

@@ -7,13 +7,13 @@ use Rattle.gfs_types.specs.declared.ids.Node.TheVariants.{Client}
 use Rattle.protocol_journal.specs.Journal.{Entry}
 use Rattle.cell_journal.specs.Log.{Listed, listed}
 use Rattle.cell_journal.specs.Identity.{Identity}
-use Rattle.cell_seats.specs.declared.asked.Asked.{Asked}
-use Rattle.cell_seats.specs.declared.asked.Asker.{Asker}
-use Rattle.cell_seats.specs.declared.post.Policy.{Policy}
-use Rattle.cell_seats.specs.Asked.{AsksOf, no_policy, restarted}
+use Rattle.cell_seats.specs.declared.controls.Controls.{Controls}
+use Rattle.cell_seats.specs.declared.controls.ControlWriter.{ControlWriter}
+use Rattle.cell_seats.specs.declared.mailboxes.Policy.{Policy}
+use Rattle.cell_seats.specs.Controls.{WritesControls, no_policy, restarted}
 use Rattle.cell_seats.specs.Seats.{SeatState, seat_state}
-use Rattle.cell_run.specs.declared.fault.SeatFault.{SeatFault}
-use Rattle.cell_run.specs.declared.fault.SeatFault.TheVariants.{Many, NoMemory}
+use Rattle.cell_run.specs.declared.seat_fault.SeatFault.{SeatFault}
+use Rattle.cell_run.specs.declared.seat_fault.SeatFault.TheVariants.{Many, NoMemory}
 
 -- which cell it is, how many clients were made, the network's policy, and how often each server, by its number, and the master, last, was asked to begin again
 pub record CellState : Type 0 where
@@ -54,10 +54,10 @@ abbrev pub IsSeatFault : CellState → SeatFault → Type 0
 IsSeatFault c Many = 64 ≤ c.made
 IsSeatFault c NoMemory = c.made < 64
 
--- the master, the servers and so many clients have their places, the other clients their mailboxes; what it asks is asked of its own nodes
-pub record HasMade (config : Config) (servers dealt made boxes : ℕ) (name : Book) (nothing : Listed Entry) (asked : Asked) (asker : Asker) : Type 0 where
+-- the master, the servers and so many clients are registered, the other clients have their mailboxes; what it asks is asked of its own nodes
+pub record HasMade (config : Config) (servers registered made boxes : ℕ) (name : Book) (nothing : Listed Entry) (controls : Controls) (control_writer : ControlWriter) : Type 0 where
   pub least : 64 ≤ config.chunk
-  pub next : dealt ≡ servers + 1 + made
+  pub next : registered ≡ servers + 1 + made
   pub waiting : boxes + made ≡ 64
   pub nothing_is : nothing ≡ listed name []
-  pub asks : AsksOf asked asker
+  pub asks : WritesControls controls control_writer

@@ -1,5 +1,5 @@
 pub mod Standing
-pub mod Making
-pub mod MakingFaults
+pub mod NewNodes
+pub mod StartFaults
 pub mod Cells
-pub mod Faults
+pub mod SeatFaults

@@ -3,25 +3,25 @@
 ghost use Rattle.std.specs.Prelude.{◌≡◌, ◌+◌, ◌≤◌, ◌<◌, [], IfOk, IfErr, OnOk, OnErr, vec_len, replicate};
 ghost use Rattle.std.specs.Arc.{arc_value};
 ghost use Rattle.cell_journal.specs.Log.{listed};
-ghost use Rattle.cell_run.specs.Making.{IsFitting, IsSame};
-ghost use Rattle.cell_seats.specs.Asked.{AsksOf, no_policy, policy_in};
+ghost use Rattle.cell_run.specs.NewNodes.{IsFitting, IsSame};
+ghost use Rattle.cell_seats.specs.Controls.{WritesControls, no_policy, policy_in};
 ghost use Rattle.cell_run.specs.Cells.{IsCellOf, IsNewCell, IsNewSeat, IsSeatFault, more, with_policy, asked_again};
 
-use crate::fault::SeatFault;
-use crate::making::{are_fitting, client_slot, master_slot, server_slot};
-pub use crate::making_fault::StartFault;
+use crate::node_slots::{are_fitting, client_slot, master_slot, server_slot};
 use crate::running_client::RunningClient;
+use crate::seat_fault::SeatFault;
+pub use crate::start_fault::StartFault;
 use crate::threads::{CLOSING, ENDED, serve, stop_all, tick, wait_for_clients};
-use cell_journal::entry::Entry;
-use cell_journal::pages::Pages;
+use cell_journal::history::History;
+use cell_journal::journal_entry::JournalEntry;
 use cell_journal::{Beginning, open};
-use cell_seats::asked::{Asker, nothing_asked};
-use cell_seats::dealer::Dealer;
+use cell_seats::controls::{ControlWriter, new_controls};
 use cell_seats::gate::Gate;
-use cell_seats::hall::{Hall, MOST_CLIENTS};
 use cell_seats::journal::Journal;
-use cell_seats::post::{Input, Letter, Mailboxes, Policy, Post};
+use cell_seats::mailboxes::{Input, MailboxItem, MailboxSenders, Mailboxes, Policy};
+use cell_seats::node_registry::NodeRegistry;
 use cell_seats::seat::Seat;
+use cell_seats::shared_state::{MOST_CLIENTS, SharedState};
 use cell_seats::slot::Slot;
 use cell_seats::stepper::Stepper;
 use crossbeam_channel::Receiver;
@@ -46,15 +46,15 @@ type Thread = JoinHandle<()>;
 /// A cell whose nodes run on threads. One that is dropped and not closed goes on.
 pub struct Cell {
     alloc: Global,
-    dealer: Dealer,
+    registry: NodeRegistry,
     /// The journal with no step in it, which is what a new client has seen.
-    nothing: Beginning<Entry>,
+    nothing: Beginning<JournalEntry>,
     /// The mailboxes of the clients from the next one on, the next one's last.
-    inboxes: Vec<Receiver<Letter>>,
+    inboxes: Vec<Receiver<MailboxItem>>,
     /// How many clients were made.
     made: u64,
     /// What asks something of the network and the nodes.
-    asker: Asker,
+    control_writer: ControlWriter,
     ticker: Thread,
     nodes: Vec<Thread>,
 }
@@ -64,11 +64,11 @@ impl Drop for Cell {
     fn drop(self) {
         let Self {
             alloc: _,
-            dealer: _dealer,
+            registry: _registry,
             nothing: _nothing,
             inboxes: _inboxes,
             made: _,
-            asker: _asker,
+            control_writer: _control_writer,
             ticker: _ticker,
             nodes: _nodes,
         } = self;
@@ -78,14 +78,14 @@ impl Drop for Cell {
 impl Model for Cell {
     ghost use Rattle.std.specs.Prelude.{vec_len};
     ghost use Rattle.std.specs.Arc.{arc_value};
-    ghost use Rattle.cell_seats.specs.Asked.{policy_in};
+    ghost use Rattle.cell_seats.specs.Controls.{policy_in};
     ghost use Rattle.cell_run.specs.Cells.{CellState, cell_state, HasMade};
 
     ghost Value = { CellState };
 
-    ghost view = { λ c. cell_state c.dealer.place.me.0.of c.made (policy_in c.asker.policy.me.0) c.asker.restarts.me.0 };
+    ghost view = { λ c. cell_state c.registry.writer.me.0.of c.made (policy_in c.control_writer.policy.me.0) c.control_writer.restarts.me.0 };
 
-    ghost invariant = { λ c. HasMade c.dealer.config c.dealer.servers c.dealer.dealt c.made (vec_len c.inboxes) c.dealer.place.me.0.of.name c.nothing (arc_value c.dealer.hall).asked c.asker };
+    ghost invariant = { λ c. HasMade c.registry.config c.registry.servers c.registry.registered c.made (vec_len c.inboxes) c.registry.writer.me.0.of.name c.nothing (arc_value c.registry.shared).controls c.control_writer };
 }
 
 impl Cell {
@@ -109,8 +109,8 @@ impl Cell {
         let Ok(began) = rt.monotonic() else {
             return Err(StartFault::Clock);
         };
-        let made = new_dealer(alloc, config, servers, began)?;
-        let ticker = ticks(rt, &made.dealer.hall, servers)?;
+        let made = new_registry(alloc, config, servers, began)?;
+        let ticker = ticks(rt, &made.registry.shared, servers)?;
         start_with(rt, alloc, made, ticker, gate)
     }
 
@@ -129,7 +129,7 @@ impl Cell {
         }
         let id = ClientId(self.made + 1);
         let bit = 1u64 << self.made;
-        let Ok(slot) = client_slot(self.alloc, &mut self.dealer, id) else {
+        let Ok(slot) = client_slot(self.alloc, &mut self.registry, id) else {
             return Err(SeatFault::NoMemory);
         };
         self.made += 1;
@@ -143,7 +143,8 @@ impl Cell {
     pub fn net(&mut self, policy: Policy)
         ensures { self.new ≡ with_policy self.old policy }
     {
-        self.asker.set_policy(&self.dealer.hall.asked, policy);
+        self.control_writer
+            .set_policy(&self.registry.shared.controls, policy);
     }
 
     /// The master or a server is asked once more to begin again, which it does before it takes the next message or tick. A client never
@@ -151,14 +152,15 @@ impl Cell {
     pub fn restart(&mut self, rt: &impl Wait, node: Node)
         ensures { self.new ≡ asked_again self.old node }
     {
-        self.asker.ask_restart(&self.dealer.hall.asked, node);
+        self.control_writer
+            .ask_restart(&self.registry.shared.controls, node);
         if let Node::Client(_) = node {
             return;
         }
-        self.dealer
-            .hall
-            .post
-            .put(rt, node, Letter::Take(Input::Tick));
+        self.registry
+            .shared
+            .senders
+            .put(rt, node, MailboxItem::Take(Input::Tick));
     }
 
     /// Ends the cell: no step is begun any more, each call that waits is refused, and the threads end. No step follows.
@@ -167,26 +169,26 @@ impl Cell {
     {
         let Self {
             alloc: _,
-            dealer,
+            registry,
             nothing: _nothing,
             inboxes: _inboxes,
             made: _,
-            asker: _asker,
+            control_writer: _control_writer,
             ticker,
             nodes,
         } = self;
-        end_all(rt, &dealer.hall, dealer.servers, ticker, nodes);
-        dealer.close(rt)
+        end_all(rt, &registry.shared, registry.servers, ticker, nodes);
+        registry.close(rt)
     }
 }
 
 /// What a cell has before its first node runs.
 #[derive(Drop)]
 struct Parts {
-    dealer: Dealer,
-    nothing: Beginning<Entry>,
+    registry: NodeRegistry,
+    nothing: Beginning<JournalEntry>,
     boxes: Mailboxes,
-    asker: Asker,
+    control_writer: ControlWriter,
 }
 
 // A cell whose ticker runs.
@@ -194,20 +196,20 @@ fn start_with<
     R: Threads + Wait + Clock + Copy + Send + 'static,
     G: Gate + Clone + Send + Drop + 'static,
 >(rt: R, alloc: Global, parts: Parts, ticker: Thread, gate: G) -> Result<Cell, StartFault>
-    requires fits { IsFitting parts.dealer.config }
-    requires first { parts.dealer.dealt ≡ 0 }
-    requires nothing { parts.nothing ≡ listed parts.dealer.place.me.0.of.name [] }
+    requires fits { IsFitting parts.registry.config }
+    requires first { parts.registry.registered ≡ 0 }
+    requires nothing { parts.nothing ≡ listed parts.registry.writer.me.0.of.name [] }
     requires boxes { vec_len parts.boxes.clients ≡ 64 }
-    requires asks { AsksOf (arc_value parts.dealer.hall).asked parts.asker }
-    requires policy { policy_in parts.asker.policy.me.0 ≡ no_policy }
-    requires restarts { parts.asker.restarts.me.0 ≡ replicate 66 0 }
-    ensures { IfOk result (λ cell. IsNewCell parts.dealer.config parts.dealer.servers cell) }
+    requires asks { WritesControls (arc_value parts.registry.shared).controls parts.control_writer }
+    requires policy { policy_in parts.control_writer.policy.me.0 ≡ no_policy }
+    requires restarts { parts.control_writer.restarts.me.0 ≡ replicate 66 0 }
+    ensures { IfOk result (λ cell. IsNewCell parts.registry.config parts.registry.servers cell) }
 {
     let Parts {
-        mut dealer,
+        mut registry,
         nothing,
         boxes,
-        asker,
+        control_writer,
     } = parts;
     let mut nodes = Vec::new(alloc);
     let Mailboxes {
@@ -215,23 +217,23 @@ fn start_with<
         servers,
         clients,
     } = boxes;
-    match start_nodes(rt, alloc, &mut dealer, &mut nodes, master, servers, gate) {
+    match start_nodes(rt, alloc, &mut registry, &mut nodes, master, servers, gate) {
         Ok(()) => {
             let mut inboxes = clients;
             inboxes.reverse();
             Ok(Cell {
                 alloc,
-                dealer,
+                registry,
                 nothing,
                 inboxes,
                 made: 0,
-                asker,
+                control_writer,
                 ticker,
                 nodes,
             })
         }
         Err(fault) => {
-            end_all(&rt, &dealer.hall, dealer.servers, ticker, nodes);
+            end_all(&rt, &registry.shared, registry.servers, ticker, nodes);
             Err(fault)
         }
     }
@@ -244,32 +246,32 @@ fn start_nodes<
 >(
     rt: R,
     alloc: Global,
-    dealer: &mut Dealer,
+    registry: &mut NodeRegistry,
     nodes: &mut Vec<Thread>,
-    master: Receiver<Letter>,
-    servers: Vec<Receiver<Letter>>,
+    master: Receiver<MailboxItem>,
+    servers: Vec<Receiver<MailboxItem>>,
     gate: G,
 ) -> Result<(), StartFault>
-    requires fits { IsFitting dealer.old.config }
-    requires first { dealer.old.dealt ≡ 0 }
-    ensures same { IsSame dealer.old dealer.new }
-    ensures ok { OnOk result (dealer.new.dealt ≡ dealer.old.servers + 1) }
+    requires fits { IsFitting registry.old.config }
+    requires first { registry.old.registered ≡ 0 }
+    ensures same { IsSame registry.old registry.new }
+    ensures ok { OnOk result (registry.new.registered ≡ registry.old.servers + 1) }
 {
-    let slot = master_slot(alloc, dealer)?;
-    let theirs = Arc::try_clone(&dealer.hall)?;
+    let slot = master_slot(alloc, registry)?;
+    let theirs = Arc::try_clone(&registry.shared)?;
     keep(
         nodes,
         runs(rt, theirs, Node::Master, slot, master, gate.clone()?)?,
     )?;
     let mut inboxes = servers;
     inboxes.reverse();
-    for before in 0..dealer.servers {
+    for before in 0..registry.servers {
         let Some(inbox) = inboxes.pop() else {
             return Err(StartFault::Count);
         };
         let id = ServerId(before + 1);
-        let slot = server_slot(alloc, dealer, id)?;
-        let theirs = Arc::try_clone(&dealer.hall)?;
+        let slot = server_slot(alloc, registry, id)?;
+        let theirs = Arc::try_clone(&registry.shared)?;
         keep(
             nodes,
             runs(rt, theirs, Node::Server(id), slot, inbox, gate.clone()?)?,
@@ -281,61 +283,61 @@ fn start_nodes<
 // No step is begun any more. The ticker says so until the nodes have ended and no client waits.
 fn end_all<R: Threads + Wait + Clock>(
     rt: &R,
-    hall: &Hall,
+    shared: &SharedState,
     servers: u16,
     ticker: Thread,
     nodes: Vec<Thread>,
 ) {
-    hall.closing.store(CLOSING, Ordering::SeqCst);
-    stop_all(rt, hall, servers);
+    shared.closing.store(CLOSING, Ordering::SeqCst);
+    stop_all(rt, shared, servers);
     for node in nodes {
         node.join(rt);
     }
-    wait_for_clients(rt, hall);
-    hall.closing.store(ENDED, Ordering::SeqCst);
+    wait_for_clients(rt, shared);
+    shared.closing.store(ENDED, Ordering::SeqCst);
     ticker.join(rt);
 }
 
-fn new_dealer(
+fn new_registry(
     alloc: Global,
     config: Config,
     servers: u16,
     began: Duration,
 ) -> Result<Parts, StartFault>
-    ensures dealer { IfOk result (λ p. (p.dealer.config ≡ config) × (p.dealer.servers ≡ servers) × (p.dealer.dealt ≡ 0)) }
-    ensures nothing { IfOk result (λ p. p.nothing ≡ listed p.dealer.place.me.0.of.name []) }
+    ensures registry { IfOk result (λ p. (p.registry.config ≡ config) × (p.registry.servers ≡ servers) × (p.registry.registered ≡ 0)) }
+    ensures nothing { IfOk result (λ p. p.nothing ≡ listed p.registry.writer.me.0.of.name []) }
     ensures boxes { IfOk result (λ p. vec_len p.boxes.clients ≡ 64) }
-    ensures asks { IfOk result (λ p. AsksOf (arc_value p.dealer.hall).asked p.asker) }
-    ensures policy { IfOk result (λ p. policy_in p.asker.policy.me.0 ≡ no_policy) }
-    ensures restarts { IfOk result (λ p. p.asker.restarts.me.0 ≡ replicate 66 0) }
+    ensures asks { IfOk result (λ p. WritesControls (arc_value p.registry.shared).controls p.control_writer) }
+    ensures policy { IfOk result (λ p. policy_in p.control_writer.policy.me.0 ≡ no_policy) }
+    ensures restarts { IfOk result (λ p. p.control_writer.restarts.me.0 ≡ replicate 66 0) }
 {
-    let Some(pages) = Pages::new(alloc, config, u64::from(servers), MOST_CLIENTS) else {
+    let Some(history) = History::new(alloc, config, u64::from(servers), MOST_CLIENTS) else {
         return Err(StartFault::NoMemory);
     };
-    let nothing = pages.beginning();
-    let (table, place) = open(alloc, pages)?;
-    let (post, boxes) = Post::new(alloc, servers, MOST_CLIENTS)?;
-    let (asked, asker) = nothing_asked(alloc)?;
-    let hall = Hall {
+    let nothing = history.beginning();
+    let (table, writer) = open(alloc, history)?;
+    let (senders, boxes) = MailboxSenders::new(alloc, servers, MOST_CLIENTS)?;
+    let (controls, control_writer) = new_controls(alloc)?;
+    let shared = SharedState {
         table,
-        post,
-        asked,
+        senders,
+        controls,
         began,
         calling: AtomicU64::new(0),
         closing: AtomicU64::new(0),
     };
-    match Arc::new(alloc, hall) {
-        Ok(hall) => Ok(Parts {
-            dealer: Dealer {
-                hall,
+    match Arc::new(alloc, shared) {
+        Ok(shared) => Ok(Parts {
+            registry: NodeRegistry {
+                shared,
                 config,
                 servers,
-                dealt: 0,
-                place,
+                registered: 0,
+                writer,
             },
             nothing,
             boxes,
-            asker,
+            control_writer,
         }),
         Err(_) => Err(StartFault::NoMemory),
     }
@@ -354,14 +356,14 @@ fn runs<
     G: Gate + Send + Drop + 'static,
 >(
     rt: R,
-    hall: Arc<Hall>,
+    shared: Arc<SharedState>,
     node: Node,
     slot: Slot<N>,
-    inbox: Receiver<Letter>,
+    inbox: Receiver<MailboxItem>,
     gate: G,
 ) -> Result<Thread, StartFault> {
     let slot = Mutex::new(slot);
-    let job = move || serve(&rt, &hall, node, &slot, &inbox, &gate);
+    let job = move || serve(&rt, &shared, node, &slot, &inbox, &gate);
     match thread::spawn(&rt, job) {
         Ok(thread) => Ok(thread),
         Err(_) => Err(StartFault::Thread),
@@ -370,10 +372,10 @@ fn runs<
 
 fn ticks<R: Threads + Wait + Clock + Copy + Send + 'static>(
     rt: R,
-    hall: &Arc<Hall>,
+    shared: &Arc<SharedState>,
     servers: u16,
 ) -> Result<Thread, StartFault> {
-    let theirs = Arc::try_clone(hall)?;
+    let theirs = Arc::try_clone(shared)?;
     let job = move || tick(&rt, &theirs, servers);
     match thread::spawn(&rt, job) {
         Ok(thread) => Ok(thread),

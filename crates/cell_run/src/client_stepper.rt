@@ -6,7 +6,7 @@ ghost use Rattle.protocol.specs.Conforms.{ClientCalls};
 ghost use Rattle.protocol.specs.Seen.{down_output};
 ghost use Rattle.cell_run.specs.Standing.{ClientStands};
 
-use cell_journal::entry::Taking;
+use cell_journal::journal_entry::StepCause;
 use cell_seats::stepper::Stepper;
 use client::step::step;
 use client_calls::client::Client;
@@ -24,20 +24,20 @@ pub struct ClientNode {
 impl Stepper for ClientNode {
     ghost stands = { λ n s. ClientStands n.client s };
 
-    fn may_take(&self, taking: &Taking) -> bool {
-        match taking {
-            Taking::Calls(_) => self.client.may_call(),
-            Taking::Takes(_) => self.client.is_up(),
-            Taking::Restarts => false,
+    fn may_take(&self, cause: &StepCause) -> bool {
+        match cause {
+            StepCause::Calls(_) => self.client.may_call(),
+            StepCause::Takes(_) => self.client.is_up(),
+            StepCause::Restarts => false,
         }
     }
 
-    fn step(&mut self, now: Moment, taking: &Taking) -> StepOut {
-        match taking {
-            Taking::Calls(asked) => calls(&mut self.client, now, asked),
-            Taking::Takes(input) => step(&mut self.client, now, input),
+    fn step(&mut self, now: Moment, cause: &StepCause) -> StepOut {
+        match cause {
+            StepCause::Calls(asked) => calls(&mut self.client, now, asked),
+            StepCause::Takes(input) => step(&mut self.client, now, input),
             // It never begins again.
-            Taking::Restarts => stops(&mut self.client),
+            StepCause::Restarts => stops(&mut self.client),
         }
     }
 }

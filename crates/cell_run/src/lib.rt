@@ -4,13 +4,13 @@
 
 pub mod cell;
 pub mod client_stepper;
-pub mod fault;
-mod given;
-pub mod making;
-pub mod making_fault;
 pub mod master_stepper;
+pub mod node_slots;
 pub mod running_client;
 pub mod running_master;
 pub mod running_server;
+pub mod seat_fault;
 pub mod server_stepper;
+pub mod start_fault;
+mod step_message;
 mod threads;

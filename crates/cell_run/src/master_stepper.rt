@@ -2,8 +2,8 @@
 
 ghost use Rattle.cell_run.specs.Standing.{MasterStands};
 
-use crate::given::message_in;
-use cell_journal::entry::Taking;
+use crate::step_message::message_in;
+use cell_journal::journal_entry::StepCause;
 use cell_seats::stepper::Stepper;
 use cell_world::master::CellMaster;
 use gfs_types::ids::Moment;
@@ -18,20 +18,20 @@ pub struct MasterNode<M: CellMaster + Drop> {
 impl<M: CellMaster + Drop> Stepper for MasterNode<M> {
     ghost stands = { λ n s. MasterStands (M.state n.master) s };
 
-    fn may_take(&self, taking: &Taking) -> bool {
-        match taking {
-            Taking::Takes(_) => self.master.is_up(),
-            Taking::Restarts => true,
-            Taking::Calls(_) => false,
+    fn may_take(&self, cause: &StepCause) -> bool {
+        match cause {
+            StepCause::Takes(_) => self.master.is_up(),
+            StepCause::Restarts => true,
+            StepCause::Calls(_) => false,
         }
     }
 
-    fn step(&mut self, now: Moment, taking: &Taking) -> StepOut {
-        match taking {
-            Taking::Takes(input) => self.master.step(now, message_in(input)).out,
-            Taking::Restarts => self.master.restart(now),
+    fn step(&mut self, now: Moment, cause: &StepCause) -> StepOut {
+        match cause {
+            StepCause::Takes(input) => self.master.step(now, message_in(input)).out,
+            StepCause::Restarts => self.master.restart(now),
             // It takes no call.
-            Taking::Calls(_) => self.master.step(now, None).out,
+            StepCause::Calls(_) => self.master.step(now, None).out,
         }
     }
 }

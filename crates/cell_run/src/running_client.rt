@@ -4,7 +4,7 @@ ghost use Rattle.std.specs.Prelude.{◌≡◌, ◌<◌, IfOk};
 ghost use Rattle.protocol.specs.Client.{new_client};
 
 use crate::client_stepper::ClientNode;
-use cell_journal::entry::Taking;
+use cell_journal::journal_entry::StepCause;
 use cell_seats::stepper::Stepper;
 use client_calls::client::Client;
 use gfs_types::config::Config;
@@ -42,11 +42,11 @@ impl RunningClient {
 impl Stepper for RunningClient {
     ghost stands = { λ n s. ⟦<ClientNode as Stepper>⟧.stands n.node s };
 
-    fn may_take(&self, taking: &Taking) -> bool {
-        self.node.may_take(taking)
+    fn may_take(&self, cause: &StepCause) -> bool {
+        self.node.may_take(cause)
     }
 
-    fn step(&mut self, now: Moment, taking: &Taking) -> StepOut {
-        self.node.step(now, taking)
+    fn step(&mut self, now: Moment, cause: &StepCause) -> StepOut {
+        self.node.step(now, cause)
     }
 }

@@ -5,7 +5,7 @@ ghost use Rattle.protocol.specs.MasterStep.{new_master};
 
 use crate::master_stepper::MasterNode;
 use cell_core::cell_master::SeatedMaster;
-use cell_journal::entry::Taking;
+use cell_journal::journal_entry::StepCause;
 use cell_seats::stepper::Stepper;
 use cell_world::master::CellMaster;
 use gfs_types::config::Config;
@@ -51,11 +51,11 @@ impl RunningMaster {
 impl Stepper for RunningMaster {
     ghost stands = { λ m s. ⟦<MasterNode<SeatedMaster<MemoryLog, Global>> as Stepper>⟧.stands m.node s };
 
-    fn may_take(&self, taking: &Taking) -> bool {
-        self.node.may_take(taking)
+    fn may_take(&self, cause: &StepCause) -> bool {
+        self.node.may_take(cause)
     }
 
-    fn step(&mut self, now: Moment, taking: &Taking) -> StepOut {
-        self.node.step(now, taking)
+    fn step(&mut self, now: Moment, cause: &StepCause) -> StepOut {
+        self.node.step(now, cause)
     }
 }

@@ -6,7 +6,7 @@ ghost use Rattle.protocol.specs.Server.{started_server};
 ghost use Rattle.replica_store.specs.Replicas.{new_server_disk};
 
 use crate::server_stepper::ServerNode;
-use cell_journal::entry::Taking;
+use cell_journal::journal_entry::StepCause;
 use cell_seats::stepper::Stepper;
 use gfs_types::config::Config;
 use gfs_types::ids::{Moment, ServerId};
@@ -46,11 +46,11 @@ impl RunningServer {
 impl Stepper for RunningServer {
     ghost stands = { λ n s. ⟦<ServerNode<MemoryStore> as Stepper>⟧.stands n.node s };
 
-    fn may_take(&self, taking: &Taking) -> bool {
-        self.node.may_take(taking)
+    fn may_take(&self, cause: &StepCause) -> bool {
+        self.node.may_take(cause)
     }
 
-    fn step(&mut self, now: Moment, taking: &Taking) -> StepOut {
-        self.node.step(now, taking)
+    fn step(&mut self, now: Moment, cause: &StepCause) -> StepOut {
+        self.node.step(now, cause)
     }
 }

@@ -2,8 +2,8 @@
 
 ghost use Rattle.cell_run.specs.Standing.{ServerStands};
 
-use crate::given::message_in;
-use cell_journal::entry::Taking;
+use crate::step_message::message_in;
+use cell_journal::journal_entry::StepCause;
 use cell_seats::stepper::Stepper;
 use gfs_types::ids::Moment;
 use messages::event::StepOut;
@@ -19,20 +19,20 @@ pub struct ServerNode<S: ReplicaStore + Drop> {
 impl<S: ReplicaStore + Drop> Stepper for ServerNode<S> {
     ghost stands = { λ n s. ServerStands n.server s };
 
-    fn may_take(&self, taking: &Taking) -> bool {
-        match taking {
-            Taking::Takes(_) => self.server.is_up(),
-            Taking::Restarts => true,
-            Taking::Calls(_) => false,
+    fn may_take(&self, cause: &StepCause) -> bool {
+        match cause {
+            StepCause::Takes(_) => self.server.is_up(),
+            StepCause::Restarts => true,
+            StepCause::Calls(_) => false,
         }
     }
 
-    fn step(&mut self, now: Moment, taking: &Taking) -> StepOut {
-        match taking {
-            Taking::Takes(input) => self.server.step(now, message_in(input)).out,
-            Taking::Restarts => self.server.restart(now),
+    fn step(&mut self, now: Moment, cause: &StepCause) -> StepOut {
+        match cause {
+            StepCause::Takes(input) => self.server.step(now, message_in(input)).out,
+            StepCause::Restarts => self.server.restart(now),
             // It takes no call.
-            Taking::Calls(_) => self.server.step(now, None).out,
+            StepCause::Calls(_) => self.server.step(now, None).out,
         }
     }
 }

@@ -1,11 +1,11 @@
 //! What the threads of a running cell do.
 
 use cell_seats::gate::Gate;
-use cell_seats::hall::{Hall, MOST_CLIENTS};
-use cell_seats::post::{Input, Letter};
+use cell_seats::mailbox_wait::next_input;
+use cell_seats::mailboxes::{Input, MailboxItem};
+use cell_seats::shared_state::{MOST_CLIENTS, SharedState};
 use cell_seats::slot::Slot;
 use cell_seats::stepper::Stepper;
-use cell_seats::waiting::next_input;
 use crossbeam_channel::Receiver;
 use gfs_types::ids::{ClientId, Node, ServerId};
 use std::sync::atomic::Ordering;
@@ -16,19 +16,19 @@ use std::time::{Clock, Duration};
 /// How long the ticker sleeps.
 const TICK_MS: u64 = 100;
 
-/// What `Hall::closing` says once no step is begun any more, and once no node and no client needs to be told so.
+/// What `SharedState::closing` says once no step is begun any more, and once no node and no client needs to be told so.
 pub const CLOSING: u64 = 1;
 
 pub const ENDED: u64 = 2;
 
-/// Takes each letter of a node, until it is told to stop. Before a letter the node begins again once, where it was asked to do so more
+/// Takes each item of a node's mailbox, until it is told to stop. Before an item the node begins again once, where it was asked to do so more
 /// often than it did.
 pub fn serve<R: Wait + Clock, N: Stepper + Drop, G: Gate>(
     rt: &R,
-    hall: &Hall,
+    shared: &SharedState,
     node: Node,
     slot: &Mutex<Slot<N>>,
-    inbox: &Receiver<Letter>,
+    inbox: &Receiver<MailboxItem>,
     gate: &G,
 ) {
     let mut restarts: u64 = 0;
@@ -36,7 +36,9 @@ pub fn serve<R: Wait + Clock, N: Stepper + Drop, G: Gate>(
         let Some(input) = next_input(rt, inbox) else {
             break;
         };
-        if hall.asked.restarts(node) != restarts && slot.lock(rt).act(rt, Input::Restart, gate) {
+        if shared.controls.restarts(node) != restarts
+            && slot.lock(rt).act(rt, Input::Restart, gate)
+        {
             restarts = restarts.wrapping_add(1);
         }
         slot.lock(rt).act(rt, input, gate);
@@ -44,51 +46,51 @@ pub fn serve<R: Wait + Clock, N: Stepper + Drop, G: Gate>(
 }
 
 /// Puts ticks into the mailboxes, and while the cell closes the word to stop, of which one may be lost.
-pub fn tick<R: Wait + Clock>(rt: &R, hall: &Hall, servers: u16) {
+pub fn tick<R: Wait + Clock>(rt: &R, shared: &SharedState, servers: u16) {
     for _ in rt.forever() {
         thread::sleep(rt, Duration::from_millis(TICK_MS));
-        match hall.closing.load(Ordering::SeqCst) {
-            0 => tick_all(rt, hall, servers),
-            CLOSING => stop_all(rt, hall, servers),
+        match shared.closing.load(Ordering::SeqCst) {
+            0 => tick_all(rt, shared, servers),
+            CLOSING => stop_all(rt, shared, servers),
             _ => break,
         }
     }
 }
 
 // A client gets ticks while it is in a call.
-fn tick_all<R: Wait>(rt: &R, hall: &Hall, servers: u16) {
-    let tick = Letter::Take(Input::Tick);
-    put_to_nodes(rt, hall, servers, tick);
-    let calling = hall.calling.load(Ordering::SeqCst);
+fn tick_all<R: Wait>(rt: &R, shared: &SharedState, servers: u16) {
+    let tick = MailboxItem::Take(Input::Tick);
+    put_to_nodes(rt, shared, servers, tick);
+    let calling = shared.calling.load(Ordering::SeqCst);
     for before in 0..MOST_CLIENTS {
         if (calling >> before) & 1 == 1 {
             let client = Node::Client(ClientId(before + 1));
-            hall.post.put(rt, client, tick);
+            shared.senders.put(rt, client, tick);
         }
     }
 }
 
 /// Tells the nodes and the clients to stop.
-pub fn stop_all<R: Wait>(rt: &R, hall: &Hall, servers: u16) {
-    put_to_nodes(rt, hall, servers, Letter::Stop);
+pub fn stop_all<R: Wait>(rt: &R, shared: &SharedState, servers: u16) {
+    put_to_nodes(rt, shared, servers, MailboxItem::Stop);
     for before in 0..MOST_CLIENTS {
         let client = Node::Client(ClientId(before + 1));
-        hall.post.put(rt, client, Letter::Stop);
+        shared.senders.put(rt, client, MailboxItem::Stop);
     }
 }
 
-fn put_to_nodes<R: Wait>(rt: &R, hall: &Hall, servers: u16, letter: Letter) {
-    hall.post.put(rt, Node::Master, letter);
+fn put_to_nodes<R: Wait>(rt: &R, shared: &SharedState, servers: u16, item: MailboxItem) {
+    shared.senders.put(rt, Node::Master, item);
     for before in 0..servers {
         let server = Node::Server(ServerId(before + 1));
-        hall.post.put(rt, server, letter);
+        shared.senders.put(rt, server, item);
     }
 }
 
 /// Waits until no client is in a call.
-pub fn wait_for_clients<R: Wait + Clock>(rt: &R, hall: &Hall) {
+pub fn wait_for_clients<R: Wait + Clock>(rt: &R, shared: &SharedState) {
     for _ in rt.forever() {
-        if hall.calling.load(Ordering::SeqCst) == 0 {
+        if shared.calling.load(Ordering::SeqCst) == 0 {
             break;
         }
         thread::sleep(rt, Duration::from_millis(1));

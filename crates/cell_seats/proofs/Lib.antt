@@ -1,6 +1,6 @@
-pub mod AskedDesk
+pub mod WrittenControls
 pub mod Moving
 pub mod Shown
 pub mod Sitting
-pub mod Dealt
+pub mod RegisteredNodes
 pub mod Starting

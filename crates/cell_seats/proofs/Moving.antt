@@ -10,7 +10,7 @@ use Rattle.messages.specs.declared.event.StepOut.{StepOut}
 use Rattle.protocol.specs.Choice.{Choice}
 use Rattle.protocol.specs.Tables.{moment_limit}
 use Rattle.protocol.specs.World.{new_world}
-use Rattle.protocol_journal.specs.Journal.{Taking, Entry, NodeState, node_in, node_step, may_take, sent_after, RunsTo, LeadsTo, IsForNode}
+use Rattle.protocol_journal.specs.Journal.{StepCause, Entry, NodeState, node_in, node_step, may_take, sent_after, RunsTo, LeadsTo, IsForNode}
 use Rattle.cell_journal.specs.Log.{Listed}
 use Rattle.cell_journal.proofs.Begins.{prefix_self, prefix_trans}
 use Rattle.cell_journal.specs.Clocks.{are_clocks_kept}
@@ -18,25 +18,25 @@ use Rattle.cell_journal.specs.Identity.{Filled, Identity}
 use Rattle.cell_journal.specs.Entries.{entry}
 use Rattle.cell_journal.specs.declared.view.View.{View}
 use Rattle.cell_journal.specs.Rules.{IsStepOf}
-use Rattle.cell_journal.specs.Places.{IsPlaceOf, IsLater, IsRead, GoesOn, IsSeen}
+use Rattle.cell_journal.specs.Writers.{IsNodeWriter, IsLater, IsRead, GoesOn, IsSeen}
 use Rattle.gfs_types.specs.declared.refusal.Refusal.{Refusal}
-use Rattle.cell_seats.specs.declared.slot.Taken.{Taken}
-use Rattle.cell_seats.specs.declared.post.Input.{Input}
-use Rattle.cell_seats.specs.declared.post.Input.TheVariants.{Deliver, Tick, Restart}
+use Rattle.cell_seats.specs.declared.slot.StepResult.{StepResult}
+use Rattle.cell_seats.specs.declared.mailboxes.Input.{Input}
+use Rattle.cell_seats.specs.declared.mailboxes.Input.TheVariants.{Deliver, Tick, Restart}
 use Rattle.cell_seats.specs.Slots.{StepsSo, IsLedTo, IsTakenOn, IsInputOf, number_in, told_where, StepTaken, ActsOn, Acts}
 
-runs_more : (s t : NodeState) (es : List Entry) (e : Entry) (choice : Choice) → RunsTo s es t → IsTrue (may_take t e.taking) → (node_step t e.moment e.taking choice).out ≡ e.out
-    → RunsTo s (es ++ e ∷ []) (node_step t e.moment e.taking choice).state
+runs_more : (s t : NodeState) (es : List Entry) (e : Entry) (choice : Choice) → RunsTo s es t → IsTrue (may_take t e.cause) → (node_step t e.moment e.cause choice).out ≡ e.out
+    → RunsTo s (es ++ e ∷ []) (node_step t e.moment e.cause choice).state
 runs_more s t [] e choice h may out =
-    subst (λ (x : NodeState). RunsTo x (e ∷ []) (node_step t e.moment e.taking choice).state) (sym h) (choice, may, out, refl)
-runs_more s t (x ∷ es) e choice h may out = (h.0, h.1, h.2, runs_more (node_step s x.moment x.taking h.0).state t es e choice h.3 may out)
+    subst (λ (x : NodeState). RunsTo x (e ∷ []) (node_step t e.moment e.cause choice).state) (sym h) (choice, may, out, refl)
+runs_more s t (x ∷ es) e choice h may out = (h.0, h.1, h.2, runs_more (node_step s x.moment x.cause h.0).state t es e choice h.3 may out)
 
-leads_more : (o : Option NodeState) (t : NodeState) (es : List Entry) (e : Entry) (choice : Choice) → LeadsTo o es (Some t) → IsTrue (may_take t e.taking) → (node_step t e.moment e.taking choice).out ≡ e.out
-    → LeadsTo o (es ++ e ∷ []) (Some (node_step t e.moment e.taking choice).state)
+leads_more : (o : Option NodeState) (t : NodeState) (es : List Entry) (e : Entry) (choice : Choice) → LeadsTo o es (Some t) → IsTrue (may_take t e.cause) → (node_step t e.moment e.cause choice).out ≡ e.out
+    → LeadsTo o (es ++ e ∷ []) (Some (node_step t e.moment e.cause choice).state)
 leads_more None t es e choice h may out = absurd (let some_is_none : Some t ≡ None = h.1 in cc)
 leads_more (Some s) t es e choice h may out =
     let same : t ≡ h.0 = (let is : Some t ≡ Some h.0 = h.1 in cc) in
-    ((node_step t e.moment e.taking choice).state, refl, runs_more s t es e choice (subst (λ (x : NodeState). RunsTo s es x) (sym same) h.2) may out)
+    ((node_step t e.moment e.cause choice).state, refl, runs_more s t es e choice (subst (λ (x : NodeState). RunsTo s es x) (sym same) h.2) may out)
 
 module _ (v w : View) (n : Node) where
   pub led_later : (Stands : NodeState → Type 0) → IsLater v w → IsLedTo v n Stands → IsLedTo w n Stands
@@ -48,20 +48,20 @@ module _ (v w : View) (n : Node) where
   }
 
   -- it stands for the state to which its step led
-  pub led_on : (Stands After : NodeState → Type 0) (moment : ℕ) (taking : Taking) (out : StepOut) → (led : IsLedTo v n Stands) → IsTrue (may_take led.state taking) → StepsSo led.state moment taking out After
-      → GoesOn v w (entry n moment taking out) → IsLedTo w n After
-  led_on Stands After moment taking out led may steps goes = record {
-    state = (node_step led.state moment taking steps.choice).state;
-    leads = subst (λ (es : List Entry). LeadsTo (node_in (new_world w.of.config w.of.servers w.of.clients) n) es (Some (node_step led.state moment taking steps.choice).state)) (sym goes.mine)
-        (subst (λ (c : Identity). LeadsTo (node_in (new_world c.config c.servers c.clients) n) (v.mine ++ entry n moment taking out ∷ []) (Some (node_step led.state moment taking steps.choice).state)) (sym goes.of)
-        (leads_more (node_in (new_world v.of.config v.of.servers v.of.clients) n) led.state v.mine (entry n moment taking out) steps.choice led.leads may steps.gives));
+  pub led_on : (Stands After : NodeState → Type 0) (moment : ℕ) (cause : StepCause) (out : StepOut) → (led : IsLedTo v n Stands) → IsTrue (may_take led.state cause) → StepsSo led.state moment cause out After
+      → GoesOn v w (entry n moment cause out) → IsLedTo w n After
+  led_on Stands After moment cause out led may steps goes = record {
+    state = (node_step led.state moment cause steps.choice).state;
+    leads = subst (λ (es : List Entry). LeadsTo (node_in (new_world w.of.config w.of.servers w.of.clients) n) es (Some (node_step led.state moment cause steps.choice).state)) (sym goes.mine)
+        (subst (λ (c : Identity). LeadsTo (node_in (new_world c.config c.servers c.clients) n) (v.mine ++ entry n moment cause out ∷ []) (Some (node_step led.state moment cause steps.choice).state)) (sym goes.of)
+        (leads_more (node_in (new_world v.of.config v.of.servers v.of.clients) n) led.state v.mine (entry n moment cause out) steps.choice led.leads may steps.gives));
     stands = steps.stands;
   }
 
-pub step_of : (v : View) (c : List (ℕ × Option Filled)) (n : Node) (Stands After : NodeState → Type 0) (moment : ℕ) (taking : Taking) (out : StepOut) → IsPlaceOf n (v, c) → (led : IsLedTo v n Stands) → IsTrue (may_take led.state taking)
-    → StepsSo led.state moment taking out After → moment ≤ moment_limit → IsForNode (sent_after [] v.seen) n taking → IsStepOf v (entry n moment taking out)
-step_of v c n Stands After moment taking out place led may steps within reads = record {
-  role = place.role;
+pub step_of : (v : View) (c : List (ℕ × Option Filled)) (n : Node) (Stands After : NodeState → Type 0) (moment : ℕ) (cause : StepCause) (out : StepOut) → IsNodeWriter n (v, c) → (led : IsLedTo v n Stands) → IsTrue (may_take led.state cause)
+    → StepsSo led.state moment cause out After → moment ≤ moment_limit → IsForNode (sent_after [] v.seen) n cause → IsStepOf v (entry n moment cause out)
+step_of v c n Stands After moment cause out writer led may steps within reads = record {
+  role = writer.role;
   state = led.state;
   choice = steps.choice;
   leads = led.leads;
@@ -88,33 +88,33 @@ clocks_told true copy = on_ok copy refl
 clocks_told false copy = tt
 
 -- a step that stands in the journal, with what its caller is told of its answer
-pub step_taken : (n : Node) (v w : View) (moment : ℕ) (taking : Taking) (out : StepOut) (copy told : Result (Option Answer) Refusal) (beginning : Listed Entry) (count : ℕ) (kept : Bool)
-    → GoesOn v w (entry n moment taking out) × IsSeen w beginning count → kept ≡ are_clocks_kept w.of w.seen → IfOk copy (λ a. a ≡ out.answer) → told ≡ told_where kept copy
-    → StepTaken n v w taking told beginning count
-step_taken n v w moment taking out copy told beginning count kept (goes, seen) clocks copied is = record {
-  entry = entry n moment taking out;
+pub step_taken : (n : Node) (v w : View) (moment : ℕ) (cause : StepCause) (out : StepOut) (copy told : Result (Option Answer) Refusal) (beginning : Listed Entry) (count : ℕ) (kept : Bool)
+    → GoesOn v w (entry n moment cause out) × IsSeen w beginning count → kept ≡ are_clocks_kept w.of w.seen → IfOk copy (λ a. a ≡ out.answer) → told ≡ told_where kept copy
+    → StepTaken n v w cause told beginning count
+step_taken n v w moment cause out copy told beginning count kept (goes, seen) clocks copied is = record {
+  entry = entry n moment cause out;
   node_is = refl;
   goes = goes;
-  taking_is = refl;
+  cause_is = refl;
   answer_is = subst (λ (r : Result (Option Answer) Refusal). IfOk r (λ a. a ≡ out.answer)) (sym is) (answer_told kept copy out.answer copied);
   clocks = subst (λ (r : Result (Option Answer) Refusal). OnOk r (IsTrue (are_clocks_kept w.of w.seen))) (sym is)
       (subst (λ (b : Bool). OnOk (told_where kept copy) (IsTrue b)) clocks (clocks_told kept copy));
   seen = seen;
 }
 
-pub for_node : (i : Input) (message : Option Message) (taking : Taking) (sent : List Message) (n : Node) → IsTakenOn i message taking → IsRead sent n (number_in i) message → IsForNode sent n taking
-for_node Restart message taking sent n is read = subst (IsForNode sent n) (sym is) tt
-for_node (Deliver number) (Some m) taking sent n is read = subst (IsForNode sent n) (sym is) (number, read.0, read.1)
-for_node (Deliver number) None taking sent n is read = absurd read
-for_node Tick (Some m) taking sent n is read = absurd read
-for_node Tick None taking sent n is read = subst (IsForNode sent n) (sym is) tt
+pub for_node : (i : Input) (message : Option Message) (cause : StepCause) (sent : List Message) (n : Node) → IsTakenOn i message cause → IsRead sent n (number_in i) message → IsForNode sent n cause
+for_node Restart message cause sent n is read = subst (IsForNode sent n) (sym is) tt
+for_node (Deliver number) (Some m) cause sent n is read = subst (IsForNode sent n) (sym is) (number, read.0, read.1)
+for_node (Deliver number) None cause sent n is read = absurd read
+for_node Tick (Some m) cause sent n is read = absurd read
+for_node Tick None cause sent n is read = subst (IsForNode sent n) (sym is) tt
 
-pub input_of_it : (i : Input) (message : Option Message) (taking : Taking) (sent : List Message) (n : Node) → IsTakenOn i message taking → IsRead sent n (number_in i) message → IsInputOf sent i taking
-input_of_it Restart message taking sent n is read = subst (IsInputOf sent Restart) (sym is) tt
-input_of_it (Deliver number) (Some m) taking sent n is read = subst (IsInputOf sent (Deliver number)) (sym is) read.0
-input_of_it (Deliver number) None taking sent n is read = absurd read
-input_of_it Tick (Some m) taking sent n is read = absurd read
-input_of_it Tick None taking sent n is read = subst (IsInputOf sent Tick) (sym is) tt
+pub input_of_it : (i : Input) (message : Option Message) (cause : StepCause) (sent : List Message) (n : Node) → IsTakenOn i message cause → IsRead sent n (number_in i) message → IsInputOf sent i cause
+input_of_it Restart message cause sent n is read = subst (IsInputOf sent Restart) (sym is) tt
+input_of_it (Deliver number) (Some m) cause sent n is read = subst (IsInputOf sent (Deliver number)) (sym is) read.0
+input_of_it (Deliver number) None cause sent n is read = absurd read
+input_of_it Tick (Some m) cause sent n is read = absurd read
+input_of_it Tick None cause sent n is read = subst (IsInputOf sent Tick) (sym is) tt
 
 pub later_trans : (u v w : View) → IsLater u v → IsLater v w → IsLater u w
 later_trans u v w a b = record { of = b.of ∙ a.of; role = b.role ∙ a.role; mine = b.mine ∙ a.mine; grows = prefix_trans u.seen v.seen w.seen a.grows b.grows }
@@ -131,25 +131,25 @@ goes_later u v w e a b = record {
   lawful = b.lawful;
 }
 
-pub taken_later : (n : Node) (u v w : View) (taking : Taking) (answer : Result (Option Answer) Refusal) (beginning : Listed Entry) (count : ℕ) → IsLater u v → StepTaken n v w taking answer beginning count → StepTaken n u w taking answer beginning count
-taken_later n u v w taking answer beginning count a t = record {
+pub taken_later : (n : Node) (u v w : View) (cause : StepCause) (answer : Result (Option Answer) Refusal) (beginning : Listed Entry) (count : ℕ) → IsLater u v → StepTaken n v w cause answer beginning count → StepTaken n u w cause answer beginning count
+taken_later n u v w cause answer beginning count a t = record {
   entry = t.entry;
   node_is = t.node_is;
   goes = goes_later u v w t.entry a t.goes;
-  taking_is = t.taking_is;
+  cause_is = t.cause_is;
   answer_is = t.answer_is;
   clocks = t.clocks;
   seen = t.seen;
 }
 
-pub acts_on : (u v w : View) (i : Input) (message : Option Message) (taking : Taking) (n : Node) (answer : Result (Option Answer) Refusal) (beginning : Listed Entry) (count : ℕ) → IsLater u v
-    → IsTakenOn i message taking → IsRead (sent_after [] v.seen) n (number_in i) message → StepTaken n v w taking answer beginning count → ActsOn n u w i answer beginning count
-acts_on u v w i message taking n answer beginning count a is read t = record {
-  taking = taking;
+pub acts_on : (u v w : View) (i : Input) (message : Option Message) (cause : StepCause) (n : Node) (answer : Result (Option Answer) Refusal) (beginning : Listed Entry) (count : ℕ) → IsLater u v
+    → IsTakenOn i message cause → IsRead (sent_after [] v.seen) n (number_in i) message → StepTaken n v w cause answer beginning count → ActsOn n u w i answer beginning count
+acts_on u v w i message cause n answer beginning count a is read t = record {
+  cause = cause;
   read = v.seen;
   before = t.goes.grows;
-  names = input_of_it i message taking (sent_after [] v.seen) n is read;
-  taken = taken_later n u v w taking answer beginning count a t;
+  names = input_of_it i message cause (sent_after [] v.seen) n is read;
+  taken = taken_later n u v w cause answer beginning count a t;
 }
 
 pub acts : (n : Node) (u w : View) (i : Input) (answer : Result (Option Answer) Refusal) (beginning : Listed Entry) (count : ℕ) → ActsOn n u w i answer beginning count → Acts n u w i
@@ -158,7 +158,7 @@ acts n u w i answer beginning count t = record {
   node_is = t.taken.node_is;
   read = t.read;
   before = t.before;
-  names = subst (IsInputOf (sent_after [] t.read) i) (sym t.taken.taking_is) t.names;
+  names = subst (IsInputOf (sent_after [] t.read) i) (sym t.taken.cause_is) t.names;
   goes = t.taken.goes;
 }
 
@@ -169,19 +169,19 @@ led_still (Some x) stands v w n m is later h = subst (λ (k : Node). IsLedTo w k
 pub later_same : (a b : Me (Option Filled) View) → b ≡ a → IsLater a.0 b.0
 later_same a b is = subst (λ (x : Me (Option Filled) View). IsLater a.0 x.0) (sym is) (record { of = refl; role = refl; mine = refl; grows = prefix_self a.0.seen })
 
-pub taken_all : (r : Result Taken Refusal) (n m : Node) (u v w : View) (taking : Taking) → m ≡ n → IsLater u v → IfOk r (λ t. StepTaken m v w taking t.answer t.beginning t.count)
-    → IfOk r (λ t. StepTaken n u w taking t.answer t.beginning t.count)
-taken_all (Ok t) n m u v w taking is later h =
-    subst (λ (k : Node). StepTaken k u w taking t.answer t.beginning t.count) is (taken_later m u v w taking t.answer t.beginning t.count later h)
-taken_all (Err e) n m u v w taking is later h = tt
+pub taken_all : (r : Result StepResult Refusal) (n m : Node) (u v w : View) (cause : StepCause) → m ≡ n → IsLater u v → IfOk r (λ t. StepTaken m v w cause t.answer t.beginning t.count)
+    → IfOk r (λ t. StepTaken n u w cause t.answer t.beginning t.count)
+taken_all (Ok t) n m u v w cause is later h =
+    subst (λ (k : Node). StepTaken k u w cause t.answer t.beginning t.count) is (taken_later m u v w cause t.answer t.beginning t.count later h)
+taken_all (Err e) n m u v w cause is later h = tt
 
-pub err_all : (r : Result Taken Refusal) (u v w : View) → IsLater u v → OnErr r (IsLater v w) → OnErr r (IsLater u w)
+pub err_all : (r : Result StepResult Refusal) (u v w : View) → IsLater u v → OnErr r (IsLater v w) → OnErr r (IsLater u w)
 err_all (Ok t) u v w later h = tt
 err_all (Err e) u v w later h = later_trans u v w later h
 
-pub acts_all : (r : Result Taken Refusal) (n m : Node) (u v w : View) (i : Input) (number : Option ℕ) (message : Option Message) (taking : Taking) → m ≡ n → IsLater u v → IsTakenOn i message taking
-    → number ≡ number_in i → IsRead (sent_after [] v.seen) m number message → IfOk r (λ t. StepTaken m v w taking t.answer t.beginning t.count) → IfOk r (λ t. ActsOn n u w i t.answer t.beginning t.count)
-acts_all (Ok t) n m u v w i number message taking is later on numbered read h =
+pub acts_all : (r : Result StepResult Refusal) (n m : Node) (u v w : View) (i : Input) (number : Option ℕ) (message : Option Message) (cause : StepCause) → m ≡ n → IsLater u v → IsTakenOn i message cause
+    → number ≡ number_in i → IsRead (sent_after [] v.seen) m number message → IfOk r (λ t. StepTaken m v w cause t.answer t.beginning t.count) → IfOk r (λ t. ActsOn n u w i t.answer t.beginning t.count)
+acts_all (Ok t) n m u v w i number message cause is later on numbered read h =
     subst (λ (k : Node). ActsOn k u w i t.answer t.beginning t.count) is
-    (acts_on u v w i message taking m t.answer t.beginning t.count later on (subst (λ (k : Option ℕ). IsRead (sent_after [] v.seen) m k message) numbered read) h)
-acts_all (Err e) n m u v w i number message taking is later on numbered read h = tt
+    (acts_on u v w i message cause m t.answer t.beginning t.count later on (subst (λ (k : Option ℕ). IsRead (sent_after [] v.seen) m k message) numbered read) h)
+acts_all (Err e) n m u v w i number message cause is later on numbered read h = tt

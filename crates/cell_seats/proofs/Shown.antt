@@ -7,27 +7,27 @@ use Rattle.gfs_types.specs.declared.call.Call.{Call}
 use Rattle.gfs_types.specs.declared.ids.Node.{Node}
 use Rattle.gfs_types.specs.declared.refusal.Refusal.{Refusal}
 use Rattle.messages.specs.declared.message.Message.{Message}
-use Rattle.protocol_journal.specs.Journal.{Taking, Calls, Takes, Restarts, Entry, own}
+use Rattle.protocol_journal.specs.Journal.{StepCause, Calls, Takes, Restarts, Entry, own}
 use Rattle.cell_journal.specs.Log.{Listed}
 use Rattle.cell_journal.proofs.Begins.{prefix_self, prefix_trans}
 use Rattle.cell_journal.specs.Clocks.{are_clocks_kept}
 use Rattle.cell_journal.specs.declared.view.View.{View}
-use Rattle.cell_journal.specs.Places.{IsLater, GoesOn}
-use Rattle.cell_seats.specs.declared.post.Input.{Input}
-use Rattle.cell_seats.specs.declared.post.Input.TheVariants.{Deliver, Tick, Restart}
+use Rattle.cell_journal.specs.Writers.{IsLater, GoesOn}
+use Rattle.cell_seats.specs.declared.mailboxes.Input.{Input}
+use Rattle.cell_seats.specs.declared.mailboxes.Input.TheVariants.{Deliver, Tick, Restart}
 use Rattle.cell_seats.specs.Slots.{IsInputOf, StepTaken, ActsOn}
-use Rattle.cell_seats.specs.declared.asking.Heard.{Heard}
-use Rattle.cell_seats.specs.Seen.{Visible, Asked, Answered, asked_in, answered_in, visible_of, IsFurther, HasSeen, IsHeard, Hears}
+use Rattle.cell_seats.specs.declared.client_call.AnsweredCall.{AnsweredCall}
+use Rattle.cell_seats.specs.Seen.{Visible, Asked, Answered, asked_in, answered_in, visible_of, IsFurther, HasSeen, IsAnsweredCall, ShowsAnswer}
 
 visible_append : (xs ys : List Entry) → visible_of (xs ++ ys) ≡ visible_of xs ++ visible_of ys
 visible_append [] ys = refl
 visible_append (x ∷ xs) ys =
-    ap (λ l. asked_in x.taking ++ answered_in x.out.answer ++ l) (visible_append xs ys) ∙ sym (append_assoc (asked_in x.taking ++ answered_in x.out.answer) (visible_of xs) (visible_of ys))
+    ap (λ l. asked_in x.cause ++ answered_in x.out.answer ++ l) (visible_append xs ys) ∙ sym (append_assoc (asked_in x.cause ++ answered_in x.out.answer) (visible_of xs) (visible_of ys))
 
 -- what is seen of one step more
-visible_more : (v w : View) (e : Entry) → GoesOn v w e → visible_of w.mine ≡ visible_of v.mine ++ (asked_in e.taking ++ answered_in e.out.answer)
+visible_more : (v w : View) (e : Entry) → GoesOn v w e → visible_of w.mine ≡ visible_of v.mine ++ (asked_in e.cause ++ answered_in e.out.answer)
 visible_more v w e goes =
-    ap visible_of goes.mine ∙ (visible_append v.mine (e ∷ []) ∙ ap (λ l. visible_of v.mine ++ l) (append-nil (asked_in e.taking ++ answered_in e.out.answer)))
+    ap visible_of goes.mine ∙ (visible_append v.mine (e ∷ []) ∙ ap (λ l. visible_of v.mine ++ l) (append-nil (asked_in e.cause ++ answered_in e.out.answer)))
 
 pub further : (v w : View) → IsLater v w → IsFurther v w
 further v w later = record { of = later.of; grows = later.grows }
@@ -38,11 +38,11 @@ further_self v = record { of = refl; grows = prefix_self v.seen }
 pub further_trans : (u v w : View) → IsFurther u v → IsFurther v w → IsFurther u w
 further_trans u v w a b = record { of = b.of ∙ a.of; grows = prefix_trans u.seen v.seen w.seen a.grows b.grows }
 
-module _ (n : Node) (v w : View) (taking : Taking) (answer : Result (Option Answer) Refusal) (beginning : Listed Entry) (count : ℕ) (t : StepTaken n v w taking answer beginning count) where
+module _ (n : Node) (v w : View) (cause : StepCause) (answer : Result (Option Answer) Refusal) (beginning : Listed Entry) (count : ℕ) (t : StepTaken n v w cause answer beginning count) where
   pub further_taken : IsFurther v w
   further_taken = record { of = t.goes.of; grows = t.goes.grows }
 
-  has_seen : (h : Heard) → answer ≡ Ok (Some h.answer) → h.beginning ≡ beginning → h.count ≡ count → HasSeen n w h.beginning h.count
+  has_seen : (h : AnsweredCall) → answer ≡ Ok (Some h.answer) → h.beginning ≡ beginning → h.count ≡ count → HasSeen n w h.beginning h.count
   has_seen h is b k = record {
     seen = (b ∙ t.seen.0, k ∙ t.seen.1);
     lawful = t.goes.lawful;
@@ -53,20 +53,20 @@ module _ (n : Node) (v w : View) (taking : Taking) (answer : Result (Option Answ
   answer_of : (o : Option Answer) → answer ≡ Ok o → t.entry.out.answer ≡ o
   answer_of o is = sym (subst (λ (r : Result (Option Answer) Refusal). IfOk r (λ a. a ≡ t.entry.out.answer)) is t.answer_is)
 
-  seen_so : visible_of w.mine ≡ visible_of v.mine ++ (asked_in taking ++ answered_in t.entry.out.answer)
-  seen_so = visible_more v w t.entry t.goes ∙ ap (λ (x : Taking). visible_of v.mine ++ (asked_in x ++ answered_in t.entry.out.answer)) t.taking_is
+  seen_so : visible_of w.mine ≡ visible_of v.mine ++ (asked_in cause ++ answered_in t.entry.out.answer)
+  seen_so = visible_more v w t.entry t.goes ∙ ap (λ (x : StepCause). visible_of v.mine ++ (asked_in x ++ answered_in t.entry.out.answer)) t.cause_is
 
-  -- what is heard of a step on which nothing but these was asked
-  pub hears : (h : Option Heard) → IsHeard answer beginning count h → Hears n (visible_of v.mine ++ asked_in taking) w h
-  hears None is = seen_so ∙ (ap (λ (o : Option Answer). visible_of v.mine ++ (asked_in taking ++ answered_in o)) (answer_of None is) ∙ ap (λ l. visible_of v.mine ++ l) (append-nil (asked_in taking)))
+  -- what a step shows on which nothing but these was asked
+  pub hears : (h : Option AnsweredCall) → IsAnsweredCall answer beginning count h → ShowsAnswer n (visible_of v.mine ++ asked_in cause) w h
+  hears None is = seen_so ∙ (ap (λ (o : Option Answer). visible_of v.mine ++ (asked_in cause ++ answered_in o)) (answer_of None is) ∙ ap (λ l. visible_of v.mine ++ l) (append-nil (asked_in cause)))
   hears (Some h) is = (
     seen_so
-        ∙ (ap (λ (o : Option Answer). visible_of v.mine ++ (asked_in taking ++ answered_in o)) (answer_of (Some h.answer) is.0)
-        ∙ sym (append_assoc (visible_of v.mine) (asked_in taking) (Answered h.answer ∷ []))),
+        ∙ (ap (λ (o : Option Answer). visible_of v.mine ++ (asked_in cause ++ answered_in o)) (answer_of (Some h.answer) is.0)
+        ∙ sym (append_assoc (visible_of v.mine) (asked_in cause) (Answered h.answer ∷ []))),
     has_seen h is.0 is.1 is.2,
   )
 
-none_asked : (sent : List Message) (i : Input) (taking : Taking) → IsInputOf sent i taking → asked_in taking ≡ []
+none_asked : (sent : List Message) (i : Input) (cause : StepCause) → IsInputOf sent i cause → asked_in cause ≡ []
 none_asked sent (Deliver k) (Takes given) is = refl
 none_asked sent (Deliver k) (Calls call) is = absurd is
 none_asked sent (Deliver k) Restarts is = absurd is
@@ -77,17 +77,17 @@ none_asked sent Restart (Takes given) is = absurd is
 none_asked sent Restart (Calls call) is = absurd is
 none_asked sent Restart Restarts is = refl
 
-pub hears_input : (n : Node) (v w : View) (i : Input) (answer : Result (Option Answer) Refusal) (beginning : Listed Entry) (count : ℕ) (h : Option Heard) → ActsOn n v w i answer beginning count
-    → IsHeard answer beginning count h → Hears n (visible_of v.mine) w h
+pub hears_input : (n : Node) (v w : View) (i : Input) (answer : Result (Option Answer) Refusal) (beginning : Listed Entry) (count : ℕ) (h : Option AnsweredCall) → ActsOn n v w i answer beginning count
+    → IsAnsweredCall answer beginning count h → ShowsAnswer n (visible_of v.mine) w h
 hears_input n v w i answer beginning count h acts is =
-    subst (λ (l : List Visible). Hears n l w h) (ap (λ l. visible_of v.mine ++ l) (none_asked _ i acts.taking acts.names) ∙ append-nil (visible_of v.mine))
-    (hears n v w acts.taking answer beginning count acts.taken h is)
+    subst (λ (l : List Visible). ShowsAnswer n l w h) (ap (λ l. visible_of v.mine ++ l) (none_asked _ i acts.cause acts.names) ∙ append-nil (visible_of v.mine))
+    (hears n v w acts.cause answer beginning count acts.taken h is)
 
 pub further_input : (n : Node) (v w : View) (i : Input) (answer : Result (Option Answer) Refusal) (beginning : Listed Entry) (count : ℕ) → ActsOn n v w i answer beginning count → IsFurther v w
-further_input n v w i answer beginning count acts = further_taken n v w acts.taking answer beginning count acts.taken
+further_input n v w i answer beginning count acts = further_taken n v w acts.cause answer beginning count acts.taken
 
 -- a lost message leaves what is seen of a client
-pub hears_nothing : (n : Node) (v w : View) → IsLater v w → Hears n (visible_of v.mine) w None
+pub hears_nothing : (n : Node) (v w : View) → IsLater v w → ShowsAnswer n (visible_of v.mine) w None
 hears_nothing n v w later = ap visible_of later.mine
 
 pub asked_answered : (before : List Visible) (call : Call) (reply : Answer) (all : List Visible) → all ≡ (before ++ Asked call ∷ []) ++ Answered reply ∷ [] → all ≡ before ++ Asked call ∷ Answered reply ∷ []
@@ -96,14 +96,14 @@ asked_answered before call reply all is = is ∙ append_assoc before (Asked call
 pub answered_later : (before : List Visible) (call : Call) (reply : Answer) (was all : List Visible) → was ≡ before ++ Asked call ∷ [] → all ≡ was ++ Answered reply ∷ [] → all ≡ before ++ Asked call ∷ Answered reply ∷ []
 answered_later before call reply was all is h = asked_answered before call reply all (h ∙ ap (λ l. l ++ Answered reply ∷ []) is)
 
-pub heard_call : (r : Result (Option Heard) Refusal) (n m : Node) (v w : View) (call : Call) (answer : Result (Option Answer) Refusal) (beginning : Listed Entry) (count : ℕ) → m ≡ n
-    → StepTaken n v w (Calls call) answer beginning count → IfOk r (λ h. IsHeard answer beginning count h) → IfOk r (λ h. Hears m (visible_of v.mine ++ Asked call ∷ []) w h)
-heard_call (Ok h) n m v w call answer beginning count is t heard =
-    subst (λ (k : Node). Hears k (visible_of v.mine ++ Asked call ∷ []) w h) (sym is) (hears n v w (Calls call) answer beginning count t h heard)
-heard_call (Err e) n m v w call answer beginning count is t heard = tt
+pub answer_to_call : (r : Result (Option AnsweredCall) Refusal) (n m : Node) (v w : View) (call : Call) (answer : Result (Option Answer) Refusal) (beginning : Listed Entry) (count : ℕ) → m ≡ n
+    → StepTaken n v w (Calls call) answer beginning count → IfOk r (λ h. IsAnsweredCall answer beginning count h) → IfOk r (λ h. ShowsAnswer m (visible_of v.mine ++ Asked call ∷ []) w h)
+answer_to_call (Ok h) n m v w call answer beginning count is t heard =
+    subst (λ (k : Node). ShowsAnswer k (visible_of v.mine ++ Asked call ∷ []) w h) (sym is) (hears n v w (Calls call) answer beginning count t h heard)
+answer_to_call (Err e) n m v w call answer beginning count is t heard = tt
 
-pub heard_input : (r : Result (Option Heard) Refusal) (n m : Node) (v w : View) (i : Input) (answer : Result (Option Answer) Refusal) (beginning : Listed Entry) (count : ℕ) → m ≡ n
-    → ActsOn n v w i answer beginning count → IfOk r (λ h. IsHeard answer beginning count h) → IfOk r (λ h. Hears m (visible_of v.mine) w h)
-heard_input (Ok h) n m v w i answer beginning count is acts heard =
-    subst (λ (k : Node). Hears k (visible_of v.mine) w h) (sym is) (hears_input n v w i answer beginning count h acts heard)
-heard_input (Err e) n m v w i answer beginning count is acts heard = tt
+pub answer_to_input : (r : Result (Option AnsweredCall) Refusal) (n m : Node) (v w : View) (i : Input) (answer : Result (Option Answer) Refusal) (beginning : Listed Entry) (count : ℕ) → m ≡ n
+    → ActsOn n v w i answer beginning count → IfOk r (λ h. IsAnsweredCall answer beginning count h) → IfOk r (λ h. ShowsAnswer m (visible_of v.mine) w h)
+answer_to_input (Ok h) n m v w i answer beginning count is acts heard =
+    subst (λ (k : Node). ShowsAnswer k (visible_of v.mine) w h) (sym is) (hears_input n v w i answer beginning count h acts heard)
+answer_to_input (Err e) n m v w i answer beginning count is acts heard = tt

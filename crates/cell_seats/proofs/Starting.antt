@@ -1,4 +1,4 @@
--- A new node at its place.
+-- A new node with its writer.
 use Rattle.std.proofs.Common.{◌≡◌, ℕ, zero, suc, ◌+◌, ◌-◌, ◌≤◌, ◌<◌, Bool, true, false, if◌then◌else◌, List, [], ◌∷◌, ◌++◌, length, Option, Some, None, refl, sym, ap, subst, ◌∙◌, arith, inl, inr}
 use Rattle.std.specs.Prelude.{◌⊎◌, map, nat_le}
 use Rattle.std.proofs.lemmas.Bool.Decides.{nat_tests}
@@ -13,7 +13,7 @@ use Rattle.protocol_journal.specs.Journal.{Entry, NodeState, node_in, LeadsTo}
 use Rattle.cell_journal.specs.Roles.{node_at}
 use Rattle.cell_journal.specs.declared.view.View.{View}
 use Rattle.cell_seats.specs.Slots.{IsLedTo}
-use Rattle.cell_seats.specs.Dealing.{IsDealt}
+use Rattle.cell_seats.specs.Registry.{IsRegistered}
 
 at_before : {X : Type 0} (xs ys : List X) (k : ℕ) (x : X) → element_at xs k ≡ Some x → element_at (xs ++ ys) k ≡ Some x
 at_before [] ys k x h = absurd (let none : None ≡ Some x = h in cc)
@@ -62,27 +62,27 @@ numbered_is f count zero some within = absurd (omega (arith, some))
 numbered_is f count (suc k) some within = element_is f count k (let e : k < count = omega (arith, within) in e)
 
 -- a node that took no step yet is in the state in which its cell began
-pub led_new : (config : Config) (servers : ℕ) (node n : Node) (v w : View) (Stands : NodeState → Type 0) (state : NodeState) → IsDealt config servers node v n w
+pub led_new : (config : Config) (servers : ℕ) (node n : Node) (v w : View) (Stands : NodeState → Type 0) (state : NodeState) → IsRegistered config servers node v n w
     → node_in (new_world config servers 64) node ≡ Some state → Stands state → IsLedTo w n Stands
-led_new config servers node n v w Stands state dealt begins stands = record {
+led_new config servers node n v w Stands state registered begins stands = record {
   state = state;
-  leads = subst (λ (es : List Entry). LeadsTo (node_in (new_world w.of.config w.of.servers w.of.clients) n) es (Some state)) (sym dealt.mine)
+  leads = subst (λ (es : List Entry). LeadsTo (node_in (new_world w.of.config w.of.servers w.of.clients) n) es (Some state)) (sym registered.mine)
       (subst (λ (o : Option NodeState). LeadsTo o [] (Some state)) (sym (world ∙ begins)) (state, refl, refl));
   stands = stands;
 }
   where
     world : node_in (new_world w.of.config w.of.servers w.of.clients) n ≡ node_in (new_world config servers 64) node
-    world = ap (λ (c : Config). node_in (new_world c w.of.servers w.of.clients) n) dealt.config_is
-        ∙ (ap (λ (k : ℕ). node_in (new_world config k w.of.clients) n) dealt.servers_are
-        ∙ (ap (λ (k : ℕ). node_in (new_world config servers k) n) dealt.clients_are
-        ∙ ap (λ (m : Node). node_in (new_world config servers 64) m) dealt.node_is))
+    world = ap (λ (c : Config). node_in (new_world c w.of.servers w.of.clients) n) registered.config_is
+        ∙ (ap (λ (k : ℕ). node_in (new_world config k w.of.clients) n) registered.servers_are
+        ∙ (ap (λ (k : ℕ). node_in (new_world config servers k) n) registered.clients_are
+        ∙ ap (λ (m : Node). node_in (new_world config servers 64) m) registered.node_is))
 
--- whose place is next
+-- which node is next
 
-pub master_at : (servers dealt : ℕ) → dealt ≡ 0 → node_at servers dealt ≡ node.Master
-master_at servers dealt is = ap (node_at servers) is
+pub master_at : (servers registered : ℕ) → registered ≡ 0 → node_at servers registered ≡ node.Master
+master_at servers registered is = ap (node_at servers) is
 
-pub server_at : (servers dealt : ℕ) (id : ServerId) → dealt ≡ id.0 → 0 < id.0 → id.0 ≤ servers → node_at servers dealt ≡ node.Server id
+pub server_at : (servers registered : ℕ) (id : ServerId) → registered ≡ id.0 → 0 < id.0 → id.0 ≤ servers → node_at servers registered ≡ node.Server id
 server_at servers zero id is some within = absurd (omega (arith, is, some))
 server_at servers (suc k) id is some within = by_test (nat_le (suc k) servers) refl
   where
@@ -92,7 +92,7 @@ server_at servers (suc k) id is some within = by_test (nat_le (suc k) servers) r
         let past : servers < suc k = grind (arith, nat_tests) in
         absurd (omega (arith, past, is, within))
 
-pub client_at : (servers dealt : ℕ) (id : ClientId) → dealt ≡ servers + id.0 → 0 < id.0 → node_at servers dealt ≡ node.Client id
+pub client_at : (servers registered : ℕ) (id : ClientId) → registered ≡ servers + id.0 → 0 < id.0 → node_at servers registered ≡ node.Client id
 client_at servers zero id is some = absurd (omega (arith, is, some))
 client_at servers (suc k) id is some = by_test (nat_le (suc k) servers) refl
   where

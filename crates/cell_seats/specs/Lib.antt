@@ -1,6 +1,6 @@
-pub mod Asked
+pub mod Controls
 pub mod Networks
 pub mod Slots
 pub mod Seen
 pub mod Seats
-pub mod Dealing
+pub mod Registry

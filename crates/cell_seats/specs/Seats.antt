@@ -40,7 +40,7 @@ is_the_cells JournalFull = true
 is_the_cells Closed = true
 is_the_cells other = false
 
--- A client's place, and what it keeps: the journal as it saw it last, its length, and, where it wasn't refused for good, all its own steps.
+-- A client's view, and what it keeps: the journal as it saw it last, its length, and, where it wasn't refused for good, all its own steps.
 pub record IsSeat (n : Node) (v : View) (seen : Listed Entry) (count : ℕ) (lost : Option Refusal) : Type 0 where
   pub name : seen.name ≡ v.of.name
   pub count_is : count ≡ length seen.items

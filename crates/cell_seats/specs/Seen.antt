@@ -5,20 +5,20 @@ use Rattle.gfs_types.specs.declared.answer.Answer.{Answer}
 use Rattle.gfs_types.specs.declared.call.Call.{Call}
 use Rattle.gfs_types.specs.declared.ids.Node.{Node}
 use Rattle.gfs_types.specs.declared.refusal.Refusal.{Refusal}
-use Rattle.protocol_journal.specs.Journal.{Taking, Calls, Entry, own}
+use Rattle.protocol_journal.specs.Journal.{StepCause, Calls, Entry, own}
 use Rattle.cell_journal.specs.Log.{Listed}
 use Rattle.cell_journal.specs.Clocks.{are_clocks_kept}
 use Rattle.cell_journal.specs.declared.view.View.{View}
 use Rattle.cell_journal.specs.Rules.{IsJournalOf}
-use Rattle.cell_journal.specs.Places.{IsSeen}
-use Rattle.cell_seats.specs.declared.asking.Heard.{Heard}
+use Rattle.cell_journal.specs.Writers.{IsSeen}
+use Rattle.cell_seats.specs.declared.client_call.AnsweredCall.{AnsweredCall}
 
 -- what is seen of a client from outside: its calls and their answers
 pub data Visible : Type 0 where
   Asked : (call : Call) → Visible
   Answered : (reply : Answer) → Visible
 
-abbrev pub asked_in : Taking → List Visible
+abbrev pub asked_in : StepCause → List Visible
 asked_in (Calls call) = Asked call ∷ []
 asked_in other = []
 
@@ -28,7 +28,7 @@ answered_in (Some reply) = Answered reply ∷ []
 
 abbrev pub visible_of : List Entry → List Visible
 visible_of [] = []
-visible_of (e ∷ rest) = asked_in e.taking ++ answered_in e.out.answer ++ visible_of rest
+visible_of (e ∷ rest) = asked_in e.cause ++ answered_in e.out.answer ++ visible_of rest
 
 -- no step of the client went back
 pub record IsFurther (v w : View) : Type 0 where
@@ -42,12 +42,12 @@ pub record HasSeen (n : Node) (w : View) (beginning : Listed Entry) (count : ℕ
   pub clocks : IsTrue (are_clocks_kept w.of w.seen)
   pub own_is : w.mine ≡ own n w.seen
 
--- a step's answer, if it has one, is heard with the journal as it was seen then
-abbrev pub IsHeard : Result (Option Answer) Refusal → Listed Entry → ℕ → Option Heard → Type 0
-IsHeard answer beginning count None = answer ≡ Ok None
-IsHeard answer beginning count (Some h) = (answer ≡ Ok (Some h.answer)) × (h.beginning ≡ beginning) × (h.count ≡ count)
+-- a step's answer, if it has one, is given with the journal as it was seen then
+abbrev pub IsAnsweredCall : Result (Option Answer) Refusal → Listed Entry → ℕ → Option AnsweredCall → Type 0
+IsAnsweredCall answer beginning count None = answer ≡ Ok None
+IsAnsweredCall answer beginning count (Some h) = (answer ≡ Ok (Some h.answer)) × (h.beginning ≡ beginning) × (h.count ≡ count)
 
 -- The client was answered, and has seen all the journal up to that; or nothing more is seen of it.
-abbrev pub Hears : Node → List Visible → View → Option Heard → Type 0
-Hears n before w None = visible_of w.mine ≡ before
-Hears n before w (Some h) = (visible_of w.mine ≡ before ++ Answered h.answer ∷ []) × HasSeen n w h.beginning h.count
+abbrev pub ShowsAnswer : Node → List Visible → View → Option AnsweredCall → Type 0
+ShowsAnswer n before w None = visible_of w.mine ≡ before
+ShowsAnswer n before w (Some h) = (visible_of w.mine ≡ before ++ Answered h.answer ∷ []) × HasSeen n w h.beginning h.count

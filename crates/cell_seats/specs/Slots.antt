@@ -7,32 +7,32 @@ use Rattle.gfs_types.specs.declared.refusal.Refusal.{Refusal}
 use Rattle.gfs_types.specs.declared.refusal.Refusal.TheVariants.{ClockBroken}
 use Rattle.messages.specs.declared.message.Message.{Message}
 use Rattle.messages.specs.declared.event.StepOut.{StepOut}
-use Rattle.messages.specs.declared.event.Input.TheVariants as input
+use Rattle.messages.specs.declared.event.NodeInput.TheVariants as input
 use Rattle.protocol.specs.Choice.{Choice}
 use Rattle.protocol.specs.World.{new_world, numbered_from_1}
-use Rattle.protocol_journal.specs.Journal.{Taking, Takes, Restarts, Entry, NodeState, node_in, node_step, sent_after, LeadsTo}
+use Rattle.protocol_journal.specs.Journal.{StepCause, Takes, Restarts, Entry, NodeState, node_in, node_step, sent_after, LeadsTo}
 use Rattle.cell_journal.specs.Log.{Listed}
 use Rattle.cell_journal.specs.Clocks.{are_clocks_kept}
 use Rattle.cell_journal.specs.declared.view.View.{View}
-use Rattle.cell_journal.specs.Places.{GoesOn, IsSeen}
-use Rattle.cell_seats.specs.declared.post.Input.{Input}
-use Rattle.cell_seats.specs.declared.post.Input.TheVariants.{Deliver, Tick, Restart}
+use Rattle.cell_journal.specs.Writers.{GoesOn, IsSeen}
+use Rattle.cell_seats.specs.declared.mailboxes.Input.{Input}
+use Rattle.cell_seats.specs.declared.mailboxes.Input.TheVariants.{Deliver, Tick, Restart}
 
--- a node, and what its place knows
+-- a node, and what its writer knows
 pub record SlotState : Type 0 where
   pub node : Node
-  pub place : View
+  pub view : View
 
 abbrev pub slot_state : Node → View → SlotState
-slot_state node place = record { node = node; place = place }
+slot_state node view = record { node = node; view = view }
 
 -- The step of a node gave this, for some choice; the code's node stands for the state to which it led.
-pub record StepsSo (s : NodeState) (moment : ℕ) (taking : Taking) (out : StepOut) (Stands : NodeState → Type 0) : Type 0 where
+pub record StepsSo (s : NodeState) (moment : ℕ) (cause : StepCause) (out : StepOut) (Stands : NodeState → Type 0) : Type 0 where
   pub choice : Choice
-  pub gives : (node_step s moment taking choice).out ≡ out
-  pub stands : Stands (node_step s moment taking choice).state
+  pub gives : (node_step s moment cause choice).out ≡ out
+  pub stands : Stands (node_step s moment cause choice).state
 
--- the node's own steps, as its place knows them, led to a state for which it stands
+-- the node's own steps, as its writer knows them, led to a state for which it stands
 pub record IsLedTo (v : View) (n : Node) (Stands : NodeState → Type 0) : Type 0 where
   pub state : NodeState
   pub leads : LeadsTo (node_in (new_world v.of.config v.of.servers v.of.clients) n) v.mine (Some state)
@@ -44,19 +44,19 @@ number_in Tick = None
 number_in Restart = None
 
 -- what a step is taken on, given its message
-abbrev pub IsTakenOn : Input → Option Message → Taking → Type 0
-IsTakenOn Restart message taking = taking ≡ Restarts
-IsTakenOn (Deliver number) (Some m) taking = taking ≡ Takes (input.Deliver m)
-IsTakenOn (Deliver number) None taking = taking ≡ Takes input.Tick
-IsTakenOn Tick (Some m) taking = taking ≡ Takes (input.Deliver m)
-IsTakenOn Tick None taking = taking ≡ Takes input.Tick
+abbrev pub IsTakenOn : Input → Option Message → StepCause → Type 0
+IsTakenOn Restart message cause = cause ≡ Restarts
+IsTakenOn (Deliver number) (Some m) cause = cause ≡ Takes (input.Deliver m)
+IsTakenOn (Deliver number) None cause = cause ≡ Takes input.Tick
+IsTakenOn Tick (Some m) cause = cause ≡ Takes (input.Deliver m)
+IsTakenOn Tick None cause = cause ≡ Takes input.Tick
 
 -- an input names what a step is taken on: a message by its number among those that were sent
-abbrev pub IsInputOf : List Message → Input → Taking → Type 0
+abbrev pub IsInputOf : List Message → Input → StepCause → Type 0
 IsInputOf sent (Deliver number) (Takes (input.Deliver m)) = numbered_from_1 sent number ≡ Some m
 IsInputOf sent Tick (Takes input.Tick) = Unit {0}
 IsInputOf sent Restart Restarts = Unit {0}
-IsInputOf sent other taking = ⊥
+IsInputOf sent other cause = ⊥
 
 -- a step's answer is told where clocks were kept
 abbrev pub told_where : Bool → Result (Option Answer) Refusal → Result (Option Answer) Refusal
@@ -64,22 +64,22 @@ told_where true answer = answer
 told_where false answer = Err ClockBroken
 
 -- The node took one step more, on this; it is the last of a lawful journal, which was seen whole. The answer, where it is told, is the step's, and clocks were kept up to it.
-pub record StepTaken (n : Node) (v w : View) (taking : Taking) (answer : Result (Option Answer) Refusal) (beginning : Listed Entry) (count : ℕ) : Type 0 where
+pub record StepTaken (n : Node) (v w : View) (cause : StepCause) (answer : Result (Option Answer) Refusal) (beginning : Listed Entry) (count : ℕ) : Type 0 where
   pub entry : Entry
   pub node_is : entry.node ≡ n
   pub goes : GoesOn v w entry
-  pub taking_is : entry.taking ≡ taking
+  pub cause_is : entry.cause ≡ cause
   pub answer_is : IfOk answer (λ a. a ≡ entry.out.answer)
   pub clocks : OnOk answer (IsTrue (are_clocks_kept w.of w.seen))
   pub seen : IsSeen w beginning count
 
 -- the same, on what an input names
 pub record ActsOn (n : Node) (v w : View) (i : Input) (answer : Result (Option Answer) Refusal) (beginning : Listed Entry) (count : ℕ) : Type 0 where
-  pub taking : Taking
+  pub cause : StepCause
   pub read : List Entry
   pub before : IsPrefix read w.seen
-  pub names : IsInputOf (sent_after [] read) i taking
-  pub taken : StepTaken n v w taking answer beginning count
+  pub names : IsInputOf (sent_after [] read) i cause
+  pub taken : StepTaken n v w cause answer beginning count
 
 -- the node's old steps and one more, on what the input names
 pub record Acts (n : Node) (v w : View) (i : Input) : Type 0 where
@@ -87,5 +87,5 @@ pub record Acts (n : Node) (v w : View) (i : Input) : Type 0 where
   pub node_is : entry.node ≡ n
   pub read : List Entry
   pub before : IsPrefix read w.seen
-  pub names : IsInputOf (sent_after [] read) i entry.taking
+  pub names : IsInputOf (sent_after [] read) i entry.cause
   pub goes : GoesOn v w entry

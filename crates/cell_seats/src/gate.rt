@@ -1,11 +1,11 @@
 //! What stands before a node's steps.
 
-use cell_journal::entry::Taking;
+use cell_journal::journal_entry::StepCause;
 use gfs_types::ids::Node;
 
 /// Is told of each step of the master or a server before it is taken, and may hold it up. Other nodes go on meanwhile.
 pub trait Gate {
-    fn before(&self, node: Node, taking: &Taking);
+    fn before(&self, node: Node, cause: &StepCause);
 }
 
 /// Lets every step pass.
@@ -13,5 +13,5 @@ pub trait Gate {
 pub struct OpenGate;
 
 impl Gate for OpenGate {
-    fn before(&self, _node: Node, _taking: &Taking) {}
+    fn before(&self, _node: Node, _cause: &StepCause) {}
 }

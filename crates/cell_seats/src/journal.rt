@@ -8,15 +8,15 @@ ghost use Rattle.cell_journal.specs.Rules.{IsJournalOf};
 
 use crate::seat::Seat;
 use crate::stepper::Stepper;
-use cell_journal::closed;
-use cell_journal::closed::ClosedPages;
-use cell_journal::entry::Entry;
+use cell_journal::closed_history;
+use cell_journal::closed_history::ClosedHistory;
+use cell_journal::journal_entry::JournalEntry;
 use std::marker::Model;
 
 /// All steps of a cell that was closed, in one order.
 #[derive(Drop)]
 pub struct Journal {
-    pages: ClosedPages,
+    history: ClosedHistory,
 }
 
 impl Model for Journal {
@@ -25,17 +25,17 @@ impl Model for Journal {
 
     ghost Value = { Closed };
 
-    ghost view = { λ j. j.pages };
+    ghost view = { λ j. j.history };
 
-    ghost invariant = { λ j. IsJournalOf j.pages.cell j.pages.entries };
+    ghost invariant = { λ j. IsJournalOf j.history.cell j.history.entries };
 }
 
 impl Journal {
-    pub fn new(pages: ClosedPages) -> Journal
-        requires { IsJournalOf pages.cell pages.entries }
-        ensures { result ≡ pages }
+    pub fn new(history: ClosedHistory) -> Journal
+        requires { IsJournalOf history.cell history.entries }
+        ensures { result ≡ history }
     {
-        Journal { pages }
+        Journal { history }
     }
 
     /// How many steps there are. They are a lawful journal of the cell.
@@ -43,21 +43,21 @@ impl Journal {
         ensures count { result ≡ length self.now.entries }
         ensures lawful { IsJournalOf self.now.cell self.now.entries }
     {
-        self.pages.len()
+        self.history.len()
     }
 
     /// Whether clocks were kept: no moment of a step is behind that of an earlier one by more than the clock bound.
     pub fn are_clocks_kept(&self) -> bool
         ensures { result ≡ are_clocks_kept self.now.cell self.now.entries }
     {
-        self.pages.are_clocks_kept()
+        self.history.are_clocks_kept()
     }
 
     /// The step at a place, from 0.
-    pub fn event(&self, place: usize) -> Option<&Entry>
+    pub fn event(&self, place: usize) -> Option<&JournalEntry>
         ensures { option_copied result ≡ slice_get self.now.entries place }
     {
-        self.pages.event(place)
+        self.history.event(place)
     }
 }
 
@@ -66,7 +66,7 @@ pub fn agree<N: Stepper + Drop>(seat: &Seat<N>, journal: &Journal)
     requires { seat.now.cell.name ≡ journal.now.cell.name }
     ensures { IsPrefix seat.now.seen journal.now.entries }
 {
-    closed::agree(seat.view(), &journal.pages);
+    closed_history::agree(seat.view(), &journal.history);
 }
 
 /// Of what two clients of one cell have seen the shorter begins the longer.

@@ -1,16 +1,16 @@
-//! The places of a running cell's nodes: their mailboxes and turns, and the seats at which clients call.
+//! The nodes of a running cell: their mailboxes, their writers of the journal, and the seats at which clients call.
 #![tactic(auto)]
 
-pub mod asked;
-pub mod asking;
 pub mod calls;
-pub mod dealer;
-pub mod desk;
+pub mod client_call;
+pub mod controls;
 pub mod gate;
-pub mod hall;
 pub mod journal;
-pub mod post;
+pub mod mailbox_wait;
+pub mod mailboxes;
+pub mod node_journal;
+pub mod node_registry;
 pub mod seat;
+pub mod shared_state;
 pub mod slot;
 pub mod stepper;
-pub mod waiting;

@@ -6,13 +6,13 @@ ghost use Rattle.cell_journal.specs.Clocks.{are_clocks_kept};
 ghost use Rattle.cell_journal.specs.Rules.{IsJournalOf};
 ghost use Rattle.cell_seats.specs.Seats.{IsAnswered, IsLost, seat_state, IsSeat, is_the_cells};
 
-use crate::asking::{Heard, ask};
-use crate::hall::Hall;
-use crate::post::Letter;
+use crate::client_call::{AnsweredCall, ask};
+use crate::mailboxes::MailboxItem;
+use crate::shared_state::SharedState;
 use crate::slot::Slot;
 use crate::stepper::Stepper;
 use cell_journal::Beginning;
-use cell_journal::entry::Entry;
+use cell_journal::journal_entry::JournalEntry;
 use crossbeam_channel::Receiver;
 use gfs_types::answer::Answer;
 use gfs_types::call::Call;
@@ -25,8 +25,8 @@ use std::time::Clock;
 /// A client of a running cell.
 pub struct Seat<N: Stepper + Drop> {
     slot: Slot<N>,
-    inbox: Receiver<Letter>,
-    view: Beginning<Entry>,
+    inbox: Receiver<MailboxItem>,
+    view: Beginning<JournalEntry>,
     count: usize,
     /// The bit of this client among those that are in a call.
     bit: u64,
@@ -53,22 +53,22 @@ impl<N: Stepper + Drop> Model for Seat<N> {
 
     ghost Value = { SeatState };
 
-    ghost view = { λ s. seat_state s.slot.node s.slot.place.of s.view.items (is_some s.lost) };
+    ghost view = { λ s. seat_state s.slot.node s.slot.view.of s.view.items (is_some s.lost) };
 
-    ghost invariant = { λ s. IsSeat s.slot.node s.slot.place s.view s.count s.lost };
+    ghost invariant = { λ s. IsSeat s.slot.node s.slot.view s.view s.count s.lost };
 }
 
 impl<N: Stepper + Drop> Seat<N> {
     /// A client that made no call yet, and saw the journal so.
     pub fn new(
         slot: Slot<N>,
-        inbox: Receiver<Letter>,
-        view: Beginning<Entry>,
+        inbox: Receiver<MailboxItem>,
+        view: Beginning<JournalEntry>,
         count: usize,
         bit: u64,
     ) -> Seat<N>
-        requires { IsSeat slot.node slot.place view count None }
-        ensures { result ≡ seat_state slot.node slot.place.of view.items false }
+        requires { IsSeat slot.node slot.view view count None }
+        ensures { result ≡ seat_state slot.node slot.view.of view.items false }
     {
         Seat {
             slot,
@@ -90,7 +90,7 @@ impl<N: Stepper + Drop> Seat<N> {
     }
 
     /// The journal as it was at the last answer.
-    pub fn view(&self) -> &Beginning<Entry>
+    pub fn view(&self) -> &Beginning<JournalEntry>
         ensures { result.now ≡ listed self.now.cell.name self.now.seen }
     {
         &self.view
@@ -105,12 +105,12 @@ impl<N: Stepper + Drop> Seat<N> {
             return Err(refusal);
         }
         self.lost = Some(Refusal::Closed);
-        mark_calling(self.slot.hall(), self.bit, true);
-        let asked = ask(rt, &mut self.slot, &self.inbox, call);
-        mark_calling(self.slot.hall(), self.bit, false);
-        match asked {
+        mark_calling(self.slot.shared(), self.bit, true);
+        let answered = ask(rt, &mut self.slot, &self.inbox, call);
+        mark_calling(self.slot.shared(), self.bit, false);
+        match answered {
             Ok(
-                Heard {
+                AnsweredCall {
                     answer,
                     beginning,
                     count,
@@ -141,10 +141,10 @@ fn of_the_cell(refusal: Refusal) -> Refusal
     }
 }
 
-fn mark_calling(hall: &Hall, bit: u64, is_calling: bool) {
+fn mark_calling(shared: &SharedState, bit: u64, is_calling: bool) {
     if is_calling {
-        hall.calling.fetch_or(bit, Ordering::SeqCst);
+        shared.calling.fetch_or(bit, Ordering::SeqCst);
     } else {
-        hall.calling.fetch_and(!bit, Ordering::SeqCst);
+        shared.calling.fetch_and(!bit, Ordering::SeqCst);
     }
 }

@@ -1,35 +1,35 @@
-//! A node with its place at the journal, as its lock guards it.
+//! A node with its writer of the journal, as its lock guards it.
 
 ghost use Rattle.std.specs.Prelude.{◌≡◌, ◌<◌, ◌≤◌, [], true, Some, IfOk, IfSome, IfNone, OnOk, OnErr, IsSome, MatchBool, IsTrue};
 ghost use Rattle.protocol.specs.Tables.{moment_limit};
 ghost use Rattle.protocol_journal.specs.Journal.{NodeState, sent_after, IsForNode, may_take, Calls as CallTaken};
-ghost use Rattle.cell_journal.specs.Entries.{taking_of};
-ghost use Rattle.cell_journal.specs.Places.{IsLater};
+ghost use Rattle.cell_journal.specs.Entries.{cause_of};
+ghost use Rattle.cell_journal.specs.Writers.{IsLater};
 ghost use Rattle.cell_seats.specs.Slots.{slot_state, IsLedTo, IsTakenOn, number_in, told_where, StepTaken, ActsOn, Acts};
 
-use crate::desk::Desk;
 use crate::gate::Gate;
-use crate::hall::Hall;
-use crate::post::Input;
+use crate::mailboxes::Input;
+use crate::node_journal::NodeJournal;
+use crate::shared_state::SharedState;
 use crate::stepper::Stepper;
 use cell_journal::Beginning;
-use cell_journal::entry::{Entry, Taking};
+use cell_journal::journal_entry::{JournalEntry, StepCause};
 use gfs_types::answer::Answer;
 use gfs_types::call::Call;
 use gfs_types::ids::Moment;
 use gfs_types::refusal::Refusal;
-use messages::event::Input as NodeInput;
+use messages::event::NodeInput;
 use messages::message::Message;
 use std::alloc::Global;
 use std::marker::Model;
 use std::sync::Wait;
 use std::time::Clock;
 
-/// A node with its place. A node that took a step while the journal was closed is gone. While it is there, its own steps in the journal
+/// A node with its journal. A node that took a step while the journal was closed is gone. While it is there, its own steps in the journal
 /// led to the state in which it is.
 pub struct Slot<N: Stepper + Drop> {
     alloc: Global,
-    desk: Desk,
+    journal: NodeJournal,
     node: Option<N>,
 }
 
@@ -38,7 +38,7 @@ impl<N: Stepper + Drop> Drop for Slot<N> {
     fn drop(self) {
         let Self {
             alloc: _,
-            desk: _desk,
+            journal: _journal,
             node: _node,
         } = self;
     }
@@ -50,48 +50,48 @@ impl<N: Stepper + Drop> Model for Slot<N> {
 
     ghost Value = { SlotState };
 
-    ghost view = { λ s. slot_state s.desk.node s.desk.place.me.0 };
+    ghost view = { λ s. slot_state s.journal.node s.journal.writer.me.0 };
 
-    ghost invariant = { λ s. IfSome s.node (λ n. IsLedTo s.desk.place.me.0 s.desk.node (N.stands n)) };
+    ghost invariant = { λ s. IfSome s.node (λ n. IsLedTo s.journal.writer.me.0 s.journal.node (N.stands n)) };
 }
 
 /// What a step gave its caller: a copy of its answer, if there was one, and the journal as it was then, with its length. No answer is told where
 /// clocks were not kept (ClockBroken), or where there is no memory for its copy (JournalFull).
 #[derive(Drop)]
-pub struct Taken {
+pub struct StepResult {
     pub answer: Result<Option<Answer>, Refusal>,
-    pub beginning: Beginning<Entry>,
+    pub beginning: Beginning<JournalEntry>,
     pub count: usize,
 }
 
 impl<N: Stepper + Drop> Slot<N> {
-    pub fn new(alloc: Global, desk: Desk, node: N) -> Slot<N>
-        requires led { IsLedTo desk.place.me.0 desk.node (N.stands node) }
-        ensures { result ≡ slot_state desk.node desk.place.me.0 }
+    pub fn new(alloc: Global, journal: NodeJournal, node: N) -> Slot<N>
+        requires led { IsLedTo journal.writer.me.0 journal.node (N.stands node) }
+        ensures { result ≡ slot_state journal.node journal.writer.me.0 }
     {
         Slot {
             alloc,
-            desk,
+            journal,
             node: Some(node),
         }
     }
 
     /// The node, while it is there. Its own steps led to the state in which it is.
     pub fn node(&self) -> Option<&N>
-        ensures { IfSome result (λ n. IsLedTo self.now.place self.now.node (N.stands n.now)) }
+        ensures { IfSome result (λ n. IsLedTo self.now.view self.now.node (N.stands n.now)) }
     {
         self.node.as_ref()
     }
 
     /// What it shares with the other nodes of its cell.
-    pub fn hall(&self) -> &Hall {
-        &self.desk.hall
+    pub fn shared(&self) -> &SharedState {
+        &self.journal.shared
     }
 
     /// Takes one step and adds it to the journal, or none and answers false.
     pub fn act<R: Wait + Clock, G: Gate>(&mut self, rt: &R, input: Input, gate: &G) -> bool
         ensures node { self.new.node ≡ self.old.node }
-        ensures acts { MatchBool result (Acts self.old.node self.old.place self.new.place input) (IsLater self.old.place self.new.place) }
+        ensures acts { MatchBool result (Acts self.old.node self.old.view self.new.view input) (IsLater self.old.view self.new.view) }
     {
         match self.take(rt, input, gate) {
             Ok(_) => true,
@@ -105,21 +105,28 @@ impl<N: Stepper + Drop> Slot<N> {
         rt: &R,
         input: Input,
         gate: &G,
-    ) -> Result<Taken, Refusal>
+    ) -> Result<StepResult, Refusal>
         ensures node { self.new.node ≡ self.old.node }
-        ensures ok { IfOk result (λ t. ActsOn self.old.node self.old.place self.new.place input t.answer t.beginning t.count) }
-        ensures err { OnErr result (IsLater self.old.place self.new.place) }
+        ensures ok { IfOk result (λ t. ActsOn self.old.node self.old.view self.new.view input t.answer t.beginning t.count) }
+        ensures err { OnErr result (IsLater self.old.view self.new.view) }
     {
-        take_in(rt, self.alloc, &mut self.desk, &mut self.node, input, gate)
+        take_in(
+            rt,
+            self.alloc,
+            &mut self.journal,
+            &mut self.node,
+            input,
+            gate,
+        )
     }
 
     /// A call.
-    pub fn call<R: Wait + Clock>(&mut self, rt: &R, call: Call) -> Result<Taken, Refusal>
+    pub fn call<R: Wait + Clock>(&mut self, rt: &R, call: Call) -> Result<StepResult, Refusal>
         ensures node { self.new.node ≡ self.old.node }
-        ensures ok { IfOk result (λ t. StepTaken self.old.node self.old.place self.new.place (CallTaken call) t.answer t.beginning t.count) }
-        ensures err { OnErr result (IsLater self.old.place self.new.place) }
+        ensures ok { IfOk result (λ t. StepTaken self.old.node self.old.view self.new.view (CallTaken call) t.answer t.beginning t.count) }
+        ensures err { OnErr result (IsLater self.old.view self.new.view) }
     {
-        call_in(rt, self.alloc, &mut self.desk, &mut self.node, call)
+        call_in(rt, self.alloc, &mut self.journal, &mut self.node, call)
     }
 }
 
@@ -127,61 +134,61 @@ impl<N: Stepper + Drop> Slot<N> {
 fn take_in<R: Wait + Clock, N: Stepper + Drop, G: Gate>(
     rt: &R,
     alloc: Global,
-    desk: &mut Desk,
+    journal: &mut NodeJournal,
     node: &mut Option<N>,
     input: Input,
     gate: &G,
-) -> Result<Taken, Refusal>
-    requires led { IfSome node.old (λ n. IsLedTo desk.old.place.me.0 desk.old.node (N.stands n)) }
-    ensures node { desk.new.node ≡ desk.old.node }
-    ensures led { IfSome node.new (λ n. IsLedTo desk.new.place.me.0 desk.new.node (N.stands n)) }
-    ensures ok { IfOk result (λ t. ActsOn desk.old.node desk.old.place.me.0 desk.new.place.me.0 input t.answer t.beginning t.count) }
-    ensures err { OnErr result (IsLater desk.old.place.me.0 desk.new.place.me.0) }
+) -> Result<StepResult, Refusal>
+    requires led { IfSome node.old (λ n. IsLedTo journal.old.writer.me.0 journal.old.node (N.stands n)) }
+    ensures node { journal.new.node ≡ journal.old.node }
+    ensures led { IfSome node.new (λ n. IsLedTo journal.new.writer.me.0 journal.new.node (N.stands n)) }
+    ensures ok { IfOk result (λ t. ActsOn journal.old.node journal.old.writer.me.0 journal.new.writer.me.0 input t.answer t.beginning t.count) }
+    ensures err { OnErr result (IsLater journal.old.writer.me.0 journal.new.writer.me.0) }
 {
-    let message = desk.begin(rt, number_of(input))?;
-    let taking = taking_on(input, message);
-    gate.before(desk.node, &taking);
-    steps(rt, alloc, desk, node, taking)
+    let message = journal.begin(rt, number_of(input))?;
+    let cause = cause_on(input, message);
+    gate.before(journal.node, &cause);
+    steps(rt, alloc, journal, node, cause)
 }
 
 // A step of a node on a call.
 fn call_in<R: Wait + Clock, N: Stepper + Drop>(
     rt: &R,
     alloc: Global,
-    desk: &mut Desk,
+    journal: &mut NodeJournal,
     node: &mut Option<N>,
     call: Call,
-) -> Result<Taken, Refusal>
-    requires led { IfSome node.old (λ n. IsLedTo desk.old.place.me.0 desk.old.node (N.stands n)) }
-    ensures node { desk.new.node ≡ desk.old.node }
-    ensures led { IfSome node.new (λ n. IsLedTo desk.new.place.me.0 desk.new.node (N.stands n)) }
-    ensures ok { IfOk result (λ t. StepTaken desk.old.node desk.old.place.me.0 desk.new.place.me.0 (CallTaken call) t.answer t.beginning t.count) }
-    ensures err { OnErr result (IsLater desk.old.place.me.0 desk.new.place.me.0) }
+) -> Result<StepResult, Refusal>
+    requires led { IfSome node.old (λ n. IsLedTo journal.old.writer.me.0 journal.old.node (N.stands n)) }
+    ensures node { journal.new.node ≡ journal.old.node }
+    ensures led { IfSome node.new (λ n. IsLedTo journal.new.writer.me.0 journal.new.node (N.stands n)) }
+    ensures ok { IfOk result (λ t. StepTaken journal.old.node journal.old.writer.me.0 journal.new.writer.me.0 (CallTaken call) t.answer t.beginning t.count) }
+    ensures err { OnErr result (IsLater journal.old.writer.me.0 journal.new.writer.me.0) }
 {
-    desk.begin(rt, None)?;
-    steps(rt, alloc, desk, node, Taking::Calls(call))
+    journal.begin(rt, None)?;
+    steps(rt, alloc, journal, node, StepCause::Calls(call))
 }
 
 // A step for which there is room.
 fn steps<R: Wait + Clock, N: Stepper + Drop>(
     rt: &R,
     alloc: Global,
-    desk: &mut Desk,
+    journal: &mut NodeJournal,
     node: &mut Option<N>,
-    taking: Taking,
-) -> Result<Taken, Refusal>
-    requires led { IfSome node.old (λ n. IsLedTo desk.old.place.me.0 desk.old.node (N.stands n)) }
-    requires room { 0 < desk.old.place.me.0.rooms }
-    requires reads { IsForNode (sent_after [] desk.old.place.me.0.seen) desk.old.node (taking_of taking) }
-    ensures node { desk.new.node ≡ desk.old.node }
-    ensures led { IfSome node.new (λ n. IsLedTo desk.new.place.me.0 desk.new.node (N.stands n)) }
-    ensures ok { IfOk result (λ t. StepTaken desk.old.node desk.old.place.me.0 desk.new.place.me.0 (taking_of taking) t.answer t.beginning t.count) }
-    ensures err { OnErr result (IsLater desk.old.place.me.0 desk.new.place.me.0) }
+    cause: StepCause,
+) -> Result<StepResult, Refusal>
+    requires led { IfSome node.old (λ n. IsLedTo journal.old.writer.me.0 journal.old.node (N.stands n)) }
+    requires room { 0 < journal.old.writer.me.0.rooms }
+    requires reads { IsForNode (sent_after [] journal.old.writer.me.0.seen) journal.old.node (cause_of cause) }
+    ensures node { journal.new.node ≡ journal.old.node }
+    ensures led { IfSome node.new (λ n. IsLedTo journal.new.writer.me.0 journal.new.node (N.stands n)) }
+    ensures ok { IfOk result (λ t. StepTaken journal.old.node journal.old.writer.me.0 journal.new.writer.me.0 (cause_of cause) t.answer t.beginning t.count) }
+    ensures err { OnErr result (IsLater journal.old.writer.me.0 journal.new.writer.me.0) }
 {
-    match ready(rt, desk, node, &taking) {
-        Ok(now) => try_step(rt, alloc, desk, node, now, taking),
+    match ready(rt, journal, node, &cause) {
+        Ok(now) => try_step(rt, alloc, journal, node, now, cause),
         Err(refusal) => {
-            desk.give_up(rt);
+            journal.give_up(rt);
             Err(refusal)
         }
     }
@@ -190,18 +197,18 @@ fn steps<R: Wait + Clock, N: Stepper + Drop>(
 // The moment of a step on this, if the node takes one.
 fn ready<R: Clock, N: Stepper + Drop>(
     rt: &R,
-    desk: &Desk,
+    journal: &NodeJournal,
     node: &Option<N>,
-    taking: &Taking,
+    cause: &StepCause,
 ) -> Result<Moment, Refusal>
     ensures moment { IfOk result (λ m. m.0 ≤ moment_limit) }
     ensures some { OnOk result (IsSome node.now) }
-    ensures may { OnOk result ((n : N) → node.now ≡ Some n → (s : NodeState) → N.stands n s → IsTrue (may_take s (taking_of taking.now))) }
+    ensures may { OnOk result ((n : N) → node.now ≡ Some n → (s : NodeState) → N.stands n s → IsTrue (may_take s (cause_of cause.now))) }
 {
-    let Some(now) = desk.now(rt) else {
+    let Some(now) = journal.now(rt) else {
         return Err(Refusal::ClockBroken);
     };
-    if may_take(node, taking) {
+    if may_take(node, cause) {
         Ok(now)
     } else {
         Err(Refusal::Closed)
@@ -212,27 +219,27 @@ fn ready<R: Clock, N: Stepper + Drop>(
 fn try_step<R: Wait + Clock, N: Stepper + Drop>(
     rt: &R,
     alloc: Global,
-    desk: &mut Desk,
+    journal: &mut NodeJournal,
     node: &mut Option<N>,
     now: Moment,
-    taking: Taking,
-) -> Result<Taken, Refusal>
-    requires led { IfSome node.old (λ n. IsLedTo desk.old.place.me.0 desk.old.node (N.stands n)) }
+    cause: StepCause,
+) -> Result<StepResult, Refusal>
+    requires led { IfSome node.old (λ n. IsLedTo journal.old.writer.me.0 journal.old.node (N.stands n)) }
     requires moment { now.0 ≤ moment_limit }
     requires some { IsSome node.old }
-    requires may { (n : N) → node.old ≡ Some n → (s : NodeState) → N.stands n s → IsTrue (may_take s (taking_of taking)) }
-    requires room { 0 < desk.old.place.me.0.rooms }
-    requires reads { IsForNode (sent_after [] desk.old.place.me.0.seen) desk.old.node (taking_of taking) }
-    ensures node { desk.new.node ≡ desk.old.node }
-    ensures led { IfSome node.new (λ n. IsLedTo desk.new.place.me.0 desk.new.node (N.stands n)) }
-    ensures ok { IfOk result (λ t. StepTaken desk.old.node desk.old.place.me.0 desk.new.place.me.0 (taking_of taking) t.answer t.beginning t.count) }
-    ensures err { OnErr result (IsLater desk.old.place.me.0 desk.new.place.me.0) }
+    requires may { (n : N) → node.old ≡ Some n → (s : NodeState) → N.stands n s → IsTrue (may_take s (cause_of cause)) }
+    requires room { 0 < journal.old.writer.me.0.rooms }
+    requires reads { IsForNode (sent_after [] journal.old.writer.me.0.seen) journal.old.node (cause_of cause) }
+    ensures node { journal.new.node ≡ journal.old.node }
+    ensures led { IfSome node.new (λ n. IsLedTo journal.new.writer.me.0 journal.new.node (N.stands n)) }
+    ensures ok { IfOk result (λ t. StepTaken journal.old.node journal.old.writer.me.0 journal.new.writer.me.0 (cause_of cause) t.answer t.beginning t.count) }
+    ensures err { OnErr result (IsLater journal.old.writer.me.0 journal.new.writer.me.0) }
 {
     match node.take() {
-        Some(taker) => match step_with(desk, rt, alloc, taker, now, taking) {
-            Some(went) => {
-                *node = Some(went.node);
-                Ok(went.taken)
+        Some(taker) => match step_with(journal, rt, alloc, taker, now, cause) {
+            Some(stepped) => {
+                *node = Some(stepped.node);
+                Ok(stepped.taken)
             }
             None => Err(Refusal::Closed),
         },
@@ -242,53 +249,53 @@ fn try_step<R: Wait + Clock, N: Stepper + Drop>(
 
 /// A node after its step, and what the step gave.
 #[derive(Drop)]
-struct Went<N: Stepper + Drop> {
+struct SteppedNode<N: Stepper + Drop> {
     node: N,
-    taken: Taken,
+    taken: StepResult,
 }
 
 // Whether the node, if it is there, takes a step on this.
-fn may_take<N: Stepper + Drop>(node: &Option<N>, taking: &Taking) -> bool
+fn may_take<N: Stepper + Drop>(node: &Option<N>, cause: &StepCause) -> bool
     ensures some { result ≡ true → IsSome node.now }
-    ensures may { result ≡ true → (n : N) → node.now ≡ Some n → (s : NodeState) → N.stands n s → IsTrue (may_take s (taking_of taking.now)) }
+    ensures may { result ≡ true → (n : N) → node.now ≡ Some n → (s : NodeState) → N.stands n s → IsTrue (may_take s (cause_of cause.now)) }
 {
     match node {
-        Some(node) => node.may_take(taking),
+        Some(node) => node.may_take(cause),
         None => false,
     }
 }
 
 // The node takes its step, and the journal has it. None: the journal was closed.
 fn step_with<R: Wait, N: Stepper + Drop>(
-    desk: &mut Desk,
+    journal: &mut NodeJournal,
     rt: &R,
     alloc: Global,
     node: N,
     now: Moment,
-    taking: Taking,
-) -> Option<Went<N>>
-    requires led { IsLedTo desk.old.place.me.0 desk.old.node (N.stands node) }
+    cause: StepCause,
+) -> Option<SteppedNode<N>>
+    requires led { IsLedTo journal.old.writer.me.0 journal.old.node (N.stands node) }
     requires moment { now.0 ≤ moment_limit }
-    requires may { (s : NodeState) → N.stands node s → IsTrue (may_take s (taking_of taking)) }
-    requires room { 0 < desk.old.place.me.0.rooms }
-    requires reads { IsForNode (sent_after [] desk.old.place.me.0.seen) desk.old.node (taking_of taking) }
-    ensures node { desk.new.node ≡ desk.old.node }
-    ensures led { IfSome result (λ w. IsLedTo desk.new.place.me.0 desk.new.node (N.stands w.node)) }
-    ensures some { IfSome result (λ w. StepTaken desk.old.node desk.old.place.me.0 desk.new.place.me.0 (taking_of taking) w.taken.answer w.taken.beginning w.taken.count) }
-    ensures none { IfNone result (desk.new.place.me ≡ desk.old.place.me) }
+    requires may { (s : NodeState) → N.stands node s → IsTrue (may_take s (cause_of cause)) }
+    requires room { 0 < journal.old.writer.me.0.rooms }
+    requires reads { IsForNode (sent_after [] journal.old.writer.me.0.seen) journal.old.node (cause_of cause) }
+    ensures node { journal.new.node ≡ journal.old.node }
+    ensures led { IfSome result (λ w. IsLedTo journal.new.writer.me.0 journal.new.node (N.stands w.node)) }
+    ensures some { IfSome result (λ w. StepTaken journal.old.node journal.old.writer.me.0 journal.new.writer.me.0 (cause_of cause) w.taken.answer w.taken.beginning w.taken.count) }
+    ensures none { IfNone result (journal.new.writer.me ≡ journal.old.writer.me) }
 {
     let mut node = node;
-    let out = node.step(now, &taking);
+    let out = node.step(now, &cause);
     let copy = copied(alloc, &out.answer);
-    match desk.end(rt, alloc, now, taking, out) {
-        Some(longer) => {
-            let answer = told_where(longer.are_clocks_kept, copy);
-            Some(Went {
+    match journal.end(rt, alloc, now, cause, out) {
+        Some(extended) => {
+            let answer = told_where(extended.are_clocks_kept, copy);
+            Some(SteppedNode {
                 node,
-                taken: Taken {
+                taken: StepResult {
                     answer,
-                    beginning: longer.beginning,
-                    count: longer.count,
+                    beginning: extended.beginning,
+                    count: extended.count,
                 },
             })
         }
@@ -307,14 +314,14 @@ fn number_of(input: Input) -> Option<u64>
 }
 
 // What the step is taken on, once its message is there.
-fn taking_on(input: Input, message: Option<Message>) -> Taking
-    ensures { IsTakenOn input message (taking_of result) }
+fn cause_on(input: Input, message: Option<Message>) -> StepCause
+    ensures { IsTakenOn input message (cause_of result) }
 {
     match input {
-        Input::Restart => Taking::Restarts,
+        Input::Restart => StepCause::Restarts,
         _ => match message {
-            Some(message) => Taking::Takes(NodeInput::Deliver(message)),
-            None => Taking::Takes(NodeInput::Tick),
+            Some(message) => StepCause::Takes(NodeInput::Deliver(message)),
+            None => StepCause::Takes(NodeInput::Tick),
         },
     }
 }

@@ -3,10 +3,10 @@
 ghost use Rattle.std.specs.Prelude.{◌≡◌, ◌≤◌, IsTrue};
 ghost use Rattle.protocol.specs.Tables.{moment_limit};
 ghost use Rattle.protocol_journal.specs.Journal.{NodeState, may_take};
-ghost use Rattle.cell_journal.specs.Entries.{taking_of};
+ghost use Rattle.cell_journal.specs.Entries.{cause_of};
 ghost use Rattle.cell_seats.specs.Slots.{StepsSo};
 
-use cell_journal::entry::Taking;
+use cell_journal::journal_entry::StepCause;
 use gfs_types::ids::Moment;
 use messages::event::StepOut;
 
@@ -16,12 +16,12 @@ pub trait Stepper {
     ghost stands: { Self → NodeState → Type 0 };
 
     /// Whether it takes a step on this.
-    fn may_take(&self, taking: &Taking) -> bool
-        ensures { (s : NodeState) → stands self.now s → result ≡ may_take s (taking_of taking.now) };
+    fn may_take(&self, cause: &StepCause) -> bool
+        ensures { (s : NodeState) → stands self.now s → result ≡ may_take s (cause_of cause.now) };
 
     /// A step, at a moment that there is.
-    fn step(&mut self, now: Moment, taking: &Taking) -> StepOut
+    fn step(&mut self, now: Moment, cause: &StepCause) -> StepOut
         requires moment { now.0 ≤ moment_limit }
-        requires may { (s : NodeState) → stands self.old s → IsTrue (may_take s (taking_of taking.now)) }
-        ensures { (s : NodeState) → stands self.old s → StepsSo s now.0 (taking_of taking.now) result (stands self.new) };
+        requires may { (s : NodeState) → stands self.old s → IsTrue (may_take s (cause_of cause.now)) }
+        ensures { (s : NodeState) → stands self.old s → StepsSo s now.0 (cause_of cause.now) result (stands self.new) };
 }

@@ -5,7 +5,7 @@ use Rattle.std.proofs.lemmas.List.Elements.{All-head, All-tail}
 use Rattle.gfs_types.specs.declared.ids.ClientId.{ClientId}
 use Rattle.messages.specs.declared.event.Event.{Event}
 use Rattle.script.specs.declared.cell_lines.ClientCall.{ClientCall}
-use Rattle.script.specs.declared.cell_lines.Line.TheVariants as line
+use Rattle.script.specs.declared.cell_lines.CellLine.TheVariants as line
 use Rattle.cell_simulator.specs.Cells.{Meaning}
 use Rattle.cell_simulator.specs.Steps.{Step, Simulated, is_of_round, Lead, Only}
 use Rattle.cell_simulator.specs.Shown.{has_client, call_event}

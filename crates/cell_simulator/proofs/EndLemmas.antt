@@ -3,14 +3,14 @@ use Rattle.std.proofs.Common.{◌≡◌, ℕ, true, false, List, [], Option, Som
 use Rattle.std.specs.Prelude.{is_none, IfSome}
 use Rattle.std.specs.Option.{is_some}
 use Rattle.std.specs.Io.KnownBytes.{Appends, Keeps}
-use Rattle.script.specs.declared.cell_lines.Line.{Line}
+use Rattle.script.specs.declared.cell_lines.CellLine.{CellLine}
 use Rattle.cell_simulator.specs.Cells.{Meaning}
 use Rattle.cell_simulator.specs.Steps.{Step, Simulated, lines_of, Goes}
 use Rattle.cell_simulator.specs.Lines.{is_bad, Makes, printed_by, Leaves, Runs, IsRefused}
 use Rattle.cell_simulator.proofs.StepLemmas.{appends_none}
 
 -- a line that printed the answers of its steps
-pub runs : {C : Type 0} (m : Meaning C) (old : Simulated C) (l : Line) (new : Simulated C) (before after : Option (List ℕ)) → is_bad m old.cell l ≡ false → Leaves m old l new → ((steps : List Step) → printed_by m old.cell l steps ≡ Some (lines_of steps))
+pub runs : {C : Type 0} (m : Meaning C) (old : Simulated C) (l : CellLine) (new : Simulated C) (before after : Option (List ℕ)) → is_bad m old.cell l ≡ false → Leaves m old l new → ((steps : List Step) → printed_by m old.cell l steps ≡ Some (lines_of steps))
     → Goes m old new (Makes m old l) before after → Runs m old l new before after
 runs m old l new before after good leaves prints p = record {
   printed = lines_of p.steps;
@@ -19,7 +19,7 @@ runs m old l new before after good leaves prints p = record {
 }
 
 -- a line that makes no event and prints nothing
-pub runs_nothing : {C : Type 0} (m : Meaning C) (old : Simulated C) (l : Line) (known : Option (List ℕ)) → is_bad m old.cell l ≡ false → Leaves m old l old → printed_by m old.cell l [] ≡ Some [] → Makes m old l [] → Runs m old l old known known
+pub runs_nothing : {C : Type 0} (m : Meaning C) (old : Simulated C) (l : CellLine) (known : Option (List ℕ)) → is_bad m old.cell l ≡ false → Leaves m old l old → printed_by m old.cell l [] ≡ Some [] → Makes m old l [] → Runs m old l old known known
 runs_nothing m old l known good leaves prints makes = record {
   printed = [];
   comes = record { is_good = good; steps = []; leads = refl; rises = omega arith; makes = makes; printed_is = prints; leaves = leaves };
@@ -27,7 +27,7 @@ runs_nothing m old l known good leaves prints makes = record {
 }
 
 -- a look at what is there
-pub runs_look : {C : Type 0} (m : Meaning C) (old : Simulated C) (l : Line) (shown : Option (List ℕ)) (before after : Option (List ℕ)) → is_some shown ≡ true → IfSome shown (λ text. Appends before after text) → is_bad m old.cell l ≡ is_none shown → Leaves m old l old
+pub runs_look : {C : Type 0} (m : Meaning C) (old : Simulated C) (l : CellLine) (shown : Option (List ℕ)) (before after : Option (List ℕ)) → is_some shown ≡ true → IfSome shown (λ text. Appends before after text) → is_bad m old.cell l ≡ is_none shown → Leaves m old l old
     → printed_by m old.cell l [] ≡ shown → Makes m old l [] → Runs m old l old before after
 runs_look m old l None before after there appends good leaves prints makes = absurd (cc)
 runs_look m old l (Some text) before after there appends good leaves prints makes = record {
@@ -40,5 +40,5 @@ keeps_all : (known : Option (List ℕ)) → Keeps known known
 keeps_all None = tt
 keeps_all (Some xs) = refl
 
-pub refused : {C : Type 0} (m : Meaning C) (old : Simulated C) (l : Line) (known : Option (List ℕ)) → is_bad m old.cell l ≡ true → IsRefused m old l old known known
+pub refused : {C : Type 0} (m : Meaning C) (old : Simulated C) (l : CellLine) (known : Option (List ℕ)) → is_bad m old.cell l ≡ true → IsRefused m old l old known known
 refused m old l known bad = record { is_bad = bad; same = refl; keeps = keeps_all known }

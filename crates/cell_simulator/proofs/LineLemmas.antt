@@ -11,8 +11,8 @@ use Rattle.std.proofs.lemmas.List.Elements.{All-cons, All-nil, All-append}
 use Rattle.std.proofs.lemmas.Grind.{flat_map-append}
 use Rattle.std.proofs.lemmas.List.Splits.{slice_split_none, slice_split_at}
 use Rattle.script.specs.Lines.{is_skipped, words_of}
-use Rattle.script.specs.declared.cell_lines.Line.{Line}
-use Rattle.script.specs.declared.cell_lines.Line.TheVariants as line
+use Rattle.script.specs.declared.cell_lines.CellLine.{CellLine}
+use Rattle.script.specs.declared.cell_lines.CellLine.TheVariants as line
 use Rattle.script.specs.CellLines.{line_of, line_for}
 use Rattle.cell_simulator.specs.Cells.{Meaning}
 use Rattle.cell_simulator.specs.Steps.{Simulated, line_feed}
@@ -26,11 +26,11 @@ runs_none : {C : Type 0} (m : Meaning C) (w : Simulated C) (known : Option (List
 runs_none m w known = record { printed = []; come = (refl, refl); printed_is = appends_none known }
 
 -- one line
-runs_alone : {C : Type 0} (m : Meaning C) (old new : Simulated C) (before after : Option (List ℕ)) (l : Line) → Runs m old l new before after → RunsOn m old new before after (l ∷ [])
+runs_alone : {C : Type 0} (m : Meaning C) (old new : Simulated C) (before after : Option (List ℕ)) (l : CellLine) → Runs m old l new before after → RunsOn m old new before after (l ∷ [])
 runs_alone m old new before after l r = record { printed = r.printed; come = (new, r.printed, [], r.comes, (refl, refl), append-nil r.printed); printed_is = r.printed_is }
 
 -- further lines
-come_on : {C : Type 0} (m : Meaning C) (a b c : Simulated C) (one two : List Line) (xs ys : List ℕ) → ComeTo m a one b xs → ComeTo m b two c ys → ComeTo m a (one ++ two) c (xs ++ ys)
+come_on : {C : Type 0} (m : Meaning C) (a b c : Simulated C) (one two : List CellLine) (xs ys : List ℕ) → ComeTo m a one b xs → ComeTo m b two c ys → ComeTo m a (one ++ two) c (xs ++ ys)
 come_on m a b c [] two xs ys p q = subst (λ w. ComeTo m w two c (xs ++ ys)) p.0 (subst (λ (l : List ℕ). ComeTo m b two c (l ++ ys)) (sym p.1) q)
 come_on m a b c (l ∷ one) two xs ys p q =
     let w = p.0 in
@@ -38,7 +38,7 @@ come_on m a b c (l ∷ one) two xs ys p q =
     let last = p.2 in
     (w, first, last ++ ys, p.3, come_on m w b c one two last ys p.4 q, sym (append_assoc first last ys) ∙ ap (λ (l : List ℕ). l ++ ys) p.5)
 
-runs_on : {C : Type 0} (m : Meaning C) (a b c : Simulated C) (x y z : Option (List ℕ)) (one two : List Line) → RunsOn m a b x y one → RunsOn m b c y z two → RunsOn m a c x z (one ++ two)
+runs_on : {C : Type 0} (m : Meaning C) (a b c : Simulated C) (x y z : Option (List ℕ)) (one two : List CellLine) → RunsOn m a b x y one → RunsOn m b c y z two → RunsOn m a c x z (one ++ two)
 runs_on m a b c x y z one two p q = record {
   printed = p.printed ++ q.printed;
   come = come_on m a b c one two p.printed q.printed p.come q.come;
@@ -49,7 +49,7 @@ runs_on m a b c x y z one two p q = record {
 runs_text : {C : Type 0} (m : Meaning C) (a b : Simulated C) (x y : Option (List ℕ)) (text : List ℕ) → RunsText m a b x y text → RunsOn m a b x y (asked_on text)
 runs_text m a b x y text r = subst (λ lines. RunsOn m a b x y lines) (ap option_to_list (sym r.line_is)) (runs_alone m a b x y r.line r.runs)
 
-some_line : (o : Option Line) (l : Line) → o ≡ Some l → o ≡ None → ⊥
+some_line : (o : Option CellLine) (l : CellLine) → o ≡ Some l → o ≡ None → ⊥
 some_line o l is none = let both : Some l ≡ None = sym is ∙ none in cc
 
 is_line : {C : Type 0} (m : Meaning C) (a b : Simulated C) (x y : Option (List ℕ)) (text : List ℕ) → RunsText m a b x y text → IsLine text
@@ -124,7 +124,7 @@ lines_on m a b c x y z from to last number text slice is_there there same p r q 
     let is = is_line m b c y z slice q in
     record {
       texts = p.texts ++ slice ∷ [];
-      runs = subst (λ (l : List Line). RunsOn m a c x z l) (sym (flat_map-append asked_on p.texts (slice ∷ []) ∙ ap (λ (l : List Line). flat_map asked_on p.texts ++ l) (append-nil (asked_on slice))))
+      runs = subst (λ (l : List CellLine). RunsOn m a c x z l) (sym (flat_map-append asked_on p.texts (slice ∷ []) ∙ ap (λ (l : List CellLine). flat_map asked_on p.texts ++ l) (append-nil (asked_on slice))))
           (runs_on m a b c x y z (flat_map asked_on p.texts) (asked_on slice) p.runs (runs_text m b c y z slice q));
       are_lines = All-append IsLine p.texts (slice ∷ []) p.are_lines (All-cons IsLine slice [] is (All-nil IsLine));
       leaves = leaves_on from to last p.texts slice p.leaves (subst (λ t. ReadsLine to last t true) (sym same) (subst (λ i. ReadsLine to last text i) there r)) is;
@@ -135,7 +135,7 @@ nothing_is_a_line : IsLine []
 nothing_is_a_line is = let e : Some line.Nothing ≡ None = is in cc
 
 -- a line without a byte, behind the others
-runs_empty : {C : Type 0} (m : Meaning C) (a b : Simulated C) (x y : Option (List ℕ)) (lines : List Line) → RunsOn m a b x y lines → RunsOn m a b x y (lines ++ line.Nothing ∷ [])
+runs_empty : {C : Type 0} (m : Meaning C) (a b : Simulated C) (x y : Option (List ℕ)) (lines : List CellLine) → RunsOn m a b x y lines → RunsOn m a b x y (lines ++ line.Nothing ∷ [])
 runs_empty m a b x y lines p = runs_on m a b b x y y lines (line.Nothing ∷ []) p (runs_alone m b b y y line.Nothing (runs_nothing m b line.Nothing y refl refl refl refl))
 
 -- all lines were read

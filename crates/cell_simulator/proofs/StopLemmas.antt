@@ -12,8 +12,8 @@ use Rattle.script.specs.Lines.{is_skipped, words_of}
 use Rattle.script.specs.ScriptFaults.{IsOfRead, IsOfWrite}
 use Rattle.script.specs.declared.script_fault.ScriptFault.{ScriptFault}
 use Rattle.script.specs.declared.script_fault.ScriptFault.TheVariants as fault
-use Rattle.script.specs.declared.cell_lines.Line.{Line}
-use Rattle.script.specs.declared.cell_lines.Line.TheVariants as line
+use Rattle.script.specs.declared.cell_lines.CellLine.{CellLine}
+use Rattle.script.specs.declared.cell_lines.CellLine.TheVariants as line
 use Rattle.script.specs.CellLines.{line_of, line_for}
 use Rattle.cell_simulator.specs.Cells.{Meaning}
 use Rattle.cell_simulator.specs.Steps.{Simulated, line_feed}
@@ -86,7 +86,7 @@ next_left xs ys zs texts text h none ends = ⊎_elim
 all_left : (xs ys : List ℕ) (texts : List (List ℕ)) → AreRead xs texts ys → (later : List (List ℕ)) × (lines_in xs ≡ texts ++ later)
 all_left xs ys texts h = ⊎_elim (λ at. (lines_in ys, at)) (λ all. ([], all.0 ∙ sym (append-nil texts))) h
 
-stopped_next : (from to last : Option (List ℕ)) (texts : List (List ℕ)) (text : List ℕ) (Why : Option Line → Type 0) (Next : List (List ℕ) → Type 0) → Leaves from to texts → ReadsLine to last text true
+stopped_next : (from to last : Option (List ℕ)) (texts : List (List ℕ)) (text : List ℕ) (Why : Option CellLine → Type 0) (Next : List (List ℕ) → Type 0) → Leaves from to texts → ReadsLine to last text true
     → ((whole : List ℕ) (later : List (List ℕ)) → Why (line_of whole) → Next (whole ∷ later)) → Why (line_of text)
     → IfSome from (λ all. (later : List (List ℕ)) × (lines_in all ≡ texts ++ later) × Next later)
 stopped_next None to last texts text Why Next h r so why = tt
@@ -94,7 +94,7 @@ stopped_next (Some xs) None last texts text Why Next h r so why = absurd h
 stopped_next (Some xs) (Some ys) None texts text Why Next h r so why = absurd r
 stopped_next (Some xs) (Some ys) (Some zs) texts text Why Next h r so why =
     let n = next_left xs ys zs texts text h r.0 r.1 in
-    (n.0 ∷ n.1, n.2, so n.0 n.1 (subst (λ (l : Option Line). Why l) (sym n.3) why))
+    (n.0 ∷ n.1, n.2, so n.0 n.1 (subst (λ (l : Option CellLine). Why l) (sym n.3) why))
 
 stopped_left : (from to : Option (List ℕ)) (texts : List (List ℕ)) (Next : List (List ℕ) → Type 0) → Leaves from to texts → ((later : List (List ℕ)) → Next later)
     → IfSome from (λ all. (later : List (List ℕ)) × (lines_in all ≡ texts ++ later) × Next later)
@@ -106,7 +106,7 @@ stopped_left (Some xs) (Some ys) texts Next h so =
 
 -- a line that was not run to its end
 stops_on : {C : Type 0} (m : Meaning C) (a b : Simulated C) (x y z from to last : Option (List ℕ)) (number : ℕ) (text : List ℕ) (f : ScriptFault) → RunsLines m a b x y from to number → ReadsLine to last text true → StopsOn m b y z number text f → StopsWith m a from x z f
-stops_on m a b x y z from to last number text (fault.Line n) p r s = record {
+stops_on m a b x y z from to last number text (fault.CellLine n) p r s = record {
   texts = p.texts;
   number_is = s.0 ∙ p.number_is;
   are_lines = p.are_lines;
@@ -165,7 +165,7 @@ bad_next m number w known [] is = (keeps_all known, is)
 bad_next m number w known (text ∷ later) is = (keeps_all known, inr is)
 
 -- no number is left
-pub stops_last : {C : Type 0} (m : Meaning C) (a b : Simulated C) (x y from to : Option (List ℕ)) (number : ℕ) → number ≡ last_number → RunsLines m a b x y from to number → StopsWith m a from x y (fault.Line last_number)
+pub stops_last : {C : Type 0} (m : Meaning C) (a b : Simulated C) (x y from to : Option (List ℕ)) (number : ℕ) → number ≡ last_number → RunsLines m a b x y from to number → StopsWith m a from x y (fault.CellLine last_number)
 stops_last m a b x y from to number is p = record {
   texts = p.texts;
   number_is = sym is ∙ p.number_is;
@@ -184,6 +184,6 @@ stops_writing m w before after number text f of = ⊎_elim
     of
 
 -- a line that has no end
-pub stops_endless : {C : Type 0} (m : Meaning C) (old new : Simulated C) (before after : Option (List ℕ)) (number : ℕ) (text : List ℕ) (l : Line) (e : LineEnd) → line_of text ≡ Some l → e ≡ ends.NoEnd → Ends m old l new before after e
+pub stops_endless : {C : Type 0} (m : Meaning C) (old new : Simulated C) (before after : Option (List ℕ)) (number : ℕ) (text : List ℕ) (l : CellLine) (e : LineEnd) → line_of text ≡ Some l → e ≡ ends.NoEnd → Ends m old l new before after e
     → StopsOn m old before after number text (fault.NoEnd number)
 stops_endless m old new before after number text l e is at h = (refl, record { line = l; asked_is = is; new = new; endless = subst (λ (x : LineEnd). Ends m old l new before after x) at h })

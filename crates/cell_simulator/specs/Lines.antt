@@ -5,8 +5,8 @@ use Rattle.gfs_types.specs.declared.ids.Handle.{Handle}
 use Rattle.gfs_types.specs.declared.ids.Node.TheVariants as node
 use Rattle.messages.specs.declared.event.Event.TheVariants as event
 use Rattle.script.specs.declared.cell_lines.ClientCall.{ClientCall}
-use Rattle.script.specs.declared.cell_lines.Line.{Line}
-use Rattle.script.specs.declared.cell_lines.Line.TheVariants as line
+use Rattle.script.specs.declared.cell_lines.CellLine.{CellLine}
+use Rattle.script.specs.declared.cell_lines.CellLine.TheVariants as line
 use Rattle.cell_simulator.specs.Cells.{Meaning}
 use Rattle.cell_simulator.specs.Steps.{Step, Simulated, Lead, Rise, lines_of, Only, Just, First, Goes, is_delivery, is_of_round, later, after_rounds, most_rounds}
 use Rattle.cell_simulator.specs.Shown.{regions_shown, replicas_shown, handle_shown, has_node, has_client, NoneOpen, IsWaiting, call_event}
@@ -18,7 +18,7 @@ abbrev pub is_bad_call : {C : Type 0} → Meaning C → C → ClientCall → Boo
 is_bad_call m cell asked = not (has_client m cell asked.client) || m.is_open cell asked.client
 
 -- a line that names what isn't there, or calls where a call is open
-abbrev pub is_bad : {C : Type 0} → Meaning C → C → Line → Bool
+abbrev pub is_bad : {C : Type 0} → Meaning C → C → CellLine → Bool
 is_bad m cell line.Nothing = false
 is_bad m cell (line.Call asked) = is_bad_call m cell asked
 is_bad m cell (line.Start asked) = is_bad_call m cell asked
@@ -36,7 +36,7 @@ is_bad m cell (line.Regions chunk) = is_none (regions_shown m cell chunk)
 is_bad m cell (line.Replicas chunk) = is_none (replicas_shown m cell chunk)
 
 -- Which events a line makes. A call makes its own and no other one.
-abbrev pub Makes : {C : Type 0} → Meaning C → Simulated C → Line → List Step → Type 0
+abbrev pub Makes : {C : Type 0} → Meaning C → Simulated C → CellLine → List Step → Type 0
 Makes m old (line.Call asked) steps = First (call_event asked (record { 0 = old.clock })) is_of_round steps
 Makes m old (line.Start asked) steps = First (call_event asked (record { 0 = old.clock })) is_delivery steps
 Makes m old line.Finish steps = Only is_of_round steps
@@ -48,25 +48,25 @@ Makes m old (line.Rot server chunk place byte) steps = (handle : Handle) × (han
 Makes m old other steps = steps ≡ []
 
 -- what a line prints: the answers, and a look at a chunk what the cell shows of it
-abbrev pub printed_by : {C : Type 0} → Meaning C → C → Line → List Step → Option (List ℕ)
+abbrev pub printed_by : {C : Type 0} → Meaning C → C → CellLine → List Step → Option (List ℕ)
 printed_by m cell (line.Regions chunk) steps = regions_shown m cell chunk
 printed_by m cell (line.Replicas chunk) steps = replicas_shown m cell chunk
 printed_by m cell other steps = Some (lines_of steps)
 
 -- which calls are over behind a line, or where the clock stands
-abbrev pub Leaves : {C : Type 0} → Meaning C → Simulated C → Line → Simulated C → Type 0
+abbrev pub Leaves : {C : Type 0} → Meaning C → Simulated C → CellLine → Simulated C → Type 0
 Leaves m old (line.Call asked) new = m.is_open new.cell asked.client ≡ false
 Leaves m old line.Finish new = NoneOpen m new.cell
 Leaves m old (line.Wait count) new = new.clock ≡ later old.clock count
 Leaves m old other new = new.clock ≡ old.clock
 
 -- the call, or one of the calls, that a line waits for is open
-abbrev pub StillWaits : {C : Type 0} → Meaning C → Line → C → Type 0
+abbrev pub StillWaits : {C : Type 0} → Meaning C → CellLine → C → Type 0
 StillWaits m (line.Call asked) cell = m.is_open cell asked.client ≡ true
 StillWaits m line.Finish cell = IsWaiting m cell
 StillWaits m other cell = ⊥
 
-pub record ComesTo {C : Type 0} (m : Meaning C) (old : Simulated C) (l : Line) (new : Simulated C) (printed : List ℕ) : Type 0 where
+pub record ComesTo {C : Type 0} (m : Meaning C) (old : Simulated C) (l : CellLine) (new : Simulated C) (printed : List ℕ) : Type 0 where
   pub is_good : is_bad m old.cell l ≡ false
   pub steps : List Step
   pub leads : Lead m old.cell steps new.cell
@@ -75,26 +75,26 @@ pub record ComesTo {C : Type 0} (m : Meaning C) (old : Simulated C) (l : Line) (
   pub printed_is : printed_by m old.cell l steps ≡ Some printed
   pub leaves : Leaves m old l new
 
-pub record Runs {C : Type 0} (m : Meaning C) (old : Simulated C) (l : Line) (new : Simulated C) (before after : Option (List ℕ)) : Type 0 where
+pub record Runs {C : Type 0} (m : Meaning C) (old : Simulated C) (l : CellLine) (new : Simulated C) (before after : Option (List ℕ)) : Type 0 where
   pub printed : List ℕ
   pub comes : ComesTo m old l new printed
   pub printed_is : Appends before after printed
 
 -- a line that went on through all the rounds of ticks that it may need, and still waits
-pub record IsEndless {C : Type 0} (m : Meaning C) (old : Simulated C) (l : Line) (new : Simulated C) (before after : Option (List ℕ)) : Type 0 where
+pub record IsEndless {C : Type 0} (m : Meaning C) (old : Simulated C) (l : CellLine) (new : Simulated C) (before after : Option (List ℕ)) : Type 0 where
   pub is_good : is_bad m old.cell l ≡ false
   pub goes : Goes m old new (Makes m old l) before after
   pub waits : StillWaits m l new.cell
   pub rounds : new.clock ≡ after_rounds old.clock most_rounds
 
 -- a line that can't be run, and changes nothing
-pub record IsRefused {C : Type 0} (m : Meaning C) (old : Simulated C) (l : Line) (new : Simulated C) (before after : Option (List ℕ)) : Type 0 where
+pub record IsRefused {C : Type 0} (m : Meaning C) (old : Simulated C) (l : CellLine) (new : Simulated C) (before after : Option (List ℕ)) : Type 0 where
   pub is_bad : is_bad m old.cell l ≡ true
   pub same : new ≡ old
   pub keeps : Keeps before after
 
 -- how a line ended
-abbrev pub Ends : {C : Type 0} → Meaning C → Simulated C → Line → Simulated C → Option (List ℕ) → Option (List ℕ) → LineEnd → Type 0
+abbrev pub Ends : {C : Type 0} → Meaning C → Simulated C → CellLine → Simulated C → Option (List ℕ) → Option (List ℕ) → LineEnd → Type 0
 Ends m old l new before after ends.Done = Runs m old l new before after
 Ends m old l new before after ends.Bad = IsRefused m old l new before after
 Ends m old l new before after ends.NoEnd = IsEndless m old l new before after

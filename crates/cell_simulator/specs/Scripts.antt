@@ -5,7 +5,7 @@ use Rattle.std.specs.Option.{option_to_list}
 use Rattle.std.specs.Io.KnownBytes.{Appends, Keeps}
 use Rattle.script.specs.declared.script_fault.ScriptFault.{ScriptFault}
 use Rattle.script.specs.declared.script_fault.ScriptFault.TheVariants as fault
-use Rattle.script.specs.declared.cell_lines.Line.{Line}
+use Rattle.script.specs.declared.cell_lines.CellLine.{CellLine}
 use Rattle.script.specs.CellLines.{line_of}
 use Rattle.cell_simulator.specs.Cells.{Meaning}
 use Rattle.cell_simulator.specs.Steps.{Simulated, line_feed}
@@ -19,11 +19,11 @@ last_number = 18446744073709551615
 abbrev pub lines_in : List ℕ → List (List ℕ)
 lines_in script = slice_split (λ c. c == line_feed) script
 
-abbrev pub asked_on : List ℕ → List Line
+abbrev pub asked_on : List ℕ → List CellLine
 asked_on text = option_to_list (line_of text)
 
 -- what a script asks for, line by line
-abbrev pub asked_in : List ℕ → List Line
+abbrev pub asked_in : List ℕ → List CellLine
 asked_in script = flat_map asked_on (lines_in script)
 
 -- a line in the language
@@ -35,19 +35,19 @@ abbrev pub IsScript : List ℕ → Type 0
 IsScript script = All IsLine (lines_in script)
 
 -- lines one after another, and what they print
-abbrev pub ComeTo : {C : Type 0} → Meaning C → Simulated C → List Line → Simulated C → List ℕ → Type 0
+abbrev pub ComeTo : {C : Type 0} → Meaning C → Simulated C → List CellLine → Simulated C → List ℕ → Type 0
 ComeTo m old [] new printed = (new ≡ old) × (printed ≡ [])
 ComeTo {C} m old (l ∷ rest) new printed = (w : Simulated C) × (first : List ℕ) × (last : List ℕ) × ComesTo m old l w first × ComeTo m w rest new last × (first ++ last ≡ printed)
 
 -- what was printed of lines one after another
-pub record RunsOn {C : Type 0} (m : Meaning C) (old new : Simulated C) (before after : Option (List ℕ)) (lines : List Line) : Type 0 where
+pub record RunsOn {C : Type 0} (m : Meaning C) (old new : Simulated C) (before after : Option (List ℕ)) (lines : List CellLine) : Type 0 where
   pub printed : List ℕ
   pub come : ComeTo m old lines new printed
   pub printed_is : Appends before after printed
 
 -- a line of a script, in the language
 pub record RunsText {C : Type 0} (m : Meaning C) (old new : Simulated C) (before after : Option (List ℕ)) (text : List ℕ) : Type 0 where
-  pub line : Line
+  pub line : CellLine
   pub line_is : line_of text ≡ Some line
   pub runs : Runs m old line new before after
 
@@ -71,18 +71,18 @@ pub record RunsLines {C : Type 0} (m : Meaning C) (old new : Simulated C) (befor
 
 -- The lines of a whole script, all in the language, and what was printed of them, where its bytes are known.
 pub record RunsScript {C : Type 0} (m : Meaning C) (old new : Simulated C) (before after : Option (List ℕ)) (script : Option (List ℕ)) : Type 0 where
-  pub lines : List Line
+  pub lines : List CellLine
   pub runs : RunsOn m old new before after lines
   pub lines_are : IfSome script (λ text. (lines ≡ asked_in text) × IsScript text)
 
 -- a line that isn't in the language, or can't be run
-abbrev pub IsBad : {C : Type 0} → Meaning C → C → Option Line → Type 0
+abbrev pub IsBad : {C : Type 0} → Meaning C → C → Option CellLine → Type 0
 IsBad m cell None = ⊤
 IsBad m cell (Some l) = is_bad m cell l ≡ true
 
 -- a line that has no end, and what was printed of it
-pub record IsEndlessOn {C : Type 0} (m : Meaning C) (old : Simulated C) (before after : Option (List ℕ)) (asked : Option Line) : Type 0 where
-  pub line : Line
+pub record IsEndlessOn {C : Type 0} (m : Meaning C) (old : Simulated C) (before after : Option (List ℕ)) (asked : Option CellLine) : Type 0 where
+  pub line : CellLine
   pub asked_is : asked ≡ Some line
   pub new : Simulated C
   pub endless : IsEndless m old line new before after
@@ -108,7 +108,7 @@ pub record StopsAt {C : Type 0} (m : Meaning C) (first : Simulated C) (script be
 
 -- What is known of a script that stopped at this fault: what a writer holds that failed, or where memory was refused, isn't.
 abbrev pub StopsWith : {C : Type 0} → Meaning C → Simulated C → Option (List ℕ) → Option (List ℕ) → Option (List ℕ) → ScriptFault → Type 0
-StopsWith m first script before after (fault.Line number) = StopsAt m first script before number (IsBadNext m number after)
+StopsWith m first script before after (fault.CellLine number) = StopsAt m first script before number (IsBadNext m number after)
 StopsWith m first script before after (fault.NoEnd number) = StopsAt m first script before number (IsEndlessNext m after)
 StopsWith m first script before after fault.Read = (number : ℕ) × StopsAt m first script before number (λ w middle later. Keeps middle after)
 StopsWith m first script before after fault.Start = ⊥
@@ -117,7 +117,7 @@ StopsWith m first script before after fault.Write = ⊤
 
 -- a line of this number that was not run to its end
 abbrev pub StopsOn : {C : Type 0} → Meaning C → Simulated C → Option (List ℕ) → Option (List ℕ) → ℕ → List ℕ → ScriptFault → Type 0
-StopsOn m old before after number text (fault.Line n) = (n ≡ number) × Keeps before after × IsBad m old.cell (line_of text)
+StopsOn m old before after number text (fault.CellLine n) = (n ≡ number) × Keeps before after × IsBad m old.cell (line_of text)
 StopsOn m old before after number text (fault.NoEnd n) = (n ≡ number) × IsEndlessOn m old before after (line_of text)
 StopsOn m old before after number text fault.Start = ⊥
 StopsOn m old before after number text fault.Read = ⊥

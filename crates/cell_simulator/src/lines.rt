@@ -11,7 +11,7 @@ use crate::simulator::Simulator;
 use gfs_types::ids::{Node, ServerId};
 use gfs_types::torn::Torn;
 use messages::event::Event;
-use script::cell_lines::{ClientCall, Line, Matter};
+use script::cell_lines::{CellLine, ClientCall, Matter};
 use script::lines::FileChunk;
 use script::script_fault::ScriptFault;
 use std::alloc::Global;
@@ -41,7 +41,7 @@ impl<C: SimulatedCell> Simulator<C> {
         asked: ClientCall,
         writer: &mut W,
     ) -> Result<LineEnd, ScriptFault>
-        ensures ends { IfOk result (Ends C.meaning (state_of self.old) (Line.Call asked) (state_of self.new) (W.contents writer.old) (W.contents writer.new)) }
+        ensures ends { IfOk result (Ends C.meaning (state_of self.old) (CellLine.Call asked) (state_of self.new) (W.contents writer.old) (W.contents writer.new)) }
         ensures fault { IfErr result IsOfWrite }
     {
         if !self.may_call(&asked) {
@@ -60,7 +60,7 @@ impl<C: SimulatedCell> Simulator<C> {
         asked: ClientCall,
         writer: &mut W,
     ) -> Result<LineEnd, ScriptFault>
-        ensures ends { IfOk result (Ends C.meaning (state_of self.old) (Line.Start asked) (state_of self.new) (W.contents writer.old) (W.contents writer.new)) }
+        ensures ends { IfOk result (Ends C.meaning (state_of self.old) (CellLine.Start asked) (state_of self.new) (W.contents writer.old) (W.contents writer.new)) }
         ensures fault { IfErr result IsOfWrite }
     {
         if !self.may_call(&asked) {
@@ -72,7 +72,7 @@ impl<C: SimulatedCell> Simulator<C> {
 
     /// Goes on until no call is open.
     fn run_finish<W: Write>(&mut self, writer: &mut W) -> Result<LineEnd, ScriptFault>
-        ensures ends { IfOk result (Ends C.meaning (state_of self.old) (Line.Finish) (state_of self.new) (W.contents writer.old) (W.contents writer.new)) }
+        ensures ends { IfOk result (Ends C.meaning (state_of self.old) (CellLine.Finish) (state_of self.new) (W.contents writer.old) (W.contents writer.new)) }
         ensures fault { IfErr result IsOfWrite }
     {
         if self.finish(writer)? {
@@ -84,7 +84,7 @@ impl<C: SimulatedCell> Simulator<C> {
 
     /// So many milliseconds go by.
     fn run_wait<W: Write>(&mut self, count: u64, writer: &mut W) -> Result<LineEnd, ScriptFault>
-        ensures ends { IfOk result (Ends C.meaning (state_of self.old) (Line.Wait count) (state_of self.new) (W.contents writer.old) (W.contents writer.new)) }
+        ensures ends { IfOk result (Ends C.meaning (state_of self.old) (CellLine.Wait count) (state_of self.new) (W.contents writer.old) (W.contents writer.new)) }
         ensures fault { IfErr result IsOfWrite }
     {
         self.wait(count, writer)?;
@@ -93,7 +93,7 @@ impl<C: SimulatedCell> Simulator<C> {
 
     /// The next message of this matter is put aside.
     fn run_hold(&mut self, matter: Matter) -> Result<LineEnd, ScriptFault>
-        ensures ends { IfOk result (λ e. (known : Option (List ℕ)) → Ends C.meaning (state_of self.old) (Line.Hold matter) (state_of self.new) known known e) }
+        ensures ends { IfOk result (λ e. (known : Option (List ℕ)) → Ends C.meaning (state_of self.old) (CellLine.Hold matter) (state_of self.new) known known e) }
         ensures fault { IfErr result IsOfWrite }
     {
         if !self.has_node(matter.receiver) {
@@ -105,7 +105,7 @@ impl<C: SimulatedCell> Simulator<C> {
 
     /// What was put aside is delivered.
     fn run_free<W: Write>(&mut self, alloc: Global, writer: &mut W) -> Result<LineEnd, ScriptFault>
-        ensures ends { IfOk result (Ends C.meaning (state_of self.old) (Line.Free) (state_of self.new) (W.contents writer.old) (W.contents writer.new)) }
+        ensures ends { IfOk result (Ends C.meaning (state_of self.old) (CellLine.Free) (state_of self.new) (W.contents writer.old) (W.contents writer.new)) }
         ensures fault { IfErr result IsOfWrite }
     {
         self.free(alloc, writer)?;
@@ -114,7 +114,7 @@ impl<C: SimulatedCell> Simulator<C> {
 
     /// The next message of this matter is delivered twice.
     fn run_twice(&mut self, matter: Matter) -> Result<LineEnd, ScriptFault>
-        ensures ends { IfOk result (λ e. (known : Option (List ℕ)) → Ends C.meaning (state_of self.old) (Line.Twice matter) (state_of self.new) known known e) }
+        ensures ends { IfOk result (λ e. (known : Option (List ℕ)) → Ends C.meaning (state_of self.old) (CellLine.Twice matter) (state_of self.new) known known e) }
         ensures fault { IfErr result IsOfWrite }
     {
         if !self.has_node(matter.receiver) {
@@ -126,7 +126,7 @@ impl<C: SimulatedCell> Simulator<C> {
 
     /// A node is cut off.
     fn run_cut(&mut self, node: Node) -> Result<LineEnd, ScriptFault>
-        ensures ends { IfOk result (λ e. (known : Option (List ℕ)) → Ends C.meaning (state_of self.old) (Line.Cut node) (state_of self.new) known known e) }
+        ensures ends { IfOk result (λ e. (known : Option (List ℕ)) → Ends C.meaning (state_of self.old) (CellLine.Cut node) (state_of self.new) known known e) }
         ensures fault { IfErr result IsOfWrite }
     {
         if !self.has_node(node) {
@@ -138,7 +138,7 @@ impl<C: SimulatedCell> Simulator<C> {
 
     /// A cut ends.
     fn run_join(&mut self, node: Node) -> Result<LineEnd, ScriptFault>
-        ensures ends { IfOk result (λ e. (known : Option (List ℕ)) → Ends C.meaning (state_of self.old) (Line.Join node) (state_of self.new) known known e) }
+        ensures ends { IfOk result (λ e. (known : Option (List ℕ)) → Ends C.meaning (state_of self.old) (CellLine.Join node) (state_of self.new) known known e) }
         ensures fault { IfErr result IsOfWrite }
     {
         if !self.has_node(node) {
@@ -150,7 +150,7 @@ impl<C: SimulatedCell> Simulator<C> {
 
     /// A node starts anew.
     fn run_restart<W: Write>(&mut self, node: Node, writer: &mut W) -> Result<LineEnd, ScriptFault>
-        ensures ends { IfOk result (Ends C.meaning (state_of self.old) (Line.Restart node) (state_of self.new) (W.contents writer.old) (W.contents writer.new)) }
+        ensures ends { IfOk result (Ends C.meaning (state_of self.old) (CellLine.Restart node) (state_of self.new) (W.contents writer.old) (W.contents writer.new)) }
         ensures fault { IfErr result IsOfWrite }
     {
         if !self.has_node(node) {
@@ -168,7 +168,7 @@ impl<C: SimulatedCell> Simulator<C> {
         torn: Torn,
         writer: &mut W,
     ) -> Result<LineEnd, ScriptFault>
-        ensures ends { IfOk result (Ends C.meaning (state_of self.old) (Line.Fuse node calls torn) (state_of self.new) (W.contents writer.old) (W.contents writer.new)) }
+        ensures ends { IfOk result (Ends C.meaning (state_of self.old) (CellLine.Fuse node calls torn) (state_of self.new) (W.contents writer.old) (W.contents writer.new)) }
         ensures fault { IfErr result IsOfWrite }
     {
         if !self.has_node(node) {
@@ -188,7 +188,7 @@ impl<C: SimulatedCell> Simulator<C> {
         byte: u8,
         writer: &mut W,
     ) -> Result<LineEnd, ScriptFault>
-        ensures ends { IfOk result (Ends C.meaning (state_of self.old) (Line.Rot server chunk place byte) (state_of self.new) (W.contents writer.old) (W.contents writer.new)) }
+        ensures ends { IfOk result (Ends C.meaning (state_of self.old) (CellLine.Rot server chunk place byte) (state_of self.new) (W.contents writer.old) (W.contents writer.new)) }
         ensures fault { IfErr result IsOfWrite }
     {
         if !self.has_node(Node::Server(server)) {
@@ -214,7 +214,7 @@ impl<C: SimulatedCell> Simulator<C> {
         chunk: FileChunk,
         writer: &mut W,
     ) -> Result<LineEnd, ScriptFault>
-        ensures ends { IfOk result (Ends C.meaning (state_of self.old) (Line.Regions chunk) (state_of self.new) (W.contents writer.old) (W.contents writer.new)) }
+        ensures ends { IfOk result (Ends C.meaning (state_of self.old) (CellLine.Regions chunk) (state_of self.new) (W.contents writer.old) (W.contents writer.new)) }
         ensures fault { IfErr result IsOfWrite }
     {
         if print_regions(alloc, &self.cell, &chunk, writer)? {
@@ -231,7 +231,7 @@ impl<C: SimulatedCell> Simulator<C> {
         chunk: FileChunk,
         writer: &mut W,
     ) -> Result<LineEnd, ScriptFault>
-        ensures ends { IfOk result (Ends C.meaning (state_of self.old) (Line.Replicas chunk) (state_of self.new) (W.contents writer.old) (W.contents writer.new)) }
+        ensures ends { IfOk result (Ends C.meaning (state_of self.old) (CellLine.Replicas chunk) (state_of self.new) (W.contents writer.old) (W.contents writer.new)) }
         ensures fault { IfErr result IsOfWrite }
     {
         if print_replicas(alloc, &self.cell, &chunk, writer)? {
@@ -246,33 +246,33 @@ impl<C: SimulatedCell> Simulator<C> {
     pub fn run<W: Write>(
         &mut self,
         alloc: Global,
-        line: Line,
+        line: CellLine,
         writer: &mut W,
     ) -> Result<LineEnd, ScriptFault>
         ensures ends { IfOk result (Ends C.meaning (state_of self.old) line (state_of self.new) (W.contents writer.old) (W.contents writer.new)) }
         ensures fault { IfErr result IsOfWrite }
     {
         match line {
-            Line::Nothing => Ok(LineEnd::Done),
-            Line::Call(asked) => self.run_call(asked, writer),
-            Line::Start(asked) => self.run_start(asked, writer),
-            Line::Finish => self.run_finish(writer),
-            Line::Wait(count) => self.run_wait(count, writer),
-            Line::Hold(matter) => self.run_hold(matter),
-            Line::Free => self.run_free(alloc, writer),
-            Line::Twice(matter) => self.run_twice(matter),
-            Line::Cut(node) => self.run_cut(node),
-            Line::Join(node) => self.run_join(node),
-            Line::Restart(node) => self.run_restart(node, writer),
-            Line::Fuse { node, calls, torn } => self.run_fuse(node, calls, torn, writer),
-            Line::Rot {
+            CellLine::Nothing => Ok(LineEnd::Done),
+            CellLine::Call(asked) => self.run_call(asked, writer),
+            CellLine::Start(asked) => self.run_start(asked, writer),
+            CellLine::Finish => self.run_finish(writer),
+            CellLine::Wait(count) => self.run_wait(count, writer),
+            CellLine::Hold(matter) => self.run_hold(matter),
+            CellLine::Free => self.run_free(alloc, writer),
+            CellLine::Twice(matter) => self.run_twice(matter),
+            CellLine::Cut(node) => self.run_cut(node),
+            CellLine::Join(node) => self.run_join(node),
+            CellLine::Restart(node) => self.run_restart(node, writer),
+            CellLine::Fuse { node, calls, torn } => self.run_fuse(node, calls, torn, writer),
+            CellLine::Rot {
                 server,
                 chunk,
                 place,
                 byte,
             } => self.run_rot(alloc, server, chunk, place, byte, writer),
-            Line::Regions(chunk) => self.run_regions(alloc, chunk, writer),
-            Line::Replicas(chunk) => self.run_replicas(alloc, chunk, writer),
+            CellLine::Regions(chunk) => self.run_regions(alloc, chunk, writer),
+            CellLine::Replicas(chunk) => self.run_replicas(alloc, chunk, writer),
         }
     }
 }

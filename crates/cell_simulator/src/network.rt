@@ -22,7 +22,7 @@ pub enum Fate {
 
 /// The network's orders, and the messages that were put aside, by rising number.
 #[derive(Drop)]
-pub struct Network {
+pub struct NetworkOrders {
     pub aside: Vec<u64>,
     pub holds: Vec<Matter>,
     pub twices: Vec<Matter>,
@@ -60,15 +60,15 @@ fn take_order(orders: &mut Vec<Matter>, message: &Message) -> bool
     false
 }
 
-impl Network {
+impl NetworkOrders {
     /// A network that delivers each message once.
-    pub fn new(alloc: Global) -> Network
+    pub fn new(alloc: Global) -> NetworkOrders
         ensures aside { result.aside.items ≡ [] }
         ensures holds { result.holds.items ≡ [] }
         ensures twices { result.twices.items ≡ [] }
         ensures cuts { result.cuts.items ≡ [] }
     {
-        Network {
+        NetworkOrders {
             aside: Vec::new(alloc),
             holds: Vec::new(alloc),
             twices: Vec::new(alloc),

@@ -6,7 +6,7 @@ ghost use Rattle.cell_simulator.specs.Steps.{First, Goes, Just, Only, is_deliver
 ghost use Rattle.cell_simulator.specs.Shown.{has_node, state_of};
 
 use crate::cell::SimulatedCell;
-use crate::network::{Fate, Network};
+use crate::network::{Fate, NetworkOrders};
 use crate::printing::print_answer;
 use gfs_types::ids::{Moment, Node};
 use messages::event::Event;
@@ -19,7 +19,7 @@ use std::io::Write;
 pub struct Simulator<C> {
     pub cell: C,
     pub clock: Moment,
-    pub network: Network,
+    pub network: NetworkOrders,
     /// The number of the message that is seen to next.
     pub next: u64,
 }
@@ -32,7 +32,7 @@ impl<C: SimulatedCell> Simulator<C> {
         Simulator {
             cell,
             clock: Moment(0),
-            network: Network::new(alloc),
+            network: NetworkOrders::new(alloc),
             next: 1,
         }
     }

@@ -11,7 +11,7 @@ use Rattle.gfs_types.specs.declared.ids.Node.{Node}
 use Rattle.gfs_types.specs.declared.ids.ServerId.{ServerId}
 use Rattle.messages.specs.declared.event.Event.{Event}
 use Rattle.messages.specs.declared.event.Event.TheVariants as event
-use Rattle.messages.specs.declared.event.Input.TheVariants as input
+use Rattle.messages.specs.declared.event.NodeInput.TheVariants as input
 use Rattle.messages.specs.declared.message.Message.{Message}
 use Rattle.gfs_types.specs.declared.torn.Torn.{Torn}
 use Rattle.replica_store.specs.Replicas.{Replica, replica_of, replica_becomes, with_replica, rotten_replica}

@@ -3,7 +3,7 @@ use Rattle.std.proofs.Common.{◌≡◌, ◌<◌, ℕ, zero, suc, Bool, true, fa
 use Rattle.std.specs.Prelude.{if◌then◌else◌}
 use Rattle.std.proofs.lemmas.List.{append-nil}
 use Rattle.gfs_types.specs.declared.call.Call.{Call}
-use Rattle.messages.specs.declared.event.Input.{Input}
+use Rattle.messages.specs.declared.event.NodeInput.{NodeInput}
 use Rattle.messages.specs.declared.event.StepOut.{StepOut}
 use Rattle.protocol.specs.Tables.{element_at}
 use Rattle.protocol.specs.declared.seen.Seen.{Seen}
@@ -36,7 +36,7 @@ unrecorded before after out quiet none sent seen = record {
   seen_is = seen ∙ sym (append-nil before.sights.seen);
 }
 
-pub master_lost : (m new : MasterState) (moment : ℕ) (i : Input) (before after : CellRecord) → m.up ≡ true → new ≡ stopped_master m m.disk []
+pub master_lost : (m new : MasterState) (moment : ℕ) (i : NodeInput) (before after : CellRecord) → m.up ≡ true → new ≡ stopped_master m m.disk []
     → after.network.messages ≡ before.network.messages → after.sights.seen ≡ before.sights.seen → MasterStepsSo m moment i before None new after
 master_lost m new moment i before after up new_is sent seen =
     let t : Taken MasterState = record { state = stopped_master m m.disk []; out = down_output; seen = [] } in
@@ -55,7 +55,7 @@ master_lost m new moment i before after up new_is sent seen =
       recorded = unrecorded before after down_output refl refl sent seen;
     }
 
-pub server_lost : (s : ServerState) (moment : ℕ) (i : Input) → s.up ≡ true → ServerSteps s moment i down_output [] (stopped_server s s.disk [])
+pub server_lost : (s : ServerState) (moment : ℕ) (i : NodeInput) → s.up ≡ true → ServerSteps s moment i down_output [] (stopped_server s s.disk [])
 server_lost s moment i up =
     let t : Taken ServerState = record { state = stopped_server s s.disk []; out = down_output; seen = [] } in
     let same : server_step s moment i lost_choice ≡ t = ap (λ (b : Bool). if b then server_ends s (server_goes s moment i) lost_choice Lost else no_step s) up in
@@ -71,7 +71,7 @@ lost_quietly s = by (may_step s)
     by true = (refl, refl)
     by false = (refl, refl)
 
-pub client_lost : (s : ClientState) (moment : ℕ) (i : Input) → ClientSteps s moment i (lost_out s) (if may_step s then stopped_client s else s)
+pub client_lost : (s : ClientState) (moment : ℕ) (i : NodeInput) → ClientSteps s moment i (lost_out s) (if may_step s then stopped_client s else s)
 client_lost s moment i = by (may_step s) refl
   where
     by : (b : Bool) → may_step s ≡ b → ClientSteps s moment i (if b then down_output else no_output) (if b then stopped_client s else s)
@@ -85,7 +85,7 @@ client_lost s moment i = by (may_step s) refl
         record { choice = lost_choice; gives = record { out_is = ap (λ (x : Taken ClientState). x.out) same; state_is = ap (λ (x : Taken ClientState). x.state) same }; seen_is = ap (λ (x : Taken ClientState). x.seen) same }
 
 -- the same, of what says whether a step was taken
-pub client_gave_up : (s t : ClientState) (moment : ℕ) (i : Input) (is_taken : Bool) (out : StepOut) → is_taken ≡ may_step s → out ≡ (if is_taken then down_output else no_output)
+pub client_gave_up : (s t : ClientState) (moment : ℕ) (i : NodeInput) (is_taken : Bool) (out : StepOut) → is_taken ≡ may_step s → out ≡ (if is_taken then down_output else no_output)
     → t ≡ (if may_step s then stopped_client s else s) → ClientSteps s moment i out t
 client_gave_up s t moment i is_taken out taken out_is is =
     subst (λ (x : StepOut). ClientSteps s moment i x t) (sym (out_is ∙ ap (λ (b : Bool). if b then down_output else no_output) taken))

@@ -8,7 +8,7 @@ use Rattle.gfs_types.specs.declared.ids.ClientId.{ClientId}
 use Rattle.gfs_types.specs.declared.ids.ServerId.{ServerId}
 use Rattle.gfs_types.specs.declared.ids.Node.{Node}
 use Rattle.gfs_types.specs.declared.ids.Node.TheVariants as node
-use Rattle.messages.specs.declared.event.Input.{Input}
+use Rattle.messages.specs.declared.event.NodeInput.{NodeInput}
 use Rattle.messages.specs.declared.event.StepOut.{StepOut}
 use Rattle.messages.specs.declared.message.Message.{Message}
 use Rattle.protocol.specs.Tables.{Table, element_at, with_at}
@@ -59,11 +59,11 @@ recorded w h before after out given shown seen answer held out_is seen_is r =
 
 -- the master
 
-pub master_down : (h : HeldCell) (moment : ℕ) (i : Input) → h.master.up ≡ false → HasEffect h (λ w choice. moves w node.Master moment i choice) None h
+pub master_down : (h : HeldCell) (moment : ℕ) (i : NodeInput) → h.master.up ≡ false → HasEffect h (λ w choice. moves w node.Master moment i choice) None h
 master_down h moment i down = does_nothing h (λ w choice. moves w node.Master moment i choice) (λ w g choice.
     ap (λ (b : Bool). if b then after_master w moment (master_step w.master moment i choice) else nothing_happens w) (sym (ap (λ (m : MasterState). m.up) g.master.but_under_way) ∙ down))
 
-pub master_did : (h : HeldCell) (moment : ℕ) (i : Input) (before after : CellRecord) (answer : Option Answer) (m : MasterState) (files : Table (List ℕ))
+pub master_did : (h : HeldCell) (moment : ℕ) (i : NodeInput) (before after : CellRecord) (answer : Option Answer) (m : MasterState) (files : Table (List ℕ))
     → h.master.up ≡ true → MasterStepsSo h.master moment i before answer m after → files ≡ files_seen m h.files → before.network.messages ≡ h.sent → before.sights.seen ≡ h.seen
     → HasEffect h (λ w choice. moves w node.Master moment i choice) answer (record h { master = m; files = files; sent = after.network.messages; seen = after.sights.seen })
 master_did h moment i before after answer m files up k files_are sent_is seen_is w g =
@@ -119,7 +119,7 @@ master_restarted h moment out m files k files_are w g =
 
 -- a server
 
-pub no_server : (h : HeldCell) (id : ServerId) (moment : ℕ) (i : Input) → (id.0 ≡ 0) ⊎ (length h.servers < id.0) → HasEffect h (λ w choice. moves w (node.Server id) moment i choice) None h
+pub no_server : (h : HeldCell) (id : ServerId) (moment : ℕ) (i : NodeInput) → (id.0 ≡ 0) ⊎ (length h.servers < id.0) → HasEffect h (λ w choice. moves w (node.Server id) moment i choice) None h
 no_server h id moment i m = does_nothing h (λ w choice. moves w (node.Server id) moment i choice) (λ w g choice.
     ap (server_moves w (id.0 - 1) moment i choice) (ap (λ ss. numbered_from_1 ss id.0) g.servers ∙ missing h.servers id.0 m))
 
@@ -127,7 +127,7 @@ no_server h id moment i m = does_nothing h (λ w choice. moves w (node.Server id
 found_server : (w : WorldState) (h : HeldCell) (n place : ℕ) (s : ServerState) → IsHeldAs w h → n ≡ suc place → element_at h.servers place ≡ Some s → numbered_from_1 w.servers n ≡ Some s
 found_server w h n place s g e is = ap (λ ss. numbered_from_1 ss n) g.servers ∙ (at_place h.servers n place e ∙ is)
 
-pub server_down : (h : HeldCell) (id : ServerId) (place moment : ℕ) (i : Input) → id.0 ≡ suc place → place < length h.servers → IsUpAt (λ (s : ServerState). s.up) h.servers place false
+pub server_down : (h : HeldCell) (id : ServerId) (place moment : ℕ) (i : NodeInput) → id.0 ≡ suc place → place < length h.servers → IsUpAt (λ (s : ServerState). s.up) h.servers place false
     → HasEffect h (λ w choice. moves w (node.Server id) moment i choice) None h
 server_down h id place moment i e within down =
     let s = there h.servers place within in
@@ -135,7 +135,7 @@ server_down h id place moment i e within down =
     ap (server_moves w (id.0 - 1) moment i choice) (found_server w h id.0 place s.0 g e s.1)
     ∙ ap (λ (b : Bool). if b then after_server w (id.0 - 1) moment (server_step s.0 moment i choice) else nothing_happens w) (down s.0 s.1))
 
-pub server_did : (h : HeldCell) (id : ServerId) (place moment : ℕ) (i : Input) (before after : CellRecord) (answer : Option Answer) (servers : List ServerState)
+pub server_did : (h : HeldCell) (id : ServerId) (place moment : ℕ) (i : NodeInput) (before after : CellRecord) (answer : Option Answer) (servers : List ServerState)
     → id.0 ≡ suc place → IsUpAt (λ (s : ServerState). s.up) h.servers place true
     → StepsAt (λ s out seen t. ServerSteps s moment i out seen t) h.servers place before answer servers after → before.network.messages ≡ h.sent → before.sights.seen ≡ h.seen
     → HasEffect h (λ w choice. moves w (node.Server id) moment i choice) answer (record h { servers = servers; sent = after.network.messages; seen = after.sights.seen })
@@ -182,14 +182,14 @@ server_restarted h id place moment out servers e k w g =
 
 -- a client
 
-pub no_client : (h : HeldCell) (id : ClientId) (moment : ℕ) (i : Input) → (id.0 ≡ 0) ⊎ (length h.clients < id.0) → HasEffect h (λ w choice. moves w (node.Client id) moment i choice) None h
+pub no_client : (h : HeldCell) (id : ClientId) (moment : ℕ) (i : NodeInput) → (id.0 ≡ 0) ⊎ (length h.clients < id.0) → HasEffect h (λ w choice. moves w (node.Client id) moment i choice) None h
 no_client h id moment i m = does_nothing h (λ w choice. moves w (node.Client id) moment i choice) (λ w g choice.
     ap (client_moves w (id.0 - 1) moment i choice) (ap (λ cs. numbered_from_1 cs id.0) g.clients ∙ missing h.clients id.0 m))
 
 found_client : (w : WorldState) (h : HeldCell) (n place : ℕ) (s : ClientState) → IsHeldAs w h → n ≡ suc place → element_at h.clients place ≡ Some s → numbered_from_1 w.clients n ≡ Some s
 found_client w h n place s g e is = ap (λ cs. numbered_from_1 cs n) g.clients ∙ (at_place h.clients n place e ∙ is)
 
-pub client_down : (h : HeldCell) (id : ClientId) (place moment : ℕ) (i : Input) → id.0 ≡ suc place → place < length h.clients → IsUpAt (λ (s : ClientState). s.up) h.clients place false
+pub client_down : (h : HeldCell) (id : ClientId) (place moment : ℕ) (i : NodeInput) → id.0 ≡ suc place → place < length h.clients → IsUpAt (λ (s : ClientState). s.up) h.clients place false
     → HasEffect h (λ w choice. moves w (node.Client id) moment i choice) None h
 client_down h id place moment i e within down =
     let s = there h.clients place within in
@@ -211,7 +211,7 @@ client_held w u h place moment t before after out seen answer new clients g out_
     (subst (λ (ms : List Message). IsHeldAs last (record h { clients = with_at h.clients place t.state; sent = sent_after ms t.out.sent })) (sym sent_is) (held_after_client u h place moment t g))))
     out_is (sym unseen) r
 
-pub client_did : (h : HeldCell) (id : ClientId) (place moment : ℕ) (i : Input) (before after : CellRecord) (answer : Option Answer) (clients : List ClientState)
+pub client_did : (h : HeldCell) (id : ClientId) (place moment : ℕ) (i : NodeInput) (before after : CellRecord) (answer : Option Answer) (clients : List ClientState)
     → id.0 ≡ suc place → IsUpAt (λ (s : ClientState). s.up) h.clients place true
     → StepsAt (λ s out seen t. ClientStepsSo s moment i out seen t) h.clients place before answer clients after → before.network.messages ≡ h.sent → before.sights.seen ≡ h.seen
     → HasEffect h (λ w choice. moves w (node.Client id) moment i choice) answer (record h { clients = clients; sent = after.network.messages; seen = after.sights.seen })
@@ -262,7 +262,7 @@ call_did h id place moment c before after answer clients e may k sent_is seen_is
 
 -- a node by what it is
 
-pub moves_at : (h new : HeldCell) (n other : Node) (moment : ℕ) (i : Input) (answer : Option Answer) → n ≡ other → HasEffect h (λ w choice. moves w other moment i choice) answer new
+pub moves_at : (h new : HeldCell) (n other : Node) (moment : ℕ) (i : NodeInput) (answer : Option Answer) → n ≡ other → HasEffect h (λ w choice. moves w other moment i choice) answer new
     → HasEffect h (λ w choice. moves w n moment i choice) answer new
 moves_at h new n other moment i answer same d = subst (λ (x : Node). HasEffect h (λ w choice. moves w x moment i choice) answer new) (sym same) d
 

@@ -2,7 +2,7 @@
 use Rattle.std.specs.Prelude.{◌≡◌, ℕ, suc, ◌++◌, Bool, List, [], length, Option, Some}
 use Rattle.gfs_types.specs.declared.answer.Answer.{Answer}
 use Rattle.gfs_types.specs.declared.call.Call.{Call}
-use Rattle.messages.specs.declared.event.Input.{Input}
+use Rattle.messages.specs.declared.event.NodeInput.{NodeInput}
 use Rattle.messages.specs.declared.event.StepOut.{StepOut}
 use Rattle.protocol.specs.Tables.{element_at, with_at}
 use Rattle.protocol.specs.declared.seen.Seen.{Seen}
@@ -44,14 +44,14 @@ pub record RestartsAt (servers : List ServerState) (place : ℕ) (moment : ℕ) 
   pub servers_are : after ≡ with_at servers place new
 
 -- the master takes a step, which is recorded
-pub record MasterStepsSo (old : MasterState) (moment : ℕ) (i : Input) (before : CellRecord) (answer : Option Answer) (new : MasterState) (after : CellRecord) : Type 0 where
+pub record MasterStepsSo (old : MasterState) (moment : ℕ) (i : NodeInput) (before : CellRecord) (answer : Option Answer) (new : MasterState) (after : CellRecord) : Type 0 where
   pub out : StepOut
   pub seen : List Seen
   pub steps : MasterSteps old moment i out seen new
   pub recorded : IsRecorded before out seen answer after
 
 -- a client takes a step, or a call, of which nothing else is seen
-pub record ClientStepsSo (old : ClientState) (moment : ℕ) (i : Input) (out : StepOut) (seen : List Seen) (new : ClientState) : Type 0 where
+pub record ClientStepsSo (old : ClientState) (moment : ℕ) (i : NodeInput) (out : StepOut) (seen : List Seen) (new : ClientState) : Type 0 where
   pub steps : ClientSteps old moment i out new
   pub unseen : seen ≡ []
 

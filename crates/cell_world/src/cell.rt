@@ -24,14 +24,14 @@ use gfs_types::ids::{ClientId, Handle, MAX_MOMENT, Moment, Node, ServerId};
 use gfs_types::torn::Torn;
 use messages::event::Event;
 use server_cell::server::Chunkserver;
-use server_store::fault::StoreFault;
+use server_store::fault::ReplicaStoreFault;
 use server_store::stoppable_store::StoppableStore;
 use server_store::store::ReplicaStore;
 use std::marker::Model;
 
 /// A cell of one master, and of servers and clients by their numbers, from 1.
 #[derive(Drop)]
-pub struct Cell<M: CellMaster, S: ReplicaStore> {
+pub struct CellState<M: CellMaster, S: ReplicaStore> {
     pub(crate) config: Config,
     pub(crate) master: M,
     pub(crate) servers: Vec<Chunkserver<S>>,
@@ -39,7 +39,7 @@ pub struct Cell<M: CellMaster, S: ReplicaStore> {
     pub(crate) record: CellRecord,
 }
 
-impl<M: CellMaster, S: ReplicaStore> Model for Cell<M, S> {
+impl<M: CellMaster, S: ReplicaStore> Model for CellState<M, S> {
     ghost use Rattle.std.specs.Coded.{codes, coded_ℕ, coded_list};
     ghost use Rattle.std.specs.FinMap as map;
     ghost use Rattle.lru.specs.LruCache.{lru_cache_code};
@@ -60,10 +60,10 @@ impl<M: CellMaster, S: ReplicaStore> Model for Cell<M, S> {
     } };
 }
 
-impl<M: CellMaster, S: StoppableStore> Cell<M, S> {
+impl<M: CellMaster, S: StoppableStore> CellState<M, S> {
     /// One event. One that names no such node, message, replica, place or moment, or a node that is down, changes nothing. An
     /// error: a byte didn't rot, as the store of its server couldn't take it, and nothing has changed.
-    pub fn step(&mut self, event: Event) -> Result<Option<Answer>, StoreFault>
+    pub fn step(&mut self, event: Event) -> Result<Option<Answer>, ReplicaStoreFault>
         ensures ok { IfOk result (λ answer. HasEffect self.old (λ w choice. happens w event choice) answer self.new) }
         ensures err { OnErr result (self.new ≡ self.old) }
         ensures refused { OnErr result (MayBeRefused event) }
@@ -223,7 +223,13 @@ impl<M: CellMaster, S: StoppableStore> Cell<M, S> {
     }
 
     /// A byte rots. An error: the server's store couldn't take it.
-    fn rots(&mut self, id: ServerId, handle: Handle, place: u64, byte: u8) -> Result<(), StoreFault>
+    fn rots(
+        &mut self,
+        id: ServerId,
+        handle: Handle,
+        place: u64,
+        byte: u8,
+    ) -> Result<(), ReplicaStoreFault>
         ensures ok { OnOk result (HasEffect self.old (λ w choice. rots_on w (id.0 - 1) handle.0 place byte (numbered_from_1 w.servers id.0)) None self.new) }
         ensures err { OnErr result (self.new ≡ self.old) }
     {

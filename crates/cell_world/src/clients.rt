@@ -18,7 +18,7 @@ use gfs_types::answer::Answer;
 use gfs_types::call::Call;
 use gfs_types::ids::{ClientId, Moment};
 use gfs_types::no_memory::NoMemory;
-use messages::event::{Input, StepOut};
+use messages::event::{NodeInput, StepOut};
 use messages::message::Message;
 use protocol::seen::SeenList;
 use std::alloc::Global;
@@ -135,11 +135,11 @@ fn stop(client: &mut Client)
     client.stops(config, id);
 }
 
-fn copied(alloc: Global, message: Option<&Message>) -> Result<Input, NoMemory>
+fn copied(alloc: Global, message: Option<&Message>) -> Result<NodeInput, NoMemory>
     ensures { IfOk result (λ input. input ≡ input_of (option_copied message.entry)) }
 {
     match message {
-        Some(message) => Ok(Input::Deliver(message.copy(alloc)?)),
-        None => Ok(Input::Tick),
+        Some(message) => Ok(NodeInput::Deliver(message.copy(alloc)?)),
+        None => Ok(NodeInput::Tick),
     }
 }

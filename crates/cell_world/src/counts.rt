@@ -4,14 +4,14 @@ ghost use Rattle.std.specs.Prelude.{◌≡◌, ◌<◌, length};
 ghost use Rattle.cell_world.specs.Looks.{has_open_call, server_count, waits};
 ghost use Rattle.cell_world.specs.Steps.{IsUpAt};
 
-use crate::cell::Cell;
+use crate::cell::CellState;
 use crate::clients::client_place;
 use crate::master::CellMaster;
 use client_calls::client::Client;
 use gfs_types::ids::ClientId;
 use server_store::store::ReplicaStore;
 
-impl<M: CellMaster, S: ReplicaStore> Cell<M, S> {
+impl<M: CellMaster, S: ReplicaStore> CellState<M, S> {
     /// How many servers there are. They are numbered up to 65,535.
     pub fn server_count(&self) -> u16
         ensures { result ≡ server_count self.now }

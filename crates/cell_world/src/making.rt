@@ -11,7 +11,7 @@ ghost use Rattle.protocol.specs.World.{new_world};
 ghost use Rattle.replica_store.specs.Replicas.{new_server_disk};
 ghost use Rattle.cell_world.specs.Held.{IsHeldAs};
 
-use crate::cell::Cell;
+use crate::cell::CellState;
 use crate::master::CellMaster;
 use crate::record::CellRecord;
 use client_calls::client::Client;
@@ -22,7 +22,7 @@ use server_cell::server::Chunkserver;
 use server_store::store::ReplicaStore;
 use std::alloc::Global;
 
-impl<M: CellMaster + Drop, S: ReplicaStore + Drop> Cell<M, S> {
+impl<M: CellMaster + Drop, S: ReplicaStore + Drop> CellState<M, S> {
     /// A new cell of a new master, with a new server over each of the new stores, and new clients. The settings are within their ranges.
     pub fn new(
         alloc: Global,
@@ -30,7 +30,7 @@ impl<M: CellMaster + Drop, S: ReplicaStore + Drop> Cell<M, S> {
         master: M,
         stores: Vec<S>,
         clients: u64,
-    ) -> Result<Cell<M, S>, NoMemory>
+    ) -> Result<CellState<M, S>, NoMemory>
         requires least { 64 ≤ config.chunk }
         requires most { config.chunk ≤ largest_chunk }
         requires skew { config.skew_ms ≤ 60000 }
@@ -42,7 +42,7 @@ impl<M: CellMaster + Drop, S: ReplicaStore + Drop> Cell<M, S> {
     {
         let servers = new_servers(alloc, config, stores)?;
         let clients = new_clients(alloc, config, clients)?;
-        Ok(Cell {
+        Ok(CellState {
             config,
             master,
             servers,

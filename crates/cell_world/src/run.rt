@@ -4,7 +4,7 @@ ghost use Rattle.std.specs.Prelude.{◌≡◌, IfOk, IfErr};
 ghost use Rattle.cell_world.specs.Runs.{Runs, RanUntil};
 
 use crate::answers::Answers;
-use crate::cell::Cell;
+use crate::cell::CellState;
 use crate::fault::RunFault;
 use crate::master::CellMaster;
 use gfs_types::answer::Answer;
@@ -14,7 +14,7 @@ use server_store::stoppable_store::StoppableStore;
 use std::alloc::Global;
 use std::collections::VecDeque;
 
-impl<M: CellMaster, S: StoppableStore> Cell<M, S> {
+impl<M: CellMaster, S: StoppableStore> CellState<M, S> {
     /// The events in order, and their answers.
     pub fn run(&mut self, alloc: Global, events: &[Event]) -> Result<Vec<Answer>, RunFault>
         ensures ok { IfOk result (λ answers. Runs self.old events.now answers.items self.new) }

@@ -15,7 +15,7 @@ use gfs_types::ids::{Handle, Moment, ServerId};
 use gfs_types::torn::Torn;
 use messages::event::StepOut;
 use server_cell::server::Chunkserver;
-use server_store::fault::StoreFault;
+use server_store::fault::ReplicaStoreFault;
 use server_store::stoppable_store::StoppableStore;
 use server_store::store::ReplicaStore;
 use step_outcome::Outcome;
@@ -80,7 +80,7 @@ pub(crate) fn server_rots<S: ReplicaStore>(
     handle: Handle,
     place: u64,
     byte: u8,
-) -> Result<(), StoreFault>
+) -> Result<(), ReplicaStoreFault>
     requires index { index < length servers.old.items }
     requires up { IsUpAt (λ s. s.up) servers.old.items index true }
     ensures ok { OnOk result (RotsAt servers.old.items index handle.0 place byte servers.new.items) }

@@ -10,7 +10,7 @@ ghost use Rattle.cell_world.specs.Held.{IsHeldAs};
 ghost use Rattle.cell_world.specs.AsStored.{as_stored};
 ghost use Rattle.cell_world.specs.Looks.{file_held, regions_held, replicas_held};
 
-use crate::cell::Cell;
+use crate::cell::CellState;
 use crate::master::CellMaster;
 use gfs_types::ids::{FileId, Handle};
 use gfs_types::no_memory::NoMemory;
@@ -22,7 +22,7 @@ use server_cell::server::Chunkserver;
 use server_store::store::ReplicaStore;
 use std::alloc::Global;
 
-impl<M: CellMaster, S: ReplicaStore> Cell<M, S> {
+impl<M: CellMaster, S: ReplicaStore> CellState<M, S> {
     /// The file that a path names; none where it names no file, and while the master is down.
     pub fn file(&self, path: &Path) -> Option<FileId>
         ensures held { result ≡ file_held self.now path.now }

@@ -16,7 +16,7 @@ use Rattle.store_disk.proofs.FormatSlots.{slot_before}
 use Rattle.store_disk.specs.Fields.{order_in}
 use Rattle.store_disk.specs.Places.{disk_size, redo_size}
 use Rattle.chunk_store.specs.Opening.{IsFound}
-use Rattle.chunk_store.specs.declared.found.Found.{Found}
+use Rattle.chunk_store.specs.declared.found.FoundReplicas.{FoundReplicas}
 use Rattle.store_disk.specs.Stored.{IsDiskOf, IsStored, is_used}
 use Rattle.store_disk.proofs.Blank.{blank_is_empty}
 use Rattle.store_disk.proofs.Free.{filter_same}
@@ -71,7 +71,7 @@ module _ (chunk block slots : ℕ) where
     stands_at_rest : (index : IndexState) (d : ServerDisk) → IsDiskOf chunk block slots index c d → IsDiskOf chunk block slots index (stands_for (area_of chunk block) c) d
     stands_at_rest index d is = disk_kept index c (stands_for (area_of chunk block) c) d fits rest_kept is
 
-    pub found_at_rest : (found : Found) (d : ServerDisk) → IsFound chunk block slots found c d → IsFound chunk block slots found (stands_for (area_of chunk block) c) d
+    pub found_at_rest : (found : FoundReplicas) (d : ServerDisk) → IsFound chunk block slots found c d → IsFound chunk block slots found (stands_for (area_of chunk block) c) d
     found_at_rest found d is = record { says = stands_at_rest found.index d is.says; order = is.order }
 
   -- a disk that was formatted holds no replicas

@@ -5,7 +5,7 @@ use Rattle.replica_store.specs.Replicas.{ServerDisk, new_server_disk}
 use Rattle.store_changes.specs.Areas.{area_of}
 use Rattle.store_disk.specs.Formats.{IsFormatting, is_head_open}
 use Rattle.store_disk.specs.Fields.{head_bytes}
-use Rattle.chunk_store.specs.declared.found.Found.{Found}
+use Rattle.chunk_store.specs.declared.found.FoundReplicas.{FoundReplicas}
 use Rattle.store_disk.specs.Stored.{IsDiskOf, IsStored}
 
 -- the head is this layout's
@@ -19,7 +19,7 @@ HoldsReplicas chunk block slots bytes d =
     ⊎ ((is_head_open bytes ≡ true) × IsStored chunk block slots (stands_for (area_of chunk block) bytes) d)
 
 -- What was found is what the disk says.
-pub record IsFound (chunk block slots : ℕ) (found : Found) (bytes : List ℕ) (d : ServerDisk) : Type 0 where
+pub record IsFound (chunk block slots : ℕ) (found : FoundReplicas) (bytes : List ℕ) (d : ServerDisk) : Type 0 where
   pub says : IsDiskOf chunk block slots found.index bytes d
   pub order : found.order ≡ record { epoch = d.epoch; count = d.count }
 

@@ -15,7 +15,7 @@ ghost use Rattle.chunk_store.specs.declared.fault.OpenFault.TheVariants as fault
 ghost use Rattle.store_disk.specs.Stored.{IsStored};
 
 use crate::fault::OpenFault;
-use crate::found::Found;
+use crate::found::FoundReplicas;
 use crate::heads::{is_head, is_open, read_head};
 use crate::slots_reading::open_formatted;
 use disk::Disk;
@@ -23,7 +23,11 @@ use std::alloc::Global;
 use store_disk::{Layout, format};
 
 // Formats a disk whose head is closed, and opens it.
-fn open_new<D: Disk>(alloc: Global, disk: &mut D, layout: Layout) -> Result<Found, OpenFault>
+fn open_new<D: Disk>(
+    alloc: Global,
+    disk: &mut D,
+    layout: Layout,
+) -> Result<FoundReplicas, OpenFault>
     requires size { disk_size layout.chunk layout.block layout.slots ≤ length (D.seen disk.old) }
     requires closed { is_head_open (D.seen disk.old) ≡ false }
     requires durable { Only (D.seen disk.old) (D.may_leave disk.old) }
@@ -46,7 +50,7 @@ fn open_headed<D: Disk>(
     disk: &mut D,
     layout: Layout,
     head: &[u8],
-) -> Result<Found, OpenFault>
+) -> Result<FoundReplicas, OpenFault>
     requires size { disk_size layout.chunk layout.block layout.slots ≤ length (D.seen disk.old) }
     requires count { length head.now ≡ 32 }
     ensures rest { OnOk result (IsAtRest D.seen D.may_leave (area_of layout.chunk layout.block) disk.new) }
@@ -66,7 +70,11 @@ fn open_headed<D: Disk>(
 /// Opens a chunkserver's disk. A disk whose head is closed is formatted, and holds no replicas.
 ///
 /// `Damaged`: the disk is another layout's. `NoMemory`: an allocator refused what the call needs. `Device`: the disk failed in this call. After an error the disk is to be opened again.
-pub fn open_disk<D: Disk>(alloc: Global, disk: &mut D, layout: Layout) -> Result<Found, OpenFault>
+pub fn open_disk<D: Disk>(
+    alloc: Global,
+    disk: &mut D,
+    layout: Layout,
+) -> Result<FoundReplicas, OpenFault>
     ensures rest { OnOk result (IsAtRest D.seen D.may_leave (area_of layout.chunk layout.block) disk.new) }
     ensures large { OnOk result (disk_size layout.chunk layout.block layout.slots ≤ length (D.seen disk.new)) }
     ensures found { IfOk result (λ found. (d : ServerDisk) → HoldsReplicas layout.chunk layout.block layout.slots (D.seen disk.old) d

@@ -5,7 +5,7 @@ use store_disk::SlotIndex;
 
 /// The number of the last order that was taken, and where the replicas lie.
 #[derive(Drop)]
-pub struct Found {
+pub struct FoundReplicas {
     pub order: OrderNo,
     pub index: SlotIndex,
 }

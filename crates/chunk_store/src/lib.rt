@@ -20,7 +20,7 @@ mod store;
 pub use disk_opening::open_disk;
 pub use fault::OpenFault;
 pub use finding::{find_replicas, read_slot};
-pub use found::Found;
+pub use found::FoundReplicas;
 pub use opening::open;
 pub use slots_reading::open_formatted;
 pub use store::Store;

@@ -15,7 +15,7 @@ ghost use Rattle.chunk_store.specs.Opening.{IsFound};
 ghost use Rattle.store_disk.specs.Stored.{IsDiskOf, IsStored};
 
 use crate::find_replicas;
-use crate::found::Found;
+use crate::found::FoundReplicas;
 use disk::{Disk, DiskFault};
 use disk_redo::step::read;
 use disk_redo::{RedoArea, open};
@@ -45,7 +45,11 @@ fn read_last_order<D: Disk>(disk: &mut D) -> Result<OrderNo, DiskFault>
 }
 
 // The order and the replicas of a disk at rest.
-fn read_found<D: Disk>(alloc: Global, disk: &mut D, layout: Layout) -> Result<Found, DiskFault>
+fn read_found<D: Disk>(
+    alloc: Global,
+    disk: &mut D,
+    layout: Layout,
+) -> Result<FoundReplicas, DiskFault>
     requires { disk_size layout.chunk layout.block layout.slots ≤ length (D.seen disk.old) }
     ensures found { IfOk result (λ found. (index : IndexState) (d : ServerDisk) → IsDiskOf layout.chunk layout.block layout.slots index (D.seen disk.old) d → IsFound layout.chunk layout.block layout.slots found (D.seen disk.old) d) }
     ensures reads { OnlyReads D.seen D.may_leave D.moment D.left_since disk.old disk.new }
@@ -53,7 +57,7 @@ fn read_found<D: Disk>(alloc: Global, disk: &mut D, layout: Layout) -> Result<Fo
 {
     let order = read_last_order(disk)?;
     let index = find_replicas(alloc, disk, layout)?;
-    Ok(Found { order, index })
+    Ok(FoundReplicas { order, index })
 }
 
 /// Opens a disk whose head is this layout's: makes the change that was under way, and finds the replicas.
@@ -63,7 +67,7 @@ pub fn open_formatted<D: Disk>(
     alloc: Global,
     disk: &mut D,
     layout: Layout,
-) -> Result<Found, DiskFault>
+) -> Result<FoundReplicas, DiskFault>
     requires { disk_size layout.chunk layout.block layout.slots ≤ length (D.seen disk.old) }
     ensures rest { OnOk result (IsAtRest D.seen D.may_leave (area_of layout.chunk layout.block) disk.new) }
     ensures found { IfOk result (λ found. (d : ServerDisk) → IsStored layout.chunk layout.block layout.slots (stands_for (area_of layout.chunk layout.block) (D.seen disk.old)) d

@@ -7,7 +7,7 @@ ghost use Rattle.protocol.specs.Client.{client_begins};
 ghost use Rattle.client_calls.specs.Doing.{doing};
 
 use client_calls::client::Client;
-use client_calls::effects::Effects;
+use client_calls::effects::ClientEffects;
 use client_calls::parts::has_part;
 use client_calls::sums::sum;
 use client_state::call::CurrentCall;
@@ -40,7 +40,10 @@ pub fn has_next_part(chunk: u64, index: u64, call: &Call) -> Result<bool, NoMemo
 }
 
 /// The next part begins, with all its attempts.
-pub fn begins_next_part(client: &mut Client, mut current: CurrentCall) -> Result<Effects, NoMemory>
+pub fn begins_next_part(
+    client: &mut Client,
+    mut current: CurrentCall,
+) -> Result<ClientEffects, NoMemory>
     ensures { IfOk result (λ e. begins_next_part (client_begins client.old) current ≡ doing client.new e) }
 {
     current.index = sum(current.index, 1)?;

@@ -9,7 +9,7 @@ ghost use Rattle.client.specs.Takes.{holding, waits_to_ask};
 use crate::read::gets;
 use bytes::Bytes;
 use client_calls::client::Client;
-use client_calls::effects::Effects;
+use client_calls::effects::ClientEffects;
 use client_state::call::{CurrentCall, Stage};
 use gfs_types::answer::Answer;
 use gfs_types::call::Call;
@@ -17,7 +17,11 @@ use gfs_types::no_memory::NoMemory;
 use messages::message::Location;
 
 /// It waits for a tick, and then asks again.
-fn waits_to_ask(client: &mut Client, mut current: CurrentCall, is_nobody_there: bool) -> Effects
+fn waits_to_ask(
+    client: &mut Client,
+    mut current: CurrentCall,
+    is_nobody_there: bool,
+) -> ClientEffects
     ensures { waits_to_ask (client_begins client.old) current is_nobody_there ≡ doing client.new result }
 {
     current.stage = Stage::MustAskAgain;
@@ -27,7 +31,7 @@ fn waits_to_ask(client: &mut Client, mut current: CurrentCall, is_nobody_there: 
 }
 
 /// A Wait.
-pub fn takes_wait(client: &mut Client, current: CurrentCall, number: u64) -> Effects
+pub fn takes_wait(client: &mut Client, current: CurrentCall, number: u64) -> ClientEffects
     ensures { takes_wait (holding client.old current) current current.stage number ≡ doing client.new result }
 {
     match &current.stage {
@@ -48,7 +52,7 @@ pub fn takes_told(
     current: CurrentCall,
     number: u64,
     location: &Option<Location>,
-) -> Result<Effects, NoMemory>
+) -> Result<ClientEffects, NoMemory>
     ensures { IfOk result (λ e. takes_told (holding client.old current) current current.stage number location.now ≡ doing client.new e) }
 {
     match &current.stage {
@@ -68,7 +72,7 @@ fn told(
     client: &mut Client,
     current: CurrentCall,
     location: &Option<Location>,
-) -> Result<Effects, NoMemory>
+) -> Result<ClientEffects, NoMemory>
     ensures { IfOk result (λ e. told (holding client.old current) current location.now ≡ doing client.new e) }
 {
     match location {
@@ -79,7 +83,7 @@ fn told(
 
 /// A read finds no chunk.
 #[tactic(auto, using(crate::proofs::Held::gets_held))]
-fn reads_nothing(client: &mut Client, mut current: CurrentCall) -> Result<Effects, NoMemory>
+fn reads_nothing(client: &mut Client, mut current: CurrentCall) -> Result<ClientEffects, NoMemory>
     ensures { IfOk result (λ e. gets (holding client.old current) (record current { saw_no_holder = false }) [] None ≡ doing client.new e) }
 {
     current.saw_no_holder = false;
@@ -88,7 +92,7 @@ fn reads_nothing(client: &mut Client, mut current: CurrentCall) -> Result<Effect
 }
 
 /// There is no such chunk.
-fn told_none(client: &mut Client, current: CurrentCall) -> Result<Effects, NoMemory>
+fn told_none(client: &mut Client, current: CurrentCall) -> Result<ClientEffects, NoMemory>
     ensures { IfOk result (λ e. told_none (holding client.old current) current current.asked ≡ doing client.new e) }
 {
     match &current.asked {
@@ -103,7 +107,7 @@ fn told_location(
     client: &mut Client,
     mut current: CurrentCall,
     location: &Location,
-) -> Result<Effects, NoMemory>
+) -> Result<ClientEffects, NoMemory>
     ensures { IfOk result (λ e. told_location (client_begins client.old) current location.now ≡ doing client.new e) }
 {
     if location.holders.as_slice().is_empty() {

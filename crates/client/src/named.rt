@@ -7,7 +7,7 @@ ghost use Rattle.client_calls.specs.Doing.{doing};
 ghost use Rattle.client.specs.Takes.{holding};
 
 use client_calls::client::Client;
-use client_calls::effects::Effects;
+use client_calls::effects::ClientEffects;
 use client_state::call::{CurrentCall, Stage};
 use gfs_types::no_memory::NoMemory;
 use messages::message::NameReply;
@@ -18,7 +18,7 @@ pub fn takes_named(
     current: CurrentCall,
     number: u64,
     reply: &NameReply,
-) -> Result<Effects, NoMemory>
+) -> Result<ClientEffects, NoMemory>
     ensures { IfOk result (λ e. takes_named (holding client.old current) current current.stage number reply.now ≡ doing client.new e) }
 {
     match &current.stage {
@@ -33,7 +33,7 @@ pub fn takes_named(
     }
 }
 
-fn takes_reply(client: &mut Client, reply: &NameReply) -> Result<Effects, NoMemory>
+fn takes_reply(client: &mut Client, reply: &NameReply) -> Result<ClientEffects, NoMemory>
     ensures { IfOk result (λ e. takes_reply (client_begins client.old) reply.now ≡ doing client.new e) }
 {
     match reply {

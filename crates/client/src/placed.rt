@@ -8,7 +8,7 @@ ghost use Rattle.client.specs.Takes.{holding};
 
 use crate::asked::{begins_next_part, has_next_part, is_append};
 use client_calls::client::Client;
-use client_calls::effects::Effects;
+use client_calls::effects::ClientEffects;
 use client_calls::live::less_live;
 use client_calls::parts::place_in_file;
 use client_state::call::{CurrentCall, Stage, ToldChunk};
@@ -22,7 +22,7 @@ pub fn takes_pushed(
     client: &mut Client,
     current: CurrentCall,
     id: DataId,
-) -> Result<Effects, NoMemory>
+) -> Result<ClientEffects, NoMemory>
     ensures { IfOk result (λ e. takes_pushed (holding client.old current) current current.stage id ≡ doing client.new e) }
 {
     match &current.stage {
@@ -60,7 +60,7 @@ fn succeeds(
     current: CurrentCall,
     chunk: ToldChunk,
     place: u64,
-) -> Result<Effects, NoMemory>
+) -> Result<ClientEffects, NoMemory>
     ensures { IfOk result (λ e. succeeds (client_begins client.old) current chunk place ≡ doing client.new e) }
 {
     let size = client.chunk_size();
@@ -82,7 +82,7 @@ pub fn takes_done(
     current: CurrentCall,
     id: DataId,
     place: u64,
-) -> Result<Effects, NoMemory>
+) -> Result<ClientEffects, NoMemory>
     ensures { IfOk result (λ e. takes_done (holding client.old current) current current.stage id place ≡ doing client.new e) }
 {
     match &current.stage {

@@ -10,7 +10,7 @@ use crate::asked::{begins_next_part, has_next_part};
 use bytes::Bytes;
 use client_calls::asked::{is_length, is_mutation, read_count};
 use client_calls::client::Client;
-use client_calls::effects::Effects;
+use client_calls::effects::ClientEffects;
 use client_calls::parts::place_in_file;
 use client_state::call::{CurrentCall, Stage};
 use client_state::gathered::Gathered;
@@ -45,7 +45,7 @@ fn with_found(
 }
 
 /// A read is answered with what it has.
-fn answers_read(client: &mut Client, current: CurrentCall) -> Result<Effects, NoMemory>
+fn answers_read(client: &mut Client, current: CurrentCall) -> Result<ClientEffects, NoMemory>
     ensures { IfOk result (λ e. answers_read (client_begins client.old) current ≡ doing client.new e) }
 {
     if is_mutation(&current.asked) {
@@ -62,7 +62,7 @@ pub fn gets(
     current: CurrentCall,
     found: &Bytes,
     round: Option<u64>,
-) -> Result<Effects, NoMemory>
+) -> Result<ClientEffects, NoMemory>
     ensures { IfOk result (λ e. gets (client_begins client.old) current found.now round ≡ doing client.new e) }
 {
     let size = client.chunk_size();
@@ -82,7 +82,7 @@ fn gets_part(
     current: CurrentCall,
     found: &Bytes,
     round: u64,
-) -> Result<Effects, NoMemory>
+) -> Result<ClientEffects, NoMemory>
     ensures { IfOk result (λ e. gets (holding client.old current) current found.now (Some round) ≡ doing client.new e) }
 {
     gets(client, current, found, Some(round))
@@ -94,7 +94,7 @@ pub fn takes_bytes(
     current: CurrentCall,
     number: u64,
     bytes: &Bytes,
-) -> Result<Effects, NoMemory>
+) -> Result<ClientEffects, NoMemory>
     ensures { IfOk result (λ e. takes_bytes (holding client.old current) current current.stage number bytes.now ≡ doing client.new e) }
 {
     match &current.stage {
@@ -115,7 +115,12 @@ pub fn takes_bytes(
 }
 
 /// A LenIs.
-pub fn takes_len_is(client: &mut Client, current: CurrentCall, number: u64, count: u64) -> Effects
+pub fn takes_len_is(
+    client: &mut Client,
+    current: CurrentCall,
+    number: u64,
+    count: u64,
+) -> ClientEffects
     ensures { takes_len_is (holding client.old current) current current.stage number count ≡ doing client.new result }
 {
     match &current.stage {

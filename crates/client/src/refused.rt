@@ -9,7 +9,7 @@ ghost use Rattle.client.specs.Takes.{holding, server_refuses};
 use crate::asked::is_append;
 use crate::placed::with_less_live;
 use client_calls::client::Client;
-use client_calls::effects::Effects;
+use client_calls::effects::ClientEffects;
 use client_calls::sums::sum;
 use client_state::call::{CurrentCall, LiveAttempt, Stage, ToldChunk};
 use gfs_types::answer::Answer;
@@ -24,7 +24,7 @@ pub fn takes_refused(
     current: CurrentCall,
     number: u64,
     refusal: Refusal,
-) -> Result<Effects, NoMemory>
+) -> Result<ClientEffects, NoMemory>
     ensures { IfOk result (λ e. takes_refused (holding client.old current) current current.stage number refusal ≡ doing client.new e) }
 {
     match &current.stage {
@@ -52,7 +52,7 @@ pub fn takes_refused(
 }
 
 /// The master's refusals of an ask complete the call.
-fn master_refuses(client: &mut Client, current: CurrentCall, refusal: Refusal) -> Effects
+fn master_refuses(client: &mut Client, current: CurrentCall, refusal: Refusal) -> ClientEffects
     ensures { master_refuses (holding client.old current) current refusal ≡ doing client.new result }
 {
     match refusal {
@@ -68,7 +68,7 @@ fn server_refuses(
     client: &mut Client,
     mut current: CurrentCall,
     number: u64,
-) -> Result<Effects, NoMemory>
+) -> Result<ClientEffects, NoMemory>
     ensures { IfOk result (λ e. server_refuses (holding client.old current) current current.stage number ≡ doing client.new e) }
 {
     let stage = mem::replace(&mut current.stage, Stage::IsOver);
@@ -119,7 +119,7 @@ fn finds_full(
     client: &mut Client,
     mut current: CurrentCall,
     chunk: ToldChunk,
-) -> Result<Effects, NoMemory>
+) -> Result<ClientEffects, NoMemory>
     ensures { IfOk result (λ e. finds_full (client_begins client.old) current chunk ≡ doing client.new e) }
 {
     if !is_append(&current.asked) {
@@ -136,7 +136,7 @@ fn primary_refuses(
     current: CurrentCall,
     chunk: ToldChunk,
     refusal: Refusal,
-) -> Result<Effects, NoMemory>
+) -> Result<ClientEffects, NoMemory>
     ensures { IfOk result (λ e. primary_refuses (holding client.old current) current chunk refusal ≡ doing client.new e) }
 {
     match refusal {

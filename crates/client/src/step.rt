@@ -10,18 +10,18 @@ ghost use Rattle.client.specs.Takes.{holding};
 use crate::takes::takes;
 use crate::ticks::{completes_again, ticks_at};
 use client_calls::client::Client;
-use client_calls::effects::Effects;
+use client_calls::effects::ClientEffects;
 use client_state::call::{CurrentCall, Stage};
 use gfs_types::ids::Moment;
 use gfs_types::no_memory::NoMemory;
-use messages::event::{Input, StepOut};
+use messages::event::{NodeInput, StepOut};
 use messages::message::Message;
 use messages::message_lists::MessageList;
 
 /// A step on a message or on a tick. One that is down does nothing, and so does one with a counter at its limit. For want of
 /// memory it goes down.
 #[tactic(auto, using(crate::proofs::Steps::step_did, crate::proofs::Steps::step_lost, crate::proofs::Steps::step_not_taken))]
-pub fn step(client: &mut Client, now: Moment, input: &Input) -> StepOut
+pub fn step(client: &mut Client, now: Moment, input: &NodeInput) -> StepOut
     ensures { ClientSteps client.old now.0 input.now result client.new }
 {
     if !client.may_step() {
@@ -46,7 +46,7 @@ fn empty_output(client: &Client, down: bool) -> StepOut
     }
 }
 
-fn try_step(client: &mut Client, now: Moment, input: &Input) -> Result<Effects, NoMemory>
+fn try_step(client: &mut Client, now: Moment, input: &NodeInput) -> Result<ClientEffects, NoMemory>
     ensures { IfOk result (λ e. client_goes client.old now.0 input.now ≡ doing client.new e) }
 {
     client.move_clock(now);
@@ -54,15 +54,15 @@ fn try_step(client: &mut Client, now: Moment, input: &Input) -> Result<Effects, 
 }
 
 /// A message or a tick comes to a client with or without an open call.
-fn take_input(client: &mut Client, input: &Input) -> Result<Effects, NoMemory>
+fn take_input(client: &mut Client, input: &NodeInput) -> Result<ClientEffects, NoMemory>
     ensures { IfOk result (λ e. client_does (client_begins client.old) input.now client.old.current ≡ doing client.new e) }
 {
     let Some(current) = client.take_current() else {
         return Ok(client.rests());
     };
     match input {
-        Input::Deliver(message) => takes_at(client, current, message),
-        Input::Tick => ticks_at(client, current),
+        NodeInput::Deliver(message) => takes_at(client, current, message),
+        NodeInput::Tick => ticks_at(client, current),
     }
 }
 
@@ -71,7 +71,7 @@ fn takes_at(
     client: &mut Client,
     current: CurrentCall,
     message: &Message,
-) -> Result<Effects, NoMemory>
+) -> Result<ClientEffects, NoMemory>
     ensures { IfOk result (λ e. takes_at (holding client.old current) current message.now current.stage ≡ doing client.new e) }
 {
     match &current.stage {

@@ -11,14 +11,18 @@ use crate::placed::{takes_done, takes_pushed};
 use crate::read::{takes_bytes, takes_len_is};
 use crate::refused::takes_refused;
 use client_calls::client::Client;
-use client_calls::effects::Effects;
+use client_calls::effects::ClientEffects;
 use client_state::call::CurrentCall;
 use gfs_types::no_memory::NoMemory;
 use messages::message::Body;
 
 /// The client takes it; `current` is the call, which the client doesn't hold meanwhile. For want of memory both are left in
 /// some state.
-pub fn takes(client: &mut Client, current: CurrentCall, body: &Body) -> Result<Effects, NoMemory>
+pub fn takes(
+    client: &mut Client,
+    current: CurrentCall,
+    body: &Body,
+) -> Result<ClientEffects, NoMemory>
     ensures { IfOk result (λ e. client_takes (holding client.old current) current body.now ≡ doing client.new e) }
 {
     match body {

@@ -9,7 +9,7 @@ ghost use Rattle.client.specs.Ticks.{ticks_told, ticks_untold, completes_again};
 
 use client_calls::client::Client;
 use client_calls::client_attempts::ended;
-use client_calls::effects::Effects;
+use client_calls::effects::ClientEffects;
 use client_state::call::{CurrentCall, Stage, ToldChunk};
 use gfs_types::answer::Answer;
 use gfs_types::no_memory::NoMemory;
@@ -17,7 +17,7 @@ use gfs_types::refusal::Refusal;
 use std::mem;
 
 /// The call has what completes it, which is its answer at the first step at which it may be answered.
-pub fn completes_again(client: &mut Client, mut current: CurrentCall) -> Effects
+pub fn completes_again(client: &mut Client, mut current: CurrentCall) -> ClientEffects
     ensures { completes_again (holding client.old current) current current.stage ≡ doing client.new result }
 {
     let stage = mem::replace(&mut current.stage, Stage::IsOver);
@@ -32,7 +32,7 @@ pub fn completes_again(client: &mut Client, mut current: CurrentCall) -> Effects
 
 /// A tick of a client with an open call.
 #[tactic(auto, using(crate::proofs::Held::attempts_held))]
-pub fn ticks_at(client: &mut Client, current: CurrentCall) -> Result<Effects, NoMemory>
+pub fn ticks_at(client: &mut Client, current: CurrentCall) -> Result<ClientEffects, NoMemory>
     ensures { IfOk result (λ e. ticks_at (holding client.old current) current current.stage ≡ doing client.new e) }
 {
     match &current.stage {
@@ -63,7 +63,7 @@ pub fn ticks_at(client: &mut Client, current: CurrentCall) -> Result<Effects, No
 }
 
 /// A name call's request without an answer.
-fn ticks_names(client: &mut Client, current: CurrentCall) -> Result<Effects, NoMemory>
+fn ticks_names(client: &mut Client, current: CurrentCall) -> Result<ClientEffects, NoMemory>
     ensures { IfOk result (λ e. ticks_names (holding client.old current) current ≡ doing client.new e) }
 {
     if client.is_waiting(&current) {
@@ -77,7 +77,7 @@ fn ticks_names(client: &mut Client, current: CurrentCall) -> Result<Effects, NoM
 
 /// An attempt without a location.
 #[tactic(auto, using(crate::proofs::Held::unanswered_held))]
-fn ticks_untold(client: &mut Client, current: CurrentCall) -> Result<Effects, NoMemory>
+fn ticks_untold(client: &mut Client, current: CurrentCall) -> Result<ClientEffects, NoMemory>
     ensures { IfOk result (λ e. ticks_untold (holding client.old current) current ≡ doing client.new e) }
 {
     if client.is_waiting(&current) {
@@ -92,7 +92,7 @@ fn ticks_told(
     client: &mut Client,
     current: CurrentCall,
     chunk: ToldChunk,
-) -> Result<Effects, NoMemory>
+) -> Result<ClientEffects, NoMemory>
     ensures { IfOk result (λ e. ticks_told (holding client.old current) current chunk ≡ doing client.new e) }
 {
     if client.is_waiting(&current) {
@@ -103,7 +103,7 @@ fn ticks_told(
 }
 
 /// An attempt ends without an answer; the next one begins, if there is one.
-fn ends_unanswered(client: &mut Client, current: CurrentCall) -> Result<Effects, NoMemory>
+fn ends_unanswered(client: &mut Client, current: CurrentCall) -> Result<ClientEffects, NoMemory>
     ensures { IfOk result (λ e. ends_unanswered (client_begins client.old) current ≡ doing client.new e) }
 {
     let is_last = current.left <= 1;

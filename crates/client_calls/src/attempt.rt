@@ -1,6 +1,6 @@
 //! An attempt that is about to begin.
 
-use crate::plan::Plan;
+use crate::plan::CallPlan;
 use client_state::call::CurrentCall;
 use client_state::kept::Place;
 
@@ -9,7 +9,7 @@ use client_state::kept::Place;
 pub struct Attempt {
     pub current: CurrentCall,
     /// None where no server is left that could be asked to read.
-    pub plan: Option<Plan>,
+    pub plan: Option<CallPlan>,
     /// The chunk whose kept location was looked for.
     pub looked: Option<Place>,
 }

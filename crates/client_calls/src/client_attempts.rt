@@ -9,9 +9,9 @@ ghost use Rattle.client_calls.specs.Attempts.{follows, begun};
 use crate::asked::is_mutation;
 use crate::attempt::Attempt;
 use crate::client::Client;
-use crate::effects::Effects;
+use crate::effects::ClientEffects;
 use crate::live::is_any_live;
-use crate::plan::Plan;
+use crate::plan::CallPlan;
 use crate::sent::Sent;
 use crate::sums::sum;
 use client_state::call::{CurrentCall, Stage, ToldChunk};
@@ -23,32 +23,32 @@ use messages::message::{Holder, Location};
 
 impl Client {
     /// The call goes on, with nothing sent.
-    pub fn waits(&mut self, current: CurrentCall) -> Effects
+    pub fn waits(&mut self, current: CurrentCall) -> ClientEffects
         ensures { with_current (client_begins self.old) current ≡ doing self.new result }
     {
         self.current = Some(current);
-        Effects {
+        ClientEffects {
             sent: Sent::none(self.alloc),
             answer: None,
         }
     }
 
     /// The call is answered, and over.
-    pub fn answers(&mut self, answer: Answer) -> Effects
+    pub fn answers(&mut self, answer: Answer) -> ClientEffects
         ensures { answers (client_begins self.old) answer ≡ doing self.new result }
     {
         self.current = None;
-        Effects {
+        ClientEffects {
             sent: Sent::none(self.alloc),
             answer: Some(answer),
         }
     }
 
     /// The attempt goes on as it was planned.
-    pub fn commits(&mut self, mut current: CurrentCall, plan: Plan) -> Effects
+    pub fn commits(&mut self, mut current: CurrentCall, plan: CallPlan) -> ClientEffects
         ensures { committed (client_begins self.old) current plan ≡ doing self.new result }
     {
-        let Plan {
+        let CallPlan {
             stage,
             sent,
             number,
@@ -56,11 +56,11 @@ impl Client {
         current.stage = stage;
         self.number = number;
         self.current = Some(current);
-        Effects { sent, answer: None }
+        ClientEffects { sent, answer: None }
     }
 
     /// What completed the call is its answer, once none of a mutation's attempts is live.
-    pub fn completes(&mut self, mut current: CurrentCall, answer: Answer) -> Effects
+    pub fn completes(&mut self, mut current: CurrentCall, answer: Answer) -> ClientEffects
         ensures { completes (client_begins self.old) current answer ≡ doing self.new result }
     {
         if is_mutation(&current.asked) && is_any_live(current.live.as_slice(), self.clock) {
@@ -71,7 +71,7 @@ impl Client {
     }
 
     /// The call is refused after its last attempt.
-    pub fn gives_up(&mut self, current: CurrentCall) -> Effects
+    pub fn gives_up(&mut self, current: CurrentCall) -> ClientEffects
         ensures { gives_up (client_begins self.old) current ≡ doing self.new result }
     {
         let refusal = last_refusal(&current);
@@ -79,7 +79,7 @@ impl Client {
     }
 
     /// The attempt ended by a refusal: the next one begins at the next tick, if there is one.
-    pub fn ends_refused(&mut self, current: CurrentCall) -> Effects
+    pub fn ends_refused(&mut self, current: CurrentCall) -> ClientEffects
         ensures { ends_refused (client_begins self.old) current ≡ doing self.new result }
     {
         if current.left <= 1 {
@@ -89,7 +89,7 @@ impl Client {
     }
 
     /// The master is asked.
-    pub fn asks(&mut self, mut current: CurrentCall) -> Result<Effects, NoMemory>
+    pub fn asks(&mut self, mut current: CurrentCall) -> Result<ClientEffects, NoMemory>
         ensures { IfOk result (λ e. asks (client_begins self.old) current ≡ doing self.new e) }
     {
         let plan = self.ask_planned(&current)?;
@@ -98,7 +98,7 @@ impl Client {
     }
 
     /// The attempt goes on as it was planned; a read that nobody is left to serve ends.
-    pub fn follows(&mut self, mut current: CurrentCall, plan: Option<Plan>) -> Effects
+    pub fn follows(&mut self, mut current: CurrentCall, plan: Option<CallPlan>) -> ClientEffects
         ensures { follows (client_begins self.old) current plan ≡ doing self.new result }
     {
         match plan {
@@ -117,7 +117,7 @@ impl Client {
         current: CurrentCall,
         chunk: ToldChunk,
         holders: &[Holder],
-    ) -> Result<Effects, NoMemory>
+    ) -> Result<ClientEffects, NoMemory>
         ensures { IfOk result (λ e. reads_next (client_begins self.old) current chunk holders.now ≡ doing self.new e) }
     {
         let plan = self.next_read(&current, chunk, holders)?;
@@ -129,7 +129,7 @@ impl Client {
         &mut self,
         current: CurrentCall,
         location: &Location,
-    ) -> Result<Effects, NoMemory>
+    ) -> Result<ClientEffects, NoMemory>
         ensures { IfOk result (λ e. goes_on_at (client_begins self.old) current location.now ≡ doing self.new e) }
     {
         let plan = self.planned_at(&current, location)?;
@@ -137,7 +137,7 @@ impl Client {
     }
 
     /// An attempt begins as it was planned. Takes no memory.
-    pub fn begins(&mut self, attempt: Attempt) -> Effects
+    pub fn begins(&mut self, attempt: Attempt) -> ClientEffects
         ensures { begun (client_begins self.old) attempt ≡ doing self.new result }
     {
         let Attempt {
@@ -155,7 +155,7 @@ impl Client {
     }
 
     /// An attempt of a call on a file begins. At an error nothing has changed.
-    pub fn attempts(&mut self, current: CurrentCall) -> Result<Effects, NoMemory>
+    pub fn attempts(&mut self, current: CurrentCall) -> Result<ClientEffects, NoMemory>
         ensures ok { IfOk result (λ e. attempts (client_begins self.old) current ≡ doing self.new e) }
         ensures err { OnErr result (self.new ≡ self.old) }
     {
@@ -164,7 +164,7 @@ impl Client {
     }
 
     /// An attempt of a name call: the same request again, under the same number.
-    pub fn attempts_names(&mut self, mut current: CurrentCall) -> Result<Effects, NoMemory>
+    pub fn attempts_names(&mut self, mut current: CurrentCall) -> Result<ClientEffects, NoMemory>
         ensures { IfOk result (λ e. attempts_names (client_begins self.old) current ≡ doing self.new e) }
     {
         current.deadline = Moment(sum(self.clock, self.config.attempt_ms)?);

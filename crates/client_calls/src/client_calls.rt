@@ -11,7 +11,7 @@ ghost use Rattle.client_calls.specs.Calls.{closes, appends};
 
 use crate::asked::{fd_of, is_name_call, is_range_too_long};
 use crate::client::Client;
-use crate::effects::Effects;
+use crate::effects::ClientEffects;
 use crate::sent::Sent;
 use crate::sums::sum;
 use bytes::Bytes;
@@ -55,7 +55,7 @@ impl Client {
     }
 
     /// A call begins. At an error nothing has changed.
-    pub(crate) fn calls(&mut self, call: Call) -> Result<Effects, NoMemory>
+    pub(crate) fn calls(&mut self, call: Call) -> Result<ClientEffects, NoMemory>
         ensures ok { IfOk result (λ e. calls (client_begins self.old) call ≡ doing self.new e) }
         ensures err { OnErr result (self.new ≡ self.old) }
     {
@@ -66,7 +66,7 @@ impl Client {
         self.calls_on(call, file)
     }
 
-    fn calls_on(&mut self, call: Call, file: Option<u64>) -> Result<Effects, NoMemory>
+    fn calls_on(&mut self, call: Call, file: Option<u64>) -> Result<ClientEffects, NoMemory>
         ensures ok { IfOk result (λ e. calls_on (client_begins self.old) call file ≡ doing self.new e) }
         ensures err { OnErr result (self.new ≡ self.old) }
     {
@@ -76,7 +76,7 @@ impl Client {
         }
     }
 
-    fn calls_names(&mut self, call: Call) -> Result<Effects, NoMemory>
+    fn calls_names(&mut self, call: Call) -> Result<ClientEffects, NoMemory>
         ensures ok { IfOk result (λ e. calls_names (client_begins self.old) call ≡ doing self.new e) }
         ensures err { OnErr result (self.new ≡ self.old) }
     {
@@ -89,7 +89,7 @@ impl Client {
     }
 
     /// A call on an open descriptor.
-    fn calls_file(&mut self, call: Call, file: u64) -> Result<Effects, NoMemory>
+    fn calls_file(&mut self, call: Call, file: u64) -> Result<ClientEffects, NoMemory>
         ensures ok { IfOk result (λ e. calls_file (client_begins self.old) call file ≡ doing self.new e) }
         ensures err { OnErr result (self.new ≡ self.old) }
     {
@@ -128,7 +128,7 @@ impl Client {
                 }
                 self.begins_call(call, file, offset / size)
             }
-            _ => Ok(Effects {
+            _ => Ok(ClientEffects {
                 sent: Sent::none(self.alloc),
                 answer: None,
             }),
@@ -136,7 +136,7 @@ impl Client {
     }
 
     /// A read of no bytes is answered.
-    fn answers_nothing(&mut self) -> Effects
+    fn answers_nothing(&mut self) -> ClientEffects
         ensures { answers (client_begins self.old) (answer.Bytes [] []) ≡ doing self.new result }
     {
         self.answers(Answer::Bytes {
@@ -146,7 +146,7 @@ impl Client {
     }
 
     /// The call's first attempt begins.
-    fn begins_call(&mut self, call: Call, file: u64, index: u64) -> Result<Effects, NoMemory>
+    fn begins_call(&mut self, call: Call, file: u64, index: u64) -> Result<ClientEffects, NoMemory>
         ensures ok { IfOk result (λ e. attempts (client_begins self.old) (new_call self.old.config.attempts 0 call file index None) ≡ doing self.new e) }
         ensures err { OnErr result (self.new ≡ self.old) }
     {
@@ -155,7 +155,7 @@ impl Client {
     }
 
     /// A descriptor is closed, and with its last one the file.
-    fn closes(&mut self, fd: u64, file: u64) -> Result<Effects, NoMemory>
+    fn closes(&mut self, fd: u64, file: u64) -> Result<ClientEffects, NoMemory>
         ensures ok { IfOk result (λ e. closes (client_begins self.old) fd file ≡ doing self.new e) }
         ensures err { OnErr result (self.new ≡ self.old) }
     {
@@ -179,7 +179,7 @@ impl Client {
     }
 
     /// An append looks first where the last one to its file succeeded.
-    fn appends(&mut self, call: Call, file: u64) -> Result<Effects, NoMemory>
+    fn appends(&mut self, call: Call, file: u64) -> Result<ClientEffects, NoMemory>
         ensures ok { IfOk result (λ e. appends (client_begins self.old) call file ≡ doing self.new e) }
         ensures err { OnErr result (self.new ≡ self.old) }
     {

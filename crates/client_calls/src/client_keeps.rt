@@ -9,7 +9,7 @@ ghost use Rattle.protocol.specs.ClientTakes.{is_own_data, opens};
 ghost use Rattle.client_calls.specs.Doing.{doing};
 
 use crate::client::Client;
-use crate::effects::Effects;
+use crate::effects::ClientEffects;
 use crate::sent::Sent;
 use crate::sums::sum;
 use client_state::call::{CurrentCall, ToldChunk};
@@ -72,17 +72,17 @@ impl Client {
     }
 
     /// A step that gives nothing.
-    pub fn rests(&self) -> Effects
+    pub fn rests(&self) -> ClientEffects
         ensures { client_begins self.now ≡ doing self.now result }
     {
-        Effects {
+        ClientEffects {
             sent: Sent::none(self.alloc),
             answer: None,
         }
     }
 
     /// A file is opened, under the next descriptor.
-    pub fn opens(&mut self, file: FileId) -> Result<Effects, NoMemory>
+    pub fn opens(&mut self, file: FileId) -> Result<ClientEffects, NoMemory>
         ensures { IfOk result (λ e. opens (client_begins self.old) file.0 ≡ doing self.new e) }
     {
         let fd = sum(self.fd_count, 1)?;

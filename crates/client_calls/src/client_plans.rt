@@ -12,7 +12,7 @@ use crate::asked::{
 };
 use crate::attempt::Attempt;
 use crate::client::Client;
-use crate::plan::Plan;
+use crate::plan::CallPlan;
 use crate::sent::Sent;
 use crate::sums::sum;
 use client_state::call::{CurrentCall, Stage, ToldChunk};
@@ -50,7 +50,7 @@ impl Client {
     }
 
     /// The master is asked for a chunk.
-    pub fn ask_planned(&self, current: &CurrentCall) -> Result<Plan, NoMemory>
+    pub fn ask_planned(&self, current: &CurrentCall) -> Result<CallPlan, NoMemory>
         ensures { IfOk result (λ plan. plan ≡ ask_planned self.now current.now) }
     {
         let number = self.next_number()?;
@@ -61,7 +61,7 @@ impl Client {
             deadline: current.deadline,
             lost_lease: current.lost_lease,
         };
-        Ok(Plan {
+        Ok(CallPlan {
             stage: Stage::AskedWhere(number),
             sent: self.message_to(Node::Master, body)?,
             number,
@@ -101,13 +101,13 @@ impl Client {
         chunk: ToldChunk,
         holder: Holder,
         rest: &[Holder],
-    ) -> Result<Plan, NoMemory>
+    ) -> Result<CallPlan, NoMemory>
         ensures { IfOk result (λ plan. plan ≡ read_planned self.now current.now chunk holder rest.now) }
     {
         let number = self.next_number()?;
         let left = HolderList::new(Vec::from_clones(self.alloc, rest)?);
         let body = self.read_body(current, chunk, holder)?;
-        Ok(Plan {
+        Ok(CallPlan {
             stage: Stage::SentRead {
                 chunk,
                 left,
@@ -124,7 +124,7 @@ impl Client {
         current: &CurrentCall,
         chunk: ToldChunk,
         holders: &[Holder],
-    ) -> Result<Option<Plan>, NoMemory>
+    ) -> Result<Option<CallPlan>, NoMemory>
         ensures { IfOk result (λ plan. plan ≡ next_read self.now current.now chunk holders.now) }
     {
         let Some((holder, rest)) = holders.split_first() else {
@@ -135,10 +135,10 @@ impl Client {
     }
 
     /// It waits for a tick, and then asks again.
-    fn again_planned(&self) -> Plan
+    fn again_planned(&self) -> CallPlan
         ensures { result ≡ again_planned self.now }
     {
-        Plan {
+        CallPlan {
             stage: Stage::MustAskAgain,
             sent: Sent::none(self.alloc),
             number: self.number,
@@ -152,7 +152,7 @@ impl Client {
         chunk: ToldChunk,
         group: &Group,
         first: Option<ServerId>,
-    ) -> Result<Plan, NoMemory>
+    ) -> Result<CallPlan, NoMemory>
         ensures { IfOk result (λ plan. plan ≡ push_planned_to self.now current.now chunk group.now first) }
     {
         let Some(first) = first else {
@@ -164,7 +164,7 @@ impl Client {
             bytes: bytes_to_send(self.chunk_size(), current.index, &current.asked)?,
             rest: hops_after(self.alloc, group.members.as_slice(), first.0)?,
         };
-        Ok(Plan {
+        Ok(CallPlan {
             stage: Stage::SentData {
                 chunk,
                 primary: group.primary,
@@ -190,7 +190,7 @@ impl Client {
         current: &CurrentCall,
         chunk: ToldChunk,
         group: &Option<Group>,
-    ) -> Result<Plan, NoMemory>
+    ) -> Result<CallPlan, NoMemory>
         ensures { IfOk result (λ plan. plan ≡ push_planned self.now current.now chunk group.now) }
     {
         let Some(group) = group else {
@@ -207,7 +207,7 @@ impl Client {
         chunk: ToldChunk,
         primary: ServerId,
         number: u64,
-    ) -> Result<Plan, NoMemory>
+    ) -> Result<CallPlan, NoMemory>
         ensures { IfOk result (λ plan. plan ≡ mutate_planned self.now current.now chunk primary number) }
     {
         let body = Body::Mutate {
@@ -217,7 +217,7 @@ impl Client {
             target: target_of(self.chunk_size(), current.index, &current.asked),
             deadline: current.deadline,
         };
-        Ok(Plan {
+        Ok(CallPlan {
             stage: Stage::SentMutate { chunk, number },
             sent: self.message_to(Node::Server(primary), body)?,
             number: self.number,
@@ -225,7 +225,7 @@ impl Client {
     }
 
     /// A name call's request: Open and List only look.
-    pub fn name_planned(&self, current: &CurrentCall) -> Result<Plan, NoMemory>
+    pub fn name_planned(&self, current: &CurrentCall) -> Result<CallPlan, NoMemory>
         ensures { IfOk result (λ plan. plan ≡ name_planned self.now current.now) }
     {
         let call = current.asked.copy(self.alloc)?;
@@ -241,7 +241,7 @@ impl Client {
                 call,
             }
         };
-        Ok(Plan {
+        Ok(CallPlan {
             stage: Stage::AskedNames,
             sent: self.message_to(Node::Master, body)?,
             number: self.number,
@@ -253,7 +253,7 @@ impl Client {
         &self,
         current: &CurrentCall,
         location: &Location,
-    ) -> Result<Option<Plan>, NoMemory>
+    ) -> Result<Option<CallPlan>, NoMemory>
         ensures { IfOk result (λ plan. plan ≡ planned_at self.now current.now location.now) }
     {
         let chunk = chunk_of(location);

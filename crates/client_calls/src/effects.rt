@@ -9,12 +9,12 @@ use messages::event::StepOut;
 
 /// The message and the answer of a step.
 #[derive(Drop)]
-pub struct Effects {
+pub struct ClientEffects {
     pub sent: Sent,
     pub answer: Option<Answer>,
 }
 
-impl Effects {
+impl ClientEffects {
     /// The output of the step.
     pub fn into_out(self) -> StepOut
         ensures { result ≡ record { sent = option_to_list self.sent; answer = self.answer; down = false } }

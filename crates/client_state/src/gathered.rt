@@ -3,7 +3,7 @@
 ghost use Rattle.std.specs.Prelude.{◌≡◌, ◌++◌, [], IfOk, OnOk, length};
 ghost use Rattle.client_state.specs.Holding.{bytes_held};
 
-use crate::held::Held;
+use crate::held::ReadBytes;
 use bytes::Bytes;
 use gfs_types::no_memory::NoMemory;
 use std::alloc::Global;
@@ -12,7 +12,7 @@ use std::marker::Model;
 /// The bytes that a read has so far, seen as their list.
 #[derive(Drop)]
 pub struct Gathered {
-    held: Held,
+    held: ReadBytes,
     alloc: Global,
 }
 
@@ -31,7 +31,7 @@ impl Gathered {
         ensures { result ≡ [] }
     {
         Gathered {
-            held: Held::One(Bytes::new()),
+            held: ReadBytes::One(Bytes::new()),
             alloc,
         }
     }
@@ -42,11 +42,11 @@ impl Gathered {
     {
         let Gathered { held, alloc } = self;
         match held {
-            Held::One(first) => {
+            ReadBytes::One(first) => {
                 if first.is_empty() {
                     let first = found.clone()?;
                     return Ok(Gathered {
-                        held: Held::One(first),
+                        held: ReadBytes::One(first),
                         alloc,
                     });
                 }
@@ -55,14 +55,14 @@ impl Gathered {
                 many.extend_from_slice(first.as_slice())?;
                 many.extend_from_slice(found.as_slice())?;
                 Ok(Gathered {
-                    held: Held::Many(many),
+                    held: ReadBytes::Many(many),
                     alloc,
                 })
             }
-            Held::Many(mut many) => {
+            ReadBytes::Many(mut many) => {
                 many.extend_from_slice(found.as_slice())?;
                 Ok(Gathered {
-                    held: Held::Many(many),
+                    held: ReadBytes::Many(many),
                     alloc,
                 })
             }
@@ -74,8 +74,8 @@ impl Gathered {
         ensures { IfOk result (λ b. b ≡ self) }
     {
         match self.held {
-            Held::One(bytes) => Ok(bytes),
-            Held::Many(many) => Ok(Bytes::from_vec(many)?),
+            ReadBytes::One(bytes) => Ok(bytes),
+            ReadBytes::Many(many) => Ok(Bytes::from_vec(many)?),
         }
     }
 }

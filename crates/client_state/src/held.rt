@@ -3,7 +3,7 @@
 use bytes::Bytes;
 
 #[derive(Drop)]
-pub enum Held {
+pub enum ReadBytes {
     One(Bytes),
     Many(Vec<u8>),
 }

@@ -5,11 +5,15 @@ mod device;
 mod fault;
 mod fuse;
 mod memory;
+mod node_disk;
 mod page;
 mod pages;
 mod past_write;
+mod stoppable;
 
 pub use device::{Disk, DiskFault};
 pub use fault::FaultDisk;
 pub use fuse::FuseDisk;
 pub use memory::MemDisk;
+pub use node_disk::NodeDisk;
+pub use stoppable::StoppableDisk;

@@ -8,8 +8,8 @@ use Rattle.gfs_types.specs.declared.ids.Version.{Version}
 use Rattle.replica_store.specs.declared.change.StoreChange.{StoreChange}
 use Rattle.replica_store.specs.declared.row.Row.{Row}
 use Rattle.replica_store.specs.Replicas.{ServerDisk, row_at}
-use Rattle.server_store.specs.declared.fault.StoreFault.{StoreFault}
-use Rattle.server_store.specs.declared.fault.StoreFault.TheVariants as store
+use Rattle.server_store.specs.declared.fault.ReplicaStoreFault.{ReplicaStoreFault}
+use Rattle.server_store.specs.declared.fault.ReplicaStoreFault.TheVariants as store
 use Rattle.store_changes.specs.Faults.{IsRefused, MayFail, is_refusal}
 use Rattle.store_changes.specs.declared.fault.StoreFault.{StoreFault as ChangeFault}
 use Rattle.store_changes.specs.declared.fault.StoreFault.TheVariants as change
@@ -18,16 +18,16 @@ use Rattle.disk_store.specs.Faults.{HasCause, of_change, of_disk}
 use Rattle.disk_store.specs.Standing.{writes}
 
 -- a disk's fault is no want of room
-pub disk_has_room : {T : Type 0} (f : DiskFault) (x : StoreFault) → x ≡ of_disk f → IsErrOf {T = T} (Err x) store.NoRoom → ⊥
+pub disk_has_room : {T : Type 0} (f : DiskFault) (x : ReplicaStoreFault) → x ≡ of_disk f → IsErrOf {T = T} (Err x) store.NoRoom → ⊥
 disk_has_room disk.Device x is e = absurd cc
 disk_has_room disk.NoMemory x is e = absurd cc
 
-pub disk_cause : {T U : Type 0} (before now : ℕ) (f : DiskFault) (x : StoreFault) → x ≡ of_disk f → IsOfDisk {T = T} before now (Err f) → HasCause {T = U} before now (Err x)
+pub disk_cause : {T U : Type 0} (before now : ℕ) (f : DiskFault) (x : ReplicaStoreFault) → x ≡ of_disk f → IsOfDisk {T = T} before now (Err f) → HasCause {T = U} before now (Err x)
 disk_cause before now disk.Device x is h = record { later = h.later; failed = λ e. h.failed refl }
 disk_cause before now disk.NoMemory x is h = record { later = h.later; failed = λ e. absurd cc }
 
 -- a change's fault that is none of these is the disk's, or want of memory or room
-pub change_cause : {T U : Type 0} (before now : ℕ) (f : ChangeFault) (x : StoreFault) → x ≡ of_change f → (f ≡ change.NoChunk → ⊥) → (f ≡ change.Version → ⊥) → (f ≡ change.OldSerial → ⊥) → (f ≡ change.Corrupt → ⊥)
+pub change_cause : {T U : Type 0} (before now : ℕ) (f : ChangeFault) (x : ReplicaStoreFault) → x ≡ of_change f → (f ≡ change.NoChunk → ⊥) → (f ≡ change.Version → ⊥) → (f ≡ change.OldSerial → ⊥) → (f ≡ change.Corrupt → ⊥)
     → MayFail {T = T} before now (Err f) → HasCause {T = U} before now (Err x)
 change_cause before now change.NoChunk x is chunk version serial intact h = absurd (chunk refl)
 change_cause before now change.Version x is chunk version serial intact h = absurd (version refl)
@@ -37,7 +37,7 @@ change_cause before now change.NoRoom x is chunk version serial intact h = recor
 change_cause before now change.Device x is chunk version serial intact h = record { later = h.later; failed = λ e. h.failed refl }
 change_cause before now change.NoMemory x is chunk version serial intact h = record { later = h.later; failed = λ e. absurd cc }
 
-pub change_has_room : {T : Type 0} (f : ChangeFault) (x : StoreFault) → x ≡ of_change f → (f ≡ change.NoRoom → ⊥) → IsErrOf {T = T} (Err x) store.NoRoom → ⊥
+pub change_has_room : {T : Type 0} (f : ChangeFault) (x : ReplicaStoreFault) → x ≡ of_change f → (f ≡ change.NoRoom → ⊥) → IsErrOf {T = T} (Err x) store.NoRoom → ⊥
 change_has_room change.NoChunk x is room e = absurd cc
 change_has_room change.Version x is room e = absurd cc
 change_has_room change.OldSerial x is room e = absurd cc
@@ -47,7 +47,7 @@ change_has_room change.Device x is room e = absurd cc
 change_has_room change.NoMemory x is room e = absurd cc
 
 -- a look at a replica of this version, each block of which matches
-pub look_cause : {T U : Type 0} (before now : ℕ) (d : ServerDisk) (h : ℕ) (version : Version) (row : Row) (f : ChangeFault) (x : StoreFault) → x ≡ of_change f → (IsErrOf {T = T} (Err f) change.NoChunk ↔ row_at d h ≡ None)
+pub look_cause : {T U : Type 0} (before now : ℕ) (d : ServerDisk) (h : ℕ) (version : Version) (row : Row) (f : ChangeFault) (x : ReplicaStoreFault) → x ≡ of_change f → (IsErrOf {T = T} (Err f) change.NoChunk ↔ row_at d h ≡ None)
     → (IsErrOf {T = T} (Err f) change.Version ↔ (held : Row) × (row_at d h ≡ Some held) × (held.version ≢ version)) → (IsErrOf {T = T} (Err f) change.OldSerial → ⊥) → (f ≡ change.Corrupt → ⊥) → row_at d h ≡ Some row → row.version ≡ version
     → MayFail {T = T} before now (Err f) → HasCause {T = U} before now (Err x)
 look_cause before now d h version row f x is chunk other serial intact at same may =
@@ -55,7 +55,7 @@ look_cause before now d h version row f x is chunk other serial intact at same m
     (λ e. let p = other.0 (ap (λ (y : ChangeFault). Err y) e) in p.2 (ap (λ (r : Row). r.version) (one_row (row_at d h) p.0 row p.1 at) ∙ same)) (λ e. serial (ap (λ (y : ChangeFault). Err y) e)) intact may
 
 -- want of room is a change's own
-pub only_room : (f : ChangeFault) (x : StoreFault) → x ≡ of_change f → x ≡ store.NoRoom → f ≡ change.NoRoom
+pub only_room : (f : ChangeFault) (x : ReplicaStoreFault) → x ≡ of_change f → x ≡ store.NoRoom → f ≡ change.NoRoom
 only_room change.NoChunk x is e = absurd cc
 only_room change.Version x is e = absurd cc
 only_room change.OldSerial x is e = absurd cc

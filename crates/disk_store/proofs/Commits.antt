@@ -11,17 +11,17 @@ use Rattle.chunk_store.proofs.StillOpen.{read_open}
 use Rattle.disk_store.specs.Known.{IsKnownOf, Rows, can_be_told}
 use Rattle.disk_store.specs.Noticed.{IsCareful}
 use Rattle.disk_store.specs.Standing.{AllNoticed, IsKept, IsSaid, LeavesCareful, LeavesMade}
-use Rattle.disk_store.specs.declared.standing.Standing.{Standing}
-use Rattle.disk_store.specs.declared.standing.Standing.TheVariants.{Open, Unread, Changing}
+use Rattle.disk_store.specs.declared.standing.DiskStoreState.{DiskStoreState}
+use Rattle.disk_store.specs.declared.standing.DiskStoreState.TheVariants.{Open, Unread, Changing}
 use Rattle.disk_store.proofs.Careful.{careful_or}
 use Rattle.disk_store.proofs.Saying.{open_leaves}
 use Rattle.disk_store.proofs.Keeping.{after_change, all_noticed_kept, changing_kept, failed_leaves, read_kept, refused_kept}
 
 -- where the standing says so, the store is open
-pub open_as : {D : Type 0} (seen : D → List ℕ) (may_leave : D → List ℕ → Type 0) (store : Store D) (order : OrderNo) (rows : Rows) (d : ServerDisk) (standing : Standing) → IsKept seen may_leave store order rows d standing → standing ≡ Open → IsOpen seen may_leave store d
+pub open_as : {D : Type 0} (seen : D → List ℕ) (may_leave : D → List ℕ → Type 0) (store : Store D) (order : OrderNo) (rows : Rows) (d : ServerDisk) (standing : DiskStoreState) → IsKept seen may_leave store order rows d standing → standing ≡ Open → IsOpen seen may_leave store d
 open_as seen may_leave store order rows d standing kept is = (subst (IsKept seen may_leave store order rows d) is kept).stands
 
-module _ {D : Type 0} (seen : D → List ℕ) (may_leave : D → List ℕ → Type 0) (store : Store D) (order : OrderNo) (rows : Rows) (d : ServerDisk) (standing : Standing) (kept : IsKept seen may_leave store order rows d standing)
+module _ {D : Type 0} (seen : D → List ℕ) (may_leave : D → List ℕ → Type 0) (store : Store D) (order : OrderNo) (rows : Rows) (d : ServerDisk) (standing : DiskStoreState) (kept : IsKept seen may_leave store order rows d standing)
     (mid : Store D) (unchanged : mid ≡ record store { disk = mid.disk }) (still : (e : ServerDisk) → IsOpen seen may_leave store e → IsOpen seen may_leave mid e) (is : standing ≡ Open) where
   pub mid_kept : IsKept seen may_leave mid order rows d Open
   mid_kept = let open_kept = subst (IsKept seen may_leave store order rows d) is kept in read_kept seen may_leave store order rows d mid (ap (λ (s : Store D). s.layout) unchanged) (still d open_kept.stands) open_kept
@@ -30,7 +30,7 @@ module _ {D : Type 0} (seen : D → List ℕ) (may_leave : D → List ℕ → Ty
   pub looked_kept : IsKept seen may_leave mid order rows d standing
   looked_kept = subst (IsKept seen may_leave mid order rows d) (sym is) mid_kept
 
-module _ {D : Type 0} (seen : D → List ℕ) (may_leave : D → List ℕ → Type 0) (store : Store D) (order : OrderNo) (rows : Rows) (d : ServerDisk) (standing : Standing) (kept : IsKept seen may_leave store order rows d standing) (is : standing ≡ Open) where
+module _ {D : Type 0} (seen : D → List ℕ) (may_leave : D → List ℕ → Type 0) (store : Store D) (order : OrderNo) (rows : Rows) (d : ServerDisk) (standing : DiskStoreState) (kept : IsKept seen may_leave store order rows d standing) (is : standing ≡ Open) where
   open_kept : IsKept seen may_leave store order rows d Open
   open_kept = subst (IsKept seen may_leave store order rows d) is kept
 

@@ -7,7 +7,7 @@ use Rattle.replica_store.specs.Replicas.{ServerDisk}
 use Rattle.store_changes.specs.Areas.{area_of}
 use Rattle.store_disk.specs.Formats.{is_head_open}
 use Rattle.chunk_store.specs.Opening.{IsFound, IsOpening}
-use Rattle.chunk_store.specs.declared.found.Found.{Found}
+use Rattle.chunk_store.specs.declared.found.FoundReplicas.{FoundReplicas}
 use Rattle.store_disk.specs.Stored.{IsStored}
 use Rattle.disk_store.specs.Standing.{IsFoundAmong, IsSaid, StillSays}
 
@@ -33,7 +33,7 @@ module _ {D : Type 0} (seen : D → List ℕ) (may_leave : D → List ℕ → Ty
         by (inr (inl forming)) = let e : true ≡ false = sym opened ∙ sym (ap is_head_open reads.seen_same) ∙ forming.0 in absurd cc
         by (inr (inr so)) = (seen mid, lawful, λ d says. so d (inr (ap is_head_open reads.seen_same ∙ opened, subst (λ (l : List ℕ). IsSaid chunk block slots l d) (sym reads.seen_same) says)))
 
-    pub found_among : (new : D) (found : Found) → ((d : ServerDisk) → (is_head_open (seen next) ≡ true) × IsStored chunk block slots (stands_for (area_of chunk block) (seen next)) d → IsFound chunk block slots found (stands_for (area_of chunk block) (seen new)) d)
+    pub found_among : (new : D) (found : FoundReplicas) → ((d : ServerDisk) → (is_head_open (seen next) ≡ true) × IsStored chunk block slots (stands_for (area_of chunk block) (seen next)) d → IsFound chunk block slots found (stands_for (area_of chunk block) (seen new)) d)
         → IsFoundAmong seen old new chunk block slots found
     found_among new found finds = record {
       bytes = seen mid;

@@ -12,12 +12,12 @@ use Rattle.disk_store.specs.Noticed.{AreNoticed, IsCareful}
 use Rattle.disk_store.proofs.Changes.{changed_noticed}
 use Rattle.server_store.specs.Stores.{IsFound}
 use Rattle.disk_store.specs.Standing.{AllNoticed, IsKept, Leaves, LeavesCareful, LeavesMade, IsStandingTrue, StillSays, changes_of, closed, found_made, refused}
-use Rattle.disk_store.specs.declared.standing.Standing.{Standing}
-use Rattle.disk_store.specs.declared.standing.Standing.TheVariants.{Open, Unread, Changing}
+use Rattle.disk_store.specs.declared.standing.DiskStoreState.{DiskStoreState}
+use Rattle.disk_store.specs.declared.standing.DiskStoreState.TheVariants.{Open, Unread, Changing}
 use Rattle.disk_store.proofs.Saying.{changed_block, open_leaves, open_noticed}
 
 module _ {D : Type 0} (seen : D → List ℕ) (may_leave : D → List ℕ → Type 0) (store : Store D) (order : OrderNo) (rows : Rows) (d : ServerDisk) where
-  abbrev Kept : Standing → Type 0
+  abbrev Kept : DiskStoreState → Type 0
   Kept = IsKept seen may_leave store order rows d
 
   -- what a stop left goes on to say the same
@@ -39,21 +39,21 @@ module _ {D : Type 0} (seen : D → List ℕ) (may_leave : D → List ℕ → Ty
       ]
 
   -- in another standing
-  stands_as : (one two : Standing) → Kept one → IsStandingTrue seen may_leave store rows d two → Kept two
+  stands_as : (one two : DiskStoreState) → Kept one → IsStandingTrue seen may_leave store rows d two → Kept two
   stands_as one two kept stands = record { block_is = kept.block_is; whole = kept.whole; known = kept.known; noticed = kept.noticed; stands = stands }
 
-  pub closed_kept : (standing : Standing) → Kept standing → Kept (closed standing)
+  pub closed_kept : (standing : DiskStoreState) → Kept standing → Kept (closed standing)
   closed_kept Open kept = stands_as Open (Unread None None) kept (d, tt, refl, open_leaves seen may_leave store d kept.stands)
   closed_kept (Unread change byte) kept = kept
   closed_kept (Changing change) kept = kept
 
-  pub refused_kept : (standing : Standing) (change : StoreChange) → changes_of standing ≡ [] → Kept standing → Kept (refused standing change)
+  pub refused_kept : (standing : DiskStoreState) (change : StoreChange) → changes_of standing ≡ [] → Kept standing → Kept (refused standing change)
   refused_kept Open change none kept = stands_as Open (Unread (Some change) None) kept (d, tt, refl, open_leaves seen may_leave store d kept.stands)
   refused_kept (Unread other byte) change none kept = stands_as (Unread other byte) (Unread (Some change) byte) kept kept.stands
   refused_kept (Changing other) change none kept = absurd cc
 
   -- in a store of the same layout
-  pub in_layout : (one two : Standing) (new : Store D) → new.layout ≡ store.layout → Kept one → IsStandingTrue seen may_leave new rows d two → IsKept seen may_leave new order rows d two
+  pub in_layout : (one two : DiskStoreState) (new : Store D) → new.layout ≡ store.layout → Kept one → IsStandingTrue seen may_leave new rows d two → IsKept seen may_leave new order rows d two
   in_layout one two new same kept stands = record {
     block_is = kept.block_is ∙ sym (ap (λ (l : Layout). l.block) same);
     whole = ap (λ (l : Layout). l.chunk % l.block) same ∙ kept.whole;
@@ -73,7 +73,7 @@ module _ {D : Type 0} (seen : D → List ℕ) (may_leave : D → List ℕ → Ty
       (subst (λ (l : Layout). (can_be_told l.chunk rows change ≡ true) × LeavesCareful may_leave (record { disk = new.disk; layout = l; order = new.order; index = new.index; hashed = tt }) d change) (sym same) (told, leaves))
 
   -- a change was made, or found made
-  pub after_change : (new : Store D) (after : OrderNo) (found : Rows) (change : StoreChange) {standing : Standing} → new.layout ≡ store.layout → Kept standing → IsCareful store.layout.chunk d change → IsKnownOf after found (disk_changed d change)
+  pub after_change : (new : Store D) (after : OrderNo) (found : Rows) (change : StoreChange) {standing : DiskStoreState} → new.layout ≡ store.layout → Kept standing → IsCareful store.layout.chunk d change → IsKnownOf after found (disk_changed d change)
       → IsOpen seen may_leave new (disk_changed d change) → IsKept seen may_leave new after found (disk_changed d change) Open
   after_change new after found change same kept careful known is =
       let positive : 1 ≤ d.block = (let size = kept.block_is in omega (arith, size, store.layout.block_range)) in
@@ -99,7 +99,7 @@ module _ {D : Type 0} (seen : D → List ℕ) (may_leave : D → List ℕ → Ty
       stands.stop.each c (counts_now new.disk (moment store.disk) c stands.stop.later left)
 
   -- the disk began again and was read, whatever came of it
-  pub reopened_kept : (standing : Standing) (disk : D) → (standing ≡ Open → ⊥) → Follows (StillSays store.layout.chunk store.layout.block store.layout.slots) (may_leave store.disk) (may_leave disk) → Kept standing
+  pub reopened_kept : (standing : DiskStoreState) (disk : D) → (standing ≡ Open → ⊥) → Follows (StillSays store.layout.chunk store.layout.block store.layout.slots) (may_leave store.disk) (may_leave disk) → Kept standing
       → IsKept seen may_leave (record store { disk = disk }) order rows d standing
   reopened_kept Open disk other stops kept = absurd (other refl)
   reopened_kept (Unread change byte) disk other stops kept =
@@ -108,29 +108,29 @@ module _ {D : Type 0} (seen : D → List ℕ) (may_leave : D → List ℕ → Ty
       in_layout (Changing change) (Changing change) (record store { disk = disk }) refl kept (kept.stands.0, still_careful disk stops change kept.stands.1)
 
 -- what is under way in another standing
-pub refused_is : (standing : Standing) (change : StoreChange) → changes_of standing ≡ [] → changes_of (refused standing change) ≡ change ∷ []
+pub refused_is : (standing : DiskStoreState) (change : StoreChange) → changes_of standing ≡ [] → changes_of (refused standing change) ≡ change ∷ []
 refused_is Open change none = refl
 refused_is (Unread other byte) change none = refl
 refused_is (Changing other) change none = absurd cc
 
-pub closed_is : (standing : Standing) → changes_of (closed standing) ≡ changes_of standing
+pub closed_is : (standing : DiskStoreState) → changes_of (closed standing) ≡ changes_of standing
 closed_is Open = refl
 closed_is (Unread change byte) = refl
 closed_is (Changing change) = refl
 
 -- a store that is to be read anew isn't open
-pub closed_not_open : (standing : Standing) → closed standing ≡ Open → ⊥
+pub closed_not_open : (standing : DiskStoreState) → closed standing ≡ Open → ⊥
 closed_not_open Open e = cc
 closed_not_open (Unread change byte) e = cc
 closed_not_open (Changing change) e = cc
 
 -- of the same disk, in the same standing
-pub as_said : {D : Type 0} (seen : D → List ℕ) (may_leave : D → List ℕ → Type 0) (store : Store D) (order : OrderNo) (rows : Rows) (d e : ServerDisk) (one two : Standing) → e ≡ d → two ≡ one → IsKept seen may_leave store order rows d one → IsKept seen may_leave store order rows e two
+pub as_said : {D : Type 0} (seen : D → List ℕ) (may_leave : D → List ℕ → Type 0) (store : Store D) (order : OrderNo) (rows : Rows) (d e : ServerDisk) (one two : DiskStoreState) → e ≡ d → two ≡ one → IsKept seen may_leave store order rows d one → IsKept seen may_leave store order rows e two
 as_said seen may_leave store order rows d e one two said standing kept =
-    subst (λ (s : Standing). IsKept seen may_leave store order rows e s) (sym standing) (subst (λ (x : ServerDisk). IsKept seen may_leave store order rows x one) (sym said) kept)
+    subst (λ (s : DiskStoreState). IsKept seen may_leave store order rows e s) (sym standing) (subst (λ (x : ServerDisk). IsKept seen may_leave store order rows x one) (sym said) kept)
 
 -- a change that was found made is what was under way
-pub found_under_way : (order : OrderNo) (rows : Rows) (standing : Standing) (change : StoreChange) → found_made order rows standing ≡ Some change → changes_of standing ≡ change ∷ []
+pub found_under_way : (order : OrderNo) (rows : Rows) (standing : DiskStoreState) (change : StoreChange) → found_made order rows standing ≡ Some change → changes_of standing ≡ change ∷ []
 found_under_way order rows Open change e = absurd cc
 found_under_way order rows (Unread other byte) change e = absurd cc
 found_under_way order rows (Changing other) change e = by (is_made order rows other) e

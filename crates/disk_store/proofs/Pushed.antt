@@ -4,6 +4,6 @@ use Rattle.replica_store.specs.Replicas.{ServerDisk}
 use Rattle.disk_store.specs.Said.{said_after, said_changed}
 use Rattle.disk_store.specs.declared.change.SaidChange.{SaidChange}
 
-pub said_pushed : {M : Type 0} (d : ServerDisk) (changes : List (SaidChange × M)) (change : SaidChange × M) → said_after d (changes ++ change ∷ []) ≡ said_changed (said_after d changes) change.0
+pub said_pushed : (d : ServerDisk) (changes : List SaidChange) (change : SaidChange) → said_after d (changes ++ change ∷ []) ≡ said_changed (said_after d changes) change
 said_pushed d [] change = refl
-said_pushed d (first ∷ rest) change = said_pushed (said_changed d first.0) rest change
+said_pushed d (first ∷ rest) change = said_pushed (said_changed d first) rest change

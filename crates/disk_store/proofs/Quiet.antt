@@ -15,8 +15,8 @@ use Rattle.chunk_store.proofs.StillOpen.{still_open}
 use Rattle.disk_store.specs.Known.{IsKnownOf, Rows}
 use Rattle.disk_store.specs.Noticed.{AreNoticed}
 use Rattle.disk_store.specs.Standing.{IsKept, Leaves}
-use Rattle.disk_store.specs.declared.standing.Standing.{Standing}
-use Rattle.disk_store.specs.declared.standing.Standing.TheVariants.{Open, Unread, Changing}
+use Rattle.disk_store.specs.declared.standing.DiskStoreState.{DiskStoreState}
+use Rattle.disk_store.specs.declared.standing.DiskStoreState.TheVariants.{Open, Unread, Changing}
 use Rattle.disk_store.proofs.Keeping.{in_layout}
 
 module _ {D : Type 0} (seen : D → List ℕ) (may_leave : D → List ℕ → Type 0) (store : Store D) (order : OrderNo) (rows : Rows) (d : ServerDisk) (disk : D) (same : seen disk ≡ seen store.disk) (less : NoMore (may_leave store.disk) (may_leave disk)) where
@@ -32,7 +32,7 @@ module _ {D : Type 0} (seen : D → List ℕ) (may_leave : D → List ℕ → Ty
       }) (subst (λ (bytes : List ℕ). Says l.chunk l.block l.slots store.index bytes d) (sym same) is.says)
 
   -- the disk was told when to stop
-  pub quiet_kept : (standing : Standing) → IsKept seen may_leave store order rows d standing → IsKept seen may_leave (record store { disk = disk }) order rows d standing
+  pub quiet_kept : (standing : DiskStoreState) → IsKept seen may_leave store order rows d standing → IsKept seen may_leave (record store { disk = disk }) order rows d standing
   quiet_kept Open kept = in_layout seen may_leave store order rows d Open Open (record store { disk = disk }) refl kept (quiet_open kept.stands)
   quiet_kept (Unread change byte) kept =
       in_layout seen may_leave store order rows d (Unread change byte) (Unread change byte) (record store { disk = disk }) refl kept (kept.stands.0, kept.stands.1, kept.stands.2, quiet_leaves kept.stands.0 d kept.stands.3)

@@ -10,7 +10,7 @@ use Rattle.replica_store.specs.declared.change.StoreChange.{StoreChange}
 use Rattle.store_disk.specs.declared.held.HeldReplica.{HeldReplica}
 use Rattle.store_changes.specs.Areas.{area_of}
 use Rattle.store_disk.specs.Places.{disk_size}
-use Rattle.chunk_store.specs.declared.found.Found.{Found}
+use Rattle.chunk_store.specs.declared.found.FoundReplicas.{FoundReplicas}
 use Rattle.store_disk.proofs.Listed.{row_found}
 use Rattle.chunk_store.specs.Stores.{IsOpen}
 use Rattle.chunk_store.specs.declared.store.Store.{Store}
@@ -18,8 +18,8 @@ use Rattle.chunk_store.proofs.StillOpen.{its_row}
 use Rattle.disk_store.specs.Known.{IsKnownOf, Rows, is_made}
 use Rattle.disk_store.specs.Standing.{IsFoundAmong, IsKept, IsRotWithin, Leaves, StillSays, found_made, rotten_by, rotting_in, with_made}
 use Rattle.disk_store.specs.declared.standing.RottingByte.{RottingByte}
-use Rattle.disk_store.specs.declared.standing.Standing.{Standing}
-use Rattle.disk_store.specs.declared.standing.Standing.TheVariants.{Open, Unread, Changing}
+use Rattle.disk_store.specs.declared.standing.DiskStoreState.{DiskStoreState}
+use Rattle.disk_store.specs.declared.standing.DiskStoreState.TheVariants.{Open, Unread, Changing}
 use Rattle.disk_store.proofs.Keeping.{reopened_kept}
 use Rattle.disk_store.proofs.Settling.{IsOneOf, found_one, rot_within, settled_unread, settled_with, settled_without, unrotten_kept}
 
@@ -27,7 +27,7 @@ its_own : (o : Option HeldReplica) → option_map (λ (found : HeldReplica). fou
 its_own None = refl
 its_own (Some found) = refl
 
-module _ {D : Type 0} (seen : D → List ℕ) (may_leave : D → List ℕ → Type 0) (store : Store D) (order : OrderNo) (rows : Rows) (d : ServerDisk) (standing : Standing) (kept : IsKept seen may_leave store order rows d standing) where
+module _ {D : Type 0} (seen : D → List ℕ) (may_leave : D → List ℕ → Type 0) (store : Store D) (order : OrderNo) (rows : Rows) (d : ServerDisk) (standing : DiskStoreState) (kept : IsKept seen may_leave store order rows d standing) where
   -- the byte that is to rot lies in the chunk
   pub its_within : (rotting : Option RottingByte) → rotting ≡ rotting_in standing → IsRotWithin store.layout.chunk rotting
   its_within rotting at = subst (IsRotWithin store.layout.chunk) (sym at) (rot_within seen may_leave store order rows d standing kept)
@@ -37,7 +37,7 @@ module _ {D : Type 0} (seen : D → List ℕ) (may_leave : D → List ℕ → Ty
     pub unfound : (disk : D) → Follows (StillSays store.layout.chunk store.layout.block store.layout.slots) (may_leave store.disk) (may_leave disk) → IsKept seen may_leave (record store { disk = disk }) order rows d standing
     unfound disk stops = reopened_kept seen may_leave store order rows d standing disk other stops kept
 
-    module _ (disk : D) (found : Found) (among : IsFoundAmong seen (may_leave store.disk) disk store.layout.chunk store.layout.block store.layout.slots found)
+    module _ (disk : D) (found : FoundReplicas) (among : IsFoundAmong seen (may_leave store.disk) disk store.layout.chunk store.layout.block store.layout.slots found)
         (rest : IsAtRest seen may_leave (area_of store.layout.chunk store.layout.block) disk) (large : disk_size store.layout.chunk store.layout.block store.layout.slots ≤ length (seen disk)) where
       abbrev at_found : Store D
       at_found = record { disk = disk; layout = store.layout; order = found.order; index = found.index; hashed = tt }
@@ -70,7 +70,7 @@ module _ {D : Type 0} (seen : D → List ℕ) (may_leave : D → List ℕ → Ty
               decided change its which opens true e = settled_with seen may_leave store order rows d new last got one.0 same its_known change its which opens e
               decided change its which opens false e = settled_without seen may_leave store order rows d new last got one.0 same its_known change its which opens e
 
-              by : (s : Standing) → (s ≡ Open → ⊥) → IsKept seen may_leave store order rows d s → IsOneOf store.layout.chunk d s one.0 → IsOpen seen may_leave new (rotten_by one.0 (rotting_in s)) → IsKept seen may_leave new last got (with_made d (found_made last got s)) Open
+              by : (s : DiskStoreState) → (s ≡ Open → ⊥) → IsKept seen may_leave store order rows d s → IsOneOf store.layout.chunk d s one.0 → IsOpen seen may_leave new (rotten_by one.0 (rotting_in s)) → IsKept seen may_leave new last got (with_made d (found_made last got s)) Open
               by Open not its which opens = absurd (not refl)
               by (Unread change byte) not its which opens = settled_unread seen may_leave store order rows d new last got one.0 same its_known change byte its which opens
               by (Changing change) not its which opens = decided change its which opens (is_made last got change) refl

@@ -18,8 +18,8 @@ use Rattle.disk_store.specs.Noticed.{AreNoticed}
 use Rattle.disk_store.proofs.Changes.{with_noticed}
 use Rattle.disk_store.proofs.Rot.{rotten_noticed}
 use Rattle.disk_store.specs.Standing.{CantRot, HasItsDigest, IsKept, Leaves, IsStandingTrue}
-use Rattle.disk_store.specs.declared.standing.Standing.{Standing}
-use Rattle.disk_store.specs.declared.standing.Standing.TheVariants.{Open, Unread}
+use Rattle.disk_store.specs.declared.standing.DiskStoreState.{DiskStoreState}
+use Rattle.disk_store.specs.declared.standing.DiskStoreState.TheVariants.{Open, Unread}
 use Rattle.disk_store.proofs.Commits.{mid_kept}
 use Rattle.disk_store.proofs.Rotten.{rotten_block}
 
@@ -47,7 +47,7 @@ module _ {D : Type 0} (seen : D → List ℕ) (may_leave : D → List ℕ → Ty
           let fit = kept.noticed.fit handle.0 r e in
           with_noticed store.layout.chunk d kept.noticed handle.0 (rotten_replica r place byte) fit (rotten_noticed store.layout.chunk d.block r place byte fit low (kept.noticed.noticed handle.0 r e) (differs r e))
 
-  in_new : (new : Store D) (standing : Standing) → new.layout ≡ store.layout → IsStandingTrue seen may_leave new rows after standing → IsKept seen may_leave new order rows after standing
+  in_new : (new : Store D) (standing : DiskStoreState) → new.layout ≡ store.layout → IsStandingTrue seen may_leave new rows after standing → IsKept seen may_leave new order rows after standing
   in_new new standing same stands = record {
     block_is = rotten_block d handle.0 place byte ∙ kept.block_is ∙ sym (ap (λ (l : Layout). l.block) same);
     whole = ap (λ (l : Layout). l.chunk % l.block) same ∙ kept.whole;
@@ -86,7 +86,7 @@ pub low_in : {D : Type 0} (store mid : Store D) → mid ≡ record store { disk 
 low_in {D = D} store mid unchanged place low = subst (λ (s : Store D). place < s.layout.chunk) (sym unchanged) low
 
 -- An open store's block was looked at: with the byte it wouldn't match. Then the byte was to become another one.
-module _ {D : Type 0} (seen : D → List ℕ) (may_leave : D → List ℕ → Type 0) (store : Store D) (order : OrderNo) (rows : Rows) (d : ServerDisk) (standing : Standing) (kept : IsKept seen may_leave store order rows d standing)
+module _ {D : Type 0} (seen : D → List ℕ) (may_leave : D → List ℕ → Type 0) (store : Store D) (order : OrderNo) (rows : Rows) (d : ServerDisk) (standing : DiskStoreState) (kept : IsKept seen may_leave store order rows d standing)
     (mid : Store D) (unchanged : mid ≡ record store { disk = mid.disk }) (still : (e : ServerDisk) → IsOpen seen may_leave store e → IsOpen seen may_leave mid e) (is : standing ≡ Open) (handle : Handle) (place byte : ℕ) (low : place < store.layout.chunk)
     (differs : (r : Replica) → replica_of d handle.0 ≡ Some r → HasItsDigest store.layout.chunk d.block r place byte → ⊥)
     (new : Store D) (laid : new.layout ≡ mid.layout) where

@@ -9,7 +9,7 @@ use Rattle.store_disk.specs.Index.{IndexState}
 use Rattle.store_changes.specs.Areas.{area_of}
 use Rattle.store_disk.specs.Places.{disk_size}
 use Rattle.store_disk.specs.declared.places.Layout.{Layout}
-use Rattle.chunk_store.specs.declared.found.Found.{Found}
+use Rattle.chunk_store.specs.declared.found.FoundReplicas.{FoundReplicas}
 use Rattle.chunk_store.specs.Stores.{IsOpen}
 use Rattle.chunk_store.specs.declared.store.Store.{Store}
 use Rattle.disk_store.specs.Known.{IsKnownOf, Rows, can_be_told, is_made}
@@ -18,13 +18,13 @@ use Rattle.disk_store.proofs.Told.{is_made_after, not_made}
 use Rattle.disk_store.specs.Noticed.{AreNoticed, IsCareful}
 use Rattle.disk_store.specs.Standing.{IsFoundAmong, IsKept, IsRotWithin, IsSaid, Leaves, LeavesCareful, rotten_by, rotting_in}
 use Rattle.disk_store.specs.declared.standing.RottingByte.{RottingByte}
-use Rattle.disk_store.specs.declared.standing.Standing.{Standing}
-use Rattle.disk_store.specs.declared.standing.Standing.TheVariants.{Open, Unread, Changing}
+use Rattle.disk_store.specs.declared.standing.DiskStoreState.{DiskStoreState}
+use Rattle.disk_store.specs.declared.standing.DiskStoreState.TheVariants.{Open, Unread, Changing}
 use Rattle.disk_store.proofs.Keeping.{after_change, in_layout}
 use Rattle.disk_store.proofs.Rotten.{rots_once}
 
 -- what may be found of a disk that says d
-abbrev pub IsOneOf : ℕ → ServerDisk → Standing → ServerDisk → Type 0
+abbrev pub IsOneOf : ℕ → ServerDisk → DiskStoreState → ServerDisk → Type 0
 IsOneOf chunk d Open x = ⊥
 IsOneOf chunk d (Unread change byte) x = rotten_by x byte ≡ d
 IsOneOf chunk d (Changing change) x = (x ≡ d) ⊎ (IsCareful chunk d change × (x ≡ disk_changed d change))
@@ -45,18 +45,18 @@ module _ {D : Type 0} (seen : D → List ℕ) (may_leave : D → List ℕ → Ty
   abbrev pub at_disk : D → OrderNo → IndexState → Store D
   at_disk disk o x = record { disk = disk; layout = store.layout; order = o; index = x; hashed = tt }
 
-  pub rot_within : (standing : Standing) → IsKept seen may_leave store order rows d standing → IsRotWithin store.layout.chunk (rotting_in standing)
+  pub rot_within : (standing : DiskStoreState) → IsKept seen may_leave store order rows d standing → IsRotWithin store.layout.chunk (rotting_in standing)
   rot_within Open kept = tt
   rot_within (Unread change byte) kept = kept.stands.1
   rot_within (Changing change) kept = tt
 
-  module _ (disk : D) (found : Found) (among : IsFoundAmong seen (may_leave store.disk) disk store.layout.chunk store.layout.block store.layout.slots found)
+  module _ (disk : D) (found : FoundReplicas) (among : IsFoundAmong seen (may_leave store.disk) disk store.layout.chunk store.layout.block store.layout.slots found)
       (rest : IsAtRest seen may_leave (area_of store.layout.chunk store.layout.block) disk) (large : disk_size store.layout.chunk store.layout.block store.layout.slots ≤ length (seen disk)) where
     opens : store.layout.chunk % store.layout.block ≡ 0 → (e : ServerDisk) → IsSaid store.layout.chunk store.layout.block store.layout.slots among.bytes e → IsOpen seen may_leave (at_disk disk found.order found.index) e
     opens whole e says = let is = among.finds e says in record { says = is.says; order = is.order; large = large; whole = whole; rest = rest }
 
     -- the store is open with what was found
-    pub found_one : (standing : Standing) → (standing ≡ Open → ⊥) → IsKept seen may_leave store order rows d standing → (x : ServerDisk) × IsOpen seen may_leave (at_disk disk found.order found.index) x × IsOneOf store.layout.chunk d standing x
+    pub found_one : (standing : DiskStoreState) → (standing ≡ Open → ⊥) → IsKept seen may_leave store order rows d standing → (x : ServerDisk) × IsOpen seen may_leave (at_disk disk found.order found.index) x × IsOneOf store.layout.chunk d standing x
     found_one Open other kept = absurd (other refl)
     found_one (Unread change byte) other kept =
         let e = kept.stands.0 in
@@ -70,7 +70,7 @@ module _ {D : Type 0} (seen : D → List ℕ) (may_leave : D → List ℕ → Ty
     ]
 
   -- the byte that was to rot didn't
-  pub unrotten_kept : (standing : Standing) (new : Store D) (x : ServerDisk) → new.layout ≡ store.layout → IsOneOf store.layout.chunk d standing x → Leaves may_leave new x (rotten_by x (rotting_in standing)) → IsKept seen may_leave store order rows d standing
+  pub unrotten_kept : (standing : DiskStoreState) (new : Store D) (x : ServerDisk) → new.layout ≡ store.layout → IsOneOf store.layout.chunk d standing x → Leaves may_leave new x (rotten_by x (rotting_in standing)) → IsKept seen may_leave store order rows d standing
       → IsKept seen may_leave new order rows d standing
   unrotten_kept Open new x same one leaves kept = absurd one
   unrotten_kept (Unread change byte) new x same one leaves kept =
@@ -99,7 +99,7 @@ module _ {D : Type 0} (seen : D → List ℕ) (may_leave : D → List ℕ → Ty
           ]
 
   module _ (new : Store D) (last : OrderNo) (got : Rows) (x : ServerDisk) (same : new.layout ≡ store.layout) (known : IsKnownOf last got x) where
-    open_as : (standing : Standing) (e : ServerDisk) → IsKept seen may_leave store order rows d standing → IsKnownOf last got d → IsOpen seen may_leave new d → IsKept seen may_leave new last got d Open
+    open_as : (standing : DiskStoreState) (e : ServerDisk) → IsKept seen may_leave store order rows d standing → IsKnownOf last got d → IsOpen seen may_leave new d → IsKept seen may_leave new last got d Open
     open_as standing e kept is now = record {
       block_is = kept.block_is ∙ sym (ap (λ (l : Layout). l.block) same);
       whole = ap (λ (l : Layout). l.chunk % l.block) same ∙ kept.whole;

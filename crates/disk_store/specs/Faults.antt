@@ -2,23 +2,23 @@
 use Rattle.std.specs.Prelude.{ℕ, ◌<◌, ◌≤◌, Result, IsErrOf}
 use Rattle.disk.specs.declared.device.DiskFault.{DiskFault}
 use Rattle.disk.specs.declared.device.DiskFault.TheVariants as disk
-use Rattle.server_store.specs.declared.fault.StoreFault.{StoreFault}
-use Rattle.server_store.specs.declared.fault.StoreFault.TheVariants as store
+use Rattle.server_store.specs.declared.fault.ReplicaStoreFault.{ReplicaStoreFault}
+use Rattle.server_store.specs.declared.fault.ReplicaStoreFault.TheVariants as store
 use Rattle.store_changes.specs.declared.fault.StoreFault.{StoreFault as ChangeFault}
 use Rattle.store_changes.specs.declared.fault.StoreFault.TheVariants as change
 use Rattle.chunk_store.specs.declared.fault.OpenFault.{OpenFault}
 use Rattle.chunk_store.specs.declared.fault.OpenFault.TheVariants as opening
 
-abbrev pub of_disk : DiskFault → StoreFault
+abbrev pub of_disk : DiskFault → ReplicaStoreFault
 of_disk disk.Device = store.DiskFailed
 of_disk disk.NoMemory = store.NoMemory
 
-abbrev pub of_opening : OpenFault → StoreFault
+abbrev pub of_opening : OpenFault → ReplicaStoreFault
 of_opening opening.Damaged = store.DiskFailed
 of_opening opening.Device = store.DiskFailed
 of_opening opening.NoMemory = store.NoMemory
 
-abbrev pub of_change : ChangeFault → StoreFault
+abbrev pub of_change : ChangeFault → ReplicaStoreFault
 of_change change.NoChunk = store.DiskFailed
 of_change change.Version = store.DiskFailed
 of_change change.OldSerial = store.DiskFailed
@@ -28,6 +28,6 @@ of_change change.Device = store.DiskFailed
 of_change change.NoMemory = store.NoMemory
 
 -- `DiskFailed` is answered only where the disk has failed in this call.
-pub record HasCause {T : Type 0} (before now : ℕ) (result : Result T StoreFault) : Type 0 where
+pub record HasCause {T : Type 0} (before now : ℕ) (result : Result T ReplicaStoreFault) : Type 0 where
   pub later : before ≤ now
   pub failed : IsErrOf result store.DiskFailed → before < now

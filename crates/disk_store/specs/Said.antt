@@ -9,7 +9,7 @@ abbrev pub said_changed : ServerDisk → SaidChange → ServerDisk
 said_changed d (Made change) = disk_changed d change
 said_changed d (Rotten handle place byte) = disk_rotten d handle.0 place byte
 
--- after these changes, each with a mark that says nothing
-abbrev pub said_after : {M : Type 0} → ServerDisk → List (SaidChange × M) → ServerDisk
+-- after these changes
+abbrev pub said_after : ServerDisk → List SaidChange → ServerDisk
 said_after d [] = d
-said_after d (change ∷ rest) = said_after (said_changed d change.0) rest
+said_after d (change ∷ rest) = said_after (said_changed d change) rest

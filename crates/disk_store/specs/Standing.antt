@@ -11,7 +11,7 @@ use Rattle.replica_store.specs.declared.change.StoreChange.TheVariants.{SetOrder
 use Rattle.server_store.specs.Stores.{disk_rotten}
 use Rattle.store_changes.specs.Areas.{area_of}
 use Rattle.chunk_store.specs.Opening.{IsFound}
-use Rattle.chunk_store.specs.declared.found.Found.{Found}
+use Rattle.chunk_store.specs.declared.found.FoundReplicas.{FoundReplicas}
 use Rattle.store_changes.specs.Writing.{IsNoticedAt}
 use Rattle.store_disk.specs.Stored.{IsStored}
 use Rattle.chunk_store.specs.Stores.{IsOpen}
@@ -19,23 +19,23 @@ use Rattle.chunk_store.specs.declared.store.Store.{Store}
 use Rattle.disk_store.specs.Known.{IsKnownOf, Rows, can_be_told, is_made}
 use Rattle.disk_store.specs.Noticed.{AreNoticed, IsCareful, block_in}
 use Rattle.disk_store.specs.declared.standing.RottingByte.{RottingByte}
-use Rattle.disk_store.specs.declared.standing.Standing.{Standing}
-use Rattle.disk_store.specs.declared.standing.Standing.TheVariants.{Open, Unread, Changing}
+use Rattle.disk_store.specs.declared.standing.DiskStoreState.{DiskStoreState}
+use Rattle.disk_store.specs.declared.standing.DiskStoreState.TheVariants.{Open, Unread, Changing}
 
 -- What is under way.
-abbrev pub changes_of : Standing → List StoreChange
+abbrev pub changes_of : DiskStoreState → List StoreChange
 changes_of Open = []
 changes_of (Unread change byte) = option_to_list change
 changes_of (Changing change) = change ∷ []
 
 -- an open store has to be read anew; what is under way stays so
-abbrev pub closed : Standing → Standing
+abbrev pub closed : DiskStoreState → DiskStoreState
 closed Open = Unread None None
 closed (Unread change byte) = Unread change byte
 closed (Changing change) = Changing change
 
 -- a change is under way that wasn't begun
-abbrev pub refused : Standing → StoreChange → Standing
+abbrev pub refused : DiskStoreState → StoreChange → DiskStoreState
 refused Open change = Unread (Some change) None
 refused (Unread other byte) change = Unread (Some change) byte
 refused (Changing other) change = Changing other
@@ -72,7 +72,7 @@ LeavesCareful may_leave store d change =
     ⊎ (IsCareful store.layout.chunk d change × IsSaid store.layout.chunk store.layout.block store.layout.slots c (disk_changed d change))
 
 -- the byte that is to rot, where there is one
-abbrev pub rotting_in : Standing → Option RottingByte
+abbrev pub rotting_in : DiskStoreState → Option RottingByte
 rotting_in Open = None
 rotting_in (Unread change byte) = byte
 rotting_in (Changing change) = None
@@ -101,7 +101,7 @@ abbrev pub CantRot : ℕ → ServerDisk → ℕ → ℕ → ℕ → Type 0
 CantRot chunk d handle place byte = (r : Replica) × (replica_of d handle ≡ Some r) × ((chunk ≤ place) ⊎ HasItsDigest chunk d.block r place byte)
 
 -- the change that was under way, where this is known of a disk with it
-abbrev pub found_made : OrderNo → Rows → Standing → Option StoreChange
+abbrev pub found_made : OrderNo → Rows → DiskStoreState → Option StoreChange
 found_made order rows Open = None
 found_made order rows (Unread change byte) = None
 found_made order rows (Changing change) = if is_made order rows change then Some change else None
@@ -111,13 +111,13 @@ with_made d None = d
 with_made d (Some change) = disk_changed d change
 
 -- An open store says d. Of another one a stop leaves d, with the change under way or without it, or before the byte was rotten.
-abbrev pub IsStandingTrue : {D : Type 0} → (D → List ℕ) → (D → List ℕ → Type 0) → Store D → Rows → ServerDisk → Standing → Type 0
+abbrev pub IsStandingTrue : {D : Type 0} → (D → List ℕ) → (D → List ℕ → Type 0) → Store D → Rows → ServerDisk → DiskStoreState → Type 0
 IsStandingTrue seen may_leave store rows d Open = IsOpen seen may_leave store d
 IsStandingTrue seen may_leave store rows d (Unread change byte) = (e : ServerDisk) × IsRotWithin store.layout.chunk byte × (rotten_by e byte ≡ d) × Leaves may_leave store e d
 IsStandingTrue seen may_leave store rows d (Changing change) = (can_be_told store.layout.chunk rows change ≡ true) × LeavesCareful may_leave store d change
 
 -- What is kept in memory is of the disk.
-pub record IsKept {D : Type 0} (seen : D → List ℕ) (may_leave : D → List ℕ → Type 0) (store : Store D) (order : OrderNo) (rows : Rows) (d : ServerDisk) (standing : Standing) : Type 0 where
+pub record IsKept {D : Type 0} (seen : D → List ℕ) (may_leave : D → List ℕ → Type 0) (store : Store D) (order : OrderNo) (rows : Rows) (d : ServerDisk) (standing : DiskStoreState) : Type 0 where
   pub block_is : d.block ≡ store.layout.block
   pub whole : store.layout.chunk % store.layout.block ≡ 0
   pub known : IsKnownOf order rows d
@@ -125,7 +125,7 @@ pub record IsKept {D : Type 0} (seen : D → List ℕ) (may_leave : D → List �
   pub stands : IsStandingTrue seen may_leave store rows d standing
 
 -- What was found is what one of the disks said that a stop might have left.
-pub record IsFoundAmong {D : Type 0} (seen : D → List ℕ) (may_leave : List ℕ → Type 0) (disk : D) (chunk block slots : ℕ) (found : Found) : Type 0 where
+pub record IsFoundAmong {D : Type 0} (seen : D → List ℕ) (may_leave : List ℕ → Type 0) (disk : D) (chunk block slots : ℕ) (found : FoundReplicas) : Type 0 where
   pub bytes : List ℕ
   pub left : may_leave bytes
   pub finds : (d : ServerDisk) → IsSaid chunk block slots bytes d → IsFound chunk block slots found (stands_for (area_of chunk block) (seen disk)) d

@@ -2,20 +2,20 @@
 
 ghost use Rattle.std.specs.Prelude.{◌≡◌, ◌⊎◌, true, false, [], ◌∷◌, IfErr, IfOk, None, OnOk, Some};
 ghost use Rattle.replica_store.specs.Replicas.{ServerDisk, disk_changed, is_disk_full};
-ghost use Rattle.server_store.specs.declared.fault.StoreFault.TheVariants as faults;
+ghost use Rattle.server_store.specs.declared.fault.ReplicaStoreFault.TheVariants as faults;
 ghost use Rattle.store_changes.specs.declared.fault.StoreFault.TheVariants as making_faults;
 ghost use Rattle.disk_store.specs.Faults.{of_change};
 ghost use Rattle.disk_store.specs.Standing.{IsKept, IsUnfit, changes_of, writes};
-ghost use Rattle.disk_store.specs.declared.standing.Standing.TheVariants.{Open, Unread, Changing};
+ghost use Rattle.disk_store.specs.declared.standing.DiskStoreState.TheVariants.{Open, Unread, Changing};
 
 use crate::faults::fault_of;
 use crate::known::Known;
 use crate::making::{begins, make};
-use crate::standing::{Standing, refused};
+use crate::standing::{DiskStoreState, refused};
 use chunk_store::Store;
 use disk::Disk;
 use replica_store::change::StoreChange;
-use server_store::fault::StoreFault;
+use server_store::fault::ReplicaStoreFault;
 use std::alloc::Global;
 use store_changes::StoreFault as MakeFault;
 
@@ -33,17 +33,20 @@ fn writes(change: &StoreChange) -> bool
 }
 
 // Where a change failed: one over a range that can't be written over wasn't begun, each other one may be on its way.
-fn failed(fault: MakeFault, change: StoreChange) -> (StoreFault, Standing)
+fn failed(fault: MakeFault, change: StoreChange) -> (ReplicaStoreFault, DiskStoreState)
     ensures unfit { fault ≡ making_faults.Corrupt → writes change ≡ true → result ≡ (faults.NoRoom, Unread (Some change) None) }
     ensures begun { (fault ≡ making_faults.Corrupt → writes change ≡ false) → result ≡ (of_change fault, Changing change) }
 {
     let MakeFault::Corrupt = fault else {
-        return (fault_of(fault), Standing::Changing(change));
+        return (fault_of(fault), DiskStoreState::Changing(change));
     };
     if writes(&change) {
-        return (StoreFault::NoRoom, refused(Standing::Open, change));
+        return (
+            ReplicaStoreFault::NoRoom,
+            refused(DiskStoreState::Open, change),
+        );
     }
-    (fault_of(fault), Standing::Changing(change))
+    (fault_of(fault), DiskStoreState::Changing(change))
 }
 
 /// Makes a change of the disk and of what is known of it, and hands it back. An error comes with the standing that has it under way: a
@@ -52,9 +55,9 @@ pub fn commit<D: Disk>(
     alloc: Global,
     store: &mut Store<D>,
     known: &mut Known,
-    standing: Standing,
+    standing: DiskStoreState,
     change: StoreChange,
-) -> Result<StoreChange, (StoreFault, Standing)>
+) -> Result<StoreChange, (ReplicaStoreFault, DiskStoreState)>
     requires kept { (d : ServerDisk) × IsKept D.seen D.may_leave store.old known.old.order known.old.rows d standing }
     requires nothing { changes_of standing ≡ [] }
     ensures made { IfOk result (λ made. made ≡ change) }
@@ -77,6 +80,9 @@ pub fn commit<D: Disk>(
     }
     match known.make(chunk, &change) {
         Ok(()) => Ok(change),
-        Err(_) => Err((StoreFault::NoMemory, Standing::Changing(change))),
+        Err(_) => Err((
+            ReplicaStoreFault::NoMemory,
+            DiskStoreState::Changing(change),
+        )),
     }
 }

@@ -12,24 +12,23 @@ use crate::looking::{is_copyable, is_writable, read};
 use crate::reopening::{made_in, open_again};
 use crate::rotting::rot;
 use crate::said::SaidDisk;
-use crate::standing::{Standing, closed};
+use crate::standing::{DiskStoreState, closed};
 use bytes::Bytes;
 use chunk_store::{Store, open};
-use disk::Disk;
+use disk::{Disk, StoppableDisk};
 use gfs_types::ids::{Handle, OrderNo};
 use gfs_types::no_memory::NoMemory;
 use gfs_types::torn::Torn;
 use messages::message_lists::ReplicaList;
 use replica_store::change::StoreChange;
 use replica_store::row::Row;
-use server_store::fault::StoreFault;
+use server_store::fault::ReplicaStoreFault;
 use server_store::stoppable_store::StoppableStore;
 use server_store::store::ReplicaStore;
 use std::alloc::Global;
 use std::marker::Model;
 use std::mem;
 use store_disk::Layout;
-use stored_log::stoppable::StoppableDisk;
 
 /// A server's replicas on a disk. In memory it keeps the last order's number and each replica's row, so that it answers them while its disk
 /// is to be read anew. Its drop stands here, once, so that no crate above proves those of all that it owns.
@@ -38,7 +37,7 @@ pub struct DiskStore<D: StoppableDisk> {
     store: Store<D>,
     said: SaidDisk,
     known: Known,
-    standing: Standing,
+    standing: DiskStoreState,
 }
 
 impl<D: StoppableDisk + Drop> Drop for DiskStore<D> {
@@ -72,16 +71,16 @@ impl<D: StoppableDisk> Model for DiskStore<D> {
 
 impl<D: StoppableDisk + Drop> DiskStore<D> {
     /// A new store on a disk that holds none, for chunks of whole blocks.
-    pub fn new(alloc: Global, disk: D, layout: Layout) -> Result<DiskStore<D>, StoreFault>
+    pub fn new(alloc: Global, disk: D, layout: Layout) -> Result<DiskStore<D>, ReplicaStoreFault>
         requires { layout.chunk % layout.block ≡ 0 }
         ensures { IfOk result (λ s. s ≡ (new_server_disk layout.block, [])) }
     {
         let mut disk = disk;
         if disk.size() < layout.disk_size() {
-            return Err(StoreFault::DiskFailed);
+            return Err(ReplicaStoreFault::DiskFailed);
         }
         if has_open_head(&mut disk)? {
-            return Err(StoreFault::DiskFailed);
+            return Err(ReplicaStoreFault::DiskFailed);
         }
         match open(disk, alloc, layout) {
             Ok(store) => Ok(DiskStore {
@@ -89,7 +88,7 @@ impl<D: StoppableDisk + Drop> DiskStore<D> {
                 store,
                 said: SaidDisk::new(layout.block),
                 known: Known::new(alloc),
-                standing: Standing::Open,
+                standing: DiskStoreState::Open,
             }),
             Err((_, fault)) => Err(fault_of_opening(fault)),
         }
@@ -121,19 +120,24 @@ impl<D: StoppableDisk> ReplicaStore for DiskStore<D> {
         self.known.list(alloc)
     }
 
-    fn is_writable(&mut self, handle: Handle, offset: u64, end: u64) -> Result<bool, StoreFault> {
-        let Standing::Open = self.standing else {
-            return Err(StoreFault::DiskFailed);
+    fn is_writable(
+        &mut self,
+        handle: Handle,
+        offset: u64,
+        end: u64,
+    ) -> Result<bool, ReplicaStoreFault> {
+        let DiskStoreState::Open = self.standing else {
+            return Err(ReplicaStoreFault::DiskFailed);
         };
         is_writable(self.alloc, &mut self.store, handle, offset, end)
     }
 
-    fn is_copyable(&mut self, handle: Handle) -> Result<bool, StoreFault> {
+    fn is_copyable(&mut self, handle: Handle) -> Result<bool, ReplicaStoreFault> {
         let Some(row) = self.known.row(handle) else {
             return Ok(false);
         };
-        let Standing::Open = self.standing else {
-            return Err(StoreFault::DiskFailed);
+        let DiskStoreState::Open = self.standing else {
+            return Err(ReplicaStoreFault::DiskFailed);
         };
         is_copyable(self.alloc, &mut self.store, handle, row.version)
     }
@@ -144,18 +148,18 @@ impl<D: StoppableDisk> ReplicaStore for DiskStore<D> {
         handle: Handle,
         offset: u64,
         count: u64,
-    ) -> Result<Option<Bytes>, StoreFault> {
+    ) -> Result<Option<Bytes>, ReplicaStoreFault> {
         let Some(row) = self.known.row(handle) else {
             return Ok(None);
         };
-        let Standing::Open = self.standing else {
-            return Err(StoreFault::DiskFailed);
+        let DiskStoreState::Open = self.standing else {
+            return Err(ReplicaStoreFault::DiskFailed);
         };
         read(alloc, &mut self.store, handle, row.version, offset, count)
     }
 
-    fn commit(&mut self, change: StoreChange) -> Result<(), StoreFault> {
-        let standing = mem::replace(&mut self.standing, Standing::Open);
+    fn commit(&mut self, change: StoreChange) -> Result<(), ReplicaStoreFault> {
+        let standing = mem::replace(&mut self.standing, DiskStoreState::Open);
         match commit(
             self.alloc,
             &mut self.store,
@@ -174,8 +178,8 @@ impl<D: StoppableDisk> ReplicaStore for DiskStore<D> {
         }
     }
 
-    fn reopen(&mut self) -> Result<(), StoreFault> {
-        let standing = closed(mem::replace(&mut self.standing, Standing::Open));
+    fn reopen(&mut self) -> Result<(), ReplicaStoreFault> {
+        let standing = closed(mem::replace(&mut self.standing, DiskStoreState::Open));
         let known = match open_again(self.alloc, &mut self.store, &standing) {
             Ok(known) => known,
             Err(fault) => {
@@ -194,9 +198,9 @@ impl<D: StoppableDisk> ReplicaStore for DiskStore<D> {
         }
     }
 
-    fn rot(&mut self, handle: Handle, place: u64, byte: u8) -> Result<(), StoreFault> {
-        let Standing::Open = self.standing else {
-            return Err(StoreFault::DiskFailed);
+    fn rot(&mut self, handle: Handle, place: u64, byte: u8) -> Result<(), ReplicaStoreFault> {
+        let DiskStoreState::Open = self.standing else {
+            return Err(ReplicaStoreFault::DiskFailed);
         };
         let standing = rot(self.alloc, &mut self.store, handle, place, byte)?;
         self.standing = standing;

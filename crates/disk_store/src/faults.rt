@@ -5,38 +5,38 @@ ghost use Rattle.disk_store.specs.Faults.{of_change, of_disk, of_opening};
 
 use chunk_store::OpenFault;
 use disk::DiskFault;
-use server_store::fault::StoreFault;
+use server_store::fault::ReplicaStoreFault;
 use store_changes::StoreFault as ChangeFault;
 
-pub(crate) fn fault_of_disk(fault: DiskFault) -> StoreFault
+pub(crate) fn fault_of_disk(fault: DiskFault) -> ReplicaStoreFault
     ensures { result ≡ of_disk fault }
 {
     match fault {
-        DiskFault::Device => StoreFault::DiskFailed,
-        DiskFault::NoMemory => StoreFault::NoMemory,
+        DiskFault::Device => ReplicaStoreFault::DiskFailed,
+        DiskFault::NoMemory => ReplicaStoreFault::NoMemory,
     }
 }
 
 /// A fault of the opening: a disk that is another layout's counts as one that failed.
-pub fn fault_of_opening(fault: OpenFault) -> StoreFault
+pub fn fault_of_opening(fault: OpenFault) -> ReplicaStoreFault
     ensures { result ≡ of_opening fault }
 {
     match fault {
-        OpenFault::Damaged | OpenFault::Device => StoreFault::DiskFailed,
-        OpenFault::NoMemory => StoreFault::NoMemory,
+        OpenFault::Damaged | OpenFault::Device => ReplicaStoreFault::DiskFailed,
+        OpenFault::NoMemory => ReplicaStoreFault::NoMemory,
     }
 }
 
-pub(crate) fn fault_of(fault: ChangeFault) -> StoreFault
+pub(crate) fn fault_of(fault: ChangeFault) -> ReplicaStoreFault
     ensures { result ≡ of_change fault }
 {
     match fault {
-        ChangeFault::NoMemory => StoreFault::NoMemory,
-        ChangeFault::NoRoom => StoreFault::NoRoom,
+        ChangeFault::NoMemory => ReplicaStoreFault::NoMemory,
+        ChangeFault::NoRoom => ReplicaStoreFault::NoRoom,
         ChangeFault::NoChunk
         | ChangeFault::Version
         | ChangeFault::OldSerial
         | ChangeFault::Corrupt
-        | ChangeFault::Device => StoreFault::DiskFailed,
+        | ChangeFault::Device => ReplicaStoreFault::DiskFailed,
     }
 }

@@ -9,21 +9,20 @@ ghost use Rattle.store_changes.specs.Areas.{area_of};
 ghost use Rattle.store_disk.specs.Formats.{is_head_open};
 ghost use Rattle.store_disk.specs.Places.{disk_size};
 ghost use Rattle.chunk_store.specs.Opening.{IsFound};
-ghost use Rattle.server_store.specs.declared.fault.StoreFault.TheVariants as faults;
+ghost use Rattle.server_store.specs.declared.fault.ReplicaStoreFault.TheVariants as faults;
 ghost use Rattle.disk_store.specs.Faults.{HasCause};
 ghost use Rattle.disk_store.specs.Standing.{IsFoundAmong, StillSays};
 
 use crate::faults::{fault_of_disk, fault_of_opening};
-use chunk_store::{Found, open_disk};
-use disk::Disk;
+use chunk_store::{FoundReplicas, open_disk};
+use disk::{Disk, StoppableDisk};
 use disk_redo::step::read;
-use server_store::fault::StoreFault;
+use server_store::fault::ReplicaStoreFault;
 use std::alloc::Global;
 use store_disk::Layout;
-use stored_log::stoppable::StoppableDisk;
 
 /// Whether the head of a disk is open.
-pub fn has_open_head<D: Disk>(disk: &mut D) -> Result<bool, StoreFault>
+pub fn has_open_head<D: Disk>(disk: &mut D) -> Result<bool, ReplicaStoreFault>
     requires { 32 ≤ length (D.seen disk.old) }
     ensures head { IfOk result (λ b. b ≡ is_head_open (D.seen disk.old)) }
     ensures reads { OnlyReads D.seen D.may_leave D.moment D.left_since disk.old disk.new }
@@ -42,7 +41,7 @@ pub(crate) fn find<D: StoppableDisk>(
     alloc: Global,
     disk: &mut D,
     layout: Layout,
-) -> Result<Found, StoreFault>
+) -> Result<FoundReplicas, ReplicaStoreFault>
     ensures found { IfOk result (λ found. IsFoundAmong D.seen (D.may_leave disk.old) disk.new layout.chunk layout.block layout.slots found) }
     ensures rest { OnOk result (IsAtRest D.seen D.may_leave (area_of layout.chunk layout.block) disk.new) }
     ensures large { OnOk result (disk_size layout.chunk layout.block layout.slots ≤ length (D.seen disk.new)) }
@@ -54,10 +53,10 @@ pub(crate) fn find<D: StoppableDisk>(
         Err(fault) => return Err(fault_of_disk(fault)),
     }
     if disk.size() < layout.disk_size() {
-        return Err(StoreFault::DiskFailed);
+        return Err(ReplicaStoreFault::DiskFailed);
     }
     if !has_open_head(disk)? {
-        return Err(StoreFault::DiskFailed);
+        return Err(ReplicaStoreFault::DiskFailed);
     }
     match open_disk(alloc, disk, layout) {
         Ok(found) => Ok(found),

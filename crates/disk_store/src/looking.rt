@@ -4,7 +4,7 @@ ghost use Rattle.std.specs.Prelude.{◌≡◌, ◌<◌, ◌↔◌, IfOk, IsErrOf
 ghost use Rattle.disk_redo.specs.GateMoments.{OnlyReads};
 ghost use Rattle.replica_store.specs.declared.row.Row.{Row};
 ghost use Rattle.replica_store.specs.Replicas.{ServerDisk, is_copyable_at, is_writable_at, read_at, row_at};
-ghost use Rattle.server_store.specs.declared.fault.StoreFault.TheVariants as faults;
+ghost use Rattle.server_store.specs.declared.fault.ReplicaStoreFault.TheVariants as faults;
 ghost use Rattle.chunk_store.specs.Stores.{IsOpen};
 ghost use Rattle.disk_store.specs.Faults.{HasCause};
 
@@ -13,7 +13,7 @@ use bytes::Bytes;
 use chunk_store::Store;
 use disk::Disk;
 use gfs_types::ids::{Handle, Version};
-use server_store::fault::StoreFault;
+use server_store::fault::ReplicaStoreFault;
 use std::alloc::Global;
 use store_changes::{StoreFault as ChangeFault, read_edges};
 
@@ -24,7 +24,7 @@ pub fn is_writable<D: Disk>(
     handle: Handle,
     offset: u64,
     end: u64,
-) -> Result<bool, StoreFault>
+) -> Result<bool, ReplicaStoreFault>
     requires is_open { (d : ServerDisk) × IsOpen D.seen D.may_leave store.old d }
     ensures value { (d : ServerDisk) → IsOpen D.seen D.may_leave store.old d → IfOk result (λ b. b ≡ is_writable_at d handle.0 offset end) }
     ensures still_open { (d : ServerDisk) → IsOpen D.seen D.may_leave store.old d → IsOpen D.seen D.may_leave store.new d }
@@ -42,7 +42,7 @@ pub fn is_writable<D: Disk>(
     }
     let layout = store.layout;
     if end > u64::from(layout.chunk) {
-        return Err(StoreFault::NoRoom);
+        return Err(ReplicaStoreFault::NoRoom);
     }
     match read_edges(
         alloc,
@@ -64,7 +64,7 @@ pub fn is_copyable<D: Disk>(
     store: &mut Store<D>,
     handle: Handle,
     version: Version,
-) -> Result<bool, StoreFault>
+) -> Result<bool, ReplicaStoreFault>
     requires is_open { (d : ServerDisk) × IsOpen D.seen D.may_leave store.old d }
     ensures value { (d : ServerDisk) → IsOpen D.seen D.may_leave store.old d → IfOk result (λ b. b ≡ is_copyable_at d handle.0) }
     ensures still_open { (d : ServerDisk) → IsOpen D.seen D.may_leave store.old d → IsOpen D.seen D.may_leave store.new d }
@@ -91,7 +91,7 @@ pub fn read<D: Disk>(
     version: Version,
     offset: u64,
     count: u64,
-) -> Result<Option<Bytes>, StoreFault>
+) -> Result<Option<Bytes>, ReplicaStoreFault>
     requires is_open { (d : ServerDisk) × IsOpen D.seen D.may_leave store.old d }
     ensures value { (d : ServerDisk) → IsOpen D.seen D.may_leave store.old d → IfOk result (λ o. o ≡ read_at d handle.0 offset count) }
     ensures still_open { (d : ServerDisk) → IsOpen D.seen D.may_leave store.old d → IsOpen D.seen D.may_leave store.new d }

@@ -5,23 +5,23 @@ ghost use Rattle.disk_redo.specs.GateMoments.{OnlyReads};
 ghost use Rattle.replica_store.specs.Replicas.{ServerDisk, disk_changed, is_disk_full, is_writable_at};
 ghost use Rattle.replica_store.specs.declared.change.StoreChange.TheVariants.{Copy, Raise, Write, Zero};
 ghost use Rattle.disk_store.specs.Known.{can_be_told};
-ghost use Rattle.server_store.specs.declared.fault.StoreFault.TheVariants as faults;
+ghost use Rattle.server_store.specs.declared.fault.ReplicaStoreFault.TheVariants as faults;
 ghost use Rattle.store_changes.specs.Faults.{MayFail};
 ghost use Rattle.store_changes.specs.declared.fault.StoreFault.TheVariants as making_faults;
 ghost use Rattle.disk_store.specs.Noticed.{IsCareful};
 ghost use Rattle.chunk_store.specs.Stores.{IsOpen};
 ghost use Rattle.disk_store.specs.Standing.{AllNoticed, LeavesMade, writes};
-ghost use Rattle.disk_store.specs.declared.standing.Standing.TheVariants.{Open};
+ghost use Rattle.disk_store.specs.declared.standing.DiskStoreState.TheVariants.{Open};
 
 use crate::known::Known;
-use crate::standing::Standing;
+use crate::standing::DiskStoreState;
 use bytes::Bytes;
 use chunk_store::Store;
 use disk::Disk;
 use gfs_types::ids::{Handle, Serial, Version};
 use gfs_types::mutation::Mutation;
 use replica_store::change::StoreChange;
-use server_store::fault::StoreFault;
+use server_store::fault::ReplicaStoreFault;
 use std::alloc::{AllocError, Global};
 use store_changes::StoreFault as MakeFault;
 
@@ -29,22 +29,22 @@ use store_changes::StoreFault as MakeFault;
 pub(crate) fn begins(
     chunk: u32,
     known: &Known,
-    standing: &Standing,
+    standing: &DiskStoreState,
     change: &StoreChange,
-) -> Result<(), StoreFault>
+) -> Result<(), ReplicaStoreFault>
     ensures open { OnOk result (standing.now ≡ Open) }
     ensures told { OnOk result (can_be_told chunk known.now.rows change.now ≡ true) }
     ensures no_room { IsErrOf result faults.NoRoom → (standing.now ≡ Open) × (can_be_told chunk known.now.rows change.now ≡ false) }
     ensures closed { IsErrOf result faults.DiskFailed → standing.now ≡ Open → ⊥ }
     ensures memory { IsErrOf result faults.NoMemory → ⊥ }
 {
-    let Standing::Open = standing else {
-        return Err(StoreFault::DiskFailed);
+    let DiskStoreState::Open = standing else {
+        return Err(ReplicaStoreFault::DiskFailed);
     };
     if known.can_be_told(chunk, change) {
         Ok(())
     } else {
-        Err(StoreFault::NoRoom)
+        Err(ReplicaStoreFault::NoRoom)
     }
 }
 

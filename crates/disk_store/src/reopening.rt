@@ -4,27 +4,27 @@ ghost use Rattle.std.specs.Prelude.{◌≡◌, IfOk, IsErrOf, OnErr};
 ghost use Rattle.gfs_types.specs.declared.ids.OrderNo.{OrderNo};
 ghost use Rattle.replica_store.specs.Replicas.{ServerDisk};
 ghost use Rattle.disk_store.specs.Known.{Rows};
-ghost use Rattle.server_store.specs.declared.fault.StoreFault.TheVariants as faults;
+ghost use Rattle.server_store.specs.declared.fault.ReplicaStoreFault.TheVariants as faults;
 ghost use Rattle.disk_store.specs.Standing.{IsKept, found_made, with_made};
-ghost use Rattle.disk_store.specs.declared.standing.Standing.TheVariants.{Open};
+ghost use Rattle.disk_store.specs.declared.standing.DiskStoreState.TheVariants.{Open};
 
 use crate::finding::find;
 use crate::known::Known;
 use crate::rotting::rots;
-use crate::standing::{Standing, rotting_in};
+use crate::standing::{DiskStoreState, rotting_in};
 use chunk_store::Store;
+use disk::StoppableDisk;
 use replica_store::change::StoreChange;
-use server_store::fault::StoreFault;
+use server_store::fault::ReplicaStoreFault;
 use std::alloc::Global;
-use stored_log::stoppable::StoppableDisk;
 
 /// The disk begins again and is read, and a byte that was to rot is rotten. What is known of it then tells whether the change that was
 /// under way was made.
 pub fn open_again<D: StoppableDisk>(
     alloc: Global,
     store: &mut Store<D>,
-    standing: &Standing,
-) -> Result<Known, StoreFault>
+    standing: &DiskStoreState,
+) -> Result<Known, ReplicaStoreFault>
     requires kept { (order : OrderNo) × (rows : Rows) × (d : ServerDisk) × IsKept D.seen D.may_leave store.old order rows d standing.now }
     requires not_open { standing.now ≡ Open → ⊥ }
     ensures ok { (order : OrderNo) (rows : Rows) (d : ServerDisk) → IsKept D.seen D.may_leave store.old order rows d standing.now
@@ -36,7 +36,7 @@ pub fn open_again<D: StoppableDisk>(
     let found = find(alloc, &mut store.disk, store.layout)?;
     let known = match Known::of(alloc, found.order, &found.index) {
         Ok(known) => known,
-        Err(_) => return Err(StoreFault::NoMemory),
+        Err(_) => return Err(ReplicaStoreFault::NoMemory),
     };
     store.order = found.order;
     store.index = found.index;
@@ -45,13 +45,13 @@ pub fn open_again<D: StoppableDisk>(
 }
 
 /// The change that was under way, where it was made.
-pub fn made_in(standing: Standing, known: &Known) -> Option<StoreChange>
+pub fn made_in(standing: DiskStoreState, known: &Known) -> Option<StoreChange>
     ensures { result ≡ found_made known.now.order known.now.rows standing }
 {
     match standing {
-        Standing::Open => None,
-        Standing::Unread { .. } => None,
-        Standing::Changing(change) => {
+        DiskStoreState::Open => None,
+        DiskStoreState::Unread { .. } => None,
+        DiskStoreState::Changing(change) => {
             if known.is_made(&change) {
                 Some(change)
             } else {

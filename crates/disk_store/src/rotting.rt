@@ -10,21 +10,21 @@ ghost use Rattle.gfs_types.specs.declared.ids.OrderNo.{OrderNo};
 ghost use Rattle.disk_store.specs.Known.{Rows};
 ghost use Rattle.replica_store.specs.Replicas.{Replica, ServerDisk, replica_of};
 ghost use Rattle.server_store.specs.Stores.{disk_rotten};
-ghost use Rattle.server_store.specs.declared.fault.StoreFault.TheVariants as faults;
+ghost use Rattle.server_store.specs.declared.fault.ReplicaStoreFault.TheVariants as faults;
 ghost use Rattle.store_disk.specs.Places.{disk_size};
 ghost use Rattle.store_disk.specs.Stored.{Holds};
 ghost use Rattle.chunk_store.specs.Stores.{IsOpen};
 ghost use Rattle.disk_store.specs.Faults.{HasCause};
 ghost use Rattle.disk_store.specs.Standing.{CantRot, HasItsDigest, IsKept, IsRotWithin, Leaves, changes_of, rotten_by};
-ghost use Rattle.disk_store.specs.declared.standing.Standing.TheVariants.{Open};
+ghost use Rattle.disk_store.specs.declared.standing.DiskStoreState.TheVariants.{Open};
 
 use crate::faults::{fault_of, fault_of_disk};
-use crate::standing::{RottingByte, Standing};
+use crate::standing::{DiskStoreState, RottingByte};
 use chunk_store::Store;
 use disk::{Disk, DiskFault};
 use disk_redo::step::read;
 use gfs_types::ids::Handle;
-use server_store::fault::StoreFault;
+use server_store::fault::ReplicaStoreFault;
 use std::alloc::{AllocError, Global};
 use store_disk::{HashedBlock, HeldReplica, Layout, blocks_match};
 
@@ -97,7 +97,7 @@ fn would_match<D: Disk>(
     found: HeldReplica,
     place: u64,
     byte: u8,
-) -> Result<bool, StoreFault>
+) -> Result<bool, ReplicaStoreFault>
     requires is_open { (d : ServerDisk) × IsOpen D.seen D.may_leave store.old d }
     requires found { map.get store.old.index.held handle.0 ≡ Some found }
     requires place { place < store.old.layout.chunk }
@@ -131,7 +131,7 @@ pub fn rot<D: Disk>(
     handle: Handle,
     place: u64,
     byte: u8,
-) -> Result<Standing, StoreFault>
+) -> Result<DiskStoreState, ReplicaStoreFault>
     requires kept { (order : OrderNo) × (rows : Rows) × (d : ServerDisk) × IsKept D.seen D.may_leave store.old order rows d Open }
     ensures ok { (order : OrderNo) (rows : Rows) (d : ServerDisk) → IsKept D.seen D.may_leave store.old order rows d Open
         → IfOk result (λ standing. IsKept D.seen D.may_leave store.new order rows (disk_rotten d handle.0 place byte) standing) }
@@ -144,17 +144,17 @@ pub fn rot<D: Disk>(
     ensures cause { HasCause (D.failed store.old.disk) (D.failed store.new.disk) result }
 {
     let Some(found) = store.index.get(handle) else {
-        return Ok(Standing::Open);
+        return Ok(DiskStoreState::Open);
     };
     if place >= u64::from(store.layout.chunk) {
-        return Err(StoreFault::NoRoom);
+        return Err(ReplicaStoreFault::NoRoom);
     }
     if would_match(alloc, store, handle, found, place, byte)? {
-        return Err(StoreFault::NoRoom);
+        return Err(ReplicaStoreFault::NoRoom);
     }
     match store.rot(alloc, handle, place, byte) {
-        Ok(()) => Ok(Standing::Open),
-        Err(_) => Ok(Standing::Unread {
+        Ok(()) => Ok(DiskStoreState::Open),
+        Err(_) => Ok(DiskStoreState::Unread {
             refused: None,
             rotting: Some(RottingByte {
                 handle,
@@ -170,7 +170,7 @@ pub(crate) fn rots<D: Disk>(
     alloc: Global,
     store: &mut Store<D>,
     rotting: Option<RottingByte>,
-) -> Result<(), StoreFault>
+) -> Result<(), ReplicaStoreFault>
     requires is_open { (d : ServerDisk) × IsOpen D.seen D.may_leave store.old d }
     requires place { IsRotWithin store.old.layout.chunk rotting }
     ensures ok { (d : ServerDisk) → IsOpen D.seen D.may_leave store.old d → OnOk result (IsOpen D.seen D.may_leave store.new (rotten_by d rotting)) }

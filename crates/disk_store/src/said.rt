@@ -5,7 +5,7 @@ ghost use Rattle.replica_store.specs.Replicas.{new_server_disk};
 ghost use Rattle.disk_store.specs.Said.{said_changed};
 
 use crate::change::SaidChange;
-use http_server::Log;
+use ghost_list::GhostList;
 use std::marker::Model;
 
 /// What a server's disk says, from a new disk on. By itself it tells nothing of a disk: whoever keeps it states how the two belong
@@ -13,7 +13,7 @@ use std::marker::Model;
 #[derive(Drop)]
 pub struct SaidDisk {
     block: u32,
-    changes: Log<SaidChange, ()>,
+    changes: GhostList<SaidChange>,
 }
 
 impl Model for SaidDisk {
@@ -36,7 +36,7 @@ impl SaidDisk {
     {
         SaidDisk {
             block,
-            changes: Log::new(),
+            changes: GhostList::new(),
         }
     }
 
@@ -44,6 +44,6 @@ impl SaidDisk {
     pub fn change(&mut self, change: &SaidChange)
         ensures { self.new ≡ said_changed self.old change.now }
     {
-        self.changes = self.changes.and(change, &());
+        self.changes = self.changes.and(change);
     }
 }

@@ -16,7 +16,7 @@ pub struct RottingByte {
 
 /// What the store knows of its disk.
 #[derive(Drop)]
-pub enum Standing {
+pub enum DiskStoreState {
     /// The store is open on its disk.
     Open,
     /// The disk has to be read anew. The change that was refused wasn't begun; the byte that was to rot may not be another one yet.
@@ -29,11 +29,11 @@ pub enum Standing {
 }
 
 /// An open store has to be read anew; what is under way stays so.
-pub fn closed(standing: Standing) -> Standing
+pub fn closed(standing: DiskStoreState) -> DiskStoreState
     ensures { result ≡ closed standing }
 {
     match standing {
-        Standing::Open => Standing::Unread {
+        DiskStoreState::Open => DiskStoreState::Unread {
             refused: None,
             rotting: None,
         },
@@ -42,29 +42,29 @@ pub fn closed(standing: Standing) -> Standing
 }
 
 // A change is under way that wasn't begun.
-pub(crate) fn refused(standing: Standing, change: StoreChange) -> Standing
+pub(crate) fn refused(standing: DiskStoreState, change: StoreChange) -> DiskStoreState
     ensures { result ≡ refused standing change }
 {
     match standing {
-        Standing::Open => Standing::Unread {
+        DiskStoreState::Open => DiskStoreState::Unread {
             refused: Some(change),
             rotting: None,
         },
-        Standing::Unread { rotting, .. } => Standing::Unread {
+        DiskStoreState::Unread { rotting, .. } => DiskStoreState::Unread {
             refused: Some(change),
             rotting,
         },
-        Standing::Changing(other) => Standing::Changing(other),
+        DiskStoreState::Changing(other) => DiskStoreState::Changing(other),
     }
 }
 
 // The byte that is to rot, where there is one.
-pub(crate) fn rotting_in(standing: &Standing) -> Option<RottingByte>
+pub(crate) fn rotting_in(standing: &DiskStoreState) -> Option<RottingByte>
     ensures { result ≡ rotting_in standing.now }
 {
     match standing {
-        Standing::Open => None,
-        Standing::Unread { rotting, .. } => *rotting,
-        Standing::Changing(_) => None,
+        DiskStoreState::Open => None,
+        DiskStoreState::Unread { rotting, .. } => *rotting,
+        DiskStoreState::Changing(_) => None,
     }
 }

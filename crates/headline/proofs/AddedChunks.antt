@@ -8,8 +8,8 @@ use Rattle.gfs_types.specs.declared.config.Config.{Config}
 use Rattle.gfs_types.specs.declared.ids.FileId.{FileId}
 use Rattle.gfs_types.specs.declared.ids.Moment.{Moment}
 use Rattle.gfs_types.specs.Mutations.{end_of}
-use Rattle.messages.specs.declared.event.Input.{Input}
-use Rattle.messages.specs.declared.event.Input.TheVariants as input
+use Rattle.messages.specs.declared.event.NodeInput.{NodeInput}
+use Rattle.messages.specs.declared.event.NodeInput.TheVariants as input
 use Rattle.messages.specs.declared.message.Body.{Body}
 use Rattle.messages.specs.declared.message.Body.TheVariants as body
 use Rattle.messages.specs.declared.message.Message.{Message}
@@ -165,7 +165,7 @@ module _ (config : Config) (servers clients : ℕ) (w : WorldState) (r : IsReach
       asked_for x place client number file what deadline lost at from is (asks_add_the_next_chunk w.master moment refused x number file what deadline lost is)
   by_body x place client at from other is = only_asks_add_chunks w.master moment (input.Deliver x) refused (subst (λ (b : Body). IsNoAskIn b) (sym is) tt) k.machine orders w.master.disk
 
-  by_input : (i : Input) → ((x : Message) → i ≡ input.Deliver x → IsAmong w.sent x) → AreAskedFor k.machine orders w.master.disk (master_goes w.master moment i refused).changes
+  by_input : (i : NodeInput) → ((x : Message) → i ≡ input.Deliver x → IsAmong w.sent x) → AreAskedFor k.machine orders w.master.disk (master_goes w.master moment i refused).changes
   by_input input.Tick comes = only_asks_add_chunks w.master moment input.Tick refused tt k.machine orders w.master.disk
   by_input (input.Deliver x) comes =
       let came = comes x refl in

@@ -6,8 +6,8 @@ use Rattle.gfs_types.specs.declared.config.Config.{Config}
 use Rattle.gfs_types.specs.declared.ids.Node.{Node}
 use Rattle.gfs_types.specs.declared.ids.Node.TheVariants as node
 use Rattle.messages.specs.declared.event.Event.{Event}
-use Rattle.messages.specs.declared.event.Input.{Input}
-use Rattle.messages.specs.declared.event.Input.TheVariants as input
+use Rattle.messages.specs.declared.event.NodeInput.{NodeInput}
+use Rattle.messages.specs.declared.event.NodeInput.TheVariants as input
 use Rattle.messages.specs.declared.message.Body.{Body}
 use Rattle.messages.specs.declared.message.Message.{Message}
 use Rattle.relaxed_file.specs.Machine.{Machine, OpenCall, IsOpen}
@@ -58,7 +58,7 @@ number_of other = 0
 no_client : (n : Node) → n ≡ the_client zero → (index : ℕ) → n ≡ the_client (suc index) → ⊥
 no_client n is index also = let both : zero ≡ suc index = ap number_of (sym is ∙ also) in omega (arith, both)
 
-module _ (config : Config) (servers clients : ℕ) (w : WorldState) (r : IsReached config servers clients w) (e : Event) (choice : Choice) (moment : ℕ) (i : Input) (given : IsMastersInput w e moment i) (up : IsTrue w.master.up)
+module _ (config : Config) (servers clients : ℕ) (w : WorldState) (r : IsReached config servers clients w) (e : Event) (choice : Choice) (moment : ℕ) (i : NodeInput) (given : IsMastersInput w e moment i) (up : IsTrue w.master.up)
     (ss : List PendingSnapshot) (k j : ChunkSides) (b : IsBeside config w ss k) (leads : LeadsTo k.machine j.machine) (beside : AreChunksBeside config (happens w e choice).world j) (has : HasFilesOf j.log j.machine)
   where
     abbrev then_ : WorldState

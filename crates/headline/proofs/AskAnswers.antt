@@ -23,8 +23,8 @@ use Rattle.messages.specs.declared.message.Wanted.TheVariants as wanted
 use Rattle.messages.specs.declared.message.NameReply.TheVariants.{Answered}
 use Rattle.messages.specs.declared.message.ReplicaLine.{ReplicaLine}
 use Rattle.messages.specs.declared.message.LeaseLine.{LeaseLine}
-use Rattle.messages.specs.declared.event.Input.{Input}
-use Rattle.messages.specs.declared.event.Input.TheVariants as input
+use Rattle.messages.specs.declared.event.NodeInput.{NodeInput}
+use Rattle.messages.specs.declared.event.NodeInput.TheVariants as input
 use Rattle.log_records.specs.declared.record.Record.{Record}
 use Rattle.log_records.specs.declared.record.Record.TheVariants as log
 use Rattle.relaxed_file.specs.NameStep.{outcome_by, needs_room}
@@ -60,7 +60,7 @@ is_no_answer (body.Told number location) = false
 is_no_answer other = true
 
 -- an Ask with this number came in from this node
-pub record IsTakenAsk (i : Input) (sender : Node) (number : ℕ) : Type 0 where
+pub record IsTakenAsk (i : NodeInput) (sender : Node) (number : ℕ) : Type 0 where
   pub ask : Message
   pub file : FileId
   pub what : Wanted
@@ -71,7 +71,7 @@ pub record IsTakenAsk (i : Input) (sender : Node) (number : ℕ) : Type 0 where
   pub body_is : ask.body ≡ body.Ask number file what deadline lost
 
 -- an Ask with this number came in from this node, which this index answers
-pub record IsTakenAskOf (i : Input) (sender : Node) (number index : ℕ) : Type 0 where
+pub record IsTakenAskOf (i : NodeInput) (sender : Node) (number index : ℕ) : Type 0 where
   pub taken : IsTakenAsk i sender number
   pub index_is : IsIndexOf taken.what index
 
@@ -81,7 +81,7 @@ IsRefusedWhere lists file what TooLong = (index : ℕ) × (handles : List ℕ) �
 IsRefusedWhere lists file what other = Unit {0}
 
 -- some Ask came in
-abbrev pub IsAskIn : Input → Type 0
+abbrev pub IsAskIn : NodeInput → Type 0
 IsAskIn i = (sender : Node) × (number : ℕ) × IsTakenAsk i sender number
 
 -- what is known of a server's replica of a chunk
@@ -111,24 +111,24 @@ abbrev is_ask : Body → Bool
 is_ask (body.Ask number file what deadline lost) = true
 is_ask other = false
 
-abbrev message_in : Input → Option Message
+abbrev message_in : NodeInput → Option Message
 message_in (input.Deliver m) = Some m
 message_in input.Tick = None
 
 -- another message is no Ask
-no_ask : (i : Input) (m : Message) (b : Body) → i ≡ input.Deliver m → m.body ≡ b → is_ask b ≡ false → IsAskIn i → ⊥
+no_ask : (i : NodeInput) (m : Message) (b : Body) → i ≡ input.Deliver m → m.body ≡ b → is_ask b ≡ false → IsAskIn i → ⊥
 no_ask i m b came is other ask =
     let one : m ≡ (ask.2).ask = same_some m (ask.2).ask (ap message_in (sym came ∙ (ask.2).came)) in
     true≢false (sym (ap is_ask (sym is ∙ ap (λ (x : Message). x.body) one ∙ (ask.2).body_is)) ∙ other)
 
 -- Of what the master says as it takes an input, where this is known of replicas, and its files have these chunks.
-pub record MasterRefuses (i : Input) (known : Table (Table ℕ)) (lists : ℕ → Option (List ℕ)) (W : Message → Type 0) : Type 0 where
+pub record MasterRefuses (i : NodeInput) (known : Table (Table ℕ)) (lists : ℕ → Option (List ℕ)) (W : Message → Type 0) : Type 0 where
   pub plain : (receiver : Node) (b : Body) → is_no_answer b ≡ true → W (message node.Master receiver b)
   pub refuses : (receiver : Node) (number : ℕ) (refusal : Refusal) (taken : IsTakenAsk i receiver number) → IsRefusedWhere lists taken.file.0 taken.what refusal → W (message node.Master receiver (body.Refused number refusal))
   pub none : (receiver : Node) (number : ℕ) → IsTakenAsk i receiver number → W (message node.Master receiver (body.Told number None))
   pub tells : (receiver : Node) (number : ℕ) (l : Location) → IsTakenAskOf i receiver number l.index → AreKnown known l.handle.0 l.holders → W (message node.Master receiver (body.Told number (Some l)))
 
-module _ (i : Input) (known : Table (Table ℕ)) (lists : ℕ → Option (List ℕ)) (W : Message → Type 0) (k : MasterRefuses i known lists W) where
+module _ (i : NodeInput) (known : Table (Table ℕ)) (lists : ℕ → Option (List ℕ)) (W : Message → Type 0) (k : MasterRefuses i known lists W) where
   -- an Ask changes nothing that is known
   abbrev pub Fine : MasterDoing → Type 0
   Fine d = AllOf W d.sent × (IsAskIn i → d.master.holders ≡ known)
@@ -484,7 +484,7 @@ module _ (i : Input) (known : Table (Table ℕ)) (lists : ℕ → Option (List �
   takes_said d m (body.Image handle version serial bytes) same came is h = h
   takes_said d m (body.CopyLocal order handle version copy copy_version) same came is h = h
 
-  does_said : (d : MasterDoing) (j : Input) → ((file : ℕ) → lists file ≡ file_of d.master.logged.table file) → i ≡ j → Fine d → Fine (master_does d j)
+  does_said : (d : MasterDoing) (j : NodeInput) → ((file : ℕ) → lists file ≡ file_of d.master.logged.table file) → i ≡ j → Fine d → Fine (master_does d j)
   does_said d (input.Deliver m) same came h = takes_said d m m.body same came refl h
   does_said d input.Tick same came h = ticks_said d h
 

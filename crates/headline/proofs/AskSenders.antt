@@ -1,7 +1,7 @@
 -- Asks come from clients alone.
 use Rattle.std.proofs.Common.{◌≡◌, ℕ, suc, true, true≢false, List, [], ◌∷◌, ◌++◌, length, Some, sym, subst, ◌∙◌, inl, inr}
 use Rattle.gfs_types.specs.declared.ids.DataId.{DataId}
-use Rattle.messages.specs.declared.event.Input.{Input}
+use Rattle.messages.specs.declared.event.NodeInput.{NodeInput}
 use Rattle.messages.specs.declared.message.Body.{Body}
 use Rattle.messages.specs.declared.message.Body.TheVariants as body
 use Rattle.messages.specs.declared.message.Message.{Message}
@@ -48,7 +48,7 @@ quiet_word : (b : Body) → is_quiet b ≡ true → IsNoAskIn b
 quiet_word (body.Ask number file what deadline lost) is = absurd (true≢false (sym is))
 quiet_word other is = tt
 
-server_talk : (s : ServerState) (i : Input) → Talks s i (λ receiver b. IsNoAskIn b) (λ x. Unit {0}) (λ x. Unit {0})
+server_talk : (s : ServerState) (i : NodeInput) → Talks s i (λ receiver b. IsNoAskIn b) (λ x. Unit {0}) (λ x. Unit {0})
 server_talk s i = record {
   quiet = λ receiver b is. quiet_word b is;
   reads = λ m number handle version offset count r bytes came is there same read. tt;

@@ -8,8 +8,8 @@ use Rattle.gfs_types.specs.declared.ids.FileId.{FileId}
 use Rattle.gfs_types.specs.declared.ids.Handle.{Handle}
 use Rattle.gfs_types.specs.declared.ids.Node.{Node}
 use Rattle.gfs_types.specs.declared.refusal.Refusal.TheVariants.{TooLong}
-use Rattle.messages.specs.declared.event.Input.{Input}
-use Rattle.messages.specs.declared.event.Input.TheVariants as input
+use Rattle.messages.specs.declared.event.NodeInput.{NodeInput}
+use Rattle.messages.specs.declared.event.NodeInput.TheVariants as input
 use Rattle.messages.specs.declared.message.Body.{Body}
 use Rattle.messages.specs.declared.message.Body.TheVariants as body
 use Rattle.messages.specs.declared.message.Message.{Message}
@@ -265,7 +265,7 @@ module _ (m : MasterState) (moment : ℕ) (refused : List Bool) (below : Below m
       ]
   took_fine x other = inl (ready [] (master_takes First x other) (took [] First x other tt refl))
 
-  goes_fine : (i : Input) → Fine m.logged.next_handle (master_goes m moment i refused)
+  goes_fine : (i : NodeInput) → Fine m.logged.next_handle (master_goes m moment i refused)
   goes_fine (input.Deliver x) = took_fine x x.body
   goes_fine input.Tick = inl (ready [] (master_ticks First) (ticked [] First refl))
 
@@ -286,7 +286,7 @@ stands_below config servers clients w r up q file j at =
       | inr used ↦ ((used.1).0).0
     ]
 
-module _ (config : Config) (servers clients : ℕ) (w : WorldState) (r : IsReached config servers clients w) (up : IsTrue w.master.up) (moment : ℕ) (i : Input) (refused : List Bool) (place : ℕ) (source copy : Handle)
+module _ (config : Config) (servers clients : ℕ) (w : WorldState) (r : IsReached config servers clients w) (up : IsTrue w.master.up) (moment : ℕ) (i : NodeInput) (refused : List Bool) (place : ℕ) (source copy : Handle)
     (shown : element_at (master_goes w.master moment i refused).seen place ≡ Some (CopyStarted source copy))
   where
     abbrev d : MasterDoing

@@ -9,8 +9,8 @@ use Rattle.gfs_types.specs.declared.ids.DataId.{DataId}
 use Rattle.gfs_types.specs.declared.call.Call.{Call}
 use Rattle.gfs_types.specs.declared.refusal.Refusal.{Refusal}
 use Rattle.gfs_types.specs.declared.refusal.Refusal.TheVariants.{NoLease}
-use Rattle.messages.specs.declared.event.Input.{Input}
-use Rattle.messages.specs.declared.event.Input.TheVariants as input
+use Rattle.messages.specs.declared.event.NodeInput.{NodeInput}
+use Rattle.messages.specs.declared.event.NodeInput.TheVariants as input
 use Rattle.messages.specs.declared.message.Body.{Body}
 use Rattle.messages.specs.declared.message.Body.TheVariants as body
 use Rattle.messages.specs.declared.message.Message.{Message}
@@ -58,7 +58,7 @@ sends_asks : (s : ClientState) (d : ClientDoing) (o : Option Message) → IsStep
 sends_asks s d None step is = tt
 sends_asks s d (Some m) step is = (said_asks s d.client m.body (step.says m is).1, tt)
 
-pub step_asks : (s : ClientState) → ((c : CurrentCall) → s.current ≡ Some c → c.number ≤ s.call_count) → (moment : ℕ) (i : Input) (choice : Choice) → AllOf (λ m. IsNoTelling m.body) (client_step s moment i choice).out.sent
+pub step_asks : (s : ClientState) → ((c : CurrentCall) → s.current ≡ Some c → c.number ≤ s.call_count) → (moment : ℕ) (i : NodeInput) (choice : Choice) → AllOf (λ m. IsNoTelling m.body) (client_step s moment i choice).out.sent
 step_asks s named moment i choice = of_step (λ t ms. AllOf (λ m. IsNoTelling m.body) ms) s moment i choice named (λ d step. sends_asks (client_at s moment) d d.sent step refl) tt tt
 
 pub call_asks : (s : ClientState) → ((c : CurrentCall) → s.current ≡ Some c → c.number ≤ s.call_count) → (moment : ℕ) (c : Call) (choice : Choice) → AllOf (λ m. IsNoTelling m.body) (client_call s moment c choice).out.sent
@@ -146,7 +146,7 @@ all_kept : (es : List (DataId × List ℕ)) → AllOf (λ x. Unit {0}) es
 all_kept [] = tt
 all_kept (x ∷ es) = (tt, all_kept es)
 
-talks : (sent : List Message) (s : ServerState) (i : Input) → ((m : Message) → i ≡ input.Deliver m → IsAmong sent m) → Talks s i (IsHeard sent) (λ v. Unit {0}) (λ x. Unit {0})
+talks : (sent : List Message) (s : ServerState) (i : NodeInput) → ((m : Message) → i ≡ input.Deliver m → IsAmong sent m) → Talks s i (IsHeard sent) (λ v. Unit {0}) (λ x. Unit {0})
 talks sent s i came =
     record {
       quiet = quiet_heard sent;
@@ -158,7 +158,7 @@ talks sent s i came =
       numbers = λ m id handle version t deadline p bytes placed is asked primary new there fit. tt;
     }
 
-served : (sent : List Message) (s : ServerState) (moment : ℕ) (i : Input) (choice : Choice) → ((m : Message) → i ≡ input.Deliver m → IsAmong sent m) → AllOf (Answers sent) (server_step s moment i choice).out.sent
+served : (sent : List Message) (s : ServerState) (moment : ℕ) (i : NodeInput) (choice : Choice) → ((m : Message) → i ≡ input.Deliver m → IsAmong sent m) → AllOf (Answers sent) (server_step s moment i choice).out.sent
 served sent s moment i choice came =
     all_servers sent s.id (server_step s moment i choice).out.sent
     (step_words s.id (server_at s moment).now (λ b. Unit {0}) (λ b is. tt) s moment i choice refl refl (λ _. tt) (λ m came order handle version of new. tt))
@@ -178,7 +178,7 @@ plain_answers sent sender receiver (body.Bytes number bytes) is = absurd (true�
 plain_answers sent sender receiver (body.LenIs number count) is = absurd (true≢false (sym is))
 plain_answers sent sender receiver other is = tt
 
-mastered : (w : WorldState) (moment : ℕ) (i : Input) (choice : Choice) → ((m : Message) → i ≡ input.Deliver m → IsAmong w.sent m) → AllOf (Answers w.sent) (master_step w.master moment i choice).out.sent
+mastered : (w : WorldState) (moment : ℕ) (i : NodeInput) (choice : Choice) → ((m : Message) → i ≡ input.Deliver m → IsAmong w.sent m) → AllOf (Answers w.sent) (master_step w.master moment i choice).out.sent
 mastered w moment i choice came =
     master_refuses_asks i w.master.holders (λ file. file_of w.master.logged.table file) (Answers w.sent)
     (record {

@@ -11,8 +11,8 @@ use Rattle.gfs_types.specs.declared.ids.Node.{Node}
 use Rattle.gfs_types.specs.declared.ids.Node.TheVariants as node
 use Rattle.messages.specs.declared.event.Event.{Event}
 use Rattle.messages.specs.declared.event.Event.TheVariants as event
-use Rattle.messages.specs.declared.event.Input.{Input}
-use Rattle.messages.specs.declared.event.Input.TheVariants as input
+use Rattle.messages.specs.declared.event.NodeInput.{NodeInput}
+use Rattle.messages.specs.declared.event.NodeInput.TheVariants as input
 use Rattle.messages.specs.declared.message.Message.{Message}
 use Rattle.relaxed_file.specs.Run.{Visible}
 use Rattle.client_state.specs.declared.call.CurrentCall.{CurrentCall}
@@ -69,7 +69,7 @@ module _ (config : Config) (servers clients : ℕ) (w : WorldState) (r : IsReach
 
 -- what was given to a client was sent to it
 
-comes_in : (w : WorldState) (e : Event) (index moment : ℕ) (i : Input) → GivesClient w e index moment i → (j : Input) → i ≡ j → ComesTo w.sent (suc index) j
+comes_in : (w : WorldState) (e : Event) (index moment : ℕ) (i : NodeInput) → GivesClient w e index moment i → (j : NodeInput) → i ≡ j → ComesTo w.sent (suc index) j
 comes_in w e index moment i given (input.Deliver y) same = came w e index moment i given y same
 comes_in w e index moment i given input.Tick same = tt
 
@@ -79,7 +79,7 @@ abbrev Cases : WorldState → ClientState → Happened → Happened → Type 0
 Cases w s after_it z = (z ≡ nothing_happens w) ⊎ (IsTrue s.up × (z ≡ after_it))
 
 module _ (config : Config) (servers clients : ℕ) (w : WorldState) (r : IsReached config servers clients w) (kept : IsTrue (is_kept w)) (e : Event) (choice : Choice) (clocks : IsTrue (happens w e choice).world.observer.are_clocks_kept)
-    (index moment : ℕ) (s : ClientState) (i : Input) (at : element_at w.clients index ≡ Some s) (given : GivesClient w e index moment i) (known : AreOpenCallsKnown config w) (h : IsWholeWorld config w)
+    (index moment : ℕ) (s : ClientState) (i : NodeInput) (at : element_at w.clients index ≡ Some s) (given : GivesClient w e index moment i) (known : AreOpenCallsKnown config w) (h : IsWholeWorld config w)
   where
     abbrev t : Taken ClientState
     t = client_step s moment i choice
@@ -235,7 +235,7 @@ module _ (config : Config) (servers clients : ℕ) (w : WorldState) (r : IsReach
     abbrev Whole : Type 0
     Whole = IsWholeWorld config (happens w e choice).world
 
-    module _ (index moment : ℕ) (s : ClientState) (i : Input) (at : element_at w.clients index ≡ Some s) (given : GivesClient w e index moment i) where
+    module _ (index moment : ℕ) (s : ClientState) (i : NodeInput) (at : element_at w.clients index ≡ Some s) (given : GivesClient w e index moment i) where
       by_stage : (x : CurrentCall) → s.current ≡ Some x → (st : Stage) → x.stage ≡ st → Whole
       by_stage x is AskedNames staged = name_whole config servers clients w r kept e choice clocks index moment s i at given known h x is staged
       by_stage x is other staged =
@@ -255,7 +255,7 @@ module _ (config : Config) (w : WorldState) (choice : Choice) (h : IsWholeWorld 
   at_moment_kept : (moment : ℕ) (z : Happened) → Kept z → Kept (at_moment w moment z)
   at_moment_kept moment z g = on_cond Kept (nat_le moment moment_limit) z (nothing_happens w) (λ _. g) (λ _. h)
 
-  moves_none : (cl : ClientId) (moment : ℕ) (i : Input) → numbered_from_1 w.clients cl.0 ≡ None → Kept (moves w (node.Client cl) moment i choice)
+  moves_none : (cl : ClientId) (moment : ℕ) (i : NodeInput) → numbered_from_1 w.clients cl.0 ≡ None → Kept (moves w (node.Client cl) moment i choice)
   moves_none cl moment i none = subst (λ (o : Option ClientState). Kept (client_moves w (cl.0 - 1) moment i choice o)) (sym none) h
 
 client_of : (cl : ClientId) (n : ℕ) → cl.0 ≡ n → node.Client cl ≡ the_client n

@@ -4,7 +4,7 @@ use Rattle.std.proofs.lemmas.List.{append-nil}
 use Rattle.std.proofs.lemmas.Bool.{and_parts}
 use Rattle.gfs_types.specs.declared.config.Config.{Config}
 use Rattle.messages.specs.declared.event.Event.{Event}
-use Rattle.messages.specs.declared.event.Input.{Input}
+use Rattle.messages.specs.declared.event.NodeInput.{NodeInput}
 use Rattle.messages.specs.declared.message.Body.{Body}
 use Rattle.messages.specs.declared.message.Body.TheVariants as body
 use Rattle.messages.specs.declared.message.Message.{Message}
@@ -63,7 +63,7 @@ same_rest (m ∷ sent) one two same = same_rest sent one two (tail_same same)
 no_words : (clients : List ClientState) (m : Machine) → AreWordsSo [] clients m
 no_words clients m = λ index s at up x was to firm. none_some x was.1
 
-module _ (config : Config) (servers clients : ℕ) (w : WorldState) (r : IsReached config servers clients w) (e : Event) (choice : Choice) (index moment : ℕ) (s : ClientState) (i : Input) (at : element_at w.clients index ≡ Some s) (given : GivesClient w e index moment i) where
+module _ (config : Config) (servers clients : ℕ) (w : WorldState) (r : IsReached config servers clients w) (e : Event) (choice : Choice) (index moment : ℕ) (s : ClientState) (i : NodeInput) (at : element_at w.clients index ≡ Some s) (given : GivesClient w e index moment i) where
   abbrev Says : Happened → Type 0
   Says h = (more : List Message) → h.world.sent ≡ w.sent ++ more → (m : Machine) → AreWordsSo more h.world.clients m
 

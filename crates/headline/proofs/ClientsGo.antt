@@ -11,8 +11,8 @@ use Rattle.gfs_types.specs.declared.ids.FileId.{FileId}
 use Rattle.gfs_types.specs.declared.answer.Answer.TheVariants as answer
 use Rattle.gfs_types.specs.declared.refusal.Refusal.TheVariants.{NoMemory}
 use Rattle.messages.specs.declared.event.Event.{Event}
-use Rattle.messages.specs.declared.event.Input.{Input}
-use Rattle.messages.specs.declared.event.Input.TheVariants as input
+use Rattle.messages.specs.declared.event.NodeInput.{NodeInput}
+use Rattle.messages.specs.declared.event.NodeInput.TheVariants as input
 use Rattle.messages.specs.declared.message.Body.TheVariants as body
 use Rattle.messages.specs.declared.message.NameReply.{NameReply}
 use Rattle.messages.specs.declared.message.NameReply.TheVariants as replies
@@ -233,7 +233,7 @@ module _ (config : Config) (servers clients : ℕ) (w : WorldState) (r : world.I
     later : IsClientBeside config trace greatest (client_at s moment) p.names h.requests client
     later = record { beside = record { call = (own.beside).call; count = (own.beside).count }; naming = own.naming; settings = own.settings; now = max-le own.now early }
 
-    module _ (none : s.current ≡ None) (i : Input) where
+    module _ (none : s.current ≡ None) (i : NodeInput) where
       idle_goes : client_begins (client_at s moment) ≡ client_goes s moment i
       idle_goes = ap (λ (o : Option CurrentCall). client_does (client_begins (client_at s moment)) i o) (sym none)
 
@@ -275,7 +275,7 @@ module _ (config : Config) (servers clients : ℕ) (w : WorldState) (r : world.I
       run_opened = run_goes config trace p.whole (Invoke client c ∷ []) p.run (allowed, tt)
 
       others_opened : (other : ℕ) (z : ClientState) → (other ≡ index → ⊥) → IsFileClient p.whole (suc other) z
-          → IsFileClient opened (suc other) z × ((j : Input) → IsFirmInput j → IsSaid p.whole (suc other) z j → IsSaid opened (suc other) z j)
+          → IsFileClient opened (suc other) z × ((j : NodeInput) → IsFirmInput j → IsSaid p.whole (suc other) z j → IsSaid opened (suc other) z j)
       others_opened other z apart g = file_clients_stay config p.whole reached (Invoke client c) allowed (suc other) (not_own other apart) z g
 
       leads_opened : LeadsTo k.machine opened
@@ -355,7 +355,7 @@ module _ (config : Config) (servers clients : ℕ) (w : WorldState) (r : world.I
         f = b.followed
 
         others : (other : ℕ) (z : ClientState) → (other ≡ index → ⊥) → IsFileClient p.whole (suc other) z
-            → IsFileClient (after_all opening f.actions) (suc other) z × ((j : Input) → IsFirmInput j → IsSaid p.whole (suc other) z j → IsSaid (after_all opening f.actions) (suc other) z j)
+            → IsFileClient (after_all opening f.actions) (suc other) z × ((j : NodeInput) → IsFirmInput j → IsSaid p.whole (suc other) z j → IsSaid (after_all opening f.actions) (suc other) z j)
         others other z apart g =
             let one_on = others_opened c allowed other z apart g in
             let two_on = other_clients_stay config opening (reached_opened c allowed) client d f (suc other) (not_own other apart) z one_on.0 in
@@ -484,7 +484,7 @@ module _ (config : Config) (servers clients : ℕ) (w : WorldState) (r : world.I
           at_some (λ (n : Machine). (n.config ≡ made.config) × (n.files ≡ made.files)) (λ (x : OpenCall). returned made client x reply) made (made.clients client).open_call (refused_too.0).0 (refused_too.0).1 (refl, refl)
 
       others_closed : (other : ℕ) (z : ClientState) → (other ≡ index → ⊥) → IsFileClient p.whole (suc other) z
-          → IsFileClient closed (suc other) z × ((j : Input) → IsFirmInput j → IsSaid p.whole (suc other) z j → IsSaid closed (suc other) z j)
+          → IsFileClient closed (suc other) z × ((j : NodeInput) → IsFirmInput j → IsSaid p.whole (suc other) z j → IsSaid closed (suc other) z j)
       others_closed other z apart g =
           let one_on = others_opened c may_make other z apart g in
           let two_on = file_clients_stay config made (reached_opened c may_make) (Return client reply) refused_too.0 (suc other) (not_own other apart) z one_on.0 in
@@ -531,7 +531,7 @@ module _ (config : Config) (servers clients : ℕ) (w : WorldState) (r : world.I
 
     -- a name call waits, or is over
 
-    module _ (asked : IsAskedFor w.sent k.log ss) (i : Input) (came : ComesTo w.sent client i) (x : CurrentCall) (is : s.current ≡ Some x) (staged : x.stage ≡ AskedNames) where
+    module _ (asked : IsAskedFor w.sent k.log ss) (i : NodeInput) (came : ComesTo w.sent client i) (x : CurrentCall) (is : s.current ≡ Some x) (staged : x.stage ≡ AskedNames) where
       known_still : IsKnownClient w.sent k.log ss index s
       known_still = facts config servers clients w r index s at up k.log ss asked
 
@@ -684,7 +684,7 @@ module _ (config : Config) (servers clients : ℕ) (w : WorldState) (r : world.I
           run_over = subst (λ (vs : List Visible). IsRunTo config (trace ++ vs) then_whole) shown_once (run_goes config trace p.whole (a ∷ []) p.run (both_take.0, tt))
 
           others_over : (other : ℕ) (z : ClientState) → (other ≡ index → ⊥) → IsFileClient p.whole (suc other) z
-              → IsFileClient then_whole (suc other) z × ((j : Input) → IsFirmInput j → IsSaid p.whole (suc other) z j → IsSaid then_whole (suc other) z j)
+              → IsFileClient then_whole (suc other) z × ((j : NodeInput) → IsFirmInput j → IsSaid p.whole (suc other) z j → IsSaid then_whole (suc other) z j)
           others_over other z apart g = file_clients_stay config p.whole reached a both_take.0 (suc other) (of_client other apart) z g
 
           no_words : AreOwnWordsSo w.sent then_whole index doing.client
@@ -722,7 +722,7 @@ module _ (config : Config) (servers clients : ℕ) (w : WorldState) (r : world.I
       name_there : is_name_call (waiting_here.0).asked.call ≡ true
       name_there = ap is_name_call waiting_here.2 ∙ waiting_here.3
 
-      told_allows : (j : Input) → ComesTo w.sent client j → (q : NameReply) → Tells j x.number q
+      told_allows : (j : NodeInput) → ComesTo w.sent client j → (q : NameReply) → Tells j x.number q
           → ((reply : Answer) → q ≡ replies.Answered reply → Allows p.names (Return client reply)) × ((file : FileId) → q ≡ replies.Opened file → Allows p.names (ReturnFd client (suc (p.names.clients client).fd_count) file.0))
       told_allows (input.Deliver y) to q told =
           let given_now = told_answers_are_allowed p.names h.requests y client x.number waiting_here.0 ((p.named).told y to.0) (ap client_number to.1) waiting_here.1 name_there in

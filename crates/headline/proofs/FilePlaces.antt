@@ -8,7 +8,7 @@ use Rattle.std.proofs.lemmas.Bool.{and_parts, leb-true, eqb-true}
 use Rattle.std.proofs.lemmas.Map.Steps.{length-le_from_distinct_below}
 use lib.Dec.{eqb}
 use Rattle.gfs_types.specs.declared.config.Config.{Config}
-use Rattle.messages.specs.declared.event.Input.{Input}
+use Rattle.messages.specs.declared.event.NodeInput.{NodeInput}
 use Rattle.chunk_table.specs.ChunkTable.{handles_of}
 use Rattle.gfs_types.specs.Counters.{counter_limit}
 use Rattle.protocol.specs.Tables.{element_at}
@@ -50,7 +50,7 @@ ends_within m d choice Goes may up = inl (by_limits d.master may)
 ends_within m d choice Lost may up = absurd cc
 ends_within m d choice (Stops made) may up = absurd cc
 
-step_within : (m : MasterState) (moment : ℕ) (i : Input) (choice : Choice) → IsWithin m → IsWithin (master_step m moment i choice).state
+step_within : (m : MasterState) (moment : ℕ) (i : NodeInput) (choice : Choice) → IsWithin m → IsWithin (master_step m moment i choice).state
 step_within m moment i choice h =
     let d : MasterDoing = master_goes m moment i choice.refused in
     let Good : Taken MasterState → Type 0 = λ t. IsWithin t.state in

@@ -5,7 +5,7 @@ use Rattle.gfs_types.specs.declared.config.Config.{Config}
 use Rattle.gfs_types.specs.declared.ids.DataId.{DataId}
 use Rattle.gfs_types.specs.declared.refusal.Refusal.{Refusal}
 use Rattle.gfs_types.specs.declared.refusal.Refusal.TheVariants.{TooLong, NoLease}
-use Rattle.messages.specs.declared.event.Input.{Input}
+use Rattle.messages.specs.declared.event.NodeInput.{NodeInput}
 use Rattle.messages.specs.declared.message.Body.{Body}
 use Rattle.messages.specs.declared.message.Body.TheVariants as body
 use Rattle.relaxed_file.specs.Machine.{Machine, OpenCall}
@@ -68,7 +68,7 @@ module _ (config : Config) (servers clients : ℕ) (w : WorldState) (r : IsReach
       said_new m (suc index) t.id o c s c.stage x.body stage firm (answers_carry_used_numbers config servers clients w r index s at up was.0 x was.1 to)
       (λ id place number waits done mine seq. waited_data_are_not_done config servers clients w r index s at number waits was.0 x was.1 id place done (mine ∙ same ∙ ((numbered_reached config servers clients w r).each index s at).id) seq)
 
-  pub waits_so : (moment : ℕ) (i : Input) (m : Machine) → IsFileClient m (suc index) s → AreOwnWordsSo w.sent m index s
+  pub waits_so : (moment : ℕ) (i : NodeInput) (m : Machine) → IsFileClient m (suc index) s → AreOwnWordsSo w.sent m index s
       → IsFollowed m (suc index) (client_goes s moment i) → (f : IsFollowed m (suc index) (client_goes s moment i)) × AreOwnWordsSo w.sent (after_all m f.actions) index (client_goes s moment i).client
   unfolding stays_followed
   waits_so moment i m alike said f =

@@ -9,8 +9,8 @@ use Rattle.gfs_types.specs.declared.ids.Moment.{Moment}
 use Rattle.gfs_types.specs.declared.ids.OrderNo.{OrderNo}
 use Rattle.gfs_types.specs.declared.ids.Version.{Version}
 use Rattle.messages.specs.declared.event.Event.{Event}
-use Rattle.messages.specs.declared.event.Input.{Input}
-use Rattle.messages.specs.declared.event.Input.TheVariants as input
+use Rattle.messages.specs.declared.event.NodeInput.{NodeInput}
+use Rattle.messages.specs.declared.event.NodeInput.TheVariants as input
 use Rattle.messages.specs.declared.message.Body.{Body}
 use Rattle.messages.specs.declared.message.Body.TheVariants as body
 use Rattle.messages.specs.declared.message.Message.{Message}
@@ -89,7 +89,7 @@ unasked_known kept m requests q other is = tt
 
 module _ (config : Config) (servers clients : ℕ) (w : WorldState) (r : IsReached config servers clients w) (kept : IsTrue w.observer.are_clocks_kept) (e : Event) (choice : Choice) (clocks : IsTrue (happens w e choice).world.observer.are_clocks_kept)
     (k : ChunkSides) (h : IsBeside config w w.master.snapshots k) (is : k.log ≡ w.master.logged) (up : IsTrue w.master.up) (moment : ℕ) (timely : max w.observer.greatest moment ≤ moment + w.config.skew_ms)
-    (i : Input) (heard : (x : Message) → i ≡ input.Deliver x → names.WasSent w.sent x) (copies : AreCopiesOver w)
+    (i : NodeInput) (heard : (x : Message) → i ≡ input.Deliver x → names.WasSent w.sent x) (copies : AreCopiesOver w)
     (event : over.IsMastersEvent w e moment i) (was : over.WasSent w i) (long : 1 ≤ config.lease_ms)
     (taken : IsTaken config servers clients w r kept e choice clocks k h is up moment timely i heard copies)
     (ends : choice.ending ≡ Goes)

@@ -3,8 +3,8 @@ use Rattle.std.proofs.Common.{◌≡◌, ℕ, suc, ◌<◌, Bool, true, List, []
 use Rattle.std.specs.Prelude.{IsTrue}
 use Rattle.gfs_types.specs.declared.config.Config.{Config}
 use Rattle.messages.specs.declared.event.Event.{Event}
-use Rattle.messages.specs.declared.event.Input.{Input}
-use Rattle.messages.specs.declared.event.Input.TheVariants as input
+use Rattle.messages.specs.declared.event.NodeInput.{NodeInput}
+use Rattle.messages.specs.declared.event.NodeInput.TheVariants as input
 use Rattle.messages.specs.declared.message.Message.{Message}
 use Rattle.log_records.specs.declared.record.Record.{Record}
 use Rattle.log_records.specs.declared.record.Record.TheVariants as log
@@ -117,7 +117,7 @@ up_keeps =
     }
 
 -- a master stays up in its step
-pub goes_up : (m : MasterState) (moment : ℕ) (i : Input) (refused : List Bool) → IsTrue m.up → IsTrue (master_goes m moment i refused).master.up
+pub goes_up : (m : MasterState) (moment : ℕ) (i : NodeInput) (refused : List Bool) → IsTrue m.up → IsTrue (master_goes m moment i refused).master.up
 goes_up m moment i refused up = goes_keeps (λ c. c.up ≡ true) up_keeps m moment i refused up
 
 none_has : (xs : List LogChange) (handle version : ℕ) → AllOf IsNoGrant xs → HasGrantRecord xs handle version → ⊥
@@ -162,7 +162,7 @@ module _ (config : Config) (servers clients : ℕ) (w : WorldState) (r : IsReach
   quiet : {A : Type 0} (ms : List Message) → HasNoOrder ms → grants_of handle version w.sent < grants_of handle version (w.sent ++ stamped (suc (length w.sent)) ms) → A
   quiet ms none new = absurd (let few = quiet_sent w.sent (suc (length w.sent)) ms handle version none in omega (arith, few, new))
 
-  by_step : (moment : ℕ) (i : Input) (choice : Choice) → IsTrue w.master.up → grants_of handle version w.sent < grants_of handle version (w.sent ++ stamped (suc (length w.sent)) (master_step w.master moment i choice).out.sent)
+  by_step : (moment : ℕ) (i : NodeInput) (choice : Choice) → IsTrue w.master.up → grants_of handle version w.sent < grants_of handle version (w.sent ++ stamped (suc (length w.sent)) (master_step w.master moment i choice).out.sent)
       → IsGrantingStep w handle version (master_step w.master moment i choice).state
   by_step moment i choice up =
       on_cond good w.master.up (master_bounded w.master d choice) (no_step w.master)
@@ -175,7 +175,7 @@ module _ (config : Config) (servers clients : ℕ) (w : WorldState) (r : IsReach
       good : Taken MasterState → Type 0
       good t = grants_of handle version w.sent < grants_of handle version (w.sent ++ stamped (suc (length w.sent)) t.out.sent) → IsGrantingStep w handle version t.state
 
-      by_input : (j : Input) → HasGrantRecord (master_goes w.master moment j choice.refused).changes handle version → IsGrantingStep w handle version (master_goes w.master moment j choice.refused).master
+      by_input : (j : NodeInput) → HasGrantRecord (master_goes w.master moment j choice.refused).changes handle version → IsGrantingStep w handle version (master_goes w.master moment j choice.refused).master
       by_input input.Tick has = absurd (none_has (master_goes w.master moment input.Tick choice.refused).changes handle version (ticks_grant_nothing w.master moment choice.refused) has)
       by_input (input.Deliver x) has = elim (asked_or_not (input.Deliver x)) [
         | inl none ↦

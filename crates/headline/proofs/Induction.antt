@@ -5,8 +5,8 @@ use Rattle.std.proofs.lemmas.Bool.{and_parts}
 use Rattle.gfs_types.specs.declared.config.Config.{Config}
 use Rattle.messages.specs.declared.event.Event.{Event}
 use Rattle.messages.specs.declared.event.Event.TheVariants as event
-use Rattle.messages.specs.declared.event.Input.{Input}
-use Rattle.messages.specs.declared.event.Input.TheVariants as input
+use Rattle.messages.specs.declared.event.NodeInput.{NodeInput}
+use Rattle.messages.specs.declared.event.NodeInput.TheVariants as input
 use Rattle.messages.specs.declared.message.Message.{Message}
 use Rattle.protocol.specs.Choice.{Choice}
 use Rattle.protocol.specs.World.{WorldState, new_world, numbered_from_1, happens, after_events, IsReached, is_kept}
@@ -41,7 +41,7 @@ use Rattle.headline.proofs.DisksBefore.{disks_before}
 clocks_of : (w : WorldState) → IsTrue (is_kept w) → IsTrue w.observer.are_clocks_kept
 clocks_of w kept = (and_parts w.observer.are_clocks_kept w.observer.are_disks_kept kept).0
 
-abbrev IsAmongOf : WorldState → Input → Type 0
+abbrev IsAmongOf : WorldState → NodeInput → Type 0
 IsAmongOf w (input.Deliver x) = IsAmong w.sent x
 IsAmongOf w input.Tick = Unit {0}
 
@@ -64,8 +64,8 @@ sent_in w zero m is = none_some m is
 sent_in w (suc n) m is = (n, is)
 
 -- what the master takes was sent
-heard : (w : WorldState) (e : Event) (moment : ℕ) (i : Input) → IsMastersInput w e moment i → (x : Message) → i ≡ input.Deliver x → IsAmong w.sent x
-heard w (event.Deliver number now) moment (input.Deliver m) given x same = subst (λ (j : Input). IsAmongOf w j) same (sent_in w number m given.0)
+heard : (w : WorldState) (e : Event) (moment : ℕ) (i : NodeInput) → IsMastersInput w e moment i → (x : Message) → i ≡ input.Deliver x → IsAmong w.sent x
+heard w (event.Deliver number now) moment (input.Deliver m) given x same = subst (λ (j : NodeInput). IsAmongOf w j) same (sent_in w number m given.0)
 heard w (event.Tick n now) moment input.Tick given x same = absurd (let no : input.Tick ≡ input.Deliver x = same in cc)
 heard w (event.Deliver number now) moment input.Tick given x same = absurd given
 heard w (event.Tick n now) moment (input.Deliver m) given x same = absurd given

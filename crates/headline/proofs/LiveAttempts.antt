@@ -6,7 +6,7 @@ use Rattle.gfs_types.specs.declared.call.Call.TheVariants as call
 use Rattle.gfs_types.specs.declared.ids.FileId.{FileId}
 use Rattle.messages.specs.declared.message.Message.{Message}
 use Rattle.messages.specs.declared.event.Event.{Event}
-use Rattle.messages.specs.declared.event.Input.{Input}
+use Rattle.messages.specs.declared.event.NodeInput.{NodeInput}
 use Rattle.relaxed_file.specs.NameStep.{is_name_call}
 use Rattle.client_state.specs.declared.call.CurrentCall.{CurrentCall}
 use Rattle.client_state.specs.declared.call.LiveAttempt.{LiveAttempt}
@@ -174,7 +174,7 @@ module _ (config : Config) (servers clients : ℕ) (w : WorldState) (r : IsReach
     begun : Calm (client_begins (client_at s moment))
     begun = begun_calm (client_at s moment) (Came w.sent (suc index)) AnyKept AnyUsed H AnyPushed M M AnyReply AnyEnd (Unit {0}) keeps (λ c reply h f none. tt) (stands_now s.current telling)
 
-    leaves : (i : Input) → IsCameIn (Came w.sent (suc index)) i → Leaves (client_at s moment) AnyUsed H AnyPushed M AnyReply AnyEnd (Unit {0}) (client_does (client_begins (client_at s moment)) i s.current)
+    leaves : (i : NodeInput) → IsCameIn (Came w.sent (suc index)) i → Leaves (client_at s moment) AnyUsed H AnyPushed M AnyReply AnyEnd (Unit {0}) (client_does (client_begins (client_at s moment)) i s.current)
     leaves i came =
         does_leave (client_at s moment) (Came w.sent (suc index)) AnyKept AnyUsed H AnyPushed M M AnyReply AnyEnd (Unit {0}) keeps (λ c reply h f none. tt) i s.current refl came (stands_now s.current telling) begun
 
@@ -184,7 +184,7 @@ module _ (config : Config) (servers clients : ℕ) (w : WorldState) (r : IsReach
         subst (λ (x : CurrentCall). StandsAt AnyUsed H AnyPushed M AnyReply None x x.stage) (same_some (record g.current { stage = SentMutate g.chunk g.number }) c (sym (ap (λ (x : ClientDoing). x.client.current) g.is) ∙ is))
         (g.mutates, ((g.over).0, told_now g.current g.chunk g.current_is (ap (λ (st : Stage). chunk_used st) g.stage_is) (g.current).asked refl (g.over).0))
 
-    step_tells : (i : Input) (choice : Choice) → IsCameIn (Came w.sent (suc index)) i → IsTelling w.sent (suc index) config.chunk (client_step s moment i choice).state
+    step_tells : (i : NodeInput) (choice : Choice) → IsCameIn (Came w.sent (suc index)) i → IsTelling w.sent (suc index) config.chunk (client_step s moment i choice).state
     step_tells i choice came =
         stepped (λ t ms. IsTelling w.sent (suc index) config.chunk t) s moment i choice (left_tells (client_does (client_begins (client_at s moment)) i s.current) (leaves i came)) (λ c is. none_some c is) telling
 

@@ -9,8 +9,8 @@ use Rattle.gfs_types.specs.declared.ids.Node.TheVariants.{Master}
 use Rattle.gfs_types.specs.declared.refusal.Refusal.{Refusal}
 use Rattle.gfs_types.specs.declared.refusal.Refusal.TheVariants.{TooLong}
 use Rattle.messages.specs.declared.event.Event.{Event}
-use Rattle.messages.specs.declared.event.Input.{Input}
-use Rattle.messages.specs.declared.event.Input.TheVariants as input
+use Rattle.messages.specs.declared.event.NodeInput.{NodeInput}
+use Rattle.messages.specs.declared.event.NodeInput.TheVariants as input
 use Rattle.messages.specs.declared.message.Body.{Body}
 use Rattle.messages.specs.declared.message.Body.TheVariants as body
 use Rattle.gfs_types.specs.declared.ids.Version.{Version}
@@ -239,6 +239,6 @@ refusals_for_length_are_so config servers clients w r kept e choice clocks index
             long_there config servers clients w r kept e choice clocks index moment s at up ss k j beside leads run files adds was.0.0 y was.0.1 was.1 body_is.0 body_is.1 x current (staged ∙ ap (λ (n : ℕ). AskedWhere n) same) o is_open
         by_stage other staged = tt
 
-    by_input : (h : Input) → i ≡ h → GivesClient w e index moment h → (IsFirmInput h → ⊥) → IsSaid j.machine (suc index) s h
+    by_input : (h : NodeInput) → i ≡ h → GivesClient w e index moment h → (IsFirmInput h → ⊥) → IsSaid j.machine (suc index) s h
     by_input input.Tick same gives not = absurd (not tt)
     by_input (input.Deliver y) same gives not = by_body y gives not

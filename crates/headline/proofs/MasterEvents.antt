@@ -7,8 +7,8 @@ use Rattle.gfs_types.specs.declared.ids.Node.{Node as Nodes}
 use Rattle.gfs_types.specs.declared.ids.Node.TheVariants as node
 use Rattle.messages.specs.declared.event.Event.{Event}
 use Rattle.messages.specs.declared.event.Event.TheVariants as event
-use Rattle.messages.specs.declared.event.Input.{Input}
-use Rattle.messages.specs.declared.event.Input.TheVariants as input
+use Rattle.messages.specs.declared.event.NodeInput.{NodeInput}
+use Rattle.messages.specs.declared.event.NodeInput.TheVariants as input
 use Rattle.messages.specs.declared.message.Message.{Message}
 use Rattle.protocol.specs.Tables.{moment_limit}
 use Rattle.protocol.specs.Choice.{Choice, Ending, Goes, Lost, Stops, decided_changes}
@@ -49,7 +49,7 @@ use Rattle.headline.proofs.Restarts as restarts
 record IsStep (w : WorldState) (e : Event) : Type 0 where
   up : IsTrue w.master.up
   moment : ℕ
-  taken : Input
+  taken : NodeInput
   given : IsMastersInput w e moment taken
   event_is : over.IsMastersEvent w e moment taken
   heard : (x : Message) → taken ≡ input.Deliver x → WasSent w.sent x
@@ -67,7 +67,7 @@ sent_as : (sent : List Message) (number : ℕ) (m : Message) → numbered_from_1
 sent_as sent zero m is = none_some m is
 sent_as sent (suc n) m is = (n, is)
 
-abbrev message_of : Input → Message → Message
+abbrev message_of : NodeInput → Message → Message
 message_of (input.Deliver y) x = y
 message_of input.Tick x = x
 
@@ -78,7 +78,7 @@ module _ (w : WorldState) (choice : Choice) where
   at_limit : (moment : ℕ) (h : Happened) → nat_le moment moment_limit ≡ true → (at_moment w moment h).world ≡ h.world
   at_limit moment h limit = ap (λ (b : Bool). (cond b h (nothing_happens w)).world) limit
 
-  is_down : (moment : ℕ) (i : Input) → w.master.up ≡ false → (moves w node.Master moment i choice).world ≡ w
+  is_down : (moment : ℕ) (i : NodeInput) → w.master.up ≡ false → (moves w node.Master moment i choice).world ≡ w
   is_down moment i down = ap (λ (b : Bool). (cond b (after_master w moment (master_step w.master moment i choice)) (nothing_happens w)).world) down
 
   kind_of : (e : Event) → IsMastersEvent w e → Kind w e choice
@@ -99,7 +99,7 @@ module _ (w : WorldState) (choice : Choice) where
         taken = input.Deliver m;
         given = (is.1, is.2, refl);
         event_is = (masters_events_are_steps w up now limit).1 number m is.1 is.2;
-        heard = λ x same. subst (λ (y : Message). WasSent w.sent y) (ap (λ (i : Input). message_of i m) same) (sent_as w.sent number m is.1);
+        heard = λ x same. subst (λ (y : Message). WasSent w.sent y) (ap (λ (i : NodeInput). message_of i m) same) (sent_as w.sent number m is.1);
         was = (number, is.1);
       }))
 
@@ -168,7 +168,7 @@ module _ (config : Config) (servers clients : ℕ) (w : WorldState) (settings : 
         → HasMachine config v l others
     silently ss k h moment l others still a = arrived config servers clients w r e choice clocks ss k h moment kept masters asks.holders l others a (λ j leads run chunks has files. no_offers still j.machine)
 
-    arrives : (moment0 : ℕ) (i : Input) → IsMastersInput w e moment0 i → IsTrue w.master.up → choice.ending ≡ Goes → (ss : List PendingSnapshot) (k : ChunkSides) (h : IsBeside config w ss k) (moment : ℕ) (l : Logged) (others : List PendingSnapshot) → Arrives config servers clients w r e choice clocks ss k h moment l others → HasMachine config v l others
+    arrives : (moment0 : ℕ) (i : NodeInput) → IsMastersInput w e moment0 i → IsTrue w.master.up → choice.ending ≡ Goes → (ss : List PendingSnapshot) (k : ChunkSides) (h : IsBeside config w ss k) (moment : ℕ) (l : Logged) (others : List PendingSnapshot) → Arrives config servers clients w r e choice clocks ss k h moment l others → HasMachine config v l others
     arrives moment0 i given up ends ss k h moment l others a = arrived config servers clients w r e choice clocks ss k h moment kept masters asks.holders l others a (λ j. asks.offers moment0 i given up ends ss k j h)
 
     abbrev At : MasterState → Type 0

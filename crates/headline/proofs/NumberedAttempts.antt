@@ -7,8 +7,8 @@ use Rattle.gfs_types.specs.declared.ids.DataId.{DataId}
 use Rattle.gfs_types.specs.declared.ids.Handle.{Handle}
 use Rattle.gfs_types.specs.declared.ids.Version.{Version}
 use Rattle.messages.specs.declared.event.Event.{Event}
-use Rattle.messages.specs.declared.event.Input.{Input}
-use Rattle.messages.specs.declared.event.Input.TheVariants as input
+use Rattle.messages.specs.declared.event.NodeInput.{NodeInput}
+use Rattle.messages.specs.declared.event.NodeInput.TheVariants as input
 use Rattle.messages.specs.declared.message.Body.{Body}
 use Rattle.messages.specs.declared.message.Body.TheVariants as body
 use Rattle.messages.specs.declared.message.Message.{Message}
@@ -80,7 +80,7 @@ module _ (config : Config) (servers clients : ℕ) (steps : List (Event × Choic
           (record { asked = t.asked; aim = t.aim; deadline = t.deadline; sent_is = t.sent_is; sender_is = t.sender_is ∙ ap (λ (c : ℕ). the_client c) (sym t.own); body_is = t.body_is })
           (record { asked = u.asked; aim = u.aim; deadline = u.deadline; sent_is = u.sent_is; sender_is = u.sender_is ∙ ap (λ (c : ℕ). the_client c) (sym t.own); body_is = subst (λ (d : DataId). u.asked.body ≡ body.Mutate d u.named u.version u.aim u.deadline) same_id u.body_is })
 
-  module _ (index moment : ℕ) (s : ServerState) (i : Input) (choice : Choice) (handle : Handle) (version : Version) (id : DataId) (n : Numbers (after_events (new_world config servers clients) steps) index moment s i choice handle version id)
+  module _ (index moment : ℕ) (s : ServerState) (i : NodeInput) (choice : Choice) (handle : Handle) (version : Version) (id : DataId) (n : Numbers (after_events (new_world config servers clients) steps) index moment s i choice handle version id)
       (counts : IsTrue (observed_moment (after_events (new_world config servers clients) steps).config.skew_ms (after_events (new_world config servers clients) steps).observer moment).are_clocks_kept) where
     pub counted : IsTrue (observed_moment config.skew_ms W.observer moment).are_clocks_kept
     counted = subst (λ (c : Config). IsTrue (observed_moment c.skew_ms W.observer moment).are_clocks_kept) same_config counts

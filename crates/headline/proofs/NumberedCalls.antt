@@ -13,8 +13,8 @@ use Rattle.gfs_types.specs.declared.ids.Version.{Version}
 use Rattle.gfs_types.specs.declared.mutation.Mutation.{Mutation}
 use Rattle.gfs_types.specs.declared.mutation.Mutation.TheVariants.{Write, Append, Pad}
 use Rattle.messages.specs.declared.event.Event.{Event}
-use Rattle.messages.specs.declared.event.Input.{Input}
-use Rattle.messages.specs.declared.event.Input.TheVariants as input
+use Rattle.messages.specs.declared.event.NodeInput.{NodeInput}
+use Rattle.messages.specs.declared.event.NodeInput.TheVariants as input
 use Rattle.messages.specs.declared.message.Body.{Body}
 use Rattle.messages.specs.declared.message.Message.{Message}
 use Rattle.messages.specs.declared.message.Target.{Target}
@@ -113,7 +113,7 @@ module _ (config : Config) (servers clients : ℕ) (steps : List (Event × Choic
   known : Known k.machine
   known = known_when_reached config k.machine (beside.run.0, beside.run.1, beside.run.3)
 
-  module _ (index moment : ℕ) (s : ServerState) (i : Input) (choice : Choice) (handle : Handle) (version : Version) (id : DataId) (n : Numbers (after_events (new_world config servers clients) steps) index moment s i choice handle version id)
+  module _ (index moment : ℕ) (s : ServerState) (i : NodeInput) (choice : Choice) (handle : Handle) (version : Version) (id : DataId) (n : Numbers (after_events (new_world config servers clients) steps) index moment s i choice handle version id)
       (counts : IsTrue (observed_moment (after_events (new_world config servers clients) steps).config.skew_ms (after_events (new_world config servers clients) steps).observer moment).are_clocks_kept) where
     abbrev counted : IsTrue (observed_moment config.skew_ms W.observer moment).are_clocks_kept
     counted = attempts.counted config servers clients steps clocks k beside.chunks requests index moment s i choice handle version id n counts

@@ -12,8 +12,8 @@ use Rattle.gfs_types.specs.declared.refusal.Refusal.{Refusal}
 use Rattle.gfs_types.specs.declared.refusal.Refusal.TheVariants.{TooLong, Collected}
 use Rattle.messages.specs.declared.event.Event.{Event}
 use Rattle.messages.specs.declared.event.Event.TheVariants as event
-use Rattle.messages.specs.declared.event.Input.{Input}
-use Rattle.messages.specs.declared.event.Input.TheVariants as input
+use Rattle.messages.specs.declared.event.NodeInput.{NodeInput}
+use Rattle.messages.specs.declared.event.NodeInput.TheVariants as input
 use Rattle.messages.specs.declared.message.Body.{Body}
 use Rattle.messages.specs.declared.message.Body.TheVariants as body
 use Rattle.messages.specs.declared.message.Location.{Location}
@@ -139,7 +139,7 @@ last_of (call.Write fd offset bytes) index is = absurd (let both : false ≡ tru
 last_of (call.Append fd bytes) index is = absurd (let both : false ≡ true = is in cc)
 last_of other index is = refl
 
-given_of : (w : WorldState) (e : Event) (moment : ℕ) (i : Input) → IsMastersInput w e moment i → IsGiven w e node.Master moment i
+given_of : (w : WorldState) (e : Event) (moment : ℕ) (i : NodeInput) → IsMastersInput w e moment i → IsGiven w e node.Master moment i
 given_of w (event.Deliver number now) moment (input.Deliver m) given = given
 given_of w (event.Tick n now) moment input.Tick given = given
 given_of w (event.Deliver number now) moment input.Tick given = absurd given
@@ -166,7 +166,7 @@ last_on m n file asked l same h = record {
   last = λ is. subst (λ (f : ℕ → FileState). (f file).chunk_count ≡ suc l.index) (sym same) (h.last is);
 }
 
-module _ (config : Config) (servers clients : ℕ) (w : WorldState) (r : IsReached config servers clients w) (e : Event) (choice : Choice) (moment : ℕ) (i : Input) (given : IsMastersInput w e moment i) (up : IsTrue w.master.up)
+module _ (config : Config) (servers clients : ℕ) (w : WorldState) (r : IsReached config servers clients w) (e : Event) (choice : Choice) (moment : ℕ) (i : NodeInput) (given : IsMastersInput w e moment i) (up : IsTrue w.master.up)
     (ss : List PendingSnapshot) (k j : ChunkSides) (h : IsBeside config w ss k) (leads : LeadsTo k.machine j.machine) (beside : AreChunksBeside config (happens w e choice).world j) (has : HasFilesOf j.log j.machine)
   where
     abbrev then_ : WorldState

@@ -6,7 +6,7 @@ use Rattle.std.specs.FinMap as table
 use Rattle.std.proofs.lemmas.Bool.{cases_lt}
 use Rattle.gfs_types.specs.declared.config.Config.{Config}
 use Rattle.messages.specs.declared.event.Event.{Event}
-use Rattle.messages.specs.declared.event.Input.{Input}
+use Rattle.messages.specs.declared.event.NodeInput.{NodeInput}
 use Rattle.messages.specs.declared.message.Message.{Message}
 use Rattle.log_records.specs.declared.record.Record.TheVariants as log
 use Rattle.chunk_table.specs.ChunkTable.{ChunkRow, chunk_of}
@@ -68,7 +68,7 @@ IsOpened m = ((q : ℕ) (x : Copy) → table.get m.logged.copies q ≡ Some x �
 pub record IsGone (w : WorldState) (m : MasterState) : Type 0 where
   pub up : IsTrue w.master.up
   pub moment : ℕ
-  pub input : Input
+  pub input : NodeInput
   pub refused : List Bool
   pub goes : m ≡ (master_goes w.master moment input refused).master
 
@@ -86,12 +86,12 @@ opening_opened config count found moment =
     logs_alone (λ e. IsOpened e.master) d (log.Epoch (suc started.logged.epoch)) first first less less
 
 module _ (w : WorldState) where
-  by_ending : (moment : ℕ) (i : Input) (choice : Choice) → IsTrue w.master.up → (e : Ending) → IsMasterAfter w (master_ends w.master (master_goes w.master moment i choice.refused) choice e).state
+  by_ending : (moment : ℕ) (i : NodeInput) (choice : Choice) → IsTrue w.master.up → (e : Ending) → IsMasterAfter w (master_ends w.master (master_goes w.master moment i choice.refused) choice e).state
   by_ending moment i choice up Goes = inr (inr (inr (record { up = up; moment = moment; input = i; refused = choice.refused; goes = refl })))
   by_ending moment i choice up Lost = inr (inl refl)
   by_ending moment i choice up (Stops made) = inr (inl refl)
 
-  after_step : (moment : ℕ) (i : Input) (choice : Choice) → IsTrue w.master.up → IsMasterAfter w (master_step w.master moment i choice).state
+  after_step : (moment : ℕ) (i : NodeInput) (choice : Choice) → IsTrue w.master.up → IsMasterAfter w (master_step w.master moment i choice).state
   after_step moment i choice up =
       let d : MasterDoing = master_goes w.master moment i choice.refused in
       on_cond (λ (t : Taken MasterState). IsMasterAfter w t.state) w.master.up (master_bounded w.master d choice) (no_step w.master)
@@ -211,7 +211,7 @@ module _ (file index : ℕ) (R : ℕ → Type 0) (config : Config) (servers clie
     base : IsOfWaits w.sent w.master
     base = sent_reached IsOfWaits waits_kept config servers clients w r
 
-    kind : (moment : ℕ) (i : Input) (c : Choice) → IsTrue w.master.up → AllOf IsNoGrant (master_goes w.master moment i c.refused).changes ⊎ AllOf IsNoStart (master_goes w.master moment i c.refused).changes
+    kind : (moment : ℕ) (i : NodeInput) (c : Choice) → IsTrue w.master.up → AllOf IsNoGrant (master_goes w.master moment i c.refused).changes ⊎ AllOf IsNoStart (master_goes w.master moment i c.refused).changes
     kind moment i c up =
         elim (asked_or_not i) [
           | inl none ↦ inr (unasked_step config servers clients w r clocks up (free_reached config servers clients w r clocks up) moment i c.refused none).changes

@@ -7,8 +7,8 @@ use Rattle.gfs_types.specs.declared.call.Call.{Call}
 use Rattle.gfs_types.specs.declared.call.Call.TheVariants as call
 use Rattle.gfs_types.specs.declared.refusal.Refusal.{Refusal}
 use Rattle.gfs_types.specs.declared.refusal.Refusal.TheVariants.{NamesFull, TooLong}
-use Rattle.messages.specs.declared.event.Input.{Input}
-use Rattle.messages.specs.declared.event.Input.TheVariants as input
+use Rattle.messages.specs.declared.event.NodeInput.{NodeInput}
+use Rattle.messages.specs.declared.event.NodeInput.TheVariants as input
 use Rattle.messages.specs.declared.message.Body.{Body}
 use Rattle.messages.specs.declared.message.Body.TheVariants as body
 use Rattle.messages.specs.declared.message.Message.{Message}
@@ -361,7 +361,7 @@ expiries_come_first m moment i refused = ready ExpireFirst then_lasting done (by
     done : MasterDoing
     done = master_does (master_begins (master_at m moment) refused) i
 
-    by_input : (j : Input) → Fine ExpireFirst then_lasting (master_does (master_begins (master_at m moment) refused) j)
+    by_input : (j : NodeInput) → Fine ExpireFirst then_lasting (master_does (master_begins (master_at m moment) refused) j)
     by_input (input.Deliver x) = took ExpireFirst then_lasting (master_begins (master_at m moment) refused) x x.body tt
     by_input input.Tick =
         let b : MasterDoing = gives_up_lost_copies (gives_up_attempts (master_begins (master_at m moment) refused)) in

@@ -9,7 +9,7 @@ use Rattle.gfs_types.specs.declared.ids.Handle.{Handle}
 use Rattle.gfs_types.specs.declared.ids.Moment.{Moment}
 use Rattle.gfs_types.specs.declared.ids.Version.{Version}
 use Rattle.messages.specs.declared.event.Event.{Event}
-use Rattle.messages.specs.declared.event.Input.{Input}
+use Rattle.messages.specs.declared.event.NodeInput.{NodeInput}
 use Rattle.messages.specs.declared.message.Body.{Body}
 use Rattle.messages.specs.declared.message.Body.TheVariants as body
 use Rattle.messages.specs.declared.message.Message.{Message}
@@ -63,7 +63,7 @@ quiet_none other is = tt
 master_talks : MasterTalks (λ m. NoMutate m.body)
 master_talks = record { plain = λ receiver b is. masters_none b is; locates = λ receiver number l current. tt }
 
-server_talks : (s : ServerState) (i : Input) → Talks s i (λ r b. NoMutate b) (λ v. Unit {0}) (λ x. Unit {0})
+server_talks : (s : ServerState) (i : NodeInput) → Talks s i (λ r b. NoMutate b) (λ v. Unit {0}) (λ x. Unit {0})
 server_talks s i =
     record {
       quiet = λ receiver b is. quiet_none b is;

@@ -9,8 +9,8 @@ use Rattle.gfs_types.specs.declared.ids.Node.{Node}
 use Rattle.gfs_types.specs.declared.ids.Node.TheVariants as node
 use Rattle.gfs_types.specs.declared.refusal.Refusal.{Refusal}
 use Rattle.gfs_types.specs.declared.refusal.Refusal.TheVariants.{TooLong}
-use Rattle.messages.specs.declared.event.Input.{Input}
-use Rattle.messages.specs.declared.event.Input.TheVariants as input
+use Rattle.messages.specs.declared.event.NodeInput.{NodeInput}
+use Rattle.messages.specs.declared.event.NodeInput.TheVariants as input
 use Rattle.messages.specs.declared.message.Body.{Body}
 use Rattle.messages.specs.declared.message.Body.TheVariants as body
 use Rattle.messages.specs.declared.message.Message.{Message}
@@ -84,7 +84,7 @@ Waits s t = (c : CurrentCall) (number : ℕ) → t.current ≡ Some c → c.stag
 new_number : (s : ClientState) (o : Option CurrentCall) → IsNewCall s o → (c : CurrentCall) (number : ℕ) → o ≡ Some c → c.stage ≡ AskedWhere number → s.number < number
 new_number s o new c number is staged = subst (λ (st : Stage). IsNewStage s st) staged (subst (λ (p : Option CurrentCall). IsNewCall s p) is new)
 
-step_waits : (s : ClientState) (moment : ℕ) (i : Input) (choice : Choice) → Waits s (client_step s moment i choice).state
+step_waits : (s : ClientState) (moment : ℕ) (i : NodeInput) (choice : Choice) → Waits s (client_step s moment i choice).state
 step_waits s moment i choice =
     stepped (λ t ms. Waits s t) s moment i choice
     (λ c number is staged. elim (next_step s moment i) [
@@ -166,7 +166,7 @@ plain_word : (w : WorldState) (receiver : Node) (b : Body) → is_no_answer b �
 plain_word w receiver (body.Refused number refusal) is = absurd (true≢false (sym is))
 plain_word w receiver other is = tt
 
-refused_word : (w : WorldState) → IsTrue w.master.up → (i : Input) → ((m : Message) → i ≡ input.Deliver m → IsAmong w.sent m) → (receiver : Node) (number : ℕ) (refusal : Refusal) (taken : IsTakenAsk i receiver number)
+refused_word : (w : WorldState) → IsTrue w.master.up → (i : NodeInput) → ((m : Message) → i ≡ input.Deliver m → IsAmong w.sent m) → (receiver : Node) (number : ℕ) (refusal : Refusal) (taken : IsTakenAsk i receiver number)
     → IsRefusedWhere (λ file. file_of w.master.logged.table file) taken.file.0 taken.what refusal → IsLongWord w receiver (body.Refused number refusal)
 refused_word w up i came receiver number TooLong taken why = (
   up,
@@ -186,7 +186,7 @@ refused_word w up i came receiver number TooLong taken why = (
 )
 refused_word w up i came receiver number other taken why = tt
 
-mastered : (w : WorldState) → IsTrue w.master.up → (moment : ℕ) (i : Input) (choice : Choice) → ((m : Message) → i ≡ input.Deliver m → IsAmong w.sent m) → AllOf (λ m. IsLongWord w m.receiver m.body) (master_step w.master moment i choice).out.sent
+mastered : (w : WorldState) → IsTrue w.master.up → (moment : ℕ) (i : NodeInput) (choice : Choice) → ((m : Message) → i ≡ input.Deliver m → IsAmong w.sent m) → AllOf (λ m. IsLongWord w m.receiver m.body) (master_step w.master moment i choice).out.sent
 mastered w up moment i choice came =
     master_refuses_asks i w.master.holders (λ file. file_of w.master.logged.table file) (λ m. IsLongWord w m.receiver m.body)
     (record {

@@ -10,8 +10,8 @@ use Rattle.gfs_types.specs.declared.ids.ServerId.{ServerId}
 use Rattle.gfs_types.specs.declared.ids.Version.{Version}
 use Rattle.gfs_types.specs.declared.ids.Node.TheVariants.{Master}
 use Rattle.messages.specs.declared.event.Event.{Event}
-use Rattle.messages.specs.declared.event.Input.{Input}
-use Rattle.messages.specs.declared.event.Input.TheVariants as input
+use Rattle.messages.specs.declared.event.NodeInput.{NodeInput}
+use Rattle.messages.specs.declared.event.NodeInput.TheVariants as input
 use Rattle.messages.specs.declared.message.Body.{Body}
 use Rattle.messages.specs.declared.message.Body.TheVariants as body
 use Rattle.messages.specs.declared.message.Group.{Group}
@@ -239,7 +239,7 @@ module _ (s : ClientState) where
   refused : IsLeft s (record s { current = None }) []
   refused = record { settings = refl; says = λ place m at. none_some m at; pushes = λ c chunk primary number is staged. none_some c is }
 
-all_came : (i : Input) → IsCameIn (λ b. Unit {0}) i
+all_came : (i : NodeInput) → IsCameIn (λ b. Unit {0}) i
 all_came (input.Deliver m) = tt
 all_came input.Tick = tt
 
@@ -271,7 +271,7 @@ module _ (s : ClientState) (moment : ℕ) where
         pushes = h.pushes;
       }
 
-pub step_left : (s : ClientState) (moment : ℕ) (i : Input) (choice : Choice) → IsLeft s (client_step s moment i choice).state (client_step s moment i choice).out.sent
+pub step_left : (s : ClientState) (moment : ℕ) (i : NodeInput) (choice : Choice) → IsLeft s (client_step s moment i choice).state (client_step s moment i choice).out.sent
 step_left s moment i choice =
     let at : ClientState = client_at s moment in
     stepped (λ t ms. IsLeft s t ms) s moment i choice

@@ -6,8 +6,8 @@ use Rattle.gfs_types.specs.declared.ids.Node.{Node}
 use Rattle.gfs_types.specs.declared.ids.Node.TheVariants as node
 use Rattle.messages.specs.declared.event.Event.{Event}
 use Rattle.messages.specs.declared.event.Event.TheVariants as event
-use Rattle.messages.specs.declared.event.Input.{Input}
-use Rattle.messages.specs.declared.event.Input.TheVariants as input
+use Rattle.messages.specs.declared.event.NodeInput.{NodeInput}
+use Rattle.messages.specs.declared.event.NodeInput.TheVariants as input
 use Rattle.messages.specs.declared.message.Body.{Body}
 use Rattle.messages.specs.declared.message.Body.TheVariants as body
 use Rattle.messages.specs.declared.message.Message.{Message}
@@ -78,7 +78,7 @@ step_none s moment m choice is =
 -- what is said
 
 -- a word of a server that takes this input: an answer to a reading is by its disk
-record IsCaused (s : ServerState) (i : Input) (receiver : Node) (b : Body) : Type 0 where
+record IsCaused (s : ServerState) (i : NodeInput) (receiver : Node) (b : Body) : Type 0 where
   pub request : Message
   pub came : i ≡ input.Deliver request
   pub from : request.sender ≡ receiver
@@ -95,19 +95,19 @@ abbrev pub IsUntold : Body → Type 0
 IsUntold (body.Told number location) = ⊥
 IsUntold other = Unit {0}
 
-abbrev IsCausedIfAny : ServerState → Input → Node → Body → Type 0
+abbrev IsCausedIfAny : ServerState → NodeInput → Node → Body → Type 0
 IsCausedIfAny s i receiver b = ((number : ℕ) → is_answer number b ≡ true → IsCaused s i receiver b) × IsUntold b
 
 quiet_untold : (b : Body) → is_quiet b ≡ true → IsUntold b
 quiet_untold (body.Told number location) quiet = absurd (let both : false ≡ true = quiet in cc)
 quiet_untold other quiet = tt
 
-quiet_caused : (s : ServerState) (i : Input) (receiver : Node) (b : Body) → is_quiet b ≡ true → (number : ℕ) → is_answer number b ≡ true → IsCaused s i receiver b
+quiet_caused : (s : ServerState) (i : NodeInput) (receiver : Node) (b : Body) → is_quiet b ≡ true → (number : ℕ) → is_answer number b ≡ true → IsCaused s i receiver b
 quiet_caused s i receiver (body.Bytes n bytes) quiet number is = absurd (let both : false ≡ true = quiet in cc)
 quiet_caused s i receiver (body.LenIs n count) quiet number is = absurd (let both : false ≡ true = quiet in cc)
 quiet_caused s i receiver other quiet number is = absurd (let both : false ≡ true = is in cc)
 
-talks : (s : ServerState) (moment : ℕ) (i : Input) → Talks (server_at s moment) i (IsCausedIfAny s i) (λ v. Unit {0}) (λ x. Unit {0})
+talks : (s : ServerState) (moment : ℕ) (i : NodeInput) → Talks (server_at s moment) i (IsCausedIfAny s i) (λ v. Unit {0}) (λ x. Unit {0})
 talks s moment i =
     record {
       quiet = λ receiver b is. (quiet_caused s i receiver b is, quiet_untold b is);
@@ -165,7 +165,7 @@ module _ (w : WorldState) where
   abbrev Of : Happened → Type 0
   Of h = IsOfServer w h.world
 
-  abbrev Came : Input → Type 0
+  abbrev Came : NodeInput → Type 0
   Came i = (m : Message) → i ≡ input.Deliver m → IsSent w.sent m
 
   still : (v : WorldState) → v.clients ≡ w.clients → v.observer.trace ≡ w.observer.trace → v.sent ≡ w.sent → IsOfServer w v
@@ -174,7 +174,7 @@ module _ (w : WorldState) where
   nothing : Of (nothing_happens w)
   nothing = still w refl refl refl
 
-  module _ (index moment : ℕ) (s : ServerState) (there : element_at w.servers index ≡ Some s) (i : Input) (choice : Choice) (came : Came i) where
+  module _ (index moment : ℕ) (s : ServerState) (there : element_at w.servers index ≡ Some s) (i : NodeInput) (choice : Choice) (came : Came i) where
     abbrev said : List Message
     said = (server_step s moment i choice).out.sent
 
@@ -193,7 +193,7 @@ module _ (w : WorldState) where
           row = c.row;
           so = c.so;
           orders = ap (λ (xs : List Seen). orders_after_all (observed_moment w.config.skew_ms w.observer moment).trace w.observer.orders xs)
-              (subst (λ (j : Input). (server_step s moment j choice).seen ≡ []) (sym c.came) (step_none s moment c.request choice (reading_of s c.row c.request.body b c.so)));
+              (subst (λ (j : NodeInput). (server_step s moment j choice).seen ≡ []) (sym c.came) (step_none s moment c.request choice (reading_of s c.row c.request.body b c.so)));
         }
 
     words : (place : ℕ) (m : Message) → length w.sent ≤ place → element_at then_.sent place ≡ Some m → IsServersWord w then_ m
@@ -215,19 +215,19 @@ module _ (w : WorldState) where
     serves : Of (after_server w index moment (server_step s moment i choice))
     serves = record { clients = refl; calls = λ client. same_calls w.config.skew_ms w.observer moment client; words = words }
 
-  server_of : (n moment : ℕ) (i : Input) (choice : Choice) → Came i → (o : Option ServerState) → numbered_from_1 w.servers n ≡ o → Of (server_moves w (n - 1) moment i choice o)
+  server_of : (n moment : ℕ) (i : NodeInput) (choice : Choice) → Came i → (o : Option ServerState) → numbered_from_1 w.servers n ≡ o → Of (server_moves w (n - 1) moment i choice o)
   server_of n moment i choice came None at = nothing
   server_of n moment i choice came (Some s) at =
       on_cond Of s.up (after_server w (n - 1) moment (server_step s moment i choice)) (nothing_happens w) (λ _. serves (n - 1) moment s (element_numbered w.servers n s at) i choice came) (λ _. nothing)
 
-  moves_of : (n : Node) (moment : ℕ) (i : Input) (choice : Choice) → Came i → IsServer n → Of (moves w n moment i choice)
+  moves_of : (n : Node) (moment : ℕ) (i : NodeInput) (choice : Choice) → Came i → IsServer n → Of (moves w n moment i choice)
   moves_of (node.Server s) moment i choice came is = server_of s.0 moment i choice came (numbered_from_1 w.servers s.0) refl
   moves_of other moment i choice came is = absurd is
 
   came_now : (number : ℕ) (m : Message) → numbered_from_1 w.sent number ≡ Some m → Came (input.Deliver m)
   came_now number m at x same = (number - 1, element_numbered w.sent number x (at ∙ ap message_in same))
     where
-      message_in : Input → Option Message
+      message_in : NodeInput → Option Message
       message_in (input.Deliver y) = Some y
       message_in input.Tick = None
 

@@ -1,8 +1,8 @@
 -- What a step of a client's open call makes of its stage: nothing changed, or what it waits for then has a number that is new, or is its data that were pushed.
 use Rattle.std.proofs.Common.{◌≡◌, ◌⊎◌, ℕ, suc, ◌<◌, Option, Some, None, refl, sym, ap, subst, ◌∙◌, inl, inr, arith}
 use Rattle.gfs_types.specs.declared.call.Call.{Call}
-use Rattle.messages.specs.declared.event.Input.{Input}
-use Rattle.messages.specs.declared.event.Input.TheVariants as input
+use Rattle.messages.specs.declared.event.NodeInput.{NodeInput}
+use Rattle.messages.specs.declared.event.NodeInput.TheVariants as input
 use Rattle.client_state.specs.declared.call.CurrentCall.{CurrentCall}
 use Rattle.client_state.specs.declared.call.Stage.{Stage}
 use Rattle.client_state.specs.declared.call.Stage.TheVariants.{AskedNames, AskedWhere, MustAskAgain, SentData, SentMutate, SentRead, IsOver, HasAnswer}
@@ -87,11 +87,11 @@ module _ (s : ClientState) where
   at_stage c IsOver = (refl, refl)
   at_stage c (HasAnswer reply) = (refl, refl)
 
-all_came : (i : Input) → IsCameIn (λ b. Unit {0}) i
+all_came : (i : NodeInput) → IsCameIn (λ b. Unit {0}) i
 all_came (input.Deliver m) = tt
 all_came input.Tick = tt
 
-pub next_step : (s : ClientState) (moment : ℕ) (i : Input) → IsNextStep (client_at s moment) (client_goes s moment i)
+pub next_step : (s : ClientState) (moment : ℕ) (i : NodeInput) → IsNextStep (client_at s moment) (client_goes s moment i)
 next_step s moment i =
     let now : ClientState = client_at s moment in
     step_kept now (λ b. Unit {0}) (IsSameHand now) (IsSameHand now) (λ d c l. Unit {0}) (λ d c chunk left. Unit {0}) (IsNextStep now) (in_steps now) i s.current refl (all_came i) (λ c is. at_stage now c c.stage) (inl refl)

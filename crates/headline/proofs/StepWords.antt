@@ -5,8 +5,8 @@ use Rattle.gfs_types.specs.declared.config.Config.{Config}
 use Rattle.gfs_types.specs.declared.ids.Node.{Node}
 use Rattle.messages.specs.declared.event.Event.{Event}
 use Rattle.messages.specs.declared.event.Event.TheVariants as event
-use Rattle.messages.specs.declared.event.Input.{Input}
-use Rattle.messages.specs.declared.event.Input.TheVariants as input
+use Rattle.messages.specs.declared.event.NodeInput.{NodeInput}
+use Rattle.messages.specs.declared.event.NodeInput.TheVariants as input
 use Rattle.messages.specs.declared.message.Body.{Body}
 use Rattle.messages.specs.declared.message.Body.TheVariants as body
 use Rattle.messages.specs.declared.message.Message.{Message}
@@ -39,40 +39,40 @@ use Rattle.laws_machine.specs.Rounds.{IsMastersInput}
 use Rattle.headline.proofs.AskedWords.{IsToldIn, IsRefusedIn, IsAnsweredBy, Fine, asked, ready}
 
 -- the Ask that a word answers, if it answers one
-abbrev IsForAsk : Input → Node → Body → Type 0
+abbrev IsForAsk : NodeInput → Node → Body → Type 0
 IsForAsk i receiver (body.Told number location) = IsTakenAsk i receiver number
 IsForAsk i receiver (body.Refused number refusal) = IsTakenAsk i receiver number
 IsForAsk i receiver other = is_no_answer other ≡ true
 
-plain_for : (i : Input) (receiver : Node) (b : Body) → is_no_answer b ≡ true → IsForAsk i receiver b
+plain_for : (i : NodeInput) (receiver : Node) (b : Body) → is_no_answer b ≡ true → IsForAsk i receiver b
 plain_for i receiver (body.Told number location) is = absurd (let both : false ≡ true = is in cc)
 plain_for i receiver (body.Refused number refusal) is = absurd (let both : false ≡ true = is in cc)
 plain_for i receiver other is = is
 
-for_asks : (s : MasterState) (moment : ℕ) (i : Input) (choice : Choice) → AllOf (λ m. IsForAsk i m.receiver m.body) (master_step s moment i choice).out.sent
+for_asks : (s : MasterState) (moment : ℕ) (i : NodeInput) (choice : Choice) → AllOf (λ m. IsForAsk i m.receiver m.body) (master_step s moment i choice).out.sent
 for_asks s moment i choice =
     master_refuses_asks i s.holders (λ file. file_of s.logged.table file) (λ m. IsForAsk i m.receiver m.body)
     (record { plain = plain_for i; refuses = λ receiver number refusal taken why. taken; none = λ receiver number taken. taken; tells = λ receiver number l taken known. taken.taken }) s moment choice refl (λ file. refl)
 
 -- what a word says of the logs, as a step begins and as it ends
-abbrev pub IsWord : Input → Logged → Logged → Node → Body → Type 0
+abbrev pub IsWord : NodeInput → Logged → Logged → Node → Body → Type 0
 IsWord i start end receiver (body.Told number location) = (a : IsTakenAsk i receiver number) × IsToldIn end a.file.0 a.what location
 IsWord i start end receiver (body.Refused number refusal) = (a : IsTakenAsk i receiver number) × IsRefusedIn start a.file.0 refusal
 IsWord i start end receiver other = is_no_answer other ≡ true
 
 -- an input that is no Ask is answered nothing of one
 
-abbrev message_in : Input → Option Message
+abbrev message_in : NodeInput → Option Message
 message_in (input.Deliver m) = Some m
 message_in input.Tick = None
 
-no_taken : (i : Input) (receiver : Node) (number : ℕ) → IsUnasked i → IsTakenAsk i receiver number → ⊥
+no_taken : (i : NodeInput) (receiver : Node) (number : ℕ) → IsUnasked i → IsTakenAsk i receiver number → ⊥
 no_taken (input.Deliver m) receiver number none a =
     let same : m ≡ a.ask = same_some m a.ask (ap message_in a.came) in
     subst IsNoAsk (ap (λ (x : Message). x.body) same ∙ a.body_is) none
 no_taken input.Tick receiver number none a = absurd (let both : input.Tick ≡ input.Deliver a.ask = a.came in cc)
 
-unasked_word : (i : Input) (start end : Logged) (receiver : Node) (b : Body) → IsUnasked i → IsForAsk i receiver b → IsWord i start end receiver b
+unasked_word : (i : NodeInput) (start end : Logged) (receiver : Node) (b : Body) → IsUnasked i → IsForAsk i receiver b → IsWord i start end receiver b
 unasked_word i start end receiver (body.Told number location) none a = absurd (no_taken i receiver number none a)
 unasked_word i start end receiver (body.Refused number refusal) none a = absurd (no_taken i receiver number none a)
 unasked_word i start end receiver other none is = is
@@ -87,7 +87,7 @@ abbrev what_in : Body → Wanted
 what_in (body.Ask number file what deadline lost) = what
 what_in other = wanted.Last
 
-module _ (i : Input) (ask : IsAsk i) (receiver : Node) (number : ℕ) (a : IsTakenAsk i receiver number) where
+module _ (i : NodeInput) (ask : IsAsk i) (receiver : Node) (number : ℕ) (a : IsTakenAsk i receiver number) where
   bodies : body.Ask ask.number ask.file ask.what ask.deadline ask.lost ≡ body.Ask number a.file a.what a.deadline a.lost
   bodies = sym ask.is ∙ (ap (λ (m : Message). m.body) (same_some ask.message a.ask (ap message_in (sym ask.taken ∙ a.came))) ∙ a.body_is)
 
@@ -97,7 +97,7 @@ module _ (i : Input) (ask : IsAsk i) (receiver : Node) (number : ℕ) (a : IsTak
   same_what : ask.what ≡ a.what
   same_what = ap what_in bodies
 
-asked_word : (i : Input) (ask : IsAsk i) (start end : Logged) (receiver : Node) (b : Body) → IsForAsk i receiver b → IsAnsweredBy start end ask.file.0 ask.what b → IsWord i start end receiver b
+asked_word : (i : NodeInput) (ask : IsAsk i) (start end : Logged) (receiver : Node) (b : Body) → IsForAsk i receiver b → IsAnsweredBy start end ask.file.0 ask.what b → IsWord i start end receiver b
 asked_word i ask start end receiver (body.Told number location) a h =
     (a, subst (λ (x : Wanted). IsToldIn end a.file.0 x location) (same_what i ask receiver number a) (subst (λ (f : ℕ). IsToldIn end f ask.what location) (same_file i ask receiver number a) h))
 asked_word i ask start end receiver (body.Refused number refusal) a h = (a, subst (λ (f : ℕ). IsRefusedIn start f refusal) (same_file i ask receiver number a) h)
@@ -105,12 +105,12 @@ asked_word i ask start end receiver other is h = is
 
 -- a step
 
-module _ (s : MasterState) (moment : ℕ) (choice : Choice) (low : (file : ℕ) (handles : List ℕ) → file_of s.logged.table file ≡ Some handles → file < s.logged.next_file) (i : Input) where
+module _ (s : MasterState) (moment : ℕ) (choice : Choice) (low : (file : ℕ) (handles : List ℕ) → file_of s.logged.table file ≡ Some handles → file < s.logged.next_file) (i : NodeInput) where
   abbrev step : Taken MasterState
   step = master_step s moment i choice
 
   answers : (ask : IsAsk i) → Fine s.logged ask.file.0 ask.what (master_goes s moment i choice.refused)
-  answers ask = subst (λ (j : Input). Fine s.logged ask.file.0 ask.what (master_goes s moment j choice.refused)) (sym ask.taken) goes
+  answers ask = subst (λ (j : NodeInput). Fine s.logged ask.file.0 ask.what (master_goes s moment j choice.refused)) (sym ask.taken) goes
     where
       x : Message
       x = ask.message
@@ -173,7 +173,7 @@ up_keeps =
 abbrev IsUpIfSaid : Taken MasterState → Type 0
 IsUpIfSaid t = (place : ℕ) (m : Message) → element_at t.out.sent place ≡ Some m → t.state.up ≡ true
 
-pub up_if_said : (s : MasterState) (moment : ℕ) (i : Input) (choice : Choice) → IsTrue s.up → IsUpIfSaid (master_step s moment i choice)
+pub up_if_said : (s : MasterState) (moment : ℕ) (i : NodeInput) (choice : Choice) → IsTrue s.up → IsUpIfSaid (master_step s moment i choice)
 up_if_said s moment i choice up =
     let d : MasterDoing = master_goes s moment i choice.refused in
     on_cond IsUpIfSaid s.up (master_bounded s d choice) (no_step s)
@@ -194,13 +194,13 @@ files_numbered config servers clients w r up file handles is = files_below w.mas
     u = (sent_reached IsOfWaits waits_kept config servers clients w r).base.logged.up up
 
 -- a word of an event of the master
-pub record IsNewWord (i : Input) (w v : WorldState) (m : Message) : Type 0 where
+pub record IsNewWord (i : NodeInput) (w v : WorldState) (m : Message) : Type 0 where
   pub up : v.master.up ≡ true
   pub word : IsWord i w.master.logged v.master.logged m.receiver m.body
 
 -- an event that gives the master its input
 
-masters_event : (w : WorldState) (e : Event) (moment : ℕ) (i : Input) (choice : Choice) → IsMastersInput w e moment i → happens w e choice ≡ at_moment w moment (master_moves w moment i choice)
+masters_event : (w : WorldState) (e : Event) (moment : ℕ) (i : NodeInput) (choice : Choice) → IsMastersInput w e moment i → happens w e choice ≡ at_moment w moment (master_moves w moment i choice)
 masters_event w (event.Deliver number now) moment (input.Deliver m) choice given =
     ap (λ (o : Option Message). at_moment w now.0 (delivered w now.0 choice o)) given.0 ∙ (ap (λ (n : Node). at_moment w now.0 (moves w n now.0 (input.Deliver m) choice)) given.1 ∙ ap (λ (n : ℕ). at_moment w n (master_moves w n (input.Deliver m) choice)) given.2)
 masters_event w (event.Tick n now) moment input.Tick choice given =
@@ -213,11 +213,11 @@ masters_event w (event.Rot server q place byte) moment i choice given = absurd g
 masters_event w (event.Fuse n count torn) moment i choice given = absurd given
 
 module _ (config : Config) (servers clients : ℕ) (w : WorldState) (r : IsReached config servers clients w) (up : IsTrue w.master.up) where
-  abbrev AreNewWords : Input → WorldState → Type 0
+  abbrev AreNewWords : NodeInput → WorldState → Type 0
   AreNewWords i v = (place : ℕ) (m : Message) → length w.sent ≤ place → element_at v.sent place ≡ Some m → IsNewWord i w v m
 
   -- a step of the master
-  pub step_said : (moment : ℕ) (i : Input) (choice : Choice) → AreNewWords i (after_master w moment (master_step w.master moment i choice)).world
+  pub step_said : (moment : ℕ) (i : NodeInput) (choice : Choice) → AreNewWords i (after_master w moment (master_step w.master moment i choice)).world
   step_said moment i choice place m from at =
       let t : Taken MasterState = master_step w.master moment i choice in
       let new = new_one w.sent t.out.sent (suc (length w.sent)) place m from at in
@@ -229,7 +229,7 @@ module _ (config : Config) (servers clients : ℕ) (w : WorldState) (r : IsReach
             (all_at (λ (x : Message). IsWord i w.master.logged t.state.logged x.receiver x.body) t.out.sent (new.1).0 new.0 all (new.1).1));
       }
 
-  pub event_said : (e : Event) (moment : ℕ) (i : Input) (choice : Choice) → IsMastersInput w e moment i → AreNewWords i (happens w e choice).world
+  pub event_said : (e : Event) (moment : ℕ) (i : NodeInput) (choice : Choice) → IsMastersInput w e moment i → AreNewWords i (happens w e choice).world
   event_said e moment i choice given =
       subst (λ (h : Happened). AreNewWords i h.world) (sym (masters_event w e moment i choice given))
       (on_cond (λ (h : Happened). AreNewWords i h.world) (nat_le moment moment_limit) (master_moves w moment i choice) (nothing_happens w)

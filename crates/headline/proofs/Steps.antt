@@ -6,8 +6,8 @@ use Rattle.std.proofs.lemmas.Bool.{ltb-true, lt-ltb}
 use Rattle.std.proofs.Math.Nat.{le-max_left, le-max_right, max-le}
 use Rattle.gfs_types.specs.declared.config.Config.{Config}
 use Rattle.messages.specs.declared.event.Event.{Event}
-use Rattle.messages.specs.declared.event.Input.{Input}
-use Rattle.messages.specs.declared.event.Input.TheVariants as input
+use Rattle.messages.specs.declared.event.NodeInput.{NodeInput}
+use Rattle.messages.specs.declared.event.NodeInput.TheVariants as input
 use Rattle.messages.specs.declared.message.Body.{Body}
 use Rattle.messages.specs.declared.message.Body.TheVariants as body
 use Rattle.messages.specs.declared.message.Message.{Message}
@@ -68,12 +68,12 @@ up_keeps =
       extends = λ c handle until row is left later from h. h;
     }
 
-pub still_up : (m : MasterState) (moment : ℕ) (i : Input) (refused : List Bool) → IsTrue m.up → (master_goes m moment i refused).master.up ≡ true
+pub still_up : (m : MasterState) (moment : ℕ) (i : NodeInput) (refused : List Bool) → IsTrue m.up → (master_goes m moment i refused).master.up ≡ true
 still_up m moment i refused up = goes_keeps (λ c. c.up ≡ true) up_keeps m moment i refused up
 
 module _ (config : Config) (servers clients : ℕ) (w : WorldState) (r : IsReached config servers clients w) (kept : IsTrue w.observer.are_clocks_kept) (e : Event) (choice : Choice) (clocks : IsTrue (happens w e choice).world.observer.are_clocks_kept)
     (k : ChunkSides) (h : IsBeside config w w.master.snapshots k) (is : k.log ≡ w.master.logged) (up : IsTrue w.master.up) (moment : ℕ) (timely : max w.observer.greatest moment ≤ moment + w.config.skew_ms)
-    (i : Input) (heard : (x : Message) → i ≡ input.Deliver x → WasSent w.sent x) (copies : AreCopiesOver w)
+    (i : NodeInput) (heard : (x : Message) → i ≡ input.Deliver x → WasSent w.sent x) (copies : AreCopiesOver w)
   where
     abbrev ss : List PendingSnapshot
     ss = w.master.snapshots
@@ -146,7 +146,7 @@ module _ (config : Config) (servers clients : ℕ) (w : WorldState) (r : IsReach
     body_open x (body.Look number c) g = g
     body_open x other g = tt
 
-    input_open : (j : Input) → i ≡ j → IsInputOfOpenCall begun n requests j
+    input_open : (j : NodeInput) → i ≡ j → IsInputOfOpenCall begun n requests j
     input_open (input.Deliver x) same = body_open x x.body (named.known x (heard x same))
     input_open input.Tick same = tt
 

@@ -3,7 +3,7 @@ use Rattle.std.proofs.Common.{◌≡◌, ℕ, ◌+◌, ◌≤◌, Bool, false, m
 use Rattle.std.specs.Prelude.{IsTrue}
 use Rattle.gfs_types.specs.declared.config.Config.{Config}
 use Rattle.messages.specs.declared.event.Event.{Event}
-use Rattle.messages.specs.declared.event.Input.{Input}
+use Rattle.messages.specs.declared.event.NodeInput.{NodeInput}
 use Rattle.messages.specs.declared.message.Message.{Message}
 use Rattle.relaxed_file.specs.Machine.{Machine}
 use Rattle.relaxed_file.specs.Run.{Visible}
@@ -43,7 +43,7 @@ use Rattle.laws_base.proofs.OrderNumbers.{AllStops, found_same, found_stopped}
 use Rattle.laws_names.specs.FollowedSteps.{log_left}
 use Rattle.machine_names.proofs.Seen.{left_same}
 use Rattle.std.proofs.lemmas.List.{append-nil}
-use Rattle.messages.specs.declared.event.Input.TheVariants as input
+use Rattle.messages.specs.declared.event.NodeInput.TheVariants as input
 use Rattle.laws_names.specs.Beside as names
 use Rattle.laws_machine.specs.OverRounds as over
 use Rattle.headline.proofs.Quiet as quiet
@@ -64,7 +64,7 @@ last_stop P d (x ∷ xs) h = last_stop P (log_changed d x) xs h.1
 
 module _ (config : Config) (servers clients : ℕ) (w : WorldState) (r : IsReached config servers clients w) (kept : IsTrue w.observer.are_clocks_kept) (e : Event) (choice : Choice) (clocks : IsTrue (happens w e choice).world.observer.are_clocks_kept)
     (k : ChunkSides) (h : IsBeside config w w.master.snapshots k) (is : k.log ≡ w.master.logged) (up : IsTrue w.master.up) (moment : ℕ) (timely : max w.observer.greatest moment ≤ moment + w.config.skew_ms)
-    (i : Input) (heard : (x : Message) → i ≡ input.Deliver x → names.WasSent w.sent x) (copies : AreCopiesOver w)
+    (i : NodeInput) (heard : (x : Message) → i ≡ input.Deliver x → names.WasSent w.sent x) (copies : AreCopiesOver w)
   where
     abbrev ss : List PendingSnapshot
     ss = w.master.snapshots

@@ -2,7 +2,7 @@
 use Rattle.std.proofs.Common.{◌≡◌, ℕ, suc, ◌*◌, ◌≤◌, false, List, [], ◌∷◌, length, Option, Some, refl, sym, ap, subst, ◌∙◌, arith}
 use Rattle.std.specs.Prelude.{unwrap_or, IsTrue}
 use Rattle.gfs_types.specs.declared.config.Config.{Config}
-use Rattle.messages.specs.declared.event.Input.{Input}
+use Rattle.messages.specs.declared.event.NodeInput.{NodeInput}
 use Rattle.messages.specs.declared.message.Body.{Body}
 use Rattle.messages.specs.declared.message.Body.TheVariants as body
 use Rattle.messages.specs.declared.message.Location.{Location}
@@ -35,7 +35,7 @@ module _ (config : Config) (servers clients : ℕ) (u : WorldState) (r : IsReach
   numbered : AreNumbered u.sent u.clients
   numbered = numbered_reached config servers clients u r
 
-  by_master : (moment : ℕ) (i : Input) (choice : Choice) → IsTrue u.master.up → IsReached config servers clients (after_master u moment (master_step u.master moment i choice)).world → AreWithin (after_master u moment (master_step u.master moment i choice)).world
+  by_master : (moment : ℕ) (i : NodeInput) (choice : Choice) → IsTrue u.master.up → IsReached config servers clients (after_master u moment (master_step u.master moment i choice)).world → AreWithin (after_master u moment (master_step u.master moment i choice)).world
   by_master moment i choice up reached place m from at number l is =
       let v : WorldState = (after_master u moment (master_step u.master moment i choice)).world in
       let new = step_said config servers clients u r up moment i choice place m from at in

@@ -7,7 +7,7 @@ use Rattle.gfs_types.specs.declared.ids.Moment.{Moment}
 use Rattle.gfs_types.specs.declared.ids.Node.{Node}
 use Rattle.gfs_types.specs.declared.ids.Node.TheVariants as node
 use Rattle.messages.specs.declared.event.Event.{Event}
-use Rattle.messages.specs.declared.event.Input.{Input}
+use Rattle.messages.specs.declared.event.NodeInput.{NodeInput}
 use Rattle.messages.specs.declared.message.Body.{Body}
 use Rattle.messages.specs.declared.message.Body.TheVariants as body
 use Rattle.messages.specs.declared.message.Message.{Message}
@@ -69,9 +69,9 @@ module _ (config : Config) (servers clients : ℕ) (w : WorldState) (r : IsReach
   k = suc (length w.sent)
 
   -- a step that takes an Ask
-  asked_all : IsTrue w.master.up → (moment : ℕ) (i : Input) (refused : List Bool) (ask : IsAsk i) → Post (ask.message).sender ask.number (ask.file).0 (master_goes w.master moment i refused)
+  asked_all : IsTrue w.master.up → (moment : ℕ) (i : NodeInput) (refused : List Bool) (ask : IsAsk i) → Post (ask.message).sender ask.number (ask.file).0 (master_goes w.master moment i refused)
   asked_all up moment i refused ask =
-      subst (λ (j : Input). Post x.sender ask.number (ask.file).0 (master_goes w.master moment j refused)) (sym ask.taken)
+      subst (λ (j : NodeInput). Post x.sender ask.number (ask.file).0 (master_goes w.master moment j refused)) (sym ask.taken)
       (subst (λ (b : Body). let d : MasterDoing = master_takes first x b in Post x.sender ask.number (ask.file).0 (takes_ready d d.master.snapshots)) (sym ask.is)
       (asked_post x.sender ask.number (ask.file).0 w.master moment refused x ask.what ask.deadline.0 ask.lost (λ handles is. files_below w.master.logged u.tied.base.base.here (ask.file).0 (ap is_some is))))
     where
@@ -84,7 +84,7 @@ module _ (config : Config) (servers clients : ℕ) (w : WorldState) (r : IsReach
       u : IsUpToLog IsFoundRows IsRowedLog rows_kept w.master
       u = (logged_here IsFoundRows IsRowedLog rows_kept config servers clients w r).1.up up
 
-  by_step : (e : Event) (moment : ℕ) (i : Input) (choice : Choice) → IsGiven w e node.Master moment i → IsTrue w.master.up → (place : ℕ) (m : Message) → length w.sent ≤ place
+  by_step : (e : Event) (moment : ℕ) (i : NodeInput) (choice : Choice) → IsGiven w e node.Master moment i → IsTrue w.master.up → (place : ℕ) (m : Message) → length w.sent ≤ place
       → element_at (w.sent ++ stamped (suc (length w.sent)) (master_step w.master moment i choice).out.sent) place ≡ Some m → (number : ℕ) (l : Location) → m.body ≡ body.Told number (Some l)
       → IsTelling w (master_step w.master moment i choice).state m number l
   by_step e moment i choice given up place m from at number l is =

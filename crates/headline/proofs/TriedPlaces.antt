@@ -4,7 +4,7 @@ use Rattle.std.specs.Prelude.{unwrap_or, IsTrue}
 use Rattle.std.specs.FinMap as table
 use Rattle.gfs_types.specs.Paths.{Path}
 use Rattle.gfs_types.specs.declared.config.Config.{Config}
-use Rattle.messages.specs.declared.event.Input.{Input}
+use Rattle.messages.specs.declared.event.NodeInput.{NodeInput}
 use Rattle.log_records.specs.declared.record.Record.{Record}
 use Rattle.log_records.specs.declared.record.Record.TheVariants as log
 use Rattle.chunk_table.specs.ChunkTable.{ChunkTable, handles_of, set_end}
@@ -210,7 +210,7 @@ module _ (handle version : ℕ) where
         }
 
   -- a step of a master that is up, where nothing hinders it
-  pub step_tried : (config : Config) (servers clients : ℕ) (w : WorldState) → IsReached config servers clients w → IsTrue w.master.up → (moment : ℕ) (i : Input) (refused : List Bool)
+  pub step_tried : (config : Config) (servers clients : ℕ) (w : WorldState) → IsReached config servers clients w → IsTrue w.master.up → (moment : ℕ) (i : NodeInput) (refused : List Bool)
       → IsPassed handle version w.master.logged → ((x : Copy) → table.get w.master.logged.copies handle ≡ Some x → ⊥)
       → (let d : MasterDoing = master_goes w.master moment i refused in IsTriedFrom w.master.logged w.master.attempts d.master.logged d.master.attempts)
   step_tried config servers clients w r up moment i refused passed plain = end.2

@@ -6,8 +6,8 @@ use Rattle.gfs_types.specs.declared.ids.FileId.{FileId}
 use Rattle.gfs_types.specs.declared.ids.Handle.{Handle}
 use Rattle.gfs_types.specs.declared.ids.Moment.{Moment}
 use Rattle.gfs_types.specs.Mutations.{end_of}
-use Rattle.messages.specs.declared.event.Input.{Input}
-use Rattle.messages.specs.declared.event.Input.TheVariants as input
+use Rattle.messages.specs.declared.event.NodeInput.{NodeInput}
+use Rattle.messages.specs.declared.event.NodeInput.TheVariants as input
 use Rattle.messages.specs.declared.message.Body.TheVariants as body
 use Rattle.messages.specs.declared.message.Message.{Message}
 use Rattle.messages.specs.declared.message.Wanted.{Wanted}
@@ -97,5 +97,5 @@ AsksComeFromClients = (config : Config) (servers clients : ℕ) (w : WorldState)
 abbrev pub AddedChunksAreAskedFor : Type 0
 AddedChunksAreAskedFor =
     (config : Config) (servers clients : ℕ) (w : WorldState) → IsReached config servers clients w → IsTrue w.observer.are_clocks_kept → IsTrue w.master.up → (ss : List PendingSnapshot) (k : ChunkSides) → IsBeside config w ss k
-    → 1 ≤ config.chunk → (m : Machine) → LeadsTo k.machine m → (moment : ℕ) (i : Input) (refused : List Bool) → ((x : Message) → i ≡ input.Deliver x → IsAmong w.sent x) → (orders : Table (List Placed))
+    → 1 ≤ config.chunk → (m : Machine) → LeadsTo k.machine m → (moment : ℕ) (i : NodeInput) (refused : List Bool) → ((x : Message) → i ≡ input.Deliver x → IsAmong w.sent x) → (orders : Table (List Placed))
     → AreAskedFor m orders w.master.disk (master_goes w.master moment i refused).changes

@@ -3,7 +3,7 @@ use Rattle.std.specs.Prelude.{◌≡◌, ℕ, suc, ◌≤◌, Some, IsTrue}
 use Rattle.gfs_types.specs.declared.config.Config.{Config}
 use Rattle.gfs_types.specs.declared.call.Call.{Call}
 use Rattle.gfs_types.specs.declared.refusal.Refusal.TheVariants.{NoLease}
-use Rattle.messages.specs.declared.event.Input.{Input}
+use Rattle.messages.specs.declared.event.NodeInput.{NodeInput}
 use Rattle.messages.specs.declared.message.Body.{Body}
 use Rattle.messages.specs.declared.message.Body.TheVariants as body
 use Rattle.messages.specs.declared.message.Message.{Message}
@@ -28,7 +28,7 @@ IsNoTelling other = Unit {0}
 abbrev pub ClientsTellNothing : Type 0
 ClientsTellNothing =
     (s : ClientState) → ((c : CurrentCall) → s.current ≡ Some c → c.number ≤ s.call_count) → (moment : ℕ) (choice : Choice) (place : ℕ) (m : Message)
-    → ((i : Input) → element_at (client_step s moment i choice).out.sent place ≡ Some m → IsNoTelling m.body)
+    → ((i : NodeInput) → element_at (client_step s moment i choice).out.sent place ≡ Some m → IsNoTelling m.body)
     × ((c : Call) → element_at (client_call s moment c choice).out.sent place ≡ Some m → IsNoTelling m.body)
 
 -- The number is one that the client used; of a refusal for want of a lease, which leaves the attempt open, nothing is said.

@@ -8,7 +8,7 @@ use Rattle.gfs_types.specs.declared.ids.Node.{Node}
 use Rattle.gfs_types.specs.declared.ids.Node.TheVariants as node
 use Rattle.messages.specs.declared.event.Event.{Event}
 use Rattle.messages.specs.declared.event.Event.TheVariants as event
-use Rattle.messages.specs.declared.event.Input.{Input}
+use Rattle.messages.specs.declared.event.NodeInput.{NodeInput}
 use Rattle.messages.specs.declared.message.Message.{Message}
 use Rattle.relaxed_file.specs.Run.{LeadsTo, IsRunTo}
 use Rattle.client_state.specs.declared.call.CurrentCall.{CurrentCall}
@@ -52,7 +52,7 @@ AreOpenCallsKnown config w = (ss : List PendingSnapshot) (k : ChunkSides) → Is
 -- Where a client takes a refusal because its range is too long, it is too long at the machine that is beside the world, once that has placed what was numbered.
 abbrev pub AreTooLong : Config → WorldState → WorldState → Event → Type 0
 AreTooLong config w then_ e =
-    (index moment : ℕ) (s : ClientState) (i : Input) → element_at w.clients index ≡ Some s → IsTrue s.up → GivesClient w e index moment i → (IsFirmInput i → ⊥)
+    (index moment : ℕ) (s : ClientState) (i : NodeInput) → element_at w.clients index ≡ Some s → IsTrue s.up → GivesClient w e index moment i → (IsFirmInput i → ⊥)
     → (ss : List PendingSnapshot) (k j : ChunkSides) → IsBeside config w ss k → LeadsTo k.machine j.machine → AreChunksBeside config then_ j
     → IsRunTo config (observed_moment w.config.skew_ms w.observer moment).trace j.machine → AreFileClients w.clients j.machine → AddsNumberedTries w then_ k j.machine → IsSaid j.machine (suc index) s i
 
@@ -61,7 +61,7 @@ abbrev pub ClientFileStepsKeepWorldsWhole : Type 0
 ClientFileStepsKeepWorldsWhole =
     (config : Config) (servers clients : ℕ) (w : WorldState) → IsReached config servers clients w → IsTrue (is_kept w)
     → (e : Event) (choice : Choice) → IsTrue (happens w e choice).world.observer.are_clocks_kept
-    → (index moment : ℕ) (s : ClientState) (i : Input) → element_at w.clients index ≡ Some s → GivesClient w e index moment i → (x : CurrentCall) → s.current ≡ Some x → IsOfFile x.stage
+    → (index moment : ℕ) (s : ClientState) (i : NodeInput) → element_at w.clients index ≡ Some s → GivesClient w e index moment i → (x : CurrentCall) → s.current ≡ Some x → IsOfFile x.stage
     → AreOpenCallsKnown config w → AreTooLong config w (happens w e choice).world e
     → IsWholeWorld config w → IsWholeWorld config (happens w e choice).world
 
@@ -70,7 +70,7 @@ abbrev pub IdleStepsKeepWorldsWhole : Type 0
 IdleStepsKeepWorldsWhole =
     (config : Config) (servers clients : ℕ) (w : WorldState) → IsReached config servers clients w → IsTrue (is_kept w)
     → (e : Event) (choice : Choice) → IsTrue (happens w e choice).world.observer.are_clocks_kept
-    → (index moment : ℕ) (s : ClientState) (i : Input) → element_at w.clients index ≡ Some s → GivesClient w e index moment i → (s.current ≡ None) ⊎ IsFalse s.up
+    → (index moment : ℕ) (s : ClientState) (i : NodeInput) → element_at w.clients index ≡ Some s → GivesClient w e index moment i → (s.current ≡ None) ⊎ IsFalse s.up
     → AreOpenCallsKnown config w → IsWholeWorld config w → IsWholeWorld config (happens w e choice).world
 
 -- So does one that a client gets that waits for the answer to its name call: it waits on, is answered or gives up, or stops.
@@ -78,7 +78,7 @@ abbrev pub NameStepsKeepWorldsWhole : Type 0
 NameStepsKeepWorldsWhole =
     (config : Config) (servers clients : ℕ) (w : WorldState) → IsReached config servers clients w → IsTrue (is_kept w)
     → (e : Event) (choice : Choice) → IsTrue (happens w e choice).world.observer.are_clocks_kept
-    → (index moment : ℕ) (s : ClientState) (i : Input) → element_at w.clients index ≡ Some s → GivesClient w e index moment i → (x : CurrentCall) → s.current ≡ Some x → x.stage ≡ AskedNames
+    → (index moment : ℕ) (s : ClientState) (i : NodeInput) → element_at w.clients index ≡ Some s → GivesClient w e index moment i → (x : CurrentCall) → s.current ≡ Some x → x.stage ≡ AskedNames
     → AreOpenCallsKnown config w → IsWholeWorld config w → IsWholeWorld config (happens w e choice).world
 
 -- So does a call as it is made, of names or on a file: it is begun, refused or answered at once, or the client stops.

@@ -1,7 +1,7 @@
 -- Where handles stood that go in an event of the master: in a step files expire before anything else is logged, so they stood so in the log before it (sections 2.6.3, 3.4 and 4.4).
 use Rattle.std.specs.Prelude.{◌⊎◌, ℕ, Bool, List, [], ◌∷◌, ◌≡◌, IsTrue}
 use Rattle.gfs_types.specs.declared.config.Config.{Config}
-use Rattle.messages.specs.declared.event.Input.{Input}
+use Rattle.messages.specs.declared.event.NodeInput.{NodeInput}
 use Rattle.log_records.specs.declared.record.Record.{Record}
 use Rattle.log_records.specs.declared.record.Record.TheVariants as log
 use Rattle.protocol.specs.Choice.{Choice}
@@ -44,13 +44,13 @@ ExpireFirst (x ∷ rest) = (IsExpiry x × ExpireFirst rest) ⊎ AreLasting (x �
 
 -- So it is in each step.
 abbrev pub ExpiriesComeFirst : Type 0
-ExpiriesComeFirst = (m : MasterState) (moment : ℕ) (i : Input) (refused : List Bool) → ExpireFirst (master_goes m moment i refused).changes
+ExpiriesComeFirst = (m : MasterState) (moment : ℕ) (i : NodeInput) (refused : List Bool) → ExpireFirst (master_goes m moment i refused).changes
 
 -- What goes along the changes of a step stood so in the log before the step, which has the state's files.
 abbrev pub StepsLetGoWhatStood : Type 0
 StepsLetGoWhatStood =
     (config : Config) (servers clients : ℕ) (w : WorldState) → IsReached config servers clients w → IsTrue w.observer.are_clocks_kept → IsTrue w.master.up
-    → (moment : ℕ) (i : Input) (refused : List Bool) (k j : ChunkSides) → k.log ≡ w.master.logged
+    → (moment : ℕ) (i : NodeInput) (refused : List Bool) (k j : ChunkSides) → k.log ≡ w.master.logged
     → AreGoneBy (GoesAlong w.master.disk (master_goes w.master moment i refused).changes) k j → IsGoneFrom k j
 
 -- Nothing goes as a master opens.

@@ -2,7 +2,7 @@
 use Rattle.std.specs.Prelude.{◌≡◌, ℕ, ◌<◌, ◌≤◌, List, IsTrue}
 use Rattle.gfs_types.specs.declared.config.Config.{Config}
 use Rattle.messages.specs.declared.event.Event.{Event}
-use Rattle.messages.specs.declared.event.Input.{Input}
+use Rattle.messages.specs.declared.event.NodeInput.{NodeInput}
 use Rattle.relaxed_file.specs.Machine.{Machine, chunk_at, chunk_count}
 use Rattle.relaxed_file.specs.Run.{LeadsTo, IsRunTo}
 use Rattle.protocol.specs.Choice.{Choice, Goes}
@@ -32,10 +32,10 @@ HoldersGoOnWhere config w then_ =
 
 -- What an event of the master asks: each chunk that it adds is asked for; holders may go on; and the machine may offer what a step tells that goes through.
 pub record AreMastersTrue (config : Config) (w then_ : WorldState) (e : Event) (choice : Choice) : Type 0 where
-  pub asked : (moment : ℕ) (i : Input) → IsMastersInput w e moment i → IsTrue w.master.up → (ss : List PendingSnapshot) (k : ChunkSides) → IsBeside config w ss k
+  pub asked : (moment : ℕ) (i : NodeInput) → IsMastersInput w e moment i → IsTrue w.master.up → (ss : List PendingSnapshot) (k : ChunkSides) → IsBeside config w ss k
       → (m : Machine) → LeadsTo k.machine m → AreAskedFor m w.observer.orders w.master.disk (master_goes w.master moment i choice.refused).changes
   pub holders : HoldersGoOnWhere config w then_
-  pub offers : (moment : ℕ) (i : Input) → IsMastersInput w e moment i → IsTrue w.master.up → choice.ending ≡ Goes → (ss : List PendingSnapshot) (k j : ChunkSides) → IsBeside config w ss k → LeadsTo k.machine j.machine → IsRunTo config then_.observer.trace j.machine → AreChunksBeside config then_ j
+  pub offers : (moment : ℕ) (i : NodeInput) → IsMastersInput w e moment i → IsTrue w.master.up → choice.ending ≡ Goes → (ss : List PendingSnapshot) (k j : ChunkSides) → IsBeside config w ss k → LeadsTo k.machine j.machine → IsRunTo config then_.observer.trace j.machine → AreChunksBeside config then_ j
       → HasFilesOf j.log j.machine → AreFileClients w.clients j.machine → AreOffersSo w then_ j.machine
 
 -- An event of the master keeps all so.

@@ -2,7 +2,7 @@
 use Rattle.std.specs.Prelude.{ℕ, List, IsTrue}
 use Rattle.gfs_types.specs.declared.config.Config.{Config}
 use Rattle.messages.specs.declared.event.Event.{Event}
-use Rattle.messages.specs.declared.event.Input.{Input}
+use Rattle.messages.specs.declared.event.NodeInput.{NodeInput}
 use Rattle.relaxed_file.specs.Run.{LeadsTo, IsRunTo}
 use Rattle.protocol.specs.Choice.{Choice}
 use Rattle.protocol.specs.Master.{PendingSnapshot}
@@ -19,7 +19,7 @@ use Rattle.laws_machine.specs.WholeWorlds.{AreFileClients, IsBeside}
 abbrev pub OffersAreSo : Type 0
 OffersAreSo =
     (config : Config) (servers clients : ℕ) (w : WorldState) → IsReached config servers clients w
-    → (e : Event) (choice : Choice) (moment : ℕ) (i : Input) → IsMastersInput w e moment i → IsTrue w.master.up
+    → (e : Event) (choice : Choice) (moment : ℕ) (i : NodeInput) → IsMastersInput w e moment i → IsTrue w.master.up
     → (ss : List PendingSnapshot) (k j : ChunkSides) → IsBeside config w ss k → LeadsTo k.machine j.machine
     → IsRunTo config (happens w e choice).world.observer.trace j.machine → AreChunksBeside config (happens w e choice).world j → HasFilesOf j.log j.machine → AreFileClients w.clients j.machine → AreOffersSo w (happens w e choice).world j.machine
 

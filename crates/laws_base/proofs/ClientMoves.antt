@@ -23,8 +23,8 @@ use Rattle.messages.specs.declared.message.Message.{Message}
 use Rattle.messages.specs.declared.message.Location.{Location}
 use Rattle.messages.specs.declared.message.Holder.{Holder}
 use Rattle.messages.specs.declared.message.Group.{Group}
-use Rattle.messages.specs.declared.event.Input.{Input}
-use Rattle.messages.specs.declared.event.Input.TheVariants as input
+use Rattle.messages.specs.declared.event.NodeInput.{NodeInput}
+use Rattle.messages.specs.declared.event.NodeInput.TheVariants as input
 use Rattle.relaxed_file.specs.NameStep.{is_look, is_name_call}
 use Rattle.relaxed_file.specs.Parts.{is_range_too_long}
 use Rattle.protocol.specs.Tables.{is_empty_list}
@@ -299,7 +299,7 @@ takes_at_quiet : (d : ClientDoing) (c : CurrentCall) (m : Message) (s : Stage) �
 takes_at_quiet d c m (HasAnswer reply) h = completes_quiet d c reply h
 takes_at_quiet d c m other h = takes_quiet d c m.body h
 
-does_quiet : (d : ClientDoing) (i : Input) (o : Option CurrentCall) → Quiet d → Quiet (client_does d i o)
+does_quiet : (d : ClientDoing) (i : NodeInput) (o : Option CurrentCall) → Quiet d → Quiet (client_does d i o)
 does_quiet d i None h = h
 does_quiet d (input.Deliver m) (Some c) h = takes_at_quiet d c m c.stage h
 does_quiet d input.Tick (Some c) h = ticks_quiet d c c.stage h
@@ -309,7 +309,7 @@ client_ends_quiet s d Goes h = h
 client_ends_quiet s d Lost h = tt
 client_ends_quiet s d (Stops made) h = tt
 
-pub client_quiet : (s : ClientState) (moment : ℕ) (i : Input) (choice : Choice) → AreQuiet (client_step s moment i choice).out.sent
+pub client_quiet : (s : ClientState) (moment : ℕ) (i : NodeInput) (choice : Choice) → AreQuiet (client_step s moment i choice).out.sent
 client_quiet s moment i choice =
     on_cond (λ (t : Taken ClientState). AreQuiet t.out.sent) (may_step s) (client_ends s (client_goes s moment i) choice.ending) (no_step s)
     (λ _. client_ends_quiet s (client_goes s moment i) choice.ending (does_quiet (client_begins (client_at s moment)) i s.current tt)) (λ _. tt)

@@ -2,8 +2,8 @@
 use Rattle.std.proofs.Common.{◌≡◌, ℕ, false, List, [], ◌∷◌, ◌++◌, refl, sym, ap, ◌∙◌, inl, inr}
 use Rattle.messages.specs.declared.message.Body.{Body}
 use Rattle.messages.specs.declared.message.Message.{Message}
-use Rattle.messages.specs.declared.event.Input.{Input}
-use Rattle.messages.specs.declared.event.Input.TheVariants as input
+use Rattle.messages.specs.declared.event.NodeInput.{NodeInput}
+use Rattle.messages.specs.declared.event.NodeInput.TheVariants as input
 use Rattle.protocol.specs.Choice.{Choice, Ending, Goes, Lost, Stops}
 use Rattle.protocol.specs.Seen.{Taken, no_step}
 use Rattle.protocol.specs.Server.{ServerState, ServerDoing}
@@ -40,7 +40,7 @@ server_keeps =
       revokes = λ c order handle version leases came new from none h. all_joined (λ m. TellsNoEnd m.body) c.sent _ h (λ q v u. refl, tt);
     }
 
-all_came : (i : Input) → IsCameIn (λ b. Unit {0}) i
+all_came : (i : NodeInput) → IsCameIn (λ b. Unit {0}) i
 all_came (input.Deliver m) = tt
 all_came input.Tick = tt
 
@@ -49,7 +49,7 @@ ends_silent s d choice Goes h = all_in_order (λ m. TellsNoEnd m.body) choice.or
 ends_silent s d choice Lost h = tt
 ends_silent s d choice (Stops made) h = tt
 
-pub server_tells : (s : ServerState) (moment : ℕ) (i : Input) (choice : Choice) → TellNoEnds (server_step s moment i choice).out.sent
+pub server_tells : (s : ServerState) (moment : ℕ) (i : NodeInput) (choice : Choice) → TellNoEnds (server_step s moment i choice).out.sent
 server_tells s moment i choice =
     on_cond (λ (t : Taken ServerState). TellNoEnds t.out.sent) s.up (server_ends s (server_goes s moment i) choice choice.ending) (no_step s)
     (λ _. ends_silent s (server_goes s moment i) choice choice.ending (server_goes_holds (λ b. Unit {0}) (λ c. TellNoEnds c.sent) server_keeps s moment i (all_came i) tt)) (λ _. tt)

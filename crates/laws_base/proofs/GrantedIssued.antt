@@ -4,7 +4,7 @@ use Rattle.std.specs.Prelude.{nat_lt, ◌+◌, ◌&&◌, not, IsTrue}
 use Rattle.std.specs.Ordering.{nat_cmp}
 use Rattle.std.specs.FinMap as table
 use Rattle.gfs_types.specs.declared.config.Config.{Config}
-use Rattle.messages.specs.declared.event.Input.{Input}
+use Rattle.messages.specs.declared.event.NodeInput.{NodeInput}
 use Rattle.log_records.specs.declared.record.Record.{Record}
 use Rattle.log_records.specs.declared.record.Record.TheVariants as log
 use Rattle.protocol.specs.Tables.{map_values}
@@ -118,7 +118,7 @@ ends_issued m d choice Lost h g = stopped m m.disk [] (found_same IsGood m.disk 
 ends_issued m d choice (Stops made) h g =
     stopped m (log_changed_by_all m.disk (take made d.changes)) (take 1 (drop made d.changes)) (found_stopped IsGood m.disk d.changes made g.stops)
 
-pub step_issued : (m : MasterState) (moment : ℕ) (i : Input) (choice : Choice) → IsIssued m → IsIssued (master_step m moment i choice).state
+pub step_issued : (m : MasterState) (moment : ℕ) (i : NodeInput) (choice : Choice) → IsIssued m → IsIssued (master_step m moment i choice).state
 step_issued m moment i choice h =
     let d : MasterDoing = master_goes m moment i choice.refused in
     let good : Taken MasterState → Type 0 = λ t. IsIssued t.state in

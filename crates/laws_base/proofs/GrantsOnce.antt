@@ -7,7 +7,7 @@ use Rattle.gfs_types.specs.declared.config.Config.{Config}
 use Rattle.messages.specs.declared.message.Body.{Body}
 use Rattle.messages.specs.declared.message.Body.TheVariants as body
 use Rattle.messages.specs.declared.message.Message.{Message}
-use Rattle.messages.specs.declared.event.Input.{Input}
+use Rattle.messages.specs.declared.event.NodeInput.{NodeInput}
 use Rattle.log_records.specs.declared.record.Record.{Record}
 use Rattle.log_records.specs.declared.record.Record.TheVariants as log
 use Rattle.relaxed_file.specs.Names.{copied_entries}
@@ -437,7 +437,7 @@ ends_granted sent k m d choice Lost h n g = down_granted sent k m m.disk [] h (f
 ends_granted sent k m d choice (Stops made) h n g =
     down_granted sent k m (log_changed_by_all m.disk (take made d.changes)) (take 1 (drop made d.changes)) h (found_stopped (IsLogWithin sent) m.disk d.changes made g.stops)
 
-step_granted : (sent : List Message) (k : ℕ) (m : MasterState) (moment : ℕ) (i : Input) (choice : Choice) → IsLogged IsFoundRows IsRowedLog rows_kept m → AreGrants sent m
+step_granted : (sent : List Message) (k : ℕ) (m : MasterState) (moment : ℕ) (i : NodeInput) (choice : Choice) → IsLogged IsFoundRows IsRowedLog rows_kept m → AreGrants sent m
     → AreGrants (sent ++ stamped k (master_step m moment i choice).out.sent) (master_step m moment i choice).state
 step_granted sent k m moment i choice logged h =
     let d : MasterDoing = master_goes m moment i choice.refused in

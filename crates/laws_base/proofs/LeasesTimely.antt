@@ -10,8 +10,8 @@ use Rattle.messages.specs.declared.message.Message.{Message}
 use Rattle.messages.specs.declared.message.Body.{Body}
 use Rattle.messages.specs.declared.message.Body.TheVariants as body
 use Rattle.messages.specs.declared.message.ReplicaLine.{ReplicaLine}
-use Rattle.messages.specs.declared.event.Input.{Input}
-use Rattle.messages.specs.declared.event.Input.TheVariants as input
+use Rattle.messages.specs.declared.event.NodeInput.{NodeInput}
+use Rattle.messages.specs.declared.event.NodeInput.TheVariants as input
 use Rattle.log_records.specs.declared.record.Record.TheVariants as log
 use Rattle.protocol.specs.Choice.{Choice, Ending, Goes, Lost, Stops, in_order, decided_changes}
 use Rattle.protocol.specs.Seen.{Taken, no_step}
@@ -149,11 +149,11 @@ word_said sent server m (body.Report replicas leases) same is = no_lines server 
 word_said sent server m (body.Revoked handle version) same is = (m, is, same)
 word_said sent server m other same is = tt
 
-input_said : (sent : List Message) (i : Input) → IsSentTo sent node.Master i → IsInputTold Nothing (WasSaidOver sent) i
+input_said : (sent : List Message) (i : NodeInput) → IsSentTo sent node.Master i → IsInputTold Nothing (WasSaidOver sent) i
 input_said sent (input.Deliver m) is = word_said sent (server_number m.sender) m m.body refl (is.0, is.1)
 input_said sent input.Tick is = tt
 
-step_timely : (sent : List Message) (k greatest lease : ℕ) (m : MasterState) (moment : ℕ) (i : Input) (choice : Choice) → IsLogged IsFoundRows IsRowedLog rows_kept m → IsSentTo sent node.Master i → moment ≤ greatest → m.now ≤ greatest
+step_timely : (sent : List Message) (k greatest lease : ℕ) (m : MasterState) (moment : ℕ) (i : NodeInput) (choice : Choice) → IsLogged IsFoundRows IsRowedLog rows_kept m → IsSentTo sent node.Master i → moment ≤ greatest → m.now ≤ greatest
     → m.config.lease_ms ≡ lease → AreTimely sent greatest lease m → AreTimely (sent ++ stamped k (master_step m moment i choice).out.sent) greatest lease (master_step m moment i choice).state
 step_timely sent k greatest lease m moment i choice logged is reached early long h =
     let d : MasterDoing = master_goes m moment i choice.refused in

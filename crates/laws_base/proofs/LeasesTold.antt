@@ -14,8 +14,8 @@ use Rattle.gfs_types.specs.declared.ids.Moment.{Moment}
 use Rattle.messages.specs.declared.message.Body.{Body}
 use Rattle.messages.specs.declared.message.Body.TheVariants as body
 use Rattle.messages.specs.declared.message.Message.{Message}
-use Rattle.messages.specs.declared.event.Input.{Input}
-use Rattle.messages.specs.declared.event.Input.TheVariants as input
+use Rattle.messages.specs.declared.event.NodeInput.{NodeInput}
+use Rattle.messages.specs.declared.event.NodeInput.TheVariants as input
 use Rattle.protocol.specs.Tables.{Table, element_at, with_at, first_numbers}
 use Rattle.protocol.specs.Choice.{Choice, Ending, Goes, Lost, Stops}
 use Rattle.protocol.specs.Seen.{Taken, no_step}
@@ -107,7 +107,7 @@ module _ (sent : List Message) (n : ℕ) where
   abbrev pub CameTo : Body → Type 0
   CameTo b = (place : ℕ) × (m : Message) × (element_at sent place ≡ Some m) × (m.receiver ≡ the_server n) × (m.body ≡ b)
 
-  pub came_in : (i : Input) → IsSentTo sent (the_server n) i → IsCameIn CameTo i
+  pub came_in : (i : NodeInput) → IsSentTo sent (the_server n) i → IsCameIn CameTo i
   came_in (input.Deliver m) is = (is.0, m, is.1, is.2, refl)
   came_in input.Tick is = tt
 
@@ -193,7 +193,7 @@ ends_told sent index s d choice Goes id sound h = record { id = h.0; sound = sou
 ends_told sent index s d choice Lost id sound h = record { id = id; sound = sound; told = none_told sent (suc index) _ }
 ends_told sent index s d choice (Stops made) id sound h = record { id = id; sound = sound; told = none_told sent (suc index) _ }
 
-step_told : (sent : List Message) (index : ℕ) (s : ServerState) (moment : ℕ) (i : Input) (choice : Choice) → IsSentTo sent (the_server (suc index)) i → IsTrue s.up → IsToldServer sent index s
+step_told : (sent : List Message) (index : ℕ) (s : ServerState) (moment : ℕ) (i : NodeInput) (choice : Choice) → IsSentTo sent (the_server (suc index)) i → IsTrue s.up → IsToldServer sent index s
     → IsToldServer sent index (server_step s moment i choice).state
 step_told sent index s moment i choice is up h =
     let d : ServerDoing = server_goes s moment i in

@@ -3,7 +3,7 @@ use Rattle.std.proofs.Common.{◌≡◌, ℕ, suc, ◌≤◌, [], refl, arith}
 use Rattle.std.specs.Prelude.{◌&&◌}
 use Rattle.std.proofs.Math.Nat.{le-max_left, max-le}
 use Rattle.gfs_types.specs.declared.config.Config.{Config}
-use Rattle.messages.specs.declared.event.Input.{Input}
+use Rattle.messages.specs.declared.event.NodeInput.{NodeInput}
 use Rattle.log_records.specs.declared.record.Record.TheVariants as log
 use Rattle.protocol.specs.Choice.{Choice, Ending, Goes, Lost, Stops}
 use Rattle.protocol.specs.Seen.{Taken, no_step}
@@ -41,7 +41,7 @@ ends_in_time config greatest m d choice Goes same h = h
 ends_in_time config greatest m d choice Lost same h = (same, omega arith)
 ends_in_time config greatest m d choice (Stops made) same h = (same, omega arith)
 
-step_in_time : (config : Config) (greatest : ℕ) (m : MasterState) (moment : ℕ) (i : Input) (choice : Choice) → moment ≤ greatest → IsInTime config greatest m → IsInTime config greatest (master_step m moment i choice).state
+step_in_time : (config : Config) (greatest : ℕ) (m : MasterState) (moment : ℕ) (i : NodeInput) (choice : Choice) → moment ≤ greatest → IsInTime config greatest m → IsInTime config greatest (master_step m moment i choice).state
 step_in_time config greatest m moment i choice reached h =
     let d : MasterDoing = master_goes m moment i choice.refused in
     let good : Taken MasterState → Type 0 = λ t. IsInTime config greatest t.state in

@@ -8,8 +8,8 @@ use Rattle.gfs_types.specs.declared.call.Call.{Call}
 use Rattle.messages.specs.declared.message.Message.{Message}
 use Rattle.messages.specs.declared.event.Event.{Event}
 use Rattle.messages.specs.declared.event.Event.TheVariants as event
-use Rattle.messages.specs.declared.event.Input.{Input}
-use Rattle.messages.specs.declared.event.Input.TheVariants as input
+use Rattle.messages.specs.declared.event.NodeInput.{NodeInput}
+use Rattle.messages.specs.declared.event.NodeInput.TheVariants as input
 use Rattle.protocol.specs.Tables.{moment_limit}
 use Rattle.protocol.specs.Choice.{Choice}
 use Rattle.replica_store.specs.Replicas.{Replica, replica_of}
@@ -23,22 +23,22 @@ use Rattle.laws_base.proofs.Steps.{on_cond}
 
 pub record IsKeptByMaster (Q : MasterState → Type 0) : Type 0 where
   pub new : (config : Config) (servers : ℕ) → Q (new_master config servers)
-  pub steps : (m : MasterState) (moment : ℕ) (i : Input) (choice : Choice) → Q m → Q (master_step m moment i choice).state
+  pub steps : (m : MasterState) (moment : ℕ) (i : NodeInput) (choice : Choice) → Q m → Q (master_step m moment i choice).state
   pub restarts : (m : MasterState) (moment : ℕ) (choice : Choice) → Q m → Q (master_restart m moment choice).state
 
 module _ (Q : MasterState → Type 0) (k : IsKeptByMaster Q) where
   abbrev Here : Happened → Type 0
   Here x = Q x.world.master
 
-  server_moves_here : (w : WorldState) (index moment : ℕ) (i : Input) (choice : Choice) (o : Option ServerState) → Q w.master → Here (server_moves w index moment i choice o)
+  server_moves_here : (w : WorldState) (index moment : ℕ) (i : NodeInput) (choice : Choice) (o : Option ServerState) → Q w.master → Here (server_moves w index moment i choice o)
   server_moves_here w index moment i choice None h = h
   server_moves_here w index moment i choice (Some s) h = on_cond Here s.up _ (nothing_happens w) (λ _. h) (λ _. h)
 
-  client_moves_here : (w : WorldState) (index moment : ℕ) (i : Input) (choice : Choice) (o : Option ClientState) → Q w.master → Here (client_moves w index moment i choice o)
+  client_moves_here : (w : WorldState) (index moment : ℕ) (i : NodeInput) (choice : Choice) (o : Option ClientState) → Q w.master → Here (client_moves w index moment i choice o)
   client_moves_here w index moment i choice None h = h
   client_moves_here w index moment i choice (Some c) h = on_cond Here c.up _ (nothing_happens w) (λ _. h) (λ _. h)
 
-  moves_here : (w : WorldState) (n : Node) (moment : ℕ) (i : Input) (choice : Choice) → Q w.master → Here (moves w n moment i choice)
+  moves_here : (w : WorldState) (n : Node) (moment : ℕ) (i : NodeInput) (choice : Choice) → Q w.master → Here (moves w n moment i choice)
   moves_here w node.Master moment i choice h =
       on_cond Here w.master.up (after_master w moment (master_step w.master moment i choice)) (nothing_happens w) (λ _. k.steps w.master moment i choice h) (λ _. h)
   moves_here w (node.Server s) moment i choice h = server_moves_here w (s.0 - 1) moment i choice (numbered_from_1 w.servers s.0) h

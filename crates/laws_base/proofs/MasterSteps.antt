@@ -3,8 +3,8 @@ use Rattle.std.proofs.Common.{◌≤◌, ℕ, Bool, List, [], ◌∷◌, Option,
 use Rattle.std.specs.Prelude.{nat_lt, max}
 use Rattle.std.specs.FinMap as table
 use Rattle.std.proofs.Math.Nat.{le-max_left}
-use Rattle.messages.specs.declared.event.Input.{Input}
-use Rattle.messages.specs.declared.event.Input.TheVariants as input
+use Rattle.messages.specs.declared.event.NodeInput.{NodeInput}
+use Rattle.messages.specs.declared.event.NodeInput.TheVariants as input
 use Rattle.messages.specs.declared.message.Message.{Message}
 use Rattle.messages.specs.declared.message.Body.{Body}
 use Rattle.messages.specs.declared.message.Body.TheVariants as body
@@ -32,7 +32,7 @@ IsWordTold Told Ended server (body.Report replicas leases) = AreLinesTold Told s
 IsWordTold Told Ended server (body.Revoked handle version) = Ended handle.0 version.0
 IsWordTold Told Ended server other = Unit {0}
 
-abbrev pub IsInputTold : (ℕ → ℕ → ℕ → Type 0) → (ℕ → ℕ → Type 0) → Input → Type 0
+abbrev pub IsInputTold : (ℕ → ℕ → ℕ → Type 0) → (ℕ → ℕ → Type 0) → NodeInput → Type 0
 IsInputTold Told Ended (input.Deliver m) = IsWordTold Told Ended (server_number m.sender) m.body
 IsInputTold Told Ended input.Tick = Unit {0}
 
@@ -87,12 +87,12 @@ module _ (Asks : Type 0) (Told : ℕ → ℕ → ℕ → Type 0) (Ended : ℕ �
   takes_keeps d m (body.Image handle version serial bytes) told bound h = h
   takes_keeps d m (body.CopyLocal order handle version copy copy_version) told bound h = h
 
-  does_keeps : (d : MasterDoing) (i : Input) → IsInputTold Told Ended i → (Asks → d.master.logged.next_file ≤ counter_limit) → At Asks Told Ended P k d → At Asks Told Ended P k (master_does d i)
+  does_keeps : (d : MasterDoing) (i : NodeInput) → IsInputTold Told Ended i → (Asks → d.master.logged.next_file ≤ counter_limit) → At Asks Told Ended P k d → At Asks Told Ended P k (master_does d i)
   does_keeps d (input.Deliver m) told bound h = takes_keeps d m m.body told bound h
   does_keeps d input.Tick told bound h = tick_keeps d h
 
   -- the step of a master that is up, where nothing hinders it
-  pub goes_told : (m : MasterState) (moment : ℕ) (i : Input) (refused : List Bool) → IsInputTold Told Ended i → (Asks → m.logged.next_file ≤ counter_limit) → At Asks Told Ended P k (master_begins (master_at m moment) refused)
+  pub goes_told : (m : MasterState) (moment : ℕ) (i : NodeInput) (refused : List Bool) → IsInputTold Told Ended i → (Asks → m.logged.next_file ≤ counter_limit) → At Asks Told Ended P k (master_begins (master_at m moment) refused)
       → At Asks Told Ended P k (master_goes m moment i refused)
   goes_told m moment i refused told bound h =
       let d : MasterDoing = master_does (master_begins (master_at m moment) refused) i in
@@ -109,7 +109,7 @@ no_word server (body.Recorded handle version) = λ is. tt
 no_word server (body.Report replicas leases) = no_lines server replicas
 no_word server other = tt
 
-pub no_input : (i : Input) → IsInputTold Nothing NoneEnded i
+pub no_input : (i : NodeInput) → IsInputTold Nothing NoneEnded i
 no_input (input.Deliver m) = no_word (server_number m.sender) m.body
 no_input input.Tick = tt
 
@@ -117,12 +117,12 @@ none_asked : (attempts : Table VersionAttempt) → AreTold Nothing attempts
 none_asked attempts handle a is = record { servers = λ n there. inr (λ h v. tt); recorded = λ n there. tt }
 
 -- the step, where nothing is asked of words and of names
-pub goes_keeps : (P : Core → Type 0) (k : Keeps ⊥ Nothing NoneEnded P) (m : MasterState) (moment : ℕ) (i : Input) (refused : List Bool) → P (core_of (master_begins (master_at m moment) refused))
+pub goes_keeps : (P : Core → Type 0) (k : Keeps ⊥ Nothing NoneEnded P) (m : MasterState) (moment : ℕ) (i : NodeInput) (refused : List Bool) → P (core_of (master_begins (master_at m moment) refused))
     → P (core_of (master_goes m moment i refused))
 goes_keeps P k m moment i refused h = (goes_told ⊥ Nothing NoneEnded P k m moment i refused (no_input i) (λ asks. absurd asks) (h, none_asked m.attempts, λ asks. absurd asks, λ asks. absurd asks)).0
 
 -- the step, where names are asked for
-pub goes_named : (Ended : ℕ → ℕ → Type 0) (P : Core → Type 0) (k : Keeps (Unit {0}) Nothing Ended P) (m : MasterState) (moment : ℕ) (i : Input) (refused : List Bool) → IsInputTold Nothing Ended i → m.logged.next_file ≤ counter_limit
+pub goes_named : (Ended : ℕ → ℕ → Type 0) (P : Core → Type 0) (k : Keeps (Unit {0}) Nothing Ended P) (m : MasterState) (moment : ℕ) (i : NodeInput) (refused : List Bool) → IsInputTold Nothing Ended i → m.logged.next_file ≤ counter_limit
     → IsNamespace m.logged.names m.snapshots → AreReady m.now m.attempts m.logged → P (core_of (master_begins (master_at m moment) refused))
     → P (core_of (master_goes m moment i refused)) × IsNamespace (master_goes m moment i refused).master.logged.names (master_goes m moment i refused).master.snapshots
     × AreReady (master_goes m moment i refused).master.now (master_goes m moment i refused).master.attempts (master_goes m moment i refused).master.logged

@@ -15,8 +15,8 @@ use Rattle.messages.specs.declared.message.Body.{Body}
 use Rattle.messages.specs.declared.message.Body.TheVariants as body
 use Rattle.messages.specs.declared.message.Message.{Message}
 use Rattle.messages.specs.declared.message.ReplicaLine.{ReplicaLine}
-use Rattle.messages.specs.declared.event.Input.{Input}
-use Rattle.messages.specs.declared.event.Input.TheVariants as input
+use Rattle.messages.specs.declared.event.NodeInput.{NodeInput}
+use Rattle.messages.specs.declared.event.NodeInput.TheVariants as input
 use Rattle.log_records.specs.declared.record.Record.TheVariants as log
 use Rattle.protocol.specs.Tables.{element_at, without_at, has_number}
 use Rattle.protocol.specs.Choice.{Choice, Ending, Goes, Lost, Stops, picked, in_order}
@@ -187,7 +187,7 @@ body_told sent m (body.Report replicas leases) is there =
     lines_told (WasTold sent (length sent)) (server_number m.sender) replicas replicas (λ h v told. word_sent sent m h v there (ap (tells_version h v) is ∙ told)) (λ h v told. told)
 body_told sent m other is there = tt
 
-input_told : (sent : List Message) (i : Input) → IsInputSent sent i → IsInputTold (WasTold sent (length sent)) NoneEnded i
+input_told : (sent : List Message) (i : NodeInput) → IsInputSent sent i → IsInputTold (WasTold sent (length sent)) NoneEnded i
 input_told sent (input.Deliver m) there = body_told sent m m.body refl there
 input_told sent input.Tick there = tt
 
@@ -208,7 +208,7 @@ ends_truthful sent k m d choice Goes h g =
 ends_truthful sent k m d choice Lost h g = down_truthful sent k m m.disk [] h
 ends_truthful sent k m d choice (Stops made) h g = down_truthful sent k m _ _ h
 
-step_truthful : (sent : List Message) (k : ℕ) (m : MasterState) (moment : ℕ) (i : Input) (choice : Choice) → IsInputSent sent i → IsTruthful sent m
+step_truthful : (sent : List Message) (k : ℕ) (m : MasterState) (moment : ℕ) (i : NodeInput) (choice : Choice) → IsInputSent sent i → IsTruthful sent m
     → IsTruthful (sent ++ stamped k (master_step m moment i choice).out.sent) (master_step m moment i choice).state
 step_truthful sent k m moment i choice is h =
     let d : MasterDoing = master_goes m moment i choice.refused in

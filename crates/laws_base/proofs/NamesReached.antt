@@ -7,7 +7,7 @@ use Rattle.std.specs.FinMap.Entries.{find}
 use Rattle.std.proofs.lemmas.Bool.{and_parts, leb-true, eqb-true}
 use Rattle.std.specs.FinMap as table
 use Rattle.gfs_types.specs.declared.config.Config.{Config}
-use Rattle.messages.specs.declared.event.Input.{Input}
+use Rattle.messages.specs.declared.event.NodeInput.{NodeInput}
 use Rattle.log_records.specs.declared.record.Record.{Record}
 use Rattle.log_records.specs.declared.record.Record.TheVariants as log
 use Rattle.relaxed_file.specs.Names.{Names}
@@ -194,7 +194,7 @@ module _ (G : Logged → Type 0) (R : Logged → Logged → Type 0) (b : IsKeptB
   ends_logged m d choice (Stops made) limits h g names ready =
       stopped m (log_changed_by_all m.disk (take made d.changes)) (take 1 (drop made d.changes)) (found_stopped IsGood m.disk d.changes made g.stops)
 
-  pub step_logged : (m : MasterState) (moment : ℕ) (i : Input) (choice : Choice) → IsLogged m → IsLogged (master_step m moment i choice).state
+  pub step_logged : (m : MasterState) (moment : ℕ) (i : NodeInput) (choice : Choice) → IsLogged m → IsLogged (master_step m moment i choice).state
   step_logged m moment i choice h =
       let d : MasterDoing = master_goes m moment i choice.refused in
       let good : Taken MasterState → Type 0 = λ t. IsLogged t.state in

@@ -7,7 +7,7 @@ use Rattle.messages.specs.declared.message.Body.{Body}
 use Rattle.messages.specs.declared.message.Message.{Message}
 use Rattle.log_records.specs.declared.record.Record.{Record}
 use Rattle.log_records.specs.declared.record.Record.TheVariants as log
-use Rattle.messages.specs.declared.event.Input.{Input}
+use Rattle.messages.specs.declared.event.NodeInput.{NodeInput}
 use Rattle.protocol.specs.Choice.{Choice, Ending, Goes, Lost, Stops, in_order}
 use Rattle.protocol.specs.Seen.{Taken, no_step}
 use Rattle.protocol.specs.LogSizes.{checkpoint_fits}
@@ -140,7 +140,7 @@ begun sent m moment refused h up =
       used = λ e n more. absurd (let none : 1 ≤ 0 = more in omega (arith, none));
     }
 
-pub step_numbered : (sent : List Message) (k : ℕ) (m : MasterState) (moment : ℕ) (i : Input) (choice : Choice) → AreNumbered sent m
+pub step_numbered : (sent : List Message) (k : ℕ) (m : MasterState) (moment : ℕ) (i : NodeInput) (choice : Choice) → AreNumbered sent m
     → AreNumbered (sent ++ stamped k (master_step m moment i choice).out.sent) (master_step m moment i choice).state
 step_numbered sent k m moment i choice h =
     let d : MasterDoing = master_goes m moment i choice.refused in

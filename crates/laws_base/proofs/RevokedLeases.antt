@@ -12,7 +12,7 @@ use Rattle.gfs_types.specs.declared.ids.Node.TheVariants.{Master}
 use Rattle.messages.specs.declared.message.Body.{Body}
 use Rattle.messages.specs.declared.message.Body.TheVariants as body
 use Rattle.messages.specs.declared.message.Message.{Message}
-use Rattle.messages.specs.declared.event.Input.{Input}
+use Rattle.messages.specs.declared.event.NodeInput.{NodeInput}
 use Rattle.protocol.specs.Tables.{Table, element_at, with_at}
 use Rattle.protocol.specs.Choice.{Choice, Ending, Goes, Lost, Stops}
 use Rattle.protocol.specs.Seen.{Taken, no_step}
@@ -266,7 +266,7 @@ ends_over sent n s d choice Goes later h =
 ends_over sent n s d choice Lost later h = record { stays = none_over sent n s (server_ends s d choice Lost).state later refl; said = λ m is. none_sent m is }
 ends_over sent n s d choice (Stops made) later h = record { stays = none_over sent n s (server_ends s d choice (Stops made)).state later refl; said = λ m is. none_sent m is }
 
-step_over : (sent : List Message) (n : ℕ) (s : ServerState) (moment : ℕ) (i : Input) (choice : Choice) → ArePaired sent → IsSentTo sent (the_server n) i → IsTrue s.up → HasOneRisingChange s → s.id ≡ n → Comes sent n s (server_step s moment i choice)
+step_over : (sent : List Message) (n : ℕ) (s : ServerState) (moment : ℕ) (i : NodeInput) (choice : Choice) → ArePaired sent → IsSentTo sent (the_server n) i → IsTrue s.up → HasOneRisingChange s → s.id ≡ n → Comes sent n s (server_step s moment i choice)
 step_over sent n s moment i choice pairs is up sound id =
     let d : ServerDoing = server_goes s moment i in
     let same : server_step s moment i choice ≡ server_ends s d choice choice.ending = ap (λ (b : Bool). cond b (server_ends s d choice choice.ending) (no_step s)) up in
@@ -328,7 +328,7 @@ ends_silent m d choice Goes h = all_in_order (λ x. says_revoked x.body ≡ fals
 ends_silent m d choice Lost h = tt
 ends_silent m d choice (Stops made) h = tt
 
-master_silent : (m : MasterState) (moment : ℕ) (i : Input) (choice : Choice) → SayNoRevoked (master_step m moment i choice).out.sent
+master_silent : (m : MasterState) (moment : ℕ) (i : NodeInput) (choice : Choice) → SayNoRevoked (master_step m moment i choice).out.sent
 master_silent m moment i choice =
     let d : MasterDoing = master_goes m moment i choice.refused in
     let good : Taken MasterState → Type 0 = λ t. SayNoRevoked t.out.sent in

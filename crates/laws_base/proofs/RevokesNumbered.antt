@@ -12,7 +12,7 @@ use Rattle.gfs_types.specs.declared.ids.Moment.{Moment}
 use Rattle.messages.specs.declared.message.Body.{Body}
 use Rattle.messages.specs.declared.message.Body.TheVariants as body
 use Rattle.messages.specs.declared.message.Message.{Message}
-use Rattle.messages.specs.declared.event.Input.{Input}
+use Rattle.messages.specs.declared.event.NodeInput.{NodeInput}
 use Rattle.log_records.specs.declared.record.Record.{Record}
 use Rattle.log_records.specs.declared.record.Record.TheVariants as log
 use Rattle.relaxed_file.proofs.NamesTree.{Tree}
@@ -644,7 +644,7 @@ begins_revoking sent start c quiet none pairs state disk first =
       stops = subst (λ (xs : List LogChange). AllStops (λ d. Agrees sent (state_of d)) start xs) (sym none) first;
     }
 
-step_revokes : (sent : List Message) (k : ℕ) (m : MasterState) (moment : ℕ) (i : Input) (choice : Choice) → IsLogged IsFoundRows IsRowedLog rows_kept m → AreNumbered sent m → AreRevokes sent m
+step_revokes : (sent : List Message) (k : ℕ) (m : MasterState) (moment : ℕ) (i : NodeInput) (choice : Choice) → IsLogged IsFoundRows IsRowedLog rows_kept m → AreNumbered sent m → AreRevokes sent m
     → AreRevokes (sent ++ stamped k (master_step m moment i choice).out.sent) (master_step m moment i choice).state
 step_revokes sent k m moment i choice logged numbered h =
     let d : MasterDoing = master_goes m moment i choice.refused in

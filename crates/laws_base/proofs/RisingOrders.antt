@@ -10,8 +10,8 @@ use Rattle.messages.specs.declared.message.Message.{Message}
 use Rattle.gfs_types.specs.declared.call.Call.{Call}
 use Rattle.messages.specs.declared.event.Event.{Event}
 use Rattle.messages.specs.declared.event.Event.TheVariants as event
-use Rattle.messages.specs.declared.event.Input.{Input}
-use Rattle.messages.specs.declared.event.Input.TheVariants as input
+use Rattle.messages.specs.declared.event.NodeInput.{NodeInput}
+use Rattle.messages.specs.declared.event.NodeInput.TheVariants as input
 use Rattle.protocol.specs.Tables.{element_at, with_at, first_numbers, moment_limit}
 use Rattle.protocol.specs.Choice.{Choice, Ending, Goes, Lost, Stops, decided_changes}
 use Rattle.protocol.specs.Seen.{Taken, no_step}
@@ -182,11 +182,11 @@ ends_as s d choice (Stops made) none h =
       later = some_later s.disk d.changes made h.0;
     }
 
-pub all_came : (i : Input) → IsCameIn (λ b. Unit {0}) i
+pub all_came : (i : NodeInput) → IsCameIn (λ b. Unit {0}) i
 all_came (input.Deliver m) = tt
 all_came input.Tick = tt
 
-pub step_goes_on : (s : ServerState) (moment : ℕ) (i : Input) (choice : Choice) → HasOneRisingChange s → Follows s (server_step s moment i choice).state
+pub step_goes_on : (s : ServerState) (moment : ℕ) (i : NodeInput) (choice : Choice) → HasOneRisingChange s → Follows s (server_step s moment i choice).state
 step_goes_on s moment i choice is =
     on_cond (λ (t : Taken ServerState). Follows s t.state) s.up (server_ends s (server_goes s moment i) choice choice.ending) (no_step s)
     (λ up. ends_as s (server_goes s moment i) choice choice.ending (is.idle up) (server_goes_holds (λ b. Unit {0}) (From s) (from_keeps s) s moment i (all_came i) (tt, refl, refl)))
@@ -234,7 +234,7 @@ one_server w index moment s taken h at g other t is =
       | inr there ↦ same_servers w h other t there
     ]
 
-server_moves_on : (w : WorldState) (n moment : ℕ) (i : Input) (choice : Choice) (o : Option ServerState) → numbered_from_1 w.servers n ≡ o → HaveOneRisingChange w
+server_moves_on : (w : WorldState) (n moment : ℕ) (i : NodeInput) (choice : Choice) (o : Option ServerState) → numbered_from_1 w.servers n ≡ o → HaveOneRisingChange w
     → AreGoingOn w (server_moves w (n - 1) moment i choice o).world
 server_moves_on w n moment i choice None e h = same_servers w h
 server_moves_on w n moment i choice (Some s) e h =
@@ -243,11 +243,11 @@ server_moves_on w n moment i choice (Some s) e h =
     (λ _. one_server w (n - 1) moment s (server_step s moment i choice) h at (step_goes_on s moment i choice (h (n - 1) s at)))
     (λ _. same_servers w h)
 
-client_moves_on : (w : WorldState) (index moment : ℕ) (i : Input) (choice : Choice) (o : Option ClientState) → HaveOneRisingChange w → AreGoingOn w (client_moves w index moment i choice o).world
+client_moves_on : (w : WorldState) (index moment : ℕ) (i : NodeInput) (choice : Choice) (o : Option ClientState) → HaveOneRisingChange w → AreGoingOn w (client_moves w index moment i choice o).world
 client_moves_on w index moment i choice None h = same_servers w h
 client_moves_on w index moment i choice (Some c) h = on_cond (λ (x : Happened). AreGoingOn w x.world) c.up _ (nothing_happens w) (λ _. same_servers w h) (λ _. same_servers w h)
 
-moves_on : (w : WorldState) (n : Node) (moment : ℕ) (i : Input) (choice : Choice) → HaveOneRisingChange w → AreGoingOn w (moves w n moment i choice).world
+moves_on : (w : WorldState) (n : Node) (moment : ℕ) (i : NodeInput) (choice : Choice) → HaveOneRisingChange w → AreGoingOn w (moves w n moment i choice).world
 moves_on w node.Master moment i choice h = on_cond (λ (x : Happened). AreGoingOn w x.world) w.master.up _ (nothing_happens w) (λ _. same_servers w h) (λ _. same_servers w h)
 moves_on w (node.Server s) moment i choice h = server_moves_on w s.0 moment i choice (numbered_from_1 w.servers s.0) refl h
 moves_on w (node.Client c) moment i choice h = client_moves_on w (c.0 - 1) moment i choice (numbered_from_1 w.clients c.0) h

@@ -11,8 +11,8 @@ use Rattle.gfs_types.specs.declared.call.Call.{Call}
 use Rattle.messages.specs.declared.message.Message.{Message}
 use Rattle.messages.specs.declared.event.Event.{Event}
 use Rattle.messages.specs.declared.event.Event.TheVariants as event
-use Rattle.messages.specs.declared.event.Input.{Input}
-use Rattle.messages.specs.declared.event.Input.TheVariants as input
+use Rattle.messages.specs.declared.event.NodeInput.{NodeInput}
+use Rattle.messages.specs.declared.event.NodeInput.TheVariants as input
 use Rattle.protocol.specs.Tables.{moment_limit, element_at}
 use Rattle.protocol.specs.Choice.{Choice, Ending, Goes, Lost, Stops, in_order}
 use Rattle.protocol.specs.Seen.{Taken, no_step}
@@ -91,7 +91,7 @@ quiet_keeps =
 in_order_quiet : (order : List ℕ) (ms : List Message) → HasNoOrder ms → HasNoOrder (in_order order ms)
 in_order_quiet order ms h e n = count-in_order (λ (x : Message). is_number e n (order_number x.body)) order ms ∙ h e n
 
-all_came : (i : Input) → IsCameIn (λ b. Unit {0}) i
+all_came : (i : NodeInput) → IsCameIn (λ b. Unit {0}) i
 all_came (input.Deliver m) = tt
 all_came input.Tick = tt
 
@@ -100,7 +100,7 @@ server_ends_quiet s d choice Goes h = in_order_quiet choice.order d.sent h
 server_ends_quiet s d choice Lost h = no_orders
 server_ends_quiet s d choice (Stops made) h = no_orders
 
-pub server_quiet : (s : ServerState) (moment : ℕ) (i : Input) (choice : Choice) → HasNoOrder (server_step s moment i choice).out.sent
+pub server_quiet : (s : ServerState) (moment : ℕ) (i : NodeInput) (choice : Choice) → HasNoOrder (server_step s moment i choice).out.sent
 server_quiet s moment i choice =
     on_cond (λ (t : Taken ServerState). HasNoOrder t.out.sent) s.up (server_ends s (server_goes s moment i) choice choice.ending) (no_step s)
     (λ _. server_ends_quiet s (server_goes s moment i) choice choice.ending (server_goes_holds (λ b. Unit {0}) (λ c. HasNoOrder c.sent) quiet_keeps s moment i (all_came i) no_orders)) (λ _. no_orders)
@@ -112,7 +112,7 @@ server_restarts_quiet s moment choice (Stops made) = no_orders
 
 -- worlds
 
-abbrev pub IsInputSent : List Message → Input → Type 0
+abbrev pub IsInputSent : List Message → NodeInput → Type 0
 IsInputSent sent (input.Deliver m) = (place : ℕ) × (element_at sent place ≡ Some m)
 IsInputSent sent input.Tick = Unit {0}
 
@@ -120,7 +120,7 @@ pub record IsKeptBySent (Q : List Message → MasterState → Type 0) : Type 0 w
   pub new : (config : Config) (servers : ℕ) → Q [] (new_master config servers)
   -- servers and clients send no order
   pub quiet : (sent ms : List Message) (k : ℕ) (m : MasterState) → HasNoOrder ms → Q sent m → Q (sent ++ stamped k ms) m
-  pub steps : (sent : List Message) (k : ℕ) (m : MasterState) (moment : ℕ) (i : Input) (choice : Choice) → IsInputSent sent i → Q sent m
+  pub steps : (sent : List Message) (k : ℕ) (m : MasterState) (moment : ℕ) (i : NodeInput) (choice : Choice) → IsInputSent sent i → Q sent m
       → Q (sent ++ stamped k (master_step m moment i choice).out.sent) (master_step m moment i choice).state
   pub restarts : (sent : List Message) (k : ℕ) (m : MasterState) (moment : ℕ) (choice : Choice) → Q sent m
       → Q (sent ++ stamped k (master_restart m moment choice).out.sent) (master_restart m moment choice).state
@@ -132,24 +132,24 @@ module _ (Q : List Message → MasterState → Type 0) (k : IsKeptBySent Q) wher
   abbrev Here : Happened → Type 0
   Here x = IsSo x.world
 
-  master_moves_kept : (w : WorldState) (moment : ℕ) (i : Input) (choice : Choice) → IsInputSent w.sent i → IsSo w → Here (master_moves w moment i choice)
+  master_moves_kept : (w : WorldState) (moment : ℕ) (i : NodeInput) (choice : Choice) → IsInputSent w.sent i → IsSo w → Here (master_moves w moment i choice)
   master_moves_kept w moment i choice is h =
       on_cond Here w.master.up (after_master w moment (master_step w.master moment i choice)) (nothing_happens w)
       (λ _. k.steps w.sent (suc (length w.sent)) w.master moment i choice is h) (λ _. h)
 
-  server_moves_kept : (w : WorldState) (index moment : ℕ) (i : Input) (choice : Choice) (o : Option ServerState) → IsSo w → Here (server_moves w index moment i choice o)
+  server_moves_kept : (w : WorldState) (index moment : ℕ) (i : NodeInput) (choice : Choice) (o : Option ServerState) → IsSo w → Here (server_moves w index moment i choice o)
   server_moves_kept w index moment i choice None h = h
   server_moves_kept w index moment i choice (Some s) h =
       on_cond Here s.up (after_server w index moment (server_step s moment i choice)) (nothing_happens w)
       (λ _. k.quiet w.sent (server_step s moment i choice).out.sent (suc (length w.sent)) w.master (server_quiet s moment i choice) h) (λ _. h)
 
-  client_moves_kept : (w : WorldState) (index moment : ℕ) (i : Input) (choice : Choice) (o : Option ClientState) → IsSo w → Here (client_moves w index moment i choice o)
+  client_moves_kept : (w : WorldState) (index moment : ℕ) (i : NodeInput) (choice : Choice) (o : Option ClientState) → IsSo w → Here (client_moves w index moment i choice o)
   client_moves_kept w index moment i choice None h = h
   client_moves_kept w index moment i choice (Some s) h =
       on_cond Here s.up (after_client w index moment (client_step s moment i choice)) (nothing_happens w)
       (λ _. k.quiet w.sent (client_step s moment i choice).out.sent (suc (length w.sent)) w.master (quiet_orders (client_step s moment i choice).out.sent (client_quiet s moment i choice)) h) (λ _. h)
 
-  moves_kept : (w : WorldState) (n : Node) (moment : ℕ) (i : Input) (choice : Choice) → IsInputSent w.sent i → IsSo w → Here (moves w n moment i choice)
+  moves_kept : (w : WorldState) (n : Node) (moment : ℕ) (i : NodeInput) (choice : Choice) → IsInputSent w.sent i → IsSo w → Here (moves w n moment i choice)
   moves_kept w node.Master moment i choice is h = master_moves_kept w moment i choice is h
   moves_kept w (node.Server s) moment i choice is h = server_moves_kept w (s.0 - 1) moment i choice (numbered_from_1 w.servers s.0) h
   moves_kept w (node.Client c) moment i choice is h = client_moves_kept w (c.0 - 1) moment i choice (numbered_from_1 w.clients c.0) h

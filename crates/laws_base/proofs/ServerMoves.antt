@@ -20,8 +20,8 @@ use Rattle.messages.specs.declared.message.Change.{Change}
 use Rattle.messages.specs.declared.message.Change.TheVariants as change
 use Rattle.gfs_types.specs.declared.mutation.Mutation.{Mutation}
 use Rattle.gfs_types.specs.declared.mutation.Mutation.TheVariants as mutation
-use Rattle.messages.specs.declared.event.Input.{Input}
-use Rattle.messages.specs.declared.event.Input.TheVariants as input
+use Rattle.messages.specs.declared.event.NodeInput.{NodeInput}
+use Rattle.messages.specs.declared.event.NodeInput.TheVariants as input
 use Rattle.gfs_types.specs.Mutations.{start_of, end_of}
 use Rattle.gfs_types.specs.Counters.{counter_limit}
 use Rattle.protocol.specs.Tables.{Table, without, map_values, is_empty_list}
@@ -130,7 +130,7 @@ pub record KeepsServer (Came : Body → Type 0) (P : ServerCore → Type 0) : Ty
       → AreHeldFrom c.leases leases → HasNoLease leases handle.0 version.0 → P c
       → P (record (store_changed c (SetOrder order)) { leases = leases; sent = c.sent ++ message (the_server c.id) Master (body.Revoked handle version) ∷ [] })
 
-abbrev pub IsCameIn : (Body → Type 0) → Input → Type 0
+abbrev pub IsCameIn : (Body → Type 0) → NodeInput → Type 0
 IsCameIn Came (input.Deliver m) = Came m.body
 IsCameIn Came input.Tick = Unit {0}
 
@@ -528,10 +528,10 @@ module _ (Came : Body → Type 0) (P : ServerCore → Type 0) (k : KeepsServer C
   takes_holds s m (body.Cloned handle version) came h = h
   takes_holds s m (body.Report replicas leases) came h = h
 
-  does_holds : (s : ServerState) (i : Input) → IsCameIn Came i → Holds (server_begins s) → Holds (server_does (server_begins s) i)
+  does_holds : (s : ServerState) (i : NodeInput) → IsCameIn Came i → Holds (server_begins s) → Holds (server_does (server_begins s) i)
   does_holds s (input.Deliver m) came h = takes_holds s m m.body came h
   does_holds s input.Tick came h = tick_holds (server_begins s) h
 
   -- the step of a server that is up, where nothing hinders it
-  pub server_goes_holds : (s : ServerState) (moment : ℕ) (i : Input) → IsCameIn Came i → Holds (server_begins (server_at s moment)) → Holds (server_goes s moment i)
+  pub server_goes_holds : (s : ServerState) (moment : ℕ) (i : NodeInput) → IsCameIn Came i → Holds (server_begins (server_at s moment)) → Holds (server_goes s moment i)
   server_goes_holds s moment i came h = does_holds (server_at s moment) i came h

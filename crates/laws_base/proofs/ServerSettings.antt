@@ -1,8 +1,8 @@
 -- Each server has the world's settings.
 use Rattle.std.proofs.Common.{◌≡◌, ℕ, Some, ap, ◌∙◌, inl, inr}
 use Rattle.gfs_types.specs.declared.config.Config.{Config}
-use Rattle.messages.specs.declared.event.Input.{Input}
-use Rattle.messages.specs.declared.event.Input.TheVariants as input
+use Rattle.messages.specs.declared.event.NodeInput.{NodeInput}
+use Rattle.messages.specs.declared.event.NodeInput.TheVariants as input
 use Rattle.protocol.specs.Tables.{element_at}
 use Rattle.protocol.specs.Choice.{Choice, Ending, Goes, Lost, Stops}
 use Rattle.protocol.specs.Seen.{Taken, no_step}
@@ -27,7 +27,7 @@ settings_keep config =
       revokes = λ c order handle version leases came new from none h. h;
     }
 
-all_came : (i : Input) → IsCameIn (λ b. Unit {0}) i
+all_came : (i : NodeInput) → IsCameIn (λ b. Unit {0}) i
 all_came (input.Deliver m) = tt
 all_came input.Tick = tt
 
@@ -36,7 +36,7 @@ ends_set config s d choice Goes same h = h
 ends_set config s d choice Lost same h = same
 ends_set config s d choice (Stops made) same h = same
 
-step_set : (config : Config) (s : ServerState) (moment : ℕ) (i : Input) (choice : Choice) → s.config ≡ config → (server_step s moment i choice).state.config ≡ config
+step_set : (config : Config) (s : ServerState) (moment : ℕ) (i : NodeInput) (choice : Choice) → s.config ≡ config → (server_step s moment i choice).state.config ≡ config
 step_set config s moment i choice same =
     on_cond (λ (t : Taken ServerState). t.state.config ≡ config) s.up (server_ends s (server_goes s moment i) choice choice.ending) (no_step s)
     (λ _. ends_set config s (server_goes s moment i) choice choice.ending same (server_goes_holds (λ b. Unit {0}) (λ c. c.config ≡ config) (settings_keep config) s moment i (all_came i) same)) (λ _. same)

@@ -18,8 +18,8 @@ use Rattle.gfs_types.specs.declared.refusal.Refusal.TheVariants.{NoMemory}
 use Rattle.gfs_types.specs.declared.mutation.Mutation.{Mutation}
 use Rattle.gfs_types.specs.declared.mutation.Mutation.TheVariants as mutation
 use Rattle.messages.specs.declared.event.Event.{Event}
-use Rattle.messages.specs.declared.event.Input.{Input}
-use Rattle.messages.specs.declared.event.Input.TheVariants as input
+use Rattle.messages.specs.declared.event.NodeInput.{NodeInput}
+use Rattle.messages.specs.declared.event.NodeInput.TheVariants as input
 use Rattle.messages.specs.declared.message.Body.{Body}
 use Rattle.messages.specs.declared.message.Body.TheVariants as body
 use Rattle.messages.specs.declared.message.Message.{Message}
@@ -211,9 +211,9 @@ module _ (sent : List Message) (size client : ℕ) (s : ClientState) (up : IsTru
         (subst (λ (y : Call). HasToldParts Sent s.id size s.number file y None Next (SentMutate chunk number)) (sym over.0) (mutates, way))))
 
   -- a step
-  module _ (moment : ℕ) (i : Input) (came : (m : Message) → i ≡ input.Deliver m → IsAmong sent m)
+  module _ (moment : ℕ) (i : NodeInput) (came : (m : Message) → i ≡ input.Deliver m → IsAmong sent m)
       (located : (c : CurrentCall) (chunk : ToldChunk) (primary : ServerId) (number : ℕ) → s.current ≡ Some c → c.stage ≡ SentData chunk primary number → IsLocated sent s.id c.file.0 c.asked c.index chunk.handle.0 chunk.round.0) where
-    came_as : (file : ℕ) (A : Call) (j : Input) → i ≡ j → IsCameIn (CameAs sent s.id size file A) j
+    came_as : (file : ℕ) (A : Call) (j : NodeInput) → i ≡ j → IsCameIn (CameAs sent s.id size file A) j
     came_as file A (input.Deliver m) is = (m, came m is, refl)
     came_as file A input.Tick is = tt
 

@@ -11,8 +11,8 @@ use Rattle.gfs_types.specs.declared.ids.FileId.{FileId}
 use Rattle.gfs_types.specs.declared.ids.Moment.{Moment}
 use Rattle.messages.specs.declared.event.Event.{Event}
 use Rattle.messages.specs.declared.event.Event.TheVariants as event
-use Rattle.messages.specs.declared.event.Input.{Input}
-use Rattle.messages.specs.declared.event.Input.TheVariants as input
+use Rattle.messages.specs.declared.event.NodeInput.{NodeInput}
+use Rattle.messages.specs.declared.event.NodeInput.TheVariants as input
 use Rattle.messages.specs.declared.message.Body.{Body}
 use Rattle.messages.specs.declared.message.Body.TheVariants as body
 use Rattle.messages.specs.declared.message.Message.{Message}
@@ -97,7 +97,7 @@ all_servers : (sent : List Message) (server : ℕ) (ms : List Message) → AllOf
 all_servers sent server [] all = tt
 all_servers sent server (m ∷ ms) all = (server_answers sent m.sender m.receiver m.body (server, all.0.0), all_servers sent server ms all.1)
 
-served : (sent : List Message) (s : ServerState) (moment : ℕ) (i : Input) (choice : Choice) → AllOf (Answers sent) (server_step s moment i choice).out.sent
+served : (sent : List Message) (s : ServerState) (moment : ℕ) (i : NodeInput) (choice : Choice) → AllOf (Answers sent) (server_step s moment i choice).out.sent
 served sent s moment i choice =
     all_servers sent s.id (server_step s moment i choice).out.sent
     (step_words s.id (server_at s moment).now (λ b. Unit {0}) (λ b is. tt) s moment i choice refl refl (λ _. tt) (λ m came order handle version of new. tt))
@@ -111,7 +111,7 @@ client_sends : (sent : List Message) (s : ClientState) (d : ClientDoing) (o : Op
 client_sends sent s d None step is = tt
 client_sends sent s d (Some m) step is = (client_answers sent m.sender m.receiver s d.client m.body (step.says m is).1, tt)
 
-mastered : (w : WorldState) (moment : ℕ) (i : Input) (choice : Choice) → ((m : Message) → i ≡ input.Deliver m → IsAmong w.sent m) → AllOf (Answers w.sent) (master_step w.master moment i choice).out.sent
+mastered : (w : WorldState) (moment : ℕ) (i : NodeInput) (choice : Choice) → ((m : Message) → i ≡ input.Deliver m → IsAmong w.sent m) → AllOf (Answers w.sent) (master_step w.master moment i choice).out.sent
 mastered w moment i choice came =
     master_refuses_asks i w.master.holders (Answers w.sent)
     (record {
@@ -121,10 +121,10 @@ mastered w moment i choice came =
     }) w.master moment choice refl
 
 -- what comes in was sent
-pub came_to : (w : WorldState) (e : Event) (n : Node) (moment : ℕ) (i : Input) → IsGiven w e n moment i → (m : Message) → i ≡ input.Deliver m → IsAmong w.sent m
+pub came_to : (w : WorldState) (e : Event) (n : Node) (moment : ℕ) (i : NodeInput) → IsGiven w e n moment i → (m : Message) → i ≡ input.Deliver m → IsAmong w.sent m
 came_to w (event.Deliver number now) n moment (input.Deliver x) is m same = subst (λ (y : Message). IsAmong w.sent y) (same_some x m (ap message_in same)) (number - 1, element_numbered w.sent number x is.0)
   where
-    message_in : Input → Option Message
+    message_in : NodeInput → Option Message
     message_in (input.Deliver y) = Some y
     message_in input.Tick = None
 came_to w (event.Call c asked now) n moment (input.Deliver x) is m same = absurd is

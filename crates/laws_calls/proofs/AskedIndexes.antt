@@ -14,8 +14,8 @@ use Rattle.messages.specs.declared.message.Message.{Message}
 use Rattle.messages.specs.declared.message.Location.{Location}
 use Rattle.messages.specs.declared.message.Wanted.{Wanted}
 use Rattle.messages.specs.declared.event.Event.{Event}
-use Rattle.messages.specs.declared.event.Input.{Input}
-use Rattle.messages.specs.declared.event.Input.TheVariants as input
+use Rattle.messages.specs.declared.event.NodeInput.{NodeInput}
+use Rattle.messages.specs.declared.event.NodeInput.TheVariants as input
 use Rattle.client_state.specs.declared.call.CurrentCall.{CurrentCall}
 use Rattle.client_state.specs.declared.call.Stage.{Stage}
 use Rattle.client_state.specs.declared.call.Stage.TheVariants.{AskedWhere}
@@ -46,7 +46,7 @@ use Rattle.laws_calls.proofs.KeptIndexes.{IsKeyed, WasAskSent, Knows, knows_late
 abbrev Any : Body → Type 0
 Any b = Unit {0}
 
-came_any : (i : Input) → IsCameIn Any i
+came_any : (i : NodeInput) → IsCameIn Any i
 came_any (input.Deliver m) = tt
 came_any input.Tick = tt
 
@@ -76,7 +76,7 @@ module _ (w : WorldState) (h : AreKnown w) (index : ℕ) (s : ClientState) (at :
   id_is : s.id ≡ suc index
   id_is = (h.numbered.each index s at).id
 
-  step_leaves : (moment : ℕ) (i : Input) (choice : Choice) → Leaves (client_step s moment i choice).state (client_step s moment i choice).out.sent
+  step_leaves : (moment : ℕ) (i : NodeInput) (choice : Choice) → Leaves (client_step s moment i choice).state (client_step s moment i choice).out.sent
   step_leaves moment i choice = stepped Leaves s moment i choice (steps_here w.sent k (suc index) (client_at s moment) id_is (later moment) Any i (came_any i)) stops same
 
   call_leaves : (moment : ℕ) (c : Call) (choice : Choice) → Leaves (client_call s moment c choice).state (client_call s moment c choice).out.sent

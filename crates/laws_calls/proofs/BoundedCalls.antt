@@ -6,8 +6,8 @@ use Rattle.gfs_types.specs.declared.ids.DataId.{DataId}
 use Rattle.gfs_types.specs.declared.ids.Handle.{Handle}
 use Rattle.gfs_types.specs.declared.ids.Version.{Version}
 use Rattle.messages.specs.declared.event.Event.{Event}
-use Rattle.messages.specs.declared.event.Input.{Input}
-use Rattle.messages.specs.declared.event.Input.TheVariants as input
+use Rattle.messages.specs.declared.event.NodeInput.{NodeInput}
+use Rattle.messages.specs.declared.event.NodeInput.TheVariants as input
 use Rattle.messages.specs.declared.message.Message.{Message}
 use Rattle.relaxed_file.specs.Order.{CallId}
 use Rattle.protocol.specs.Tables.{element_at}
@@ -57,7 +57,7 @@ module _ (config : Config) (servers clients : ℕ) (steps : List (Event × Choic
     few part numbers apart each = parts_have_few_attempts config servers clients steps index made part numbers apart (all_asked part numbers each)
 
   -- what is numbered now is new
-  module _ (server moment : ℕ) (s : ServerState) (i : Input) (choice : Choice) (handle : Handle) (version : Version) (id : DataId) (n : Numbers (after_events (new_world config servers clients) steps) server moment s i choice handle version id) where
+  module _ (server moment : ℕ) (s : ServerState) (i : NodeInput) (choice : Choice) (handle : Handle) (version : Version) (id : DataId) (n : Numbers (after_events (new_world config servers clients) steps) server moment s i choice handle version id) where
     law : (m : Message) × (i ≡ input.Deliver m) × IsAskedFor (server_at s moment) Now.sent m handle version n.serial id n.placed
     law = numbered_mutations_were_asked_for config servers clients Now (steps, refl) server s n.is moment i choice n.came n.place handle version n.serial id n.placed n.seen
 

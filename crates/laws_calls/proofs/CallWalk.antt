@@ -22,8 +22,8 @@ use Rattle.messages.specs.declared.message.Message.{Message}
 use Rattle.messages.specs.declared.message.Location.{Location}
 use Rattle.messages.specs.declared.message.Holder.{Holder}
 use Rattle.messages.specs.declared.message.Group.{Group}
-use Rattle.messages.specs.declared.event.Input.{Input}
-use Rattle.messages.specs.declared.event.Input.TheVariants as input
+use Rattle.messages.specs.declared.event.NodeInput.{NodeInput}
+use Rattle.messages.specs.declared.event.NodeInput.TheVariants as input
 use Rattle.relaxed_file.specs.NameStep.{is_name_call, is_look}
 use Rattle.relaxed_file.specs.Parts.{is_range_too_long}
 use Rattle.protocol.specs.Tables.{is_empty_list}
@@ -461,7 +461,7 @@ module _ (s : ClientState) (Came : Body → Type 0) (P : Place × Cached → Typ
   pub begun_calm : StandsNow s X H D M F E Z None None s.current → IsCalm s X H D M F E Z (client_begins s)
   begun_calm h = record { kept = (refl, refl); silent = λ m is. none_some m is; asks = λ m is. none_some m is; stands = h }
 
-  pub does_leave : (i : Input) (o : Option CurrentCall) → s.current ≡ o → IsCameIn Came i → StandsNow s X H D M F E Z None None o → Calm d0 → Left (client_does (client_begins s) i o)
+  pub does_leave : (i : NodeInput) (o : Option CurrentCall) → s.current ≡ o → IsCameIn Came i → StandsNow s X H D M F E Z None None o → Calm d0 → Left (client_does (client_begins s) i o)
   does_leave i None now came h p = inl p
   does_leave (input.Deliver m) (Some c) now came h p = takes_at_calm c m c.stage refl now came h.1 p
   does_leave input.Tick (Some c) now came h p = inl (ticks_calm c c.stage h.1 p)

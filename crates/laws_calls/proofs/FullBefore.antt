@@ -13,7 +13,7 @@ use Rattle.messages.specs.declared.message.Location.{Location}
 use Rattle.messages.specs.declared.message.Target.{Target}
 use Rattle.messages.specs.declared.message.Target.TheVariants as target
 use Rattle.messages.specs.declared.event.Event.{Event}
-use Rattle.messages.specs.declared.event.Input.{Input}
+use Rattle.messages.specs.declared.event.NodeInput.{NodeInput}
 use Rattle.client_state.specs.declared.call.CurrentCall.{CurrentCall}
 use Rattle.client_state.specs.declared.call.ToldChunk.{ToldChunk}
 use Rattle.client_state.specs.declared.call.Stage.{Stage}
@@ -198,7 +198,7 @@ module _ (config : Config) (servers clients : ℕ) (w : WorldState) (r : IsReach
     same : Left s []
     same = ((λ c is. stands_on w.sent (stamped (suc (length w.sent)) []) (suc index) None c c.stage (fits c is)), tt)
 
-    pub step_left : (i : Input) (choice : Choice) → IsCameIn (Came w.sent (suc index)) i → Left (client_step s moment i choice).state (client_step s moment i choice).out.sent
+    pub step_left : (i : NodeInput) (choice : Choice) → IsCameIn (Came w.sent (suc index)) i → Left (client_step s moment i choice).state (client_step s moment i choice).out.sent
     step_left i choice came =
         stepped Left s moment i choice (leaving_left (client_does (client_begins (client_at s moment)) i s.current) (step_leaves w.sent (suc index) (client_at s moment) fits i came)) stopped same
 

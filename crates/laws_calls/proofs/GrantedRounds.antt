@@ -3,7 +3,7 @@ use Rattle.std.proofs.Common.{◌≡◌, ℕ, ◌≤◌, ◌<◌, true, false, L
 use Rattle.std.specs.Prelude.{◌==◌, ◌&&◌}
 use Rattle.std.proofs.lemmas.Bool.{and_parts, and_from, eqb-true}
 use Rattle.gfs_types.specs.declared.config.Config.{Config}
-use Rattle.messages.specs.declared.event.Input.{Input}
+use Rattle.messages.specs.declared.event.NodeInput.{NodeInput}
 use Rattle.messages.specs.declared.message.Body.{Body}
 use Rattle.messages.specs.declared.message.Body.TheVariants as body
 use Rattle.messages.specs.declared.message.Message.{Message}
@@ -86,7 +86,7 @@ ends_one m d choice Goes h = all_in_order (λ (x : Message). IsFromOne x.body) c
 ends_one m d choice Lost h = tt
 ends_one m d choice (Stops made) h = tt
 
-step_one : (m : MasterState) (moment : ℕ) (i : Input) (choice : Choice) → IsLogged IsFoundRows IsRowedLog rows_kept m → AreFromOne (master_step m moment i choice).out.sent
+step_one : (m : MasterState) (moment : ℕ) (i : NodeInput) (choice : Choice) → IsLogged IsFoundRows IsRowedLog rows_kept m → AreFromOne (master_step m moment i choice).out.sent
 step_one m moment i choice logged =
     let d : MasterDoing = master_goes m moment i choice.refused in
     let good : Taken MasterState → Type 0 = λ t. AreFromOne t.out.sent in

@@ -16,7 +16,7 @@ use Rattle.messages.specs.declared.message.Body.TheVariants as body
 use Rattle.messages.specs.declared.message.Message.{Message}
 use Rattle.messages.specs.declared.message.Location.{Location}
 use Rattle.messages.specs.declared.message.Holder.{Holder}
-use Rattle.messages.specs.declared.event.Input.{Input}
+use Rattle.messages.specs.declared.event.NodeInput.{NodeInput}
 use Rattle.client_state.specs.declared.call.CurrentCall.{CurrentCall}
 use Rattle.client_state.specs.declared.call.ToldChunk.{ToldChunk}
 use Rattle.client_state.specs.declared.call.Stage.{Stage}
@@ -176,7 +176,7 @@ module _ (sent : List Message) (k client : ℕ) (s : ClientState) where
           filed = λ c file index last is. (refl, refl, knows.keyed);
         }
 
-    pub steps_here : (Came : Body → Type 0) (i : Input) → IsCameIn Came i → After (client_does (client_begins s) i s.current)
+    pub steps_here : (Came : Body → Type 0) (i : NodeInput) → IsCameIn Came i → After (client_does (client_begins s) i s.current)
     steps_here Came i came = step_kept s Came Hand Hand Used Left After (kept Came) i s.current refl came (λ c is. at_stage c c.stage) begun
 
     pub calls_here : (Came : Body → Type 0) (c : Call) → After (calls (client_begins s) c)

@@ -16,8 +16,8 @@ use Rattle.gfs_types.specs.declared.answer.Answer.TheVariants as answer
 use Rattle.gfs_types.specs.declared.refusal.Refusal.TheVariants.{NoMemory}
 use Rattle.messages.specs.declared.event.Event.{Event}
 use Rattle.messages.specs.declared.event.Event.TheVariants as event
-use Rattle.messages.specs.declared.event.Input.{Input}
-use Rattle.messages.specs.declared.event.Input.TheVariants as input
+use Rattle.messages.specs.declared.event.NodeInput.{NodeInput}
+use Rattle.messages.specs.declared.event.NodeInput.TheVariants as input
 use Rattle.messages.specs.declared.message.Body.{Body}
 use Rattle.messages.specs.declared.message.Body.TheVariants as body
 use Rattle.messages.specs.declared.message.Message.{Message}
@@ -440,7 +440,7 @@ module _ (config : Config) (index : ℕ) where
         subst (λ (x : DataId). WasAnswered w.sent x) (sym same) (record { server = from.0; answer = m; sent_is = among; sender_is = from.1; answers = inl (place, is) })
     answers_so m among to other is = tt
 
-    came_as : (e : Event) (i : Input) → IsGiven w e (the_client (suc index)) moment i → IsCameIn (CameAs w.sent s.id) i
+    came_as : (e : Event) (i : NodeInput) → IsGiven w e (the_client (suc index)) moment i → IsCameIn (CameAs w.sent s.id) i
     came_as e (input.Deliver m) is = answers_so m (came_to w e (the_client (suc index)) moment (input.Deliver m) is m refl) (given_to e m is) m.body refl
       where
         given_to : (e : Event) (m : Message) → IsGiven w e (the_client (suc index)) moment (input.Deliver m) → m.receiver ≡ the_client (suc index)
@@ -452,7 +452,7 @@ module _ (config : Config) (index : ℕ) where
         given_to (event.Fuse n count torn) m is = absurd is
     came_as e input.Tick is = tt
 
-    goes_left : (i : Input) → IsCameIn (CameAs w.sent s.id) i → Left (client_ends s (client_goes s moment i) Goes)
+    goes_left : (i : NodeInput) → IsCameIn (CameAs w.sent s.id) i → Left (client_ends s (client_goes s moment i) Goes)
     goes_left i came =
         elim (step_leaves G config w.sent (max w.observer.greatest moment) (client_at s moment) config_then known_then once used i came
         (to_now G config w.sent (max w.observer.greatest moment) s.id (client_at s moment).now (client_at s moment) s.current begun)) [
@@ -467,7 +467,7 @@ module _ (config : Config) (index : ℕ) where
         by_current None is some = absurd (true≢false (sym some ∙ ap (λ (o : Option CurrentCall). is_some (client_does (client_begins (client_at s moment)) i o).client.current) is ∙ ap is_some is))
         by_current (Some c) is some = ap is_some is
 
-    step_left : (e : Event) (i : Input) (choice : Choice) → IsGiven w e (the_client (suc index)) moment i → Left (client_step s moment i choice)
+    step_left : (e : Event) (i : NodeInput) (choice : Choice) → IsGiven w e (the_client (suc index)) moment i → Left (client_step s moment i choice)
     step_left e i choice is =
         on_cond Left (may_step s) (client_ends s (client_goes s moment i) choice.ending) (no_step s) (λ _. down_left (client_goes s moment i) choice.ending (goes_left i (came_as e i is))) (λ _. quiet_left (no_step s) same_left)
 
@@ -582,7 +582,7 @@ module _ (config : Config) (index : ℕ) where
     there_before : (t u : ClientState) → element_at (with_at w.clients other t) index ≡ Some u → element_at w.clients index ≡ Some u
     there_before t u is = elim (set_cases w.clients other t index u is) [ inl both ↦ absurd (apart (sym both.0)) | inr there ↦ there ]
 
-    other_steps : (i : Input) (choice : Choice) → IsOn T G (after_client w other moment (client_step s moment i choice)).world
+    other_steps : (i : NodeInput) (choice : Choice) → IsOn T G (after_client w other moment (client_step s moment i choice)).world
     other_steps i choice =
         let t : Taken ClientState = client_step s moment i choice in
         let o : Observer = observed_moment w.config.skew_ms w.observer moment in
@@ -616,7 +616,7 @@ module _ (config : Config) (index : ℕ) where
     all_more : (x : Happened) → IsOn T G x.world → After_ x
     all_more x g = on_more T (Next w x T) (λ made part n t. inl t) G (NextFor w x G) (λ file chunk seq i. inl i) x.world g
 
-    on_steps : (e : Event) (other moment : ℕ) (s : ClientState) (i : Input) (choice : Choice) → element_at w.clients other ≡ Some s → IsGiven w e (the_client (suc other)) moment i → IsTrue s.up → After_ (after_client w other moment (client_step s moment i choice))
+    on_steps : (e : Event) (other moment : ℕ) (s : ClientState) (i : NodeInput) (choice : Choice) → element_at w.clients other ≡ Some s → IsGiven w e (the_client (suc other)) moment i → IsTrue s.up → After_ (after_client w other moment (client_step s moment i choice))
     on_steps e other moment s i choice at is up =
         elim (same_or_not index other) [
           | inl same ↦ subst (λ (n : ℕ). After_ (after_client w n moment (client_step s moment i choice))) same

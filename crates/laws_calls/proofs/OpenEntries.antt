@@ -11,8 +11,8 @@ use Rattle.gfs_types.specs.declared.ids.Handle.{Handle}
 use Rattle.gfs_types.specs.declared.ids.Version.{Version}
 use Rattle.gfs_types.specs.declared.ids.Moment.{Moment}
 use Rattle.messages.specs.declared.event.Event.{Event}
-use Rattle.messages.specs.declared.event.Input.{Input}
-use Rattle.messages.specs.declared.event.Input.TheVariants as input
+use Rattle.messages.specs.declared.event.NodeInput.{NodeInput}
+use Rattle.messages.specs.declared.event.NodeInput.TheVariants as input
 use Rattle.messages.specs.declared.message.Message.{Message}
 use Rattle.client_state.specs.declared.call.ToldChunk.{ToldChunk}
 use Rattle.primary_order.specs.declared.order.SerialOrder.{SerialOrder}
@@ -71,7 +71,7 @@ config_stays config =
 spent_granted : (P : SerialOrder → Type 0) (handle version : ℕ) (w : WorldState) → IsSpent P handle version w → 1 ≤ grants_of handle version w.sent
 spent_granted P handle version w h = counted_one (λ m. is_grant handle version m.body) w.sent h.grant h.place h.at (granting h.order handle version h.end_moment h.members (h.grant).body h.is)
 
-module _ (config : Config) (servers clients : ℕ) (w : WorldState) (r : IsReached config servers clients w) (settings : w.config ≡ config) (server moment : ℕ) (s : ServerState) (i : Input) (choice : Choice) (handle : Handle) (version : Version) (id : DataId)
+module _ (config : Config) (servers clients : ℕ) (w : WorldState) (r : IsReached config servers clients w) (settings : w.config ≡ config) (server moment : ℕ) (s : ServerState) (i : NodeInput) (choice : Choice) (handle : Handle) (version : Version) (id : DataId)
     (numbers : Numbers w server moment s i choice handle version id) (kept : IsTrue (observed_moment config.skew_ms w.observer moment).are_clocks_kept) where
   law : (m : Message) × (i ≡ input.Deliver m) × IsInTime s moment config.skew_ms (observed_moment config.skew_ms w.observer moment) m handle version id
   law = attempts_are_placed_before_their_deadline config servers clients w r server moment s i choice handle version id numbers

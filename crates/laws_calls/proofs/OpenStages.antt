@@ -16,7 +16,7 @@ use Rattle.messages.specs.declared.message.Body.{Body}
 use Rattle.messages.specs.declared.message.Body.TheVariants as body
 use Rattle.messages.specs.declared.message.Message.{Message}
 use Rattle.messages.specs.declared.message.Group.{Group}
-use Rattle.messages.specs.declared.event.Input.{Input}
+use Rattle.messages.specs.declared.event.NodeInput.{NodeInput}
 use Rattle.client_state.specs.declared.call.CurrentCall.{CurrentCall}
 use Rattle.client_state.specs.declared.call.LiveAttempt.{LiveAttempt}
 use Rattle.client_state.specs.declared.call.Stage.TheVariants.{SentData}
@@ -404,7 +404,7 @@ module _ (G : ℕ → ToldChunk → ℕ → Type 0) (config : Config) (sent : Li
   abbrev pub Standing : Option Message → Option Answer → Option CurrentCall → Type 0
   Standing o a c = StandsNow s AnyUsed Open (λ o c chunk number. HasData config sent greatest s.id o c chunk number) UnderWay AnyReply (λ reply. AllOver G config sent greatest s.id) (AllOver G config sent greatest s.id) o a c
 
-  pub step_leaves : (i : Input) → IsCameIn (CameAs sent s.id) i → Standing None None s.current → Leaving (client_does (client_begins s) i s.current)
+  pub step_leaves : (i : NodeInput) → IsCameIn (CameAs sent s.id) i → Standing None None s.current → Leaving (client_does (client_begins s) i s.current)
   step_leaves i came h =
       does_leave s (CameAs sent s.id) AnyKept AnyUsed Open (λ o c chunk number. HasData config sent greatest s.id o c chunk number) UnderWay (λ c chunk place. Open c) AnyReply (λ reply. AllOver G config sent greatest s.id) (AllOver G config sent greatest s.id) open_keeps open_ends i s.current refl came h
       (begun_calm s (CameAs sent s.id) AnyKept AnyUsed Open (λ o c chunk number. HasData config sent greatest s.id o c chunk number) UnderWay (λ c chunk place. Open c) AnyReply (λ reply. AllOver G config sent greatest s.id) (AllOver G config sent greatest s.id) open_keeps open_ends h)

@@ -12,7 +12,7 @@ use Rattle.messages.specs.declared.message.Body.TheVariants as body
 use Rattle.messages.specs.declared.message.Message.{Message}
 use Rattle.messages.specs.declared.message.Wanted.TheVariants as wanted
 use Rattle.messages.specs.declared.message.Target.TheVariants as target
-use Rattle.messages.specs.declared.event.Input.{Input}
+use Rattle.messages.specs.declared.event.NodeInput.{NodeInput}
 use Rattle.client_state.specs.declared.call.CurrentCall.{CurrentCall}
 use Rattle.client_state.specs.declared.call.ToldChunk.{ToldChunk}
 use Rattle.client_state.specs.declared.call.Stage.{Stage}
@@ -203,7 +203,7 @@ module _ (sent : List Message) (client : ℕ) (s : ClientState) where
     begun : Calm (client_begins s)
     begun = begun_calm s (Came sent client) AnyKept AnyUsed (IsFit sent client) AnyData (IsWay sent client) (λ c chunk place. IsFit sent client c) AnyReply AnyEnd (Unit {0}) past_keeps (λ c reply h f none. tt) (stands_now s.current fits)
 
-    pub step_leaves : (i : Input) → IsCameIn (Came sent client) i → Leaving (client_does (client_begins s) i s.current)
+    pub step_leaves : (i : NodeInput) → IsCameIn (Came sent client) i → Leaving (client_does (client_begins s) i s.current)
     step_leaves i came =
         does_leave s (Came sent client) AnyKept AnyUsed (IsFit sent client) AnyData (IsWay sent client) (λ c chunk place. IsFit sent client c) AnyReply AnyEnd (Unit {0}) past_keeps (λ c reply h f none. tt) i s.current refl came (stands_now s.current fits) begun
 

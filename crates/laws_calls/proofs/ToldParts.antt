@@ -21,7 +21,7 @@ use Rattle.messages.specs.declared.message.Body.TheVariants as body
 use Rattle.messages.specs.declared.message.Message.{Message}
 use Rattle.messages.specs.declared.message.Group.{Group}
 use Rattle.messages.specs.declared.message.Target.{Target}
-use Rattle.messages.specs.declared.event.Input.{Input}
+use Rattle.messages.specs.declared.event.NodeInput.{NodeInput}
 use Rattle.client_state.specs.declared.call.CurrentCall.{CurrentCall}
 use Rattle.client_state.specs.declared.call.ToldChunk.{ToldChunk}
 use Rattle.client_state.specs.declared.call.Stage.TheVariants.{SentData}
@@ -378,7 +378,7 @@ module _ (sent : List Message) (size file : ℕ) (A : Call) (s : ClientState) (s
   abbrev pub Leaving : ClientDoing → Type 0
   Leaving d = Leaves s AnyUsed (IsBetween sent s.id size file A s.number) (HasData sent s.id size file A) (IsUnderWay sent s.id size file A) (FineReply sent s.id size file A) (λ reply. FineReply sent s.id size file A A reply) (Unit {0}) d
 
-  pub step_leaves : (i : Input) → IsCameIn (CameAs sent s.id size file A) i → (c : CurrentCall) → s.current ≡ Some c
+  pub step_leaves : (i : NodeInput) → IsCameIn (CameAs sent s.id size file A) i → (c : CurrentCall) → s.current ≡ Some c
       → StandsAt AnyUsed (IsBetween sent s.id size file A s.number) (HasData sent s.id size file A) (IsUnderWay sent s.id size file A) (FineReply sent s.id size file A) None c c.stage → Leaving (client_does (client_begins s) i (Some c))
   step_leaves i came c now h =
       does_leave s (CameAs sent s.id size file A) AnyKept AnyUsed (IsBetween sent s.id size file A s.number) (HasData sent s.id size file A) (IsUnderWay sent s.id size file A) (IsPlaced sent s.id size file A s.number) (FineReply sent s.id size file A) (λ reply. FineReply sent s.id size file A A reply) (Unit {0}) told_keeps told_ends i

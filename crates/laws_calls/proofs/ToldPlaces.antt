@@ -4,7 +4,7 @@ use Rattle.std.specs.Prelude.{unwrap_or, IsTrue}
 use Rattle.std.specs.FinMap as table
 use Rattle.gfs_types.specs.declared.config.Config.{Config}
 use Rattle.messages.specs.declared.event.Event.{Event}
-use Rattle.messages.specs.declared.event.Input.{Input}
+use Rattle.messages.specs.declared.event.NodeInput.{NodeInput}
 use Rattle.messages.specs.declared.message.Body.{Body}
 use Rattle.messages.specs.declared.message.Body.TheVariants as body
 use Rattle.messages.specs.declared.message.Message.{Message}
@@ -207,7 +207,7 @@ module _ (config : Config) (servers clients file index first version : ℕ) wher
     base : IsOfWaits w.sent w.master
     base = sent_reached IsOfWaits waits_kept config servers clients w r
 
-    kind : (moment : ℕ) (i : Input) (choice : Choice) → IsTrue w.master.up → AllOf IsNoGrant (master_goes w.master moment i choice.refused).changes ⊎ AllOf IsNoStart (master_goes w.master moment i choice.refused).changes
+    kind : (moment : ℕ) (i : NodeInput) (choice : Choice) → IsTrue w.master.up → AllOf IsNoGrant (master_goes w.master moment i choice.refused).changes ⊎ AllOf IsNoStart (master_goes w.master moment i choice.refused).changes
     kind moment i choice up =
         elim (asked_or_not i) [
           | inl none ↦ inr (unasked_step config servers clients w r clocks up (free_reached config servers clients w r clocks up) moment i choice.refused none).changes

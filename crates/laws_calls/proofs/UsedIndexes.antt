@@ -17,8 +17,8 @@ use Rattle.messages.specs.declared.message.Message.{Message}
 use Rattle.messages.specs.declared.message.Location.{Location}
 use Rattle.messages.specs.declared.event.Event.{Event}
 use Rattle.messages.specs.declared.event.Event.TheVariants as event
-use Rattle.messages.specs.declared.event.Input.{Input}
-use Rattle.messages.specs.declared.event.Input.TheVariants as input
+use Rattle.messages.specs.declared.event.NodeInput.{NodeInput}
+use Rattle.messages.specs.declared.event.NodeInput.TheVariants as input
 use Rattle.client_state.specs.declared.call.CurrentCall.{CurrentCall}
 use Rattle.client_state.specs.declared.call.ToldChunk.{ToldChunk}
 use Rattle.client_state.specs.declared.call.Stage.{Stage}
@@ -96,7 +96,7 @@ of_part (call.Read fd offset count) index at to same h = same ∙ h
 of_part other index at to same h = tt
 
 -- what comes in to a client was sent to it
-pub came_in : (w : WorldState) (e : Event) (client moment : ℕ) (i : Input) → IsGiven w e (the_client client) moment i → IsCameIn (Came w.sent client) i
+pub came_in : (w : WorldState) (e : Event) (client moment : ℕ) (i : NodeInput) → IsGiven w e (the_client client) moment i → IsCameIn (Came w.sent client) i
 came_in w (event.Deliver number now) client moment (input.Deliver m) is = (m, (number - 1, element_numbered w.sent number m is.0), is.1, refl)
 came_in w (event.Call c asked now) client moment (input.Deliver m) is = absurd is
 came_in w (event.Tick to now) client moment (input.Deliver m) is = absurd is
@@ -163,7 +163,7 @@ module _ (config : Config) (servers clients : ℕ) (w : WorldState) (r : IsReach
     begun : Calm (client_begins (client_at s moment))
     begun = begun_calm (client_at s moment) (Came w.sent (suc index)) IsKeyed Fits AnyCall Pushed Asking AnyPlace AnyReply AnyEnd (Unit {0}) keeps (λ c reply h f none. tt) (stands_now s.current fitting)
 
-    leaves : (i : Input) → IsCameIn (Came w.sent (suc index)) i → Leaves (client_at s moment) Fits AnyCall Pushed Asking AnyReply AnyEnd (Unit {0}) (client_does (client_begins (client_at s moment)) i s.current)
+    leaves : (i : NodeInput) → IsCameIn (Came w.sent (suc index)) i → Leaves (client_at s moment) Fits AnyCall Pushed Asking AnyReply AnyEnd (Unit {0}) (client_does (client_begins (client_at s moment)) i s.current)
     leaves i came =
         does_leave (client_at s moment) (Came w.sent (suc index)) IsKeyed Fits AnyCall Pushed Asking AnyPlace AnyReply AnyEnd (Unit {0}) keeps (λ c reply h f none. tt) i s.current refl came (stands_now s.current fitting) begun
 
@@ -172,7 +172,7 @@ module _ (config : Config) (servers clients : ℕ) (w : WorldState) (r : IsReach
     left_fits d (inr g) c is =
         subst (λ (x : CurrentCall). StandsAt Fits AnyCall Pushed Asking AnyReply None x x.stage) (same_some (record g.current { stage = SentMutate g.chunk g.number }) c (sym (ap (λ (x : ClientDoing). x.client.current) g.is) ∙ is)) (g.mutates, g.pushed)
 
-    step_fits : (i : Input) (choice : Choice) → IsCameIn (Came w.sent (suc index)) i → IsFitting (client_step s moment i choice).state
+    step_fits : (i : NodeInput) (choice : Choice) → IsCameIn (Came w.sent (suc index)) i → IsFitting (client_step s moment i choice).state
     step_fits i choice came = stepped (λ t ms. IsFitting t) s moment i choice (left_fits (client_does (client_begins (client_at s moment)) i s.current) (leaves i came)) (λ c is. none_some c is) fitting
 
     planned : (d : ClientDoing) (o : Option Message) → d.sent ≡ o → Leaves (client_at s moment) Fits AnyCall Pushed Asking AnyReply AnyEnd (Unit {0}) d → AllOf (MayAsk s) (option_to_list o)
@@ -191,7 +191,7 @@ module _ (config : Config) (servers clients : ℕ) (w : WorldState) (r : IsReach
     )
 
     -- a Mutate that it sends is for the part in hand
-    pub step_asks : (i : Input) (choice : Choice) → IsCameIn (Came w.sent (suc index)) i → AllOf (MayAsk s) (client_step s moment i choice).out.sent
+    pub step_asks : (i : NodeInput) (choice : Choice) → IsCameIn (Came w.sent (suc index)) i → AllOf (MayAsk s) (client_step s moment i choice).out.sent
     step_asks i choice came =
         stepped (λ t ms. AllOf (MayAsk s) ms) s moment i choice
         (planned (client_does (client_begins (client_at s moment)) i s.current) (client_does (client_begins (client_at s moment)) i s.current).sent refl (leaves i came)) tt tt

@@ -5,8 +5,8 @@ use Rattle.gfs_types.specs.declared.ids.Fd.{Fd}
 use Rattle.gfs_types.specs.declared.call.Call.TheVariants as call
 use Rattle.gfs_types.specs.declared.answer.Answer.TheVariants as answer
 use Rattle.gfs_types.specs.declared.mutation.Mutation.TheVariants as mutation
-use Rattle.messages.specs.declared.event.Input.{Input}
-use Rattle.messages.specs.declared.event.Input.TheVariants as input
+use Rattle.messages.specs.declared.event.NodeInput.{NodeInput}
+use Rattle.messages.specs.declared.event.NodeInput.TheVariants as input
 use Rattle.messages.specs.declared.message.Message.{Message}
 use Rattle.messages.specs.declared.message.Location.{Location}
 use Rattle.client_state.specs.declared.call.CurrentCall.{CurrentCall}
@@ -21,7 +21,7 @@ use Rattle.laws_steps.specs.Reads.{IsTold}
 use Rattle.laws_entries.specs.SettledEntries.{HasSettledEntry}
 
 -- In a step, on a message that was sent or a tick, a client answers Done to its open call.
-pub record AnswersDone (w : WorldState) (index moment : ℕ) (s : ClientState) (i : Input) (choice : Choice) : Type 0 where
+pub record AnswersDone (w : WorldState) (index moment : ℕ) (s : ClientState) (i : NodeInput) (choice : Choice) : Type 0 where
   pub is : element_at w.clients index ≡ Some s
   pub came : (m : Message) → i ≡ input.Deliver m → (place : ℕ) × (element_at w.sent place ≡ Some m)
   pub current : CurrentCall
@@ -48,7 +48,7 @@ pub record IsPartPlaced (w : WorldState) (size client file offset : ℕ) (bytes 
 abbrev pub AnsweredWritesHaveTheirBytes : Type 0
 AnsweredWritesHaveTheirBytes =
     (config : Config) (servers clients : ℕ) (w : WorldState) → IsReached config servers clients w
-    → (index moment : ℕ) (s : ClientState) (i : Input) (choice : Choice) (a : AnswersDone w index moment s i choice) (fd : Fd) (offset : ℕ) (bytes : List ℕ) → a.current.asked ≡ call.Write fd offset bytes
+    → (index moment : ℕ) (s : ClientState) (i : NodeInput) (choice : Choice) (a : AnswersDone w index moment s i choice) (fd : Fd) (offset : ℕ) (bytes : List ℕ) → a.current.asked ≡ call.Write fd offset bytes
     → (numbers : ℕ → ℕ)
     × ((part : ℕ) → IsTrue (has_part config.chunk offset (length bytes) part) → IsPartPlaced w config.chunk (suc index) a.current.file.0 offset bytes part (numbers part))
     × ((part later : ℕ) → part < later → IsTrue (has_part config.chunk offset (length bytes) part) → IsTrue (has_part config.chunk offset (length bytes) later) → numbers part < numbers later)

@@ -6,7 +6,7 @@ use Rattle.gfs_types.specs.declared.ids.Handle.{Handle}
 use Rattle.gfs_types.specs.declared.ids.Version.{Version}
 use Rattle.gfs_types.specs.declared.mutation.Mutation.TheVariants.{Append}
 use Rattle.messages.specs.declared.event.Event.{Event}
-use Rattle.messages.specs.declared.event.Input.{Input}
+use Rattle.messages.specs.declared.event.NodeInput.{NodeInput}
 use Rattle.relaxed_file.specs.Order.{CallId}
 use Rattle.protocol.specs.Tables.{element_at}
 use Rattle.protocol.specs.Choice.{Choice}
@@ -46,7 +46,7 @@ EntriesAreOfFew =
 -- Where clocks are kept, a mutation that is no pad is numbered for a part of its client's last call of which fewer numbers have an entry that is no pad, in all orders together, than the client has attempts (section 3.3).
 abbrev pub PlacingsAreOfFewEntries : Type 0
 PlacingsAreOfFewEntries =
-    (config : Config) (servers clients : ℕ) (steps : List (Event × Choice)) (server moment : ℕ) (s : ServerState) (i : Input) (choice : Choice) (handle : Handle) (version : Version) (id : DataId)
+    (config : Config) (servers clients : ℕ) (steps : List (Event × Choice)) (server moment : ℕ) (s : ServerState) (i : NodeInput) (choice : Choice) (handle : Handle) (version : Version) (id : DataId)
     → (n : Numbers (after_events (new_world config servers clients) steps) server moment s i choice handle version id) → (IsPad n.placed → ⊥)
     → IsTrue (observed_moment config.skew_ms (after_events (new_world config servers clients) steps).observer moment).are_clocks_kept
     → (index : ℕ) → id.client.0 ≡ suc index
@@ -75,7 +75,7 @@ CallsHaveFewRecords =
 -- Where clocks are kept, as a record is numbered, fewer numbers of its client's last call have a record, in all orders together, than the client has attempts (section 3.3).
 abbrev pub RecordsArePlacedAsFew : Type 0
 RecordsArePlacedAsFew =
-    (config : Config) (servers clients : ℕ) (steps : List (Event × Choice)) (server moment : ℕ) (s : ServerState) (i : Input) (choice : Choice) (handle : Handle) (version : Version) (id : DataId)
+    (config : Config) (servers clients : ℕ) (steps : List (Event × Choice)) (server moment : ℕ) (s : ServerState) (i : NodeInput) (choice : Choice) (handle : Handle) (version : Version) (id : DataId)
     → (n : Numbers (after_events (new_world config servers clients) steps) server moment s i choice handle version id) → (offset : ℕ) (bytes : List ℕ) → n.placed ≡ Append offset bytes
     → IsTrue (observed_moment config.skew_ms (after_events (new_world config servers clients) steps).observer moment).are_clocks_kept
     → (index : ℕ) → id.client.0 ≡ suc index

@@ -5,7 +5,7 @@ use Rattle.gfs_types.specs.declared.ids.DataId.{DataId}
 use Rattle.gfs_types.specs.declared.ids.Handle.{Handle}
 use Rattle.gfs_types.specs.declared.ids.Version.{Version}
 use Rattle.messages.specs.declared.event.Event.{Event}
-use Rattle.messages.specs.declared.event.Input.{Input}
+use Rattle.messages.specs.declared.event.NodeInput.{NodeInput}
 use Rattle.protocol.specs.Tables.{element_at}
 use Rattle.protocol.specs.Choice.{Choice}
 use Rattle.protocol.specs.Observer.{Placed, order_of, observed_moment}
@@ -18,7 +18,7 @@ use Rattle.laws_calls.specs.OpenAttempts.{IsOfOpenCall}
 -- Where clocks are kept, a mutation is numbered only for the open call of its client (sections 3.1 and 3.3).
 abbrev pub EntriesAreOfOpenCalls : Type 0
 EntriesAreOfOpenCalls =
-    (config : Config) (servers clients : ℕ) (steps : List (Event × Choice)) (server moment : ℕ) (s : ServerState) (i : Input) (choice : Choice) (handle : Handle) (version : Version) (id : DataId)
+    (config : Config) (servers clients : ℕ) (steps : List (Event × Choice)) (server moment : ℕ) (s : ServerState) (i : NodeInput) (choice : Choice) (handle : Handle) (version : Version) (id : DataId)
     → Numbers (after_events (new_world config servers clients) steps) server moment s i choice handle version id
     → IsTrue (observed_moment config.skew_ms (after_events (new_world config servers clients) steps).observer moment).are_clocks_kept
     → (index : ℕ) → id.client.0 ≡ suc index

@@ -11,8 +11,8 @@ use Rattle.gfs_types.specs.declared.ids.Node.{Node}
 use Rattle.gfs_types.specs.declared.ids.Node.TheVariants as node
 use Rattle.messages.specs.declared.event.Event.{Event}
 use Rattle.messages.specs.declared.event.Event.TheVariants as event
-use Rattle.messages.specs.declared.event.Input.{Input}
-use Rattle.messages.specs.declared.event.Input.TheVariants as input
+use Rattle.messages.specs.declared.event.NodeInput.{NodeInput}
+use Rattle.messages.specs.declared.event.NodeInput.TheVariants as input
 use Rattle.messages.specs.declared.message.Message.{Message}
 use Rattle.replica_store.specs.Replicas.{Replica, replica_of}
 use Rattle.protocol.specs.Tables.{element_at, with_at, moment_limit}
@@ -110,7 +110,7 @@ After w client n taken h = CountsIfUp (numbered_from_1 w.clients client) (number
 nothing : (w : WorldState) (client : ℕ) (n : Node) (taken : Bool) → taken ≡ false → After w client n taken (nothing_happens w)
 nothing w client n taken none = still _ _ _ _ refl (no_answer client n) none
 
-client_moved : (w : WorldState) (client : ℕ) (c : ClientId) (moment : ℕ) (i : Input) (choice : Choice) (o : Option ClientState) → numbered_from_1 w.clients c.0 ≡ o
+client_moved : (w : WorldState) (client : ℕ) (c : ClientId) (moment : ℕ) (i : NodeInput) (choice : Choice) (o : Option ClientState) → numbered_from_1 w.clients c.0 ≡ o
     → After w client (node.Client c) false (client_moves w (c.0 - 1) moment i choice o)
 client_moved w client c moment i choice None e = nothing w client (node.Client c) false refl
 client_moved w client c moment i choice (Some s) e =
@@ -119,12 +119,12 @@ client_moved w client c moment i choice (Some s) e =
     (moved w.clients c client s (client_step s moment i choice).state (client_step s moment i choice).out.answer false e (step_counts s moment i choice)))
     (λ _. nothing w client (node.Client c) false refl)
 
-server_moved : (w : WorldState) (client : ℕ) (server : ServerId) (moment : ℕ) (i : Input) (choice : Choice) (o : Option ServerState) → After w client (node.Server server) false (server_moves w (server.0 - 1) moment i choice o)
+server_moved : (w : WorldState) (client : ℕ) (server : ServerId) (moment : ℕ) (i : NodeInput) (choice : Choice) (o : Option ServerState) → After w client (node.Server server) false (server_moves w (server.0 - 1) moment i choice o)
 server_moved w client server moment i choice None = same _
 server_moved w client server moment i choice (Some s) =
     on_cond (After w client (node.Server server) false) s.up (after_server w (server.0 - 1) moment (server_step s moment i choice)) (nothing_happens w) (λ _. same _) (λ _. same _)
 
-moves_counted : (w : WorldState) (client : ℕ) (n : Node) (moment : ℕ) (i : Input) (choice : Choice) → After w client n false (moves w n moment i choice)
+moves_counted : (w : WorldState) (client : ℕ) (n : Node) (moment : ℕ) (i : NodeInput) (choice : Choice) → After w client n false (moves w n moment i choice)
 moves_counted w client node.Master moment i choice =
     on_cond (After w client node.Master false) w.master.up (after_master w moment (master_step w.master moment i choice)) (nothing_happens w) (λ _. same _) (λ _. same _)
 moves_counted w client (node.Server server) moment i choice = server_moved w client server moment i choice (numbered_from_1 w.servers server.0)

@@ -6,7 +6,7 @@ use Rattle.gfs_types.specs.declared.call.Call.{Call}
 use Rattle.gfs_types.specs.declared.answer.Answer.{Answer}
 use Rattle.gfs_types.specs.declared.answer.Answer.TheVariants as answer
 use Rattle.gfs_types.specs.declared.refusal.Refusal.TheVariants.{NoMemory}
-use Rattle.messages.specs.declared.event.Input.{Input}
+use Rattle.messages.specs.declared.event.NodeInput.{NodeInput}
 use Rattle.client_state.specs.declared.call.CurrentCall.{CurrentCall}
 use Rattle.protocol.specs.Choice.{Choice, Ending, Goes, Lost, Stops}
 use Rattle.protocol.specs.Seen.{Taken, no_step}
@@ -38,7 +38,7 @@ ended_so s d taken (Stops made) up sums now = absurd (true≢false (sym now))
 plus_none : (n : ℕ) → n ≡ n + one_if false
 plus_none n = omega arith
 
-pub step_counts : (s : ClientState) (moment : ℕ) (i : Input) (choice : Choice) → CountsSo s false (client_step s moment i choice)
+pub step_counts : (s : ClientState) (moment : ℕ) (i : NodeInput) (choice : Choice) → CountsSo s false (client_step s moment i choice)
 step_counts s moment i choice =
     on_cond (CountsSo s false) (may_step s) (client_ends s (client_goes s moment i) choice.ending) (no_step s)
     (λ up. ended_so s (client_goes s moment i) false choice.ending up (step_one (client_at s moment) i s.current refl ∙ plus_none (one_if (is_some s.current))))

@@ -19,8 +19,8 @@ use Rattle.messages.specs.declared.message.Body.TheVariants as body
 use Rattle.messages.specs.declared.message.Message.{Message}
 use Rattle.messages.specs.declared.message.Location.{Location}
 use Rattle.messages.specs.declared.message.Holder.{Holder}
-use Rattle.messages.specs.declared.event.Input.{Input}
-use Rattle.messages.specs.declared.event.Input.TheVariants as input
+use Rattle.messages.specs.declared.event.NodeInput.{NodeInput}
+use Rattle.messages.specs.declared.event.NodeInput.TheVariants as input
 use Rattle.relaxed_file.specs.NameStep.{is_name_call}
 use Rattle.relaxed_file.specs.Parts.{is_range_too_long}
 use Rattle.protocol.specs.Tables.{is_empty_list}
@@ -228,12 +228,12 @@ ticks_one d c (SentData chunk primary number) h p = ticks_unanswered_one d c (λ
 ticks_one d c (SentMutate chunk number) h p = ticks_unanswered_one d c (λ e. forgets e c chunk) h p
 ticks_one d c (SentRead chunk left number) h p = ticks_unanswered_one d c (λ e. forgets e c chunk) h p
 
-does_one : (d : ClientDoing) (i : Input) (c : CurrentCall) → Unanswered d → One d → One (client_does d i (Some c))
+does_one : (d : ClientDoing) (i : NodeInput) (c : CurrentCall) → Unanswered d → One d → One (client_does d i (Some c))
 does_one d (input.Deliver m) c h p = takes_at_one d c m c.stage h p
 does_one d input.Tick c h p = ticks_one d c c.stage h p
 
 -- an open call stays open or is answered, and without one nothing is answered
-pub step_one : (s : ClientState) (i : Input) (o : Option CurrentCall) → s.current ≡ o
+pub step_one : (s : ClientState) (i : NodeInput) (o : Option CurrentCall) → s.current ≡ o
     → one_if (is_some (client_does (client_begins s) i o).client.current) + one_if (is_some (client_does (client_begins s) i o).answer) ≡ one_if (is_some o)
 step_one s i None e = ap (λ (o : Option CurrentCall). one_if (is_some o) + 0) e
 step_one s i (Some c) e = does_one (client_begins s) i c refl (ap (λ (o : Option CurrentCall). one_if (is_some o) + 0) e)

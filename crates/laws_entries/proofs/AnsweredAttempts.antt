@@ -13,8 +13,8 @@ use Rattle.gfs_types.specs.declared.ids.Version.{Version}
 use Rattle.gfs_types.specs.declared.ids.Moment.{Moment}
 use Rattle.gfs_types.specs.declared.ids.OrderNo.{OrderNo}
 use Rattle.messages.specs.declared.event.Event.{Event}
-use Rattle.messages.specs.declared.event.Input.{Input}
-use Rattle.messages.specs.declared.event.Input.TheVariants as input
+use Rattle.messages.specs.declared.event.NodeInput.{NodeInput}
+use Rattle.messages.specs.declared.event.NodeInput.TheVariants as input
 use Rattle.messages.specs.declared.message.Body.{Body}
 use Rattle.messages.specs.declared.message.Body.TheVariants as body
 use Rattle.messages.specs.declared.message.Message.{Message}
@@ -174,12 +174,12 @@ module _ (id : DataId) (handle version : ℕ) where
   ends_done s d choice Lost h = none_fit (Knows id) handle version
   ends_done s d choice (Stops made) h = none_fit (Knows id) handle version
 
-  step_done : (s : ServerState) (moment : ℕ) (i : Input) (choice : Choice) → IsTrue s.up → IsDone (server_goes s moment i).server.leases → IsDone (server_step s moment i choice).state.leases
+  step_done : (s : ServerState) (moment : ℕ) (i : NodeInput) (choice : Choice) → IsTrue s.up → IsDone (server_goes s moment i).server.leases → IsDone (server_step s moment i choice).state.leases
   step_done s moment i choice up h =
       on_cond (λ (t : Taken ServerState). IsDone t.state.leases) s.up (server_ends s (server_goes s moment i) choice choice.ending) (no_step s) (λ _. ends_done s (server_goes s moment i) choice choice.ending h)
       (λ down. absurd (true≢false (sym up ∙ down)))
 
-new_used : (config : Config) (servers clients : ℕ) (w : WorldState) → IsReached config servers clients w → (index moment : ℕ) (s : ServerState) (i : Input) (choice : Choice) → element_at w.servers index ≡ Some s → IsTrue s.up
+new_used : (config : Config) (servers clients : ℕ) (w : WorldState) → IsReached config servers clients w → (index moment : ℕ) (s : ServerState) (i : NodeInput) (choice : Choice) → element_at w.servers index ≡ Some s → IsTrue s.up
     → ((m : Message) → i ≡ input.Deliver m → IsAmong w.sent m)
     → (m : Message) (id : DataId) (handle : Handle) (version : Version) (t : Target) (deadline : Moment) (p : SerialOrder) → i ≡ input.Deliver m → m.body ≡ body.Mutate id handle version t deadline → primary_of (server_at s moment) handle.0 version.0 ≡ Some p
     → AreFit (Knows id) handle.0 version.0 (server_goes s moment i).server.leases → IsUsed (after_server w index moment (server_step s moment i choice)).world id
@@ -207,11 +207,11 @@ new_used config servers clients w r index moment s i choice at up came m id hand
     held : (table.get s.leases handle.0 ≡ Some p) × (p.held.version ≡ version.0)
     held = primary_there (server_at s moment) version.0 (table.get s.leases handle.0) p primary
 
-goes_is : (s : ServerState) (moment : ℕ) (i : Input) (m : Message) (id : DataId) (handle : Handle) (version : Version) (t : Target) (deadline : Moment) → i ≡ input.Deliver m → m.body ≡ body.Mutate id handle version t deadline
+goes_is : (s : ServerState) (moment : ℕ) (i : NodeInput) (m : Message) (id : DataId) (handle : Handle) (version : Version) (t : Target) (deadline : Moment) → i ≡ input.Deliver m → m.body ≡ body.Mutate id handle version t deadline
     → server_goes s moment i ≡ mutates_under (server_begins (server_at s moment)) handle.0 id t deadline.0 (primary_of (server_at s moment) handle.0 version.0)
-goes_is s moment i m id handle version t deadline is asked = ap (λ (j : Input). server_goes s moment j) is ∙ ap (λ (b : Body). server_takes (server_begins (server_at s moment)) m b) asked
+goes_is s moment i m id handle version t deadline is asked = ap (λ (j : NodeInput). server_goes s moment j) is ∙ ap (λ (b : Body). server_takes (server_begins (server_at s moment)) m b) asked
 
-knowing : (config : Config) (servers clients : ℕ) (w : WorldState) → IsReached config servers clients w → (index moment : ℕ) (s : ServerState) (i : Input) (choice : Choice) → element_at w.servers index ≡ Some s → IsTrue s.up
+knowing : (config : Config) (servers clients : ℕ) (w : WorldState) → IsReached config servers clients w → (index moment : ℕ) (s : ServerState) (i : NodeInput) (choice : Choice) → element_at w.servers index ≡ Some s → IsTrue s.up
     → ((m : Message) → i ≡ input.Deliver m → IsAmong w.sent m) → (G : ℕ → ℕ → Type 0)
     → (m : Message) (id : DataId) (handle : Handle) (version : Version) (t : Target) (deadline : Moment) (p : SerialOrder) → i ≡ input.Deliver m → m.body ≡ body.Mutate id handle version t deadline → primary_of (server_at s moment) handle.0 version.0 ≡ Some p
     → Knowing (λ x. IsSpentUp (after_server w index moment (server_step s moment i choice)).world x) G (server_at s moment).now (server_begins (server_at s moment)) handle.0 p id
@@ -237,7 +237,7 @@ knowing config servers clients w r index moment s i choice at up came G m id han
     held_known old q there same = subst (Knows id) (same_some p q (sym held.0 ∙ there)) (old_known id p old)
 
     -- a Mutate is no Grant
-    body_in : Input → Option Body
+    body_in : NodeInput → Option Body
     body_in (input.Deliver x) = Some x.body
     body_in input.Tick = None
 
@@ -317,7 +317,7 @@ module _ (config : Config) (servers clients : ℕ) (w : WorldState) (r : IsReach
       more_told (IsSpentUp x.world) (Reads (w.sent ++ stamped (suc (length w.sent)) ms)) w.sent (suc (length w.sent)) ms (told_on w h (IsSpentUp x.world) (Reads (w.sent ++ stamped (suc (length w.sent)) ms)) go (more_reads ms))
       (none_tell (IsSpentUp x.world) (Reads (w.sent ++ stamped (suc (length w.sent)) ms)) ms none)
 
-  served : (index moment : ℕ) (s : ServerState) (i : Input) (choice : Choice) → element_at w.servers index ≡ Some s → IsTrue s.up → ((m : Message) → i ≡ input.Deliver m → IsAmong w.sent m) → Stays (after_server w index moment (server_step s moment i choice))
+  served : (index moment : ℕ) (s : ServerState) (i : NodeInput) (choice : Choice) → element_at w.servers index ≡ Some s → IsTrue s.up → ((m : Message) → i ≡ input.Deliver m → IsAmong w.sent m) → Stays (after_server w index moment (server_step s moment i choice))
       → AreRight (IsSpentUp (after_server w index moment (server_step s moment i choice)).world) (server_step s moment i choice).state.leases
       × AllOf (Causes (IsSpentUp (after_server w index moment (server_step s moment i choice)).world) (Reads (w.sent ++ stamped (suc (length w.sent)) (server_step s moment i choice).out.sent))) (server_step s moment i choice).out.sent
   served index moment s i choice at up came go =
@@ -426,7 +426,7 @@ pub same_mutate : (id : DataId) (handle other : Handle) (version later : Version
 same_mutate id handle other version later aim its deadline end g = (cc, cc, cc)
 
 -- what is spent up is numbered no more
-module _ (config : Config) (servers clients : ℕ) (u : WorldState) (there : IsReached config servers clients u) (id : DataId) (index moment : ℕ) (s : ServerState) (i : Input) (choice : Choice) (handle : Handle) (version : Version)
+module _ (config : Config) (servers clients : ℕ) (u : WorldState) (there : IsReached config servers clients u) (id : DataId) (index moment : ℕ) (s : ServerState) (i : NodeInput) (choice : Choice) (handle : Handle) (version : Version)
     (numbers : Numbers u index moment s i choice handle version id) where
   abbrev pub Asked : Type 0
   Asked = (x : Message) × (i ≡ input.Deliver x) × IsAskedFor (server_at s moment) u.sent x handle version numbers.serial id numbers.placed

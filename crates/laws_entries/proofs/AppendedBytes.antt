@@ -9,8 +9,8 @@ use Rattle.gfs_types.specs.declared.refusal.Refusal.TheVariants.{NoMemory}
 use Rattle.messages.specs.declared.event.Event.{Event}
 use Rattle.messages.specs.declared.event.Event.TheVariants as event
 use Rattle.gfs_types.specs.declared.ids.Node.{Node}
-use Rattle.messages.specs.declared.event.Input.{Input}
-use Rattle.messages.specs.declared.event.Input.TheVariants as input
+use Rattle.messages.specs.declared.event.NodeInput.{NodeInput}
+use Rattle.messages.specs.declared.event.NodeInput.TheVariants as input
 use Rattle.messages.specs.declared.message.Body.{Body}
 use Rattle.messages.specs.declared.message.Body.TheVariants as body
 use Rattle.messages.specs.declared.message.Message.{Message}
@@ -142,7 +142,7 @@ module _ (A : Call) (size client : ℕ) (sent : List Message) where
       }
   tells m there other is = tt
 
-  tells_input : (i : Input) → ((m : Message) → i ≡ input.Deliver m → IsAmong sent m) → TellsInput A (F sent) size client sent i
+  tells_input : (i : NodeInput) → ((m : Message) → i ≡ input.Deliver m → IsAmong sent m) → TellsInput A (F sent) size client sent i
   tells_input (input.Deliver m) came = tells m (came m refl) m.body refl
   tells_input input.Tick came = tt
 
@@ -159,7 +159,7 @@ module _ (sent : List Message) (k size client : ℕ) (s : ClientState) (own : s.
   Told A offset = IsPlaceTold sent size client (appended A) offset
 
   -- a step, with a call in hand
-  goes_good : (moment : ℕ) (i : Input) → ((m : Message) → i ≡ input.Deliver m → IsAmong sent m) → (c : CurrentCall) → s.current ≡ Some c → Good c.asked (Told c.asked) size client sent (client_goes s moment i)
+  goes_good : (moment : ℕ) (i : NodeInput) → ((m : Message) → i ≡ input.Deliver m → IsAmong sent m) → (c : CurrentCall) → s.current ≡ Some c → Good c.asked (Told c.asked) size client sent (client_goes s moment i)
   goes_good moment i came c is =
       subst (λ (o : Option CurrentCall). Good c.asked (Told c.asked) size client sent (client_does (client_begins (client_at s moment)) i o)) (sym is)
       (does_good c.asked (Told c.asked) size client sent (client_begins (client_at s moment)) i c refl (fine.1 c is) (tells_input c.asked size client sent i came)
@@ -182,13 +182,13 @@ module _ (sent : List Message) (k size client : ℕ) (s : ClientState) (own : s.
   ends_left d Lost h = (fine.0, λ c is. none_some c is)
   ends_left d (Stops made) h = (fine.0, λ c is. none_some c is)
 
-  goes_left : (moment : ℕ) (i : Input) → ((m : Message) → i ≡ input.Deliver m → IsAmong sent m) → (o : Option CurrentCall) → s.current ≡ o → IsFine (sent ++ stamped k (option_to_list (client_goes s moment i).sent)) size client (client_goes s moment i).client
+  goes_left : (moment : ℕ) (i : NodeInput) → ((m : Message) → i ≡ input.Deliver m → IsAmong sent m) → (o : Option CurrentCall) → s.current ≡ o → IsFine (sent ++ stamped k (option_to_list (client_goes s moment i).sent)) size client (client_goes s moment i).client
   goes_left moment i came None is =
       subst (λ (o : Option CurrentCall). IsFine (sent ++ stamped k (option_to_list (client_does (client_begins (client_at s moment)) i o).sent)) size client (client_does (client_begins (client_at s moment)) i o).client) (sym is)
       (fine.0, λ c there. none_some c (sym is ∙ there))
   goes_left moment i came (Some c) is = good_left c.asked (client_goes s moment i) (goes_good moment i came c is)
 
-  step_left : (moment : ℕ) (i : Input) (choice : Choice) → ((m : Message) → i ≡ input.Deliver m → IsAmong sent m) → Left (client_step s moment i choice)
+  step_left : (moment : ℕ) (i : NodeInput) (choice : Choice) → ((m : Message) → i ≡ input.Deliver m → IsAmong sent m) → Left (client_step s moment i choice)
   step_left moment i choice came =
       on_cond Left (may_step s) (client_ends s (client_goes s moment i) choice.ending) (no_step s) (λ _. ends_left (client_goes s moment i) choice.ending (goes_left moment i came s.current refl)) (λ _. fine_later sent [] size client s fine)
 
@@ -199,7 +199,7 @@ module _ (sent : List Message) (k size client : ℕ) (s : ClientState) (own : s.
       (λ _. ends_left (client_call_goes s moment c) choice.ending (good_left c (client_call_goes s moment c) (calls_good c (Told c) size client sent (client_begins (client_at s moment)) c refl (fine.0, tt, own))))
 
   -- what is answered
-  answer_told : (moment : ℕ) (i : Input) (choice : Choice) (offset : ℕ) → ((m : Message) → i ≡ input.Deliver m → IsAmong sent m) → (c : CurrentCall) → s.current ≡ Some c → is_append c.asked ≡ true
+  answer_told : (moment : ℕ) (i : NodeInput) (choice : Choice) (offset : ℕ) → ((m : Message) → i ≡ input.Deliver m → IsAmong sent m) → (c : CurrentCall) → s.current ≡ Some c → is_append c.asked ≡ true
       → (client_step s moment i choice).out.answer ≡ Some (answer.At offset) → IsPlaceTold sent size client (appended c.asked) offset
   answer_told moment i choice offset came c is append =
       on_cond (λ (t : Taken ClientState). t.out.answer ≡ Some (answer.At offset) → IsPlaceTold sent size client (appended c.asked) offset) (may_step s) (client_ends s (client_goes s moment i) choice.ending) (no_step s) (λ _. by_ending choice.ending)
@@ -215,11 +215,11 @@ module _ (sent : List Message) (k size client : ℕ) (s : ClientState) (own : s.
 
 -- what comes in was sent
 
-abbrev message_in : Input → Option Message
+abbrev message_in : NodeInput → Option Message
 message_in (input.Deliver m) = Some m
 message_in input.Tick = None
 
-came_to : (w : WorldState) (e : Event) (n : Node) (moment : ℕ) (i : Input) → IsGiven w e n moment i → (m : Message) → i ≡ input.Deliver m → IsAmong w.sent m
+came_to : (w : WorldState) (e : Event) (n : Node) (moment : ℕ) (i : NodeInput) → IsGiven w e n moment i → (m : Message) → i ≡ input.Deliver m → IsAmong w.sent m
 came_to w (event.Deliver number now) n moment (input.Deliver x) is m same = subst (λ (y : Message). IsAmong w.sent y) (same_some x m (ap message_in same)) (number - 1, element_numbered w.sent number x is.0)
 came_to w (event.Call c asked now) n moment (input.Deliver x) is m same = absurd is
 came_to w (event.Tick to now) n moment (input.Deliver x) is m same = absurd is

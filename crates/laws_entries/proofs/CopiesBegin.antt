@@ -5,7 +5,7 @@ use Rattle.std.specs.FinMap as table
 use Rattle.gfs_types.specs.declared.config.Config.{Config}
 use Rattle.gfs_types.specs.declared.ids.Handle.{Handle}
 use Rattle.messages.specs.declared.event.Event.{Event}
-use Rattle.messages.specs.declared.event.Input.{Input}
+use Rattle.messages.specs.declared.event.NodeInput.{NodeInput}
 use Rattle.relaxed_file.specs.Run.{Visible}
 use Rattle.protocol.specs.Tables.{Table, element_at}
 use Rattle.protocol.specs.Sending.{handle_of}
@@ -111,7 +111,7 @@ module _ (first : List Placed) (copy : ℕ) where
     base : IsOfWaits w.sent w.master
     base = sent_reached IsOfWaits waits_kept config servers clients w r
 
-    master_begins : (trace : List Visible) (moment : ℕ) (i : Input) (choice : Choice) → Begins (orders_after_all trace w.observer.orders (master_step w.master moment i choice).seen)
+    master_begins : (trace : List Visible) (moment : ℕ) (i : NodeInput) (choice : Choice) → Begins (orders_after_all trace w.observer.orders (master_step w.master moment i choice).seen)
     master_begins trace moment i choice =
         elim (step_shows w.master moment i choice base.base.logged base.waits) [
           | inl none ↦ subst (λ (xs : List Seen). Begins (orders_after_all trace w.observer.orders xs)) (sym none) h.begins
@@ -179,7 +179,7 @@ only : (x y : Seen) (n : ℕ) → element_at (x ∷ []) n ≡ Some y → x ≡ y
 only x y zero is = same_some x y is
 only x y (suc n) is = none_some y is
 
-pub first_begun : (config : Config) (servers clients : ℕ) (w : WorldState) → IsReached config servers clients w → (moment : ℕ) (i : Input) (taken : Choice) (place : ℕ) (handle copy : Handle)
+pub first_begun : (config : Config) (servers clients : ℕ) (w : WorldState) → IsReached config servers clients w → (moment : ℕ) (i : NodeInput) (taken : Choice) (place : ℕ) (handle copy : Handle)
     → element_at (master_step w.master moment i taken).seen place ≡ Some (CopyStarted handle copy) → HasBegun (placed_in w.observer.orders handle.0) copy.0 (after_master w moment (master_step w.master moment i taken)).world
 first_begun config servers clients w r moment i taken place handle copy at =
     elim (step_shows w.master moment i taken base_here.base.logged base_here.waits) [

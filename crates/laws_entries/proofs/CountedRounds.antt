@@ -10,8 +10,8 @@ use Rattle.gfs_types.specs.declared.ids.Moment.{Moment}
 use Rattle.gfs_types.specs.declared.ids.OrderNo.{OrderNo}
 use Rattle.messages.specs.declared.event.Event.{Event}
 use Rattle.messages.specs.declared.event.Event.TheVariants as event
-use Rattle.messages.specs.declared.event.Input.{Input}
-use Rattle.messages.specs.declared.event.Input.TheVariants as input
+use Rattle.messages.specs.declared.event.NodeInput.{NodeInput}
+use Rattle.messages.specs.declared.event.NodeInput.TheVariants as input
 use Rattle.messages.specs.declared.message.Body.TheVariants as body
 use Rattle.messages.specs.declared.message.Message.{Message}
 use Rattle.replica_store.specs.Replicas.{is_new_order}
@@ -69,7 +69,7 @@ set_split (z ∷ zs) (suc at) y (suc n) x h =
       | inr there ↦ inr (λ same. there.0 (omega (arith, same)), there.1)
     ]
 
-abbrev message_in : Input → Option Message
+abbrev message_in : NodeInput → Option Message
 message_in (input.Deliver y) = Some y
 message_in input.Tick = None
 
@@ -77,7 +77,7 @@ same_message : (y z : Message) → input.Deliver y ≡ input.Deliver z → y ≡
 same_message y z h = same_some y z (ap message_in h)
 
 -- what comes in to a server was sent to it
-pub comes_in : (w : WorldState) (e : Event) (server moment : ℕ) (i : Input) → IsGiven w e (the_server server) moment i → (m : Message) → i ≡ input.Deliver m → (place : ℕ) × (element_at w.sent place ≡ Some m) × (m.receiver ≡ the_server server)
+pub comes_in : (w : WorldState) (e : Event) (server moment : ℕ) (i : NodeInput) → IsGiven w e (the_server server) moment i → (m : Message) → i ≡ input.Deliver m → (place : ℕ) × (element_at w.sent place ≡ Some m) × (m.receiver ≡ the_server server)
 comes_in w (event.Deliver number now) server moment (input.Deliver x) is m same =
     subst (λ (y : Message). (place : ℕ) × (element_at w.sent place ≡ Some y) × (y.receiver ≡ the_server server)) (same_message x m same) (number - 1, element_numbered w.sent number x is.0, is.1)
 comes_in w (event.Call c asked now) server moment (input.Deliver x) is m same = absurd is
@@ -215,7 +215,7 @@ module _ (config : Config) (servers clients : ℕ) (w : WorldState) (r : IsReach
 
   -- the master
 
-  stay_counted : (moment : ℕ) (i : Input) (choice : Choice) (handle version : ℕ) → IsCounted handle version (w.sent ++ stamped (suc (length w.sent)) (master_step w.master moment i choice).out.sent) w.servers (placed_in w.observer.orders handle)
+  stay_counted : (moment : ℕ) (i : NodeInput) (choice : Choice) (handle version : ℕ) → IsCounted handle version (w.sent ++ stamped (suc (length w.sent)) (master_step w.master moment i choice).out.sent) w.servers (placed_in w.observer.orders handle)
   stay_counted moment i choice handle version =
       let ms : List Message = (master_step w.master moment i choice).out.sent in
       counted_sent handle version (suc (length w.sent)) w.sent ms w.servers (placed_in w.observer.orders handle)
@@ -224,7 +224,7 @@ module _ (config : Config) (servers clients : ℕ) (w : WorldState) (r : IsReach
       (h handle version)
 
   -- a copy that just began: no server has a lease of it, and what is granted of it is above what was copied
-  copy_counted : (moment : ℕ) (i : Input) (choice : Choice) (shows : ShowsCopy w.master (master_step w.master moment i choice)) (version : ℕ)
+  copy_counted : (moment : ℕ) (i : NodeInput) (choice : Choice) (shows : ShowsCopy w.master (master_step w.master moment i choice)) (version : ℕ)
       → IsCounted shows.copy version (w.sent ++ stamped (suc (length w.sent)) (master_step w.master moment i choice).out.sent) w.servers (placed_in w.observer.orders shows.source)
   copy_counted moment i choice shows version =
       let source : IsCounted shows.source version w.sent w.servers (placed_in w.observer.orders shows.source) = h shows.source version in
@@ -241,7 +241,7 @@ module _ (config : Config) (servers clients : ℕ) (w : WorldState) (r : IsReach
             omega (arith, less, same));
       }
 
-  master_counted : (trace : List Visible) (moment : ℕ) (i : Input) (choice : Choice) (handle version : ℕ)
+  master_counted : (trace : List Visible) (moment : ℕ) (i : NodeInput) (choice : Choice) (handle version : ℕ)
       → IsCounted handle version (w.sent ++ stamped (suc (length w.sent)) (master_step w.master moment i choice).out.sent) w.servers (placed_in (orders_after_all trace w.observer.orders (master_step w.master moment i choice).seen) handle)
   master_counted trace moment i choice handle version =
       elim (step_shows w.master moment i choice base.base.logged base.waits) [
@@ -265,7 +265,7 @@ module _ (config : Config) (servers clients : ℕ) (w : WorldState) (r : IsReach
 
   -- a server
 
-  module _ (e : Event) (index moment : ℕ) (s : ServerState) (i : Input) (choice : Choice) (at : element_at w.servers index ≡ Some s) (given : IsGiven w e (the_server (suc index)) moment i) (handle version : ℕ) where
+  module _ (e : Event) (index moment : ℕ) (s : ServerState) (i : NodeInput) (choice : Choice) (at : element_at w.servers index ≡ Some s) (given : IsGiven w e (the_server (suc index)) moment i) (handle version : ℕ) where
     -- a Grant of this version that comes under a new number is the first word of it
     first_grant : (m : Message) (order : OrderNo) (q : Handle) (v : Version) (end_moment : Moment) (members : List ℕ) → i ≡ input.Deliver m → m.body ≡ body.Grant order q v end_moment members → is_new_order s.disk order.epoch order.count ≡ true
         → q.0 ≡ handle → v.0 ≡ version → (h handle version).count ≡ 0

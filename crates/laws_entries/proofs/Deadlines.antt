@@ -9,8 +9,8 @@ use Rattle.gfs_types.specs.declared.ids.Handle.{Handle}
 use Rattle.gfs_types.specs.declared.ids.Version.{Version}
 use Rattle.gfs_types.specs.declared.ids.Moment.{Moment}
 use Rattle.gfs_types.specs.declared.refusal.Refusal.TheVariants.{Late}
-use Rattle.messages.specs.declared.event.Input.{Input}
-use Rattle.messages.specs.declared.event.Input.TheVariants as input
+use Rattle.messages.specs.declared.event.NodeInput.{NodeInput}
+use Rattle.messages.specs.declared.event.NodeInput.TheVariants as input
 use Rattle.messages.specs.declared.message.Message.{Message}
 use Rattle.messages.specs.declared.message.Body.{Body}
 use Rattle.messages.specs.declared.message.Body.TheVariants as body
@@ -45,15 +45,15 @@ ends_silent s d choice Goes h = h
 ends_silent s d choice Lost h = refl
 ends_silent s d choice (Stops made) h = ap (λ (xs : List Seen). filter is_numbering xs) h
 
-step_silent : (s : ServerState) (moment : ℕ) (i : Input) (choice : Choice) → (server_goes s moment i).seen ≡ [] → (server_step s moment i choice).seen ≡ []
+step_silent : (s : ServerState) (moment : ℕ) (i : NodeInput) (choice : Choice) → (server_goes s moment i).seen ≡ [] → (server_step s moment i choice).seen ≡ []
 step_silent s moment i choice h =
     on_cond (λ (t : Taken ServerState). t.seen ≡ []) s.up (server_ends s (server_goes s moment i) choice choice.ending) (no_step s) (λ _. ends_silent s (server_goes s moment i) choice choice.ending h) (λ _. refl)
 
 -- a Mutate that is late
-late_silent : (s : ServerState) (moment : ℕ) (i : Input) (m : Message) (id : DataId) (handle : Handle) (version : Version) (aim : Target) (deadline : Moment) (p : SerialOrder) → i ≡ input.Deliver m → m.body ≡ body.Mutate id handle version aim deadline
+late_silent : (s : ServerState) (moment : ℕ) (i : NodeInput) (m : Message) (id : DataId) (handle : Handle) (version : Version) (aim : Target) (deadline : Moment) (p : SerialOrder) → i ≡ input.Deliver m → m.body ≡ body.Mutate id handle version aim deadline
     → primary_of (server_at s moment) handle.0 version.0 ≡ Some p → nat_le deadline.0 (server_at s moment).now ≡ true → (server_goes s moment i).seen ≡ []
 late_silent s moment i m id handle version aim deadline p is asked primary late =
-    ap (λ (j : Input). (server_goes s moment j).seen) is
+    ap (λ (j : NodeInput). (server_goes s moment j).seen) is
     ∙ ap (λ (b : Body). (server_takes d m b).seen) asked
     ∙ ap (λ (o : Option SerialOrder). (mutates_under d handle.0 id aim deadline.0 o).seen) primary
     ∙ ap (λ (b : Bool). (cond b (refuses_attempt d id Late) (mutates_as d handle.0 p id aim (attempted p id.client id.seq))).seen) late

@@ -10,7 +10,7 @@ use Rattle.gfs_types.specs.declared.ids.Handle.{Handle}
 use Rattle.gfs_types.specs.declared.ids.Version.{Version}
 use Rattle.gfs_types.specs.declared.ids.Serial.{Serial}
 use Rattle.gfs_types.specs.declared.mutation.Mutation.{Mutation}
-use Rattle.messages.specs.declared.event.Input.{Input}
+use Rattle.messages.specs.declared.event.NodeInput.{NodeInput}
 use Rattle.messages.specs.declared.message.Body.{Body}
 use Rattle.messages.specs.declared.message.Body.TheVariants as body
 use Rattle.messages.specs.declared.message.Change.{Change}
@@ -167,7 +167,7 @@ module _ (config : Config) (servers clients : ℕ) (w : WorldState) (r : IsReach
   none_named orders [] all = tt
   none_named orders (m ∷ ms) all = (no_names orders m.body all.0, none_named orders ms all.1)
 
-  master_orders : (trace : List Visible) (moment : ℕ) (i : Input) (choice : Choice) (handle : Handle) (version : Version) (serial : Serial) (id : DataId) (c : Change)
+  master_orders : (trace : List Visible) (moment : ℕ) (i : NodeInput) (choice : Choice) (handle : Handle) (version : Version) (serial : Serial) (id : DataId) (c : Change)
       → IsNamedIn (placed_in w.observer.orders handle.0) version serial id c → IsNamedIn (placed_in (orders_after_all trace w.observer.orders (master_step w.master moment i choice).seen) handle.0) version serial id c
   master_orders trace moment i choice handle version serial id c named =
       elim (step_shows w.master moment i choice base.base.logged base.waits) [
@@ -178,7 +178,7 @@ module _ (config : Config) (servers clients : ℕ) (w : WorldState) (r : IsReach
             (sym (ap (λ (ps : List Placed). element_at ps named.place) (ap (λ (n : ℕ). placed_in w.observer.orders n) same ∙ (unused_is_new config servers clients w r shows.up shows.copy shows.new).empty)) ∙ named.at)) named)
       ]
 
-  server_named : (trace : List Visible) (s : ServerState) (moment : ℕ) (i : Input) (choice : Choice) → AllOf (λ m. Names (orders_after_all trace w.observer.orders (server_step s moment i choice).seen) m.body) (server_step s moment i choice).out.sent
+  server_named : (trace : List Visible) (s : ServerState) (moment : ℕ) (i : NodeInput) (choice : Choice) → AllOf (λ m. Names (orders_after_all trace w.observer.orders (server_step s moment i choice).seen) m.body) (server_step s moment i choice).out.sent
   server_named trace s moment i choice =
       elim (step_caused s moment i choice) [
         | inl none ↦ subst (λ (ms : List Message). AllOf (λ m. Names orders m.body) ms) (sym none) tt
@@ -198,7 +198,7 @@ module _ (config : Config) (servers clients : ℕ) (w : WorldState) (r : IsReach
       all_on [] changes all = tt
       all_on (m ∷ ms) changes all = (one changes m.body all.0, all_on ms changes all.1)
 
-  clients_silent : (index moment : ℕ) (s : ClientState) (i : Input) (choice : Choice) → element_at w.clients index ≡ Some s → AllOf (λ m. IsNoForward m.body) (client_step s moment i choice).out.sent
+  clients_silent : (index moment : ℕ) (s : ClientState) (i : NodeInput) (choice : Choice) → element_at w.clients index ≡ Some s → AllOf (λ m. IsNoForward m.body) (client_step s moment i choice).out.sent
   clients_silent index moment s i choice at =
       of_step (λ t ms. AllOf (λ m. IsNoForward m.body) ms) s moment i choice ((numbered_reached config servers clients w r).each index s at).named
       (λ d goes. no_option d.sent (λ m is. said_none (client_at s moment) d.client m.body (goes.says m is).1)) tt tt
@@ -283,7 +283,7 @@ written_there d handle serial (Copy h copy version) r is there = absurd is
 written_there d handle serial (Remove h) r is there = absurd is
 
 -- the cause of a word that was sent
-cause_of : (s : ServerState) (moment : ℕ) (i : Input) (choice : Choice) (place : ℕ) (m : Message) → element_at (server_step s moment i choice).out.sent place ≡ Some m
+cause_of : (s : ServerState) (moment : ℕ) (i : NodeInput) (choice : Choice) (place : ℕ) (m : Message) → element_at (server_step s moment i choice).out.sent place ≡ Some m
     → (causes : Causes s (server_step s moment i choice)) × IsCaused s.disk causes.changes (server_step s moment i choice).seen m.body
 cause_of s moment i choice place m at =
     elim (step_caused s moment i choice) [

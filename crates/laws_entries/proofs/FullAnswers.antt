@@ -26,8 +26,8 @@ use Rattle.messages.specs.declared.message.Target.{Target}
 use Rattle.messages.specs.declared.message.Target.TheVariants as target
 use Rattle.messages.specs.declared.message.Change.{Change}
 use Rattle.messages.specs.declared.message.Change.TheVariants as change
-use Rattle.messages.specs.declared.event.Input.{Input}
-use Rattle.messages.specs.declared.event.Input.TheVariants as input
+use Rattle.messages.specs.declared.event.NodeInput.{NodeInput}
+use Rattle.messages.specs.declared.event.NodeInput.TheVariants as input
 use Rattle.record_append.specs.declared.placing.Placing.{Placing}
 use Rattle.record_append.specs.declared.placing.Placing.TheVariants.{At, Pad, Full, TooLong}
 use Rattle.record_append.specs.Placing.{placing}
@@ -339,7 +339,7 @@ module _ (F : DataId → Type 0) where
       (λ _. h)
 
   -- A server s that takes an input: what a new attempt comes to, and what no member says.
-  module _ (s : ServerState) (i : Input)
+  module _ (s : ServerState) (i : NodeInput)
       (anew : (m : Message) (id : DataId) (q : Handle) (v : VersionId) (t : Target) (deadline : Moment) (p : SerialOrder) → i ≡ input.Deliver m → m.body ≡ body.Mutate id q v t deadline → primary_of s q.0 v.0 ≡ Some p → attempted p id.client id.seq ≡ IsNew
       → IsFullEnd (server_begins s) q.0 p id (mutates_under (server_begins s) q.0 id t deadline.0 (primary_of s q.0 v.0)) → F id)
       (nacked : (m : Message) (q : Handle) (v : VersionId) (serial : Serial) (refusal : Refusal) → i ≡ input.Deliver m → m.body ≡ body.Nacked q v serial refusal → IsOther refusal) where
@@ -393,7 +393,7 @@ module _ (F : DataId → Type 0) where
             let there = kept_where_cases (λ e. counts_at D.server.config.skew_ms e.1.held D.server.now) D.server.leases q old.0 old.1 in
             subst (IsRight F) old.2 (right_reported F old.0 (h.0 q old.0 there))
 
-    does_fine : (j : Input) → i ≡ j → Fine (server_begins s) → Fine (server_does (server_begins s) j)
+    does_fine : (j : NodeInput) → i ≡ j → Fine (server_begins s) → Fine (server_does (server_begins s) j)
     does_fine (input.Deliver m) came h = takes_fine m m.body came refl h
     does_fine input.Tick came h = ticks_fine h
 
@@ -409,7 +409,7 @@ module _ (F : DataId → Type 0) where
   ends_fine s d choice Lost h = (none_right, tt)
   ends_fine s d choice (Stops made) h = (none_right, tt)
 
-  pub step_leaves : (s : ServerState) (moment : ℕ) (i : Input) (choice : Choice)
+  pub step_leaves : (s : ServerState) (moment : ℕ) (i : NodeInput) (choice : Choice)
       → ((m : Message) (id : DataId) (q : Handle) (v : VersionId) (t : Target) (deadline : Moment) (p : SerialOrder) → i ≡ input.Deliver m → m.body ≡ body.Mutate id q v t deadline → primary_of (server_at s moment) q.0 v.0 ≡ Some p → attempted p id.client id.seq ≡ IsNew
       → IsFullEnd (server_begins (server_at s moment)) q.0 p id (mutates_under (server_begins (server_at s moment)) q.0 id t deadline.0 (primary_of (server_at s moment) q.0 v.0)) → F id)
       → ((m : Message) (q : Handle) (v : VersionId) (serial : Serial) (refusal : Refusal) → i ≡ input.Deliver m → m.body ≡ body.Nacked q v serial refusal → IsOther refusal) → AreRight F s.leases → Leaves (server_step s moment i choice)

@@ -14,8 +14,8 @@ use Rattle.gfs_types.specs.declared.mutation.Mutation.TheVariants as mutation
 use Rattle.gfs_types.specs.declared.refusal.Refusal.TheVariants.{ChunkFull, Corrupt}
 use Rattle.gfs_types.specs.Mutations.{start_of, end_of}
 use Rattle.messages.specs.declared.event.Event.{Event}
-use Rattle.messages.specs.declared.event.Input.{Input}
-use Rattle.messages.specs.declared.event.Input.TheVariants as input
+use Rattle.messages.specs.declared.event.NodeInput.{NodeInput}
+use Rattle.messages.specs.declared.event.NodeInput.TheVariants as input
 use Rattle.messages.specs.declared.message.Body.{Body}
 use Rattle.messages.specs.declared.message.Body.TheVariants as body
 use Rattle.messages.specs.declared.message.Message.{Message}
@@ -73,7 +73,7 @@ pub record IsFull (w : WorldState) (id : DataId) : Type 0 where
 -- one that is used up gets no entry any more
 
 none_numbered : (config : Config) (servers clients : ℕ) (w : WorldState) → IsReached config servers clients w → (id : DataId) → IsUsed w id
-    → (index moment : ℕ) (s : ServerState) (i : Input) (choice : Choice) → element_at w.servers index ≡ Some s → ((m : Message) → i ≡ input.Deliver m → IsAmong w.sent m) → AllOf (Shows id.client.0 id.seq IsPad) (server_step s moment i choice).seen
+    → (index moment : ℕ) (s : ServerState) (i : NodeInput) (choice : Choice) → element_at w.servers index ≡ Some s → ((m : Message) → i ≡ input.Deliver m → IsAmong w.sent m) → AllOf (Shows id.client.0 id.seq IsPad) (server_step s moment i choice).seen
 none_numbered config servers clients w r id used index moment s i choice at came = all_placed (Shows id.client.0 id.seq IsPad) (server_step s moment i choice).seen one
   where
     one : (place : ℕ) (x : Seen) → element_at (server_step s moment i choice).seen place ≡ Some x → Shows id.client.0 id.seq IsPad x
@@ -183,11 +183,11 @@ module _ (id : DataId) (handle : ℕ) (p : SerialOrder) where
   ends_done s d choice Lost h = (λ version. none_fit (Knows id) handle version, tt)
   ends_done s d choice (Stops made) h = (λ version. none_fit (Knows id) handle version, all_filtered (Shows id.client.0 id.seq IsPad) is_numbering d.seen h.1)
 
-  step_done : (s : ServerState) (moment : ℕ) (i : Input) (choice : Choice) → IsTrue s.up → IsDone (server_goes s moment i) → Leaves (server_step s moment i choice)
+  step_done : (s : ServerState) (moment : ℕ) (i : NodeInput) (choice : Choice) → IsTrue s.up → IsDone (server_goes s moment i) → Leaves (server_step s moment i choice)
   step_done s moment i choice up h =
       on_cond Leaves s.up (server_ends s (server_goes s moment i) choice choice.ending) (no_step s) (λ _. ends_done s (server_goes s moment i) choice choice.ending h) (λ down. absurd (true≢false (sym up ∙ down)))
 
-new_full : (config : Config) (servers clients : ℕ) (w : WorldState) → IsReached config servers clients w → (index moment : ℕ) (s : ServerState) (i : Input) (choice : Choice) → element_at w.servers index ≡ Some s → IsTrue s.up
+new_full : (config : Config) (servers clients : ℕ) (w : WorldState) → IsReached config servers clients w → (index moment : ℕ) (s : ServerState) (i : NodeInput) (choice : Choice) → element_at w.servers index ≡ Some s → IsTrue s.up
     → ((m : Message) → i ≡ input.Deliver m → IsAmong w.sent m)
     → (m : Message) (id : DataId) (handle : Handle) (version : Version) (t : Target) (deadline : Moment) (p : SerialOrder) → i ≡ input.Deliver m → m.body ≡ body.Mutate id handle version t deadline → primary_of (server_at s moment) handle.0 version.0 ≡ Some p
     → attempted p id.client id.seq ≡ IsNew
@@ -224,7 +224,7 @@ new_full config servers clients w r index moment s i choice at up came m id hand
     held = primary_there (server_at s moment) version.0 (table.get s.leases handle.0) p primary
 
     goes_is : server_goes s moment i ≡ mutates_under d handle.0 id t deadline.0 (primary_of (server_at s moment) handle.0 version.0)
-    goes_is = ap (λ (j : Input). server_goes s moment j) is ∙ ap (λ (b : Body). server_takes d m b) asked
+    goes_is = ap (λ (j : NodeInput). server_goes s moment j) is ∙ ap (λ (b : Body). server_takes d m b) asked
 
     left : Leaves id handle.0 p (server_step s moment i choice)
     left = step_done id handle.0 p s moment i choice up (subst (IsDone id handle.0 p) (sym goes_is) (end_done id handle.0 p d (mutates_under d handle.0 id t deadline.0 (primary_of (server_at s moment) handle.0 version.0)) refl end))
@@ -296,7 +296,7 @@ module _ (config : Config) (servers clients : ℕ) (w : WorldState) (r : IsReach
       → Causes (IsFull x.world) m
   after_masters x ms go all none = more_told (IsFull x.world) w.sent (suc (length w.sent)) ms (told_on w h (IsFull x.world) go) (all_apply (IsFull x.world) ms all none)
 
-  served : (index moment : ℕ) (s : ServerState) (i : Input) (choice : Choice) → element_at w.servers index ≡ Some s → IsTrue s.up → ((m : Message) → i ≡ input.Deliver m → IsAmong w.sent m) → Full (after_server w index moment (server_step s moment i choice))
+  served : (index moment : ℕ) (s : ServerState) (i : NodeInput) (choice : Choice) → element_at w.servers index ≡ Some s → IsTrue s.up → ((m : Message) → i ≡ input.Deliver m → IsAmong w.sent m) → Full (after_server w index moment (server_step s moment i choice))
       → AreRight (IsFull (after_server w index moment (server_step s moment i choice)).world) (server_step s moment i choice).state.leases
       × AllOf (Causes (IsFull (after_server w index moment (server_step s moment i choice)).world)) (server_step s moment i choice).out.sent
   served index moment s i choice at up came go =

@@ -4,7 +4,7 @@ use Rattle.std.specs.Prelude.{◌&&◌, IsTrue}
 use Rattle.std.specs.Ordering.{nat_cmp}
 use Rattle.std.specs.FinMap as table
 use Rattle.gfs_types.specs.declared.config.Config.{Config}
-use Rattle.messages.specs.declared.event.Input.{Input}
+use Rattle.messages.specs.declared.event.NodeInput.{NodeInput}
 use Rattle.messages.specs.declared.message.Body.{Body}
 use Rattle.messages.specs.declared.message.Body.TheVariants as body
 use Rattle.messages.specs.declared.message.Message.{Message}
@@ -211,7 +211,7 @@ module _ (handle version : ℕ) where
       (tt, down_passed m (log_changed_by_all m.disk (take made d.changes)) (take 1 (drop made d.changes)) (found_stopped (IsLogPassed handle version) m.disk d.changes made g.stops))
 
   -- what a step grants of the chunk follows the number
-  pub step_passed : (m : MasterState) (moment : ℕ) (i : Input) (choice : Choice) → IsLogged IsFoundRows IsRowedLog rows_kept m → WaitsHere m → HasPassed handle version m
+  pub step_passed : (m : MasterState) (moment : ℕ) (i : NodeInput) (choice : Choice) → IsLogged IsFoundRows IsRowedLog rows_kept m → WaitsHere m → HasPassed handle version m
       → AllOf (λ (x : Message). GrantsAbove handle version x.body) (master_step m moment i choice).out.sent × HasPassed handle version (master_step m moment i choice).state
   step_passed m moment i choice logged waits h =
       let d : MasterDoing = master_goes m moment i choice.refused in

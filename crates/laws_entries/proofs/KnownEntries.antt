@@ -4,8 +4,8 @@ use Rattle.gfs_types.specs.declared.config.Config.{Config}
 use Rattle.gfs_types.specs.declared.ids.DataId.{DataId}
 use Rattle.gfs_types.specs.declared.mutation.Mutation.{Mutation}
 use Rattle.messages.specs.declared.event.Event.{Event}
-use Rattle.messages.specs.declared.event.Input.{Input}
-use Rattle.messages.specs.declared.event.Input.TheVariants as input
+use Rattle.messages.specs.declared.event.NodeInput.{NodeInput}
+use Rattle.messages.specs.declared.event.NodeInput.TheVariants as input
 use Rattle.messages.specs.declared.message.Body.TheVariants as body
 use Rattle.messages.specs.declared.message.Message.{Message}
 use Rattle.primary_order.specs.declared.order.SerialOrder.{SerialOrder}
@@ -67,8 +67,8 @@ map_after w Q R go q =
 
 -- what holds of one chunk's order goes on to hold
 each_good : (w : WorldState) (handle : ℕ) (Good : List Placed → Type 0) → Good (order_of w.observer handle)
-    → ((moment : ℕ) (i : Input) (choice : Choice) → AllOf (IsKept (observed_moment w.config.skew_ms w.observer moment).trace handle Good) (master_step w.master moment i choice).seen)
-    → ((index moment : ℕ) (s : ServerState) (i : Input) (choice : Choice) → element_at w.servers index ≡ Some s → ((m : Message) → i ≡ input.Deliver m → IsAmong w.sent m)
+    → ((moment : ℕ) (i : NodeInput) (choice : Choice) → AllOf (IsKept (observed_moment w.config.skew_ms w.observer moment).trace handle Good) (master_step w.master moment i choice).seen)
+    → ((index moment : ℕ) (s : ServerState) (i : NodeInput) (choice : Choice) → element_at w.servers index ≡ Some s → ((m : Message) → i ≡ input.Deliver m → IsAmong w.sent m)
     → AllOf (IsKept (observed_moment w.config.skew_ms w.observer moment).trace handle Good) (server_step s moment i choice).seen)
     → HoldsAfter w (λ e x. Good (order_of x.world.observer handle))
 each_good w handle Good h masters servers =
@@ -92,21 +92,21 @@ each_good w handle Good h masters servers =
     none : (moment : ℕ) (seen : List Seen) → seen ≡ [] → AllOf (IsKept (observed_moment w.config.skew_ms w.observer moment).trace handle Good) seen
     none moment seen is = subst (λ (xs : List Seen). AllOf (IsKept (observed_moment w.config.skew_ms w.observer moment).trace handle Good) xs) (sym is) tt
 
-no_copies : (s : ServerState) (i : Input) (handle : ℕ) (x : Seen) → IsDue s i x → IsNoCopyTo handle x
+no_copies : (s : ServerState) (i : NodeInput) (handle : ℕ) (x : Seen) → IsDue s i x → IsNoCopyTo handle x
 no_copies s i handle (CopyStarted q copy) due = absurd due
 no_copies s i handle (Numbered q v n id m) due = tt
 no_copies s i handle (BecameSettled q v n) due = tt
 
 module _ (config : Config) (servers clients : ℕ) (w : WorldState) (r : IsReached config servers clients w) where
   -- a chunk with a lease is no new copy
-  masters_copy : (P : SerialOrder → Type 0) (handle version : ℕ) → IsSpent P handle version w → (moment : ℕ) (i : Input) (choice : Choice) (place : ℕ) (x : Seen) → element_at (master_step w.master moment i choice).seen place ≡ Some x → IsNoCopyTo handle x
+  masters_copy : (P : SerialOrder → Type 0) (handle version : ℕ) → IsSpent P handle version w → (moment : ℕ) (i : NodeInput) (choice : Choice) (place : ℕ) (x : Seen) → element_at (master_step w.master moment i choice).seen place ≡ Some x → IsNoCopyTo handle x
   masters_copy P handle version spent moment i choice place (CopyStarted q copy) at = λ same.
       (new_copies_have_no_lease config servers clients w r moment i choice place q copy at).ungranted spent.place spent.grant spent.at spent.order (version_of version) spent.end_moment spent.members
       (spent.is ∙ ap (λ (n : ℕ). body.Grant spent.order (handle_of n) (version_of version) spent.end_moment spent.members) same)
   masters_copy P handle version spent moment i choice place (Numbered q v n id m) at = tt
   masters_copy P handle version spent moment i choice place (BecameSettled q v n) at = tt
 
-  pub servers_copy : (handle : ℕ) (moment : ℕ) (s : ServerState) (i : Input) (choice : Choice) (place : ℕ) (x : Seen) → element_at (server_step s moment i choice).seen place ≡ Some x → IsNoCopyTo handle x
+  pub servers_copy : (handle : ℕ) (moment : ℕ) (s : ServerState) (i : NodeInput) (choice : Choice) (place : ℕ) (x : Seen) → element_at (server_step s moment i choice).seen place ≡ Some x → IsNoCopyTo handle x
   servers_copy handle moment s i choice place x at = no_copies (server_at s moment) i handle x (all_at (IsDue (server_at s moment) i) (server_step s moment i choice).seen place x (step_due s moment i choice) at)
 
   -- entries stay
@@ -134,7 +134,7 @@ module _ (config : Config) (servers clients : ℕ) (w : WorldState) (r : IsReach
   masters_give handle version serial (BecameSettled q v n) is = tt
   masters_give handle version serial (CopyStarted q copy) is = tt
 
-  servers_give : (handle version serial : ℕ) → IsSpent (HasGiven serial) handle version w → (index moment : ℕ) (s : ServerState) (i : Input) (choice : Choice) → element_at w.servers index ≡ Some s → ((m : Message) → i ≡ input.Deliver m → IsAmong w.sent m)
+  servers_give : (handle version serial : ℕ) → IsSpent (HasGiven serial) handle version w → (index moment : ℕ) (s : ServerState) (i : NodeInput) (choice : Choice) → element_at w.servers index ≡ Some s → ((m : Message) → i ≡ input.Deliver m → IsAmong w.sent m)
       → (place : ℕ) (x : Seen) → element_at (server_step s moment i choice).seen place ≡ Some x → GivesNot version serial handle x
   servers_give handle version serial spent index moment s i choice at came place (Numbered q v n id m) seen = λ same round number.
       given_no_more config servers clients w r q v n

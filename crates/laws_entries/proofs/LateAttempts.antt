@@ -12,8 +12,8 @@ use Rattle.gfs_types.specs.declared.ids.Moment.{Moment}
 use Rattle.gfs_types.specs.declared.ids.OrderNo.{OrderNo}
 use Rattle.messages.specs.declared.event.Event.{Event}
 use Rattle.messages.specs.declared.event.Event.TheVariants as event
-use Rattle.messages.specs.declared.event.Input.{Input}
-use Rattle.messages.specs.declared.event.Input.TheVariants as input
+use Rattle.messages.specs.declared.event.NodeInput.{NodeInput}
+use Rattle.messages.specs.declared.event.NodeInput.TheVariants as input
 use Rattle.messages.specs.declared.message.Body.TheVariants as body
 use Rattle.messages.specs.declared.message.Message.{Message}
 use Rattle.messages.specs.declared.message.Target.{Target}
@@ -70,7 +70,7 @@ pub record IsLate (w : WorldState) (id : DataId) : Type 0 where
   pub past : (index : ℕ) (s : ServerState) → element_at w.servers index ≡ Some s → IsPast handle.0 version.0 deadline.0 s
 
 -- what comes in to a server was sent to it
-comes_in : (w : WorldState) (e : Event) (server moment : ℕ) (i : Input) → IsGiven w e (the_server server) moment i → (m : Message) → i ≡ input.Deliver m → (place : ℕ) × (element_at w.sent place ≡ Some m) × (m.receiver ≡ the_server server)
+comes_in : (w : WorldState) (e : Event) (server moment : ℕ) (i : NodeInput) → IsGiven w e (the_server server) moment i → (m : Message) → i ≡ input.Deliver m → (place : ℕ) × (element_at w.sent place ≡ Some m) × (m.receiver ≡ the_server server)
 comes_in w (event.Deliver number now) server moment (input.Deliver x) is m same =
     subst (λ (y : Message). (place : ℕ) × (element_at w.sent place ≡ Some y) × (y.receiver ≡ the_server server)) (let both : input.Deliver x ≡ input.Deliver m = same in cc) (number - 1, element_numbered w.sent number x is.0, is.1)
 comes_in w (event.Call c asked now) server moment (input.Deliver x) is m same = absurd is
@@ -97,7 +97,7 @@ module _ (handle version deadline : ℕ) (s : ServerState) (moment : ℕ) where
 
 -- the version of a late attempt is granted to no server anew
 module _ (config : Config) (servers clients : ℕ) (w : WorldState) (r : IsReached config servers clients w) (id : DataId) (h : IsLate w id) where
-  none_granted : (e : Event) (index moment : ℕ) (s : ServerState) (i : Input) → element_at w.servers index ≡ Some s → IsGiven w e (the_server (suc index)) moment i
+  none_granted : (e : Event) (index moment : ℕ) (s : ServerState) (i : NodeInput) → element_at w.servers index ≡ Some s → IsGiven w e (the_server (suc index)) moment i
       → (m : Message) (order : OrderNo) (q : Handle) (v : Version) (end_moment : Moment) (members : List ℕ) → i ≡ input.Deliver m → m.body ≡ body.Grant order q v end_moment members → is_new_order s.disk order.epoch order.count ≡ true
       → q.0 ≡ h.handle.0 → v.0 ≡ h.version.0 → ⊥
   none_granted e index moment s i at given m order q v end_moment members came is new same_handle same_version =
@@ -123,7 +123,7 @@ module _ (config : Config) (servers clients : ℕ) (w : WorldState) (r : IsReach
   abbrev Past : ServerState → Type 0
   Past s = IsPast h.handle.0 h.version.0 h.deadline.0 s
 
-  step_past : (e : Event) (index moment : ℕ) (s : ServerState) (i : Input) (choice : Choice) → element_at w.servers index ≡ Some s → IsGiven w e (the_server (suc index)) moment i → IsTrue s.up → Past (server_step s moment i choice).state
+  step_past : (e : Event) (index moment : ℕ) (s : ServerState) (i : NodeInput) (choice : Choice) → element_at w.servers index ≡ Some s → IsGiven w e (the_server (suc index)) moment i → IsTrue s.up → Past (server_step s moment i choice).state
   step_past e index moment s i choice at given up =
       on_cond (λ (t : Taken ServerState). Past t.state) s.up (server_ends s (server_goes s moment i) choice choice.ending) (no_step s)
       (λ _. ends_past h.handle.0 h.version.0 h.deadline.0 s moment (server_goes s moment i) choice choice.ending (goes_clock s moment i)
@@ -180,7 +180,7 @@ put_one (x ∷ xs) zero t s at = sym (same_some t s at)
 put_one (x ∷ xs) (suc index) t s at = put_one xs index t s at
 
 -- a server that refuses a Mutate as Late
-pub new_late : (config : Config) (servers clients : ℕ) (w : WorldState) → IsReached config servers clients w → (index moment : ℕ) (s : ServerState) (i : Input) (choice : Choice) → element_at w.servers index ≡ Some s → IsTrue s.up
+pub new_late : (config : Config) (servers clients : ℕ) (w : WorldState) → IsReached config servers clients w → (index moment : ℕ) (s : ServerState) (i : NodeInput) (choice : Choice) → element_at w.servers index ≡ Some s → IsTrue s.up
     → (m : Message) → IsAmong w.sent m → (id : DataId) → m.sender ≡ the_client id.client.0 → (handle : Handle) (version : Version) (t : Target) (deadline : Moment) → m.body ≡ body.Mutate id handle version t deadline
     → (p : SerialOrder) → table.get s.leases handle.0 ≡ Some p → p.held.version ≡ version.0 → nat_le deadline.0 (server_at s moment).now ≡ true → IsLate (after_server w index moment (server_step s moment i choice)).world id
 new_late config servers clients w r index moment s i choice at up m among id sender handle version t deadline asked p there of_version late =

@@ -22,8 +22,8 @@ use Rattle.messages.specs.declared.message.Target.{Target}
 use Rattle.messages.specs.declared.message.Target.TheVariants as target
 use Rattle.messages.specs.declared.message.Change.{Change}
 use Rattle.messages.specs.declared.message.Change.TheVariants as change
-use Rattle.messages.specs.declared.event.Input.{Input}
-use Rattle.messages.specs.declared.event.Input.TheVariants as input
+use Rattle.messages.specs.declared.event.NodeInput.{NodeInput}
+use Rattle.messages.specs.declared.event.NodeInput.TheVariants as input
 use Rattle.record_append.specs.declared.placing.Placing.{Placing}
 use Rattle.record_append.specs.declared.placing.Placing.TheVariants.{At, Pad, Full, TooLong}
 use Rattle.record_append.specs.Placing.{placing}
@@ -407,7 +407,7 @@ module _ (K : Seen → Type 0) where
           let there = kept_where_cases (λ e. counts_at d.server.config.skew_ms e.1.held d.server.now) d.server.leases q old.0 old.1 in
           subst (λ (x : SerialOrder). IsRight (Since K d.seen) q x) old.2 (right_reported (Since K d.seen) q old.0 (h.0 q old.0 there))
 
-  does_fine : (d : ServerDoing) (i : Input) → Fine d → Fine (server_does d i)
+  does_fine : (d : ServerDoing) (i : NodeInput) → Fine d → Fine (server_does d i)
   does_fine d (input.Deliver m) h = takes_fine d m m.body h
   does_fine d input.Tick h = ticks_fine d h
 
@@ -426,7 +426,7 @@ module _ (K : Seen → Type 0) where
   first_right : (leases : Table SerialOrder) → AreRight K leases → AreRight (Since K []) leases
   first_right leases h q p at = right_on K (Since K []) (λ x k. inl k) q p (h q p at)
 
-  pub step_leaves : (s : ServerState) (moment : ℕ) (i : Input) (choice : Choice) → AreRight K s.leases → Leaves (server_step s moment i choice)
+  pub step_leaves : (s : ServerState) (moment : ℕ) (i : NodeInput) (choice : Choice) → AreRight K s.leases → Leaves (server_step s moment i choice)
   step_leaves s moment i choice h =
       on_cond Leaves s.up (server_ends s (server_goes s moment i) choice choice.ending) (no_step s)
       (λ _. ends_fine s (server_goes s moment i) choice choice.ending (does_fine (server_begins (server_at s moment)) i (first_right s.leases h, tt))) (λ _. (first_right s.leases h, tt))

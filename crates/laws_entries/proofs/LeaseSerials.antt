@@ -24,8 +24,8 @@ use Rattle.messages.specs.declared.message.Target.{Target}
 use Rattle.messages.specs.declared.message.Target.TheVariants as target
 use Rattle.messages.specs.declared.message.Change.{Change}
 use Rattle.messages.specs.declared.message.Change.TheVariants as change
-use Rattle.messages.specs.declared.event.Input.{Input}
-use Rattle.messages.specs.declared.event.Input.TheVariants as input
+use Rattle.messages.specs.declared.event.NodeInput.{NodeInput}
+use Rattle.messages.specs.declared.event.NodeInput.TheVariants as input
 use Rattle.record_append.specs.declared.placing.Placing.{Placing}
 use Rattle.record_append.specs.declared.placing.Placing.TheVariants.{At, Pad, Full, TooLong}
 use Rattle.record_append.specs.Placing.{placing}
@@ -313,7 +313,7 @@ module _ (handle version base : ℕ) where
       (λ _. h)
 
   -- A server s that takes an input, which gives a lease of this version anew only where none was numbered under it.
-  module _ (s : ServerState) (i : Input)
+  module _ (s : ServerState) (i : NodeInput)
       (none : (m : Message) (order : OrderNo) (q : Handle) (v : VersionId) (end_moment : Moment) (members : List ℕ) → i ≡ input.Deliver m → m.body ≡ body.Grant order q v end_moment members → is_new_order s.disk order.epoch order.count ≡ true
       → q.0 ≡ handle → v.0 ≡ version → base ≡ 0) where
     ordered : (order : OrderNo) (f : ServerDoing → ServerDoing) → (is_new_order s.disk order.epoch order.count ≡ true → Fine (stores (server_begins s) (SetOrder order)) → Fine (f (stores (server_begins s) (SetOrder order)))) → Fine (server_begins s)
@@ -370,7 +370,7 @@ module _ (handle version base : ℕ) where
         let there = kept_where_cases (λ e. counts_at s.config.skew_ms e.1.held s.now) s.leases handle old.0 old.1 in
         ap (λ (x : SerialOrder). x.serial) (sym old.2) ∙ h old.0 there (ap (λ (x : SerialOrder). x.held.version) old.2 ∙ same)
 
-    does_fine : (j : Input) → i ≡ j → Fine (server_begins s) → Fine (server_does (server_begins s) j)
+    does_fine : (j : NodeInput) → i ≡ j → Fine (server_begins s) → Fine (server_does (server_begins s) j)
     does_fine (input.Deliver m) came h = takes_fine m m.body came refl h
     does_fine input.Tick came h = ticks_fine h
 
@@ -383,7 +383,7 @@ module _ (handle version base : ℕ) where
   ends_fine s d choice (Stops made) h = none_have (base + numbered_in handle version (server_ends s d choice (Stops made)).seen)
 
   -- after a step of a server
-  pub step_counts : (s : ServerState) (moment : ℕ) (i : Input) (choice : Choice)
+  pub step_counts : (s : ServerState) (moment : ℕ) (i : NodeInput) (choice : Choice)
       → ((m : Message) (order : OrderNo) (q : Handle) (v : VersionId) (end_moment : Moment) (members : List ℕ) → i ≡ input.Deliver m → m.body ≡ body.Grant order q v end_moment members → is_new_order s.disk order.epoch order.count ≡ true
       → q.0 ≡ handle → v.0 ≡ version → base ≡ 0)
       → HaveSerial handle version base s.leases → HaveSerial handle version (base + numbered_in handle version (server_step s moment i choice).seen) (server_step s moment i choice).state.leases

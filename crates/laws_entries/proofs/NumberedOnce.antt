@@ -20,8 +20,8 @@ use Rattle.messages.specs.declared.message.Target.{Target}
 use Rattle.messages.specs.declared.message.Target.TheVariants as target
 use Rattle.messages.specs.declared.event.Event.{Event}
 use Rattle.messages.specs.declared.event.Event.TheVariants as event
-use Rattle.messages.specs.declared.event.Input.{Input}
-use Rattle.messages.specs.declared.event.Input.TheVariants as input
+use Rattle.messages.specs.declared.event.NodeInput.{NodeInput}
+use Rattle.messages.specs.declared.event.NodeInput.TheVariants as input
 use Rattle.record_append.specs.declared.placing.Placing.{Placing}
 use Rattle.record_append.specs.declared.placing.Placing.TheVariants.{At, Pad, Full, TooLong}
 use Rattle.record_append.specs.Placing.{placing}
@@ -131,11 +131,11 @@ module _ (handle version : ℕ) (id : DataId) where
       on_cond IsNoted (nat_le deadline d.server.now) (refuses_attempt d id Late) (mutates_as d handle p id t (attempted p id.client id.seq)) (λ _. inl none)
       (λ _. subst (λ (a : Attempted). IsNoted (mutates_as d handle p id t a)) (sym new) (new_noted d p t (row_at d.server.disk handle) (data_of d.server.pushed id) none))
 
-  goes_noted : (s : ServerState) (moment : ℕ) (i : Input) (m : Message) (v : Version) (t : Target) (deadline : Moment) (p : SerialOrder) → i ≡ input.Deliver m → m.body ≡ body.Mutate id (handle_of handle) v t deadline
+  goes_noted : (s : ServerState) (moment : ℕ) (i : NodeInput) (m : Message) (v : Version) (t : Target) (deadline : Moment) (p : SerialOrder) → i ≡ input.Deliver m → m.body ≡ body.Mutate id (handle_of handle) v t deadline
       → primary_of (server_at s moment) handle v.0 ≡ Some p → attempted p id.client id.seq ≡ IsNew → IsNoted (server_goes s moment i)
   goes_noted s moment i m v t deadline p is asked primary new =
       let d : ServerDoing = server_begins (server_at s moment) in
-      subst (λ (j : Input). IsNoted (server_goes s moment j)) (sym is)
+      subst (λ (j : NodeInput). IsNoted (server_goes s moment j)) (sym is)
       (subst (λ (b : Body). IsNoted (server_takes d m b)) (sym asked) (subst (λ (o : Option SerialOrder). IsNoted (mutates_under d handle id t deadline.0 o)) (sym primary) (under_noted d t deadline.0 p new refl)))
 
   ends_known : (s : ServerState) (d : ServerDoing) (choice : Choice) (e : Ending) (place : ℕ) (x : Seen) → element_at (server_ends s d choice e).seen place ≡ Some x → IsNoted d → Known (server_ends s d choice e).state.leases
@@ -143,7 +143,7 @@ module _ (handle version : ℕ) (id : DataId) where
   ends_known s d choice Lost place x at noted = none_known handle version id.client.0 id.seq
   ends_known s d choice (Stops made) place x at noted = none_known handle version id.client.0 id.seq
 
-  step_noted : (s : ServerState) (moment : ℕ) (i : Input) (choice : Choice) (place : ℕ) (x : Seen) → element_at (server_step s moment i choice).seen place ≡ Some x → IsNoted (server_goes s moment i) → Known (server_step s moment i choice).state.leases
+  step_noted : (s : ServerState) (moment : ℕ) (i : NodeInput) (choice : Choice) (place : ℕ) (x : Seen) → element_at (server_step s moment i choice).seen place ≡ Some x → IsNoted (server_goes s moment i) → Known (server_step s moment i choice).state.leases
   step_noted s moment i choice place x at noted =
       on_cond (λ (t : Taken ServerState). element_at t.seen place ≡ Some x → Known t.state.leases) s.up (server_ends s (server_goes s moment i) choice choice.ending) (no_step s)
       (λ _ g. ends_known s (server_goes s moment i) choice choice.ending place x g noted) (λ _ g. none_some x g) at
@@ -163,11 +163,11 @@ pub record IsUsedUp (handle version client seq : ℕ) (w : WorldState) : Type 0 
   pub known : (index : ℕ) (s : ServerState) → element_at w.servers index ≡ Some s → AreKnown handle version client seq s.leases
 
 -- what comes in to a server was sent to it
-comes_in : (w : WorldState) (e : Event) (server moment : ℕ) (i : Input) → IsGiven w e (the_server server) moment i → (m : Message) → i ≡ input.Deliver m → (place : ℕ) × (element_at w.sent place ≡ Some m) × (m.receiver ≡ the_server server)
+comes_in : (w : WorldState) (e : Event) (server moment : ℕ) (i : NodeInput) → IsGiven w e (the_server server) moment i → (m : Message) → i ≡ input.Deliver m → (place : ℕ) × (element_at w.sent place ≡ Some m) × (m.receiver ≡ the_server server)
 comes_in w (event.Deliver number now) server moment (input.Deliver x) is m same =
     subst (λ (y : Message). (place : ℕ) × (element_at w.sent place ≡ Some y) × (y.receiver ≡ the_server server)) (same_message x m same) (number - 1, element_numbered w.sent number x is.0, is.1)
   where
-    message_in : Input → Option Message
+    message_in : NodeInput → Option Message
     message_in (input.Deliver y) = Some y
     message_in input.Tick = None
 
@@ -230,7 +230,7 @@ module _ (config : Config) (servers clients handle version client seq : ℕ) whe
     told_server = scene_reached AreTold told_kept config servers clients w r
 
     -- the version is granted to no server anew
-    none_granted : (e : Event) (index moment : ℕ) (s : ServerState) (i : Input) → element_at w.servers index ≡ Some s → IsGiven w e (the_server (suc index)) moment i
+    none_granted : (e : Event) (index moment : ℕ) (s : ServerState) (i : NodeInput) → element_at w.servers index ≡ Some s → IsGiven w e (the_server (suc index)) moment i
         → (m : Message) (order : OrderNo) (q : Handle) (v : Version) (end_moment : Moment) (members : List ℕ) → i ≡ input.Deliver m → m.body ≡ body.Grant order q v end_moment members → is_new_order s.disk order.epoch order.count ≡ true
         → q.0 ≡ handle → v.0 ≡ version → ⊥
     none_granted e index moment s i at given m order q v end_moment members came is new same_handle same_version =
@@ -258,7 +258,7 @@ module _ (config : Config) (servers clients handle version client seq : ℕ) whe
     known_ends s d choice Lost g = none_known handle version client seq
     known_ends s d choice (Stops made) g = none_known handle version client seq
 
-    step_known : (e : Event) (index moment : ℕ) (s : ServerState) (i : Input) (choice : Choice) → element_at w.servers index ≡ Some s → IsGiven w e (the_server (suc index)) moment i
+    step_known : (e : Event) (index moment : ℕ) (s : ServerState) (i : NodeInput) (choice : Choice) → element_at w.servers index ≡ Some s → IsGiven w e (the_server (suc index)) moment i
         → AreKnown handle version client seq (server_step s moment i choice).state.leases
     step_known e index moment s i choice at given =
         on_cond (λ (t : Taken ServerState). AreKnown handle version client seq t.state.leases) s.up (server_ends s (server_goes s moment i) choice choice.ending) (no_step s)
@@ -311,7 +311,7 @@ module _ (config : Config) (servers clients handle version client seq : ℕ) whe
       used_on (happens w step.0 step.1).world rest (reached_later config servers clients w (step ∷ []) r) (holds_after w (λ e x. UsedUp x.world) (each_used w r h) step.0 step.1)
 
 -- after the step in which it is placed
-first_used : (config : Config) (servers clients : ℕ) (w : WorldState) → IsReached config servers clients w → (index moment : ℕ) (s : ServerState) (i : Input) (choice : Choice) (handle : Handle) (version : Version) (id : DataId)
+first_used : (config : Config) (servers clients : ℕ) (w : WorldState) → IsReached config servers clients w → (index moment : ℕ) (s : ServerState) (i : NodeInput) (choice : Choice) (handle : Handle) (version : Version) (id : DataId)
     → Numbers w index moment s i choice handle version id → IsUsedUp handle.0 version.0 id.client.0 id.seq (after_server w index moment (server_step s moment i choice)).world
 first_used config servers clients w r index moment s i choice handle version id n =
     record {

@@ -7,8 +7,8 @@ use Rattle.gfs_types.specs.declared.config.Config.{Config}
 use Rattle.gfs_types.specs.declared.ids.DataId.{DataId}
 use Rattle.gfs_types.specs.declared.mutation.Mutation.{Mutation}
 use Rattle.messages.specs.declared.event.Event.{Event}
-use Rattle.messages.specs.declared.event.Input.{Input}
-use Rattle.messages.specs.declared.event.Input.TheVariants as input
+use Rattle.messages.specs.declared.event.NodeInput.{NodeInput}
+use Rattle.messages.specs.declared.event.NodeInput.TheVariants as input
 use Rattle.messages.specs.declared.message.Message.{Message}
 use Rattle.relaxed_file.specs.Order.{CallId}
 use Rattle.protocol.specs.Tables.{Table, element_at}
@@ -46,7 +46,7 @@ any_data : (es : List (DataId × List ℕ)) → AllOf AnyData es
 any_data [] = tt
 any_data (e ∷ es) = (tt, any_data es)
 
-server_shown : (s : ServerState) (moment : ℕ) (i : Input) (choice : Choice) → AllOf IsOfServers (server_step s moment i choice).seen
+server_shown : (s : ServerState) (moment : ℕ) (i : NodeInput) (choice : Choice) → AllOf IsOfServers (server_step s moment i choice).seen
 server_shown s moment i choice = said.1
   where
     said : AllOf (λ (m : Message). Unit {0}) (server_step s moment i choice).out.sent × AllOf IsOfServers (server_step s moment i choice).seen × AllOf AnyData (server_step s moment i choice).state.pushed.entries
@@ -100,7 +100,7 @@ module _ (w : WorldState) (x : Happened) (T : ℕ → Placed → Type 0) where
   sees_none : (moment : ℕ) (seen : List Seen) → seen ≡ [] → AreAll T w.observer.orders → AreAll (Next w x T) (observed_all (observed_moment w.config.skew_ms w.observer moment) seen).orders
   sees_none moment seen none h = sees moment seen (subst (λ (xs : List Seen). AllOf (IsSeenNow w x) xs) (sym none) tt) h
 
-masters_see : (w : WorldState) (moment : ℕ) (i : Input) (choice : Choice) → AllOf (IsSeenNow w (after_master w moment (master_step w.master moment i choice))) (master_step w.master moment i choice).seen
+masters_see : (w : WorldState) (moment : ℕ) (i : NodeInput) (choice : Choice) → AllOf (IsSeenNow w (after_master w moment (master_step w.master moment i choice))) (master_step w.master moment i choice).seen
 masters_see w moment i choice = all_placed (IsSeenNow w x) seen (λ place s at. one place s at (all_at IsCopying seen place s (master_shown w.master moment i choice) at))
   where
     x : Happened
@@ -114,7 +114,7 @@ masters_see w moment i choice = all_placed (IsSeenNow w x) seen (λ place s at. 
     one place (BecameSettled handle version serial) at is = absurd is
     one place (CopyStarted handle copy) at is = record { moment = moment; input = i; choice = choice; place = place; step_is = refl; seen = at }
 
-servers_see : (w : WorldState) (index moment : ℕ) (s : ServerState) (i : Input) (choice : Choice) → element_at w.servers index ≡ Some s → ((m : Message) → i ≡ input.Deliver m → IsAmong w.sent m)
+servers_see : (w : WorldState) (index moment : ℕ) (s : ServerState) (i : NodeInput) (choice : Choice) → element_at w.servers index ≡ Some s → ((m : Message) → i ≡ input.Deliver m → IsAmong w.sent m)
     → AllOf (IsSeenNow w (after_server w index moment (server_step s moment i choice))) (server_step s moment i choice).seen
 servers_see w index moment s i choice there came = all_placed (IsSeenNow w x) seen (λ place y at. one place y at (all_at IsOfServers seen place y (server_shown s moment i choice) at))
   where

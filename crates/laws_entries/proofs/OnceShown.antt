@@ -11,8 +11,8 @@ use Rattle.messages.specs.declared.message.Body.{Body}
 use Rattle.messages.specs.declared.message.Body.TheVariants as body
 use Rattle.messages.specs.declared.message.Target.{Target}
 use Rattle.messages.specs.declared.message.Target.TheVariants as target
-use Rattle.messages.specs.declared.event.Input.{Input}
-use Rattle.messages.specs.declared.event.Input.TheVariants as input
+use Rattle.messages.specs.declared.event.NodeInput.{NodeInput}
+use Rattle.messages.specs.declared.event.NodeInput.TheVariants as input
 use Rattle.record_append.specs.declared.placing.Placing.{Placing}
 use Rattle.record_append.specs.declared.placing.Placing.TheVariants.{At, Pad, Full, TooLong}
 use Rattle.record_append.specs.Placing.{placing}
@@ -134,7 +134,7 @@ ends_once s d choice Goes h = h
 ends_once s d choice Lost h = tt
 ends_once s d choice (Stops made) h = once_filtered is_numbering d.seen h
 
-goes_on_once : (s : ServerState) (moment : ℕ) (i : Input) (choice : Choice) → IsOnce (server_goes s moment i) → NumbersOnce (server_step s moment i choice).seen
+goes_on_once : (s : ServerState) (moment : ℕ) (i : NodeInput) (choice : Choice) → IsOnce (server_goes s moment i) → NumbersOnce (server_step s moment i choice).seen
 goes_on_once s moment i choice h =
     on_cond (λ (t : Taken ServerState). NumbersOnce t.seen) s.up (server_ends s (server_goes s moment i) choice choice.ending) (no_step s) (λ _. ends_once s (server_goes s moment i) choice choice.ending h) (λ _. tt)
 
@@ -144,7 +144,7 @@ abbrev ByBody : Body → Seen → Type 0
 ByBody (body.Mutate id handle version t deadline) x = Unit {0}
 ByBody other x = NumbersNone x
 
-abbrev ByInput : Input → Seen → Type 0
+abbrev ByInput : NodeInput → Seen → Type 0
 ByInput (input.Deliver m) x = ByBody m.body x
 ByInput input.Tick x = Unit {0}
 
@@ -159,11 +159,11 @@ settled_by_body : (b : Body) (x : Seen) → NumbersNone x → ByBody b x
 settled_by_body (body.Mutate id handle version t deadline) x none = tt
 settled_by_body other x none = none
 
-settled_by_input : (i : Input) (x : Seen) → NumbersNone x → ByInput i x
+settled_by_input : (i : NodeInput) (x : Seen) → NumbersNone x → ByInput i x
 settled_by_input (input.Deliver m) x none = settled_by_body m.body x none
 settled_by_input input.Tick x none = tt
 
-step_shown : (s : ServerState) (moment : ℕ) (i : Input) (choice : Choice) → AllOf (ByInput i) (server_step s moment i choice).seen
+step_shown : (s : ServerState) (moment : ℕ) (i : NodeInput) (choice : Choice) → AllOf (ByInput i) (server_step s moment i choice).seen
 step_shown s moment i choice = said.1
   where
     said : AllOf (λ (m : Message). Unit {0}) (server_step s moment i choice).out.sent × AllOf (ByInput i) (server_step s moment i choice).seen × AllOf AnyData (server_step s moment i choice).state.pushed.entries
@@ -176,7 +176,7 @@ step_shown s moment i choice = said.1
           pushes = λ m id bytes rest is asked. (tt, λ receiver hops. tt);
           settled = λ handle version serial. settled_by_input i (BecameSettled handle version serial) tt;
           numbers = λ m id handle version t deadline p bytes placed is asked primary new there fit.
-              subst (λ (j : Input). ByInput j (Numbered (handle_of handle.0) (version_of p.held.version) (serial_of (p.serial + 1)) id placed)) (sym is)
+              subst (λ (j : NodeInput). ByInput j (Numbered (handle_of handle.0) (version_of p.held.version) (serial_of (p.serial + 1)) id placed)) (sym is)
               (subst (λ (b : Body). ByBody b (Numbered (handle_of handle.0) (version_of p.held.version) (serial_of (p.serial + 1)) id placed)) (sym asked) tt);
         })
         (any_data s.pushed.entries)
@@ -188,6 +188,6 @@ by_body s moment m choice (body.Mutate id handle version t deadline) is shown =
     (under_once handle.0 id (server_begins (server_at s moment)) t deadline.0 (primary_of (server_at s moment) handle.0 version.0) refl))
 by_body s moment m choice other is shown = none_once (server_step s moment (input.Deliver m) choice).seen shown
 
-pub step_once : (s : ServerState) (moment : ℕ) (i : Input) (choice : Choice) → NumbersOnce (server_step s moment i choice).seen
+pub step_once : (s : ServerState) (moment : ℕ) (i : NodeInput) (choice : Choice) → NumbersOnce (server_step s moment i choice).seen
 step_once s moment input.Tick choice = goes_on_once s moment input.Tick choice tt
 step_once s moment (input.Deliver m) choice = by_body s moment m choice m.body refl (step_shown s moment (input.Deliver m) choice)

@@ -5,8 +5,8 @@ use Rattle.gfs_types.specs.declared.ids.DataId.{DataId}
 use Rattle.gfs_types.specs.declared.ids.Handle.{Handle}
 use Rattle.gfs_types.specs.declared.ids.Version.{Version}
 use Rattle.messages.specs.declared.event.Event.{Event}
-use Rattle.messages.specs.declared.event.Input.{Input}
-use Rattle.messages.specs.declared.event.Input.TheVariants as input
+use Rattle.messages.specs.declared.event.NodeInput.{NodeInput}
+use Rattle.messages.specs.declared.event.NodeInput.TheVariants as input
 use Rattle.messages.specs.declared.message.Message.{Message}
 use Rattle.messages.specs.declared.message.Body.{Body}
 use Rattle.messages.specs.declared.message.Body.TheVariants as body
@@ -48,7 +48,7 @@ abbrev version_in : Version → Body → Version
 version_in x (body.Mutate id handle version aim deadline) = version
 version_in x other = x
 
-as_placing : (w : WorldState) (index moment : ℕ) (s : ServerState) (i : Input) (choice : Choice) (handle : Handle) (version : Version) (id : DataId) → Numbers w index moment s i choice handle version id
+as_placing : (w : WorldState) (index moment : ℕ) (s : ServerState) (i : NodeInput) (choice : Choice) (handle : Handle) (version : Version) (id : DataId) → Numbers w index moment s i choice handle version id
     → Placing w index moment s i choice handle version id
 as_placing w index moment s i choice handle version id n = record { is = n.is; came = n.came; place = n.place; serial = n.serial; placed = n.placed; seen = n.seen }
 
@@ -60,7 +60,7 @@ module _ (config : Config) (servers clients : ℕ) (steps : List (Event × Choic
   abbrev Now : WorldState
   Now = after_events (new_world config servers clients) steps
 
-  module _ (index moment : ℕ) (s : ServerState) (i : Input) (choice : Choice) (handle : Handle) (version : Version) (id : DataId) (new : Numbers Now index moment s i choice handle version id) (from : ℕ) (p : Placed)
+  module _ (index moment : ℕ) (s : ServerState) (i : NodeInput) (choice : Choice) (handle : Handle) (version : Version) (id : DataId) (new : Numbers Now index moment s i choice handle version id) (from : ℕ) (p : Placed)
       (was : WasNumbered Start steps from p) (client : p.entry.call.client ≡ id.client.0) (seq : p.seq ≡ id.seq) where
     before : WorldState
     before = after_events Start was.before
@@ -133,7 +133,7 @@ module _ (config : Config) (servers clients : ℕ) (steps : List (Event × Choic
         numbers_are_placed_once config servers clients (after_events Start was.before) (was.before, refl) (was.step).0 (was.step).1 handle version id now.index now.moment now.server now.input now.choice first now.step_is was.after index moment s i
         choice again
 
-  fresh : (index moment : ℕ) (s : ServerState) (i : Input) (choice : Choice) → element_at Now.servers index ≡ Some s → ((m : Message) → i ≡ input.Deliver m → IsAmong Now.sent m) → (place : ℕ) (x : Seen)
+  fresh : (index moment : ℕ) (s : ServerState) (i : NodeInput) (choice : Choice) → element_at Now.servers index ≡ Some s → ((m : Message) → i ≡ input.Deliver m → IsAmong Now.sent m) → (place : ℕ) (x : Seen)
       → element_at (server_step s moment i choice).seen place ≡ Some x → IsFresh (observed_moment Now.config.skew_ms Now.observer moment).trace Now.observer.orders x
   fresh index moment s i choice there came place (Numbered handle version serial id m) at =
       all_placed (λ p. IsApart p (new_entry (observed_moment Now.config.skew_ms Now.observer moment).trace version.0 serial.0 id m)) (placed_in Now.observer.orders handle.0)

@@ -22,8 +22,8 @@ use Rattle.messages.specs.declared.message.Target.{Target}
 use Rattle.messages.specs.declared.message.Target.TheVariants as target
 use Rattle.messages.specs.declared.message.Change.{Change}
 use Rattle.messages.specs.declared.message.Change.TheVariants as change
-use Rattle.messages.specs.declared.event.Input.{Input}
-use Rattle.messages.specs.declared.event.Input.TheVariants as input
+use Rattle.messages.specs.declared.event.NodeInput.{NodeInput}
+use Rattle.messages.specs.declared.event.NodeInput.TheVariants as input
 use Rattle.record_append.specs.declared.placing.Placing.{Placing}
 use Rattle.record_append.specs.declared.placing.Placing.TheVariants.{At, Pad, Full, TooLong}
 use Rattle.record_append.specs.Placing.{placing}
@@ -282,7 +282,7 @@ module _ (P : SerialOrder → Type 0) (k : KeepsOrders P) (handle version : ℕ)
       (λ _. h)
 
   -- A server s that takes an input, which gives no lease of this version anew.
-  module _ (s : ServerState) (i : Input)
+  module _ (s : ServerState) (i : NodeInput)
       (none : (m : Message) (order : OrderNo) (q : Handle) (v : VersionId) (end_moment : Moment) (members : List ℕ) → i ≡ input.Deliver m → m.body ≡ body.Grant order q v end_moment members → is_new_order s.disk order.epoch order.count ≡ true
       → q.0 ≡ handle → v.0 ≡ version → ⊥) where
     ordered : (order : OrderNo) (f : ServerDoing → ServerDoing) → (is_new_order s.disk order.epoch order.count ≡ true → Fine (stores (server_begins s) (SetOrder order)) → Fine (f (stores (server_begins s) (SetOrder order)))) → Fine (server_begins s)
@@ -333,6 +333,6 @@ module _ (P : SerialOrder → Type 0) (k : KeepsOrders P) (handle version : ℕ)
         let there = kept_where_cases (λ e. counts_at s.config.skew_ms e.1.held s.now) s.leases handle old.0 old.1 in
         subst P old.2 (k.reports old.0 (h old.0 there (ap (λ (x : SerialOrder). x.held.version) old.2 ∙ same)))
 
-    pub does_fit : (j : Input) → i ≡ j → Fine (server_begins s) → Fine (server_does (server_begins s) j)
+    pub does_fit : (j : NodeInput) → i ≡ j → Fine (server_begins s) → Fine (server_does (server_begins s) j)
     does_fit (input.Deliver m) came h = takes_fine m m.body came refl h
     does_fit input.Tick came h = ticks_fine h

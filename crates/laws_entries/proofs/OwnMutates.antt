@@ -4,7 +4,7 @@ use Rattle.std.specs.Option.{option_to_list}
 use Rattle.gfs_types.specs.declared.config.Config.{Config}
 use Rattle.gfs_types.specs.declared.ids.Node.{Node}
 use Rattle.gfs_types.specs.declared.ids.DataId.{DataId}
-use Rattle.messages.specs.declared.event.Input.{Input}
+use Rattle.messages.specs.declared.event.NodeInput.{NodeInput}
 use Rattle.messages.specs.declared.message.Body.{Body}
 use Rattle.messages.specs.declared.message.Body.TheVariants as body
 use Rattle.messages.specs.declared.message.Message.{Message}
@@ -64,7 +64,7 @@ all_own : (ms : List Message) → AllOf (λ m. (sender : Node) → IsOwn sender 
 all_own [] all = tt
 all_own (m ∷ ms) all = (all.0 m.sender, all_own ms all.1)
 
-server_owns : (s : ServerState) (moment : ℕ) (i : Input) (choice : Choice) → AllOf Owns (server_step s moment i choice).out.sent
+server_owns : (s : ServerState) (moment : ℕ) (i : NodeInput) (choice : Choice) → AllOf Owns (server_step s moment i choice).out.sent
 server_owns s moment i choice = all_own (server_step s moment i choice).out.sent said.0
   where
     said : AllOf (λ m. (sender : Node) → IsOwn sender m.body) (server_step s moment i choice).out.sent × AllOf (λ (x : Seen). Unit {0}) (server_step s moment i choice).seen × AllOf AnyData (server_step s moment i choice).state.pushed.entries

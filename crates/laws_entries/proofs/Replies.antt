@@ -13,8 +13,8 @@ use Rattle.gfs_types.specs.declared.answer.Answer.{Answer}
 use Rattle.gfs_types.specs.declared.answer.Answer.TheVariants as answer
 use Rattle.gfs_types.specs.declared.refusal.Refusal.{Refusal}
 use Rattle.gfs_types.specs.declared.refusal.Refusal.TheVariants.{TooLong, Collected, NoChunk, NoLease, ChunkFull, Unknown}
-use Rattle.messages.specs.declared.event.Input.{Input}
-use Rattle.messages.specs.declared.event.Input.TheVariants as input
+use Rattle.messages.specs.declared.event.NodeInput.{NodeInput}
+use Rattle.messages.specs.declared.event.NodeInput.TheVariants as input
 use Rattle.messages.specs.declared.message.NameReply.{NameReply}
 use Rattle.messages.specs.declared.message.NameReply.TheVariants.{Opened, Answered}
 use Rattle.messages.specs.declared.message.Body.{Body}
@@ -261,11 +261,11 @@ module _ (A : Call) (F : ℕ → Type 0) (Size : ℕ) where
   takes_at_good d c m (HasAnswer reply) is same fine there h = completes_good d c reply same fine (base_of d h)
   takes_at_good d c m other is same fine there h = takes_good d c m.body same (subst FineStage (sym is) fine) there h
 
-  abbrev pub TellsInput : ℕ → Input → Type 0
+  abbrev pub TellsInput : ℕ → NodeInput → Type 0
   TellsInput client (input.Deliver m) = TellsPlace client m.body
   TellsInput client input.Tick = Unit {0}
 
-  pub does_good : (d : ClientDoing) (i : Input) (c : CurrentCall) → d.client.current ≡ Some c → TellsInput d.client.id i → Good d → Good (client_does d i (Some c))
+  pub does_good : (d : ClientDoing) (i : NodeInput) (c : CurrentCall) → d.client.current ≡ Some c → TellsInput d.client.id i → Good d → Good (client_does d i (Some c))
   does_good d (input.Deliver m) c is there h = let now = subst FineNow is h.2 in takes_at_good d c m c.stage refl now.0 now.1 there h
   does_good d input.Tick c is there h = let now = subst FineNow is h.2 in ticks_good d c c.stage now.0 now.1 h
 

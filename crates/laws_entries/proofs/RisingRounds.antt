@@ -12,8 +12,8 @@ use Rattle.gfs_types.specs.declared.ids.Version.{Version}
 use Rattle.gfs_types.specs.declared.ids.Serial.{Serial}
 use Rattle.gfs_types.specs.declared.mutation.Mutation.{Mutation}
 use Rattle.messages.specs.declared.event.Event.{Event}
-use Rattle.messages.specs.declared.event.Input.{Input}
-use Rattle.messages.specs.declared.event.Input.TheVariants as input
+use Rattle.messages.specs.declared.event.NodeInput.{NodeInput}
+use Rattle.messages.specs.declared.event.NodeInput.TheVariants as input
 use Rattle.messages.specs.declared.message.Message.{Message}
 use Rattle.primary_order.specs.declared.order.SerialOrder.{SerialOrder}
 use Rattle.relaxed_file.specs.Run.{Visible}
@@ -93,7 +93,7 @@ pub record IsUnderLease (w : WorldState) (index moment : ℕ) (s : ServerState) 
   pub counts : primary_of (server_at s moment) handle version ≡ Some lease
   pub next : serial ≡ lease.serial + 1
 
-pub under_lease : (config : Config) (servers clients : ℕ) (w : WorldState) → IsReached config servers clients w → (index moment : ℕ) (s : ServerState) (i : Input) (choice : Choice) → element_at w.servers index ≡ Some s
+pub under_lease : (config : Config) (servers clients : ℕ) (w : WorldState) → IsReached config servers clients w → (index moment : ℕ) (s : ServerState) (i : NodeInput) (choice : Choice) → element_at w.servers index ≡ Some s
     → ((m : Message) → i ≡ input.Deliver m → IsAmong w.sent m) → (place : ℕ) (handle : Handle) (version : Version) (serial : Serial) (id : DataId) (m : Mutation)
     → element_at (server_step s moment i choice).seen place ≡ Some (Numbered handle version serial id m) → IsUnderLease w index moment s handle.0 version.0 serial.0
 under_lease config servers clients w r index moment s i choice there came place handle version serial id m at =
@@ -137,7 +137,7 @@ module _ (config : Config) (servers clients : ℕ) (w : WorldState) (r : IsReach
     stays : (ms : List Message) → ((handle place : ℕ) (p : Placed) → element_at (placed_in w.observer.orders handle) place ≡ Some p → AllOf (λ m. GrantsAbove handle p.entry.round m.body) ms) → AreAll (IsOfRound (w.sent ++ stamped (suc (length w.sent)) ms)) w.observer.orders
     stays ms all = placed_on (IsOfRound w.sent) (IsOfRound (w.sent ++ stamped (suc (length w.sent)) ms)) (λ handle place p at was. round_later (suc (length w.sent)) w.sent ms handle (unsettled p) (all handle place p at) was) h
 
-    master_rounds : (trace : List Visible) (moment : ℕ) (i : Input) (choice : Choice) → IsTrue w.master.up
+    master_rounds : (trace : List Visible) (moment : ℕ) (i : NodeInput) (choice : Choice) → IsTrue w.master.up
         → AreAll (IsOfRound (w.sent ++ stamped (suc (length w.sent)) (master_step w.master moment i choice).out.sent)) (orders_after_all trace w.observer.orders (master_step w.master moment i choice).seen)
     master_rounds trace moment i choice up =
         elim (step_shows w.master moment i choice base.base.logged base.waits) [
@@ -159,7 +159,7 @@ module _ (config : Config) (servers clients : ℕ) (w : WorldState) (r : IsReach
         stay : AreAll T w.observer.orders
         stay = stays ms (λ handle place p at. (step_passed handle p.entry.round w.master moment i choice base.base.logged base.waits (rounds_passed config servers clients w r handle place p at)).0)
 
-    server_rounds : (trace : List Visible) (index moment : ℕ) (s : ServerState) (i : Input) (choice : Choice) → element_at w.servers index ≡ Some s → ((m : Message) → i ≡ input.Deliver m → IsAmong w.sent m)
+    server_rounds : (trace : List Visible) (index moment : ℕ) (s : ServerState) (i : NodeInput) (choice : Choice) → element_at w.servers index ≡ Some s → ((m : Message) → i ≡ input.Deliver m → IsAmong w.sent m)
         → AreAll (IsOfRound (w.sent ++ stamped (suc (length w.sent)) (server_step s moment i choice).out.sent)) (orders_after_all trace w.observer.orders (server_step s moment i choice).seen)
     server_rounds trace index moment s i choice there came =
         all_keep trace V T
@@ -266,7 +266,7 @@ answered o n (Some reply) h = h
 
 module _ (config : Config) (servers clients : ℕ) (w : WorldState) (r : IsReached config servers clients w) where
   -- what a server numbers is of no lower round than the entries there
-  comes_last : (trace : List Visible) (index moment : ℕ) (s : ServerState) (i : Input) (choice : Choice) → IsTrue (observed_moment w.config.skew_ms w.observer moment).are_clocks_kept → element_at w.servers index ≡ Some s
+  comes_last : (trace : List Visible) (index moment : ℕ) (s : ServerState) (i : NodeInput) (choice : Choice) → IsTrue (observed_moment w.config.skew_ms w.observer moment).are_clocks_kept → element_at w.servers index ≡ Some s
       → ((m : Message) → i ≡ input.Deliver m → IsAmong w.sent m) → (place : ℕ) (x : Seen) → element_at (server_step s moment i choice).seen place ≡ Some x → IsNext IsNotAfter trace w.observer.orders x
   comes_last trace index moment s i choice clocks there came place (Numbered handle version serial id m) at =
       all_placed (λ p. ArePaired IsNotAfter p (new_entry trace version.0 serial.0 id m)) (placed_in w.observer.orders handle.0)

@@ -7,8 +7,8 @@ use Rattle.std.proofs.lemmas.Bool.{eqb-true, and_parts, and_from}
 use Rattle.gfs_types.specs.declared.config.Config.{Config}
 use Rattle.gfs_types.specs.declared.ids.DataId.{DataId}
 use Rattle.messages.specs.declared.event.Event.{Event}
-use Rattle.messages.specs.declared.event.Input.{Input}
-use Rattle.messages.specs.declared.event.Input.TheVariants as input
+use Rattle.messages.specs.declared.event.NodeInput.{NodeInput}
+use Rattle.messages.specs.declared.event.NodeInput.TheVariants as input
 use Rattle.messages.specs.declared.message.Body.{Body}
 use Rattle.messages.specs.declared.message.Body.TheVariants as body
 use Rattle.messages.specs.declared.message.Message.{Message}
@@ -61,7 +61,7 @@ any_data : (es : List (DataId × List ℕ)) → AllOf AnyData es
 any_data [] = tt
 any_data (e ∷ es) = (tt, any_data es)
 
-pub server_shown : (s : ServerState) (moment : ℕ) (i : Input) (choice : Choice) → AllOf IsOfServers (server_step s moment i choice).seen
+pub server_shown : (s : ServerState) (moment : ℕ) (i : NodeInput) (choice : Choice) → AllOf IsOfServers (server_step s moment i choice).seen
 server_shown s moment i choice = said.1
   where
     said : AllOf (λ (m : Message). Unit {0}) (server_step s moment i choice).out.sent × AllOf IsOfServers (server_step s moment i choice).seen × AllOf AnyData (server_step s moment i choice).state.pushed.entries
@@ -159,7 +159,7 @@ module _ (config : Config) (servers clients : ℕ) (w : WorldState) (r : IsReach
   keeps : (trace : List Visible) → Keeps trace IsSeenNow (IsRoundPassed w.master)
   keeps trace = record { numbers = λ handle version serial id m now. now; copies = λ handle copy now p t. absurd now }
 
-  servers_see : (index moment : ℕ) (s : ServerState) (i : Input) (choice : Choice) → element_at w.servers index ≡ Some s → ((m : Message) → i ≡ input.Deliver m → IsAmong w.sent m) → AllOf IsSeenNow (server_step s moment i choice).seen
+  servers_see : (index moment : ℕ) (s : ServerState) (i : NodeInput) (choice : Choice) → element_at w.servers index ≡ Some s → ((m : Message) → i ≡ input.Deliver m → IsAmong w.sent m) → AllOf IsSeenNow (server_step s moment i choice).seen
   servers_see index moment s i choice there came =
       all_placed IsSeenNow (server_step s moment i choice).seen (λ place y at. one place y at (all_at IsOfServers (server_step s moment i choice).seen place y (server_shown s moment i choice) at))
     where
@@ -173,7 +173,7 @@ module _ (config : Config) (servers clients : ℕ) (w : WorldState) (r : IsReach
       one place (CopyStarted handle copy) at is = absurd is
 
   -- the orders after a step of the master
-  master_orders : (trace : List Visible) (moment : ℕ) (i : Input) (choice : Choice) → IsTrue w.master.up
+  master_orders : (trace : List Visible) (moment : ℕ) (i : NodeInput) (choice : Choice) → IsTrue w.master.up
       → AreAll (IsRoundPassed (master_step w.master moment i choice).state) (orders_after_all trace w.observer.orders (master_step w.master moment i choice).seen)
   master_orders trace moment i choice up =
       elim (step_shows w.master moment i choice base.base.logged base.waits) [

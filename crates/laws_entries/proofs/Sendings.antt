@@ -13,8 +13,8 @@ use Rattle.gfs_types.specs.declared.answer.Answer.{Answer}
 use Rattle.gfs_types.specs.declared.answer.Answer.TheVariants as answer
 use Rattle.gfs_types.specs.declared.refusal.Refusal.{Refusal}
 use Rattle.gfs_types.specs.declared.refusal.Refusal.TheVariants.{TooLong, Collected, NoChunk, NoLease, ChunkFull, Unknown}
-use Rattle.messages.specs.declared.event.Input.{Input}
-use Rattle.messages.specs.declared.event.Input.TheVariants as input
+use Rattle.messages.specs.declared.event.NodeInput.{NodeInput}
+use Rattle.messages.specs.declared.event.NodeInput.TheVariants as input
 use Rattle.messages.specs.declared.message.NameReply.{NameReply}
 use Rattle.messages.specs.declared.message.NameReply.TheVariants.{Opened, Answered}
 use Rattle.messages.specs.declared.message.Body.{Body}
@@ -313,11 +313,11 @@ module _ (A : Call) (F : ℕ → Type 0) (Size Own : ℕ) (Sent : List Message) 
   takes_at_good d c m (HasAnswer reply) is same fine there h = completes_good d c reply same fine (base_of d h)
   takes_at_good d c m other is same fine there h = takes_good d c m.body same (subst (FineStage None) (sym is) fine) there h
 
-  abbrev pub TellsInput : Input → Type 0
+  abbrev pub TellsInput : NodeInput → Type 0
   TellsInput (input.Deliver m) = TellsPlace m.body
   TellsInput input.Tick = Unit {0}
 
-  pub does_good : (d : ClientDoing) (i : Input) (c : CurrentCall) → c.asked ≡ A → FineStage None c.stage → TellsInput i → Good d → Good (client_does d i (Some c))
+  pub does_good : (d : ClientDoing) (i : NodeInput) (c : CurrentCall) → c.asked ≡ A → FineStage None c.stage → TellsInput i → Good d → Good (client_does d i (Some c))
   does_good d (input.Deliver m) c same fine there h = takes_at_good d c m c.stage refl same fine there h
   does_good d input.Tick c same fine there h = ticks_good d c c.stage same fine h
 

@@ -6,8 +6,8 @@ use Rattle.gfs_types.specs.declared.ids.Handle.{Handle}
 use Rattle.gfs_types.specs.declared.ids.Version.{Version}
 use Rattle.gfs_types.specs.declared.ids.Serial.{Serial}
 use Rattle.gfs_types.specs.declared.refusal.Refusal.{Refusal}
-use Rattle.messages.specs.declared.event.Input.{Input}
-use Rattle.messages.specs.declared.event.Input.TheVariants as input
+use Rattle.messages.specs.declared.event.NodeInput.{NodeInput}
+use Rattle.messages.specs.declared.event.NodeInput.TheVariants as input
 use Rattle.messages.specs.declared.message.Message.{Message}
 use Rattle.primary_order.specs.declared.waiting.Waiting.{Waiting}
 use Rattle.primary_order.specs.declared.order.SerialOrder.{SerialOrder}
@@ -44,12 +44,12 @@ given_keeps n =
       reports = λ p h. h;
     }
 
-asked_for : (config : Config) (servers clients : ℕ) (w : WorldState) → IsReached config servers clients w → (index moment : ℕ) (s : ServerState) (i : Input) (choice : Choice) (handle : Handle) (version : Version) (serial : Serial) (g : Gives w index moment s i choice handle version serial)
+asked_for : (config : Config) (servers clients : ℕ) (w : WorldState) → IsReached config servers clients w → (index moment : ℕ) (s : ServerState) (i : NodeInput) (choice : Choice) (handle : Handle) (version : Version) (serial : Serial) (g : Gives w index moment s i choice handle version serial)
     → (m : Message) × (i ≡ input.Deliver m) × IsAskedFor (server_at s moment) w.sent m handle version serial g.id g.placed
 asked_for config servers clients w r index moment s i choice handle version serial g = numbered_mutations_were_asked_for config servers clients w r index s g.is moment i choice g.came g.place handle version serial g.id g.placed g.seen
 
 -- after the step in which a serial is given
-pub given_spent : (config : Config) (servers clients : ℕ) (w : WorldState) → IsReached config servers clients w → (index moment : ℕ) (s : ServerState) (i : Input) (choice : Choice) (handle : Handle) (version : Version) (serial : Serial)
+pub given_spent : (config : Config) (servers clients : ℕ) (w : WorldState) → IsReached config servers clients w → (index moment : ℕ) (s : ServerState) (i : NodeInput) (choice : Choice) (handle : Handle) (version : Version) (serial : Serial)
     → Gives w index moment s i choice handle version serial → IsSpent (HasGiven serial.0) handle.0 version.0 (after_server w index moment (server_step s moment i choice)).world
 given_spent config servers clients w r index moment s i choice handle version serial g =
     let law = asked_for config servers clients w r index moment s i choice handle version serial g in
@@ -58,7 +58,7 @@ given_spent config servers clients w r index moment s i choice handle version se
 
 -- from then on it isn't given
 pub given_no_more : (config : Config) (servers clients : ℕ) (w : WorldState) → IsReached config servers clients w → (handle : Handle) (version : Version) (serial : Serial) → IsSpent (HasGiven serial.0) handle.0 version.0 w
-    → (index moment : ℕ) (s : ServerState) (i : Input) (choice : Choice) → Gives w index moment s i choice handle version serial → ⊥
+    → (index moment : ℕ) (s : ServerState) (i : NodeInput) (choice : Choice) → Gives w index moment s i choice handle version serial → ⊥
 given_no_more config servers clients w r handle version serial spent index moment s i choice g =
     let law = asked_for config servers clients w r index moment s i choice handle version serial g in
     let asked = law.2 in

@@ -30,8 +30,8 @@ use Rattle.messages.specs.declared.message.Target.{Target}
 use Rattle.messages.specs.declared.message.Target.TheVariants as target
 use Rattle.messages.specs.declared.message.Change.{Change}
 use Rattle.messages.specs.declared.message.Change.TheVariants as change
-use Rattle.messages.specs.declared.event.Input.{Input}
-use Rattle.messages.specs.declared.event.Input.TheVariants as input
+use Rattle.messages.specs.declared.event.NodeInput.{NodeInput}
+use Rattle.messages.specs.declared.event.NodeInput.TheVariants as input
 use Rattle.record_append.specs.declared.placing.Placing.{Placing}
 use Rattle.record_append.specs.declared.placing.Placing.TheVariants.{At, Pad, Full, TooLong}
 use Rattle.record_append.specs.Placing.{placing}
@@ -320,12 +320,12 @@ module _ (s : ServerState) where
   takes_fine m (body.Image q v serial bytes) = imaged s.disk (server_begins s) q.0 v.0 serial.0 bytes refl
   takes_fine m other = tt
 
-  does_fine : (i : Input) → Said (server_does (server_begins s) i)
+  does_fine : (i : NodeInput) → Said (server_does (server_begins s) i)
   does_fine (input.Deliver m) = takes_fine m m.body
   does_fine input.Tick = (tt, tt)
 
 -- the disk is as the step began until its end
-disk_kept : (s : ServerState) (moment : ℕ) (i : Input) → (server_goes s moment i).server.disk ≡ s.disk
+disk_kept : (s : ServerState) (moment : ℕ) (i : NodeInput) → (server_goes s moment i).server.disk ≡ s.disk
 disk_kept s moment i =
     goes_fine s (λ c. c.disk ≡ s.disk) (λ c. c.disk ≡ s.disk)
     (record {
@@ -349,7 +349,7 @@ pub record Causes (s : ServerState) (t : Taken ServerState) : Type 0 where
   pub disk : t.state.disk ≡ disk_changed_by_all s.disk changes
   pub caused : AllOf (λ m. IsCaused s.disk changes t.seen m.body) t.out.sent
 
-ends_caused : (s : ServerState) (moment : ℕ) (i : Input) (choice : Choice) (e : Ending) → ((server_ends s (server_goes s moment i) choice e).out.sent ≡ []) ⊎ Causes s (server_ends s (server_goes s moment i) choice e)
+ends_caused : (s : ServerState) (moment : ℕ) (i : NodeInput) (choice : Choice) (e : Ending) → ((server_ends s (server_goes s moment i) choice e).out.sent ≡ []) ⊎ Causes s (server_ends s (server_goes s moment i) choice e)
 ends_caused s moment i choice Goes =
     let d : ServerDoing = server_goes s moment i in
     inr (record { changes = d.changes; disk = same_disk; caused = all_in_order (λ m. IsCaused s.disk d.changes d.seen m.body) choice.order d.sent (does_fine (server_at s moment) i) })
@@ -359,6 +359,6 @@ ends_caused s moment i choice Goes =
 ends_caused s moment i choice Lost = inl refl
 ends_caused s moment i choice (Stops made) = inl refl
 
-pub step_caused : (s : ServerState) (moment : ℕ) (i : Input) (choice : Choice) → ((server_step s moment i choice).out.sent ≡ []) ⊎ Causes s (server_step s moment i choice)
+pub step_caused : (s : ServerState) (moment : ℕ) (i : NodeInput) (choice : Choice) → ((server_step s moment i choice).out.sent ≡ []) ⊎ Causes s (server_step s moment i choice)
 step_caused s moment i choice =
     on_cond (λ (t : Taken ServerState). (t.out.sent ≡ []) ⊎ Causes s t) s.up (server_ends s (server_goes s moment i) choice choice.ending) (no_step s) (λ _. ends_caused s moment i choice choice.ending) (λ _. inl refl)

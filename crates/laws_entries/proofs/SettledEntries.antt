@@ -14,8 +14,8 @@ use Rattle.gfs_types.specs.declared.mutation.Mutation.{Mutation}
 use Rattle.gfs_types.specs.declared.mutation.Mutation.TheVariants as mutation
 use Rattle.gfs_types.specs.declared.refusal.Refusal.TheVariants.{Late}
 use Rattle.messages.specs.declared.event.Event.{Event}
-use Rattle.messages.specs.declared.event.Input.{Input}
-use Rattle.messages.specs.declared.event.Input.TheVariants as input
+use Rattle.messages.specs.declared.event.NodeInput.{NodeInput}
+use Rattle.messages.specs.declared.event.NodeInput.TheVariants as input
 use Rattle.messages.specs.declared.message.Body.{Body}
 use Rattle.messages.specs.declared.message.Body.TheVariants as body
 use Rattle.messages.specs.declared.message.Message.{Message}
@@ -107,11 +107,11 @@ module _ (P : SerialOrder → Type 0) (k : KeepsOrders P) (handle version : ℕ)
       on_cond IsNoted (nat_le deadline d.server.now) (refuses_attempt d id Late) (mutates_as d handle p id t (attempted p id.client id.seq)) (λ _. inl none)
       (λ _. subst (λ (a : Attempted). IsNoted (mutates_as d handle p id t a)) (sym new) (new_noted d t (row_at d.server.disk handle) (data_of d.server.pushed id) none))
 
-  goes_noted : (s : ServerState) (moment : ℕ) (i : Input) (m : Message) (v : Version) (t : Target) (deadline : Moment) → i ≡ input.Deliver m → m.body ≡ body.Mutate id (handle_of handle) v t deadline
+  goes_noted : (s : ServerState) (moment : ℕ) (i : NodeInput) (m : Message) (v : Version) (t : Target) (deadline : Moment) → i ≡ input.Deliver m → m.body ≡ body.Mutate id (handle_of handle) v t deadline
       → primary_of (server_at s moment) handle v.0 ≡ Some p → attempted p id.client id.seq ≡ IsNew → IsNoted (server_goes s moment i)
   goes_noted s moment i m v t deadline is asked primary new =
       let d : ServerDoing = server_begins (server_at s moment) in
-      subst (λ (j : Input). IsNoted (server_goes s moment j)) (sym is)
+      subst (λ (j : NodeInput). IsNoted (server_goes s moment j)) (sym is)
       (subst (λ (b : Body). IsNoted (server_takes d m b)) (sym asked) (subst (λ (o : Option SerialOrder). IsNoted (mutates_under d handle id t deadline.0 o)) (sym primary) (under_noted d t deadline.0 new refl)))
 
   ends_fit : (s : ServerState) (d : ServerDoing) (choice : Choice) (e : Ending) (place : ℕ) (x : Seen) → element_at (server_ends s d choice e).seen place ≡ Some x → IsNoted d → AreFit P handle version (server_ends s d choice e).state.leases
@@ -119,7 +119,7 @@ module _ (P : SerialOrder → Type 0) (k : KeepsOrders P) (handle version : ℕ)
   ends_fit s d choice Lost place x at noted = none_fit P handle version
   ends_fit s d choice (Stops made) place x at noted = none_fit P handle version
 
-  step_noted : (s : ServerState) (moment : ℕ) (i : Input) (choice : Choice) (place : ℕ) (x : Seen) → element_at (server_step s moment i choice).seen place ≡ Some x → IsNoted (server_goes s moment i)
+  step_noted : (s : ServerState) (moment : ℕ) (i : NodeInput) (choice : Choice) (place : ℕ) (x : Seen) → element_at (server_step s moment i choice).seen place ≡ Some x → IsNoted (server_goes s moment i)
       → AreFit P handle version (server_step s moment i choice).state.leases
   step_noted s moment i choice place x at noted =
       on_cond (λ (t : Taken ServerState). element_at t.seen place ≡ Some x → AreFit P handle version t.state.leases) s.up (server_ends s (server_goes s moment i) choice choice.ending) (no_step s)
@@ -132,7 +132,7 @@ none_given version serial handle (Numbered q v n id m) none = absurd none
 none_given version serial handle (BecameSettled q v n) none = tt
 none_given version serial handle (CopyStarted q copy) none = tt
 
-module _ (config : Config) (servers clients : ℕ) (w : WorldState) (r : IsReached config servers clients w) (e : Event) (index moment : ℕ) (s : ServerState) (i : Input) (choice : Choice) (at : element_at w.servers index ≡ Some s)
+module _ (config : Config) (servers clients : ℕ) (w : WorldState) (r : IsReached config servers clients w) (e : Event) (index moment : ℕ) (s : ServerState) (i : NodeInput) (choice : Choice) (at : element_at w.servers index ≡ Some s)
     (given : IsGiven w e (the_server (suc index)) moment i) (up : IsTrue s.up) (rights : AreRight (K w) s.leases) where
   came : (m : Message) → i ≡ input.Deliver m → IsAmong w.sent m
   came = came_in w e (suc index) moment i given

@@ -21,8 +21,8 @@ use Rattle.messages.specs.declared.message.Target.{Target}
 use Rattle.messages.specs.declared.message.Target.TheVariants as target
 use Rattle.messages.specs.declared.message.Change.{Change}
 use Rattle.messages.specs.declared.message.Change.TheVariants as change
-use Rattle.messages.specs.declared.event.Input.{Input}
-use Rattle.messages.specs.declared.event.Input.TheVariants as input
+use Rattle.messages.specs.declared.event.NodeInput.{NodeInput}
+use Rattle.messages.specs.declared.event.NodeInput.TheVariants as input
 use Rattle.record_append.specs.declared.placing.Placing.{Placing}
 use Rattle.record_append.specs.declared.placing.Placing.TheVariants.{At, Pad, Full, TooLong}
 use Rattle.record_append.specs.Placing.{placing}
@@ -64,7 +64,7 @@ pub record IsWaiting (s : ServerState) (handle version serial : ℕ) : Type 0 wh
   pub waits : table.get lease.waiting serial ≡ Some waiting
 
 -- the server is asked to place data of a new number, under this version and the next serial
-pub record IsNewly (s : ServerState) (i : Input) (handle version serial : ℕ) : Type 0 where
+pub record IsNewly (s : ServerState) (i : NodeInput) (handle version serial : ℕ) : Type 0 where
   pub asked : Message
   pub id : DataId
   pub named : VersionId
@@ -79,7 +79,7 @@ pub record IsNewly (s : ServerState) (i : Input) (handle version serial : ℕ) :
   pub next : serial ≡ lease.serial + 1
 
 -- why a mutation became settled; no server begins a copy of a chunk
-abbrev pub IsDue : ServerState → Input → Seen → Type 0
+abbrev pub IsDue : ServerState → NodeInput → Seen → Type 0
 IsDue s i (BecameSettled handle version serial) = IsWaiting s handle.0 version.0 serial.0 ⊎ IsNewly s i handle.0 version.0 serial.0
 IsDue s i (Numbered handle version serial id m) = Unit {0}
 IsDue s i (CopyStarted handle copy) = ⊥
@@ -264,7 +264,7 @@ module _ (S : Seen → Type 0) where
 
 -- a step
 
-module _ (s : ServerState) (i : Input) where
+module _ (s : ServerState) (i : NodeInput) where
   abbrev Due : Seen → Type 0
   Due x = IsDue s i x
 
@@ -305,7 +305,7 @@ module _ (s : ServerState) (i : Input) where
   takes_fine m (body.Cloned q v) came is = tt
   takes_fine m (body.Report replicas leases) came is = tt
 
-  does_fine : (j : Input) → i ≡ j → AllOf (IsDue s i) (server_does (server_begins s) j).seen
+  does_fine : (j : NodeInput) → i ≡ j → AllOf (IsDue s i) (server_does (server_begins s) j).seen
   does_fine (input.Deliver m) came = takes_fine m m.body came refl
   does_fine input.Tick came = tt
 
@@ -314,7 +314,7 @@ ends_fine S s d choice Goes h = h
 ends_fine S s d choice Lost h = tt
 ends_fine S s d choice (Stops made) h = all_filtered S is_numbering d.seen h
 
-pub step_due : (s : ServerState) (moment : ℕ) (i : Input) (choice : Choice) → AllOf (IsDue (server_at s moment) i) (server_step s moment i choice).seen
+pub step_due : (s : ServerState) (moment : ℕ) (i : NodeInput) (choice : Choice) → AllOf (IsDue (server_at s moment) i) (server_step s moment i choice).seen
 step_due s moment i choice =
     on_cond (λ (t : Taken ServerState). AllOf (IsDue (server_at s moment) i) t.seen) s.up (server_ends s (server_goes s moment i) choice choice.ending) (no_step s)
     (λ _. ends_fine (IsDue (server_at s moment) i) s (server_goes s moment i) choice choice.ending (does_fine (server_at s moment) i i refl)) (λ _. tt)

@@ -21,8 +21,8 @@ use Rattle.messages.specs.declared.message.Target.{Target}
 use Rattle.messages.specs.declared.message.Target.TheVariants as target
 use Rattle.messages.specs.declared.event.Event.{Event}
 use Rattle.messages.specs.declared.event.Event.TheVariants as event
-use Rattle.messages.specs.declared.event.Input.{Input}
-use Rattle.messages.specs.declared.event.Input.TheVariants as input
+use Rattle.messages.specs.declared.event.NodeInput.{NodeInput}
+use Rattle.messages.specs.declared.event.NodeInput.TheVariants as input
 use Rattle.record_append.specs.declared.placing.Placing.{Placing}
 use Rattle.record_append.specs.declared.placing.Placing.TheVariants.{At, Pad, Full, TooLong}
 use Rattle.record_append.specs.Placing.{placing}
@@ -139,11 +139,11 @@ module _ (P : SerialOrder → Type 0) (k : KeepsOrders P) (handle version : ℕ)
       on_cond IsNoted (nat_le deadline d.server.now) (refuses_attempt d id Late) (mutates_as d handle p id t (attempted p id.client id.seq)) (λ _. inl none)
       (λ _. subst (λ (a : Attempted). IsNoted (mutates_as d handle p id t a)) (sym new) (new_noted d t (row_at d.server.disk handle) (data_of d.server.pushed id) none))
 
-  goes_noted : (s : ServerState) (moment : ℕ) (i : Input) (m : Message) (v : Version) (t : Target) (deadline : Moment) → i ≡ input.Deliver m → m.body ≡ body.Mutate id (handle_of handle) v t deadline
+  goes_noted : (s : ServerState) (moment : ℕ) (i : NodeInput) (m : Message) (v : Version) (t : Target) (deadline : Moment) → i ≡ input.Deliver m → m.body ≡ body.Mutate id (handle_of handle) v t deadline
       → primary_of (server_at s moment) handle v.0 ≡ Some p → attempted p id.client id.seq ≡ IsNew → IsNoted (server_goes s moment i)
   goes_noted s moment i m v t deadline is asked primary new =
       let d : ServerDoing = server_begins (server_at s moment) in
-      subst (λ (j : Input). IsNoted (server_goes s moment j)) (sym is)
+      subst (λ (j : NodeInput). IsNoted (server_goes s moment j)) (sym is)
       (subst (λ (b : Body). IsNoted (server_takes d m b)) (sym asked) (subst (λ (o : Option SerialOrder). IsNoted (mutates_under d handle id t deadline.0 o)) (sym primary) (under_noted d t deadline.0 new refl)))
 
   ends_fit : (s : ServerState) (d : ServerDoing) (choice : Choice) (e : Ending) (place : ℕ) (x : Seen) → element_at (server_ends s d choice e).seen place ≡ Some x → IsNoted d → Fit (server_ends s d choice e).state.leases
@@ -151,7 +151,7 @@ module _ (P : SerialOrder → Type 0) (k : KeepsOrders P) (handle version : ℕ)
   ends_fit s d choice Lost place x at noted = none_fit P handle version
   ends_fit s d choice (Stops made) place x at noted = none_fit P handle version
 
-  step_noted : (s : ServerState) (moment : ℕ) (i : Input) (choice : Choice) (place : ℕ) (x : Seen) → element_at (server_step s moment i choice).seen place ≡ Some x → IsNoted (server_goes s moment i) → Fit (server_step s moment i choice).state.leases
+  step_noted : (s : ServerState) (moment : ℕ) (i : NodeInput) (choice : Choice) (place : ℕ) (x : Seen) → element_at (server_step s moment i choice).seen place ≡ Some x → IsNoted (server_goes s moment i) → Fit (server_step s moment i choice).state.leases
   step_noted s moment i choice place x at noted =
       on_cond (λ (t : Taken ServerState). element_at t.seen place ≡ Some x → Fit t.state.leases) s.up (server_ends s (server_goes s moment i) choice choice.ending) (no_step s)
       (λ _ g. ends_fit s (server_goes s moment i) choice choice.ending place x g noted) (λ _ g. none_some x g) at
@@ -171,11 +171,11 @@ pub record IsSpent (P : SerialOrder → Type 0) (handle version : ℕ) (w : Worl
   pub fit : (index : ℕ) (s : ServerState) → element_at w.servers index ≡ Some s → AreFit P handle version s.leases
 
 -- what comes in to a server was sent to it
-comes_in : (w : WorldState) (e : Event) (server moment : ℕ) (i : Input) → IsGiven w e (the_server server) moment i → (m : Message) → i ≡ input.Deliver m → (place : ℕ) × (element_at w.sent place ≡ Some m) × (m.receiver ≡ the_server server)
+comes_in : (w : WorldState) (e : Event) (server moment : ℕ) (i : NodeInput) → IsGiven w e (the_server server) moment i → (m : Message) → i ≡ input.Deliver m → (place : ℕ) × (element_at w.sent place ≡ Some m) × (m.receiver ≡ the_server server)
 comes_in w (event.Deliver number now) server moment (input.Deliver x) is m same =
     subst (λ (y : Message). (place : ℕ) × (element_at w.sent place ≡ Some y) × (y.receiver ≡ the_server server)) (same_message x m same) (number - 1, element_numbered w.sent number x is.0, is.1)
   where
-    message_in : Input → Option Message
+    message_in : NodeInput → Option Message
     message_in (input.Deliver y) = Some y
     message_in input.Tick = None
 
@@ -238,7 +238,7 @@ module _ (P : SerialOrder → Type 0) (k : KeepsOrders P) (config : Config) (ser
     told_server = scene_reached AreTold told_kept config servers clients w r
 
     -- the version is granted to no server anew
-    none_granted : (e : Event) (index moment : ℕ) (s : ServerState) (i : Input) → element_at w.servers index ≡ Some s → IsGiven w e (the_server (suc index)) moment i
+    none_granted : (e : Event) (index moment : ℕ) (s : ServerState) (i : NodeInput) → element_at w.servers index ≡ Some s → IsGiven w e (the_server (suc index)) moment i
         → (m : Message) (order : OrderNo) (q : Handle) (v : Version) (end_moment : Moment) (members : List ℕ) → i ≡ input.Deliver m → m.body ≡ body.Grant order q v end_moment members → is_new_order s.disk order.epoch order.count ≡ true
         → q.0 ≡ handle → v.0 ≡ version → ⊥
     none_granted e index moment s i at given m order q v end_moment members came is new same_handle same_version =
@@ -266,7 +266,7 @@ module _ (P : SerialOrder → Type 0) (k : KeepsOrders P) (config : Config) (ser
     ends_on s d choice Lost g = none_fit P handle version
     ends_on s d choice (Stops made) g = none_fit P handle version
 
-    step_fit : (e : Event) (index moment : ℕ) (s : ServerState) (i : Input) (choice : Choice) → element_at w.servers index ≡ Some s → IsGiven w e (the_server (suc index)) moment i
+    step_fit : (e : Event) (index moment : ℕ) (s : ServerState) (i : NodeInput) (choice : Choice) → element_at w.servers index ≡ Some s → IsGiven w e (the_server (suc index)) moment i
         → AreFit P handle version (server_step s moment i choice).state.leases
     step_fit e index moment s i choice at given =
         on_cond (λ (t : Taken ServerState). AreFit P handle version t.state.leases) s.up (server_ends s (server_goes s moment i) choice choice.ending) (no_step s)
@@ -319,7 +319,7 @@ module _ (P : SerialOrder → Type 0) (k : KeepsOrders P) (config : Config) (ser
       spent_on (happens w step.0 step.1).world rest (reached_later config servers clients w (step ∷ []) r) (holds_after w (λ e x. Spent x.world) (each_spent w r h) step.0 step.1)
 
 -- after a step of the server that holds the lease, if it holds of what the step leaves
-pub first_spent : (P : SerialOrder → Type 0) (config : Config) (servers clients : ℕ) (w : WorldState) → IsReached config servers clients w → (index moment : ℕ) (s : ServerState) (i : Input) (choice : Choice) → element_at w.servers index ≡ Some s
+pub first_spent : (P : SerialOrder → Type 0) (config : Config) (servers clients : ℕ) (w : WorldState) → IsReached config servers clients w → (index moment : ℕ) (s : ServerState) (i : NodeInput) (choice : Choice) → element_at w.servers index ≡ Some s
     → (handle version : ℕ) (p : SerialOrder) → table.get s.leases handle ≡ Some p → p.held.version ≡ version → AreFit P handle version (server_step s moment i choice).state.leases
     → IsSpent P handle version (after_server w index moment (server_step s moment i choice)).world
 first_spent P config servers clients w r index moment s i choice is handle version p there of_version now =
@@ -353,7 +353,7 @@ first_spent P config servers clients w r index moment s i choice is handle versi
     lease = told.told handle p there
 
 -- after a step in which a mutation is numbered
-pub numbered_spent : (P : SerialOrder → Type 0) → KeepsOrders P → (config : Config) (servers clients : ℕ) (w : WorldState) → IsReached config servers clients w → (index moment : ℕ) (s : ServerState) (i : Input) (choice : Choice) → element_at w.servers index ≡ Some s
+pub numbered_spent : (P : SerialOrder → Type 0) → KeepsOrders P → (config : Config) (servers clients : ℕ) (w : WorldState) → IsReached config servers clients w → (index moment : ℕ) (s : ServerState) (i : NodeInput) (choice : Choice) → element_at w.servers index ≡ Some s
     → (m : Message) → i ≡ input.Deliver m → (handle : Handle) (version : Version) (serial : Serial) (id : DataId) (placed : Mutation) → (asked : IsAskedFor (server_at s moment) w.sent m handle version serial id placed)
     → (place : ℕ) (y : Seen) → element_at (server_step s moment i choice).seen place ≡ Some y → ((o : Option ℕ) → P (numbered asked.lease id.client id.seq o))
     → IsSpent P handle.0 version.0 (after_server w index moment (server_step s moment i choice)).world

@@ -18,8 +18,8 @@ use Rattle.messages.specs.declared.message.Target.{Target}
 use Rattle.messages.specs.declared.message.Target.TheVariants as target
 use Rattle.messages.specs.declared.event.Event.{Event}
 use Rattle.messages.specs.declared.event.Event.TheVariants as event
-use Rattle.messages.specs.declared.event.Input.{Input}
-use Rattle.messages.specs.declared.event.Input.TheVariants as input
+use Rattle.messages.specs.declared.event.NodeInput.{NodeInput}
+use Rattle.messages.specs.declared.event.NodeInput.TheVariants as input
 use Rattle.data_push.specs.Buffers.{same_id}
 use Rattle.leases.specs.LeaseHeld.{counts_at}
 use Rattle.primary_order.specs.declared.order.SerialOrder.{SerialOrder}
@@ -132,7 +132,7 @@ placed_for (target.Write at) bytes (mutation.Pad offset) h = absurd h
 placed_for target.Append bytes (mutation.Write offset written) h = absurd h
 
 -- what a step shows was asked for
-abbrev IsShown : ServerState → List Message → Input → Seen → Type 0
+abbrev IsShown : ServerState → List Message → NodeInput → Seen → Type 0
 IsShown s sent i (Numbered handle version serial id placed) = (m : Message) × (i ≡ input.Deliver m) × IsAskedFor s sent m handle version serial id placed
 IsShown s sent i other = Unit {0}
 
@@ -140,7 +140,7 @@ IsShown s sent i other = Unit {0}
 abbrev AreStems : List Message → Type 0
 AreStems sent = (place : ℕ) (m : Message) → element_at sent place ≡ Some m → IsStemmed sent m.sender m.body
 
-module _ (sent : List Message) (s : ServerState) (i : Input) (came : (m : Message) → i ≡ input.Deliver m → IsSent sent m) (stems : AreStems sent) (kept : AllOf (IsPair sent) s.pushed.entries) where
+module _ (sent : List Message) (s : ServerState) (i : NodeInput) (came : (m : Message) → i ≡ input.Deliver m → IsSent sent m) (stems : AreStems sent) (kept : AllOf (IsPair sent) s.pushed.entries) where
   stem_of : (m : Message) (b : Body) → i ≡ input.Deliver m → m.body ≡ b → IsStemmed sent m.sender b
   stem_of m b is at = let there = came m is in subst (λ (x : Body). IsStemmed sent m.sender x) at (stems there.0 m there.1)
 
@@ -203,11 +203,11 @@ one_keeps w more index t h here other u at =
       | inr there ↦ others_keep w more h other u there
     ]
 
-abbrev message_in : Input → Option Message
+abbrev message_in : NodeInput → Option Message
 message_in (input.Deliver m) = Some m
 message_in input.Tick = None
 
-pub came_in : (w : WorldState) (e : Event) (server moment : ℕ) (i : Input) → IsGiven w e (the_server server) moment i → (m : Message) → i ≡ input.Deliver m → IsSent w.sent m
+pub came_in : (w : WorldState) (e : Event) (server moment : ℕ) (i : NodeInput) → IsGiven w e (the_server server) moment i → (m : Message) → i ≡ input.Deliver m → IsSent w.sent m
 came_in w (event.Deliver number now) server moment (input.Deliver x) is m same = subst (λ (y : Message). IsSent w.sent y) (same_some x m (ap message_in same)) (number - 1, element_numbered w.sent number x is.0)
 came_in w (event.Call c asked now) server moment (input.Deliver x) is m same = absurd is
 came_in w (event.Tick to now) server moment (input.Deliver x) is m same = absurd is

@@ -5,8 +5,8 @@ use Rattle.std.specs.Ordering.{nat_cmp}
 use Rattle.std.specs.FinMap as table
 use Rattle.gfs_types.specs.declared.config.Config.{Config}
 use Rattle.messages.specs.declared.event.Event.{Event}
-use Rattle.messages.specs.declared.event.Input.{Input}
-use Rattle.messages.specs.declared.event.Input.TheVariants as input
+use Rattle.messages.specs.declared.event.NodeInput.{NodeInput}
+use Rattle.messages.specs.declared.event.NodeInput.TheVariants as input
 use Rattle.messages.specs.declared.message.Body.{Body}
 use Rattle.messages.specs.declared.message.Body.TheVariants as body
 use Rattle.messages.specs.declared.message.Message.{Message}
@@ -101,7 +101,7 @@ module _ (w : WorldState) (K : Seen → Type 0) (h : IsToldTruly K w) (x : Happe
         | inr there ↦ leases_on other u there
       ]
 
-shown_now : (v : WorldState) (L : Seen → Type 0) (index moment : ℕ) (s : ServerState) (i : Input) (choice : Choice) → element_at v.servers index ≡ Some s → ((m : Message) → i ≡ input.Deliver m → (at : ℕ) × (element_at v.sent at ≡ Some m)) → (y : Seen) → Since L (server_step s moment i choice).seen y
+shown_now : (v : WorldState) (L : Seen → Type 0) (index moment : ℕ) (s : ServerState) (i : NodeInput) (choice : Choice) → element_at v.servers index ≡ Some s → ((m : Message) → i ≡ input.Deliver m → (at : ℕ) × (element_at v.sent at ≡ Some m)) → (y : Seen) → Since L (server_step s moment i choice).seen y
     → Next v (after_server v index moment (server_step s moment i choice)) L y
 shown_now v L index moment s i choice at came y since =
     elim (since) [
@@ -109,14 +109,14 @@ shown_now v L index moment s i choice at came y since =
       | inr now ↦ inr (record { index = index; moment = moment; server = s; input = i; choice = choice; place = now.0; is = at; came = came; step_is = refl; seen = now.1 })
     ]
 
-served_leases : (v : WorldState) (L : Seen → Type 0) (g : IsToldTruly L v) (index moment : ℕ) (s : ServerState) (i : Input) (choice : Choice) → element_at v.servers index ≡ Some s → ((m : Message) → i ≡ input.Deliver m → (at : ℕ) × (element_at v.sent at ≡ Some m)) → (other : ℕ) (u : ServerState)
+served_leases : (v : WorldState) (L : Seen → Type 0) (g : IsToldTruly L v) (index moment : ℕ) (s : ServerState) (i : NodeInput) (choice : Choice) → element_at v.servers index ≡ Some s → ((m : Message) → i ≡ input.Deliver m → (at : ℕ) × (element_at v.sent at ≡ Some m)) → (other : ℕ) (u : ServerState)
     → element_at (with_at v.servers index (server_step s moment i choice).state) other ≡ Some u → AreRight (Next v (after_server v index moment (server_step s moment i choice)) L) u.leases
 served_leases v L g index moment s i choice at came =
     let x : Happened = after_server v index moment (server_step s moment i choice) in
     let left = step_leaves L s moment i choice (g.leases index s at) in
     one_server v L g x index (server_step s moment i choice).state (λ q p there. right_on (Since L (server_step s moment i choice).seen) (Next v x L) (shown_now v L index moment s i choice at came) q p (left.0 q p there))
 
-served_told : (v : WorldState) (L : Seen → Type 0) (g : IsToldTruly L v) (index moment : ℕ) (s : ServerState) (i : Input) (choice : Choice) → element_at v.servers index ≡ Some s → ((m : Message) → i ≡ input.Deliver m → (at : ℕ) × (element_at v.sent at ≡ Some m)) → (place : ℕ) (m : Message)
+served_told : (v : WorldState) (L : Seen → Type 0) (g : IsToldTruly L v) (index moment : ℕ) (s : ServerState) (i : NodeInput) (choice : Choice) → element_at v.servers index ≡ Some s → ((m : Message) → i ≡ input.Deliver m → (at : ℕ) × (element_at v.sent at ≡ Some m)) → (place : ℕ) (m : Message)
     → element_at (v.sent ++ stamped (suc (length v.sent)) (server_step s moment i choice).out.sent) place ≡ Some m → IsCaused (Next v (after_server v index moment (server_step s moment i choice)) L) m.body
 served_told v L g index moment s i choice at came =
     let x : Happened = after_server v index moment (server_step s moment i choice) in

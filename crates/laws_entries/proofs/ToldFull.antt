@@ -10,8 +10,8 @@ use Rattle.gfs_types.specs.declared.ids.Moment.{Moment}
 use Rattle.gfs_types.specs.declared.refusal.Refusal.TheVariants.{ChunkFull}
 use Rattle.gfs_types.specs.declared.mutation.Mutation.TheVariants.{Pad}
 use Rattle.messages.specs.declared.event.Event.{Event}
-use Rattle.messages.specs.declared.event.Input.{Input}
-use Rattle.messages.specs.declared.event.Input.TheVariants as input
+use Rattle.messages.specs.declared.event.NodeInput.{NodeInput}
+use Rattle.messages.specs.declared.event.NodeInput.TheVariants as input
 use Rattle.messages.specs.declared.message.Body.{Body}
 use Rattle.messages.specs.declared.message.Body.TheVariants as body
 use Rattle.messages.specs.declared.message.Message.{Message}
@@ -106,7 +106,7 @@ module _ (config : Config) (servers clients : ℕ) (F : DataId → Type 0) (w : 
       ]
 
   -- a server's step on an attempt that is new
-  module _ (index moment : ℕ) (s : ServerState) (i : Input) (choice : Choice) (at : element_at w.servers index ≡ Some s) (came : (m : Message) → i ≡ input.Deliver m → IsAmong w.sent m) where
+  module _ (index moment : ℕ) (s : ServerState) (i : NodeInput) (choice : Choice) (at : element_at w.servers index ≡ Some s) (came : (m : Message) → i ≡ input.Deliver m → IsAmong w.sent m) where
     abbrev After : Happened
     After = after_server w index moment (server_step s moment i choice)
 
@@ -140,7 +140,7 @@ module _ (config : Config) (servers clients : ℕ) (F : DataId → Type 0) (w : 
         })
       where
         goes_is : server_goes s moment i ≡ mutates_under (server_begins (server_at s moment)) handle.0 id t deadline.0 (primary_of (server_at s moment) handle.0 version.0)
-        goes_is = ap (λ (j : Input). server_goes s moment j) is ∙ ap (λ (b : Body). server_takes (server_begins (server_at s moment)) m b) asked
+        goes_is = ap (λ (j : NodeInput). server_goes s moment j) is ∙ ap (λ (b : Body). server_takes (server_begins (server_at s moment)) m b) asked
 
     served : AreRight (Then After) (server_step s moment i choice).state.leases × AllOf (Causes (Then After)) (server_step s moment i choice).out.sent
     served =

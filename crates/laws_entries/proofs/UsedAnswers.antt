@@ -27,8 +27,8 @@ use Rattle.messages.specs.declared.message.Target.{Target}
 use Rattle.messages.specs.declared.message.Target.TheVariants as target
 use Rattle.messages.specs.declared.message.Change.{Change}
 use Rattle.messages.specs.declared.message.Change.TheVariants as change
-use Rattle.messages.specs.declared.event.Input.{Input}
-use Rattle.messages.specs.declared.event.Input.TheVariants as input
+use Rattle.messages.specs.declared.event.NodeInput.{NodeInput}
+use Rattle.messages.specs.declared.event.NodeInput.TheVariants as input
 use Rattle.record_append.specs.declared.placing.Placing.{Placing}
 use Rattle.record_append.specs.declared.placing.Placing.TheVariants.{At, Pad, Full, TooLong}
 use Rattle.record_append.specs.Placing.{placing}
@@ -350,7 +350,7 @@ module _ (F : DataId → Type 0) (G : ℕ → ℕ → Type 0) (Now : ℕ) where
       (λ _. h)
 
   -- A server s that takes an input: what it knows of an attempt that is asked for, and who asks for readings.
-  module _ (s : ServerState) (i : Input)
+  module _ (s : ServerState) (i : NodeInput)
       (knows : (m : Message) (id : DataId) (q : Handle) (v : VersionId) (t : Target) (deadline : Moment) (p : SerialOrder) → i ≡ input.Deliver m → m.body ≡ body.Mutate id q v t deadline → primary_of s q.0 v.0 ≡ Some p
       → Knowing (server_begins s) q.0 p id (mutates_under (server_begins s) q.0 id t deadline.0 (primary_of s q.0 v.0)) × (nat_le deadline.0 s.now ≡ true → F id))
       (reads : (m : Message) (number : ℕ) → i ≡ input.Deliver m → IsReading number m.body → Reads m.sender number) where
@@ -404,7 +404,7 @@ module _ (F : DataId → Type 0) (G : ℕ → ℕ → Type 0) (Now : ℕ) where
             let there = kept_where_cases (λ e. counts_at D.server.config.skew_ms e.1.held D.server.now) D.server.leases q old.0 old.1 in
             subst (IsRight F) old.2 (right_reported F old.0 (h.0 q old.0 there))
 
-    does_fine : (j : Input) → i ≡ j → Fine (server_begins s) → Fine (server_does (server_begins s) j)
+    does_fine : (j : NodeInput) → i ≡ j → Fine (server_begins s) → Fine (server_does (server_begins s) j)
     does_fine (input.Deliver m) came h = takes_fine m m.body came refl h
     does_fine input.Tick came h = ticks_fine h
 
@@ -420,7 +420,7 @@ module _ (F : DataId → Type 0) (G : ℕ → ℕ → Type 0) (Now : ℕ) where
   ends_fine s d choice Lost h = (none_right, tt)
   ends_fine s d choice (Stops made) h = (none_right, tt)
 
-  pub step_leaves : (s : ServerState) (moment : ℕ) (i : Input) (choice : Choice)
+  pub step_leaves : (s : ServerState) (moment : ℕ) (i : NodeInput) (choice : Choice)
       → ((m : Message) (id : DataId) (q : Handle) (v : VersionId) (t : Target) (deadline : Moment) (p : SerialOrder) → i ≡ input.Deliver m → m.body ≡ body.Mutate id q v t deadline → primary_of (server_at s moment) q.0 v.0 ≡ Some p
       → Knowing (server_begins (server_at s moment)) q.0 p id (mutates_under (server_begins (server_at s moment)) q.0 id t deadline.0 (primary_of (server_at s moment) q.0 v.0)) × (nat_le deadline.0 (server_at s moment).now ≡ true → F id))
       → ((m : Message) (number : ℕ) → i ≡ input.Deliver m → IsReading number m.body → Reads m.sender number) → (server_at s moment).now ≡ Now → AreRight F s.leases → Leaves (server_step s moment i choice)
@@ -444,7 +444,7 @@ AnyData id = Unit {0}
 abbrev AnyReading : ℕ → ℕ → Type 0
 AnyReading client number = Unit {0}
 
-pub goes_clock : (s : ServerState) (moment : ℕ) (i : Input) → (server_goes s moment i).server.now ≡ (server_at s moment).now
+pub goes_clock : (s : ServerState) (moment : ℕ) (i : NodeInput) → (server_goes s moment i).server.now ≡ (server_at s moment).now
 goes_clock s moment i = fine.2
   where
     fine : Fine AnyData AnyReading (server_at s moment).now (server_goes s moment i)

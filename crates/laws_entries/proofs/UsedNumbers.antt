@@ -8,7 +8,7 @@ use Rattle.gfs_types.specs.declared.ids.Version.{Version}
 use Rattle.gfs_types.specs.declared.ids.Moment.{Moment}
 use Rattle.gfs_types.specs.declared.refusal.Refusal.{Refusal}
 use Rattle.messages.specs.declared.event.Event.{Event}
-use Rattle.messages.specs.declared.event.Input.TheVariants as input
+use Rattle.messages.specs.declared.event.NodeInput.TheVariants as input
 use Rattle.messages.specs.declared.message.Body.{Body}
 use Rattle.messages.specs.declared.message.Body.TheVariants as body
 use Rattle.messages.specs.declared.message.Message.{Message}

@@ -5,8 +5,8 @@ use Rattle.gfs_types.specs.declared.config.Config.{Config}
 use Rattle.gfs_types.specs.declared.call.Call.{Call}
 use Rattle.gfs_types.specs.declared.answer.Answer.TheVariants as answer
 use Rattle.gfs_types.specs.declared.refusal.Refusal.TheVariants.{NoMemory}
-use Rattle.messages.specs.declared.event.Input.{Input}
-use Rattle.messages.specs.declared.event.Input.TheVariants as input
+use Rattle.messages.specs.declared.event.NodeInput.{NodeInput}
+use Rattle.messages.specs.declared.event.NodeInput.TheVariants as input
 use Rattle.messages.specs.declared.message.Message.{Message}
 use Rattle.client_state.specs.declared.call.CurrentCall.{CurrentCall}
 use Rattle.client_state.specs.declared.call.ToldChunk.{ToldChunk}
@@ -114,11 +114,11 @@ module _ (s : ClientState) where
         filed = λ c file index last is. tt;
       }
 
-all_came : (i : Input) → IsCameIn (λ b. Unit {0}) i
+all_came : (i : NodeInput) → IsCameIn (λ b. Unit {0}) i
 all_came (input.Deliver m) = tt
 all_came input.Tick = tt
 
-goes_next : (s : ClientState) (moment : ℕ) (i : Input) → IsNext (client_at s moment) (client_goes s moment i)
+goes_next : (s : ClientState) (moment : ℕ) (i : NodeInput) → IsNext (client_at s moment) (client_goes s moment i)
 goes_next s moment i =
     let at : ClientState = client_at s moment in
     step_kept at (λ b. Unit {0}) Any Any (λ d c l. Unit {0}) (λ d c chunk left. Unit {0}) (IsNext at) (next_kept at) i s.current refl (all_came i) (λ c is. at_stage at c c.stage) (begun at)
@@ -176,7 +176,7 @@ module _ (sent : List Message) (k index : ℕ) (clients : List ClientState) (s :
   goes_left moment d next Lost = one_left (client_ends s d Lost) (λ chunk number is. none_some (chunk, number) is)
   goes_left moment d next (Stops made) = one_left (client_ends s d (Stops made)) (λ chunk number is. none_some (chunk, number) is)
 
-  step_left : (moment : ℕ) (i : Input) (choice : Choice) → Left (client_step s moment i choice)
+  step_left : (moment : ℕ) (i : NodeInput) (choice : Choice) → Left (client_step s moment i choice)
   step_left moment i choice =
       on_cond Left (may_step s) (client_ends s (client_goes s moment i) choice.ending) (no_step s) (λ _. goes_left moment (client_goes s moment i) (goes_next s moment i) choice.ending)
       (λ _. one_left (no_step s) (λ chunk number is. more_sent sent [] clients h index s at chunk number is))

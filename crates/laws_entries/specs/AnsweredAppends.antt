@@ -3,8 +3,8 @@ use Rattle.std.specs.Prelude.{◌≡◌, ℕ, suc, true, Some}
 use Rattle.gfs_types.specs.declared.config.Config.{Config}
 use Rattle.gfs_types.specs.declared.ids.DataId.{DataId}
 use Rattle.gfs_types.specs.declared.answer.Answer.TheVariants as answer
-use Rattle.messages.specs.declared.event.Input.{Input}
-use Rattle.messages.specs.declared.event.Input.TheVariants as input
+use Rattle.messages.specs.declared.event.NodeInput.{NodeInput}
+use Rattle.messages.specs.declared.event.NodeInput.TheVariants as input
 use Rattle.messages.specs.declared.message.Message.{Message}
 use Rattle.client_state.specs.declared.call.CurrentCall.{CurrentCall}
 use Rattle.protocol.specs.Tables.{element_at}
@@ -16,7 +16,7 @@ use Rattle.protocol.specs.World.{WorldState, IsReached}
 use Rattle.laws_entries.specs.SettledEntries.{HasSettledEntry}
 
 -- In a step, on a message that was sent or a tick, a client answers its open append with this place in its file.
-pub record AnswersAppend (w : WorldState) (index moment : ℕ) (s : ClientState) (i : Input) (choice : Choice) (offset : ℕ) : Type 0 where
+pub record AnswersAppend (w : WorldState) (index moment : ℕ) (s : ClientState) (i : NodeInput) (choice : Choice) (offset : ℕ) : Type 0 where
   pub is : element_at w.clients index ≡ Some s
   pub came : (m : Message) → i ≡ input.Deliver m → (place : ℕ) × (element_at w.sent place ≡ Some m)
   pub current : CurrentCall
@@ -39,4 +39,4 @@ pub record IsPlaceOfEntry (w : WorldState) (size client offset : ℕ) : Type 0 w
 abbrev pub AnsweredAppendsHaveEntries : Type 0
 AnsweredAppendsHaveEntries =
     (config : Config) (servers clients : ℕ) (w : WorldState) → IsReached config servers clients w
-    → (index moment : ℕ) (s : ClientState) (i : Input) (choice : Choice) (offset : ℕ) → AnswersAppend w index moment s i choice offset → IsPlaceOfEntry w config.chunk (suc index) offset
+    → (index moment : ℕ) (s : ClientState) (i : NodeInput) (choice : Choice) (offset : ℕ) → AnswersAppend w index moment s i choice offset → IsPlaceOfEntry w config.chunk (suc index) offset

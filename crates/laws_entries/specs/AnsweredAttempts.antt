@@ -7,7 +7,7 @@ use Rattle.gfs_types.specs.declared.ids.Version.{Version}
 use Rattle.gfs_types.specs.declared.refusal.Refusal.{Refusal}
 use Rattle.gfs_types.specs.declared.refusal.Refusal.TheVariants.{NoLease}
 use Rattle.messages.specs.declared.event.Event.{Event}
-use Rattle.messages.specs.declared.event.Input.{Input}
+use Rattle.messages.specs.declared.event.NodeInput.{NodeInput}
 use Rattle.messages.specs.declared.message.Body.TheVariants as body
 use Rattle.messages.specs.declared.message.Message.{Message}
 use Rattle.protocol.specs.Tables.{element_at}
@@ -31,4 +31,4 @@ abbrev pub AnsweredAttemptsArePlacedNoMore : Type 0
 AnsweredAttemptsArePlacedNoMore =
     (config : Config) (servers clients : ℕ) (w : WorldState) → IsReached config servers clients w
     → (place server : ℕ) (m : Message) → element_at w.sent place ≡ Some m → m.sender ≡ the_server server → (id : DataId) → IsAnswerTo id m
-    → (steps : List (Event × Choice)) (index moment : ℕ) (s : ServerState) (i : Input) (choice : Choice) (handle : Handle) (version : Version) → Numbers (after_events w steps) index moment s i choice handle version id → ⊥
+    → (steps : List (Event × Choice)) (index moment : ℕ) (s : ServerState) (i : NodeInput) (choice : Choice) (handle : Handle) (version : Version) → Numbers (after_events w steps) index moment s i choice handle version id → ⊥

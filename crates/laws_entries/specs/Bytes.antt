@@ -6,7 +6,7 @@ use Rattle.gfs_types.specs.declared.ids.Fd.{Fd}
 use Rattle.gfs_types.specs.declared.call.Call.TheVariants as call
 use Rattle.gfs_types.specs.declared.mutation.Mutation.{Mutation}
 use Rattle.gfs_types.specs.declared.mutation.Mutation.TheVariants as mutation
-use Rattle.messages.specs.declared.event.Input.{Input}
+use Rattle.messages.specs.declared.event.NodeInput.{NodeInput}
 use Rattle.protocol.specs.Choice.{Choice}
 use Rattle.protocol.specs.Client.{ClientState, place_in_file}
 use Rattle.protocol.specs.World.{WorldState, IsReached}
@@ -35,5 +35,5 @@ pub record IsPlaceOfBytes (w : WorldState) (size client offset : ℕ) (bytes : L
 abbrev pub AnsweredAppendsHaveTheirBytes : Type 0
 AnsweredAppendsHaveTheirBytes =
     (config : Config) (servers clients : ℕ) (w : WorldState) → IsReached config servers clients w
-    → (index moment : ℕ) (s : ClientState) (i : Input) (choice : Choice) (offset : ℕ) (a : AnswersAppend w index moment s i choice offset) (fd : Fd) (bytes : List ℕ) → a.current.asked ≡ call.Append fd bytes
+    → (index moment : ℕ) (s : ClientState) (i : NodeInput) (choice : Choice) (offset : ℕ) (a : AnswersAppend w index moment s i choice offset) (fd : Fd) (bytes : List ℕ) → a.current.asked ≡ call.Append fd bytes
     → IsPlaceOfBytes w config.chunk (suc index) offset bytes

@@ -5,7 +5,7 @@ use Rattle.gfs_types.specs.declared.ids.DataId.{DataId}
 use Rattle.gfs_types.specs.declared.ids.Handle.{Handle}
 use Rattle.gfs_types.specs.declared.ids.Version.{Version}
 use Rattle.gfs_types.specs.declared.ids.Serial.{Serial}
-use Rattle.messages.specs.declared.event.Input.{Input}
+use Rattle.messages.specs.declared.event.NodeInput.{NodeInput}
 use Rattle.messages.specs.declared.message.Body.TheVariants as body
 use Rattle.messages.specs.declared.message.Change.{Change}
 use Rattle.messages.specs.declared.message.Message.{Message}
@@ -39,13 +39,13 @@ ForwardsNameEntries =
 -- A server that sends an Acked has after its step a replica of that version with that serial (section 3.3).
 abbrev pub AckedSerialsAreApplied : Type 0
 AckedSerialsAreApplied =
-    (s : ServerState) (moment : ℕ) (i : Input) (choice : Choice) (place : ℕ) (m : Message) → element_at (server_step s moment i choice).out.sent place ≡ Some m
+    (s : ServerState) (moment : ℕ) (i : NodeInput) (choice : Choice) (place : ℕ) (m : Message) → element_at (server_step s moment i choice).out.sent place ≡ Some m
     → (handle : Handle) (version : Version) (serial : Serial) → m.body ≡ body.Acked handle version serial
     → (r : Replica) × (replica_of (server_step s moment i choice).state.disk handle.0 ≡ Some r) × (r.version ≡ version.0) × (r.serial ≡ serial.0)
 
 -- An Image has what its server's replica has: its version, its serial, and its bytes as they are read (section 4.3).
 abbrev pub ImagesAreOfReplicas : Type 0
 ImagesAreOfReplicas =
-    (s : ServerState) (moment : ℕ) (i : Input) (choice : Choice) (place : ℕ) (m : Message) → element_at (server_step s moment i choice).out.sent place ≡ Some m
+    (s : ServerState) (moment : ℕ) (i : NodeInput) (choice : Choice) (place : ℕ) (m : Message) → element_at (server_step s moment i choice).out.sent place ≡ Some m
     → (handle : Handle) (version : Version) (serial : Serial) (bytes : List ℕ) → m.body ≡ body.Image handle version serial bytes
     → (r : Replica) × (replica_of s.disk handle.0 ≡ Some r) × (r.version ≡ version.0) × (r.serial ≡ serial.0) × (read_at s.disk handle.0 0 (length r.bytes) ≡ Some bytes)

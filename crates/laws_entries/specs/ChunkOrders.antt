@@ -6,7 +6,7 @@ use Rattle.gfs_types.specs.declared.ids.Handle.{Handle}
 use Rattle.gfs_types.specs.declared.ids.Version.{Version}
 use Rattle.gfs_types.specs.declared.ids.Moment.{Moment}
 use Rattle.messages.specs.declared.event.Event.{Event}
-use Rattle.messages.specs.declared.event.Input.{Input}
+use Rattle.messages.specs.declared.event.NodeInput.{NodeInput}
 use Rattle.messages.specs.declared.message.Message.{Message}
 use Rattle.messages.specs.declared.message.Body.TheVariants as body
 use Rattle.messages.specs.declared.message.Target.{Target}
@@ -31,7 +31,7 @@ pub record IsNumberedNow (w : WorldState) (x : Happened) (handle : ℕ) (p : Pla
   pub index : ℕ
   pub moment : ℕ
   pub server : ServerState
-  pub input : Input
+  pub input : NodeInput
   pub choice : Choice
   pub named : Handle
   pub version : Version
@@ -44,7 +44,7 @@ pub record IsNumberedNow (w : WorldState) (x : Happened) (handle : ℕ) (p : Pla
 -- By what happened in this world the master began the copy of a chunk.
 pub record IsCopiedNow (w : WorldState) (x : Happened) (handle copy : ℕ) : Type 0 where
   pub moment : ℕ
-  pub input : Input
+  pub input : NodeInput
   pub choice : Choice
   pub place : ℕ
   pub step_is : x ≡ after_master w moment (master_step w.master moment input choice)

@@ -7,7 +7,7 @@ use Rattle.gfs_types.specs.declared.ids.Handle.{Handle}
 use Rattle.gfs_types.specs.declared.ids.Version.{Version}
 use Rattle.gfs_types.specs.declared.ids.Serial.{Serial}
 use Rattle.gfs_types.specs.declared.mutation.Mutation.{Mutation}
-use Rattle.messages.specs.declared.event.Input.{Input}
+use Rattle.messages.specs.declared.event.NodeInput.{NodeInput}
 use Rattle.primary_order.specs.declared.order.SerialOrder.{SerialOrder}
 use Rattle.protocol.specs.Tables.{element_at, first_numbers}
 use Rattle.protocol.specs.Choice.{Choice}
@@ -44,6 +44,6 @@ SerialsHaveOneEntry =
 abbrev pub NumberedSerialsFollow : Type 0
 NumberedSerialsFollow =
     (config : Config) (servers clients : ℕ) (w : WorldState) → IsReached config servers clients w → (index : ℕ) (s : ServerState) → element_at w.servers index ≡ Some s
-    → (moment : ℕ) (i : Input) (choice : Choice) (place : ℕ) (handle : Handle) (version : Version) (serial : Serial) (id : DataId) (m : Mutation)
+    → (moment : ℕ) (i : NodeInput) (choice : Choice) (place : ℕ) (handle : Handle) (version : Version) (serial : Serial) (id : DataId) (m : Mutation)
     → element_at (server_step s moment i choice).seen place ≡ Some (Numbered handle version serial id m)
     → serials_of version.0 (order_of w.observer handle.0) ++ serial.0 ∷ [] ≡ first_numbers serial.0

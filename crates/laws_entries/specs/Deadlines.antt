@@ -8,8 +8,8 @@ use Rattle.gfs_types.specs.declared.ids.Serial.{Serial}
 use Rattle.gfs_types.specs.declared.ids.Moment.{Moment}
 use Rattle.gfs_types.specs.declared.mutation.Mutation.{Mutation}
 use Rattle.messages.specs.declared.event.Event.{Event}
-use Rattle.messages.specs.declared.event.Input.{Input}
-use Rattle.messages.specs.declared.event.Input.TheVariants as input
+use Rattle.messages.specs.declared.event.NodeInput.{NodeInput}
+use Rattle.messages.specs.declared.event.NodeInput.TheVariants as input
 use Rattle.messages.specs.declared.message.Message.{Message}
 use Rattle.messages.specs.declared.message.Body.TheVariants as body
 use Rattle.messages.specs.declared.message.Target.{Target}
@@ -26,7 +26,7 @@ abbrev pub IsAmong : List Message → Message → Type 0
 IsAmong ms m = (place : ℕ) × (element_at ms place ≡ Some m)
 
 -- A server's step, on a message that was sent or a tick, in which it numbers a mutation of these data.
-pub record Numbers (w : WorldState) (index moment : ℕ) (s : ServerState) (i : Input) (choice : Choice) (handle : Handle) (version : Version) (id : DataId) : Type 0 where
+pub record Numbers (w : WorldState) (index moment : ℕ) (s : ServerState) (i : NodeInput) (choice : Choice) (handle : Handle) (version : Version) (id : DataId) : Type 0 where
   pub is : element_at w.servers index ≡ Some s
   pub came : (m : Message) → i ≡ input.Deliver m → IsAmong w.sent m
   pub place : ℕ
@@ -47,7 +47,7 @@ pub record IsInTime (s : ServerState) (moment skew : ℕ) (after : Observer) (m 
 abbrev pub AttemptsArePlacedBeforeTheirDeadline : Type 0
 AttemptsArePlacedBeforeTheirDeadline =
     (config : Config) (servers clients : ℕ) (w : WorldState) → IsReached config servers clients w
-    → (index moment : ℕ) (s : ServerState) (i : Input) (choice : Choice) (handle : Handle) (version : Version) (id : DataId) → Numbers w index moment s i choice handle version id
+    → (index moment : ℕ) (s : ServerState) (i : NodeInput) (choice : Choice) (handle : Handle) (version : Version) (id : DataId) → Numbers w index moment s i choice handle version id
     → (m : Message) × (i ≡ input.Deliver m) × IsInTime s moment config.skew_ms (observed_moment config.skew_ms w.observer moment) m handle version id
 
 -- a client asked to place these data, by an attempt whose deadline and the clock bound are past
@@ -67,4 +67,4 @@ abbrev pub OverAttemptsArePlacedNoMore : Type 0
 OverAttemptsArePlacedNoMore =
     (config : Config) (servers clients : ℕ) (w : WorldState) → IsReached config servers clients w → (id : DataId) → IsOver w config.skew_ms id
     → (steps : List (Event × Choice)) (index moment : ℕ) → IsTrue (observed_moment config.skew_ms (after_events w steps).observer moment).are_clocks_kept
-    → (s : ServerState) (i : Input) (choice : Choice) (handle : Handle) (version : Version) → Numbers (after_events w steps) index moment s i choice handle version id → ⊥
+    → (s : ServerState) (i : NodeInput) (choice : Choice) (handle : Handle) (version : Version) → Numbers (after_events w steps) index moment s i choice handle version id → ⊥

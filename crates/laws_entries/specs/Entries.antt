@@ -8,8 +8,8 @@ use Rattle.gfs_types.specs.declared.ids.Serial.{Serial}
 use Rattle.gfs_types.specs.declared.ids.Moment.{Moment}
 use Rattle.gfs_types.specs.declared.mutation.Mutation.{Mutation}
 use Rattle.gfs_types.specs.declared.mutation.Mutation.TheVariants as mutation
-use Rattle.messages.specs.declared.event.Input.{Input}
-use Rattle.messages.specs.declared.event.Input.TheVariants as input
+use Rattle.messages.specs.declared.event.NodeInput.{NodeInput}
+use Rattle.messages.specs.declared.event.NodeInput.TheVariants as input
 use Rattle.messages.specs.declared.message.Message.{Message}
 use Rattle.messages.specs.declared.message.Body.TheVariants as body
 use Rattle.messages.specs.declared.message.Target.{Target}
@@ -61,6 +61,6 @@ pub record IsAskedFor (s : ServerState) (sent : List Message) (m : Message) (han
 abbrev pub NumberedMutationsWereAskedFor : Type 0
 NumberedMutationsWereAskedFor =
     (config : Config) (servers clients : ℕ) (w : WorldState) → IsReached config servers clients w
-    → (index : ℕ) (s : ServerState) → element_at w.servers index ≡ Some s → (moment : ℕ) (i : Input) (choice : Choice) → ((m : Message) → i ≡ input.Deliver m → IsAmong w.sent m)
+    → (index : ℕ) (s : ServerState) → element_at w.servers index ≡ Some s → (moment : ℕ) (i : NodeInput) (choice : Choice) → ((m : Message) → i ≡ input.Deliver m → IsAmong w.sent m)
     → (place : ℕ) (handle : Handle) (version : Version) (serial : Serial) (id : DataId) (placed : Mutation) → element_at (server_step s moment i choice).seen place ≡ Some (Numbered handle version serial id placed)
     → (m : Message) × (i ≡ input.Deliver m) × IsAskedFor (server_at s moment) w.sent m handle version serial id placed

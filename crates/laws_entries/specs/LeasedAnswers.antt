@@ -6,7 +6,7 @@ use Rattle.gfs_types.specs.declared.ids.Handle.{Handle}
 use Rattle.gfs_types.specs.declared.ids.Version.{Version}
 use Rattle.gfs_types.specs.declared.ids.Moment.{Moment}
 use Rattle.messages.specs.declared.event.Event.{Event}
-use Rattle.messages.specs.declared.event.Input.{Input}
+use Rattle.messages.specs.declared.event.NodeInput.{NodeInput}
 use Rattle.messages.specs.declared.message.Message.{Message}
 use Rattle.messages.specs.declared.message.Body.TheVariants as body
 use Rattle.messages.specs.declared.message.Target.{Target}
@@ -25,7 +25,7 @@ pub record IsTakenNow (w : WorldState) (x : Happened) (id : DataId) : Type 0 whe
   pub index : ℕ
   pub moment : ℕ
   pub server : ServerState
-  pub input : Input
+  pub input : NodeInput
   pub choice : Choice
   pub step_is : x ≡ after_server w index moment (server_step server moment input choice)
   pub server_is : element_at w.servers index ≡ Some server

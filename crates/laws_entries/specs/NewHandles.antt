@@ -3,7 +3,7 @@ use Rattle.std.specs.Prelude.{◌≡◌, ℕ, ◌≤◌, ◌<◌, [], Some, None
 use Rattle.std.specs.FinMap as table
 use Rattle.gfs_types.specs.declared.config.Config.{Config}
 use Rattle.gfs_types.specs.declared.ids.Handle.{Handle}
-use Rattle.messages.specs.declared.event.Input.{Input}
+use Rattle.messages.specs.declared.event.NodeInput.{NodeInput}
 use Rattle.chunk_table.specs.ChunkTable.{ChunkRow, chunk_of}
 use Rattle.protocol.specs.Tables.{element_at}
 use Rattle.protocol.specs.Choice.{Choice}
@@ -25,7 +25,7 @@ pub record IsNewHandle (w : WorldState) (handle : ℕ) : Type 0 where
 abbrev pub CopiesHaveNewHandles : Type 0
 CopiesHaveNewHandles =
     (config : Config) (servers clients : ℕ) (w : WorldState) → IsReached config servers clients w
-    → (moment : ℕ) (i : Input) (choice : Choice) (place : ℕ) (handle copy : Handle) → element_at (master_step w.master moment i choice).seen place ≡ Some (CopyStarted handle copy)
+    → (moment : ℕ) (i : NodeInput) (choice : Choice) (place : ℕ) (handle copy : Handle) → element_at (master_step w.master moment i choice).seen place ≡ Some (CopyStarted handle copy)
     → IsNewHandle w copy.0
 
 -- A number of a chunk was issued at the master: its handle was used, and while the chunk is there, what is attempted comes after the number.

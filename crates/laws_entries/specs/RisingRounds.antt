@@ -3,7 +3,7 @@ use Rattle.std.specs.Prelude.{◌≡◌, ◌⊎◌, ℕ, ◌≤◌, ◌<◌, Lis
 use Rattle.gfs_types.specs.declared.config.Config.{Config}
 use Rattle.gfs_types.specs.declared.ids.Handle.{Handle}
 use Rattle.messages.specs.declared.event.Event.{Event}
-use Rattle.messages.specs.declared.event.Input.{Input}
+use Rattle.messages.specs.declared.event.NodeInput.{NodeInput}
 use Rattle.protocol.specs.Tables.{element_at}
 use Rattle.protocol.specs.Choice.{Choice}
 use Rattle.protocol.specs.declared.seen.Seen.TheVariants.{CopyStarted}
@@ -39,7 +39,7 @@ BeginsWith first all = (more : List Placed) × (map unsettled all ≡ map unsett
 abbrev pub CopiesBeginWithTheirSource : Type 0
 CopiesBeginWithTheirSource =
     (config : Config) (servers clients : ℕ) (w : WorldState) → IsReached config servers clients w → (e : Event) (choice : Choice)
-    → (moment : ℕ) (i : Input) (taken : Choice) → happens w e choice ≡ after_master w moment (master_step w.master moment i taken)
+    → (moment : ℕ) (i : NodeInput) (taken : Choice) → happens w e choice ≡ after_master w moment (master_step w.master moment i taken)
     → (place : ℕ) (handle copy : Handle) → element_at (master_step w.master moment i taken).seen place ≡ Some (CopyStarted handle copy)
     → (steps : List (Event × Choice))
     → BeginsWith (order_of w.observer handle.0) (order_of (after_events (happens w e choice).world steps).observer copy.0)

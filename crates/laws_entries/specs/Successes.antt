@@ -4,8 +4,8 @@ use Rattle.gfs_types.specs.declared.config.Config.{Config}
 use Rattle.gfs_types.specs.declared.ids.DataId.{DataId}
 use Rattle.gfs_types.specs.declared.mutation.Mutation.{Mutation}
 use Rattle.messages.specs.declared.event.Event.{Event}
-use Rattle.messages.specs.declared.event.Input.{Input}
-use Rattle.messages.specs.declared.event.Input.TheVariants.{Deliver}
+use Rattle.messages.specs.declared.event.NodeInput.{NodeInput}
+use Rattle.messages.specs.declared.event.NodeInput.TheVariants.{Deliver}
 use Rattle.messages.specs.declared.message.Message.{Message}
 use Rattle.messages.specs.declared.message.Body.TheVariants as body
 use Rattle.primary_order.specs.PrimaryOrder.{place_of}
@@ -24,7 +24,7 @@ pub record IsShownNow (w : WorldState) (x : Happened) (shown : Seen) : Type 0 wh
   pub index : ℕ
   pub moment : ℕ
   pub server : ServerState
-  pub input : Input
+  pub input : NodeInput
   pub choice : Choice
   pub place : ℕ
   pub is : element_at w.servers index ≡ Some server

@@ -9,8 +9,8 @@ use Rattle.gfs_types.specs.declared.ids.Moment.{Moment}
 use Rattle.gfs_types.specs.declared.mutation.Mutation.TheVariants.{Pad}
 use Rattle.gfs_types.specs.declared.refusal.Refusal.TheVariants.{ChunkFull}
 use Rattle.messages.specs.declared.event.Event.{Event}
-use Rattle.messages.specs.declared.event.Input.{Input}
-use Rattle.messages.specs.declared.event.Input.TheVariants as input
+use Rattle.messages.specs.declared.event.NodeInput.{NodeInput}
+use Rattle.messages.specs.declared.event.NodeInput.TheVariants as input
 use Rattle.messages.specs.declared.message.Body.TheVariants as body
 use Rattle.messages.specs.declared.message.Message.{Message}
 use Rattle.messages.specs.declared.message.Target.{Target}
@@ -31,7 +31,7 @@ abbrev pub IsReplicaFull : ℕ → ServerState → Handle → Type 0
 IsReplicaFull size s handle = (r : Row) × (row_at s.disk handle.0 ≡ Some r) × (r.count ≡ size)
 
 -- the server numbers a pad of these data, where nothing hinders its step
-abbrev pub IsPadded : ServerState → ℕ → Input → Handle → DataId → Type 0
+abbrev pub IsPadded : ServerState → ℕ → NodeInput → Handle → DataId → Type 0
 IsPadded s moment i handle id = (place : ℕ) × (version : Version) × (serial : Serial) × (offset : ℕ) × (element_at (server_goes s moment i).seen place ≡ Some (Numbered handle version serial id (Pad offset)))
 
 -- By what happened in this world a server took the Mutate of these data, and its own replica of that chunk was full, or it placed a pad of them there.
@@ -39,7 +39,7 @@ pub record IsFullNow (size : ℕ) (w : WorldState) (x : Happened) (id : DataId) 
   pub index : ℕ
   pub moment : ℕ
   pub server : ServerState
-  pub taking : Input
+  pub taking : NodeInput
   pub choice : Choice
   pub is : element_at w.servers index ≡ Some server
   pub asked : Message

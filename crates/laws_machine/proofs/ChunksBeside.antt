@@ -10,8 +10,8 @@ use Rattle.gfs_types.specs.declared.ids.Node.{Node}
 use Rattle.gfs_types.specs.declared.ids.Node.TheVariants as node
 use Rattle.messages.specs.declared.event.Event.{Event}
 use Rattle.messages.specs.declared.event.Event.TheVariants as event
-use Rattle.messages.specs.declared.event.Input.{Input}
-use Rattle.messages.specs.declared.event.Input.TheVariants as input
+use Rattle.messages.specs.declared.event.NodeInput.{NodeInput}
+use Rattle.messages.specs.declared.event.NodeInput.TheVariants as input
 use Rattle.messages.specs.declared.message.Message.{Message}
 use Rattle.relaxed_file.specs.Machine.{Machine, OpenCall, FileState}
 use Rattle.relaxed_file.specs.Chunks.{placed}
@@ -52,15 +52,15 @@ abbrev IsLeft : WorldState → Happened → Type 0
 IsLeft w h = h.world.master ≡ w.master
 
 module _ (w : WorldState) (moment : ℕ) where
-  server_left : (index : ℕ) (i : Input) (choice : Choice) (o : Option ServerState) → IsLeft w (server_moves w index moment i choice o)
+  server_left : (index : ℕ) (i : NodeInput) (choice : Choice) (o : Option ServerState) → IsLeft w (server_moves w index moment i choice o)
   server_left index i choice None = refl
   server_left index i choice (Some s) = on_cond (IsLeft w) s.up (after_server w index moment (server_step s moment i choice)) (nothing_happens w) (λ _. refl) (λ _. refl)
 
-  client_left : (index : ℕ) (i : Input) (choice : Choice) (o : Option ClientState) → IsLeft w (client_moves w index moment i choice o)
+  client_left : (index : ℕ) (i : NodeInput) (choice : Choice) (o : Option ClientState) → IsLeft w (client_moves w index moment i choice o)
   client_left index i choice None = refl
   client_left index i choice (Some s) = on_cond (IsLeft w) s.up (after_client w index moment (client_step s moment i choice)) (nothing_happens w) (λ _. refl) (λ _. refl)
 
-  moves_left : (n : Node) (i : Input) (choice : Choice) → (n ≡ node.Master → ⊥) → IsLeft w (moves w n moment i choice)
+  moves_left : (n : Node) (i : NodeInput) (choice : Choice) → (n ≡ node.Master → ⊥) → IsLeft w (moves w n moment i choice)
   moves_left node.Master i choice not = absurd (not refl)
   moves_left (node.Server s) i choice not = server_left (s.0 - 1) i choice (numbered_from_1 w.servers s.0)
   moves_left (node.Client c) i choice not = client_left (c.0 - 1) i choice (numbered_from_1 w.clients c.0)

@@ -4,8 +4,8 @@ use Rattle.gfs_types.specs.declared.config.Config.{Config}
 use Rattle.gfs_types.specs.declared.call.Call.{Call}
 use Rattle.gfs_types.specs.declared.answer.Answer.TheVariants as answer
 use Rattle.gfs_types.specs.declared.refusal.Refusal.TheVariants.{NoMemory}
-use Rattle.messages.specs.declared.event.Input.{Input}
-use Rattle.messages.specs.declared.event.Input.TheVariants as input
+use Rattle.messages.specs.declared.event.NodeInput.{NodeInput}
+use Rattle.messages.specs.declared.event.NodeInput.TheVariants as input
 use Rattle.messages.specs.declared.message.Body.{Body}
 use Rattle.messages.specs.declared.message.Location.{Location}
 use Rattle.client_state.specs.declared.call.CurrentCall.{CurrentCall}
@@ -40,7 +40,7 @@ AllKept w = (index : ℕ) (s : ClientState) → element_at w.clients index ≡ S
 abbrev AnyCame : Body → Type 0
 AnyCame b = Unit {0}
 
-all_came : (i : Input) → IsCameIn AnyCame i
+all_came : (i : NodeInput) → IsCameIn AnyCame i
 all_came (input.Deliver m) = tt
 all_came input.Tick = tt
 
@@ -57,7 +57,7 @@ module _ (s : ClientState) (h : Kept s) (moment : ℕ) where
   stops : Kept (stopped_client s)
   stops = (s.config, nothing_kept Always s.config (stopped_client s) refl refl refl refl refl refl)
 
-  pub step_kept : (i : Input) (choice : Choice) → Kept (client_step s moment i choice).state
+  pub step_kept : (i : NodeInput) (choice : Choice) → Kept (client_step s moment i choice).state
   step_kept i choice = stepped (λ t ms. Kept t) s moment i choice (left (client_goes s moment i) (steps_here Always h.0 (client_at s moment) AnyCame (λ c number l now at came. tt) later i (all_came i))) stops h
 
   pub call_kept : (c : Call) (choice : Choice) → Kept (client_call s moment c choice).state

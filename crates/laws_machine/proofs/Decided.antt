@@ -12,8 +12,8 @@ use Rattle.gfs_types.specs.declared.answer.Answer.{Answer}
 use Rattle.messages.specs.declared.message.Message.{Message}
 use Rattle.messages.specs.declared.event.Event.{Event}
 use Rattle.messages.specs.declared.event.Event.TheVariants as event
-use Rattle.messages.specs.declared.event.Input.{Input}
-use Rattle.messages.specs.declared.event.Input.TheVariants as input
+use Rattle.messages.specs.declared.event.NodeInput.{NodeInput}
+use Rattle.messages.specs.declared.event.NodeInput.TheVariants as input
 use Rattle.chunk_table.specs.ChunkTable.{ChunkTable}
 use Rattle.protocol.specs.Tables.{moment_limit}
 use Rattle.protocol.specs.Choice.{Choice, Stops}
@@ -58,17 +58,17 @@ module _ (w : WorldState) (moment : ℕ) where
   twice : max (max w.observer.greatest moment) moment ≤ max w.observer.greatest moment
   twice = max-le just (le-max_right w.observer.greatest moment)
 
-  server_passes : (index : ℕ) (i : Input) (choice : Choice) (o : Option ServerState) → IsUpTo w moment (server_moves w index moment i choice o)
+  server_passes : (index : ℕ) (i : NodeInput) (choice : Choice) (o : Option ServerState) → IsUpTo w moment (server_moves w index moment i choice o)
   server_passes index i choice None = stays
   server_passes index i choice (Some s) = on_cond (IsUpTo w moment) s.up (after_server w index moment (server_step s moment i choice)) (nothing_happens w) (λ _. just) (λ _. stays)
 
-  client_moved : (index : ℕ) (i : Input) (choice : Choice) (o : Option ClientState) → IsUpTo w moment (client_moves w index moment i choice o)
+  client_moved : (index : ℕ) (i : NodeInput) (choice : Choice) (o : Option ClientState) → IsUpTo w moment (client_moves w index moment i choice o)
   client_moved index i choice None = stays
   client_moved index i choice (Some s) =
       on_cond (IsUpTo w moment) s.up (after_client w index moment (client_step s moment i choice)) (nothing_happens w)
       (λ _. client_passes (observed_moment w.config.skew_ms w.observer moment) (suc index) (client_step s moment i choice).out.answer just) (λ _. stays)
 
-  moved : (n : Node) (i : Input) (choice : Choice) → IsUpTo w moment (moves w n moment i choice)
+  moved : (n : Node) (i : NodeInput) (choice : Choice) → IsUpTo w moment (moves w n moment i choice)
   moved node.Master i choice = on_cond (IsUpTo w moment) w.master.up (after_master w moment (master_step w.master moment i choice)) (nothing_happens w) (λ _. just) (λ _. stays)
   moved (node.Server s) i choice = server_passes (s.0 - 1) i choice (numbered_from_1 w.servers s.0)
   moved (node.Client c) i choice = client_moved (c.0 - 1) i choice (numbered_from_1 w.clients c.0)

@@ -10,8 +10,8 @@ use Rattle.gfs_types.specs.declared.ids.OrderNo.{OrderNo}
 use Rattle.gfs_types.specs.declared.ids.Version.{Version}
 use Rattle.messages.specs.declared.event.Event.{Event}
 use Rattle.messages.specs.declared.event.Event.TheVariants as event
-use Rattle.messages.specs.declared.event.Input.{Input}
-use Rattle.messages.specs.declared.event.Input.TheVariants as input
+use Rattle.messages.specs.declared.event.NodeInput.{NodeInput}
+use Rattle.messages.specs.declared.event.NodeInput.TheVariants as input
 use Rattle.messages.specs.declared.message.Message.{Message}
 use Rattle.messages.specs.declared.message.Body.{Body}
 use Rattle.messages.specs.declared.message.Body.TheVariants as body
@@ -170,7 +170,7 @@ module _ (config : Config) (servers clients : ℕ) (w : WorldState) (r : IsReach
 
 -- an event that is no step of the master
 
-pub masters_input : (w : WorldState) (e : Event) (moment : ℕ) (i : Input) → IsGiven w e node.Master moment i → IsMastersStep w e
+pub masters_input : (w : WorldState) (e : Event) (moment : ℕ) (i : NodeInput) → IsGiven w e node.Master moment i → IsMastersStep w e
 masters_input w (event.Deliver number now) moment (input.Deliver m) given = (m, given.0, given.1)
 masters_input w (event.Deliver number now) moment input.Tick given = absurd given
 masters_input w (event.Tick n now) moment input.Tick given = given.0
@@ -205,7 +205,7 @@ ends_silent m d choice Goes up down = absurd (true≢false (sym up ∙ down))
 ends_silent m d choice Lost up down = refl
 ends_silent m d choice (Stops made) up down = refl
 
-stopped_silent : (m : MasterState) (moment : ℕ) (i : Input) (choice : Choice) → IsTrue m.up → IsSilent (master_step m moment i choice)
+stopped_silent : (m : MasterState) (moment : ℕ) (i : NodeInput) (choice : Choice) → IsTrue m.up → IsSilent (master_step m moment i choice)
 stopped_silent m moment i choice up =
     let d : MasterDoing = master_goes m moment i choice.refused in
     on_cond IsSilent m.up (master_bounded m d choice) (no_step m)

@@ -11,8 +11,8 @@ use Rattle.gfs_types.specs.declared.answer.Answer.TheVariants as answer
 use Rattle.gfs_types.specs.declared.mutation.Mutation.{Mutation}
 use Rattle.gfs_types.specs.declared.refusal.Refusal.{Refusal}
 use Rattle.gfs_types.specs.declared.refusal.Refusal.TheVariants.{BadFd, TooLong, Collected, NoMemory}
-use Rattle.messages.specs.declared.event.Input.{Input}
-use Rattle.messages.specs.declared.event.Input.TheVariants as input
+use Rattle.messages.specs.declared.event.NodeInput.{NodeInput}
+use Rattle.messages.specs.declared.event.NodeInput.TheVariants as input
 use Rattle.messages.specs.declared.message.Body.{Body}
 use Rattle.messages.specs.declared.message.Body.TheVariants as body
 use Rattle.messages.specs.declared.message.Location.{Location}
@@ -227,7 +227,7 @@ file_clients_stay config m reached action allowed client of s h = (
     call_on None g = idle_left m client action allowed of g
     call_on (Some x) g = elim g [ inl naming ↦ inl naming | inr here ↦ inr (file_call x here.0 here.1) ]
 
-    said : (i : Input) → IsFirmInput i → IsSaid m client s i → IsSaid (after m action) client s i
+    said : (i : NodeInput) → IsFirmInput i → IsSaid m client s i → IsSaid (after m action) client s i
     said input.Tick firm g = tt
     said (input.Deliver y) firm g = λ x d is there. by_call (m.clients client).open_call refl x d is there
       where
@@ -247,7 +247,7 @@ of_others client other apart (Return who reply) mine = λ same. apart (same ∙ 
 of_others client other apart a mine = absurd mine
 
 abbrev Stays : Machine → Machine → ℕ → ClientState → Type 0
-Stays m n client s = IsFileClient n client s × ((i : Input) → IsFirmInput i → IsSaid m client s i → IsSaid n client s i)
+Stays m n client s = IsFileClient n client s × ((i : NodeInput) → IsFirmInput i → IsSaid m client s i → IsSaid n client s i)
 
 all_stay : (config : Config) (client other : ℕ) → (other ≡ client → ⊥) → (s : ClientState) (m : Machine) (actions : List Action) → IsReached config m → IsLawful m actions → AllByRecursion (IsOwnAction client) actions → IsFileClient m other s → Stays m (after_all m actions) other s
 all_stay config client other apart s m [] reached lawful own h = (h, λ i firm said. said)

@@ -9,8 +9,8 @@ use Rattle.gfs_types.specs.declared.call.Call.TheVariants as call
 use Rattle.gfs_types.specs.declared.answer.Answer.{Answer}
 use Rattle.gfs_types.specs.declared.answer.Answer.TheVariants as answer
 use Rattle.gfs_types.specs.declared.refusal.Refusal.TheVariants.{NoMemory, Unknown}
-use Rattle.messages.specs.declared.event.Input.{Input}
-use Rattle.messages.specs.declared.event.Input.TheVariants as input
+use Rattle.messages.specs.declared.event.NodeInput.{NodeInput}
+use Rattle.messages.specs.declared.event.NodeInput.TheVariants as input
 use Rattle.messages.specs.declared.message.Body.{Body}
 use Rattle.messages.specs.declared.message.Body.TheVariants as body
 use Rattle.messages.specs.declared.message.Message.{Message}
@@ -186,13 +186,13 @@ module _ (m : Machine) (client : ℕ) (s : ClientState) (x : CurrentCall) (h : I
   abbrev waiting : CurrentCall
   waiting = record x { stage = AskedNames }
 
-  abbrev Ends : Input → ClientDoing → Type 0
+  abbrev Ends : NodeInput → ClientDoing → Type 0
   Ends i d = IsAnsweredAs m client x.number i d d.answer
 
-  nothing : (i : Input) → Ends i begin
+  nothing : (i : NodeInput) → Ends i begin
   nothing i = record { settings = h.settings; fds = h.fds; descriptors = h.descriptors; kept = h.kept; places = h.places; call = h.call }
 
-  again : (i : Input) (y : CurrentCall) → Ends i (attempts_names begin y)
+  again : (i : NodeInput) (y : CurrentCall) → Ends i (attempts_names begin y)
   again i y = record { settings = h.settings; fds = h.fds; descriptors = h.descriptors; kept = h.kept; places = h.places; call = inl refl }
 
   reply_ends : (y : Message) (number : ℕ) (r : NameReply) → x.number ≡ number → y.body ≡ body.Named number r → Ends (input.Deliver y) (takes_reply begin r)
@@ -211,7 +211,7 @@ module _ (m : Machine) (client : ℕ) (s : ClientState) (x : CurrentCall) (h : I
       (λ _. on_cond (Ends input.Tick) (is_last_attempt waiting) (answers begin (answer.Refused Unknown)) (attempts_names begin (ended waiting)) (λ _. inl (replied m client s h moment o is_open name (answer.Refused Unknown)))
       (λ _. again input.Tick (ended waiting)))
 
-  pub step_ends : (i : Input) → Ends i (client_does begin i (Some waiting))
+  pub step_ends : (i : NodeInput) → Ends i (client_does begin i (Some waiting))
   step_ends (input.Deliver y) = takes_ends y y.body refl
   step_ends input.Tick = late_ends
 

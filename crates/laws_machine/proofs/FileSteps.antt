@@ -14,8 +14,8 @@ use Rattle.gfs_types.specs.declared.answer.Answer.{Answer}
 use Rattle.gfs_types.specs.declared.answer.Answer.TheVariants as answer
 use Rattle.gfs_types.specs.declared.refusal.Refusal.{Refusal}
 use Rattle.gfs_types.specs.declared.refusal.Refusal.TheVariants.{TooLong, Collected, NoChunk, NoLease, ChunkFull}
-use Rattle.messages.specs.declared.event.Input.{Input}
-use Rattle.messages.specs.declared.event.Input.TheVariants as input
+use Rattle.messages.specs.declared.event.NodeInput.{NodeInput}
+use Rattle.messages.specs.declared.event.NodeInput.TheVariants as input
 use Rattle.messages.specs.declared.message.Body.{Body}
 use Rattle.messages.specs.declared.message.Body.TheVariants as body
 use Rattle.messages.specs.declared.message.Message.{Message}
@@ -361,7 +361,7 @@ module _ (m : Machine) (client : ℕ) (s : ClientState) (x : CurrentCall) (alike
   ticks_goes (SentMutate chunk number) of at = ticks_unanswered_goes (λ e. forgets e x chunk) (dropped_hand m client o is_open d0 x chunk hand)
   ticks_goes (SentRead chunk left number) of at = ticks_unanswered_goes (λ e. forgets e x chunk) (dropped_hand m client o is_open d0 x chunk hand)
 
-  pub goes : (i : Input) → IsOfFile x.stage → ((y : Message) → i ≡ input.Deliver y → Said x.stage y.body) → Goes (client_does d0 i (Some x))
+  pub goes : (i : NodeInput) → IsOfFile x.stage → ((y : Message) → i ≡ input.Deliver y → Said x.stage y.body) → Goes (client_does d0 i (Some x))
   goes (input.Deliver y) of said = takes_at_goes y x.stage open_call.stage of (said y refl)
   goes input.Tick of said = ticks_goes x.stage of open_call.stage
 
@@ -376,5 +376,5 @@ file_steps_are_followed m client s x alike is of row moment i said =
       | inr h ↦ h
     ]
 
-    told_of : (j : Input) → IsSaid m client s j → (y : Message) → j ≡ input.Deliver y → IsSaidAt m client s.id here.0 x x.stage y.body
-    told_of j h y came = subst (λ (k : Input). IsSaid m client s k) came h x here.0 is here.1.is_open
+    told_of : (j : NodeInput) → IsSaid m client s j → (y : Message) → j ≡ input.Deliver y → IsSaidAt m client s.id here.0 x x.stage y.body
+    told_of j h y came = subst (λ (k : NodeInput). IsSaid m client s k) came h x here.0 is here.1.is_open

@@ -3,7 +3,7 @@ use Rattle.std.proofs.Common.{◌≡◌, ◌⊎◌, ℕ, ◌≤◌, ◌<◌, Boo
 use Rattle.std.specs.Prelude.{IsTrue}
 use Rattle.std.specs.FinMap as table
 use Rattle.gfs_types.specs.declared.config.Config.{Config}
-use Rattle.messages.specs.declared.event.Input.{Input}
+use Rattle.messages.specs.declared.event.NodeInput.{NodeInput}
 use Rattle.log_records.specs.declared.record.Record.{Record}
 use Rattle.log_records.specs.declared.record.Record.TheVariants as log
 use Rattle.chunk_table.specs.ChunkTable.{ChunkRow, new_row, chunk_of, changed_by, row_granted}
@@ -379,7 +379,7 @@ module _ (config : Config) (servers clients : ℕ) (w : WorldState) (r : IsReach
       by_record (log.Grant handle version primary members) one = of_attempt (state_of d) handle.0 version.0 one
       by_record other one = tt
 
-  granted_from : (moment : ℕ) (i : Input) (refused : List Bool) → AreGrantedFrom w.master w.master.disk (master_goes w.master moment i refused).changes
+  granted_from : (moment : ℕ) (i : NodeInput) (refused : List Bool) → AreGrantedFrom w.master w.master.disk (master_goes w.master moment i refused).changes
   granted_from moment i refused =
       let m : MasterState = w.master in
       let free = free_reached config servers clients w r clocks up in

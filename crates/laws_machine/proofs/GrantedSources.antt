@@ -3,7 +3,7 @@ use Rattle.std.proofs.Common.{◌≡◌, ℕ, List, [], ◌∷◌, ◌++◌, Opt
 use Rattle.std.specs.Prelude.{Bool, IsTrue}
 use Rattle.std.specs.FinMap as table
 use Rattle.gfs_types.specs.declared.config.Config.{Config}
-use Rattle.messages.specs.declared.event.Input.{Input}
+use Rattle.messages.specs.declared.event.NodeInput.{NodeInput}
 use Rattle.log_records.specs.declared.record.Record.{Record}
 use Rattle.log_records.specs.declared.record.Record.TheVariants as log
 use Rattle.chunk_table.specs.ChunkTable.{ChunkRow, chunk_of}
@@ -116,7 +116,7 @@ module _ (config : Config) (servers clients : ℕ) (w : WorldState) (r : IsReach
         extends = λ c handle until row is lasts later from h. (base.extends c handle until row is lasts later from h.0, record { copies = h.1.copies; known = h.1.known });
       }
 
-  step_known : (moment : ℕ) (i : Input) (refused : List Bool) → AllOf IsNoStart (master_goes w.master moment i refused).changes → AreKnown w.master.disk (master_goes w.master moment i refused).changes
+  step_known : (moment : ℕ) (i : NodeInput) (refused : List Bool) → AllOf IsNoStart (master_goes w.master moment i refused).changes → AreKnown w.master.disk (master_goes w.master moment i refused).changes
   step_known moment i refused all =
       let base : IsOfWaits w.sent w.master = sent_reached IsOfWaits waits_kept config servers clients w r in
       let u : IsUpToLog IsFoundRows IsRowedLog rows_kept w.master = base.base.logged.up up in

@@ -4,8 +4,8 @@ use Rattle.std.specs.Prelude.{IsTrue}
 use Rattle.std.specs.FinMap as table
 use Rattle.gfs_types.specs.Paths.{Path}
 use Rattle.gfs_types.specs.declared.config.Config.{Config}
-use Rattle.messages.specs.declared.event.Input.{Input}
-use Rattle.messages.specs.declared.event.Input.TheVariants as input
+use Rattle.messages.specs.declared.event.NodeInput.{NodeInput}
+use Rattle.messages.specs.declared.event.NodeInput.TheVariants as input
 use Rattle.messages.specs.declared.message.Message.{Message}
 use Rattle.messages.specs.declared.message.Body.{Body}
 use Rattle.messages.specs.declared.message.Body.TheVariants as body
@@ -587,7 +587,7 @@ module _ (config : Config) (servers clients : ℕ) (w : WorldState) (r : IsReach
       omega (arith, low, high)
   word_said m place sent other same = tt
 
-  input_said : (i : Input) → WasSent w i → IsInputSaid (IsEarlier w.master.logged w.master.attempts) i
+  input_said : (i : NodeInput) → WasSent w i → IsInputSaid (IsEarlier w.master.logged w.master.attempts) i
   input_said input.Tick sent = tt
   input_said (input.Deliver m) sent = by_number sent.0 sent.1
     where
@@ -598,7 +598,7 @@ module _ (config : Config) (servers clients : ℕ) (w : WorldState) (r : IsReach
   config_is : w.master.config ≡ config
   config_is = timed.clock.0 ∙ ap (λ (v : WorldState). v.config) (sym r.1) ∙ config_stays config (new_world config servers clients) r.0 refl
 
-  last_of : (moment : ℕ) (i : Input) → WasSent w i → (refused : List Bool) → 1 ≤ config.lease_ms → AreGrantsLast w.master.disk (master_goes w.master moment i refused).changes
+  last_of : (moment : ℕ) (i : NodeInput) → WasSent w i → (refused : List Bool) → 1 ≤ config.lease_ms → AreGrantsLast w.master.disk (master_goes w.master moment i refused).changes
   last_of moment i sent refused long =
       let m : MasterState = w.master in
       let free = free_reached config servers clients w r clocks up in

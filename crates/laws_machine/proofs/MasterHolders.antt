@@ -7,8 +7,8 @@ use Rattle.gfs_types.specs.declared.ids.Node.{Node}
 use Rattle.gfs_types.specs.declared.ids.Node.TheVariants as node
 use Rattle.messages.specs.declared.event.Event.{Event}
 use Rattle.messages.specs.declared.event.Event.TheVariants as event
-use Rattle.messages.specs.declared.event.Input.{Input}
-use Rattle.messages.specs.declared.event.Input.TheVariants as input
+use Rattle.messages.specs.declared.event.NodeInput.{NodeInput}
+use Rattle.messages.specs.declared.event.NodeInput.TheVariants as input
 use Rattle.messages.specs.declared.message.Message.{Message}
 use Rattle.messages.specs.declared.message.Location.{Location}
 use Rattle.relaxed_file.specs.Order.{Entry}
@@ -40,7 +40,7 @@ use Rattle.laws_machine.proofs.HoldersOn.{told_before}
 apart_nodes : (n : Node) (index : ℕ) → n ≡ the_server index → n ≡ node.Master → ⊥
 apart_nodes n index server master = let both : the_server index ≡ node.Master = sym server ∙ master in absurd (cc)
 
-no_server : (w : WorldState) (e : Event) (index moment : ℕ) (i : Input) → IsGiven w e (the_server index) moment i → IsMastersEvent w e → ⊥
+no_server : (w : WorldState) (e : Event) (index moment : ℕ) (i : NodeInput) → IsGiven w e (the_server index) moment i → IsMastersEvent w e → ⊥
 no_server w (event.Deliver number now) index moment (input.Deliver m) given is =
     apart_nodes m.receiver index given.1 (subst (λ (x : Message). x.receiver ≡ node.Master) (same_some is.0 m (sym is.1 ∙ given.0)) is.2)
 no_server w (event.Deliver number now) index moment input.Tick given is = given

@@ -7,7 +7,7 @@ use Rattle.std.proofs.lemmas.Bool.{and_parts}
 use Rattle.gfs_types.specs.Paths.{Path}
 use Rattle.gfs_types.specs.declared.config.Config.{Config}
 use Rattle.messages.specs.declared.event.Event.{Event}
-use Rattle.messages.specs.declared.event.Input.{Input}
+use Rattle.messages.specs.declared.event.NodeInput.{NodeInput}
 use Rattle.messages.specs.declared.message.Message.{Message}
 use Rattle.log_records.specs.declared.record.Record.{Record}
 use Rattle.log_records.specs.declared.record.Record.TheVariants as log
@@ -22,7 +22,7 @@ use Rattle.protocol.specs.MasterStep.{master_step, master_goes, master_ends, mas
 use Rattle.protocol.specs.World.{WorldState, Happened, IsReached, new_world, nothing_happens, numbered_from_1, at_moment, moves, delivered, happens, after_events, after_master}
 use Rattle.gfs_types.specs.declared.ids.Node.{Node as Nodes}
 use Rattle.gfs_types.specs.declared.ids.Node.TheVariants as node
-use Rattle.messages.specs.declared.event.Input.TheVariants as input
+use Rattle.messages.specs.declared.event.NodeInput.TheVariants as input
 use Rattle.laws_base.specs.Laws.{HasAllReferences, times_in}
 use Rattle.laws_base.proofs.Steps.{none_some, same_or_not, put_other}
 use Rattle.laws_base.proofs.ChunkRows.{rows_of}
@@ -165,7 +165,7 @@ events_append w [] ys = refl
 events_append w (x ∷ xs) ys = events_append (happens w x.0 x.1).world xs ys
 
 -- a step of the master, where it could have stopped
-module _ (config : Config) (servers clients : ℕ) (w : WorldState) (r : IsReached config servers clients w) (up : IsTrue w.master.up) (e : Event) (moment : ℕ) (i : Input) (event : IsMastersEvent w e moment i)
+module _ (config : Config) (servers clients : ℕ) (w : WorldState) (r : IsReached config servers clients w) (up : IsTrue w.master.up) (e : Event) (moment : ℕ) (i : NodeInput) (event : IsMastersEvent w e moment i)
     (clocks : IsTrue (passed w moment).observer.are_clocks_kept) (choice : Choice) where
   abbrev start : LogDisk
   start = w.master.disk
@@ -435,5 +435,5 @@ masters_events_are_steps w up now limit = (
     at_limit : (h : Happened) → (at_moment w now.0 h).world ≡ h.world
     at_limit h = ap (λ (b : Bool). (cond b h (nothing_happens w)).world) limit
 
-    stepped : (i : Input) (choice : Choice) → (moves w node.Master now.0 i choice).world ≡ (after_master w now.0 (master_step w.master now.0 i choice)).world
+    stepped : (i : NodeInput) (choice : Choice) → (moves w node.Master now.0 i choice).world ≡ (after_master w now.0 (master_step w.master now.0 i choice)).world
     stepped i choice = ap (λ (b : Bool). (cond b (after_master w now.0 (master_step w.master now.0 i choice)) (nothing_happens w)).world) up

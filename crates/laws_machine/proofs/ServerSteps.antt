@@ -14,8 +14,8 @@ use Rattle.gfs_types.specs.declared.ids.Version.{Version}
 use Rattle.gfs_types.specs.declared.mutation.Mutation.{Mutation}
 use Rattle.gfs_types.specs.declared.mutation.Mutation.TheVariants.{Write, Append, Pad}
 use Rattle.messages.specs.declared.event.Event.{Event}
-use Rattle.messages.specs.declared.event.Input.{Input}
-use Rattle.messages.specs.declared.event.Input.TheVariants as input
+use Rattle.messages.specs.declared.event.NodeInput.{NodeInput}
+use Rattle.messages.specs.declared.event.NodeInput.TheVariants as input
 use Rattle.messages.specs.declared.message.Message.{Message}
 use Rattle.primary_order.specs.declared.order.SerialOrder.{SerialOrder}
 use Rattle.relaxed_file.specs.Order.{CallId, Entry}
@@ -107,7 +107,7 @@ set_there (z ∷ xs) zero x y at = refl
 set_there (z ∷ xs) (suc n) x y at = set_there xs n x y at
 
 module _ (config : Config) (servers clients : ℕ) (w : WorldState) (r : IsReached config servers clients w) (kept : IsTrue (is_kept w)) (index : ℕ) (s : ServerState) (there : element_at w.servers index ≡ Some s)
-    (moment : ℕ) (i : Input) (choice : Choice) (came : (m : Message) → i ≡ input.Deliver m → IsAmong w.sent m) (clocks : IsTrue (observed_moment w.config.skew_ms w.observer moment).are_clocks_kept)
+    (moment : ℕ) (i : NodeInput) (choice : Choice) (came : (m : Message) → i ≡ input.Deliver m → IsAmong w.sent m) (clocks : IsTrue (observed_moment w.config.skew_ms w.observer moment).are_clocks_kept)
     (reached : IsReached config servers clients (after_server w index moment (server_step s moment i choice)).world)
     (k : ChunkSides) (settings : k.machine.config ≡ config) (orders_are : k.orders ≡ w.observer.orders) (log : IsLogOf w.master k.log) (h : AreChunksAlike k) (has : HasRounds (IsLeaseOver w) k) where
   abbrev trace : List Visible

@@ -7,8 +7,8 @@ use Rattle.gfs_types.specs.declared.config.Config.{Config}
 use Rattle.gfs_types.specs.declared.ids.Node.{Node}
 use Rattle.messages.specs.declared.event.Event.{Event}
 use Rattle.messages.specs.declared.event.Event.TheVariants as event
-use Rattle.messages.specs.declared.event.Input.{Input}
-use Rattle.messages.specs.declared.event.Input.TheVariants as input
+use Rattle.messages.specs.declared.event.NodeInput.{NodeInput}
+use Rattle.messages.specs.declared.event.NodeInput.TheVariants as input
 use Rattle.messages.specs.declared.message.Message.{Message}
 use Rattle.messages.specs.declared.message.Body.TheVariants as body
 use Rattle.chunk_table.specs.ChunkTable.{ChunkRow, chunk_of}
@@ -33,7 +33,7 @@ use Rattle.laws_machine.specs.Rounds.{IsMastersInput, log_within, LogsWithinStep
 use Rattle.laws_machine.proofs.EndedRounds.{some_place, IsGrantOf, grant_is}
 
 -- an event that gives the master its input
-masters_event : (w : WorldState) (e : Event) (moment : ℕ) (i : Input) (choice : Choice) → IsMastersInput w e moment i → happens w e choice ≡ at_moment w moment (master_moves w moment i choice)
+masters_event : (w : WorldState) (e : Event) (moment : ℕ) (i : NodeInput) (choice : Choice) → IsMastersInput w e moment i → happens w e choice ≡ at_moment w moment (master_moves w moment i choice)
 masters_event w (event.Deliver number now) moment (input.Deliver m) choice given =
     ap (λ (o : Option Message). at_moment w now.0 (delivered w now.0 choice o)) given.0 ∙ (ap (λ (n : Node). at_moment w now.0 (moves w n now.0 (input.Deliver m) choice)) given.1 ∙ ap (λ (n : ℕ). at_moment w n (master_moves w n (input.Deliver m) choice)) given.2)
 masters_event w (event.Tick n now) moment input.Tick choice given =
@@ -52,7 +52,7 @@ true_test n m low = by_test (nat_le n m) refl
     by_test true is = is
     by_test false is = absurd (let high = leb-false n m is in omega (arith, low, high))
 
-module _ (config : Config) (servers clients : ℕ) (w : WorldState) (r : IsReached config servers clients w) (up : IsTrue w.master.up) (e : Event) (moment : ℕ) (i : Input) (choice : Choice) (given : IsMastersInput w e moment i)
+module _ (config : Config) (servers clients : ℕ) (w : WorldState) (r : IsReached config servers clients w) (up : IsTrue w.master.up) (e : Event) (moment : ℕ) (i : NodeInput) (choice : Choice) (given : IsMastersInput w e moment i)
     (limit : moment ≤ moment_limit) (clocks : IsTrue (happens w e choice).world.observer.are_clocks_kept) (made : ℕ) where
   abbrev taken : Choice → Happened
   taken c = after_master w moment (master_step w.master moment i c)

@@ -1,7 +1,7 @@
 -- A step that takes no Ask logs no AddChunk.
 use Rattle.std.proofs.Common.{List, [], ◌∷◌, ◌++◌}
-use Rattle.messages.specs.declared.event.Input.{Input}
-use Rattle.messages.specs.declared.event.Input.TheVariants as input
+use Rattle.messages.specs.declared.event.NodeInput.{NodeInput}
+use Rattle.messages.specs.declared.event.NodeInput.TheVariants as input
 use Rattle.messages.specs.declared.message.Body.{Body}
 use Rattle.messages.specs.declared.message.Body.TheVariants as body
 use Rattle.log_records.specs.declared.record.Record.{Record}
@@ -63,7 +63,7 @@ no_ask : (b : Body) → IsNoAskIn b → IsNoAsk b
 no_ask (body.Ask number file what deadline lost) is = absurd is
 no_ask other is = tt
 
-unasked : (i : Input) → TakesNoAsk i → IsUnasked i
+unasked : (i : NodeInput) → TakesNoAsk i → IsUnasked i
 unasked (input.Deliver m) is = no_ask m.body is
 unasked input.Tick is = tt
 

@@ -8,8 +8,8 @@ use Rattle.std.proofs.lemmas.List.Sums.{sum_by-cons, sum_by-append}
 use Rattle.gfs_types.specs.declared.config.Config.{Config}
 use Rattle.gfs_types.specs.declared.call.Call.{Call}
 use Rattle.messages.specs.declared.event.Event.{Event}
-use Rattle.messages.specs.declared.event.Input.{Input}
-use Rattle.messages.specs.declared.event.Input.TheVariants as input
+use Rattle.messages.specs.declared.event.NodeInput.{NodeInput}
+use Rattle.messages.specs.declared.event.NodeInput.TheVariants as input
 use Rattle.messages.specs.declared.message.Body.{Body}
 use Rattle.messages.specs.declared.message.Body.TheVariants as body
 use Rattle.messages.specs.declared.message.Message.{Message}
@@ -136,7 +136,7 @@ at_stage s c (SentRead chunk left number) = tt
 at_stage s c IsOver = tt
 at_stage s c (HasAnswer reply) = tt
 
-all_came : (i : Input) → IsCameIn (λ b. Unit {0}) i
+all_came : (i : NodeInput) → IsCameIn (λ b. Unit {0}) i
 all_came (input.Deliver m) = tt
 all_came input.Tick = tt
 
@@ -146,7 +146,7 @@ asks_now s c chunk primary number x n is =
     let asked : Message = message (the_client s.id) (the_server primary.0) (body.Mutate (data_id s.id number) chunk.handle chunk.round (target_of (file_chunk s c.file.0) c.index c.asked) c.deadline) in
     inr (among s.id n (asked ∷ []) zero asked refl (own_mutate s.id n asked refl (eq-eqb number n same)))
 
-step_next : (s : ClientState) (moment : ℕ) (i : Input) (choice : Choice) → IsNext s (client_step s moment i choice).state (client_step s moment i choice).out.sent
+step_next : (s : ClientState) (moment : ℕ) (i : NodeInput) (choice : Choice) → IsNext s (client_step s moment i choice).state (client_step s moment i choice).out.sent
 step_next s moment i choice =
     let at : ClientState = client_at s moment in
     stepped (λ t ms. IsNext s t ms) s moment i choice
@@ -184,7 +184,7 @@ module _ (index : ℕ) (w : WorldState) (numbered : AreNumbered w.sent w.clients
         calls = λ s at chunk n is. calls;
       }
 
-  one_stepped : (j moment : ℕ) (s : ClientState) (i : Input) (choice : Choice) → element_at w.clients j ≡ Some s → Steps index w (after_client w j moment (client_step s moment i choice))
+  one_stepped : (j moment : ℕ) (s : ClientState) (i : NodeInput) (choice : Choice) → element_at w.clients j ≡ Some s → Steps index w (after_client w j moment (client_step s moment i choice))
   one_stepped j moment s i choice at =
       record {
         sent_is = (k, refl);

@@ -13,8 +13,8 @@ use Rattle.gfs_types.specs.declared.refusal.Refusal.TheVariants.{TooLong}
 use Rattle.gfs_types.specs.declared.answer.Answer.{Answer}
 use Rattle.messages.specs.declared.event.Event.{Event}
 use Rattle.messages.specs.declared.event.Event.TheVariants as event
-use Rattle.messages.specs.declared.event.Input.{Input}
-use Rattle.messages.specs.declared.event.Input.TheVariants as input
+use Rattle.messages.specs.declared.event.NodeInput.{NodeInput}
+use Rattle.messages.specs.declared.event.NodeInput.TheVariants as input
 use Rattle.messages.specs.declared.message.Body.{Body}
 use Rattle.messages.specs.declared.message.Body.TheVariants as body
 use Rattle.messages.specs.declared.message.Message.{Message}
@@ -71,7 +71,7 @@ firm_body (body.Refused number refusal) = by_refusal refusal
     by_refusal other = inl tt
 firm_body other = inl tt
 
-pub firm_or_not : (i : Input) → IsFirmInput i ⊎ (IsFirmInput i → ⊥)
+pub firm_or_not : (i : NodeInput) → IsFirmInput i ⊎ (IsFirmInput i → ⊥)
 firm_or_not input.Tick = inl tt
 firm_or_not (input.Deliver y) = firm_body y.body
 
@@ -81,14 +81,14 @@ abbrev IsClientsNode : Node → Type 0
 IsClientsNode (node.Client c) = Unit {0}
 IsClientsNode other = ⊥
 
-pub not_masters : (w : WorldState) (e : Event) (index moment : ℕ) (i : Input) → GivesClient w e index moment i → IsMastersEvent w e → ⊥
+pub not_masters : (w : WorldState) (e : Event) (index moment : ℕ) (i : NodeInput) → GivesClient w e index moment i → IsMastersEvent w e → ⊥
 not_masters w (event.Deliver number now) index moment i given masters =
     let same : given.0 ≡ masters.0 = same_some given.0 masters.0 (sym given.1 ∙ masters.1) in
     subst IsClientsNode (sym given.2 ∙ ap (λ (m : Message). m.receiver) same ∙ masters.2) tt
 not_masters w (event.Tick n now) index moment i given masters = subst IsClientsNode (sym given.0 ∙ masters) tt
 not_masters w other index moment i given masters = absurd given
 
-module _ (w : WorldState) (choice : Choice) (index moment : ℕ) (s : ClientState) (i : Input) (at : element_at w.clients index ≡ Some s) (P : Happened → Type 0) (none : P (nothing_happens w))
+module _ (w : WorldState) (choice : Choice) (index moment : ℕ) (s : ClientState) (i : NodeInput) (at : element_at w.clients index ≡ Some s) (P : Happened → Type 0) (none : P (nothing_happens w))
     (some : IsTrue s.up → P (after_client w index moment (client_step s moment i choice)))
   where
     client_case : P (moves w (the_client (suc index)) moment i choice)
@@ -104,25 +104,25 @@ module _ (w : WorldState) (choice : Choice) (index moment : ℕ) (s : ClientStat
         (moment_case (delivered w moment choice (numbered_from_1 w.sent number))
         (subst (λ (o : Option Message). P (delivered w moment choice o)) (sym given.1)
         (subst (λ (n : Node). P (moves w n moment (input.Deliver given.0) choice)) (sym given.2)
-        (subst (λ (j : Input). P (moves w (the_client (suc index)) moment j choice)) given.3 client_case))))
+        (subst (λ (j : NodeInput). P (moves w (the_client (suc index)) moment j choice)) given.3 client_case))))
     event_case (event.Tick n now) given =
         subst (λ (t : ℕ). P (at_moment w t (moves w n t input.Tick choice))) (sym given.2)
         (moment_case (moves w n moment input.Tick choice)
         (subst (λ (k : Node). P (moves w k moment input.Tick choice)) (sym given.0)
-        (subst (λ (j : Input). P (moves w (the_client (suc index)) moment j choice)) given.1 client_case)))
+        (subst (λ (j : NodeInput). P (moves w (the_client (suc index)) moment j choice)) given.1 client_case)))
     event_case other given = absurd given
 
-abbrev message_in : Input → Message → Message
+abbrev message_in : NodeInput → Message → Message
 message_in (input.Deliver y) z = y
 message_in input.Tick z = z
 
-abbrev IsTickIn : Input → Type 0
+abbrev IsTickIn : NodeInput → Type 0
 IsTickIn input.Tick = Unit {0}
 IsTickIn other = ⊥
 
-pub came : (w : WorldState) (e : Event) (index moment : ℕ) (i : Input) → GivesClient w e index moment i → (y : Message) → i ≡ input.Deliver y → WasSent w.sent y × (y.receiver ≡ the_client (suc index))
+pub came : (w : WorldState) (e : Event) (index moment : ℕ) (i : NodeInput) → GivesClient w e index moment i → (y : Message) → i ≡ input.Deliver y → WasSent w.sent y × (y.receiver ≡ the_client (suc index))
 came w (event.Deliver number now) index moment i given y is =
-    let same : given.0 ≡ y = ap (λ (j : Input). message_in j y) (sym given.3 ∙ is) in
+    let same : given.0 ≡ y = ap (λ (j : NodeInput). message_in j y) (sym given.3 ∙ is) in
     subst (λ (z : Message). WasSent w.sent z × (z.receiver ≡ the_client (suc index))) same ((number - 1, element_numbered w.sent number given.0 given.1), given.2)
 came w (event.Tick n now) index moment i given y is = absurd (subst IsTickIn (sym given.1 ∙ is) tt)
 came w other index moment i given y is = absurd given
@@ -164,7 +164,7 @@ idle_at m requests client x other of h = h
 -- the machine follows the step
 
 module _ (config : Config) (servers clients : ℕ) (w : WorldState) (r : world.IsReached config servers clients w) (kept : IsTrue (is_kept w)) (e : Event) (choice : Choice) (clocks : IsTrue (happens w e choice).world.observer.are_clocks_kept)
-    (index moment : ℕ) (s : ClientState) (i : Input) (at : element_at w.clients index ≡ Some s) (given : GivesClient w e index moment i) (x : CurrentCall) (is : s.current ≡ Some x) (of : IsOfFile x.stage) (up : IsTrue s.up)
+    (index moment : ℕ) (s : ClientState) (i : NodeInput) (at : element_at w.clients index ≡ Some s) (given : GivesClient w e index moment i) (x : CurrentCall) (is : s.current ≡ Some x) (of : IsOfFile x.stage) (up : IsTrue s.up)
     (asks : AreClientsTrue config w (happens w e choice).world index moment s i) (ss : List PendingSnapshot) (k : ChunkSides) (h : IsBeside config w ss k)
   where
     abbrev v : WorldState
@@ -268,7 +268,7 @@ module _ (config : Config) (servers clients : ℕ) (w : WorldState) (r : world.I
       | inr loose ↦ asks.heard up ss k passed h leads chunks_passed p.run files_passed adds_passed loose
     ]
       where
-        by_input : (j : Input) → i ≡ j → IsFirmInput j → IsSaid p.whole client s j
+        by_input : (j : NodeInput) → i ≡ j → IsFirmInput j → IsSaid p.whole client s j
         by_input input.Tick same firm = tt
         by_input (input.Deliver y) same firm = let was = came w e index moment i given y same in said_passed index s at up y was.0 was.1 firm
 
@@ -284,7 +284,7 @@ module _ (config : Config) (servers clients : ℕ) (w : WorldState) (r : world.I
     f = follows.0
 
     others : (other : ℕ) (z : ClientState) → (other ≡ index → ⊥) → IsFileClient p.whole (suc other) z
-        → IsFileClient (after_all p.whole f.actions) (suc other) z × ((j : Input) → IsFirmInput j → IsSaid p.whole (suc other) z j → IsSaid (after_all p.whole f.actions) (suc other) z j)
+        → IsFileClient (after_all p.whole f.actions) (suc other) z × ((j : NodeInput) → IsFirmInput j → IsSaid p.whole (suc other) z j → IsSaid (after_all p.whole f.actions) (suc other) z j)
     others other z apart g = other_clients_stay config p.whole reached client d f (suc other) (λ same. apart (omega (arith, same))) z g
 
     own : IsClientBeside config trace greatest s p.names h.requests client

@@ -6,7 +6,7 @@ use Rattle.std.proofs.lemmas.Bool.{ltb-true, ltb-false}
 use Rattle.std.proofs.lemmas.List.{append-nil}
 use Rattle.std.proofs.Math.Nat.{max-eq_left, max-eq_right}
 use Rattle.gfs_types.specs.declared.config.Config.{Config}
-use Rattle.messages.specs.declared.event.Input.{Input}
+use Rattle.messages.specs.declared.event.NodeInput.{NodeInput}
 use Rattle.messages.specs.declared.message.Message.{Message}
 use Rattle.relaxed_file.specs.Machine.{Machine, OpenCall, new_machine}
 use Rattle.relaxed_file.specs.Reads.{looked}
@@ -33,7 +33,7 @@ use Rattle.laws_machine.proofs.FileClientsStay.{file_clients_stay}
 
 -- clients stay, and what they are told
 abbrev pub AllStay : Machine → Machine → Type 0
-AllStay m n = (client : ℕ) (s : ClientState) → IsFileClient m client s → IsFileClient n client s × ((i : Input) → IsFirmInput i → IsSaid m client s i → IsSaid n client s i)
+AllStay m n = (client : ℕ) (s : ClientState) → IsFileClient m client s → IsFileClient n client s × ((i : NodeInput) → IsFirmInput i → IsSaid m client s i → IsSaid n client s i)
 
 abbrev pub IsQuiet : Action → Type 0
 IsQuiet a = (shown a ≡ None) × (is_name_action a ≡ false) × ((client : ℕ) → IsOfOthers client a)

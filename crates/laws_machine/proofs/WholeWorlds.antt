@@ -12,8 +12,8 @@ use Rattle.gfs_types.specs.declared.ids.Node.{Node}
 use Rattle.gfs_types.specs.declared.ids.Node.TheVariants as node
 use Rattle.messages.specs.declared.event.Event.{Event}
 use Rattle.messages.specs.declared.event.Event.TheVariants as event
-use Rattle.messages.specs.declared.event.Input.{Input}
-use Rattle.messages.specs.declared.event.Input.TheVariants as input
+use Rattle.messages.specs.declared.event.NodeInput.{NodeInput}
+use Rattle.messages.specs.declared.event.NodeInput.TheVariants as input
 use Rattle.messages.specs.declared.message.Message.{Message}
 use Rattle.relaxed_file.specs.Machine.{Machine, new_machine}
 use Rattle.relaxed_file.specs.Run.{Action, Visible, after_all, IsLawful, LeadsTo, IsReached, IsRunTo}
@@ -126,12 +126,12 @@ module _ (w : WorldState) where
   serves index moment t silent =
       record { clients = refl; moment = moment; trace = refl; greatest = refl; number = suc (length w.sent); messages = t.out.sent; sent = refl; silent = all_silent t.out.sent silent }
 
-  server_of : (index moment : ℕ) (i : Input) (choice : Choice) (o : Option ServerState) → Of (server_moves w index moment i choice o)
+  server_of : (index moment : ℕ) (i : NodeInput) (choice : Choice) (o : Option ServerState) → Of (server_moves w index moment i choice o)
   server_of index moment i choice None = nothing
   server_of index moment i choice (Some s) =
       on_cond Of s.up (after_server w index moment (server_step s moment i choice)) (nothing_happens w) (λ _. serves index moment (server_step s moment i choice) (server_silent s moment i choice)) (λ _. nothing)
 
-  moves_of : (n : Node) (moment : ℕ) (i : Input) (choice : Choice) → IsServer n → Of (moves w n moment i choice)
+  moves_of : (n : Node) (moment : ℕ) (i : NodeInput) (choice : Choice) → IsServer n → Of (moves w n moment i choice)
   moves_of (node.Server s) moment i choice is = server_of (s.0 - 1) moment i choice (numbered_from_1 w.servers s.0)
   moves_of other moment i choice is = absurd is
 

@@ -8,8 +8,8 @@ use Rattle.gfs_types.specs.declared.call.Call.{Call}
 use Rattle.gfs_types.specs.declared.call.Call.TheVariants as call
 use Rattle.gfs_types.specs.declared.refusal.Refusal.{Refusal}
 use Rattle.gfs_types.specs.declared.refusal.Refusal.TheVariants.{TooLong, Collected, NoMemory}
-use Rattle.messages.specs.declared.event.Input.{Input}
-use Rattle.messages.specs.declared.event.Input.TheVariants as input
+use Rattle.messages.specs.declared.event.NodeInput.{NodeInput}
+use Rattle.messages.specs.declared.event.NodeInput.TheVariants as input
 use Rattle.messages.specs.declared.message.Body.{Body}
 use Rattle.messages.specs.declared.message.Body.TheVariants as body
 use Rattle.messages.specs.declared.message.Location.{Location}
@@ -166,7 +166,7 @@ IsSaidAt m client own o x (SentRead chunk left asked) (body.LenIs number count) 
 IsSaidAt m client own o x stage other = Unit {0}
 
 -- what comes to a client that waits is so at the machine
-abbrev pub IsSaid : Machine → ℕ → ClientState → Input → Type 0
+abbrev pub IsSaid : Machine → ℕ → ClientState → NodeInput → Type 0
 IsSaid m client s input.Tick = Unit {0}
 IsSaid m client s (input.Deliver y) = (x : CurrentCall) (o : OpenCall) → s.current ≡ Some x → IsOpen m client o → IsSaidAt m client s.id o x x.stage y.body
 

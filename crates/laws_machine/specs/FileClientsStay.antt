@@ -2,8 +2,8 @@
 use Rattle.std.specs.Prelude.{◌≡◌, ℕ}
 use Rattle.gfs_types.specs.declared.config.Config.{Config}
 use Rattle.gfs_types.specs.declared.refusal.Refusal.TheVariants.{TooLong}
-use Rattle.messages.specs.declared.event.Input.{Input}
-use Rattle.messages.specs.declared.event.Input.TheVariants as input
+use Rattle.messages.specs.declared.event.NodeInput.{NodeInput}
+use Rattle.messages.specs.declared.event.NodeInput.TheVariants as input
 use Rattle.messages.specs.declared.message.Body.{Body}
 use Rattle.messages.specs.declared.message.Body.TheVariants as body
 use Rattle.relaxed_file.specs.Machine.{Machine}
@@ -24,7 +24,7 @@ abbrev pub IsFirm : Body → Type 0
 IsFirm (body.Refused number TooLong) = ⊥
 IsFirm other = Unit {0}
 
-abbrev pub IsFirmInput : Input → Type 0
+abbrev pub IsFirmInput : NodeInput → Type 0
 IsFirmInput input.Tick = Unit {0}
 IsFirmInput (input.Deliver y) = IsFirm y.body
 
@@ -32,10 +32,10 @@ IsFirmInput (input.Deliver y) = IsFirm y.body
 abbrev pub FileClientsStay : Type 0
 FileClientsStay =
     (config : Config) (m : Machine) → IsReached config m → (action : Action) → Allows m action → (client : ℕ) → IsOfOthers client action → (s : ClientState) → IsFileClient m client s
-    → IsFileClient (after m action) client s × ((i : Input) → IsFirmInput i → IsSaid m client s i → IsSaid (after m action) client s i)
+    → IsFileClient (after m action) client s × ((i : NodeInput) → IsFirmInput i → IsSaid m client s i → IsSaid (after m action) client s i)
 
 -- So do the actions by which the machine follows another client's step.
 abbrev pub OtherClientsStay : Type 0
 OtherClientsStay =
     (config : Config) (m : Machine) → IsReached config m → (client : ℕ) (d : ClientDoing) (f : IsFollowed m client d) (other : ℕ) → (other ≡ client → ⊥) → (s : ClientState) → IsFileClient m other s
-    → IsFileClient (after_all m f.actions) other s × ((i : Input) → IsFirmInput i → IsSaid m other s i → IsSaid (after_all m f.actions) other s i)
+    → IsFileClient (after_all m f.actions) other s × ((i : NodeInput) → IsFirmInput i → IsSaid m other s i → IsSaid (after_all m f.actions) other s i)

@@ -5,7 +5,7 @@ use Rattle.gfs_types.specs.declared.answer.Answer.{Answer}
 use Rattle.gfs_types.specs.declared.answer.Answer.TheVariants as answer
 use Rattle.gfs_types.specs.declared.ids.FileId.{FileId}
 use Rattle.gfs_types.specs.declared.refusal.Refusal.TheVariants.{NoMemory}
-use Rattle.messages.specs.declared.event.Input.{Input}
+use Rattle.messages.specs.declared.event.NodeInput.{NodeInput}
 use Rattle.messages.specs.declared.message.NameReply.TheVariants.{Opened}
 use Rattle.relaxed_file.specs.Machine.{Machine, OpenCall, IsOpen}
 use Rattle.relaxed_file.specs.NameStep.{is_name_call}
@@ -25,7 +25,7 @@ NameCallsKeepFiles =
     × IsFileClient (after (after m (Invoke client c)) (Return client (answer.Refused NoMemory))) client (answers (client_begins (client_at s moment)) (answer.Refused NoMemory)).client
 
 -- What the step comes to: the call waits, or has this answer, or is answered the next descriptor of the file that it was told.
-abbrev pub IsAnsweredAs : Machine → ℕ → ℕ → Input → ClientDoing → Option Answer → Type 0
+abbrev pub IsAnsweredAs : Machine → ℕ → ℕ → NodeInput → ClientDoing → Option Answer → Type 0
 IsAnsweredAs m client number i d None = IsFileClient m client d.client
 IsAnsweredAs m client number i d (Some reply) =
     IsFileClient (after m (Return client reply)) client d.client
@@ -36,4 +36,4 @@ abbrev pub NameStepsKeepFiles : Type 0
 NameStepsKeepFiles =
     (m : Machine) (client : ℕ) (s : ClientState) (x : CurrentCall) → IsFileClient m client s → s.current ≡ Some x → x.stage ≡ AskedNames
     → (o : OpenCall) → IsOpen m client o → IsTrue (is_name_call o.asked.call)
-    → (moment : ℕ) (i : Input) → IsAnsweredAs m client x.number i (client_goes s moment i) (client_goes s moment i).answer
+    → (moment : ℕ) (i : NodeInput) → IsAnsweredAs m client x.number i (client_goes s moment i) (client_goes s moment i).answer

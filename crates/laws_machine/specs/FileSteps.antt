@@ -1,6 +1,6 @@
 -- A client's step for its open call on a file, at the machine (sections 2.4, 2.7.1, 3.1 and 3.3).
 use Rattle.std.specs.Prelude.{◌≡◌, ℕ, Some}
-use Rattle.messages.specs.declared.event.Input.{Input}
+use Rattle.messages.specs.declared.event.NodeInput.{NodeInput}
 use Rattle.relaxed_file.specs.Machine.{Machine}
 use Rattle.client_state.specs.declared.call.CurrentCall.{CurrentCall}
 use Rattle.protocol.specs.Client.{ClientState}
@@ -12,4 +12,4 @@ use Rattle.laws_machine.specs.FileClients.{IsFileClient, IsFileOpen, IsSaid, IsF
 abbrev pub FileStepsAreFollowed : Type 0
 FileStepsAreFollowed =
     (m : Machine) (client : ℕ) (s : ClientState) (x : CurrentCall) → IsFileClient m client s → s.current ≡ Some x → IsOfFile x.stage → IsFileOpen s x.file.0
-    → (moment : ℕ) (i : Input) → IsSaid m client s i → IsFollowed m client (client_goes s moment i)
+    → (moment : ℕ) (i : NodeInput) → IsSaid m client s i → IsFollowed m client (client_goes s moment i)

@@ -2,7 +2,7 @@
 use Rattle.std.specs.Prelude.{◌≡◌, ◌⊎◌, ℕ, ◌≤◌, Bool, List, [], ◌∷◌, Some, IsTrue}
 use Rattle.std.specs.FinMap as table
 use Rattle.gfs_types.specs.declared.config.Config.{Config}
-use Rattle.messages.specs.declared.event.Input.{Input}
+use Rattle.messages.specs.declared.event.NodeInput.{NodeInput}
 use Rattle.log_records.specs.declared.record.Record.{Record}
 use Rattle.log_records.specs.declared.record.Record.TheVariants as log
 use Rattle.chunk_table.specs.ChunkTable.{ChunkRow, chunk_of}
@@ -41,7 +41,7 @@ AreGrantedFrom m d (WriteCheckpoint items ∷ rest) = AreGrantedFrom m (log_chan
 abbrev pub StepsGrantWhatWasAttempted : Type 0
 StepsGrantWhatWasAttempted =
     (config : Config) (servers clients : ℕ) (w : WorldState) → IsReached config servers clients w → IsTrue w.observer.are_clocks_kept → IsTrue w.master.up
-    → (moment : ℕ) (i : Input) (refused : List Bool) → AreGrantedFrom w.master w.master.disk (master_goes w.master moment i refused).changes
+    → (moment : ℕ) (i : NodeInput) (refused : List Bool) → AreGrantedFrom w.master w.master.disk (master_goes w.master moment i refused).changes
 
 -- the change is a Grant of this chunk and version
 abbrev pub IsGrantOf : LogChange → ℕ → ℕ → Type 0
@@ -56,5 +56,5 @@ HasGrantRecord (x ∷ rest) handle version = IsGrantOf x handle version ⊎ HasG
 abbrev pub SentGrantsAreLogged : Type 0
 SentGrantsAreLogged =
     (config : Config) (servers clients : ℕ) (w : WorldState) → IsReached config servers clients w → IsTrue w.master.up
-    → (moment : ℕ) (i : Input) (refused : List Bool) (handle version : ℕ)
+    → (moment : ℕ) (i : NodeInput) (refused : List Bool) (handle version : ℕ)
     → 1 ≤ grants_of handle version (master_goes w.master moment i refused).sent → HasGrantRecord (master_goes w.master moment i refused).changes handle version

@@ -5,8 +5,8 @@ use Rattle.gfs_types.specs.declared.ids.Moment.{Moment}
 use Rattle.gfs_types.specs.declared.ids.Node.TheVariants as node
 use Rattle.messages.specs.declared.event.Event.{Event}
 use Rattle.messages.specs.declared.event.Event.TheVariants as event
-use Rattle.messages.specs.declared.event.Input.{Input}
-use Rattle.messages.specs.declared.event.Input.TheVariants as input
+use Rattle.messages.specs.declared.event.NodeInput.{NodeInput}
+use Rattle.messages.specs.declared.event.NodeInput.TheVariants as input
 use Rattle.messages.specs.declared.message.Message.{Message}
 use Rattle.log_records.specs.declared.record.Record.TheVariants as log
 use Rattle.relaxed_file.specs.Machine.{Machine}
@@ -27,7 +27,7 @@ use Rattle.laws_machine.specs.MasterSteps.{IsWhole, Comes, AreGoneBy, WholeTrail
 use Rattle.laws_machine.specs.WholeSteps.{EndsAlong, GoesAlong, IsLeftAt}
 
 -- the event is a step of the master that takes this
-abbrev pub IsMastersEvent : WorldState → Event → ℕ → Input → Type 0
+abbrev pub IsMastersEvent : WorldState → Event → ℕ → NodeInput → Type 0
 IsMastersEvent w e moment i = (choice : Choice) → (happens w e choice).world ≡ (after_master w moment (master_step w.master moment i choice)).world
 
 -- So are a tick of a master that is up, and a message to it that is delivered.
@@ -44,20 +44,20 @@ passed w moment = record w { observer = observed_moment w.config.skew_ms w.obser
 -- Each chunk whose rounds may end along the changes of a step has no lease that lasts, nor one that comes.
 abbrev pub RoundsThatEndAreOver : Type 0
 RoundsThatEndAreOver =
-    (config : Config) (servers clients : ℕ) (w : WorldState) → IsReached config servers clients w → IsTrue w.master.up → (e : Event) (moment : ℕ) (i : Input) → IsMastersEvent w e moment i
+    (config : Config) (servers clients : ℕ) (w : WorldState) → IsReached config servers clients w → IsTrue w.master.up → (e : Event) (moment : ℕ) (i : NodeInput) → IsMastersEvent w e moment i
     → IsTrue (passed w moment).observer.are_clocks_kept → (choice : Choice) → (handle : ℕ) → EndsAlong w.master.disk (master_goes w.master moment i choice.refused).changes handle → AreLeasesOver (passed w moment) handle
 
 -- So they are before the step, or after it, also where it goes through and grants.
 abbrev pub RoundsThatEndStayOver : Type 0
 RoundsThatEndStayOver =
-    (config : Config) (servers clients : ℕ) (w : WorldState) → IsReached config servers clients w → IsTrue w.master.up → (e : Event) (moment : ℕ) (i : Input) → IsMastersEvent w e moment i
+    (config : Config) (servers clients : ℕ) (w : WorldState) → IsReached config servers clients w → IsTrue w.master.up → (e : Event) (moment : ℕ) (i : NodeInput) → IsMastersEvent w e moment i
     → IsTrue (passed w moment).observer.are_clocks_kept → (choice : Choice) → choice.ending ≡ Goes
     → (handle : ℕ) → EndsAlong w.master.disk (master_goes w.master moment i choice.refused).changes handle → AreLeasesOver w handle ⊎ AreLeasesOver (happens w e choice).world handle
 
 -- Where a step of the master stops, the whole machine is beside the log that is left, and the round of each lease that isn't over is open again.
 abbrev pub StoppedStepsKeepRounds : Type 0
 StoppedStepsKeepRounds =
-    (config : Config) (servers clients : ℕ) (w : WorldState) → IsReached config servers clients w → IsTrue w.master.up → (e : Event) (moment : ℕ) (i : Input) → IsMastersEvent w e moment i
+    (config : Config) (servers clients : ℕ) (w : WorldState) → IsReached config servers clients w → IsTrue w.master.up → (e : Event) (moment : ℕ) (i : NodeInput) → IsMastersEvent w e moment i
     → IsTrue (passed w moment).observer.are_clocks_kept → (choice : Choice) (made : ℕ) → choice.ending ≡ Stops made
     → (requests : Requests) (k : ChunkSides) (n later : Machine) → IsWhole k n → IsBesideLog requests n w.master.disk w.master.disk n → k.log ≡ log_read w.master.disk → HasRounds (IsLeaseOver w) k
     → WholeTrail requests n w.master.disk w.master.disk k (master_goes w.master moment i choice.refused).changes later → (decided : List Bool)
@@ -74,7 +74,7 @@ AreGrantsLast d [] = Unit {0}
 AreGrantsLast d (x ∷ rest) = IsGrantLast (log_changed d x) rest x × AreGrantsLast (log_changed d x) rest
 
 -- what the master takes was sent
-abbrev pub WasSent : WorldState → Input → Type 0
+abbrev pub WasSent : WorldState → NodeInput → Type 0
 WasSent w (input.Deliver m) = (number : ℕ) × (numbered_from_1 w.sent number ≡ Some m)
 WasSent w input.Tick = Unit {0}
 
@@ -82,12 +82,12 @@ WasSent w input.Tick = Unit {0}
 abbrev pub GrantsAreLast : Type 0
 GrantsAreLast =
     (config : Config) (servers clients : ℕ) (w : WorldState) → IsReached config servers clients w → IsTrue w.observer.are_clocks_kept → IsTrue w.master.up → 1 ≤ config.lease_ms
-    → (moment : ℕ) (i : Input) → WasSent w i → (refused : List Bool) → AreGrantsLast w.master.disk (master_goes w.master moment i refused).changes
+    → (moment : ℕ) (i : NodeInput) → WasSent w i → (refused : List Bool) → AreGrantsLast w.master.disk (master_goes w.master moment i refused).changes
 
 -- Where a step goes through, the whole machine is beside the log in the end, and the round of each lease that isn't over is open again.
 abbrev pub StepsKeepRounds : Type 0
 StepsKeepRounds =
-    (config : Config) (servers clients : ℕ) (w : WorldState) → IsReached config servers clients w → IsTrue w.master.up → (e : Event) (moment : ℕ) (i : Input) → IsMastersEvent w e moment i
+    (config : Config) (servers clients : ℕ) (w : WorldState) → IsReached config servers clients w → IsTrue w.master.up → (e : Event) (moment : ℕ) (i : NodeInput) → IsMastersEvent w e moment i
     → IsTrue (passed w moment).observer.are_clocks_kept → (choice : Choice) → choice.ending ≡ Goes → 1 ≤ config.lease_ms → WasSent w i
     → (requests : Requests) (k : ChunkSides) (n later : Machine) → IsWhole k n → k.log ≡ log_read w.master.disk → HasRounds (IsLeaseOver w) k
     → WholeTrail requests n w.master.disk w.master.disk k (master_goes w.master moment i choice.refused).changes later

@@ -2,7 +2,7 @@
 use Rattle.std.specs.Prelude.{◌≡◌, ◌⊎◌, ℕ, ◌<◌, ◌≤◌, Bool, List, [], ◌∷◌, Some, None, IsTrue}
 use Rattle.std.specs.FinMap as table
 use Rattle.gfs_types.specs.declared.config.Config.{Config}
-use Rattle.messages.specs.declared.event.Input.{Input}
+use Rattle.messages.specs.declared.event.NodeInput.{NodeInput}
 use Rattle.log_records.specs.declared.record.Record.{Record}
 use Rattle.log_records.specs.declared.record.Record.TheVariants as log
 use Rattle.chunk_table.specs.ChunkTable.{ChunkRow, file_of, chunk_of}
@@ -60,4 +60,4 @@ AreLogDues d (x ∷ rest) = IsLogDue d x × AreLogDues (log_changed d x) rest
 abbrev pub StepsLogWhatIsDue : Type 0
 StepsLogWhatIsDue =
     (config : Config) (servers clients : ℕ) (w : WorldState) → IsReached config servers clients w → IsTrue w.observer.are_clocks_kept → IsTrue w.master.up
-    → (moment : ℕ) (i : Input) (refused : List Bool) → AreLogDues w.master.disk (master_goes w.master moment i refused).changes
+    → (moment : ℕ) (i : NodeInput) (refused : List Bool) → AreLogDues w.master.disk (master_goes w.master moment i refused).changes

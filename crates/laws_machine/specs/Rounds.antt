@@ -9,8 +9,8 @@ use Rattle.gfs_types.specs.declared.ids.Version.{Version}
 use Rattle.gfs_types.specs.declared.ids.Node.TheVariants.{Master}
 use Rattle.messages.specs.declared.event.Event.{Event}
 use Rattle.messages.specs.declared.event.Event.TheVariants as event
-use Rattle.messages.specs.declared.event.Input.{Input}
-use Rattle.messages.specs.declared.event.Input.TheVariants as input
+use Rattle.messages.specs.declared.event.NodeInput.{NodeInput}
+use Rattle.messages.specs.declared.event.NodeInput.TheVariants as input
 use Rattle.messages.specs.declared.message.Message.{Message}
 use Rattle.messages.specs.declared.message.Body.TheVariants as body
 use Rattle.chunk_table.specs.ChunkTable.{ChunkRow, chunk_of}
@@ -86,7 +86,7 @@ IsCopy s handle = IsTrue s.up × (c : Copy) × (table.get s.logged.copies handle
 
 -- it begins as a copy in a step of the master
 abbrev pub IsBegun : MasterState → ℕ → Type 0
-IsBegun s handle = (moment : ℕ) × (i : Input) × (choice : Choice) × (place : ℕ) × (source : Handle) × (element_at (master_step s moment i choice).seen place ≡ Some (CopyStarted source (handle_of handle)))
+IsBegun s handle = (moment : ℕ) × (i : NodeInput) × (choice : Choice) × (place : ℕ) × (source : Handle) × (element_at (master_step s moment i choice).seen place ≡ Some (CopyStarted source (handle_of handle)))
 
 -- several files own it in the master's log
 abbrev pub IsShared : MasterState → ℕ → Type 0
@@ -116,20 +116,20 @@ EachEventKeepsRounds =
     → HasRounds (IsLeaseOver (happens w e choice).world) j
 
 -- this input is given to the master at this moment
-abbrev pub IsMastersInput : WorldState → Event → ℕ → Input → Type 0
+abbrev pub IsMastersInput : WorldState → Event → ℕ → NodeInput → Type 0
 IsMastersInput w (event.Deliver number now) moment (input.Deliver m) = (numbered_from_1 w.sent number ≡ Some m) × (m.receiver ≡ Master) × (now.0 ≡ moment)
 IsMastersInput w (event.Tick n now) moment input.Tick = (n ≡ Master) × (now.0 ≡ moment)
 IsMastersInput w e moment i = ⊥
 
 -- what a master's log says after so many changes of a step
-abbrev pub log_within : MasterState → ℕ → Input → List Bool → ℕ → Logged
+abbrev pub log_within : MasterState → ℕ → NodeInput → List Bool → ℕ → Logged
 log_within s moment i refused made = replayed (log_changed_by_all s.disk (made_changes made (master_goes s moment i refused).changes))
 
 -- What the log says along a step of the master: after each of its changes, of a chunk that several files own each lease is over after the step, and so is that of each version but the granted one, of those that were granted before it; and no Grant was sent before of a version above the granted one.
 abbrev pub LogsWithinStepsEndLeases : Type 0
 LogsWithinStepsEndLeases =
     (config : Config) (servers clients : ℕ) (w : WorldState) → IsReached config servers clients w → IsTrue w.master.up
-    → (e : Event) (moment : ℕ) (i : Input) (choice : Choice) → IsMastersInput w e moment i → moment ≤ moment_limit → IsTrue (happens w e choice).world.observer.are_clocks_kept
+    → (e : Event) (moment : ℕ) (i : NodeInput) (choice : Choice) → IsMastersInput w e moment i → moment ≤ moment_limit → IsTrue (happens w e choice).world.observer.are_clocks_kept
     → (made handle : ℕ) (row : ChunkRow) → chunk_of (log_within w.master moment i choice.refused made).table handle ≡ Some row
     → ((version : ℕ) → 1 ≤ grants_of handle version w.sent → (2 ≤ row.references) ⊎ (version ≢ row.granted) → IsLeaseOver (happens w e choice).world handle version)
     × ((version : ℕ) → row.granted < version → grants_of handle version w.sent ≡ 0)
@@ -152,4 +152,4 @@ AreSourcesOver w d (WriteCheckpoint items ∷ rest) = AreSourcesOver w (log_chan
 abbrev pub SourcesOfGrantedCopiesHaveNoLease : Type 0
 SourcesOfGrantedCopiesHaveNoLease =
     (config : Config) (servers clients : ℕ) (w : WorldState) → IsReached config servers clients w → IsTrue w.observer.are_clocks_kept → IsTrue w.master.up
-    → (moment : ℕ) (i : Input) (refused : List Bool) → AreSourcesOver w w.master.disk (master_goes w.master moment i refused).changes
+    → (moment : ℕ) (i : NodeInput) (refused : List Bool) → AreSourcesOver w w.master.disk (master_goes w.master moment i refused).changes

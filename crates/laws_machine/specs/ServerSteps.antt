@@ -10,7 +10,7 @@ use Rattle.gfs_types.specs.declared.ids.Version.{Version}
 use Rattle.gfs_types.specs.declared.mutation.Mutation.{Mutation}
 use Rattle.gfs_types.specs.declared.mutation.Mutation.TheVariants.{Write, Append, Pad}
 use Rattle.messages.specs.declared.event.Event.{Event}
-use Rattle.messages.specs.declared.event.Input.{Input}
+use Rattle.messages.specs.declared.event.NodeInput.{NodeInput}
 use Rattle.relaxed_file.specs.Order.{CallId}
 use Rattle.relaxed_file.specs.Parts.{has_part, part_start, part_bytes, is_range_too_long}
 use Rattle.relaxed_file.specs.Machine.{Machine, OpenCall, IsOpen, chunk_size, chunk_at, chunk_count}
@@ -69,7 +69,7 @@ pub record IsForOpenCall (w : WorldState) (k : ChunkSides) (id : DataId) (s : Sp
 -- The clients' calls are so of each mutation that a server may number now, where its round is open.
 abbrev pub AreForOpenCalls : WorldState → ChunkSides → Type 0
 AreForOpenCalls w k =
-    (index moment : ℕ) (s : ServerState) (i : Input) (choice : Choice) (handle : Handle) (version : Version) (id : DataId) (n : Numbers w index moment s i choice handle version id)
+    (index moment : ℕ) (s : ServerState) (i : NodeInput) (choice : Choice) (handle : Handle) (version : Version) (id : DataId) (n : Numbers w index moment s i choice handle version id)
     → IsTrue (observed_moment w.config.skew_ms w.observer moment).are_clocks_kept → (at : Spot) → IsRoundOpen k handle.0 version.0 at → IsForOpenCall w k id at n.placed
 
 -- The order of a handle that no file has any more is that of the chunk where it stood.

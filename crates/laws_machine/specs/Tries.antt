@@ -3,7 +3,7 @@ use Rattle.std.specs.Prelude.{◌≡◌, ◌⊎◌, ℕ, suc, ◌≤◌, Bool, t
 use Rattle.gfs_types.specs.declared.ids.DataId.{DataId}
 use Rattle.gfs_types.specs.declared.ids.Handle.{Handle}
 use Rattle.gfs_types.specs.declared.ids.Version.{Version}
-use Rattle.messages.specs.declared.event.Input.{Input}
+use Rattle.messages.specs.declared.event.NodeInput.{NodeInput}
 use Rattle.relaxed_file.specs.Order.{CallId}
 use Rattle.relaxed_file.specs.Machine.{Machine, chunk_at}
 use Rattle.relaxed_file.specs.Chunks.{tries_in}
@@ -32,7 +32,7 @@ pub record IsNumberedAt (w then_ : WorldState) (k : ChunkSides) : Type 0 where
   pub index : ℕ
   pub moment : ℕ
   pub server : ServerState
-  pub input : Input
+  pub input : NodeInput
   pub choice : Choice
   pub handle : Handle
   pub version : Version

@@ -3,8 +3,8 @@ use Rattle.std.specs.Prelude.{◌≡◌, ℕ, suc, List, ◌++◌, Some, IsTrue}
 use Rattle.gfs_types.specs.declared.config.Config.{Config}
 use Rattle.messages.specs.declared.event.Event.{Event}
 use Rattle.messages.specs.declared.event.Event.TheVariants as event
-use Rattle.messages.specs.declared.event.Input.{Input}
-use Rattle.messages.specs.declared.event.Input.TheVariants as input
+use Rattle.messages.specs.declared.event.NodeInput.{NodeInput}
+use Rattle.messages.specs.declared.event.NodeInput.TheVariants as input
 use Rattle.messages.specs.declared.message.Message.{Message}
 use Rattle.relaxed_file.specs.Machine.{Machine}
 use Rattle.relaxed_file.specs.Run.{after_all, LeadsTo, IsRunTo}
@@ -28,7 +28,7 @@ use Rattle.laws_machine.specs.Tries.{AddsNumberedTries}
 use Rattle.laws_machine.specs.WholeWorlds.{AreWordsSo, AreFileClients, IsBeside, RequestsStayNumbered, IsWholeWorld}
 
 -- the event gives the client this input at this moment
-abbrev pub GivesClient : WorldState → Event → (index moment : ℕ) → Input → Type 0
+abbrev pub GivesClient : WorldState → Event → (index moment : ℕ) → NodeInput → Type 0
 GivesClient w (event.Deliver number now) index moment i = (m : Message) × (numbered_from_1 w.sent number ≡ Some m) × (m.receiver ≡ the_client (suc index)) × (i ≡ input.Deliver m) × (now.0 ≡ moment)
 GivesClient w (event.Tick n now) index moment i = (n ≡ the_client (suc index)) × (i ≡ input.Tick) × (now.0 ≡ moment)
 GivesClient w e index moment i = ⊥
@@ -38,7 +38,7 @@ abbrev pub AreOwnWordsSo : List Message → Machine → ℕ → ClientState → 
 AreOwnWordsSo sent m index s = (x : Message) → WasSent sent x → x.receiver ≡ the_client (suc index) → IsFirm x.body → IsSaid m (suc index) s (input.Deliver x)
 
 -- What a client's step asks: what it hears of a range that is too long is so; the machine follows the step so that what was sent is so for where the client's call is then; and what it sends is no false word to a client.
-pub record AreClientsTrue (config : Config) (w then_ : WorldState) (index moment : ℕ) (s : ClientState) (i : Input) : Type 0 where
+pub record AreClientsTrue (config : Config) (w then_ : WorldState) (index moment : ℕ) (s : ClientState) (i : NodeInput) : Type 0 where
   pub numbers : (ss : List PendingSnapshot) (k : ChunkSides) → IsBeside config w ss k → AreForOpenCalls w k
   pub requests : RequestsStayNumbered config w then_
   pub heard : IsTrue s.up → (ss : List PendingSnapshot) (k j : ChunkSides) → IsBeside config w ss k → LeadsTo k.machine j.machine → AreChunksBeside config then_ j
@@ -53,5 +53,5 @@ abbrev pub FileStepsKeepWorldsWhole : Type 0
 FileStepsKeepWorldsWhole =
     (config : Config) (servers clients : ℕ) (w : WorldState) → IsReached config servers clients w → IsTrue (is_kept w)
     → (e : Event) (choice : Choice) → IsTrue (happens w e choice).world.observer.are_clocks_kept
-    → (index moment : ℕ) (s : ClientState) (i : Input) → element_at w.clients index ≡ Some s → GivesClient w e index moment i → (x : CurrentCall) → s.current ≡ Some x → IsOfFile x.stage
+    → (index moment : ℕ) (s : ClientState) (i : NodeInput) → element_at w.clients index ≡ Some s → GivesClient w e index moment i → (x : CurrentCall) → s.current ≡ Some x → IsOfFile x.stage
     → AreClientsTrue config w (happens w e choice).world index moment s i → IsWholeWorld config w → IsWholeWorld config (happens w e choice).world

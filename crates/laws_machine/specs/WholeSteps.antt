@@ -1,8 +1,8 @@
 -- The whole machine follows a step of the master in a reached world, record by record (sections 2.6.3, 3.1, 3.4 and 4.1).
 use Rattle.std.specs.Prelude.{◌≡◌, ◌⊎◌, ℕ, Bool, List, [], ◌∷◌, IsTrue}
 use Rattle.gfs_types.specs.declared.config.Config.{Config}
-use Rattle.messages.specs.declared.event.Input.{Input}
-use Rattle.messages.specs.declared.event.Input.TheVariants as input
+use Rattle.messages.specs.declared.event.NodeInput.{NodeInput}
+use Rattle.messages.specs.declared.event.NodeInput.TheVariants as input
 use Rattle.messages.specs.declared.message.Body.{Body}
 use Rattle.messages.specs.declared.message.Body.TheVariants as body
 use Rattle.log_records.specs.declared.record.Record.{Record}
@@ -47,21 +47,21 @@ abbrev pub IsNoAskIn : Body → Type 0
 IsNoAskIn (body.Ask number file what deadline lost) = ⊥
 IsNoAskIn other = Unit {0}
 
-abbrev pub TakesNoAsk : Input → Type 0
+abbrev pub TakesNoAsk : NodeInput → Type 0
 TakesNoAsk (input.Deliver m) = IsNoAskIn m.body
 TakesNoAsk input.Tick = Unit {0}
 
 -- A step that takes no Ask adds no chunk, so nothing is asked of it.
 abbrev pub OnlyAsksAddChunks : Type 0
 OnlyAsksAddChunks =
-    (m : MasterState) (moment : ℕ) (i : Input) (refused : List Bool) → TakesNoAsk i
+    (m : MasterState) (moment : ℕ) (i : NodeInput) (refused : List Bool) → TakesNoAsk i
     → (first : Machine) (orders : Table (List Placed)) (d : LogDisk) → AreAskedFor first orders d (master_goes m moment i refused).changes
 
 -- A step that a master takes, whatever it is: the whole machine follows it, change by change, and the machine by names alone is beside the step in the end.
 abbrev pub MasterStepsAreTaken : Type 0
 MasterStepsAreTaken =
     (config : Config) (servers clients : ℕ) (w : WorldState) → IsReached config servers clients w → IsTrue w.observer.are_clocks_kept → IsTrue w.master.up
-    → (moment : ℕ) (i : Input) (refused : List Bool) (n : Machine) (requests : Requests) (k : ChunkSides)
+    → (moment : ℕ) (i : NodeInput) (refused : List Bool) (n : Machine) (requests : Requests) (k : ChunkSides)
     → IsAtStep config (master_at w.master moment) n requests → IsInputOfOpenCall (master_begins (master_at w.master moment) refused) n requests i
     → k.log ≡ log_read w.master.disk → k.orders ≡ w.observer.orders → IsWhole k n
     → AreAskedFor k.machine k.orders w.master.disk (master_goes w.master moment i refused).changes

@@ -12,7 +12,7 @@ use Rattle.gfs_types.specs.declared.call.Call.{Call}
 use Rattle.gfs_types.specs.declared.answer.Answer.{Answer}
 use Rattle.gfs_types.specs.declared.answer.Answer.TheVariants as answer
 use Rattle.gfs_types.specs.declared.refusal.Refusal.TheVariants.{NoMemory}
-use Rattle.messages.specs.declared.event.Input.{Input}
+use Rattle.messages.specs.declared.event.NodeInput.{NodeInput}
 use Rattle.messages.specs.declared.message.Body.{Body}
 use Rattle.messages.specs.declared.message.Body.TheVariants as body
 use Rattle.messages.specs.declared.message.Message.{Message}
@@ -79,7 +79,7 @@ module _ (config : Config) (trace : List Visible) (greatest : ℕ) (clients : Li
 
     -- a step
 
-    module _ (moment : ℕ) (reached : moment ≤ greatest) (i : Input) (came : ComesTo sent client i) where
+    module _ (moment : ℕ) (reached : moment ≤ greatest) (i : NodeInput) (came : ComesTo sent client i) where
       abbrev GoesTo : ClientDoing → Type 0
       GoesTo d = Left config trace greatest clients sent l ss m requests h all k index (answered_trace client d.answer trace) d.client (option_to_list d.sent)
 

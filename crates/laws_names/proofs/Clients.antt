@@ -13,8 +13,8 @@ use Rattle.gfs_types.specs.declared.ids.Node.{Node}
 use Rattle.gfs_types.specs.declared.ids.Node.TheVariants as node
 use Rattle.gfs_types.specs.declared.call.Call.{Call}
 use Rattle.gfs_types.specs.declared.answer.Answer.{Answer}
-use Rattle.messages.specs.declared.event.Input.{Input}
-use Rattle.messages.specs.declared.event.Input.TheVariants as input
+use Rattle.messages.specs.declared.event.NodeInput.{NodeInput}
+use Rattle.messages.specs.declared.event.NodeInput.TheVariants as input
 use Rattle.messages.specs.declared.message.Body.{Body}
 use Rattle.messages.specs.declared.message.Body.TheVariants as body
 use Rattle.messages.specs.declared.message.Message.{Message}
@@ -300,7 +300,7 @@ module _ (config : Config) (trace : List Visible) (greatest : ℕ) (clients : Li
 
       -- an open name call
 
-      module _ (moment : ℕ) (reached : moment ≤ greatest) (i : Input) (came : ComesTo sent client i) (c : CurrentCall) (is_open : s.current ≡ Some c) (stage_is : c.stage ≡ AskedNames) where
+      module _ (moment : ℕ) (reached : moment ≤ greatest) (i : NodeInput) (came : ComesTo sent client i) (c : CurrentCall) (is_open : s.current ≡ Some c) (stage_is : c.stage ≡ AskedNames) where
         abbrev pub d : ClientDoing
         d = client_goes s moment i
 
@@ -310,7 +310,7 @@ module _ (config : Config) (trace : List Visible) (greatest : ℕ) (clients : Li
         pub naming : is_naming (last_calls none_called trace client) ≡ true
         naming = own.naming c is_open ∙ ap is_asked_names stage_is
 
-        input_told : (j : Input) → ComesTo sent client j → IsInputTold m requests client j
+        input_told : (j : NodeInput) → ComesTo sent client j → IsInputTold m requests client j
         input_told (input.Deliver x) to = (ap client_number to.1, h.told x to.0)
         input_told input.Tick to = tt
 
@@ -337,7 +337,7 @@ module _ (config : Config) (trace : List Visible) (greatest : ℕ) (clients : Li
             let two : m.config.skew_ms ≡ config.skew_ms = ap (λ (x : Config). x.skew_ms) (settings_of config trace greatest sent l ss m requests h) in
             omega (arith, late, clock, low, one, two)
 
-        told_outcome : (j : Input) → ComesTo sent client j → (r : NameReply) → Tells j c.number r → Contains (here.0).outcomes (outcome_told r)
+        told_outcome : (j : NodeInput) → ComesTo sent client j → (r : NameReply) → Tells j c.number r → Contains (here.0).outcomes (outcome_told r)
         told_outcome (input.Deliver x) to r tells =
             subst (λ (b : Body). IsToldTo m requests client b) tells (subst (λ (q : ℕ). IsToldTo m requests q x.body) (ap client_number to.1) (h.told x to.0)) here.0 here.1
         told_outcome input.Tick to r tells = absurd tells

@@ -6,8 +6,8 @@ use Rattle.gfs_types.specs.declared.call.Call.{Call}
 use Rattle.gfs_types.specs.declared.answer.Answer.{Answer}
 use Rattle.gfs_types.specs.declared.answer.Answer.TheVariants as answer
 use Rattle.gfs_types.specs.declared.refusal.Refusal.TheVariants.{Unknown}
-use Rattle.messages.specs.declared.event.Input.{Input}
-use Rattle.messages.specs.declared.event.Input.TheVariants as input
+use Rattle.messages.specs.declared.event.NodeInput.{NodeInput}
+use Rattle.messages.specs.declared.event.NodeInput.TheVariants as input
 use Rattle.messages.specs.declared.message.Body.TheVariants as body
 use Rattle.messages.specs.declared.message.Message.{Message}
 use Rattle.messages.specs.declared.message.NameReply.{NameReply}
@@ -119,14 +119,14 @@ module _ (l : Logged) (snapshots : List PendingSnapshot) (m : Machine) (requests
     called : is_name_call current.asked.call ≡ true
     called = ap is_name_call same ∙ name
 
-    told_allows : (i : Input) (r : NameReply) → IsInputTold m requests client i → Tells i c.number r
+    told_allows : (i : NodeInput) (r : NameReply) → IsInputTold m requests client i → Tells i c.number r
         → ((reply : Answer) → r ≡ named.Answered reply → Allows m (Return client reply)) × ((file : FileId) → r ≡ named.Opened file → Allows m (ReturnFd client (suc (m.clients client).fd_count) file.0))
     told_allows (input.Deliver x) r came told =
         let allowed = told_answers_are_allowed m requests x client c.number current came.1 came.0 w called in
         (λ reply is. allowed.0 reply (told ∙ ap (λ (y : NameReply). body.Named c.number y) is), λ file is. allowed.1 file (told ∙ ap (λ (y : NameReply). body.Named c.number y) is))
     told_allows input.Tick r came told = absurd told
 
-    over_at : (i : Input) (d : ClientDoing) → IsInputTold m requests client i → IsOver s moment i d c → Follows d
+    over_at : (i : NodeInput) (d : ClientDoing) → IsInputTold m requests client i → IsOver s moment i d c → Follows d
     over_at i d came over = ⊎_elim
         (λ told. returns d over.reply over.answer_is over.none_open (count ∙ sym told.1) ((told_allows i (named.Answered over.reply) came told.0).0 over.reply refl))
         (λ rest. ⊎_elim

@@ -3,7 +3,7 @@ use Rattle.std.proofs.Common.{◌≡◌, ℕ, Bool, List, [], refl, sym, ap, sub
 use Rattle.std.specs.Prelude.{IsTrue}
 use Rattle.std.specs.FinMap as table
 use Rattle.gfs_types.specs.declared.config.Config.{Config}
-use Rattle.messages.specs.declared.event.Input.{Input}
+use Rattle.messages.specs.declared.event.NodeInput.{NodeInput}
 use Rattle.relaxed_file.specs.Machine.{Machine}
 use Rattle.protocol.specs.Tables.{Table}
 use Rattle.protocol.specs.Logged.{Logged, KeptCall, LogChange}
@@ -41,7 +41,7 @@ log_alike l k ss n requests same files a =
       locks = tt;
     }
 
-module _ (config : Config) (servers clients : ℕ) (w : WorldState) (r : IsReached config servers clients w) (up : IsTrue w.master.up) (moment : ℕ) (i : Input) (refused : List Bool) (n : Machine) (requests : Requests)
+module _ (config : Config) (servers clients : ℕ) (w : WorldState) (r : IsReached config servers clients w) (up : IsTrue w.master.up) (moment : ℕ) (i : NodeInput) (refused : List Bool) (n : Machine) (requests : Requests)
     (h : IsAtStep config (master_at w.master moment) n requests) (of : IsInputOfOpenCall (master_begins (master_at w.master moment) refused) n requests i)
   where
     known : IsUpToLog IsFoundCounts IsCountedLog counts_kept w.master

@@ -6,8 +6,8 @@ use Rattle.std.proofs.lemmas.Bool.{and_from, lt-ltb, le-leb}
 use Rattle.std.specs.FinMap as table
 use Rattle.gfs_types.specs.declared.config.Config.{Config}
 use Rattle.gfs_types.specs.declared.call.Call.TheVariants as call
-use Rattle.messages.specs.declared.event.Input.{Input}
-use Rattle.messages.specs.declared.event.Input.TheVariants as input
+use Rattle.messages.specs.declared.event.NodeInput.{NodeInput}
+use Rattle.messages.specs.declared.event.NodeInput.TheVariants as input
 use Rattle.messages.specs.declared.message.Body.{Body}
 use Rattle.messages.specs.declared.message.Body.TheVariants as body
 use Rattle.messages.specs.declared.message.Message.{Message}
@@ -124,7 +124,7 @@ module _ (config : Config) (requests : Requests) (first : Machine) (start : LogD
       let b : MasterDoing = expires_old a in
       (expired.0, expired.1, clone_at expired.0 b (best_clone b.master (table.entries b.master.logged.table.chunks)) expired.2)
 
-  does_at : (n : Machine) (d : MasterDoing) (i : Input) → IsInputOfOpenCall d n requests i → n.config ≡ d.master.config → IsTimely n d.master.now → AreCopiesOfFiles d.master.logged → AreDue d.master (expired_files d.master) → Beside n d
+  does_at : (n : Machine) (d : MasterDoing) (i : NodeInput) → IsInputOfOpenCall d n requests i → n.config ≡ d.master.config → IsTimely n d.master.now → AreCopiesOfFiles d.master.logged → AreDue d.master (expired_files d.master) → Beside n d
       → Comes n (master_does d i)
   does_at n d (input.Deliver x) of settings timely copied due h = takes_at n d x x.body of timely copied h
   does_at n d input.Tick of settings timely copied due h = ticks_at n d settings timely due h
@@ -146,7 +146,7 @@ module _ (config : Config) (requests : Requests) (first : Machine) (start : LogD
       (more.0, join n taken.0 more.0 taken.1 more.1, more.2))
       (λ _. ready_at n d rest (record { waits = looked.waits; unrefused = looked.unrefused.1; pass = looked.pass.1; among = looked.among.1 }) among.1 h)
 
-  pub goes_at : (n : Machine) (d : MasterDoing) (i : Input) → IsInputOfOpenCall d n requests i → n.config ≡ d.master.config → IsTimely n d.master.now → AreCopiesOfFiles d.master.logged → AreDue d.master (expired_files d.master)
+  pub goes_at : (n : Machine) (d : MasterDoing) (i : NodeInput) → IsInputOfOpenCall d n requests i → n.config ≡ d.master.config → IsTimely n d.master.now → AreCopiesOfFiles d.master.logged → AreDue d.master (expired_files d.master)
       → HasNoSecondName d.master.logged.names → AreUnrefused d.master.logged.names d.master.snapshots → Beside n d → Comes n (takes_ready (master_does d i) (master_does d i).master.snapshots)
   goes_at n d i of settings timely copied due one unrefused h =
       let e : MasterDoing = master_does d i in

@@ -5,8 +5,8 @@ use Rattle.std.specs.Ordering.{nat_cmp}
 use Rattle.std.proofs.lemmas.Bool.{true≢false}
 use Rattle.std.specs.FinMap as table
 use Rattle.gfs_types.specs.declared.config.Config.{Config}
-use Rattle.messages.specs.declared.event.Input.{Input}
-use Rattle.messages.specs.declared.event.Input.TheVariants as input
+use Rattle.messages.specs.declared.event.NodeInput.{NodeInput}
+use Rattle.messages.specs.declared.event.NodeInput.TheVariants as input
 use Rattle.messages.specs.declared.message.Body.{Body}
 use Rattle.messages.specs.declared.message.Body.TheVariants as body
 use Rattle.messages.specs.declared.message.Message.{Message}
@@ -71,7 +71,7 @@ body_asks : (sent : List Message) (start : LogDisk) (x : Message) (place : ℕ) 
 body_asks sent start x place at (body.Name number deadline c) is = (place, x, at, refl, subst (λ (b : Body). IsNameOf number b) (sym is) refl)
 body_asks sent start x place at other is = tt
 
-input_asks : (sent : List Message) (start : LogDisk) (i : Input) → IsInputSent sent i → IsInputAsking (WasAskedFor sent) start i
+input_asks : (sent : List Message) (start : LogDisk) (i : NodeInput) → IsInputSent sent i → IsInputAsking (WasAskedFor sent) start i
 input_asks sent start (input.Deliver x) there = body_asks sent start x there.0 there.1 x.body refl
 input_asks sent start input.Tick there = tt
 
@@ -85,7 +85,7 @@ ends_asked sent m d choice (Stops made) h none end log =
 abbrev HasNames : MasterState → Type 0
 HasNames m = IsLogged IsFoundCounts IsCountedLog counts_kept m
 
-step_asked : (sent : List Message) (m : MasterState) (moment : ℕ) (i : Input) (choice : Choice) → IsInputSent sent i → HasNames m → WasAsked sent m → WasAsked sent (master_step m moment i choice).state
+step_asked : (sent : List Message) (m : MasterState) (moment : ℕ) (i : NodeInput) (choice : Choice) → IsInputSent sent i → HasNames m → WasAsked sent m → WasAsked sent (master_step m moment i choice).state
 step_asked sent m moment i choice there logged h =
     let d : MasterDoing = master_goes m moment i choice.refused in
     let good : Taken MasterState → Type 0 = λ t. WasAsked sent t.state in

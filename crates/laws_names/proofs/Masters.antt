@@ -8,8 +8,8 @@ use Rattle.std.proofs.Math.Nat.{le-max_left, le-max_right, max-le}
 use Rattle.gfs_types.specs.declared.config.Config.{Config}
 use Rattle.gfs_types.specs.declared.ids.Node.TheVariants as node
 use Rattle.messages.specs.declared.event.Event.{Event}
-use Rattle.messages.specs.declared.event.Input.{Input}
-use Rattle.messages.specs.declared.event.Input.TheVariants as input
+use Rattle.messages.specs.declared.event.NodeInput.{NodeInput}
+use Rattle.messages.specs.declared.event.NodeInput.TheVariants as input
 use Rattle.messages.specs.declared.message.Body.{Body}
 use Rattle.messages.specs.declared.message.Body.TheVariants as body
 use Rattle.messages.specs.declared.message.Message.{Message}
@@ -150,7 +150,7 @@ module _ (config : Config) (servers clients : ℕ) (w : WorldState) (r : IsReach
 
   -- a step
 
-  module _ (moment : ℕ) (reached : moment ≤ greatest) (behind : greatest ≤ moment + w.config.skew_ms) (timed : w.master.now ≤ greatest) (e : Event) (i : Input) (given : IsGiven w e node.Master moment i) (up : IsTrue w.master.up) (k : ℕ) (choice : Choice)
+  module _ (moment : ℕ) (reached : moment ≤ greatest) (behind : greatest ≤ moment + w.config.skew_ms) (timed : w.master.now ≤ greatest) (e : Event) (i : NodeInput) (given : IsGiven w e node.Master moment i) (up : IsTrue w.master.up) (k : ℕ) (choice : Choice)
       (h : BesideMaster w.config trace greatest w.clients w.sent w.master)
     where
       abbrev d : MasterDoing
@@ -205,7 +205,7 @@ module _ (config : Config) (servers clients : ℕ) (w : WorldState) (r : IsReach
       body_open x (body.Look number c) g = g
       body_open x other g = tt
 
-      input_open : (j : Input) → IsGiven w e node.Master moment j → IsInputOfOpenCall begun m requests j
+      input_open : (j : NodeInput) → IsGiven w e node.Master moment j → IsInputOfOpenCall begun m requests j
       input_open (input.Deliver x) is = let there = given_sent w e node.Master moment x is in body_open x x.body (names.known x (there.0, there.1))
       input_open input.Tick is = tt
 

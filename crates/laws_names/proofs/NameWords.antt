@@ -8,8 +8,8 @@ use Rattle.gfs_types.specs.declared.ids.Node.{Node}
 use Rattle.gfs_types.specs.declared.ids.Node.TheVariants as node
 use Rattle.messages.specs.declared.event.Event.{Event}
 use Rattle.messages.specs.declared.event.Event.TheVariants as event
-use Rattle.messages.specs.declared.event.Input.{Input}
-use Rattle.messages.specs.declared.event.Input.TheVariants as input
+use Rattle.messages.specs.declared.event.NodeInput.{NodeInput}
+use Rattle.messages.specs.declared.event.NodeInput.TheVariants as input
 use Rattle.messages.specs.declared.message.Body.{Body}
 use Rattle.messages.specs.declared.message.Body.TheVariants as body
 use Rattle.messages.specs.declared.message.Message.{Message}
@@ -92,7 +92,7 @@ masters_unasked other is = tt
 talks : MasterTalks (λ x. IsUnasked x.body)
 talks = record { plain = λ receiver b is. masters_unasked b is; locates = λ receiver number l current. tt }
 
-pub master_asks_nothing : (m : MasterState) (moment : ℕ) (i : Input) (choice : Choice) → AllOf (λ x. IsUnasked x.body) (master_step m moment i choice).out.sent
+pub master_asks_nothing : (m : MasterState) (moment : ℕ) (i : NodeInput) (choice : Choice) → AllOf (λ x. IsUnasked x.body) (master_step m moment i choice).out.sent
 master_asks_nothing m moment i choice = master_said (λ x. IsUnasked x.body) talks m moment i choice
 
 unasked_of : (sender : Node) (b : Body) → IsUnasked b → IsOfClient sender b
@@ -112,7 +112,7 @@ name_request : (number : ℕ) (b : Body) → kept_answers.IsNameOf number b → 
 name_request number (body.Name n deadline c) is = is
 name_request number other is = absurd is
 
-asked_now : (w : WorldState) (e : Event) (moment : ℕ) (i : Input) → IsGiven w e node.Master moment i → (client number : ℕ) → Asks i client number → HasAsked w.sent client number
+asked_now : (w : WorldState) (e : Event) (moment : ℕ) (i : NodeInput) → IsGiven w e node.Master moment i → (client number : ℕ) → Asks i client number → HasAsked w.sent client number
 asked_now w e moment (input.Deliver x) given client number asks = let there = given_sent w e node.Master moment x given in (there.0, x, there.1, asks.0, asks.1)
 asked_now w e moment input.Tick given client number asks = absurd asks
 
@@ -120,7 +120,7 @@ module _ (config : Config) (servers clients : ℕ) (w : WorldState) (r : IsReach
   waited_for : IsTrue w.master.up → (s : PendingSnapshot) → kept_answers.WasAskedFor w.sent s.client s.number → HasAsked w.sent s.client s.number
   waited_for up s h = (h.0, h.1, h.2, h.3, name_request s.number (h.1).body h.4)
 
-  answers_asked : (e : Event) (moment : ℕ) (i : Input) → IsGiven w e node.Master moment i → IsTrue w.master.up → (client : ℕ) (b : Body) → WasAsked i w.master.snapshots client b → IsAnswerToAsked w.sent client b
+  answers_asked : (e : Event) (moment : ℕ) (i : NodeInput) → IsGiven w e node.Master moment i → IsTrue w.master.up → (client : ℕ) (b : Body) → WasAsked i w.master.snapshots client b → IsAnswerToAsked w.sent client b
   answers_asked e moment i given up client (body.Named number reply) was = ⊎_elim
       (λ asks. asked_now w e moment i given client number asks)
       (λ waits.
@@ -130,7 +130,7 @@ module _ (config : Config) (servers clients : ℕ) (w : WorldState) (r : IsReach
       was
   answers_asked e moment i given up client other was = tt
 
-  master_words : (e : Event) (moment : ℕ) (i : Input) (choice : Choice) → IsGiven w e node.Master moment i → IsTrue w.master.up → AreWords w.sent (master_step w.master moment i choice).out.sent
+  master_words : (e : Event) (moment : ℕ) (i : NodeInput) (choice : Choice) → IsGiven w e node.Master moment i → IsTrue w.master.up → AreWords w.sent (master_step w.master moment i choice).out.sent
   master_words e moment i choice given up place x at = (
     answers_asked e moment i given up (client_number x.receiver) x.body (named_replies_were_asked_for config servers clients w r up moment i choice place x at),
     unasked_of x.sender x.body (all_at (λ m. IsUnasked m.body) (master_step w.master moment i choice).out.sent place x (master_asks_nothing w.master moment i choice) at),

@@ -2,8 +2,8 @@
 use Rattle.std.proofs.Common.{◌≡◌, ◌⊎◌, ℕ, zero, suc, ◌<◌, Bool, List, [], ◌∷◌, Some, refl, inl, inr, arith}
 use Rattle.std.specs.Prelude.{max, nat_lt, filter, cond, Contains, IsTrue}
 use Rattle.std.specs.List.{AllByRecursion}
-use Rattle.messages.specs.declared.event.Input.{Input}
-use Rattle.messages.specs.declared.event.Input.TheVariants as input
+use Rattle.messages.specs.declared.event.NodeInput.{NodeInput}
+use Rattle.messages.specs.declared.event.NodeInput.TheVariants as input
 use Rattle.messages.specs.declared.message.Body.{Body}
 use Rattle.messages.specs.declared.message.Body.TheVariants as body
 use Rattle.messages.specs.declared.message.Message.{Message}
@@ -22,7 +22,7 @@ use Rattle.laws_names.specs.ChunkSteps.{AreCopiesOfFiles}
 use Rattle.laws_names.specs.NamedReplies.{IsRequestUnder, Asks, Waits, WasAsked, NamedRepliesWereAskedFor}
 use Rattle.laws_names.proofs.Replies.{IsAnswer, IsAnswered, AreWaiting, IsAsking, IsInputAsking, At, goes_at}
 
-module _ (m : MasterState) (i : Input) where
+module _ (m : MasterState) (i : NodeInput) where
   -- the client asked under this number
   abbrev Asked : ℕ → ℕ → Type 0
   Asked client number = Asks i client number ⊎ Waits m.snapshots client number
@@ -67,7 +67,7 @@ body_asks m x (body.Name number deadline c) is = inl (refl, is number refl)
 body_asks m x (body.Look number c) is = inl (refl, is number refl)
 body_asks m x b is = tt
 
-input_asks : (m : MasterState) (i : Input) → IsInputAsking (Asked m i) i
+input_asks : (m : MasterState) (i : NodeInput) → IsInputAsking (Asked m i) i
 input_asks m (input.Deliver x) = body_asks m x x.body (λ number is. is)
 input_asks m input.Tick = tt
 

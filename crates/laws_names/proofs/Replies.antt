@@ -9,8 +9,8 @@ use Rattle.gfs_types.specs.declared.call.Call.{Call}
 use Rattle.gfs_types.specs.declared.call.Call.TheVariants as call
 use Rattle.gfs_types.specs.declared.refusal.Refusal.{Refusal}
 use Rattle.gfs_types.specs.declared.refusal.Refusal.TheVariants.{NamesFull}
-use Rattle.messages.specs.declared.event.Input.{Input}
-use Rattle.messages.specs.declared.event.Input.TheVariants as input
+use Rattle.messages.specs.declared.event.NodeInput.{NodeInput}
+use Rattle.messages.specs.declared.event.NodeInput.TheVariants as input
 use Rattle.messages.specs.declared.message.Body.{Body}
 use Rattle.messages.specs.declared.message.Body.TheVariants as body
 use Rattle.messages.specs.declared.message.Message.{Message}
@@ -146,7 +146,7 @@ module _ (Asked : ℕ → ℕ → Type 0) where
   IsAsking client (body.Look number c) = Asked client number
   IsAsking client other = Unit {0}
 
-  abbrev pub IsInputAsking : Input → Type 0
+  abbrev pub IsInputAsking : NodeInput → Type 0
   IsInputAsking (input.Deliver x) = IsAsking (client_number x.sender) x.body
   IsInputAsking input.Tick = Unit {0}
 
@@ -163,7 +163,7 @@ module _ (Asked : ℕ → ℕ → Type 0) where
   clone_at d None h = h
   clone_at d (Some c) h = (all_one_more IsAnswered d.sent _ h.0 tt, h.1)
 
-  does_at : (d : MasterDoing) (i : Input) → AreCopiesOfFiles d.master.logged → IsInputAsking i → At d → At (master_does d i)
+  does_at : (d : MasterDoing) (i : NodeInput) → AreCopiesOfFiles d.master.logged → IsInputAsking i → At d → At (master_does d i)
   does_at d (input.Deliver x) copied asked h = takes_at d x x.body asked copied h
   does_at d input.Tick copied asked h =
       let a : MasterDoing = gives_up_lost_copies (gives_up_attempts d) in
@@ -178,7 +178,7 @@ module _ (Asked : ℕ → ℕ → Type 0) where
       (ready_at (takes_snapshot d s) rest asked.1 (changes_at (lets_go d s) s.client s.number (call.Snapshot s.from s.to) (log.Snapshot (client_id s.client) s.number s.from s.to) asked.0 left))
       (ready_at d rest asked.1 h)
 
-  pub goes_at : (d : MasterDoing) (i : Input) → AreCopiesOfFiles d.master.logged → IsInputAsking i → At d → At (takes_ready (master_does d i) (master_does d i).master.snapshots)
+  pub goes_at : (d : MasterDoing) (i : NodeInput) → AreCopiesOfFiles d.master.logged → IsInputAsking i → At d → At (takes_ready (master_does d i) (master_does d i).master.snapshots)
   goes_at d i copied asked h =
       let done : At (master_does d i) = does_at d i copied asked h in
       ready_at (master_does d i) (master_does d i).master.snapshots done.1 done

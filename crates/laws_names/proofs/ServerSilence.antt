@@ -20,8 +20,8 @@ use Rattle.messages.specs.declared.message.Target.{Target}
 use Rattle.messages.specs.declared.message.Target.TheVariants as target
 use Rattle.messages.specs.declared.message.Change.{Change}
 use Rattle.messages.specs.declared.message.Change.TheVariants as change
-use Rattle.messages.specs.declared.event.Input.{Input}
-use Rattle.messages.specs.declared.event.Input.TheVariants as input
+use Rattle.messages.specs.declared.event.NodeInput.{NodeInput}
+use Rattle.messages.specs.declared.event.NodeInput.TheVariants as input
 use Rattle.record_append.specs.declared.placing.Placing.{Placing}
 use Rattle.record_append.specs.declared.placing.Placing.TheVariants.{At, Pad, Full, TooLong}
 use Rattle.record_append.specs.Placing.{placing}
@@ -296,7 +296,7 @@ takes_said d m (body.CopyAsk handle version) h = copy_said d m.sender handle.0 v
 takes_said d m (body.Image handle version serial bytes) h = imaged d handle.0 version.0 serial.0 bytes h
 takes_said d m other h = h
 
-does_said : (d : ServerDoing) (i : Input) → Silent d → Silent (server_does d i)
+does_said : (d : ServerDoing) (i : NodeInput) → Silent d → Silent (server_does d i)
 does_said d (input.Deliver m) h = takes_said d m m.body h
 does_said d input.Tick h = said d Master (body.Report _ _) tt h
 
@@ -305,7 +305,7 @@ ends_said s d choice Goes h = all_in_order (λ m. IsSilent m.body) choice.order 
 ends_said s d choice Lost h = tt
 ends_said s d choice (Stops made) h = tt
 
-pub server_silent : (s : ServerState) (moment : ℕ) (i : Input) (choice : Choice) → AreSilent (server_step s moment i choice).out.sent
+pub server_silent : (s : ServerState) (moment : ℕ) (i : NodeInput) (choice : Choice) → AreSilent (server_step s moment i choice).out.sent
 server_silent s moment i choice =
     on_cond (λ (t : Taken ServerState). AreSilent t.out.sent) s.up (server_ends s (server_goes s moment i) choice choice.ending) (no_step s)
     (λ _. ends_said s (server_goes s moment i) choice choice.ending (does_said (server_begins (server_at s moment)) i tt)) (λ _. tt)

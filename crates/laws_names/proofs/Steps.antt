@@ -6,8 +6,8 @@ use Rattle.std.specs.FinMap as table
 use Rattle.gfs_types.specs.declared.call.Call.{Call}
 use Rattle.gfs_types.specs.declared.answer.Answer.TheVariants as answer
 use Rattle.gfs_types.specs.declared.refusal.Refusal.TheVariants.{Unknown}
-use Rattle.messages.specs.declared.event.Input.{Input}
-use Rattle.messages.specs.declared.event.Input.TheVariants as input
+use Rattle.messages.specs.declared.event.NodeInput.{NodeInput}
+use Rattle.messages.specs.declared.event.NodeInput.TheVariants as input
 use Rattle.messages.specs.declared.message.Body.{Body}
 use Rattle.messages.specs.declared.message.Body.TheVariants as body
 use Rattle.messages.specs.declared.message.Message.{Message}
@@ -44,11 +44,11 @@ module _ (s : ClientState) (moment : ℕ) (c : CurrentCall) (is_open : s.current
   abbrev begun : ClientDoing
   begun = client_begins (client_at s moment)
 
-  abbrev Good : Input → ClientDoing → Type 0
+  abbrev Good : NodeInput → ClientDoing → Type 0
   Good i d = (IsWaiting d c.number c.asked × (d.client.fd_count ≡ s.fd_count)) ⊎ IsOver s moment i d c
 
   -- nothing happened
-  waits : (i : Input) → Good i begun
+  waits : (i : NodeInput) → Good i begun
   waits i = inl (record { current = c; is_open = is_open; number_is = refl; asked_is = refl; stage_is = stage_is; unanswered = refl }, refl)
 
   replied : (m : Message) (reply : NameReply) → m.body ≡ body.Named c.number reply → Good (input.Deliver m) (takes_reply begun reply)
@@ -69,7 +69,7 @@ module _ (s : ClientState) (moment : ℕ) (c : CurrentCall) (is_open : s.current
       (λ _. inr (record { reply = answer.Refused Unknown; answer_is = refl; none_open = refl; caused = inr (inr (refl, ltb-false (max s.now moment) (c.deadline.0 + s.config.skew_ms) late, refl)) }))
       (λ _. inl (asks_again begun (ended c) refl, refl)))
 
-  at_input : (i : Input) → Good i (client_does begun i (Some c))
+  at_input : (i : NodeInput) → Good i (client_does begun i (Some c))
   at_input (input.Deliver m) =
       let same : record c { stage = AskedNames } ≡ c = ap (λ (t : Stage). record c { stage = t }) (sym stage_is) in
       subst (λ (t : Stage). Good (input.Deliver m) (takes_at begun c m t)) (sym stage_is)

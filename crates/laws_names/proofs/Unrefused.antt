@@ -2,7 +2,7 @@
 use Rattle.std.proofs.Common.{◌≡◌, ℕ, List, [], refl, sym, subst}
 use Rattle.std.specs.Prelude.{◌&&◌, IsTrue}
 use Rattle.std.proofs.lemmas.Bool.{true≢false}
-use Rattle.messages.specs.declared.event.Input.{Input}
+use Rattle.messages.specs.declared.event.NodeInput.{NodeInput}
 use Rattle.log_records.specs.declared.record.Record.TheVariants as log
 use Rattle.protocol.specs.Choice.{Choice, Ending, Goes, Lost, Stops, made_changes, change_under_way}
 use Rattle.protocol.specs.Seen.{Taken, no_step}
@@ -35,7 +35,7 @@ ends_waits m d choice Goes h = λ up. h
 ends_waits m d choice Lost h = stopped_waits m m.disk []
 ends_waits m d choice (Stops made) h = stopped_waits m (log_changed_by_all m.disk (made_changes made d.changes)) (change_under_way made d.changes)
 
-step_waits : (m : MasterState) (moment : ℕ) (i : Input) (choice : Choice) → HasLog m → AreWaiting m → AreWaiting (master_step m moment i choice).state
+step_waits : (m : MasterState) (moment : ℕ) (i : NodeInput) (choice : Choice) → HasLog m → AreWaiting m → AreWaiting (master_step m moment i choice).state
 step_waits m moment i choice log h =
     let d : MasterDoing = master_goes m moment i choice.refused in
     let good : Taken MasterState → Type 0 = λ t. AreWaiting t.state in

@@ -8,8 +8,8 @@ use Rattle.gfs_types.specs.declared.call.Call.{Call}
 use Rattle.gfs_types.specs.declared.call.Call.TheVariants as call
 use Rattle.gfs_types.specs.declared.refusal.Refusal.{Refusal}
 use Rattle.gfs_types.specs.Paths.{Path}
-use Rattle.messages.specs.declared.event.Input.{Input}
-use Rattle.messages.specs.declared.event.Input.TheVariants as input
+use Rattle.messages.specs.declared.event.NodeInput.{NodeInput}
+use Rattle.messages.specs.declared.event.NodeInput.TheVariants as input
 use Rattle.messages.specs.declared.message.Body.{Body}
 use Rattle.messages.specs.declared.message.Body.TheVariants as body
 use Rattle.messages.specs.declared.message.Message.{Message}
@@ -97,7 +97,7 @@ module _ (P : PendingSnapshot → Type 0) where
   IsAsking client (body.Name number deadline c) = MayBegin client number deadline.0
   IsAsking client other = Unit {0}
 
-  abbrev IsInputAsking : Input → Type 0
+  abbrev IsInputAsking : NodeInput → Type 0
   IsInputAsking (input.Deliver x) = IsAsking (client_number x.sender) x.body
   IsInputAsking input.Tick = Unit {0}
 
@@ -113,7 +113,7 @@ module _ (P : PendingSnapshot → Type 0) where
   expires_at d [] h = h
   expires_at d (file ∷ rest) h = expires_at (logs d (log.Expired (file_id file)) (λ e. e)) rest (logs_holds G d (log.Expired (file_id file)) (λ e. e) (λ e g. g) h h h)
 
-  does_at : (d : MasterDoing) (i : Input) → IsInputAsking i → At d → At (master_does d i)
+  does_at : (d : MasterDoing) (i : NodeInput) → IsInputAsking i → At d → At (master_does d i)
   does_at d (input.Deliver x) may h = takes_at d x x.body may h
   does_at d input.Tick may h =
       let a : MasterDoing = gives_up_lost_copies (gives_up_attempts d) in
@@ -136,7 +136,7 @@ module _ (P : PendingSnapshot → Type 0) where
   ends_at m d choice Lost h = λ up. absurd (true≢false (sym up))
   ends_at m d choice (Stops made) h = λ up. absurd (true≢false (sym up))
 
-  step_at : (m : MasterState) (moment : ℕ) (i : Input) (choice : Choice) → IsInputAsking i → (IsTrue m.up → AllByRecursion P m.snapshots) → IsUp (master_step m moment i choice)
+  step_at : (m : MasterState) (moment : ℕ) (i : NodeInput) (choice : Choice) → IsInputAsking i → (IsTrue m.up → AllByRecursion P m.snapshots) → IsUp (master_step m moment i choice)
   step_at m moment i choice may h =
       let d : MasterDoing = master_does (master_begins (master_at m moment) choice.refused) i in
       on_cond IsUp m.up (master_bounded m (master_goes m moment i choice.refused) choice) (no_step m)
@@ -162,7 +162,7 @@ body_asks : (sent : List Message) (x : Message) (place : ℕ) → element_at sen
 body_asks sent x place at (body.Name number deadline c) is = λ p q. (place, x, at, refl, subst (λ (b : Body). IsNameBy number deadline.0 b) (sym is) (refl, refl))
 body_asks sent x place at other is = tt
 
-input_asks : (sent : List Message) (i : Input) → IsInputSent sent i → IsInputAsking (HasItsRequest sent) i
+input_asks : (sent : List Message) (i : NodeInput) → IsInputSent sent i → IsInputAsking (HasItsRequest sent) i
 input_asks sent (input.Deliver x) there = body_asks sent x there.0 there.1 x.body refl
 input_asks sent input.Tick there = tt
 

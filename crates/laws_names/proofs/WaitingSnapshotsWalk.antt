@@ -9,8 +9,8 @@ use Rattle.gfs_types.specs.declared.call.Call.TheVariants as call
 use Rattle.gfs_types.specs.declared.refusal.Refusal.{Refusal}
 use Rattle.gfs_types.specs.declared.refusal.Refusal.TheVariants.{Busy, NamesFull}
 use Rattle.gfs_types.specs.Paths.{Path, trash, is_below, is_child}
-use Rattle.messages.specs.declared.event.Input.{Input}
-use Rattle.messages.specs.declared.event.Input.TheVariants as input
+use Rattle.messages.specs.declared.event.NodeInput.{NodeInput}
+use Rattle.messages.specs.declared.event.NodeInput.TheVariants as input
 use Rattle.messages.specs.declared.message.Body.{Body}
 use Rattle.messages.specs.declared.message.Body.TheVariants as body
 use Rattle.messages.specs.declared.message.Message.{Message}
@@ -203,7 +203,7 @@ takes_waits d x (body.Revoked handle version) h = revoked_holds AreUnrefused d (
 takes_waits d x (body.Report replicas leases) h = report_holds AreUnrefused d (server_number x.sender) replicas leases h
 takes_waits d x other h = h
 
-pub does_waits : (d : MasterDoing) (i : Input) → HasNoSecondName d.master.logged.names → Waits d → Waits (master_does d i)
+pub does_waits : (d : MasterDoing) (i : NodeInput) → HasNoSecondName d.master.logged.names → Waits d → Waits (master_does d i)
 does_waits d (input.Deliver x) one h = takes_waits d x x.body h
 does_waits d input.Tick one h = ticks_waits d one h
 

@@ -9,8 +9,8 @@ use Rattle.gfs_types.specs.declared.config.Config.{Config}
 use Rattle.gfs_types.specs.declared.call.Call.{Call}
 use Rattle.gfs_types.specs.declared.answer.Answer.{Answer}
 use Rattle.messages.specs.declared.event.Event.{Event}
-use Rattle.messages.specs.declared.event.Input.{Input}
-use Rattle.messages.specs.declared.event.Input.TheVariants as input
+use Rattle.messages.specs.declared.event.NodeInput.{NodeInput}
+use Rattle.messages.specs.declared.event.NodeInput.TheVariants as input
 use Rattle.messages.specs.declared.message.Body.{Body}
 use Rattle.messages.specs.declared.message.Body.TheVariants as body
 use Rattle.messages.specs.declared.message.Message.{Message}
@@ -156,11 +156,11 @@ module _ (config : Config) (servers clients : ℕ) where
       abbrev AfterIt : List Visible → ℕ → Taken ClientState → Type 0
       AfterIt trace greatest t = BesideMaster w.config (answered_trace (suc index) t.out.answer trace) greatest (with_at w.clients index t.state) (w.sent ++ stamped k t.out.sent) w.master
 
-      comes_in : (e : Event) (moment : ℕ) (i : Input) → IsGiven w e (the_client (suc index)) moment i → ComesTo w.sent (suc index) i
+      comes_in : (e : Event) (moment : ℕ) (i : NodeInput) → IsGiven w e (the_client (suc index)) moment i → ComesTo w.sent (suc index) i
       comes_in e moment (input.Deliver x) given = let there = given_sent w e (the_client (suc index)) moment x given in ((there.0, there.1), there.2)
       comes_in e moment input.Tick given = tt
 
-      step_goes : (e : Event) (moment : ℕ) (i : Input) (choice : Choice) → IsGiven w e (the_client (suc index)) moment i → IsKeptAt moment → AfterIt (more moment) (later moment) (client_step s moment i choice)
+      step_goes : (e : Event) (moment : ℕ) (i : NodeInput) (choice : Choice) → IsGiven w e (the_client (suc index)) moment i → IsKeptAt moment → AfterIt (more moment) (later moment) (client_step s moment i choice)
       step_goes e moment i choice given kept =
           let h = beside_at moment kept in
           let reached = le-max_right w.observer.greatest moment in
@@ -195,7 +195,7 @@ module _ (config : Config) (servers clients : ℕ) where
       still_kept : (o : Observer) (t : Taken ClientState) → kept_before o t
       still_kept o t kept = (observed_fields o (suc index) t.out.answer).2 ∙ kept
 
-      step_on : (e : Event) (moment : ℕ) (i : Input) (choice : Choice) → IsGiven w e (the_client (suc index)) moment i → IsOn (after_client w index moment (client_step s moment i choice)).world
+      step_on : (e : Event) (moment : ℕ) (i : NodeInput) (choice : Choice) → IsGiven w e (the_client (suc index)) moment i → IsOn (after_client w index moment (client_step s moment i choice)).world
       step_on e moment i choice given = (
         on.0,
         λ kept.

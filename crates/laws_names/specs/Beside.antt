@@ -2,8 +2,8 @@
 use Rattle.std.specs.Prelude.{◌≡◌, ℕ, suc, ◌+◌, ◌≤◌, nat_lt, Bool, true, false, filter, List, [], ◌∷◌, ◌++◌, Option, Some, None, IsTrue, IsFalse}
 use Rattle.gfs_types.specs.declared.config.Config.{Config}
 use Rattle.gfs_types.specs.declared.answer.Answer.{Answer}
-use Rattle.messages.specs.declared.event.Input.{Input}
-use Rattle.messages.specs.declared.event.Input.TheVariants as input
+use Rattle.messages.specs.declared.event.NodeInput.{NodeInput}
+use Rattle.messages.specs.declared.event.NodeInput.TheVariants as input
 use Rattle.messages.specs.declared.message.Body.{Body}
 use Rattle.messages.specs.declared.message.Body.TheVariants as body
 use Rattle.messages.specs.declared.message.Message.{Message}
@@ -76,6 +76,6 @@ answered_trace client None trace = trace
 answered_trace client (Some reply) trace = trace ++ Answered client reply ∷ []
 
 -- what comes in was sent to the client
-abbrev pub ComesTo : List Message → ℕ → Input → Type 0
+abbrev pub ComesTo : List Message → ℕ → NodeInput → Type 0
 ComesTo sent client (input.Deliver x) = WasSent sent x × (x.receiver ≡ the_client client)
 ComesTo sent client input.Tick = Unit {0}

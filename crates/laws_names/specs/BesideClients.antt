@@ -3,7 +3,7 @@ use Rattle.std.specs.Prelude.{◌≡◌, ℕ, suc, ◌≤◌, List, [], ◌∷�
 use Rattle.std.specs.List.{AllByRecursion}
 use Rattle.gfs_types.specs.declared.config.Config.{Config}
 use Rattle.gfs_types.specs.declared.call.Call.{Call}
-use Rattle.messages.specs.declared.event.Input.{Input}
+use Rattle.messages.specs.declared.event.NodeInput.{NodeInput}
 use Rattle.messages.specs.declared.message.Message.{Message}
 use Rattle.relaxed_file.specs.Run.{Visible, Called}
 use Rattle.protocol.specs.Tables.{element_at, with_at}
@@ -32,7 +32,7 @@ ClientStepsAreFollowed =
     (config : Config) (servers clients : ℕ) (w : WorldState) → IsReached config servers clients w
     → (index : ℕ) (s : ClientState) → element_at w.clients index ≡ Some s → IsTrue s.up → (l : Logged) (ss : List PendingSnapshot) → IsAskedFor w.sent l ss
     → (trace : List Visible) (greatest : ℕ) → Beside w.config trace greatest w.clients w.sent l ss
-    → (moment : ℕ) (i : Input) → moment ≤ greatest → ComesTo w.sent (suc index) i → (k : ℕ) (choice : Choice)
+    → (moment : ℕ) (i : NodeInput) → moment ≤ greatest → ComesTo w.sent (suc index) i → (k : ℕ) (choice : Choice)
     → IsLeftBeside w trace greatest k index l ss (client_step s moment i choice)
 
 -- A call of names or on a file, where none is open: it may go through, be refused for want of memory, or the client goes down.

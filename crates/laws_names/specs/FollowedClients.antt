@@ -2,8 +2,8 @@
 use Rattle.std.specs.Prelude.{◌≡◌, ℕ, suc, ◌==◌, not, filter, List, [], ◌∷◌, Option, Some, None, IsTrue}
 use Rattle.gfs_types.specs.declared.call.Call.{Call}
 use Rattle.gfs_types.specs.declared.answer.Answer.{Answer}
-use Rattle.messages.specs.declared.event.Input.{Input}
-use Rattle.messages.specs.declared.event.Input.TheVariants as input
+use Rattle.messages.specs.declared.event.NodeInput.{NodeInput}
+use Rattle.messages.specs.declared.event.NodeInput.TheVariants as input
 use Rattle.messages.specs.declared.message.Message.{Message}
 use Rattle.relaxed_file.specs.Machine.{Machine, OpenCall}
 use Rattle.relaxed_file.specs.NameStep.{is_name_call}
@@ -36,7 +36,7 @@ pub record IsBesideClient (s : ClientState) (m : Machine) (requests : Requests) 
   pub count : (m.clients client).fd_count ≡ s.fd_count
 
 -- what comes to the client was told truly
-abbrev pub IsInputTold : Machine → Requests → ℕ → Input → Type 0
+abbrev pub IsInputTold : Machine → Requests → ℕ → NodeInput → Type 0
 IsInputTold m requests client (input.Deliver x) = (client_number x.receiver ≡ client) × IsTold m requests x
 IsInputTold m requests client input.Tick = Unit {0}
 
@@ -62,7 +62,7 @@ NameCallsAreBegun =
 -- The machine follows each step of a client while its name call is open.
 abbrev pub NameCallsAreFollowed : Type 0
 NameCallsAreFollowed =
-    (l : Logged) (snapshots : List PendingSnapshot) (m : Machine) (requests : Requests) (client : ℕ) (s : ClientState) (moment : ℕ) (i : Input) (c : CurrentCall)
+    (l : Logged) (snapshots : List PendingSnapshot) (m : Machine) (requests : Requests) (client : ℕ) (s : ClientState) (moment : ℕ) (i : NodeInput) (c : CurrentCall)
     → AreAlike l snapshots m requests → IsBesideClient s m requests client → s.current ≡ Some c → c.stage ≡ AskedNames → IsInputTold m requests client i
     → (n : Machine) × (run : LeadsByNames m n) × (visible run.0 ≡ answer_shown client (client_goes s moment i).answer)
     × AreAlike l (snapshots_left client (client_goes s moment i).answer snapshots) n requests

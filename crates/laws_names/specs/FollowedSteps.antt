@@ -4,8 +4,8 @@ use Rattle.gfs_types.specs.declared.config.Config.{Config}
 use Rattle.messages.specs.declared.message.Body.{Body}
 use Rattle.messages.specs.declared.message.Body.TheVariants as body
 use Rattle.messages.specs.declared.message.Message.{Message}
-use Rattle.messages.specs.declared.event.Input.{Input}
-use Rattle.messages.specs.declared.event.Input.TheVariants as input
+use Rattle.messages.specs.declared.event.NodeInput.{NodeInput}
+use Rattle.messages.specs.declared.event.NodeInput.TheVariants as input
 use Rattle.relaxed_file.specs.Machine.{Machine, OpenCall, new_machine}
 use Rattle.relaxed_file.specs.NameStep.{is_look}
 use Rattle.machine_names.specs.NameRuns.{LeadsByNames}
@@ -36,7 +36,7 @@ IsOfOpenCall d n requests x (body.Name number deadline c) = IsRequest d n reques
 IsOfOpenCall d n requests x (body.Look number c) = IsTrue (is_look c) × ((current : OpenCall) → IsWaiting n requests (client_number x.sender) number current → current.asked.call ≡ c)
 IsOfOpenCall d n requests x other = Unit {0}
 
-abbrev pub IsInputOfOpenCall : MasterDoing → Machine → Requests → Input → Type 0
+abbrev pub IsInputOfOpenCall : MasterDoing → Machine → Requests → NodeInput → Type 0
 IsInputOfOpenCall d n requests (input.Deliver x) = IsOfOpenCall d n requests x x.body
 IsInputOfOpenCall d n requests input.Tick = Unit {0}
 
@@ -44,7 +44,7 @@ IsInputOfOpenCall d n requests input.Tick = Unit {0}
 abbrev pub StepsAreFollowed : Type 0
 StepsAreFollowed =
     (config : Config) (servers clients : ℕ) (w : WorldState) → IsReached config servers clients w → IsTrue w.master.up
-    → (moment : ℕ) (i : Input) (refused : List Bool) (n : Machine) (requests : Requests)
+    → (moment : ℕ) (i : NodeInput) (refused : List Bool) (n : Machine) (requests : Requests)
     → IsAtStep config (master_at w.master moment) n requests → IsInputOfOpenCall (master_begins (master_at w.master moment) refused) n requests i
     → (k : Machine) × ComesTo n k requests × IsBeside (master_goes w.master moment i refused) k requests
     × AreKeptOn requests w.master.logged.kept (master_goes w.master moment i refused).master.logged.kept
@@ -57,7 +57,7 @@ log_left disk changes made decided = log_changed_by_all (log_changed_by_all disk
 abbrev pub StoppedStepsAreFollowed : Type 0
 StoppedStepsAreFollowed =
     (config : Config) (servers clients : ℕ) (w : WorldState) → IsReached config servers clients w → IsTrue w.master.up
-    → (moment : ℕ) (i : Input) (refused : List Bool) (n : Machine) (requests : Requests)
+    → (moment : ℕ) (i : NodeInput) (refused : List Bool) (n : Machine) (requests : Requests)
     → IsAtStep config (master_at w.master moment) n requests → IsInputOfOpenCall (master_begins (master_at w.master moment) refused) n requests i
     → (made : ℕ) (decided : List Bool)
     → (k : Machine) × ComesTo n k requests × AreAlike (replayed (log_left w.master.disk (master_goes w.master moment i refused).changes made decided)) [] k requests

@@ -5,8 +5,8 @@ use Rattle.gfs_types.specs.declared.call.Call.{Call}
 use Rattle.gfs_types.specs.declared.answer.Answer.{Answer}
 use Rattle.gfs_types.specs.declared.answer.Answer.TheVariants as answer
 use Rattle.gfs_types.specs.declared.refusal.Refusal.TheVariants.{Unknown}
-use Rattle.messages.specs.declared.event.Input.{Input}
-use Rattle.messages.specs.declared.event.Input.TheVariants as input
+use Rattle.messages.specs.declared.event.NodeInput.{NodeInput}
+use Rattle.messages.specs.declared.event.NodeInput.TheVariants as input
 use Rattle.messages.specs.declared.message.Body.TheVariants as body
 use Rattle.messages.specs.declared.message.NameReply.{NameReply}
 use Rattle.messages.specs.declared.message.NameReply.TheVariants.{Opened, Answered}
@@ -26,19 +26,19 @@ pub record IsWaiting (d : ClientDoing) (number : ℕ) (asked : Call) : Type 0 wh
   pub unanswered : d.answer ≡ None
 
 -- the message that came tells this reply under this number
-abbrev pub Tells : Input → ℕ → NameReply → Type 0
+abbrev pub Tells : NodeInput → ℕ → NameReply → Type 0
 Tells (input.Deliver m) number reply = m.body ≡ body.Named number reply
 Tells input.Tick number reply = ⊥
 
 -- Why an answer is given to the open call: the reply came, or the next descriptor for a file that it names, or it is past its last deadline by the clock bound.
-abbrev pub IsCaused : ClientState → ℕ → Input → ClientDoing → CurrentCall → Answer → Type 0
+abbrev pub IsCaused : ClientState → ℕ → NodeInput → ClientDoing → CurrentCall → Answer → Type 0
 IsCaused s moment i d c reply =
     (Tells i c.number (Answered reply) × (d.client.fd_count ≡ s.fd_count))
     ⊎ (((file : FileId) × Tells i c.number (Opened file) × (reply ≡ answer.Fd (record { 0 = suc s.fd_count })) × (d.client.fd_count ≡ suc s.fd_count))
     ⊎ ((reply ≡ answer.Refused Unknown) × (c.deadline.0 + s.config.skew_ms ≤ max s.now moment) × (d.client.fd_count ≡ s.fd_count)))
 
 -- The call is over, and its answer has a cause.
-pub record IsOver (s : ClientState) (moment : ℕ) (i : Input) (d : ClientDoing) (c : CurrentCall) : Type 0 where
+pub record IsOver (s : ClientState) (moment : ℕ) (i : NodeInput) (d : ClientDoing) (c : CurrentCall) : Type 0 where
   pub reply : Answer
   pub answer_is : d.answer ≡ Some reply
   pub none_open : d.client.current ≡ None
@@ -46,7 +46,7 @@ pub record IsOver (s : ClientState) (moment : ℕ) (i : Input) (d : ClientDoing)
 
 abbrev pub NameCallsAreAnsweredAsTold : Type 0
 NameCallsAreAnsweredAsTold =
-    (s : ClientState) (moment : ℕ) (i : Input) (c : CurrentCall) → s.current ≡ Some c → c.stage ≡ AskedNames
+    (s : ClientState) (moment : ℕ) (i : NodeInput) (c : CurrentCall) → s.current ≡ Some c → c.stage ≡ AskedNames
     → (IsWaiting (client_goes s moment i) c.number c.asked × ((client_goes s moment i).client.fd_count ≡ s.fd_count))
     ⊎ IsOver s moment i (client_goes s moment i) c
 

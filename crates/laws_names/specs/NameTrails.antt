@@ -5,7 +5,7 @@ use Rattle.gfs_types.specs.declared.call.Call.{Call}
 use Rattle.gfs_types.specs.declared.refusal.Refusal.{Refusal}
 use Rattle.log_records.specs.declared.record.Record.{Record}
 use Rattle.log_records.specs.declared.record.Record.TheVariants as log
-use Rattle.messages.specs.declared.event.Input.{Input}
+use Rattle.messages.specs.declared.event.NodeInput.{NodeInput}
 use Rattle.relaxed_file.specs.Machine.{Machine, OpenCall, IsOpen}
 use Rattle.relaxed_file.specs.NameStep.{is_look, is_refused}
 use Rattle.relaxed_file.specs.Run.{Action, Step, FindBusy, FindFull, Lock, Expire, Allows, after}
@@ -90,7 +90,7 @@ NameTrail requests first start d m (x ∷ rest) n =
 abbrev pub StepsGoByRecords : Type 0
 StepsGoByRecords =
     (config : Config) (servers clients : ℕ) (w : WorldState) → IsReached config servers clients w → IsTrue w.master.up
-    → (moment : ℕ) (i : Input) (refused : List Bool) (n : Machine) (requests : Requests)
+    → (moment : ℕ) (i : NodeInput) (refused : List Bool) (n : Machine) (requests : Requests)
     → IsAtStep config (master_at w.master moment) n requests → IsInputOfOpenCall (master_begins (master_at w.master moment) refused) n requests i
     → (k : Machine) × ComesTo n k requests × IsBeside (master_goes w.master moment i refused) k requests
     × AreKeptOn requests w.master.logged.kept (master_goes w.master moment i refused).master.logged.kept

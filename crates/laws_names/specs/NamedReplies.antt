@@ -1,8 +1,8 @@
 -- The master answers a name call only to the client that asked, under the number of its request (sections 2.6.3 and 3.4).
 use Rattle.std.specs.Prelude.{◌≡◌, ◌⊎◌, ℕ, List, Some, Contains, IsTrue}
 use Rattle.gfs_types.specs.declared.config.Config.{Config}
-use Rattle.messages.specs.declared.event.Input.{Input}
-use Rattle.messages.specs.declared.event.Input.TheVariants as input
+use Rattle.messages.specs.declared.event.NodeInput.{NodeInput}
+use Rattle.messages.specs.declared.event.NodeInput.TheVariants as input
 use Rattle.messages.specs.declared.message.Body.{Body}
 use Rattle.messages.specs.declared.message.Body.TheVariants as body
 use Rattle.messages.specs.declared.message.Message.{Message}
@@ -20,7 +20,7 @@ IsRequestUnder number (body.Look n c) = n ≡ number
 IsRequestUnder number other = ⊥
 
 -- the message that came is such a request, of this client
-abbrev pub Asks : Input → ℕ → ℕ → Type 0
+abbrev pub Asks : NodeInput → ℕ → ℕ → Type 0
 Asks (input.Deliver x) client number = (client_number x.sender ≡ client) × IsRequestUnder number x.body
 Asks input.Tick client number = ⊥
 
@@ -29,7 +29,7 @@ abbrev pub Waits : List PendingSnapshot → ℕ → ℕ → Type 0
 Waits snapshots client number = (s : PendingSnapshot) × Contains snapshots s × (s.client ≡ client) × (s.number ≡ number)
 
 -- Where it answers a name call, the client asked under this number: now, or for a snapshot that waits.
-abbrev pub WasAsked : Input → List PendingSnapshot → ℕ → Body → Type 0
+abbrev pub WasAsked : NodeInput → List PendingSnapshot → ℕ → Body → Type 0
 WasAsked i snapshots client (body.Named number reply) = Asks i client number ⊎ Waits snapshots client number
 WasAsked i snapshots client other = Unit {0}
 
@@ -37,5 +37,5 @@ WasAsked i snapshots client other = Unit {0}
 abbrev pub NamedRepliesWereAskedFor : Type 0
 NamedRepliesWereAskedFor =
     (config : Config) (servers clients : ℕ) (w : WorldState) → IsReached config servers clients w → IsTrue w.master.up
-    → (moment : ℕ) (i : Input) (choice : Choice) (place : ℕ) (x : Message) → element_at (master_step w.master moment i choice).out.sent place ≡ Some x
+    → (moment : ℕ) (i : NodeInput) (choice : Choice) (place : ℕ) (x : Message) → element_at (master_step w.master moment i choice).out.sent place ≡ Some x
     → WasAsked i w.master.snapshots (client_number x.receiver) x.body

@@ -2,7 +2,7 @@
 use Rattle.std.specs.Prelude.{◌≡◌, ℕ, Bool, List, [], ◌∷◌, Some, None, IsFalse}
 use Rattle.std.specs.List.{AllByRecursion}
 use Rattle.gfs_types.specs.Paths.{Path}
-use Rattle.messages.specs.declared.event.Input.{Input}
+use Rattle.messages.specs.declared.event.NodeInput.{NodeInput}
 use Rattle.relaxed_file.specs.Names.{Names, File, node_at}
 use Rattle.relaxed_file.specs.NameStep.{refusal_of}
 use Rattle.relaxed_file.specs.Locks.{conflict}
@@ -32,5 +32,5 @@ HasNoSecondName names = (file : ℕ) (one other : Path) → node_at names one �
 -- Each step of the master leaves them so, whatever call, message or tick it takes.
 abbrev pub StepsLeaveSnapshotsUnrefused : Type 0
 StepsLeaveSnapshotsUnrefused =
-    (m : MasterState) (moment : ℕ) (i : Input) (refused : List Bool) → HasNoSecondName m.logged.names → AreUnrefused m.logged.names m.snapshots
+    (m : MasterState) (moment : ℕ) (i : NodeInput) (refused : List Bool) → HasNoSecondName m.logged.names → AreUnrefused m.logged.names m.snapshots
     → AreUnrefused (master_goes m moment i refused).master.logged.names (master_goes m moment i refused).master.snapshots

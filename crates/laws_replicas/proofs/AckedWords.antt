@@ -5,7 +5,7 @@ use Rattle.gfs_types.specs.declared.config.Config.{Config}
 use Rattle.gfs_types.specs.declared.ids.Handle.{Handle}
 use Rattle.gfs_types.specs.declared.ids.Version.{Version}
 use Rattle.gfs_types.specs.declared.ids.Serial.{Serial}
-use Rattle.messages.specs.declared.event.Input.{Input}
+use Rattle.messages.specs.declared.event.NodeInput.{NodeInput}
 use Rattle.messages.specs.declared.message.Body.{Body}
 use Rattle.messages.specs.declared.message.Body.TheVariants as body
 use Rattle.messages.specs.declared.message.Message.{Message}
@@ -49,7 +49,7 @@ restarted_none P s moment choice Lost = tt
 restarted_none P s moment choice (Stops made) = tt
 
 -- what a server says is its own
-pub server_sender : (config : Config) (servers clients : ℕ) (w : WorldState) → IsReached config servers clients w → (index : ℕ) (s : ServerState) → element_at w.servers index ≡ Some s → (moment : ℕ) (i : Input) (choice : Choice) (m : Message)
+pub server_sender : (config : Config) (servers clients : ℕ) (w : WorldState) → IsReached config servers clients w → (index : ℕ) (s : ServerState) → element_at w.servers index ≡ Some s → (moment : ℕ) (i : NodeInput) (choice : Choice) (m : Message)
     → IsSent (server_step s moment i choice).out.sent m → m.sender ≡ the_server (suc index)
 server_sender config servers clients w r index s at moment i choice m there =
     (all_at (λ (x : Message). (x.sender ≡ the_server (suc index)) × Unit {0}) (server_step s moment i choice).out.sent there.0 m

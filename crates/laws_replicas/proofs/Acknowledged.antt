@@ -4,8 +4,8 @@ use Rattle.std.proofs.lemmas.Bool.{true≢false}
 use Rattle.gfs_types.specs.declared.config.Config.{Config}
 use Rattle.gfs_types.specs.declared.ids.OrderNo.{OrderNo}
 use Rattle.messages.specs.declared.event.Event.{Event}
-use Rattle.messages.specs.declared.event.Input.{Input}
-use Rattle.messages.specs.declared.event.Input.TheVariants as input
+use Rattle.messages.specs.declared.event.NodeInput.{NodeInput}
+use Rattle.messages.specs.declared.event.NodeInput.TheVariants as input
 use Rattle.messages.specs.declared.message.Body.{Body}
 use Rattle.messages.specs.declared.message.Body.TheVariants as body
 use Rattle.messages.specs.declared.message.Message.{Message}
@@ -98,7 +98,7 @@ none_taken sent ms k index s t later none h =
 
 -- a step of a server
 
-module _ (config : Config) (servers clients : ℕ) (w : WorldState) (r : IsReached config servers clients w) (index : ℕ) (s : ServerState) (at : element_at w.servers index ≡ Some s) (taken : AreTaken w.sent index s) (i : Input)
+module _ (config : Config) (servers clients : ℕ) (w : WorldState) (r : IsReached config servers clients w) (index : ℕ) (s : ServerState) (at : element_at w.servers index ≡ Some s) (taken : AreTaken w.sent index s) (i : NodeInput)
     (came : (m : Message) → i ≡ input.Deliver m → (place : ℕ) × (element_at w.sent place ≡ Some m) × (m.receiver ≡ the_server (suc index))) where
   -- a new order gives no version that was acknowledged
   unacknowledged : (m : Message) → i ≡ input.Deliver m → (handle version : ℕ) → version_given m.body ≡ Some (handle, version) → (order : OrderNo) → order_number m.body ≡ Some order → is_new_order s.disk order.epoch order.count ≡ true
@@ -123,7 +123,7 @@ module _ (config : Config) (servers clients : ℕ) (w : WorldState) (r : IsReach
       }
 
 -- where something was said the step went through, and nothing is under way
-said_or_idle : (s : ServerState) (moment : ℕ) (i : Input) (choice : Choice) → s.under_way ≡ [] → ((server_step s moment i choice).out.sent ≡ []) ⊎ ((server_step s moment i choice).state.under_way ≡ [])
+said_or_idle : (s : ServerState) (moment : ℕ) (i : NodeInput) (choice : Choice) → s.under_way ≡ [] → ((server_step s moment i choice).out.sent ≡ []) ⊎ ((server_step s moment i choice).state.under_way ≡ [])
 said_or_idle s moment i choice idle =
     on_cond (λ (t : Taken ServerState). (t.out.sent ≡ []) ⊎ (t.state.under_way ≡ [])) s.up (server_ends s (server_goes s moment i) choice choice.ending) (no_step s) (λ _. ends choice.ending) (λ _. inl refl)
   where
@@ -133,7 +133,7 @@ said_or_idle s moment i choice idle =
     ends (Stops made) = inl refl
 
 -- replicas that acknowledged in the step have it as their last serial
-module _ (s : ServerState) (moment : ℕ) (i : Input) (choice : Choice) (idle : s.under_way ≡ []) (sent : List Message) (k index size : ℕ) (orders : Table (List Placed)) where
+module _ (s : ServerState) (moment : ℕ) (i : NodeInput) (choice : Choice) (idle : s.under_way ≡ []) (sent : List Message) (k index size : ℕ) (orders : Table (List Placed)) where
   pub said_kept : (handle : ℕ) (x : Replica) (decided : List Bool) → replica_of (disk_changed_by_all (server_step s moment i choice).state.disk (decided_changes decided (server_step s moment i choice).state.under_way)) handle ≡ Some x
       → (g : IsImageOf size (placed_in orders handle) x.version x.serial x.bytes) → Kept sent index handle x.version (marked g.marks (placed_in orders handle))
       → Kept (sent ++ stamped k (server_step s moment i choice).out.sent) index handle x.version (marked g.marks (placed_in orders handle))
@@ -188,7 +188,7 @@ module _ (config : Config) (servers clients : ℕ) (w : WorldState) (r : IsReach
         | inr apart ↦ old other u apart.0 apart.1
       ]
 
-  module _ (index moment : ℕ) (s : ServerState) (i : Input) (choice : Choice) (at : element_at w.servers index ≡ Some s) (later : IsReached config servers clients (after_server w index moment (server_step s moment i choice)).world) where
+  module _ (index moment : ℕ) (s : ServerState) (i : NodeInput) (choice : Choice) (at : element_at w.servers index ≡ Some s) (later : IsReached config servers clients (after_server w index moment (server_step s moment i choice)).world) where
     abbrev v : WorldState
     v = (after_server w index moment (server_step s moment i choice)).world
 

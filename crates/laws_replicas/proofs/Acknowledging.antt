@@ -4,8 +4,8 @@ use Rattle.gfs_types.specs.declared.config.Config.{Config}
 use Rattle.gfs_types.specs.declared.ids.Handle.{Handle}
 use Rattle.gfs_types.specs.declared.ids.Version.{Version}
 use Rattle.gfs_types.specs.declared.ids.Serial.{Serial}
-use Rattle.messages.specs.declared.event.Input.{Input}
-use Rattle.messages.specs.declared.event.Input.TheVariants as input
+use Rattle.messages.specs.declared.event.NodeInput.{NodeInput}
+use Rattle.messages.specs.declared.event.NodeInput.TheVariants as input
 use Rattle.messages.specs.declared.message.Body.TheVariants as body
 use Rattle.messages.specs.declared.message.Message.{Message}
 use Rattle.primary_order.specs.declared.order.SerialOrder.{SerialOrder}
@@ -106,7 +106,7 @@ module _ (config : Config) (servers clients : ℕ) (w : WorldState) (r : IsReach
   restarted index s moment choice (Stops made) = none_counting (By w.sent) (suc index)
 
   -- a step of a server
-  stepped : (index : ℕ) (s : ServerState) → element_at w.servers index ≡ Some s → (moment : ℕ) (i : Input) (choice : Choice) → ((m : Message) → i ≡ input.Deliver m → IsSent w.sent m)
+  stepped : (index : ℕ) (s : ServerState) → element_at w.servers index ≡ Some s → (moment : ℕ) (i : NodeInput) (choice : Choice) → ((m : Message) → i ≡ input.Deliver m → IsSent w.sent m)
       → AreCounting (By w.sent) (suc index) (server_step s moment i choice).state.leases × AllOf (IsSettledSeen (By w.sent) (suc index) (server_at s moment) (server_step s moment i choice).state.leases) (server_step s moment i choice).seen
   stepped index s at moment i choice came =
       step_counting (By w.sent) (suc index) s moment i choice (λ m q v n is body_is. sent_acked w.sent h.from m (came m is) q v n body_is) (server_id_is config servers clients w r index s at) (h.counting index s at)

@@ -13,8 +13,8 @@ use Rattle.gfs_types.specs.declared.ids.Serial.{Serial}
 use Rattle.gfs_types.specs.declared.ids.Node.TheVariants as node
 use Rattle.gfs_types.specs.Mutations.{start_of}
 use Rattle.messages.specs.declared.event.Event.{Event}
-use Rattle.messages.specs.declared.event.Input.{Input}
-use Rattle.messages.specs.declared.event.Input.TheVariants as input
+use Rattle.messages.specs.declared.event.NodeInput.{NodeInput}
+use Rattle.messages.specs.declared.event.NodeInput.TheVariants as input
 use Rattle.messages.specs.declared.message.Body.{Body}
 use Rattle.messages.specs.declared.message.Body.TheVariants as body
 use Rattle.messages.specs.declared.message.Message.{Message}
@@ -89,28 +89,28 @@ Apart index other = other ≡ index → ⊥
 
 -- what each event keeps that leads from this world to one that is reached, with kept clocks and disks
 pub record Keeps (J : ShownBy) (K : AppliedBy) (config : Config) (servers clients : ℕ) (w : WorldState) (Later : WorldState → Type 0) : Type 0 where
-  pub carries : (index : ℕ) (s : ServerState) (i : Input) → element_at w.servers index ≡ Some s → IsTrue s.up
+  pub carries : (index : ℕ) (s : ServerState) (i : NodeInput) → element_at w.servers index ≡ Some s → IsTrue s.up
       → ((m : Message) → i ≡ input.Deliver m → (place : ℕ) × (element_at w.sent place ≡ Some m) × (m.receiver ≡ the_server (suc index))) → Carries s i (J w) (K w index)
   -- the replicas that a step of a server leaves
-  pub served : (e : Event) (index moment : ℕ) (s : ServerState) (i : Input) (choice : Choice) → element_at w.servers index ≡ Some s → IsGiven w e (the_server (suc index)) moment i → IsTrue s.up
+  pub served : (e : Event) (index moment : ℕ) (s : ServerState) (i : NodeInput) (choice : Choice) → element_at w.servers index ≡ Some s → IsGiven w e (the_server (suc index)) moment i → IsTrue s.up
       → Later (after_server w index moment (server_step s moment i choice)).world → (handle : ℕ) (x : Replica) → IsFound (server_step s moment i choice).state handle x
       → (g : IsImageOf w.config.chunk (placed_in (after_server w index moment (server_step s moment i choice)).world.observer.orders handle) x.version x.serial x.bytes)
       → K w index handle x.version (marked g.marks (placed_in (after_server w index moment (server_step s moment i choice)).world.observer.orders handle))
       → K (after_server w index moment (server_step s moment i choice)).world index handle x.version (marked g.marks (placed_in (after_server w index moment (server_step s moment i choice)).world.observer.orders handle))
   -- an Image that it sends
-  pub shown : (e : Event) (index moment : ℕ) (s : ServerState) (i : Input) (choice : Choice) → element_at w.servers index ≡ Some s → IsGiven w e (the_server (suc index)) moment i → IsTrue s.up
+  pub shown : (e : Event) (index moment : ℕ) (s : ServerState) (i : NodeInput) (choice : Choice) → element_at w.servers index ≡ Some s → IsGiven w e (the_server (suc index)) moment i → IsTrue s.up
       → Later (after_server w index moment (server_step s moment i choice)).world → (m : Message) → IsSent (server_step s moment i choice).out.sent m
       → (handle : Handle) (version : Version) (serial : Serial) (bytes : List ℕ) → m.body ≡ body.Image handle version serial bytes → (x : Replica) → replica_of s.disk handle.0 ≡ Some x → x.version ≡ version.0
       → (ps : List Placed) → K w index handle.0 version.0 ps → J (after_server w index moment (server_step s moment i choice)).world handle.0 version.0 ps
   -- what stays over each kind of event
-  pub masters : (e : Event) (moment : ℕ) (i : Input) (choice : Choice) → IsGiven w e node.Master moment i → IsTrue w.master.up
+  pub masters : (e : Event) (moment : ℕ) (i : NodeInput) (choice : Choice) → IsGiven w e node.Master moment i → IsTrue w.master.up
       → Later (after_master w moment (master_step w.master moment i choice)).world → Stays J K Each w (after_master w moment (master_step w.master moment i choice)).world
   pub opens : (e : Event) (moment : ℕ) (choice : Choice) → Later (after_master w moment (master_restart w.master moment choice)).world → Stays J K Each w (after_master w moment (master_restart w.master moment choice)).world
-  pub serves : (e : Event) (index moment : ℕ) (s : ServerState) (i : Input) (choice : Choice) → element_at w.servers index ≡ Some s → IsGiven w e (the_server (suc index)) moment i → IsTrue s.up
+  pub serves : (e : Event) (index moment : ℕ) (s : ServerState) (i : NodeInput) (choice : Choice) → element_at w.servers index ≡ Some s → IsGiven w e (the_server (suc index)) moment i → IsTrue s.up
       → Later (after_server w index moment (server_step s moment i choice)).world → Stays J K (Apart index) w (after_server w index moment (server_step s moment i choice)).world
   pub restarts : (e : Event) (index moment : ℕ) (s : ServerState) (choice : Choice) → element_at w.servers index ≡ Some s
       → Later (after_server w index moment (server_restart s moment choice)).world → Stays J K Each w (after_server w index moment (server_restart s moment choice)).world
-  pub steps : (e : Event) (index moment : ℕ) (s : ClientState) (i : Input) (choice : Choice) → element_at w.clients index ≡ Some s → IsGiven w e (the_client (suc index)) moment i → IsTrue s.up
+  pub steps : (e : Event) (index moment : ℕ) (s : ClientState) (i : NodeInput) (choice : Choice) → element_at w.clients index ≡ Some s → IsGiven w e (the_client (suc index)) moment i → IsTrue s.up
       → Later (after_client w index moment (client_step s moment i choice)).world → Stays J K Each w (after_client w index moment (client_step s moment i choice)).world
   pub calls : (e : Event) (index moment : ℕ) (s : ClientState) (c : Call) (choice : Choice) → element_at w.clients index ≡ Some s → IsTrue (may_call s)
       → Later (after_client (with_call w index moment c) index moment (client_call s moment c choice)).world → Stays J K Each w (after_client (with_call w index moment c) index moment (client_call s moment c choice)).world
@@ -240,7 +240,7 @@ module _ (J : ShownBy) (K : AppliedBy) (config : Config) (servers clients : ℕ)
           ]
 
     -- a step of a server
-    module _ (kept : IsTrue (is_kept w)) (keeps : KeepsOn w) (e : Event) (index moment : ℕ) (s : ServerState) (i : Input) (choice : Choice) (at : element_at w.servers index ≡ Some s) (given : IsGiven w e (the_server (suc index)) moment i) (up : IsTrue s.up) where
+    module _ (kept : IsTrue (is_kept w)) (keeps : KeepsOn w) (e : Event) (index moment : ℕ) (s : ServerState) (i : NodeInput) (choice : Choice) (at : element_at w.servers index ≡ Some s) (given : IsGiven w e (the_server (suc index)) moment i) (up : IsTrue s.up) where
       abbrev v : WorldState
       v = (after_server w index moment (server_step s moment i choice)).world
 

@@ -19,8 +19,8 @@ use Rattle.messages.specs.declared.message.Holder.{Holder}
 use Rattle.messages.specs.declared.message.Wanted.{Wanted}
 use Rattle.messages.specs.declared.message.Wanted.TheVariants as wanted
 use Rattle.messages.specs.declared.message.NameReply.TheVariants.{Answered}
-use Rattle.messages.specs.declared.event.Input.{Input}
-use Rattle.messages.specs.declared.event.Input.TheVariants as input
+use Rattle.messages.specs.declared.event.NodeInput.{NodeInput}
+use Rattle.messages.specs.declared.event.NodeInput.TheVariants as input
 use Rattle.log_records.specs.declared.record.Record.{Record}
 use Rattle.log_records.specs.declared.record.Record.TheVariants as log
 use Rattle.relaxed_file.specs.NameStep.{needs_room}
@@ -533,7 +533,7 @@ plain_higher m seen (body.SetVersion order handle version base) none = true_fals
 plain_higher m seen (body.CopyLocal order handle version copy copy_version) none = true_false none
 plain_higher m seen other none = tt
 
-unasked : (m n : MasterState) (seen : List Seen) (i : Input) → (IsAsk i → ⊥) → Causes m.logged m.attempts i (λ x. IsHigher n seen x.body)
+unasked : (m n : MasterState) (seen : List Seen) (i : NodeInput) → (IsAsk i → ⊥) → Causes m.logged m.attempts i (λ x. IsHigher n seen x.body)
 unasked m n seen i none =
     record {
       plain = λ receiver b is. plain_higher n seen b is;
@@ -546,7 +546,7 @@ unasked m n seen i none =
 
 -- what the master orders of versions in a step
 pub step_higher : (m : MasterState) → IsLow m → AreOwn m
-    → ((handle : ℕ) (row : ChunkRow) → chunk_of m.logged.table handle ≡ Some row → row.granted ≤ row.issued) → (moment : ℕ) (i : Input) (choice : Choice)
+    → ((handle : ℕ) (row : ChunkRow) → chunk_of m.logged.table handle ≡ Some row → row.granted ≤ row.issued) → (moment : ℕ) (i : NodeInput) (choice : Choice)
     → AllOf (λ x. IsHigher (master_at m moment) (master_step m moment i choice).seen x.body) (master_step m moment i choice).out.sent
 step_higher m low apart issued moment input.Tick choice = step_caused m moment input.Tick choice _ issued (unasked m (master_at m moment) (master_step m moment input.Tick choice).seen input.Tick (λ ask. absurd (let both = ask.taken in cc)))
 step_higher m low apart issued moment (input.Deliver x) choice = by_body x.body refl

@@ -2,7 +2,7 @@
 use Rattle.std.proofs.Common.{◌≡◌, ℕ, suc, true, false, List, [], take, drop, refl, sym, subst}
 use Rattle.std.specs.Prelude.{◌&&◌, IsTrue}
 use Rattle.gfs_types.specs.declared.config.Config.{Config}
-use Rattle.messages.specs.declared.event.Input.{Input}
+use Rattle.messages.specs.declared.event.NodeInput.{NodeInput}
 use Rattle.messages.specs.declared.message.Message.{Message}
 use Rattle.log_records.specs.declared.record.Record.{Record}
 use Rattle.log_records.specs.declared.record.Record.TheVariants as log
@@ -104,7 +104,7 @@ module _ (handle : ℕ) where
   ends_begun m d choice Lost h n g = down_begun m m.disk [] (found_same (IsLogBegun handle) m.disk (h.found []))
   ends_begun m d choice (Stops made) h n g = down_begun m (log_changed_by_all m.disk (take made d.changes)) (take 1 (drop made d.changes)) (found_stopped (IsLogBegun handle) m.disk d.changes made g.stops)
 
-  pub step_begun : (m : MasterState) (moment : ℕ) (i : Input) (choice : Choice) → IsLogged IsFoundRows IsRowedLog rows_kept m → WaitsHere m → HasBegun handle m → HasBegun handle (master_step m moment i choice).state
+  pub step_begun : (m : MasterState) (moment : ℕ) (i : NodeInput) (choice : Choice) → IsLogged IsFoundRows IsRowedLog rows_kept m → WaitsHere m → HasBegun handle m → HasBegun handle (master_step m moment i choice).state
   step_begun m moment i choice logged waits h =
       let d : MasterDoing = master_goes m moment i choice.refused in
       let good : Taken MasterState → Type 0 = λ t. HasBegun handle t.state in

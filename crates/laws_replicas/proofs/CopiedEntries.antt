@@ -9,8 +9,8 @@ use Rattle.gfs_types.specs.declared.ids.Version.{Version}
 use Rattle.gfs_types.specs.declared.ids.OrderNo.{OrderNo}
 use Rattle.relaxed_file.specs.Run.{Visible}
 use Rattle.messages.specs.declared.event.Event.{Event}
-use Rattle.messages.specs.declared.event.Input.{Input}
-use Rattle.messages.specs.declared.event.Input.TheVariants as input
+use Rattle.messages.specs.declared.event.NodeInput.{NodeInput}
+use Rattle.messages.specs.declared.event.NodeInput.TheVariants as input
 use Rattle.messages.specs.declared.message.Body.{Body}
 use Rattle.messages.specs.declared.message.Body.TheVariants as body
 use Rattle.messages.specs.declared.message.Message.{Message}
@@ -198,11 +198,11 @@ module _ (config : Config) (servers clients : ℕ) (w : WorldState) (r : IsReach
           absurd (omega (arith, none, one, least))
 
   -- what a step of the master orders of versions
-  pub says_higher : (moment : ℕ) (i : Input) (choice : Choice) → IsTrue w.master.up → AllOf (λ x. IsHigher (master_at w.master moment) (master_step w.master moment i choice).seen x.body) (master_step w.master moment i choice).out.sent
+  pub says_higher : (moment : ℕ) (i : NodeInput) (choice : Choice) → IsTrue w.master.up → AllOf (λ x. IsHigher (master_at w.master moment) (master_step w.master moment i choice).seen x.body) (master_step w.master moment i choice).out.sent
   says_higher moment i choice up =
       step_higher w.master (λ handle server version held. (held_found up handle server version held).1) (own_chunks up) (granted_is_at_most_issued config servers clients w r) moment i choice
 
-  higher_brought : (moment : ℕ) (i : Input) (choice : Choice) → IsTrue w.master.up → (b : Body) → IsHigher (master_at w.master moment) (master_step w.master moment i choice).seen b → IsBrought w (after_master w moment (master_step w.master moment i choice)).world b
+  higher_brought : (moment : ℕ) (i : NodeInput) (choice : Choice) → IsTrue w.master.up → (b : Body) → IsHigher (master_at w.master moment) (master_step w.master moment i choice).seen b → IsBrought w (after_master w moment (master_step w.master moment i choice)).world b
   higher_brought moment i choice up (body.SetVersion order handle version base) h = h.0
   higher_brought moment i choice up (body.CopyLocal order handle version copy copy_version) h = (
     h.below,
@@ -213,14 +213,14 @@ module _ (config : Config) (servers clients : ℕ) (w : WorldState) (r : IsReach
   )
   higher_brought moment i choice up other h = tt
 
-  master_brings : (moment : ℕ) (i : Input) (choice : Choice) → IsTrue w.master.up → AreBrought w (after_master w moment (master_step w.master moment i choice)).world
+  master_brings : (moment : ℕ) (i : NodeInput) (choice : Choice) → IsTrue w.master.up → AreBrought w (after_master w moment (master_step w.master moment i choice)).world
   master_brings moment i choice up =
       let v : WorldState = (after_master w moment (master_step w.master moment i choice)).world in
       new_brought w v (suc (length w.sent)) (master_step w.master moment i choice).out.sent
       (all_as (λ x. IsHigher (master_at w.master moment) (master_step w.master moment i choice).seen x.body) (λ x. IsBrought w v x.body) (λ x h. higher_brought moment i choice up x.body h) (master_step w.master moment i choice).out.sent
       (says_higher moment i choice up))
 
-  master_shrinks : (moment : ℕ) (i : Input) (choice : Choice) → HaveShrunk w (after_master w moment (master_step w.master moment i choice)).world
+  master_shrinks : (moment : ℕ) (i : NodeInput) (choice : Choice) → HaveShrunk w (after_master w moment (master_step w.master moment i choice)).world
   master_shrinks moment i choice clocks before handle version shut =
       elim (step_shows w.master moment i choice waiting.base.logged waiting.waits) [
         | inl none ↦ subst (λ (xs : List Seen). Follows (IsUpTo version) (placed_in (orders_after_all trace w.observer.orders xs) handle) (placed_in w.observer.orders handle)) (sym none) (same_follows (IsUpTo version) (placed_in w.observer.orders handle))
@@ -234,7 +234,7 @@ module _ (config : Config) (servers clients : ℕ) (w : WorldState) (r : IsReach
 
   -- a server
 
-  server_past : (index moment : ℕ) (s : ServerState) (i : Input) (choice : Choice) → element_at w.servers index ≡ Some s → ((m : Message) → i ≡ input.Deliver m → IsAmong w.sent m) → IsTrue (observed_moment w.config.skew_ms w.observer moment).are_clocks_kept
+  server_past : (index moment : ℕ) (s : ServerState) (i : NodeInput) (choice : Choice) → element_at w.servers index ≡ Some s → ((m : Message) → i ≡ input.Deliver m → IsAmong w.sent m) → IsTrue (observed_moment w.config.skew_ms w.observer moment).are_clocks_kept
       → IsTrue w.observer.are_clocks_kept → (handle version : ℕ) → AreShut w handle version → AllOf (IsPast version handle) (server_step s moment i choice).seen
   server_past index moment s i choice there came clocks before handle version shut =
       all_placed (IsPast version handle) (server_step s moment i choice).seen

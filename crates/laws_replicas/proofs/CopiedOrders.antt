@@ -7,8 +7,8 @@ use Rattle.std.proofs.Math.Nat.{le-max_left}
 use Rattle.std.proofs.lemmas.Bool.{and_parts, and_from, cases_lt}
 use Rattle.gfs_types.specs.declared.config.Config.{Config}
 use Rattle.gfs_types.specs.declared.answer.Answer.{Answer}
-use Rattle.messages.specs.declared.event.Input.{Input}
-use Rattle.messages.specs.declared.event.Input.TheVariants as input
+use Rattle.messages.specs.declared.event.NodeInput.{NodeInput}
+use Rattle.messages.specs.declared.event.NodeInput.TheVariants as input
 use Rattle.messages.specs.declared.message.Body.{Body}
 use Rattle.messages.specs.declared.message.Message.{Message}
 use Rattle.log_records.specs.declared.record.Record.TheVariants as log
@@ -197,9 +197,9 @@ module _ (config : Config) (servers clients : ℕ) (w : WorldState) (r : IsReach
   -- one step
 
   module _ (behind : AreBehind w.master.logged) where
-    goes_asked : (moment : ℕ) (i : Input) (refused : List Bool) (ask : IsAsk i) → IsAlike w.master.logged.copies (master_goes w.master moment i refused)
+    goes_asked : (moment : ℕ) (i : NodeInput) (refused : List Bool) (ask : IsAsk i) → IsAlike w.master.logged.copies (master_goes w.master moment i refused)
     goes_asked moment i refused ask =
-        subst (λ (j : Input). IsAlike m.logged.copies (master_goes m moment j refused)) (sym ask.taken)
+        subst (λ (j : NodeInput). IsAlike m.logged.copies (master_goes m moment j refused)) (sym ask.taken)
         (ready (IsAlike m.logged.copies) (names_alike m.logged.copies) done done.master.snapshots
         (subst (λ (b : Body). IsAlike m.logged.copies (master_takes first x b)) (sym ask.is)
         (ask_post m.logged below source_used copy_used apart behind first x.sender ask.number (ask.file).0 ask.what (ask.deadline).0 ask.lost (begun_plain m.logged below source_used copy_used apart behind first refl refl))))
@@ -213,7 +213,7 @@ module _ (config : Config) (servers clients : ℕ) (w : WorldState) (r : IsReach
         done : MasterDoing
         done = master_takes first x x.body
 
-    goes_alike : AreFree w.master.logged w.master.attempts w.master.now → (moment : ℕ) (i : Input) (refused : List Bool) → IsAlike w.master.logged.copies (master_goes w.master moment i refused)
+    goes_alike : AreFree w.master.logged w.master.attempts w.master.now → (moment : ℕ) (i : NodeInput) (refused : List Bool) → IsAlike w.master.logged.copies (master_goes w.master moment i refused)
     goes_alike free moment i refused =
         elim (asked_or_not i) [
           | inl none ↦
@@ -244,7 +244,7 @@ module _ (config : Config) (servers clients : ℕ) (w : WorldState) (r : IsReach
         IsTrue t.state.up → AreBehind t.state.logged
         × ((copy : ℕ) (c : Copy) → table.get t.state.logged.copies copy ≡ Some c → (table.get w.master.logged.copies copy ≡ Some c) ⊎ (t.seen ≡ CopyStarted (handle_of c.source) (handle_of copy) ∷ []))
 
-    stepped : (moment : ℕ) (i : Input) (choice : Choice) → IsStepped (master_step w.master moment i choice)
+    stepped : (moment : ℕ) (i : NodeInput) (choice : Choice) → IsStepped (master_step w.master moment i choice)
     stepped moment i choice =
         let d : MasterDoing = master_goes w.master moment i choice.refused in
         on_cond IsStepped w.master.up (master_bounded w.master d choice) (no_step w.master)
@@ -258,7 +258,7 @@ module _ (config : Config) (servers clients : ℕ) (w : WorldState) (r : IsReach
         by_ending up Lost = λ now. absurd (let both : false ≡ true = now in cc)
         by_ending up (Stops made) = λ now. absurd (let both : false ≡ true = now in cc)
 
-    masters_good : (trace : List Visible) (moment : ℕ) (i : Input) (choice : Choice) → IsTrue w.master.up
+    masters_good : (trace : List Visible) (moment : ℕ) (i : NodeInput) (choice : Choice) → IsTrue w.master.up
         → AreGood (master_step w.master moment i choice).state (orders_after_all trace w.observer.orders (master_step w.master moment i choice).seen)
     masters_good trace moment i choice up = λ now.
         let steps = stepped moment i choice now in (
@@ -275,7 +275,7 @@ module _ (config : Config) (servers clients : ℕ) (w : WorldState) (r : IsReach
         )
 
   -- a server shows nothing of a chunk whose leases are over
-  server_still : (q index moment : ℕ) (s : ServerState) (i : Input) (choice : Choice) → AreLeasesOver w q → element_at w.servers index ≡ Some s → ((x : Message) → i ≡ input.Deliver x → IsAmong w.sent x) → IsTrue (observed_moment w.config.skew_ms w.observer moment).are_clocks_kept
+  server_still : (q index moment : ℕ) (s : ServerState) (i : NodeInput) (choice : Choice) → AreLeasesOver w q → element_at w.servers index ≡ Some s → ((x : Message) → i ≡ input.Deliver x → IsAmong w.sent x) → IsTrue (observed_moment w.config.skew_ms w.observer moment).are_clocks_kept
       → placed_in (orders_after_all (observed_moment w.config.skew_ms w.observer moment).trace w.observer.orders (server_step s moment i choice).seen) q ≡ placed_in w.observer.orders q
   server_still q index moment s i choice over at came clocks =
       all_still q (observed_moment w.config.skew_ms w.observer moment).trace w.observer.orders (server_step s moment i choice).seen

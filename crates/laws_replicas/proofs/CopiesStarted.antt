@@ -5,8 +5,8 @@ use Rattle.std.proofs.Math.Nat.{le-max_left}
 use Rattle.gfs_types.specs.declared.ids.Node.{Node}
 use Rattle.gfs_types.specs.declared.ids.Node.TheVariants as node
 use Rattle.gfs_types.specs.declared.refusal.Refusal.TheVariants.{TooLong}
-use Rattle.messages.specs.declared.event.Input.{Input}
-use Rattle.messages.specs.declared.event.Input.TheVariants as input
+use Rattle.messages.specs.declared.event.NodeInput.{NodeInput}
+use Rattle.messages.specs.declared.event.NodeInput.TheVariants as input
 use Rattle.messages.specs.declared.message.Body.{Body}
 use Rattle.messages.specs.declared.message.Body.TheVariants as body
 use Rattle.messages.specs.declared.message.Message.{Message}
@@ -270,11 +270,11 @@ module _ (m : MasterState) where
         ]
     took_fine x other = inl (ready [] (master_takes First x other) (took [] First x other tt refl))
 
-    goes_fine : (i : Input) → Fine (master_goes m moment i refused)
+    goes_fine : (i : NodeInput) → Fine (master_goes m moment i refused)
     goes_fine (input.Deliver x) = took_fine x x.body
     goes_fine input.Tick = inl (ready [] (master_ticks First) (ticked [] First refl))
 
-    goes_rowing : (i : Input) → IsRowing m.disk (core_of (master_goes m moment i refused))
+    goes_rowing : (i : NodeInput) → IsRowing m.disk (core_of (master_goes m moment i refused))
     goes_rowing i =
         let u : IsUpToLog IsFoundRows IsRowedLog rows_kept m = logged.up up in
         (goes_acts NoneEnded (IsRowing m.disk) Anything m moment i refused (rowing_keeps m.disk) (λ c n. n) (any_acts m.disk) (any_input i) logged up wait
@@ -303,7 +303,7 @@ ends_started m d choice Goes n (inr h) source copy is =
 ends_started m d choice Lost n h source copy is = silent_starts (master_ends m d choice Lost) refl source copy is
 ends_started m d choice (Stops made) n h source copy is = silent_starts (master_ends m d choice (Stops made)) refl source copy is
 
-pub step_starts : (m : MasterState) (moment : ℕ) (i : Input) (choice : Choice) → IsLogged IsFoundRows IsRowedLog rows_kept m → WaitsHere m → StartsCopies (master_step m moment i choice)
+pub step_starts : (m : MasterState) (moment : ℕ) (i : NodeInput) (choice : Choice) → IsLogged IsFoundRows IsRowedLog rows_kept m → WaitsHere m → StartsCopies (master_step m moment i choice)
 step_starts m moment i choice logged waits =
     let d : MasterDoing = master_goes m moment i choice.refused in
     on_cond StartsCopies m.up (master_bounded m d choice) (no_step m)

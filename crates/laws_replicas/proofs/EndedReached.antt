@@ -8,8 +8,8 @@ use Rattle.std.proofs.lemmas.Bool.{true≢false}
 use Rattle.gfs_types.specs.declared.config.Config.{Config}
 use Rattle.gfs_types.specs.Mutations.{start_of}
 use Rattle.messages.specs.declared.event.Event.{Event}
-use Rattle.messages.specs.declared.event.Input.{Input}
-use Rattle.messages.specs.declared.event.Input.TheVariants as input
+use Rattle.messages.specs.declared.event.NodeInput.{NodeInput}
+use Rattle.messages.specs.declared.event.NodeInput.TheVariants as input
 use Rattle.messages.specs.declared.message.Body.{Body}
 use Rattle.messages.specs.declared.message.Body.TheVariants as body
 use Rattle.messages.specs.declared.message.Message.{Message}
@@ -98,7 +98,7 @@ module _ (config : Config) (servers clients : ℕ) (w : WorldState) (r : IsReach
 
   -- a step of a server
 
-  module _ (index moment : ℕ) (s : ServerState) (i : Input) (choice : Choice) (at : element_at w.servers index ≡ Some s) where
+  module _ (index moment : ℕ) (s : ServerState) (i : NodeInput) (choice : Choice) (at : element_at w.servers index ≡ Some s) where
     abbrev trace : List Visible
     trace = (observed_moment w.config.skew_ms w.observer moment).trace
 

@@ -12,8 +12,8 @@ use Rattle.gfs_types.specs.declared.ids.OrderNo.{OrderNo}
 use Rattle.gfs_types.specs.declared.mutation.Mutation.{Mutation}
 use Rattle.gfs_types.specs.declared.mutation.Mutation.TheVariants as mutation
 use Rattle.gfs_types.specs.Mutations.{start_of, end_of}
-use Rattle.messages.specs.declared.event.Input.{Input}
-use Rattle.messages.specs.declared.event.Input.TheVariants as input
+use Rattle.messages.specs.declared.event.NodeInput.{NodeInput}
+use Rattle.messages.specs.declared.event.NodeInput.TheVariants as input
 use Rattle.messages.specs.declared.message.Body.{Body}
 use Rattle.messages.specs.declared.message.Body.TheVariants as body
 use Rattle.messages.specs.declared.message.Message.{Message}
@@ -143,7 +143,7 @@ pub record LeavesOrders (w : WorldState) (trace : List Visible) (seen : List See
       → (n : ℕ) × (p : Placed) × (element_at (placed_in orders handle.0) n ≡ Some p) × (unsettled p ≡ new_entry trace version.0 serial.0 id m)
 
 module _ (config : Config) (servers clients : ℕ) (w : WorldState) (r : IsReached config servers clients w) (clocks : IsTrue w.observer.are_clocks_kept) (said : (m : Message) → IsSent w.sent m → IsImageEnded w.config.chunk w.observer.orders m.body)
-    (index : ℕ) (s : ServerState) (at : element_at w.servers index ≡ Some s) (here : AreEndedIn w.config.chunk w.observer.orders s.disk) (moment : ℕ) (i : Input) (came : (m : Message) → i ≡ input.Deliver m → IsSent w.sent m) where
+    (index : ℕ) (s : ServerState) (at : element_at w.servers index ≡ Some s) (here : AreEndedIn w.config.chunk w.observer.orders s.disk) (moment : ℕ) (i : NodeInput) (came : (m : Message) → i ≡ input.Deliver m → IsSent w.sent m) where
   size_is : s.config.chunk ≡ w.config.chunk
   size_is = ap (λ (c : Config). c.chunk) ((servers_within config servers clients w r index s at).set ∙ sym (settings_stay config servers clients w r))
 
@@ -304,7 +304,7 @@ module _ (config : Config) (servers clients : ℕ) (w : WorldState) (r : IsReach
               (subst Good (sym (changed_last s.disk c.before c.x)) (changed (disk_changed_by_all s.disk c.before) (numbers_quiet s.disk c.before c.quiet) m taken c.x c.cause))
         ])
 
-    goes_good : (j : Input) → i ≡ j → (n : ℕ) (xs : List StoreChange) → AreMadeOn (server_at s moment) j xs (server_goes s moment i).seen → Good (disk_changed_by_all s.disk (take n xs))
+    goes_good : (j : NodeInput) → i ≡ j → (n : ℕ) (xs : List StoreChange) → AreMadeOn (server_at s moment) j xs (server_goes s moment i).seen → Good (disk_changed_by_all s.disk (take n xs))
     goes_good (input.Deliver m) is n xs made = made_good m is n xs made
     goes_good input.Tick is n xs made = taken_quiet n xs made
 

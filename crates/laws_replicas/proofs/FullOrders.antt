@@ -15,8 +15,8 @@ use Rattle.gfs_types.specs.declared.refusal.Refusal.TheVariants.{ChunkFull}
 use Rattle.gfs_types.specs.declared.mutation.Mutation.TheVariants.{Pad}
 use Rattle.gfs_types.specs.Mutations.{end_of}
 use Rattle.messages.specs.declared.event.Event.{Event}
-use Rattle.messages.specs.declared.event.Input.{Input}
-use Rattle.messages.specs.declared.event.Input.TheVariants as input
+use Rattle.messages.specs.declared.event.NodeInput.{NodeInput}
+use Rattle.messages.specs.declared.event.NodeInput.TheVariants as input
 use Rattle.messages.specs.declared.message.Body.{Body}
 use Rattle.messages.specs.declared.message.Body.TheVariants as body
 use Rattle.messages.specs.declared.message.Message.{Message}
@@ -169,7 +169,7 @@ module _ (config : Config) (servers clients : ℕ) (some : 1 ≤ config.chunk) w
           ]
 
     -- a server's step on an attempt that is new
-    module _ (index moment : ℕ) (s : ServerState) (i : Input) (choice : Choice) (at : element_at w.servers index ≡ Some s) (up : IsTrue s.up) (came : (m : Message) → i ≡ input.Deliver m → IsAmong w.sent m) where
+    module _ (index moment : ℕ) (s : ServerState) (i : NodeInput) (choice : Choice) (at : element_at w.servers index ≡ Some s) (up : IsTrue s.up) (came : (m : Message) → i ≡ input.Deliver m → IsAmong w.sent m) where
       abbrev After : Happened
       After = after_server w index moment (server_step s moment i choice)
 
@@ -235,7 +235,7 @@ module _ (config : Config) (servers clients : ℕ) (some : 1 ≤ config.chunk) w
             chunk_is = ap (λ (g : Config). g.chunk) (servers_within config servers clients w r index s at).set
 
             goes_is : server_goes s moment i ≡ mutates_under (server_begins (server_at s moment)) handle.0 id t deadline.0 (primary_of (server_at s moment) handle.0 version.0)
-            goes_is = ap (λ (j : Input). server_goes s moment j) is ∙ ap (λ (b : Body). server_takes (server_begins (server_at s moment)) m b) asked
+            goes_is = ap (λ (j : NodeInput). server_goes s moment j) is ∙ ap (λ (b : Body). server_takes (server_begins (server_at s moment)) m b) asked
 
             shown : element_at (server_step s moment i choice).seen 0 ≡ element_at (server_goes s moment i).seen 0
             shown = ap (λ (x : Taken ServerState). element_at x.seen 0) (whole_step ∙ ap (λ (e : Ending). server_ends s (server_goes s moment i) choice e) goes)

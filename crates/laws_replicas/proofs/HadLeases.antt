@@ -7,7 +7,7 @@ use Rattle.gfs_types.specs.declared.ids.Version.{Version}
 use Rattle.gfs_types.specs.declared.ids.Moment.{Moment}
 use Rattle.gfs_types.specs.declared.ids.OrderNo.{OrderNo}
 use Rattle.leases.specs.LeaseHeld.{LeaseHeld}
-use Rattle.messages.specs.declared.event.Input.{Input}
+use Rattle.messages.specs.declared.event.NodeInput.{NodeInput}
 use Rattle.messages.specs.declared.message.Body.{Body}
 use Rattle.messages.specs.declared.message.Body.TheVariants as body
 use Rattle.primary_order.specs.declared.order.SerialOrder.{SerialOrder}
@@ -93,7 +93,7 @@ module _ (handle version : ℕ) (Came : Body → Type 0) (s : ServerState) where
   ends_known d choice (Stops made) h = none_known
 
   -- after a step
-  pub step_known : (moment : ℕ) (i : Input) (choice : Choice) → IsCameIn Came i → AreKnown (server_step s moment i choice).state.leases
+  pub step_known : (moment : ℕ) (i : NodeInput) (choice : Choice) → IsCameIn Came i → AreKnown (server_step s moment i choice).state.leases
   step_known moment i choice came =
       on_cond (λ (t : Taken ServerState). AreKnown t.state.leases) s.up (server_ends s (server_goes s moment i) choice choice.ending) (no_step s)
       (λ _. ends_known (server_goes s moment i) choice choice.ending (server_goes_holds Came Fine fine_kept s moment i came (same_later s.disk, λ p is same. inl (p, is, same))).1) (λ _. λ p is same. inl (p, is, same))

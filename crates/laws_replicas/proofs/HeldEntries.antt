@@ -12,8 +12,8 @@ use Rattle.gfs_types.specs.declared.ids.OrderNo.{OrderNo}
 use Rattle.gfs_types.specs.declared.mutation.Mutation.{Mutation}
 use Rattle.gfs_types.specs.declared.mutation.Mutation.TheVariants.{Write, Append, Pad}
 use Rattle.messages.specs.declared.event.Event.{Event}
-use Rattle.messages.specs.declared.event.Input.{Input}
-use Rattle.messages.specs.declared.event.Input.TheVariants as input
+use Rattle.messages.specs.declared.event.NodeInput.{NodeInput}
+use Rattle.messages.specs.declared.event.NodeInput.TheVariants as input
 use Rattle.messages.specs.declared.message.Body.TheVariants as body
 use Rattle.messages.specs.declared.message.Message.{Message}
 use Rattle.primary_order.specs.declared.order.SerialOrder.{SerialOrder}
@@ -138,12 +138,12 @@ applied_serial size serial (Append offset bytes) r = refl
 applied_serial size serial (Pad offset) r = refl
 
 -- what is delivered to a server was sent to it
-sent_to : (w : WorldState) (e : Event) (server moment : ℕ) (i : Input) → IsGiven w e (the_server server) moment i → IsSentTo w.sent (the_server server) i
+sent_to : (w : WorldState) (e : Event) (server moment : ℕ) (i : NodeInput) → IsGiven w e (the_server server) moment i → IsSentTo w.sent (the_server server) i
 sent_to w e server moment (input.Deliver m) given = comes_in w e server moment (input.Deliver m) given m refl
 sent_to w e server moment input.Tick given = tt
 
 -- a server that has a lease after a step went through it
-held_idle : (s : ServerState) (moment : ℕ) (i : Input) (choice : Choice) → s.under_way ≡ [] → (handle : ℕ) (p : SerialOrder) → table.get (server_step s moment i choice).state.leases handle ≡ Some p → (server_step s moment i choice).state.under_way ≡ []
+held_idle : (s : ServerState) (moment : ℕ) (i : NodeInput) (choice : Choice) → s.under_way ≡ [] → (handle : ℕ) (p : SerialOrder) → table.get (server_step s moment i choice).state.leases handle ≡ Some p → (server_step s moment i choice).state.under_way ≡ []
 held_idle s moment i choice idle handle p =
     on_cond (λ (t : Taken ServerState). table.get t.state.leases handle ≡ Some p → t.state.under_way ≡ []) s.up (server_ends s (server_goes s moment i) choice choice.ending) (no_step s) (λ _. ends choice.ending) (λ _ held. idle)
   where
@@ -159,7 +159,7 @@ module _ (config : Config) (servers clients : ℕ) (w : WorldState) (r : IsReach
     was_in : AreAll (IsIn handle version ps) w.observer.orders
     was_in = round_all handle version ps w.observer.orders (has u there p held same)
 
-    pub master_round : (trace : List Visible) (moment : ℕ) (i : Input) (choice : Choice) → HasRound (placed_in (orders_after_all trace w.observer.orders (master_step w.master moment i choice).seen) handle) version ps
+    pub master_round : (trace : List Visible) (moment : ℕ) (i : NodeInput) (choice : Choice) → HasRound (placed_in (orders_after_all trace w.observer.orders (master_step w.master moment i choice).seen) handle) version ps
     master_round trace moment i choice =
         all_round handle version ps (orders_after_all trace w.observer.orders (master_step w.master moment i choice).seen)
         (elim (step_shows w.master moment i choice base.base.logged base.waits) [
@@ -174,7 +174,7 @@ module _ (config : Config) (servers clients : ℕ) (w : WorldState) (r : IsReach
         base = sent_reached IsOfWaits waits_kept config servers clients w r
 
   -- a step of a server
-  module _ (index : ℕ) (s : ServerState) (at : element_at w.servers index ≡ Some s) (i : Input) where
+  module _ (index : ℕ) (s : ServerState) (at : element_at w.servers index ≡ Some s) (i : NodeInput) where
     module _ (came : (m : Message) → i ≡ input.Deliver m → (place : ℕ) × (element_at w.sent place ≡ Some m) × (m.receiver ≡ the_server (suc index))) where
       -- a new order gives no version of which a lease is held
       unheld : (m : Message) → i ≡ input.Deliver m → (handle version : ℕ) → version_given m.body ≡ Some (handle, version) → (order : OrderNo) → order_number m.body ≡ Some order → is_new_order s.disk order.epoch order.count ≡ true

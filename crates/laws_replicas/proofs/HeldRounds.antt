@@ -12,8 +12,8 @@ use Rattle.gfs_types.specs.declared.mutation.Mutation.{Mutation}
 use Rattle.gfs_types.specs.declared.mutation.Mutation.TheVariants.{Write, Append, Pad}
 use Rattle.gfs_types.specs.Mutations.{end_of}
 use Rattle.messages.specs.declared.event.Event.{Event}
-use Rattle.messages.specs.declared.event.Input.{Input}
-use Rattle.messages.specs.declared.event.Input.TheVariants as input
+use Rattle.messages.specs.declared.event.NodeInput.{NodeInput}
+use Rattle.messages.specs.declared.event.NodeInput.TheVariants as input
 use Rattle.messages.specs.declared.message.Body.TheVariants as body
 use Rattle.primary_order.specs.declared.order.SerialOrder.{SerialOrder}
 use Rattle.replica_store.specs.Replicas.{Replica, replica_of, rotten_replica, with_replica, with_bytes}
@@ -91,7 +91,7 @@ IsHeldBy size servers handle e =
     → (r : Replica) → replica_of s.disk handle ≡ Some r → end_of size e.entry.mutation ≤ length r.bytes
 
 -- what is delivered to a server was sent to it
-sent_to : (w : WorldState) (e : Event) (server moment : ℕ) (i : Input) → IsGiven w e (the_server server) moment i → IsSentTo w.sent (the_server server) i
+sent_to : (w : WorldState) (e : Event) (server moment : ℕ) (i : NodeInput) → IsGiven w e (the_server server) moment i → IsSentTo w.sent (the_server server) i
 sent_to w e server moment (input.Deliver m) given = comes_in w e server moment (input.Deliver m) given m refl
 sent_to w e server moment input.Tick given = tt
 
@@ -100,7 +100,7 @@ module _ (config : Config) (servers clients : ℕ) (w : WorldState) (r : IsReach
     base : IsOfWaits w.sent w.master
     base = sent_reached IsOfWaits waits_kept config servers clients w r
 
-    master_held : (trace : List Visible) (moment : ℕ) (i : Input) (choice : Choice) → AreAll (IsHeldBy w.config.chunk w.servers) (orders_after_all trace w.observer.orders (master_step w.master moment i choice).seen)
+    master_held : (trace : List Visible) (moment : ℕ) (i : NodeInput) (choice : Choice) → AreAll (IsHeldBy w.config.chunk w.servers) (orders_after_all trace w.observer.orders (master_step w.master moment i choice).seen)
     master_held trace moment i choice =
         elim (step_shows w.master moment i choice base.base.logged base.waits) [
           | inl none ↦ subst (λ (xs : List Seen). AreAll (IsHeldBy w.config.chunk w.servers) (orders_after_all trace w.observer.orders xs)) (sym none) h
@@ -127,7 +127,7 @@ module _ (config : Config) (servers clients : ℕ) (w : WorldState) (r : IsReach
           | inr apart ↦ was other u apart.1 p lease round x replica
         ])
 
-    module _ (e : Event) (index moment : ℕ) (s : ServerState) (i : Input) (choice : Choice) (at : element_at w.servers index ≡ Some s) (given : IsGiven w e (the_server (suc index)) moment i) where
+    module _ (e : Event) (index moment : ℕ) (s : ServerState) (i : NodeInput) (choice : Choice) (at : element_at w.servers index ≡ Some s) (given : IsGiven w e (the_server (suc index)) moment i) where
       abbrev t : ServerState
       t = (server_step s moment i choice).state
 

@@ -13,8 +13,8 @@ use Rattle.gfs_types.specs.declared.ids.OrderNo.{OrderNo}
 use Rattle.gfs_types.specs.declared.mutation.Mutation.{Mutation}
 use Rattle.gfs_types.specs.declared.mutation.Mutation.TheVariants as mutation
 use Rattle.gfs_types.specs.Mutations.{start_of}
-use Rattle.messages.specs.declared.event.Input.{Input}
-use Rattle.messages.specs.declared.event.Input.TheVariants as input
+use Rattle.messages.specs.declared.event.NodeInput.{NodeInput}
+use Rattle.messages.specs.declared.event.NodeInput.TheVariants as input
 use Rattle.messages.specs.declared.message.Body.{Body}
 use Rattle.messages.specs.declared.message.Body.TheVariants as body
 use Rattle.messages.specs.declared.message.Message.{Message}
@@ -173,7 +173,7 @@ pub record Leaves (w : WorldState) (trace : List Visible) (seen : List Seen) (or
       → (n : ℕ) × (p : Placed) × (element_at (placed_in orders handle.0) n ≡ Some p) × (unsettled p ≡ new_entry trace version.0 serial.0 id m)
 
 -- What is carried along of replicas, and of Images, as a server takes its input: with one entry more, and to a replica that is new or raised.
-pub record Carries (s : ServerState) (i : Input) (J K : Carried) : Type 0 where
+pub record Carries (s : ServerState) (i : NodeInput) (J K : Carried) : Type 0 where
   pub more : (handle version : ℕ) (ps : List Placed) (p : Placed) → K handle version ps → K handle version (ps ++ p ∷ [])
   pub created : (m : Message) → i ≡ input.Deliver m → (order : OrderNo) (handle : Handle) (version : Version) → m.body ≡ body.Create order handle version → is_new_order s.disk order.epoch order.count ≡ true → K handle.0 version.0 []
   pub imaged : (m : Message) → i ≡ input.Deliver m → (handle : Handle) (version : Version) (serial : Serial) (bytes : List ℕ) → m.body ≡ body.Image handle version serial bytes → (ps : List Placed) → J handle.0 version.0 ps → K handle.0 version.0 ps
@@ -184,7 +184,7 @@ pub record Carries (s : ServerState) (i : Input) (J K : Carried) : Type 0 where
 
 module _ (J K : Carried) (config : Config) (servers clients : ℕ) (w : WorldState) (r : IsReached config servers clients w) (clocks : IsTrue w.observer.are_clocks_kept) (disks : IsTrue w.observer.are_disks_kept)
     (said : (m : Message) → IsSent w.sent m → IsImageSaid J w.config.chunk w.observer.orders m.body) (index : ℕ) (s : ServerState) (at : element_at w.servers index ≡ Some s) (here : AreIn K w.config.chunk w.observer.orders s.disk)
-    (moment : ℕ) (i : Input) (came : (m : Message) → i ≡ input.Deliver m → IsSent w.sent m) (k : Carries s i J K) where
+    (moment : ℕ) (i : NodeInput) (came : (m : Message) → i ≡ input.Deliver m → IsSent w.sent m) (k : Carries s i J K) where
   size_is : s.config.chunk ≡ w.config.chunk
   size_is = ap (λ (c : Config). c.chunk) ((servers_within config servers clients w r index s at).set ∙ sym (settings_stay config servers clients w r))
 
@@ -376,7 +376,7 @@ module _ (J K : Carried) (config : Config) (servers clients : ℕ) (w : WorldSta
               (subst Good (sym (changed_last s.disk c.before c.x)) (changed (disk_changed_by_all s.disk c.before) (numbers_quiet s.disk c.before c.quiet) m taken c.x c.cause))
         ])
 
-    goes_good : (j : Input) → i ≡ j → (n : ℕ) (xs : List StoreChange) → AreMadeOn (server_at s moment) j xs (server_goes s moment i).seen → Good (disk_changed_by_all s.disk (take n xs))
+    goes_good : (j : NodeInput) → i ≡ j → (n : ℕ) (xs : List StoreChange) → AreMadeOn (server_at s moment) j xs (server_goes s moment i).seen → Good (disk_changed_by_all s.disk (take n xs))
     goes_good (input.Deliver m) is n xs made = made_good m is n xs made
     goes_good input.Tick is n xs made = taken_quiet n xs made
 

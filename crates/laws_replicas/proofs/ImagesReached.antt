@@ -9,8 +9,8 @@ use Rattle.gfs_types.specs.declared.answer.Answer.{Answer}
 use Rattle.gfs_types.specs.declared.config.Config.{Config}
 use Rattle.gfs_types.specs.Mutations.{start_of}
 use Rattle.messages.specs.declared.event.Event.{Event}
-use Rattle.messages.specs.declared.event.Input.{Input}
-use Rattle.messages.specs.declared.event.Input.TheVariants as input
+use Rattle.messages.specs.declared.event.NodeInput.{NodeInput}
+use Rattle.messages.specs.declared.event.NodeInput.TheVariants as input
 use Rattle.messages.specs.declared.message.Body.{Body}
 use Rattle.messages.specs.declared.message.Body.TheVariants as body
 use Rattle.messages.specs.declared.message.Message.{Message}
@@ -69,7 +69,7 @@ kept_filtered (y ∷ xs) (suc place) x at is =
 abbrev pub Plain : Carried
 Plain handle version ps = Unit {0}
 
-plain_carried : (s : ServerState) (i : Input) → Carries s i Plain Plain
+plain_carried : (s : ServerState) (i : NodeInput) → Carries s i Plain Plain
 plain_carried s i =
     record {
       more = λ handle version ps p h. tt;
@@ -125,7 +125,7 @@ answered_kept o n (Some reply) h = h
 -- a step of a server
 
 module _ (J K : Carried) (config : Config) (servers clients : ℕ) (w : WorldState) (r : IsReached config servers clients w) (clocks : IsTrue w.observer.are_clocks_kept) (disks : IsTrue w.observer.are_disks_kept)
-    (said : (m : Message) → IsSent w.sent m → IsImageSaid J w.config.chunk w.observer.orders m.body) (index moment : ℕ) (s : ServerState) (i : Input) (choice : Choice) (at : element_at w.servers index ≡ Some s) (up : IsTrue s.up)
+    (said : (m : Message) → IsSent w.sent m → IsImageSaid J w.config.chunk w.observer.orders m.body) (index moment : ℕ) (s : ServerState) (i : NodeInput) (choice : Choice) (at : element_at w.servers index ≡ Some s) (up : IsTrue s.up)
     (here : AreIn K w.config.chunk w.observer.orders s.disk) (idle : s.under_way ≡ []) (came : (m : Message) → i ≡ input.Deliver m → IsSent w.sent m) (k : Carries s i J K) where
   abbrev trace : List Visible
   trace = (observed_moment w.config.skew_ms w.observer moment).trace
@@ -190,7 +190,7 @@ module _ (J K : Carried) (config : Config) (servers clients : ℕ) (w : WorldSta
       on_cond IsDone s.up (server_ends s (server_goes s moment i) choice choice.ending) (no_step s) (λ _. ends_done choice.ending) (λ down. absurd (true≢false (sym up ∙ down)))
 
 module _ (config : Config) (servers clients : ℕ) (w : WorldState) (r : IsReached config servers clients w) (clocks : IsTrue w.observer.are_clocks_kept) (disks : IsTrue w.observer.are_disks_kept) (h : AreSelections w) where
-  module _ (index moment : ℕ) (s : ServerState) (i : Input) (choice : Choice) (at : element_at w.servers index ≡ Some s) where
+  module _ (index moment : ℕ) (s : ServerState) (i : NodeInput) (choice : Choice) (at : element_at w.servers index ≡ Some s) where
     -- what it says
     says_images : (orders : Table (List Placed)) → ((handle : ℕ) → Follows IsAny (placed_in w.observer.orders handle) (placed_in orders handle)) → AllOf (λ m. IsImageSaid Plain w.config.chunk orders m.body) (server_step s moment i choice).out.sent
     says_images orders more =

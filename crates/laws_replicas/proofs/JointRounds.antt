@@ -5,7 +5,7 @@ use Rattle.std.specs.Ordering.{nat_cmp}
 use Rattle.std.specs.FinMap as table
 use Rattle.std.proofs.lemmas.Bool.{and_parts}
 use Rattle.gfs_types.specs.declared.config.Config.{Config}
-use Rattle.messages.specs.declared.event.Input.{Input}
+use Rattle.messages.specs.declared.event.NodeInput.{NodeInput}
 use Rattle.messages.specs.declared.message.Message.{Message}
 use Rattle.relaxed_file.specs.Run.{Visible}
 use Rattle.replica_store.specs.Replicas.{with_replica, rotten_replica}
@@ -51,7 +51,7 @@ abbrev pub Nothing : ShownBy
 Nothing w = Plain
 
 -- two properties are carried together
-pub both_carried : (J K L M : Carried) (s : ServerState) (i : Input) → Carries s i J K → Carries s i L M → Carries s i (λ handle version ps. J handle version ps × L handle version ps) (λ handle version ps. K handle version ps × M handle version ps)
+pub both_carried : (J K L M : Carried) (s : ServerState) (i : NodeInput) → Carries s i J K → Carries s i L M → Carries s i (λ handle version ps. J handle version ps × L handle version ps) (λ handle version ps. K handle version ps × M handle version ps)
 both_carried J K L M s i a b =
     record {
       more = λ handle version ps p h. (a.more handle version ps p h.0, b.more handle version ps p h.1);
@@ -62,7 +62,7 @@ both_carried J K L M s i a b =
     }
 
 -- the same with other words of Images
-pub carried_from : (J L K : Carried) (s : ServerState) (i : Input) → ((handle version : ℕ) (ps : List Placed) → L handle version ps → J handle version ps) → Carries s i J K → Carries s i L K
+pub carried_from : (J L K : Carried) (s : ServerState) (i : NodeInput) → ((handle version : ℕ) (ps : List Placed) → L handle version ps → J handle version ps) → Carries s i J K → Carries s i L K
 carried_from J L K s i go c =
     record {
       more = c.more;
@@ -102,7 +102,7 @@ module _ (config : Config) (servers clients : ℕ) (w : WorldState) (r : IsReach
   calm ms orders same none index handle version ps =
       joint_on ms w.servers orders index handle version ps (none_more_kept w.sent ms k index handle version ps none) (λ has. subst (λ (os : Table (List Placed)). HasRounds w.servers os index handle version ps) (sym same) has)
 
-  not_other : (index : ℕ) (s : ServerState) → element_at w.servers index ≡ Some s → (moment : ℕ) (i : Input) (choice : Choice) (other : ℕ) (y : Message) → IsSent (server_step s moment i choice).out.sent y → y.sender ≡ the_server (suc other) → other ≡ index
+  not_other : (index : ℕ) (s : ServerState) → element_at w.servers index ≡ Some s → (moment : ℕ) (i : NodeInput) (choice : Choice) (other : ℕ) (y : Message) → IsSent (server_step s moment i choice).out.sent y → y.sender ≡ the_server (suc other) → other ≡ index
   not_other index s at moment i choice other y there sender = same_suc other index (ap server_number (sym sender ∙ server_sender config servers clients w r index s at moment i choice y there))
 
   pub joint_keeps : Keeps Nothing Joint config servers clients w (IsLater config servers clients)

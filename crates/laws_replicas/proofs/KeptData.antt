@@ -13,8 +13,8 @@ use Rattle.messages.specs.declared.message.Body.{Body}
 use Rattle.messages.specs.declared.message.Body.TheVariants as body
 use Rattle.messages.specs.declared.message.Target.{Target}
 use Rattle.messages.specs.declared.message.Target.TheVariants as target
-use Rattle.messages.specs.declared.event.Input.{Input}
-use Rattle.messages.specs.declared.event.Input.TheVariants as input
+use Rattle.messages.specs.declared.event.NodeInput.{NodeInput}
+use Rattle.messages.specs.declared.event.NodeInput.TheVariants as input
 use Rattle.data_push.specs.Buffers.{same_id, data_of}
 use Rattle.protocol.specs.Tables.{element_at, with_at}
 use Rattle.protocol.specs.Sending.{data_id, the_client}
@@ -88,7 +88,7 @@ client_stems sent k s d (Some m) step is =
 abbrev AreStems : List Message → Type 0
 AreStems sent = (m : Message) → IsSent sent m → IsStemmed sent m.body
 
-talks : (sent : List Message) (s : ServerState) (i : Input) → ((m : Message) → i ≡ input.Deliver m → IsSent sent m) → AreStems sent → Talks s i (λ r b. IsStemmed sent b) (λ x. Unit {0}) (IsPair sent)
+talks : (sent : List Message) (s : ServerState) (i : NodeInput) → ((m : Message) → i ≡ input.Deliver m → IsSent sent m) → AreStems sent → Talks s i (λ r b. IsStemmed sent b) (λ x. Unit {0}) (IsPair sent)
 talks sent s i came stems =
     record {
       quiet = λ receiver b is. servers_stem sent b is;

@@ -11,8 +11,8 @@ use Rattle.gfs_types.specs.declared.mutation.Mutation.{Mutation}
 use Rattle.gfs_types.specs.declared.mutation.Mutation.TheVariants as mutation
 use Rattle.gfs_types.specs.Mutations.{start_of, end_of}
 use Rattle.messages.specs.declared.event.Event.{Event}
-use Rattle.messages.specs.declared.event.Input.{Input}
-use Rattle.messages.specs.declared.event.Input.TheVariants as input
+use Rattle.messages.specs.declared.event.NodeInput.{NodeInput}
+use Rattle.messages.specs.declared.event.NodeInput.TheVariants as input
 use Rattle.messages.specs.declared.message.Body.{Body}
 use Rattle.replica_store.specs.declared.change.StoreChange.{StoreChange}
 use Rattle.replica_store.specs.declared.change.StoreChange.TheVariants.{SetOrder, Put, Write, Zero, Raise, Copy, Remove}
@@ -71,7 +71,7 @@ take_whole [] = refl
 take_whole (x ∷ xs) = ap (λ (ys : List StoreChange). x ∷ ys) (take_whole xs)
 
 -- handlers leave the disk and what was under way
-pub frame_kept : (s : ServerState) (moment : ℕ) (i : Input) → ((server_goes s moment i).server.disk ≡ s.disk) × ((server_goes s moment i).server.under_way ≡ s.under_way)
+pub frame_kept : (s : ServerState) (moment : ℕ) (i : NodeInput) → ((server_goes s moment i).server.disk ≡ s.disk) × ((server_goes s moment i).server.under_way ≡ s.under_way)
 frame_kept s moment i =
     goes_fine s (λ c. (c.disk ≡ s.disk) × (c.under_way ≡ s.under_way)) (λ c. (c.disk ≡ s.disk) × (c.under_way ≡ s.under_way))
     (record {
@@ -132,7 +132,7 @@ writable_there d handle offset stop r there is = subst (λ (o : Option Replica).
 
 -- a step
 
-module _ (s : ServerState) (here : IsAllRotNoticed s.disk.block s.disk) (moment : ℕ) (i : Input) where
+module _ (s : ServerState) (here : IsAllRotNoticed s.disk.block s.disk) (moment : ℕ) (i : NodeInput) where
   abbrev Good : ServerDisk → Type 0
   Good d = IsAllRotNoticed s.disk.block d
 
@@ -201,7 +201,7 @@ module _ (s : ServerState) (here : IsAllRotNoticed s.disk.block s.disk) (moment 
             (subst Good (sym (changed_last s.disk c.before c.x)) (changed (disk_changed_by_all s.disk c.before) (numbers_quiet s.disk c.before c.quiet) b seen c.x c.cause))
       ])
 
-  goes_sound : (j : Input) (seen : List Seen) (n : ℕ) (xs : List StoreChange) → AreMadeOn (server_at s moment) j xs seen → Good (disk_changed_by_all s.disk (take n xs))
+  goes_sound : (j : NodeInput) (seen : List Seen) (n : ℕ) (xs : List StoreChange) → AreMadeOn (server_at s moment) j xs seen → Good (disk_changed_by_all s.disk (take n xs))
   goes_sound (input.Deliver m) seen n xs made = made_sound m.body seen n xs made
   goes_sound input.Tick seen n xs made = taken_quiet n xs made
 
@@ -214,7 +214,7 @@ record IsGood (s : ServerState) : Type 0 where
   found : (decided : List Bool) → IsAllRotNoticed s.disk.block (disk_changed_by_all s.disk (decided_changes decided s.under_way))
   idle : s.up ≡ true → s.under_way ≡ []
 
-module _ (s : ServerState) (h : IsGood s) (moment : ℕ) (i : Input) (choice : Choice) (up : IsTrue s.up) where
+module _ (s : ServerState) (h : IsGood s) (moment : ℕ) (i : NodeInput) (choice : Choice) (up : IsTrue s.up) where
   here : IsAllRotNoticed s.disk.block s.disk
   here = h.found []
 

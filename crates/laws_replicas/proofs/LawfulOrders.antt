@@ -13,8 +13,8 @@ use Rattle.gfs_types.specs.declared.mutation.Mutation.{Mutation}
 use Rattle.gfs_types.specs.declared.mutation.Mutation.TheVariants.{Write, Append, Pad}
 use Rattle.gfs_types.specs.Mutations.{start_of, end_of}
 use Rattle.messages.specs.declared.event.Event.{Event}
-use Rattle.messages.specs.declared.event.Input.{Input}
-use Rattle.messages.specs.declared.event.Input.TheVariants as input
+use Rattle.messages.specs.declared.event.NodeInput.{NodeInput}
+use Rattle.messages.specs.declared.event.NodeInput.TheVariants as input
 use Rattle.messages.specs.declared.message.Message.{Message}
 use Rattle.messages.specs.declared.message.Body.TheVariants as body
 use Rattle.primary_order.specs.declared.order.SerialOrder.{SerialOrder}
@@ -249,7 +249,7 @@ module _ (config : Config) (servers clients : ℕ) where
   HasLawfulOrders w = IsTrue (is_kept w) → (handle : ℕ) → AreBehind config.chunk (placed_in w.observer.orders handle)
 
   module _ (w : WorldState) (r : IsReached config servers clients w) (h : HasLawfulOrders w) where
-    module _ (index moment : ℕ) (s : ServerState) (i : Input) (choice : Choice) (at : element_at w.servers index ≡ Some s) (came : (m : Message) → i ≡ input.Deliver m → IsAmong w.sent m)
+    module _ (index moment : ℕ) (s : ServerState) (i : NodeInput) (choice : Choice) (at : element_at w.servers index ≡ Some s) (came : (m : Message) → i ≡ input.Deliver m → IsAmong w.sent m)
         (kept : IsTrue (is_kept w)) (clocks : IsTrue (observed_moment w.config.skew_ms w.observer moment).are_clocks_kept) where
       abbrev Counts : ℕ → ℕ → Type 0
       Counts handle v = (p : SerialOrder) × (primary_of (server_at s moment) handle v ≡ Some p)

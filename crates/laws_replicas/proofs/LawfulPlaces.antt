@@ -12,8 +12,8 @@ use Rattle.gfs_types.specs.declared.mutation.Mutation.{Mutation}
 use Rattle.gfs_types.specs.declared.mutation.Mutation.TheVariants.{Write, Append, Pad}
 use Rattle.gfs_types.specs.Mutations.{end_of}
 use Rattle.gfs_types.specs.Image.{image_length}
-use Rattle.messages.specs.declared.event.Input.{Input}
-use Rattle.messages.specs.declared.event.Input.TheVariants as input
+use Rattle.messages.specs.declared.event.NodeInput.{NodeInput}
+use Rattle.messages.specs.declared.event.NodeInput.TheVariants as input
 use Rattle.messages.specs.declared.message.Message.{Message}
 use Rattle.relaxed_file.specs.Order.{Entry, mutations_of, IsSelection, empty, takes, leaves}
 use Rattle.relaxed_file.specs.Chunks.{is_an_end}
@@ -78,7 +78,7 @@ made_of size count bytes (Write offset written) by short = by.0
 made_of size count bytes (Append offset written) by short = (by.0, short.0)
 made_of size count bytes (Pad offset) by short = (short, by.2)
 
-module _ (config : Config) (servers clients : ℕ) (w : WorldState) (r : IsReached config servers clients w) (index : ℕ) (s : ServerState) (at : element_at w.servers index ≡ Some s) (moment : ℕ) (i : Input) (choice : Choice)
+module _ (config : Config) (servers clients : ℕ) (w : WorldState) (r : IsReached config servers clients w) (index : ℕ) (s : ServerState) (at : element_at w.servers index ≡ Some s) (moment : ℕ) (i : NodeInput) (choice : Choice)
     (came : (m : Message) → i ≡ input.Deliver m → IsAmong w.sent m) (shown : ℕ) (handle : Handle) (version : Version) (serial : Serial) (id : DataId) (m : Mutation)
     (seen : element_at (server_step s moment i choice).seen shown ≡ Some (Numbered handle version serial id m)) where
   placed : IsPlacedByReplica config.chunk s handle.0 version.0 serial.0 id m

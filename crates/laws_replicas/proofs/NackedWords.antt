@@ -29,8 +29,8 @@ use Rattle.messages.specs.declared.message.Target.{Target}
 use Rattle.messages.specs.declared.message.Target.TheVariants as target
 use Rattle.messages.specs.declared.message.Change.{Change}
 use Rattle.messages.specs.declared.message.Change.TheVariants as change
-use Rattle.messages.specs.declared.event.Input.{Input}
-use Rattle.messages.specs.declared.event.Input.TheVariants as input
+use Rattle.messages.specs.declared.event.NodeInput.{NodeInput}
+use Rattle.messages.specs.declared.event.NodeInput.TheVariants as input
 use Rattle.record_append.specs.declared.placing.Placing.{Placing}
 use Rattle.record_append.specs.declared.placing.Placing.TheVariants.{At, Pad, Full, TooLong}
 use Rattle.record_append.specs.Placing.{placing}
@@ -275,14 +275,14 @@ module _ (s : ServerState) where
 abbrev after : ServerDoing → ServerState
 after d = record d.server { disk = disk_changed_by_all d.server.disk d.changes }
 
-abbrev IsCausedBy : ServerState → ServerDoing → Input → Message → Body → Type 0
+abbrev IsCausedBy : ServerState → ServerDoing → NodeInput → Message → Body → Type 0
 IsCausedBy s d i m (body.Nacked handle version serial cause) = IsRefusal s (after d) i m handle version serial cause
 IsCausedBy s d i m other = Unit {0}
 
-abbrev AreCaused : ServerState → Input → ServerDoing → Type 0
+abbrev AreCaused : ServerState → NodeInput → ServerDoing → Type 0
 AreCaused s i d = AllOf (λ m. IsCausedBy s d i m m.body) d.sent
 
-none_caused : (s : ServerState) (i : Input) (d : ServerDoing) (m : Message) (b : Body) → IsNoNacked b → IsCausedBy s d i m b
+none_caused : (s : ServerState) (i : NodeInput) (d : ServerDoing) (m : Message) (b : Body) → IsNoNacked b → IsCausedBy s d i m b
 none_caused s i d m (body.Nacked handle version serial cause) none = absurd none
 none_caused s i d m other none = tt
 
@@ -328,7 +328,7 @@ module _ (s : ServerState) (moment : ℕ) (m : Message) (q : Handle) (v : Versio
 
 -- a step
 
-all_none : (s : ServerState) (i : Input) (d : ServerDoing) (ms : List Message) → AllOf (λ m. IsNoNacked m.body) ms → AllOf (λ m. IsCausedBy s d i m m.body) ms
+all_none : (s : ServerState) (i : NodeInput) (d : ServerDoing) (ms : List Message) → AllOf (λ m. IsNoNacked m.body) ms → AllOf (λ m. IsCausedBy s d i m m.body) ms
 all_none s i d [] all = tt
 all_none s i d (m ∷ ms) all = (none_caused s i d m m.body all.0, all_none s i d ms all.1)
 
@@ -336,14 +336,14 @@ takes_caused : (s : ServerState) (moment : ℕ) (m : Message) (b : Body) → m.b
 takes_caused s moment m (body.Forward q v serial id c) is = forward_caused s moment m q v serial id c is (row_at s.disk q.0) refl
 takes_caused s moment m other is = let d : ServerDoing = server_takes (server_begins (server_at s moment)) m other in all_none s (input.Deliver m) d d.sent (takes_fine (server_at s moment) m other tt)
 
-goes_caused : (s : ServerState) (moment : ℕ) (i : Input) → AreCaused s i (server_goes s moment i)
+goes_caused : (s : ServerState) (moment : ℕ) (i : NodeInput) → AreCaused s i (server_goes s moment i)
 goes_caused s moment (input.Deliver m) = takes_caused s moment m m.body refl
 goes_caused s moment input.Tick = (tt, tt)
 
-abbrev AreSaid : ServerState → Input → Taken ServerState → Type 0
+abbrev AreSaid : ServerState → NodeInput → Taken ServerState → Type 0
 AreSaid s i t = (handle : Handle) (version : VersionId) (serial : Serial) (cause : Refusal) (place : ℕ) (m : Message) → element_at t.out.sent place ≡ Some m → m.body ≡ body.Nacked handle version serial cause → IsRefusal s t.state i m handle version serial cause
 
-ends_said : (s : ServerState) (moment : ℕ) (i : Input) (choice : Choice) (e : Ending) → AreSaid s i (server_ends s (server_goes s moment i) choice e)
+ends_said : (s : ServerState) (moment : ℕ) (i : NodeInput) (choice : Choice) (e : Ending) → AreSaid s i (server_ends s (server_goes s moment i) choice e)
 ends_said s moment i choice Lost handle version serial cause place m at is = none_some m at
 ends_said s moment i choice (Stops made) handle version serial cause place m at is = none_some m at
 ends_said s moment i choice Goes handle version serial cause place m at is =

@@ -4,8 +4,8 @@ use Rattle.std.specs.Prelude.{IsTrue}
 use Rattle.std.proofs.lemmas.Bool.{cases_lt, le-leb}
 use Rattle.gfs_types.specs.declared.config.Config.{Config}
 use Rattle.gfs_types.specs.declared.ids.OrderNo.{OrderNo}
-use Rattle.messages.specs.declared.event.Input.{Input}
-use Rattle.messages.specs.declared.event.Input.TheVariants as input
+use Rattle.messages.specs.declared.event.NodeInput.{NodeInput}
+use Rattle.messages.specs.declared.event.NodeInput.TheVariants as input
 use Rattle.messages.specs.declared.message.Body.{Body}
 use Rattle.messages.specs.declared.message.Message.{Message}
 use Rattle.replica_store.specs.Replicas.{is_new_order}
@@ -26,7 +26,7 @@ use Rattle.laws_replicas.specs.Selections.{HasSettled}
 abbrev pub Settled : WorldState → Carried
 Settled w handle version ps = HasSettled (order_of w.observer handle) version ps
 
-module _ (config : Config) (servers clients : ℕ) (w : WorldState) (r : IsReached config servers clients w) (clocks : IsTrue w.observer.are_clocks_kept) (index : ℕ) (s : ServerState) (at : element_at w.servers index ≡ Some s) (i : Input)
+module _ (config : Config) (servers clients : ℕ) (w : WorldState) (r : IsReached config servers clients w) (clocks : IsTrue w.observer.are_clocks_kept) (index : ℕ) (s : ServerState) (at : element_at w.servers index ≡ Some s) (i : NodeInput)
     (came : (m : Message) → i ≡ input.Deliver m → (place : ℕ) × (element_at w.sent place ≡ Some m) × (m.receiver ≡ the_server (suc index))) where
   module _ (m : Message) (taken : i ≡ input.Deliver m) (handle version : ℕ) (given : version_given m.body ≡ Some (handle, version)) (order : OrderNo) (order_is : order_number m.body ≡ Some order) (new : is_new_order s.disk order.epoch order.count ≡ true) where
     -- an entry of the chunk up to the version that a new order gives lies below it, and not between its versions

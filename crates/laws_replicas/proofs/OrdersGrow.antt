@@ -4,7 +4,7 @@ use Rattle.std.specs.Prelude.{unwrap_or}
 use Rattle.std.specs.FinMap as table
 use Rattle.gfs_types.specs.declared.config.Config.{Config}
 use Rattle.relaxed_file.specs.Run.{Visible}
-use Rattle.messages.specs.declared.event.Input.{Input}
+use Rattle.messages.specs.declared.event.NodeInput.{NodeInput}
 use Rattle.protocol.specs.Tables.{Table, element_at}
 use Rattle.protocol.specs.Sending.{handle_of}
 use Rattle.protocol.specs.Choice.{Choice}
@@ -98,7 +98,7 @@ module _ (config : Config) (servers clients : ℕ) (w : WorldState) (r : IsReach
   stays : (handle : ℕ) → Follows IsAny (placed_in w.observer.orders handle) (placed_in w.observer.orders handle)
   stays handle = same_follows IsAny (placed_in w.observer.orders handle)
 
-  master_grows : (trace : List Visible) (moment : ℕ) (i : Input) (choice : Choice) (handle : ℕ) → Follows IsAny (placed_in w.observer.orders handle) (placed_in (orders_after_all trace w.observer.orders (master_step w.master moment i choice).seen) handle)
+  master_grows : (trace : List Visible) (moment : ℕ) (i : NodeInput) (choice : Choice) (handle : ℕ) → Follows IsAny (placed_in w.observer.orders handle) (placed_in (orders_after_all trace w.observer.orders (master_step w.master moment i choice).seen) handle)
   master_grows trace moment i choice handle =
       elim (step_shows w.master moment i choice waiting.base.logged waiting.waits) [
         | inl none ↦ subst (λ (xs : List Seen). Follows IsAny (placed_in w.observer.orders handle) (placed_in (orders_after_all trace w.observer.orders xs) handle)) (sym none) (stays handle)

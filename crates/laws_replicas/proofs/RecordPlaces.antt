@@ -18,8 +18,8 @@ use Rattle.messages.specs.declared.message.Body.TheVariants as body
 use Rattle.messages.specs.declared.message.Message.{Message}
 use Rattle.messages.specs.declared.message.Target.{Target}
 use Rattle.messages.specs.declared.message.Target.TheVariants as target
-use Rattle.messages.specs.declared.event.Input.{Input}
-use Rattle.messages.specs.declared.event.Input.TheVariants as input
+use Rattle.messages.specs.declared.event.NodeInput.{NodeInput}
+use Rattle.messages.specs.declared.event.NodeInput.TheVariants as input
 use Rattle.record_append.specs.declared.placing.Placing.{Placing}
 use Rattle.record_append.specs.declared.placing.Placing.TheVariants.{At, Pad, Full, TooLong}
 use Rattle.data_push.specs.Buffers.{data_of}
@@ -123,11 +123,11 @@ module _ (s : ServerState) (handle : ℕ) (id : DataId) where
       on_cond Fine (nat_le deadline s.now) (refuses_attempt First id Late) (mutates_as First handle p id t (attempted p id.client id.seq)) (λ _. tt)
       (λ _. subst (λ (a : Attempted). Fine (mutates_as First handle p id t a)) (sym new) (new_fine p t (row_at s.disk handle) (data_of s.pushed id) refl))
 
-goes_fine : (s : ServerState) (moment : ℕ) (i : Input) (m : Message) (id : DataId) (handle : Handle) (v : Version) (t : Target) (deadline : Moment) (p : SerialOrder) → i ≡ input.Deliver m → m.body ≡ body.Mutate id handle v t deadline
+goes_fine : (s : ServerState) (moment : ℕ) (i : NodeInput) (m : Message) (id : DataId) (handle : Handle) (v : Version) (t : Target) (deadline : Moment) (p : SerialOrder) → i ≡ input.Deliver m → m.body ≡ body.Mutate id handle v t deadline
     → primary_of (server_at s moment) handle.0 v.0 ≡ Some p → attempted p id.client id.seq ≡ IsNew → AllOf (IsShown s) (server_goes s moment i).seen
 goes_fine s moment i m id handle v t deadline p is asked primary new =
     let d : ServerDoing = server_begins (server_at s moment) in
-    subst (λ (j : Input). AllOf (IsShown s) (server_goes s moment j).seen) (sym is)
+    subst (λ (j : NodeInput). AllOf (IsShown s) (server_goes s moment j).seen) (sym is)
     (subst (λ (b : Body). AllOf (IsShown s) (server_takes d m b).seen) (sym asked)
     (subst (λ (o : Option SerialOrder). AllOf (IsShown s) (mutates_under d handle.0 id t deadline.0 o).seen) (sym primary) (under_fine (server_at s moment) handle.0 id t deadline.0 p new)))
 
@@ -137,7 +137,7 @@ ends_fine s d choice Lost h = tt
 ends_fine s d choice (Stops made) h = all_filtered (IsShown s) is_numbering d.seen h
 
 -- what a server numbers is of data that it keeps, and short
-pub numbered_short : (config : Config) (servers clients : ℕ) (w : WorldState) → IsReached config servers clients w → (index : ℕ) (s : ServerState) → element_at w.servers index ≡ Some s → (moment : ℕ) (i : Input) (choice : Choice)
+pub numbered_short : (config : Config) (servers clients : ℕ) (w : WorldState) → IsReached config servers clients w → (index : ℕ) (s : ServerState) → element_at w.servers index ≡ Some s → (moment : ℕ) (i : NodeInput) (choice : Choice)
     → ((m : Message) → i ≡ input.Deliver m → IsAmong w.sent m) → (shown : ℕ) (handle : Handle) (version : Version) (serial : Serial) (id : DataId) (m : Mutation)
     → element_at (server_step s moment i choice).seen shown ≡ Some (Numbered handle version serial id m) → (bytes : List ℕ) × (data_of s.pushed id ≡ Some bytes) × IsShort s.config.chunk bytes m
 numbered_short config servers clients w r index s at moment i choice came shown handle version serial id m seen =

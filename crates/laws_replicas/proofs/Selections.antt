@@ -6,8 +6,8 @@ use Rattle.gfs_types.specs.declared.config.Config.{Config}
 use Rattle.gfs_types.specs.Image.{image}
 use Rattle.gfs_types.specs.declared.mutation.Mutation.{Mutation}
 use Rattle.messages.specs.declared.event.Event.{Event}
-use Rattle.messages.specs.declared.event.Input.{Input}
-use Rattle.messages.specs.declared.event.Input.TheVariants as input
+use Rattle.messages.specs.declared.event.NodeInput.{NodeInput}
+use Rattle.messages.specs.declared.event.NodeInput.TheVariants as input
 use Rattle.messages.specs.declared.message.Body.{Body}
 use Rattle.messages.specs.declared.message.Message.{Message}
 use Rattle.relaxed_file.specs.Run.{Visible}
@@ -84,7 +84,7 @@ module _ (config : Config) (servers clients : ℕ) (w : WorldState) (r : IsReach
 
   -- a step of a server
 
-  module _ (e : Event) (index moment : ℕ) (s : ServerState) (i : Input) (choice : Choice) (at : element_at w.servers index ≡ Some s) (given : IsGiven w e (the_server (suc index)) moment i) (up : IsTrue s.up)
+  module _ (e : Event) (index moment : ℕ) (s : ServerState) (i : NodeInput) (choice : Choice) (at : element_at w.servers index ≡ Some s) (given : IsGiven w e (the_server (suc index)) moment i) (up : IsTrue s.up)
       (later : IsLater config servers clients (after_server w index moment (server_step s moment i choice)).world) where
     abbrev v : WorldState
     v = (after_server w index moment (server_step s moment i choice)).world
@@ -164,7 +164,7 @@ module _ (config : Config) (servers clients : ℕ) (w : WorldState) (r : IsReach
   still : (handle version : ℕ) (ps : List Placed) (to : Table (List Placed)) → to ≡ w.observer.orders → HasSettled (order_of w.observer handle) version ps → HasSettled (placed_in to handle) version ps
   still handle version ps to same = settled_same (order_of w.observer handle) (placed_in to handle) version ps (ap (λ (orders : Table (List Placed)). placed_in orders handle) same)
 
-  master_still : (moment : ℕ) (i : Input) (choice : Choice) (handle version : ℕ) (ps : List Placed) → IsGivenBySome w.sent handle version → HasSettled (order_of w.observer handle) version ps
+  master_still : (moment : ℕ) (i : NodeInput) (choice : Choice) (handle version : ℕ) (ps : List Placed) → IsGivenBySome w.sent handle version → HasSettled (order_of w.observer handle) version ps
       → HasSettled (placed_in (orders_after_all (observed_moment w.config.skew_ms w.observer moment).trace w.observer.orders (master_step w.master moment i choice).seen) handle) version ps
   master_still moment i choice handle version ps g =
       settled_same (order_of w.observer handle) _ version ps (used_still config servers clients w r (observed_moment w.config.skew_ms w.observer moment).trace moment i choice handle (used handle version g))

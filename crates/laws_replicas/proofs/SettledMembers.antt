@@ -5,8 +5,8 @@ use Rattle.std.specs.FinMap as table
 use Rattle.std.proofs.lemmas.Bool.{and_parts, eqb-true, ltb-true, cases_lt}
 use Rattle.std.proofs.Math.Nat.{le-max_right}
 use Rattle.gfs_types.specs.declared.config.Config.{Config}
-use Rattle.messages.specs.declared.event.Input.{Input}
-use Rattle.messages.specs.declared.event.Input.TheVariants as input
+use Rattle.messages.specs.declared.event.NodeInput.{NodeInput}
+use Rattle.messages.specs.declared.event.NodeInput.TheVariants as input
 use Rattle.messages.specs.declared.message.Body.TheVariants as body
 use Rattle.messages.specs.declared.message.Message.{Message}
 use Rattle.leases.specs.LeaseHeld.{LeaseHeld, counts_at}
@@ -78,7 +78,7 @@ counts_there s version (Some q) p is =
     (λ both g. subst (λ (x : SerialOrder). IsTrue (counts_at s.config.skew_ms x.held s.now)) (same_some q p g) (and_parts (q.held.version == version) (counts_at s.config.skew_ms q.held s.now) both).1) (λ _ g. none_some p g) is
 
 -- A step of a server in which the entry becomes settled.
-module _ (config : Config) (servers clients : ℕ) (w : WorldState) (r : IsReached config servers clients w) (index moment : ℕ) (s : ServerState) (i : Input) (choice : Choice) (at : element_at w.servers index ≡ Some s)
+module _ (config : Config) (servers clients : ℕ) (w : WorldState) (r : IsReached config servers clients w) (index moment : ℕ) (s : ServerState) (i : NodeInput) (choice : Choice) (at : element_at w.servers index ≡ Some s)
     (came : (m : Message) → i ≡ input.Deliver m → (place : ℕ) × (element_at w.sent place ≡ Some m)) (handle version serial shown : ℕ)
     (seen : element_at (server_step s moment i choice).seen shown ≡ Some (BecameSettled (handle_of handle) (version_of version) (serial_of serial)))
     (later : IsReached config servers clients (after_server w index moment (server_step s moment i choice)).world) (kept : IsTrue (is_kept (after_server w index moment (server_step s moment i choice)).world)) where

@@ -4,8 +4,8 @@ use Rattle.std.specs.Prelude.{unwrap_or, IsTrue}
 use Rattle.std.proofs.lemmas.Bool.{cases_lt}
 use Rattle.gfs_types.specs.declared.config.Config.{Config}
 use Rattle.messages.specs.declared.event.Event.{Event}
-use Rattle.messages.specs.declared.event.Input.{Input}
-use Rattle.messages.specs.declared.event.Input.TheVariants as input
+use Rattle.messages.specs.declared.event.NodeInput.{NodeInput}
+use Rattle.messages.specs.declared.event.NodeInput.TheVariants as input
 use Rattle.messages.specs.declared.message.Message.{Message}
 use Rattle.primary_order.specs.declared.order.SerialOrder.{SerialOrder}
 use Rattle.relaxed_file.specs.Run.{Visible}
@@ -46,7 +46,7 @@ module _ (config : Config) (servers clients : ℕ) (w : WorldState) (r : IsReach
   waiting = sent_reached IsOfWaits waits_kept config servers clients w r
 
   -- a step of the master leaves the order of a chunk that it had used
-  pub used_still : (trace : List Visible) (moment : ℕ) (i : Input) (choice : Choice) (handle : ℕ) → (IsTrue w.master.up → handle < w.master.logged.next_handle)
+  pub used_still : (trace : List Visible) (moment : ℕ) (i : NodeInput) (choice : Choice) (handle : ℕ) → (IsTrue w.master.up → handle < w.master.logged.next_handle)
       → placed_in (orders_after_all trace w.observer.orders (master_step w.master moment i choice).seen) handle ≡ placed_in w.observer.orders handle
   used_still trace moment i choice handle used =
       elim (step_shows w.master moment i choice waiting.base.logged waiting.waits) [
@@ -59,7 +59,7 @@ module _ (config : Config) (servers clients : ℕ) (w : WorldState) (r : IsReach
 
   module _ (handle version : ℕ) (over : (low : ℕ) → low ≤ version → IsLeaseOver w handle low) where
     -- a server shows nothing of these rounds
-    pub server_later : (index moment : ℕ) (s : ServerState) (i : Input) (choice : Choice) → element_at w.servers index ≡ Some s → ((m : Message) → i ≡ input.Deliver m → IsAmong w.sent m) → IsTrue (observed_moment w.config.skew_ms w.observer moment).are_clocks_kept
+    pub server_later : (index moment : ℕ) (s : ServerState) (i : NodeInput) (choice : Choice) → element_at w.servers index ≡ Some s → ((m : Message) → i ≡ input.Deliver m → IsAmong w.sent m) → IsTrue (observed_moment w.config.skew_ms w.observer moment).are_clocks_kept
         → AllOf (IsLater version handle) (server_step s moment i choice).seen
     server_later index moment s i choice there came clocks =
         all_placed (IsLater version handle) (server_step s moment i choice).seen (λ place x at. one place x at (all_at IsOfServers (server_step s moment i choice).seen place x (server_shown s moment i choice) at))

@@ -15,8 +15,8 @@ use Rattle.gfs_types.specs.declared.refusal.Refusal.{Refusal}
 use Rattle.gfs_types.specs.declared.mutation.Mutation.{Mutation}
 use Rattle.gfs_types.specs.declared.mutation.Mutation.TheVariants as mutation
 use Rattle.gfs_types.specs.Mutations.{start_of, end_of}
-use Rattle.messages.specs.declared.event.Input.{Input}
-use Rattle.messages.specs.declared.event.Input.TheVariants as input
+use Rattle.messages.specs.declared.event.NodeInput.{NodeInput}
+use Rattle.messages.specs.declared.event.NodeInput.TheVariants as input
 use Rattle.messages.specs.declared.message.Body.{Body}
 use Rattle.messages.specs.declared.message.Body.TheVariants as body
 use Rattle.messages.specs.declared.message.Message.{Message}
@@ -440,13 +440,13 @@ module _ (s : ServerState) where
   takes_made m other = inl tt
 
 -- what a step changes on its input: on a tick no replica
-abbrev pub AreMadeOn : ServerState → Input → List StoreChange → List Seen → Type 0
+abbrev pub AreMadeOn : ServerState → NodeInput → List StoreChange → List Seen → Type 0
 AreMadeOn s (input.Deliver m) changes seen = AreMade s m.body changes seen
 AreMadeOn s input.Tick changes seen = AllOf IsNumber changes
 
-does_made : (s : ServerState) (i : Input) → AreMadeOn s i (server_does (server_begins s) i).changes (server_does (server_begins s) i).seen
+does_made : (s : ServerState) (i : NodeInput) → AreMadeOn s i (server_does (server_begins s) i).changes (server_does (server_begins s) i).seen
 does_made s (input.Deliver m) = takes_made s m m.body
 does_made s input.Tick = tt
 
-pub step_made : (s : ServerState) (moment : ℕ) (i : Input) → AreMadeOn (server_at s moment) i (server_goes s moment i).changes (server_goes s moment i).seen
+pub step_made : (s : ServerState) (moment : ℕ) (i : NodeInput) → AreMadeOn (server_at s moment) i (server_goes s moment i).changes (server_goes s moment i).seen
 step_made s moment i = does_made (server_at s moment) i

@@ -6,8 +6,8 @@ use Rattle.std.specs.FinMap as table
 use Rattle.std.proofs.lemmas.Bool.{eqb-true, and_parts}
 use Rattle.gfs_types.specs.declared.config.Config.{Config}
 use Rattle.gfs_types.specs.declared.ids.OrderNo.{OrderNo}
-use Rattle.messages.specs.declared.event.Input.{Input}
-use Rattle.messages.specs.declared.event.Input.TheVariants as input
+use Rattle.messages.specs.declared.event.NodeInput.{NodeInput}
+use Rattle.messages.specs.declared.event.NodeInput.TheVariants as input
 use Rattle.messages.specs.declared.message.Body.{Body}
 use Rattle.messages.specs.declared.message.Body.TheVariants as body
 use Rattle.messages.specs.declared.message.Message.{Message}
@@ -150,7 +150,7 @@ module _ (config : Config) (servers clients : ℕ) (w : WorldState) (r : IsReach
   keeps : (trace : List Visible) → Keeps trace IsSeenNow Was
   keeps trace = record { numbers = λ handle version serial id m now. now; copies = λ handle copy now p t. absurd now }
 
-  servers_see : (index moment : ℕ) (s : ServerState) (i : Input) (choice : Choice) → element_at w.servers index ≡ Some s → ((m : Message) → i ≡ input.Deliver m → IsAmong w.sent m) → AllOf IsSeenNow (server_step s moment i choice).seen
+  servers_see : (index moment : ℕ) (s : ServerState) (i : NodeInput) (choice : Choice) → element_at w.servers index ≡ Some s → ((m : Message) → i ≡ input.Deliver m → IsAmong w.sent m) → AllOf IsSeenNow (server_step s moment i choice).seen
   servers_see index moment s i choice there came =
       all_placed IsSeenNow (server_step s moment i choice).seen (λ place y at. one place y at (all_at IsOfServers (server_step s moment i choice).seen place y (server_shown s moment i choice) at))
     where
@@ -162,7 +162,7 @@ module _ (config : Config) (servers clients : ℕ) (w : WorldState) (r : IsReach
       one place (CopyStarted handle copy) at is = absurd is
 
   -- the orders after a step of the master
-  master_orders : (trace : List Visible) (moment : ℕ) (i : Input) (choice : Choice)
+  master_orders : (trace : List Visible) (moment : ℕ) (i : NodeInput) (choice : Choice)
       → AreAll (λ handle p. HasBegun handle (master_step w.master moment i choice).state) (orders_after_all trace w.observer.orders (master_step w.master moment i choice).seen)
   master_orders trace moment i choice =
       elim (step_shows w.master moment i choice base.base.logged base.waits) [

@@ -10,8 +10,8 @@ use Rattle.gfs_types.specs.declared.ids.Moment.{Moment}
 use Rattle.gfs_types.specs.declared.ids.OrderNo.{OrderNo}
 use Rattle.gfs_types.specs.declared.refusal.Refusal.{Refusal}
 use Rattle.messages.specs.declared.event.Event.{Event}
-use Rattle.messages.specs.declared.event.Input.{Input}
-use Rattle.messages.specs.declared.event.Input.TheVariants as input
+use Rattle.messages.specs.declared.event.NodeInput.{NodeInput}
+use Rattle.messages.specs.declared.event.NodeInput.TheVariants as input
 use Rattle.messages.specs.declared.message.Body.TheVariants as body
 use Rattle.messages.specs.declared.message.Message.{Message}
 use Rattle.primary_order.specs.declared.waiting.Waiting.{Waiting}
@@ -120,13 +120,13 @@ module _ (config : Config) (servers clients : ℕ) (w : WorldState) (r : IsReach
         | inr apart ↦ h handle place q there settled other u apart.1
       ]
 
-  master_unsettled : (trace : List Visible) (moment : ℕ) (i : Input) (choice : Choice) → AreUnsettled w.servers (orders_after_all trace w.observer.orders (master_step w.master moment i choice).seen)
+  master_unsettled : (trace : List Visible) (moment : ℕ) (i : NodeInput) (choice : Choice) → AreUnsettled w.servers (orders_after_all trace w.observer.orders (master_step w.master moment i choice).seen)
   master_unsettled trace moment i choice handle place q there settled index s at p held same =
       h handle place q (ap (λ (ps : List Placed). element_at ps place) (sym (used_still config servers clients w r trace moment i choice handle (used index s at handle p held))) ∙ there) settled index s at p held same
 
   -- a server's step
 
-  module _ (e : Event) (index moment : ℕ) (s : ServerState) (i : Input) (choice : Choice) (at : element_at w.servers index ≡ Some s) (given : IsGiven w e (the_server (suc index)) moment i) where
+  module _ (e : Event) (index moment : ℕ) (s : ServerState) (i : NodeInput) (choice : Choice) (at : element_at w.servers index ≡ Some s) (given : IsGiven w e (the_server (suc index)) moment i) where
     abbrev t : ServerState
     t = (server_step s moment i choice).state
 

@@ -23,8 +23,8 @@ use Rattle.messages.specs.declared.message.Target.{Target}
 use Rattle.messages.specs.declared.message.Target.TheVariants as target
 use Rattle.messages.specs.declared.message.Change.{Change}
 use Rattle.messages.specs.declared.message.Change.TheVariants as change
-use Rattle.messages.specs.declared.event.Input.{Input}
-use Rattle.messages.specs.declared.event.Input.TheVariants as input
+use Rattle.messages.specs.declared.event.NodeInput.{NodeInput}
+use Rattle.messages.specs.declared.event.NodeInput.TheVariants as input
 use Rattle.record_append.specs.declared.placing.Placing.{Placing}
 use Rattle.record_append.specs.declared.placing.Placing.TheVariants.{At, Pad, Full, TooLong}
 use Rattle.record_append.specs.Placing.{placing}
@@ -326,7 +326,7 @@ module _ (A : ℕ → ℕ → ℕ → ℕ → Type 0) (me : ℕ) where
     ordered d order f go h = on_cond Begun (is_new_order d.server.disk order.epoch order.count) (f (stores d (SetOrder order))) d (λ _. go (stores d (SetOrder order)) h) (λ _. h)
 
     -- A server that takes an input; who sent an Acked that it takes acknowledged.
-    module _ (i : Input) (acked : (m : Message) (q : Handle) (v : VersionId) (n : Serial) → i ≡ input.Deliver m → m.body ≡ body.Acked q v n → A (server_number m.sender) q.0 v.0 n.0) where
+    module _ (i : NodeInput) (acked : (m : Message) (q : Handle) (v : VersionId) (n : Serial) → i ≡ input.Deliver m → m.body ≡ body.Acked q v n → A (server_number m.sender) q.0 v.0 n.0) where
       -- a lease that counts
       fit : (q v : ℕ) (p : SerialOrder) → primary_of s q v ≡ Some p → Begun (server_begins s) → (IsCounting A me q p × (primary_of s q p.held.version ≡ Some p)) × (p.held.version ≡ v)
       fit q v p is h = let there = primary_there s v (table.get s.leases q) p is in ((h.0.0 q p there.0, subst (λ (n : ℕ). primary_of s q n ≡ Some p) (sym there.1) is), there.1)
@@ -377,7 +377,7 @@ module _ (A : ℕ → ℕ → ℕ → ℕ → Type 0) (me : ℕ) where
               let there = kept_where_cases (λ e. counts_at s.config.skew_ms e.1.held s.now) s.leases q old.0 old.1 in
               subst (λ (x : SerialOrder). IsCounting A me q x) old.2 (h.0.0 q old.0 there)
 
-      does_fine : (j : Input) → i ≡ j → Begun (server_begins s) → Done (server_does (server_begins s) j)
+      does_fine : (j : NodeInput) → i ≡ j → Begun (server_begins s) → Done (server_does (server_begins s) j)
       does_fine (input.Deliver m) came h = takes_fine m m.body came refl h
       does_fine input.Tick came h = inl (ticks_fine h)
 
@@ -404,7 +404,7 @@ module _ (A : ℕ → ℕ → ℕ → ℕ → Type 0) (me : ℕ) where
   ends_done s from d choice Lost h all = (none_counting, tt)
   ends_done s from d choice (Stops made) h all = (none_counting, all_numbers from table.empty d.seen)
 
-  pub step_counting : (s : ServerState) (moment : ℕ) (i : Input) (choice : Choice)
+  pub step_counting : (s : ServerState) (moment : ℕ) (i : NodeInput) (choice : Choice)
       → ((m : Message) (q : Handle) (v : VersionId) (n : Serial) → i ≡ input.Deliver m → m.body ≡ body.Acked q v n → A (server_number m.sender) q.0 v.0 n.0) → s.id ≡ me → AreCounting s.leases
       → AreCounting (server_step s moment i choice).state.leases × AllOf (IsSettledSeen (server_at s moment) (server_step s moment i choice).state.leases) (server_step s moment i choice).seen
   step_counting s moment i choice acked id h =

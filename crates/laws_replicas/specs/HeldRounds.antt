@@ -9,7 +9,7 @@ use Rattle.gfs_types.specs.declared.ids.Serial.{Serial}
 use Rattle.gfs_types.specs.declared.mutation.Mutation.{Mutation}
 use Rattle.gfs_types.specs.declared.mutation.Mutation.TheVariants.{Write, Append, Pad}
 use Rattle.gfs_types.specs.Mutations.{end_of}
-use Rattle.messages.specs.declared.event.Input.{Input}
+use Rattle.messages.specs.declared.event.NodeInput.{NodeInput}
 use Rattle.primary_order.specs.declared.order.SerialOrder.{SerialOrder}
 use Rattle.replica_store.specs.Replicas.{Replica, replica_of}
 use Rattle.protocol.specs.Tables.{element_at}
@@ -39,7 +39,7 @@ ComesBehind place (Pad offset) = place ≤ offset
 abbrev pub RecordsComeBehindTheirRound : Type 0
 RecordsComeBehindTheirRound =
     (config : Config) (servers clients : ℕ) (w : WorldState) → IsReached config servers clients w → (index : ℕ) (s : ServerState) → element_at w.servers index ≡ Some s
-    → (moment : ℕ) (i : Input) (choice : Choice) (shown : ℕ) (handle : Handle) (version : Version) (serial : Serial) (id : DataId) (m : Mutation)
+    → (moment : ℕ) (i : NodeInput) (choice : Choice) (shown : ℕ) (handle : Handle) (version : Version) (serial : Serial) (id : DataId) (m : Mutation)
     → element_at (server_step s moment i choice).seen shown ≡ Some (Numbered handle version serial id m)
     → (place : ℕ) (e : Placed) → element_at (order_of w.observer handle.0) place ≡ Some e → e.entry.round ≡ version.0
     → ComesBehind (end_of config.chunk e.entry.mutation) m

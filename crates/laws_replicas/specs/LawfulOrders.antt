@@ -9,8 +9,8 @@ use Rattle.gfs_types.specs.declared.ids.Version.{Version}
 use Rattle.gfs_types.specs.declared.mutation.Mutation.{Mutation}
 use Rattle.gfs_types.specs.declared.mutation.Mutation.TheVariants.{Write, Append, Pad}
 use Rattle.gfs_types.specs.Mutations.{start_of}
-use Rattle.messages.specs.declared.event.Input.{Input}
-use Rattle.messages.specs.declared.event.Input.TheVariants.{Deliver}
+use Rattle.messages.specs.declared.event.NodeInput.{NodeInput}
+use Rattle.messages.specs.declared.event.NodeInput.TheVariants.{Deliver}
 use Rattle.messages.specs.declared.message.Message.{Message}
 use Rattle.messages.specs.declared.message.Body.TheVariants as body
 use Rattle.relaxed_file.specs.Order.{Entry}
@@ -60,7 +60,7 @@ pub record HasData (size : ℕ) (sent : List Message) (p : Placed) : Type 0 wher
 abbrev pub NumberedMutationsMayFollow : Type 0
 NumberedMutationsMayFollow =
     (config : Config) (servers clients : ℕ) (w : WorldState) → IsReached config servers clients w → IsTrue (is_kept w) → (index : ℕ) (s : ServerState) → element_at w.servers index ≡ Some s
-    → (moment : ℕ) (i : Input) (choice : Choice) → ((m : Message) → i ≡ Deliver m → (at : ℕ) × (element_at w.sent at ≡ Some m)) → IsTrue (observed_moment w.config.skew_ms w.observer moment).are_clocks_kept
+    → (moment : ℕ) (i : NodeInput) (choice : Choice) → ((m : Message) → i ≡ Deliver m → (at : ℕ) × (element_at w.sent at ≡ Some m)) → IsTrue (observed_moment w.config.skew_ms w.observer moment).are_clocks_kept
     → (shown : ℕ) (handle : Handle) (version : Version) (serial : Serial) (id : DataId) (m : Mutation) → element_at (server_step s moment i choice).seen shown ≡ Some (Numbered handle version serial id m)
     → MayFollow config.chunk (entries_of w.observer handle.0) version.0 m × ((bytes : List ℕ) × IsPushed w.sent id bytes × IsMadeOf config.chunk bytes m)
 

@@ -6,8 +6,8 @@ use Rattle.gfs_types.specs.declared.ids.Serial.{Serial}
 use Rattle.gfs_types.specs.declared.ids.Version.{Version}
 use Rattle.gfs_types.specs.declared.refusal.Refusal.{Refusal}
 use Rattle.gfs_types.specs.declared.refusal.Refusal.TheVariants as refusal
-use Rattle.messages.specs.declared.event.Input.{Input}
-use Rattle.messages.specs.declared.event.Input.TheVariants.{Deliver}
+use Rattle.messages.specs.declared.event.NodeInput.{NodeInput}
+use Rattle.messages.specs.declared.event.NodeInput.TheVariants.{Deliver}
 use Rattle.messages.specs.declared.message.Body.TheVariants as body
 use Rattle.messages.specs.declared.message.Change.{Change}
 use Rattle.messages.specs.declared.message.Message.{Message}
@@ -29,7 +29,7 @@ IsRefusedFor before after handle version serial id refusal.Corrupt = ((from to :
 IsRefusedFor before after handle version serial id other = ⊥
 
 -- the step takes a Forward of this mutation from this node, which it refuses for that cause
-pub record IsRefusal (before after : ServerState) (i : Input) (m : Message) (handle : Handle) (version : Version) (serial : Serial) (cause : Refusal) : Type 0 where
+pub record IsRefusal (before after : ServerState) (i : NodeInput) (m : Message) (handle : Handle) (version : Version) (serial : Serial) (cause : Refusal) : Type 0 where
   pub forward : Message
   pub id : DataId
   pub named : Change
@@ -41,6 +41,6 @@ pub record IsRefusal (before after : ServerState) (i : Input) (m : Message) (han
 -- A server that sends a Nacked takes a Forward of that version and serial in this step, which it refuses for a cause (section 3.1).
 abbrev pub NackedMutationsWereForwarded : Type 0
 NackedMutationsWereForwarded =
-    (s : ServerState) (moment : ℕ) (i : Input) (choice : Choice) (place : ℕ) (m : Message) → element_at (server_step s moment i choice).out.sent place ≡ Some m
+    (s : ServerState) (moment : ℕ) (i : NodeInput) (choice : Choice) (place : ℕ) (m : Message) → element_at (server_step s moment i choice).out.sent place ≡ Some m
     → (handle : Handle) (version : Version) (serial : Serial) (cause : Refusal) → m.body ≡ body.Nacked handle version serial cause
     → IsRefusal s (server_step s moment i choice).state i m handle version serial cause

@@ -5,8 +5,8 @@ use Rattle.gfs_types.specs.declared.config.Config.{Config}
 use Rattle.gfs_types.specs.declared.ids.Handle.{Handle}
 use Rattle.gfs_types.specs.declared.ids.Version.{Version}
 use Rattle.gfs_types.specs.declared.ids.Serial.{Serial}
-use Rattle.messages.specs.declared.event.Input.{Input}
-use Rattle.messages.specs.declared.event.Input.TheVariants.{Deliver}
+use Rattle.messages.specs.declared.event.NodeInput.{NodeInput}
+use Rattle.messages.specs.declared.event.NodeInput.TheVariants.{Deliver}
 use Rattle.messages.specs.declared.message.Message.{Message}
 use Rattle.messages.specs.declared.message.Body.TheVariants as body
 use Rattle.primary_order.specs.declared.waiting.Waiting.{Waiting}
@@ -54,6 +54,6 @@ pub record IsAcknowledgedByAll (sent : List Message) (me : ℕ) (before after : 
 abbrev pub SettledMutationsWereAcknowledged : Type 0
 SettledMutationsWereAcknowledged =
     (config : Config) (servers clients : ℕ) (w : WorldState) → IsReached config servers clients w → (index : ℕ) (s : ServerState) → element_at w.servers index ≡ Some s
-    → (moment : ℕ) (i : Input) (choice : Choice) → ((m : Message) → i ≡ Deliver m → (at : ℕ) × (element_at w.sent at ≡ Some m))
+    → (moment : ℕ) (i : NodeInput) (choice : Choice) → ((m : Message) → i ≡ Deliver m → (at : ℕ) × (element_at w.sent at ≡ Some m))
     → (shown : ℕ) (handle : Handle) (version : Version) (serial : Serial) → element_at (server_step s moment i choice).seen shown ≡ Some (BecameSettled handle version serial)
     → IsAcknowledgedByAll w.sent (suc index) (server_at s moment) (server_step s moment i choice).state handle.0 version.0 serial.0

@@ -3,8 +3,8 @@ use Rattle.std.proofs.Common.{◌≡◌, ◌≤◌, ℕ, Bool, true, List, [], �
 use Rattle.std.specs.Prelude.{nat_lt, max}
 use Rattle.std.specs.FinMap as table
 use Rattle.std.proofs.Math.Nat.{le-max_left}
-use Rattle.messages.specs.declared.event.Input.{Input}
-use Rattle.messages.specs.declared.event.Input.TheVariants as input
+use Rattle.messages.specs.declared.event.NodeInput.{NodeInput}
+use Rattle.messages.specs.declared.event.NodeInput.TheVariants as input
 use Rattle.messages.specs.declared.message.Message.{Message}
 use Rattle.messages.specs.declared.message.Body.{Body}
 use Rattle.messages.specs.declared.message.Body.TheVariants as body
@@ -36,7 +36,7 @@ abbrev pub IsWordSaid : (ℕ → ℕ → Type 0) → Body → Type 0
 IsWordSaid Ended (body.Revoked handle version) = Ended handle.0 version.0
 IsWordSaid Ended other = Unit {0}
 
-abbrev pub IsInputSaid : (ℕ → ℕ → Type 0) → Input → Type 0
+abbrev pub IsInputSaid : (ℕ → ℕ → Type 0) → NodeInput → Type 0
 IsInputSaid Ended (input.Deliver m) = IsWordSaid Ended m.body
 IsInputSaid Ended input.Tick = Unit {0}
 
@@ -95,19 +95,19 @@ module _ (start : LogDisk) (Ended : ℕ → ℕ → Type 0) (P : Core → Type 0
   takes_acts d m (body.Image handle version serial bytes) said bound h = h
   takes_acts d m (body.CopyLocal order handle version copy copy_version) said bound h = h
 
-  does_acts : (d : MasterDoing) (i : Input) → IsInputSaid Ended i → (Unit {0} → d.master.logged.next_file ≤ counter_limit) → Now d → Now (master_does d i)
+  does_acts : (d : MasterDoing) (i : NodeInput) → IsInputSaid Ended i → (Unit {0} → d.master.logged.next_file ≤ counter_limit) → Now d → Now (master_does d i)
   does_acts d (input.Deliver m) said bound h = takes_acts d m m.body said bound h
   does_acts d input.Tick said bound h = tick_acts d h
 
   -- the step of a master that is up, where nothing hinders it
-  pub goes_here : (m : MasterState) (moment : ℕ) (i : Input) (refused : List Bool) → IsInputSaid Ended i → (Unit {0} → m.logged.next_file ≤ counter_limit) → Now (master_begins (master_at m moment) refused)
+  pub goes_here : (m : MasterState) (moment : ℕ) (i : NodeInput) (refused : List Bool) → IsInputSaid Ended i → (Unit {0} → m.logged.next_file ≤ counter_limit) → Now (master_begins (master_at m moment) refused)
       → Now (master_goes m moment i refused)
   goes_here m moment i refused said bound h =
       let d : MasterDoing = master_does (master_begins (master_at m moment) refused) i in
       ready_acts start Ended P keeps rowing Q acts d (does_acts (master_begins (master_at m moment) refused) i said bound h)
 
 -- the step of a master that is up and has what its log has
-pub goes_acts : (Ended : ℕ → ℕ → Type 0) (P : Core → Type 0) (Q : Core → Attempts → Waits → Type 0) (m : MasterState) (moment : ℕ) (i : Input) (refused : List Bool) (keeps : Keeps (Unit {0}) Nothing Ended P)
+pub goes_acts : (Ended : ℕ → ℕ → Type 0) (P : Core → Type 0) (Q : Core → Attempts → Waits → Type 0) (m : MasterState) (moment : ℕ) (i : NodeInput) (refused : List Bool) (keeps : Keeps (Unit {0}) Nothing Ended P)
     (rowing : (c : Core) → P c → IsRowing m.disk c) (acts : Acts m.disk Ended P Q) → IsInputSaid Ended i → IsLogged IsFoundRows IsRowedLog rows_kept m → m.up ≡ true → AreWaiting m.logged m.attempts m.snapshots
     → P (core_of (master_begins (master_at m moment) refused)) → Q (core_of (master_begins (master_at m moment) refused)) m.attempts (master_at m moment).snapshots
     → (let d : MasterDoing = master_goes m moment i refused in

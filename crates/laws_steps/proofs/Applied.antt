@@ -7,7 +7,7 @@ use Rattle.gfs_types.specs.declared.config.Config.{Config}
 use Rattle.gfs_types.specs.declared.ids.DataId.{DataId}
 use Rattle.gfs_types.specs.declared.mutation.Mutation.{Mutation}
 use Rattle.gfs_types.specs.declared.mutation.Mutation.TheVariants as mutation
-use Rattle.messages.specs.declared.event.Input.{Input}
+use Rattle.messages.specs.declared.event.NodeInput.{NodeInput}
 use Rattle.replica_store.specs.declared.row.Row.{Row}
 use Rattle.replica_store.specs.declared.change.StoreChange.TheVariants.{SetOrder, Put, Raise, Copy, Remove}
 use Rattle.replica_store.specs.Replicas.{Replica, ServerDisk, replica_of, replica_becomes, written_replica, disk_changed, disk_changed_by_all, row_of, row_at}
@@ -128,7 +128,7 @@ module _ (s : ServerState) where
   ends_made d choice Lost h = tt
   ends_made d choice (Stops made) h = none_held (disk_changed_by_all s.disk (made_changes made d.changes)) (filter is_numbering d.seen)
 
-  step_made : (moment : ℕ) (i : Input) (choice : Choice) → IsDone (server_step s moment i choice)
+  step_made : (moment : ℕ) (i : NodeInput) (choice : Choice) → IsDone (server_step s moment i choice)
   step_made moment i choice =
       on_cond IsDone s.up (server_ends s (server_goes s moment i) choice choice.ending) (no_step s)
       (λ _. ends_made (server_goes s moment i) choice choice.ending (goes_fine s Before After acts_made moment i (refl, refl, tt, refl))) (λ _. tt)

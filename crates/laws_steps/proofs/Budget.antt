@@ -23,8 +23,8 @@ use Rattle.messages.specs.declared.message.Message.{Message}
 use Rattle.messages.specs.declared.message.Location.{Location}
 use Rattle.messages.specs.declared.message.Holder.{Holder}
 use Rattle.messages.specs.declared.message.Group.{Group}
-use Rattle.messages.specs.declared.event.Input.{Input}
-use Rattle.messages.specs.declared.event.Input.TheVariants as input
+use Rattle.messages.specs.declared.event.NodeInput.{NodeInput}
+use Rattle.messages.specs.declared.event.NodeInput.TheVariants as input
 use Rattle.relaxed_file.specs.NameStep.{is_look, is_name_call}
 use Rattle.relaxed_file.specs.Parts.{is_range_too_long}
 use Rattle.client_state.specs.declared.call.CurrentCall.{CurrentCall}
@@ -451,7 +451,7 @@ module _ (config : Config) (U : Option ℕ → ℕ → Type 0) where
     pub begun_fine : s.config ≡ config → IsRight s.current → IsFine (client_begins s)
     begun_fine same h = record { config_is = same; silent = λ m is. none_some m is; right = h }
 
-    pub does_leaves : (i : Input) (o : Option CurrentCall) → s.current ≡ o → s.config ≡ config → IsCameIn Came i → IsRight s.current → IsRight o → Leaves s (client_does (client_begins s) i o)
+    pub does_leaves : (i : NodeInput) (o : Option CurrentCall) → s.current ≡ o → s.config ≡ config → IsCameIn Came i → IsRight s.current → IsRight o → Leaves s (client_does (client_begins s) i o)
     does_leaves i None now same came all h = inl (begun_fine same all)
     does_leaves (input.Deliver m) (Some c) now same came all h = takes_at_fine c m c.stage now (same, refl) came h (begun_fine same all)
     does_leaves input.Tick (Some c) now same came all h = inl (ticks_fine c c.stage (same, refl) h (begun_fine same all))

@@ -5,7 +5,7 @@ use Rattle.std.specs.FinMap as table
 use Rattle.gfs_types.specs.declared.ids.DataId.{DataId}
 use Rattle.gfs_types.specs.declared.mutation.Mutation.{Mutation}
 use Rattle.gfs_types.specs.declared.mutation.Mutation.TheVariants as mutation
-use Rattle.messages.specs.declared.event.Input.{Input}
+use Rattle.messages.specs.declared.event.NodeInput.{NodeInput}
 use Rattle.replica_store.specs.declared.row.Row.{Row}
 use Rattle.replica_store.specs.declared.change.StoreChange.{StoreChange}
 use Rattle.replica_store.specs.declared.change.StoreChange.TheVariants.{SetOrder, Put, Write, Zero, Raise, Copy, Remove}
@@ -239,7 +239,7 @@ module _ (s : ServerState) where
       changed_on d.seen (filter is_numbering d.seen) s.disk (disk_changed_by_all s.disk (made_changes made d.changes)) (filtered_numbered d.seen)
       (subst (λ (x : ServerDisk). Changed d.seen x (disk_changed_by_all x (take made d.changes))) h.2 (h.1 made))
 
-  step_changed : (moment : ℕ) (i : Input) (choice : Choice) → IsDone (server_step s moment i choice)
+  step_changed : (moment : ℕ) (i : NodeInput) (choice : Choice) → IsDone (server_step s moment i choice)
   step_changed moment i choice =
       on_cond IsDone s.up (server_ends s (server_goes s moment i) choice choice.ending) (no_step s)
       (λ _. ends_changed (server_goes s moment i) choice choice.ending (goes_fine s Before After acts_changed moment i (refl, tt))) (λ _. unchanged [] s.disk s.disk refl)

@@ -10,8 +10,8 @@ use Rattle.messages.specs.declared.message.Body.{Body}
 use Rattle.messages.specs.declared.message.Body.TheVariants as body
 use Rattle.messages.specs.declared.message.Message.{Message}
 use Rattle.messages.specs.declared.message.Holder.{Holder}
-use Rattle.messages.specs.declared.event.Input.{Input}
-use Rattle.messages.specs.declared.event.Input.TheVariants as input
+use Rattle.messages.specs.declared.event.NodeInput.{NodeInput}
+use Rattle.messages.specs.declared.event.NodeInput.TheVariants as input
 use Rattle.relaxed_file.specs.NameStep.{is_look}
 use Rattle.protocol.specs.Sending.{message, data_id, the_server, the_client}
 use Rattle.protocol.specs.PushBuffer.{hops_after}
@@ -195,11 +195,11 @@ module _ (s : ClientState) where
         named = named;
       }
 
-all_came : (i : Input) → IsCameIn (λ b. Unit {0}) i
+all_came : (i : NodeInput) → IsCameIn (λ b. Unit {0}) i
 all_came (input.Deliver m) = tt
 all_came input.Tick = tt
 
-pub goes_numbered : (s : ClientState) (moment : ℕ) (i : Input) → ((c : CurrentCall) → s.current ≡ Some c → c.number ≤ s.call_count) → IsStepOf (client_at s moment) (client_goes s moment i)
+pub goes_numbered : (s : ClientState) (moment : ℕ) (i : NodeInput) → ((c : CurrentCall) → s.current ≡ Some c → c.number ≤ s.call_count) → IsStepOf (client_at s moment) (client_goes s moment i)
 goes_numbered s moment i named =
     let at : ClientState = client_at s moment in
     step_kept at (λ b. Unit {0}) (IsInHand at) (IsInHand at) (λ d c l. Unit {0}) (λ d c chunk left. Unit {0}) (IsStepOf at) (numbers_kept at (λ b. Unit {0}) named) i s.current refl (all_came i)
@@ -217,7 +217,7 @@ call_numbered s moment c named =
     }) c (begun at named)
 
 -- What a step or a call leaves of a client and sends: as its handling came to, nothing of one that is put down, or all as it was.
-pub of_step : (P : ClientState → List Message → Type 0) (s : ClientState) (moment : ℕ) (i : Input) (choice : Choice) → ((c : CurrentCall) → s.current ≡ Some c → c.number ≤ s.call_count)
+pub of_step : (P : ClientState → List Message → Type 0) (s : ClientState) (moment : ℕ) (i : NodeInput) (choice : Choice) → ((c : CurrentCall) → s.current ≡ Some c → c.number ≤ s.call_count)
     → ((d : ClientDoing) → IsStepOf (client_at s moment) d → P d.client (option_to_list d.sent)) → P (stopped_client s) [] → P s [] → P (client_step s moment i choice).state (client_step s moment i choice).out.sent
 of_step P s moment i choice named goes stops same =
     on_cond (λ (t : Taken ClientState). P t.state t.out.sent) (may_step s) (client_ends s (client_goes s moment i) choice.ending) (no_step s) (λ _. by_ending choice.ending) (λ _. same)

@@ -16,7 +16,7 @@ use Rattle.messages.specs.declared.message.Body.TheVariants as body
 use Rattle.messages.specs.declared.message.Message.{Message}
 use Rattle.messages.specs.declared.message.Holder.{Holder}
 use Rattle.messages.specs.declared.message.Location.{Location}
-use Rattle.messages.specs.declared.event.Input.{Input}
+use Rattle.messages.specs.declared.event.NodeInput.{NodeInput}
 use Rattle.protocol.specs.Sending.{message, the_server, the_client}
 use Rattle.protocol.specs.Choice.{Choice, Ending, Goes, Lost, Stops}
 use Rattle.protocol.specs.Seen.{Taken, no_step}
@@ -325,7 +325,7 @@ module _ (config : Config) (sent : List Message) (k client : ℕ) (s : ClientSta
           filed = λ c file index last is. (refl, refl, refl, refl, knows.cache);
         }
 
-    pub steps_here : (i : Input) → IsCameIn (Came sent client) i → After (client_does (client_begins s) i s.current)
+    pub steps_here : (i : NodeInput) → IsCameIn (Came sent client) i → After (client_does (client_begins s) i s.current)
     steps_here i came = step_kept s (Came sent client) Hand Hand Used Left After kept i s.current refl came (λ c is. at_stage c c.stage (refl, refl, refl, refl, knows.cache)) begun
 
     pub calls_here : (c : Call) → After (calls (client_begins s) c)
@@ -335,7 +335,7 @@ module _ (config : Config) (sent : List Message) (k client : ℕ) (s : ClientSta
     refused_here = answered (client_begins s) (answer.Refused NoMemory) refl knows.cache
 
 -- what a client leaves and sends: nothing of one that is put down, all as it was, or as its handling came to
-pub stepped : (P : ClientState → List Message → Type 0) (s : ClientState) (moment : ℕ) (i : Input) (choice : Choice) → P (client_goes s moment i).client (option_to_list (client_goes s moment i).sent) → P (stopped_client s) [] → P s []
+pub stepped : (P : ClientState → List Message → Type 0) (s : ClientState) (moment : ℕ) (i : NodeInput) (choice : Choice) → P (client_goes s moment i).client (option_to_list (client_goes s moment i).sent) → P (stopped_client s) [] → P s []
     → P (client_step s moment i choice).state (client_step s moment i choice).out.sent
 stepped P s moment i choice goes stops same =
     on_cond (λ (t : Taken ClientState). P t.state t.out.sent) (may_step s) (client_ends s (client_goes s moment i) choice.ending) (no_step s) (λ _. by_ending choice.ending) (λ _. same)

@@ -24,8 +24,8 @@ use Rattle.messages.specs.declared.message.Message.{Message}
 use Rattle.messages.specs.declared.message.Location.{Location}
 use Rattle.messages.specs.declared.message.Holder.{Holder}
 use Rattle.messages.specs.declared.message.Group.{Group}
-use Rattle.messages.specs.declared.event.Input.{Input}
-use Rattle.messages.specs.declared.event.Input.TheVariants as input
+use Rattle.messages.specs.declared.event.NodeInput.{NodeInput}
+use Rattle.messages.specs.declared.event.NodeInput.TheVariants as input
 use Rattle.relaxed_file.specs.NameStep.{is_name_call}
 use Rattle.relaxed_file.specs.Parts.{is_range_too_long}
 use Rattle.protocol.specs.Tables.{is_empty_list}
@@ -351,7 +351,7 @@ module _ (s : ClientState) (Came : Body → Type 0) (N H : ClientDoing → Curre
   takes_at_kept c m other now came h at p = takes_kept c m.body now came at p
 
   -- a message or a tick
-  pub step_kept : (i : Input) (o : Option CurrentCall) → s.current ≡ o → IsCameIn Came i → ((c : CurrentCall) → s.current ≡ Some c → At c c.stage) → P d0 → P (client_does d0 i o)
+  pub step_kept : (i : NodeInput) (o : Option CurrentCall) → s.current ≡ o → IsCameIn Came i → ((c : CurrentCall) → s.current ≡ Some c → At c c.stage) → P d0 → P (client_does d0 i o)
   step_kept i None now came h p = p
   step_kept (input.Deliver m) (Some c) now came h p = takes_at_kept c m c.stage now came (h c now) (h c now) p
   step_kept input.Tick (Some c) now came h p = ticks_kept c c.stage (h c now) p

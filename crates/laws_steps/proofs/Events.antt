@@ -9,8 +9,8 @@ use Rattle.gfs_types.specs.declared.call.Call.{Call}
 use Rattle.messages.specs.declared.message.Message.{Message}
 use Rattle.messages.specs.declared.event.Event.{Event}
 use Rattle.messages.specs.declared.event.Event.TheVariants as event
-use Rattle.messages.specs.declared.event.Input.{Input}
-use Rattle.messages.specs.declared.event.Input.TheVariants as input
+use Rattle.messages.specs.declared.event.NodeInput.{NodeInput}
+use Rattle.messages.specs.declared.event.NodeInput.TheVariants as input
 use Rattle.protocol.specs.Tables.{moment_limit, element_at}
 use Rattle.protocol.specs.Sending.{the_server, the_client}
 use Rattle.protocol.specs.Choice.{Choice}
@@ -27,7 +27,7 @@ use Rattle.laws_base.proofs.Steps.{on_cond, none_some}
 use Rattle.laws_base.proofs.RisingOrders.{element_numbered}
 
 -- the event gives a node this input at this moment
-abbrev pub IsGiven : WorldState → Event → Node → ℕ → Input → Type 0
+abbrev pub IsGiven : WorldState → Event → Node → ℕ → NodeInput → Type 0
 IsGiven w (event.Deliver number now) n moment (input.Deliver m) = (numbered_from_1 w.sent number ≡ Some m) × (m.receiver ≡ n) × (now.0 ≡ moment)
 IsGiven w (event.Tick to now) n moment input.Tick = (to ≡ n) × (now.0 ≡ moment)
 IsGiven w e n moment i = ⊥
@@ -42,12 +42,12 @@ with_rot w index handle s r is_kept = record { out = no_output; world = record (
 -- what holds after each kind of event
 pub record HoldsAfter (w : WorldState) (Q : Event → Happened → Type 0) : Type 0 where
   pub nothing : (e : Event) → Q e (nothing_happens w)
-  pub masters : (e : Event) (moment : ℕ) (i : Input) (choice : Choice) → IsGiven w e node.Master moment i → IsTrue w.master.up → Q e (after_master w moment (master_step w.master moment i choice))
+  pub masters : (e : Event) (moment : ℕ) (i : NodeInput) (choice : Choice) → IsGiven w e node.Master moment i → IsTrue w.master.up → Q e (after_master w moment (master_step w.master moment i choice))
   pub opens : (e : Event) (moment : ℕ) (choice : Choice) → Q e (after_master w moment (master_restart w.master moment choice))
-  pub serves : (e : Event) (index moment : ℕ) (s : ServerState) (i : Input) (choice : Choice) → element_at w.servers index ≡ Some s → IsGiven w e (the_server (suc index)) moment i → IsTrue s.up
+  pub serves : (e : Event) (index moment : ℕ) (s : ServerState) (i : NodeInput) (choice : Choice) → element_at w.servers index ≡ Some s → IsGiven w e (the_server (suc index)) moment i → IsTrue s.up
       → Q e (after_server w index moment (server_step s moment i choice))
   pub restarts : (e : Event) (index moment : ℕ) (s : ServerState) (choice : Choice) → element_at w.servers index ≡ Some s → Q e (after_server w index moment (server_restart s moment choice))
-  pub steps : (e : Event) (index moment : ℕ) (s : ClientState) (i : Input) (choice : Choice) → element_at w.clients index ≡ Some s → IsGiven w e (the_client (suc index)) moment i → IsTrue s.up
+  pub steps : (e : Event) (index moment : ℕ) (s : ClientState) (i : NodeInput) (choice : Choice) → element_at w.clients index ≡ Some s → IsGiven w e (the_client (suc index)) moment i → IsTrue s.up
       → Q e (after_client w index moment (client_step s moment i choice))
   pub calls : (e : Event) (index moment : ℕ) (s : ClientState) (c : Call) (choice : Choice) → element_at w.clients index ≡ Some s → IsTrue (may_call s)
       → Q e (after_client (with_call w index moment c) index moment (client_call s moment c choice))
@@ -55,25 +55,25 @@ pub record HoldsAfter (w : WorldState) (Q : Event → Happened → Type 0) : Typ
       → Q e (with_rot w index handle s (rotten_replica r place byte) is_kept)
 
 module _ (w : WorldState) (Q : Event → Happened → Type 0) (k : HoldsAfter w Q) where
-  after_master_moves : (e : Event) (moment : ℕ) (i : Input) (choice : Choice) → IsGiven w e node.Master moment i → Q e (master_moves w moment i choice)
+  after_master_moves : (e : Event) (moment : ℕ) (i : NodeInput) (choice : Choice) → IsGiven w e node.Master moment i → Q e (master_moves w moment i choice)
   after_master_moves e moment i choice is =
       on_cond (Q e) w.master.up (after_master w moment (master_step w.master moment i choice)) (nothing_happens w) (λ up. k.masters e moment i choice is up) (λ _. k.nothing e)
 
-  after_server_moves : (e : Event) (n moment : ℕ) (i : Input) (choice : Choice) (o : Option ServerState) → numbered_from_1 w.servers n ≡ o → IsGiven w e (the_server n) moment i → Q e (server_moves w (n - 1) moment i choice o)
+  after_server_moves : (e : Event) (n moment : ℕ) (i : NodeInput) (choice : Choice) (o : Option ServerState) → numbered_from_1 w.servers n ≡ o → IsGiven w e (the_server n) moment i → Q e (server_moves w (n - 1) moment i choice o)
   after_server_moves e n moment i choice None at is = k.nothing e
   after_server_moves e zero moment i choice (Some s) at is = none_some s at
   after_server_moves e (suc n) moment i choice (Some s) at is =
       on_cond (Q e) s.up (after_server w (suc n - 1) moment (server_step s moment i choice)) (nothing_happens w)
       (λ up. subst (λ (index : ℕ). Q e (after_server w index moment (server_step s moment i choice))) (omega arith) (k.serves e n moment s i choice at is up)) (λ _. k.nothing e)
 
-  after_client_moves : (e : Event) (n moment : ℕ) (i : Input) (choice : Choice) (o : Option ClientState) → numbered_from_1 w.clients n ≡ o → IsGiven w e (the_client n) moment i → Q e (client_moves w (n - 1) moment i choice o)
+  after_client_moves : (e : Event) (n moment : ℕ) (i : NodeInput) (choice : Choice) (o : Option ClientState) → numbered_from_1 w.clients n ≡ o → IsGiven w e (the_client n) moment i → Q e (client_moves w (n - 1) moment i choice o)
   after_client_moves e n moment i choice None at is = k.nothing e
   after_client_moves e zero moment i choice (Some s) at is = none_some s at
   after_client_moves e (suc n) moment i choice (Some s) at is =
       on_cond (Q e) s.up (after_client w (suc n - 1) moment (client_step s moment i choice)) (nothing_happens w)
       (λ up. subst (λ (index : ℕ). Q e (after_client w index moment (client_step s moment i choice))) (omega arith) (k.steps e n moment s i choice at is up)) (λ _. k.nothing e)
 
-  after_moves : (e : Event) (n : Node) (moment : ℕ) (i : Input) (choice : Choice) → IsGiven w e n moment i → Q e (moves w n moment i choice)
+  after_moves : (e : Event) (n : Node) (moment : ℕ) (i : NodeInput) (choice : Choice) → IsGiven w e n moment i → Q e (moves w n moment i choice)
   after_moves e node.Master moment i choice is = after_master_moves e moment i choice is
   after_moves e (node.Server s) moment i choice is = after_server_moves e s.0 moment i choice (numbered_from_1 w.servers s.0) refl is
   after_moves e (node.Client c) moment i choice is = after_client_moves e c.0 moment i choice (numbered_from_1 w.clients c.0) refl is

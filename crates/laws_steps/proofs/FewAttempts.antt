@@ -14,8 +14,8 @@ use Rattle.messages.specs.declared.message.Body.TheVariants as body
 use Rattle.messages.specs.declared.message.Message.{Message}
 use Rattle.messages.specs.declared.event.Event.{Event}
 use Rattle.messages.specs.declared.event.Event.TheVariants as event
-use Rattle.messages.specs.declared.event.Input.{Input}
-use Rattle.messages.specs.declared.event.Input.TheVariants as input
+use Rattle.messages.specs.declared.event.NodeInput.{NodeInput}
+use Rattle.messages.specs.declared.event.NodeInput.TheVariants as input
 use Rattle.relaxed_file.specs.Run.{Visible, Called, Answered, Passed}
 use Rattle.client_state.specs.declared.call.CurrentCall.{CurrentCall}
 use Rattle.protocol.specs.Tables.{element_at, with_at, first_numbers}
@@ -263,7 +263,7 @@ module _ (config : Config) (index : ℕ) where
     ends_left d leaves e = elim (leaves) [ inl f ↦ fine_left d f e | inr g ↦ asking_left d g e ]
 
     -- what comes in was sent to it
-    came_in : (e : Event) (i : Input) → IsGiven w e (the_client (suc index)) moment i → IsCameIn (Came config (Tried T w.sent (K w))) i
+    came_in : (e : Event) (i : NodeInput) → IsGiven w e (the_client (suc index)) moment i → IsCameIn (Came config (Tried T w.sent (K w))) i
     came_in (event.Deliver number now) (input.Deliver m) is = λ n body_is u. u.1 (number - 1) m (element_numbered w.sent number m is.0) is.1 body_is
     came_in (event.Call c asked now) (input.Deliver m) is = absurd is
     came_in (event.Tick to now) (input.Deliver m) is = absurd is
@@ -272,7 +272,7 @@ module _ (config : Config) (index : ℕ) where
     came_in (event.Fuse n count torn) (input.Deliver m) is = absurd is
     came_in e input.Tick is = tt
 
-    step_left : (e : Event) (i : Input) (choice : Choice) → IsGiven w e (the_client (suc index)) moment i → Left (client_step s moment i choice)
+    step_left : (e : Event) (i : NodeInput) (choice : Choice) → IsGiven w e (the_client (suc index)) moment i → Left (client_step s moment i choice)
     step_left e i choice is =
         let there = h.stands s at in
         on_cond Left (may_step s) (client_ends s (client_goes s moment i) choice.ending) (no_step s)
@@ -347,7 +347,7 @@ module _ (config : Config) (index : ℕ) where
     there_before : (t u : ClientState) → element_at (with_at w.clients other t) index ≡ Some u → element_at w.clients index ≡ Some u
     there_before t u is = elim (set_cases w.clients other t index u is) [ inl both ↦ absurd (apart (sym both.0)) | inr there ↦ there ]
 
-    other_steps : (i : Input) (choice : Choice) → IsFew (Next w (after_client w other moment (client_step s moment i choice)) T) (after_client w other moment (client_step s moment i choice)).world
+    other_steps : (i : NodeInput) (choice : Choice) → IsFew (Next w (after_client w other moment (client_step s moment i choice)) T) (after_client w other moment (client_step s moment i choice)).world
     other_steps i choice =
         let t : Taken ClientState = client_step s moment i choice in
         let x : Happened = after_client w other moment t in
@@ -379,7 +379,7 @@ module _ (config : Config) (index : ℕ) where
     abbrev After : Happened → Type 0
     After x = IsFew (Next w x T) x.world
 
-    few_steps : (e : Event) (other moment : ℕ) (s : ClientState) (i : Input) (choice : Choice) → element_at w.clients other ≡ Some s → IsGiven w e (the_client (suc other)) moment i → IsTrue s.up → After (after_client w other moment (client_step s moment i choice))
+    few_steps : (e : Event) (other moment : ℕ) (s : ClientState) (i : NodeInput) (choice : Choice) → element_at w.clients other ≡ Some s → IsGiven w e (the_client (suc other)) moment i → IsTrue s.up → After (after_client w other moment (client_step s moment i choice))
     few_steps e other moment s i choice at is up =
         elim (same_or_not index other) [
           | inl same ↦ subst (λ (n : ℕ). After (after_client w n moment (client_step s moment i choice))) same

@@ -11,8 +11,8 @@ use Rattle.gfs_types.specs.declared.call.Call.TheVariants as call
 use Rattle.gfs_types.specs.declared.answer.Answer.{Answer}
 use Rattle.gfs_types.specs.declared.answer.Answer.TheVariants as answer
 use Rattle.gfs_types.specs.declared.refusal.Refusal.TheVariants.{TooLong, BadFd}
-use Rattle.messages.specs.declared.event.Input.{Input}
-use Rattle.messages.specs.declared.event.Input.TheVariants as input
+use Rattle.messages.specs.declared.event.NodeInput.{NodeInput}
+use Rattle.messages.specs.declared.event.NodeInput.TheVariants as input
 use Rattle.messages.specs.declared.message.Body.{Body}
 use Rattle.messages.specs.declared.message.Body.TheVariants as body
 use Rattle.messages.specs.declared.message.Message.{Message}
@@ -184,7 +184,7 @@ module _ (s : ClientState) (moment : ℕ) where
   at_stage c IsOver of = begun
   at_stage c (HasAnswer reply) of = begun
 
-  all_came : (i : Input) → IsCameIn (λ b. Unit {0}) i
+  all_came : (i : NodeInput) → IsCameIn (λ b. Unit {0}) i
   all_came (input.Deliver m) = tt
   all_came input.Tick = tt
 

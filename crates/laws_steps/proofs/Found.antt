@@ -3,7 +3,7 @@ use Rattle.std.proofs.Common.{◌≡◌, ℕ, zero, suc, Bool, true, false, List
 use Rattle.std.specs.Prelude.{filter}
 use Rattle.std.proofs.lemmas.Bool.{true≢false}
 use Rattle.gfs_types.specs.declared.config.Config.{Config}
-use Rattle.messages.specs.declared.event.Input.{Input}
+use Rattle.messages.specs.declared.event.NodeInput.{NodeInput}
 use Rattle.data_push.specs.Buffers.{PushBuffer}
 use Rattle.replica_store.specs.declared.change.StoreChange.{StoreChange}
 use Rattle.replica_store.specs.Replicas.{ServerDisk, new_server_disk, with_replica, rotten_replica, disk_changed, disk_changed_by_all}
@@ -52,7 +52,7 @@ ends_idle s d choice Goes h up = h
 ends_idle s d choice Lost h up = absurd (true≢false (sym up))
 ends_idle s d choice (Stops made) h up = absurd (true≢false (sym up))
 
-step_idle : (s : ServerState) (moment : ℕ) (i : Input) (choice : Choice) → IsUpIdle s → IsUpIdle (server_step s moment i choice).state
+step_idle : (s : ServerState) (moment : ℕ) (i : NodeInput) (choice : Choice) → IsUpIdle s → IsUpIdle (server_step s moment i choice).state
 step_idle s moment i choice h =
     on_cond (λ (t : Taken ServerState). IsUpIdle t.state) s.up (server_ends s (server_goes s moment i) choice choice.ending) (no_step s)
     (λ up. ends_idle s (server_goes s moment i) choice choice.ending (goes_fine s IsIdle IsIdle (acts_idle s.pushed) moment i (h up))) (λ _. h)
@@ -130,7 +130,7 @@ module _ (s : ServerState) (idle : s.under_way ≡ []) (found : Choice) where
       (changed_on d.seen (filter is_numbering d.seen) s.disk (disk_changed_by_all s.disk (take one.0 d.changes)) (filtered_numbered d.seen)
       (subst (λ (x : ServerDisk). Changed d.seen x (disk_changed_by_all x (take one.0 d.changes))) h.2 (h.1 one.0)))
 
-  step_found : (moment : ℕ) (i : Input) (choice : Choice) → IsFound (server_step s moment i choice)
+  step_found : (moment : ℕ) (i : NodeInput) (choice : Choice) → IsFound (server_step s moment i choice)
   step_found moment i choice =
       on_cond IsFound s.up (server_ends s (server_goes s moment i) choice choice.ending) (no_step s)
       (λ _. ends_found (server_goes s moment i) choice choice.ending (goes_fine s IsIdle IsIdle (acts_idle s.pushed) moment i idle) (goes_fine s (Before s) (After s) (acts_changed s) moment i (refl, tt)))

@@ -6,7 +6,7 @@ use Rattle.std.proofs.lemmas.Bool.{eqb-true, true≢false}
 use Rattle.gfs_types.specs.declared.config.Config.{Config}
 use Rattle.gfs_types.specs.declared.mutation.Mutation.{Mutation}
 use Rattle.gfs_types.specs.declared.mutation.Mutation.TheVariants as mutation
-use Rattle.messages.specs.declared.event.Input.{Input}
+use Rattle.messages.specs.declared.event.NodeInput.{NodeInput}
 use Rattle.data_push.specs.Buffers.{PushBuffer}
 use Rattle.replica_store.specs.declared.change.StoreChange.{StoreChange}
 use Rattle.replica_store.specs.declared.change.StoreChange.TheVariants.{SetOrder, Put, Write, Zero, Raise, Copy, Remove}
@@ -194,7 +194,7 @@ ends_tied s d choice Goes g = g
 ends_tied s d choice Lost g = none_tied s.disk
 ends_tied s d choice (Stops made) g = none_tied (disk_changed_by_all s.disk (made_changes made d.changes))
 
-step_tied : (s : ServerState) (moment : ℕ) (i : Input) (choice : Choice) → IsTied s → IsTied (server_step s moment i choice).state
+step_tied : (s : ServerState) (moment : ℕ) (i : NodeInput) (choice : Choice) → IsTied s → IsTied (server_step s moment i choice).state
 step_tied s moment i choice h =
     on_cond (λ (t : Taken ServerState). IsTied t.state) s.up (server_ends s (server_goes s moment i) choice choice.ending) (no_step s)
     (λ _. ends_tied s (server_goes s moment i) choice choice.ending (goes_fine s Before After (acts_tied s.pushed) moment i (h, tt))) (λ _. h)

@@ -16,7 +16,7 @@ use Rattle.messages.specs.declared.message.Body.{Body}
 use Rattle.messages.specs.declared.message.Body.TheVariants as body
 use Rattle.messages.specs.declared.message.Holder.{Holder}
 use Rattle.messages.specs.declared.message.Location.{Location}
-use Rattle.messages.specs.declared.event.Input.{Input}
+use Rattle.messages.specs.declared.event.NodeInput.{NodeInput}
 use Rattle.client_state.specs.declared.kept.Place.{Place}
 use Rattle.client_state.specs.declared.kept.Cached.{Cached}
 use Rattle.client_state.specs.declared.kept.OpenFile.{OpenFile}
@@ -360,7 +360,7 @@ module _ (T : ℕ → Location → ℕ → Type 0) (config : Config) (s : Client
         filed = λ c file index last is. (hand, (keeps.are_open.filed (fd_of c) file is, omega arith));
       }
 
-  pub steps_here : (i : Input) → IsCameIn Came i → After (client_does (client_begins s) i s.current)
+  pub steps_here : (i : NodeInput) → IsCameIn Came i → After (client_does (client_begins s) i s.current)
   steps_here i came = step_kept s Came Named Filed Used Left After kept i s.current refl came (λ c is. at_stage c c.stage (keeps.stands c is)) begun
 
   pub calls_here : (c : Call) → After (calls (client_begins s) c)

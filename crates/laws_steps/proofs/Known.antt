@@ -9,8 +9,8 @@ use Rattle.messages.specs.declared.message.Body.TheVariants as body
 use Rattle.messages.specs.declared.message.Message.{Message}
 use Rattle.messages.specs.declared.event.Event.{Event}
 use Rattle.messages.specs.declared.event.Event.TheVariants as event
-use Rattle.messages.specs.declared.event.Input.{Input}
-use Rattle.messages.specs.declared.event.Input.TheVariants as input
+use Rattle.messages.specs.declared.event.NodeInput.{NodeInput}
+use Rattle.messages.specs.declared.event.NodeInput.TheVariants as input
 use Rattle.client_state.specs.declared.call.CurrentCall.{CurrentCall}
 use Rattle.protocol.specs.Tables.{element_at, with_at, first_numbers}
 use Rattle.protocol.specs.Sending.{the_client}
@@ -45,7 +45,7 @@ abbrev pub GoesOn : WorldState → WorldState → Type 0
 GoesOn w u = AreKnown u × Continues w u
 
 -- what comes in to a client was sent to it
-came_in : (w : WorldState) (e : Event) (client moment : ℕ) (i : Input) → IsGiven w e (the_client client) moment i → IsCameIn (Came w.sent client) i
+came_in : (w : WorldState) (e : Event) (client moment : ℕ) (i : NodeInput) → IsGiven w e (the_client client) moment i → IsCameIn (Came w.sent client) i
 came_in w (event.Deliver number now) client moment (input.Deliver m) is = (m, (number - 1, element_numbered w.sent number m is.0), is.1, refl)
 came_in w (event.Call c asked now) client moment (input.Deliver m) is = absurd is
 came_in w (event.Tick to now) client moment (input.Deliver m) is = absurd is
@@ -80,7 +80,7 @@ module _ (w : WorldState) (h : AreKnown w) (index : ℕ) (s : ClientState) (at :
   id_is : s.id ≡ suc index
   id_is = (h.numbered.each index s at).id
 
-  pub step_leaves : (moment : ℕ) (i : Input) (choice : Choice) → IsCameIn (Came w.sent (suc index)) i → Leaves (client_step s moment i choice).state (client_step s moment i choice).out.sent
+  pub step_leaves : (moment : ℕ) (i : NodeInput) (choice : Choice) → IsCameIn (Came w.sent (suc index)) i → Leaves (client_step s moment i choice).state (client_step s moment i choice).out.sent
   step_leaves moment i choice came = stepped Leaves s moment i choice (steps_here w.config w.sent k (suc index) (client_at s moment) id_is (later moment) i came) stops same
 
   pub call_leaves : (moment : ℕ) (c : Call) (choice : Choice) → Leaves (client_call s moment c choice).state (client_call s moment c choice).out.sent

@@ -11,8 +11,8 @@ use Rattle.gfs_types.specs.declared.ids.Handle.{Handle}
 use Rattle.gfs_types.specs.declared.ids.Version.{Version}
 use Rattle.gfs_types.specs.declared.ids.Moment.{Moment}
 use Rattle.messages.specs.declared.event.Event.{Event}
-use Rattle.messages.specs.declared.event.Input.{Input}
-use Rattle.messages.specs.declared.event.Input.TheVariants as input
+use Rattle.messages.specs.declared.event.NodeInput.{NodeInput}
+use Rattle.messages.specs.declared.event.NodeInput.TheVariants as input
 use Rattle.messages.specs.declared.message.Body.{Body}
 use Rattle.messages.specs.declared.message.Body.TheVariants as body
 use Rattle.messages.specs.declared.message.Message.{Message}
@@ -177,7 +177,7 @@ module _ (sent : List Message) (greatest n handle version : ℕ) where
   goes_over s moment m other is sent_to late h =
       server_goes_holds Came (λ c. OverAt c.disk c.leases) over_keeps s moment (input.Deliver m) (came_in sent n (input.Deliver m) sent_to, ap is_extend is) h
 
-  goes_over_all : (s : ServerState) (moment : ℕ) (i : Input) → IsSentTo sent (the_server n) i → greatest ≤ moment + s.config.skew_ms → OverAt s.disk s.leases
+  goes_over_all : (s : ServerState) (moment : ℕ) (i : NodeInput) → IsSentTo sent (the_server n) i → greatest ≤ moment + s.config.skew_ms → OverAt s.disk s.leases
       → OverAt (server_core (server_goes s moment i)).disk (server_core (server_goes s moment i)).leases
   goes_over_all s moment (input.Deliver m) is late h = goes_over s moment m m.body refl is late h
   goes_over_all s moment input.Tick is late h = server_goes_holds Came (λ c. OverAt c.disk c.leases) over_keeps s moment input.Tick tt h
@@ -188,7 +188,7 @@ module _ (sent : List Message) (greatest n handle version : ℕ) where
   ends_over s d choice Lost later h g = none_over s.disk (server_ends s d choice Lost).state.disk s.leases later h
   ends_over s d choice (Stops made) later h g = none_over s.disk (server_ends s d choice (Stops made)).state.disk s.leases later h
 
-  step_over : (s : ServerState) (moment : ℕ) (i : Input) (choice : Choice) → IsSentTo sent (the_server n) i → IsTrue s.up → HasOneRisingChange s → greatest ≤ moment + s.config.skew_ms → OverAt s.disk s.leases
+  step_over : (s : ServerState) (moment : ℕ) (i : NodeInput) (choice : Choice) → IsSentTo sent (the_server n) i → IsTrue s.up → HasOneRisingChange s → greatest ≤ moment + s.config.skew_ms → OverAt s.disk s.leases
       → OverAt (server_step s moment i choice).state.disk (server_step s moment i choice).state.leases
   step_over s moment i choice is up sound late h =
       let d : ServerDoing = server_goes s moment i in

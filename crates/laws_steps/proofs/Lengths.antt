@@ -6,7 +6,7 @@ use Rattle.std.specs.Ordering.{nat_cmp}
 use Rattle.gfs_types.specs.declared.config.Config.{Config}
 use Rattle.gfs_types.specs.declared.mutation.Mutation.{Mutation}
 use Rattle.gfs_types.specs.declared.mutation.Mutation.TheVariants as mutation
-use Rattle.messages.specs.declared.event.Input.{Input}
+use Rattle.messages.specs.declared.event.NodeInput.{NodeInput}
 use Rattle.data_push.specs.Buffers.{PushBuffer}
 use Rattle.replica_store.specs.declared.row.Row.{Row}
 use Rattle.replica_store.specs.declared.change.StoreChange.{StoreChange}
@@ -195,7 +195,7 @@ ends_within config s d choice (Stops made) h g =
       under_way = all_taken (IsShort config.chunk) 1 (drop made d.changes) (all_dropped (IsShort config.chunk) made d.changes g.2);
     }
 
-step_within : (config : Config) (s : ServerState) (moment : ℕ) (i : Input) (choice : Choice) → IsWithin config s → IsWithin config (server_step s moment i choice).state
+step_within : (config : Config) (s : ServerState) (moment : ℕ) (i : NodeInput) (choice : Choice) → IsWithin config s → IsWithin config (server_step s moment i choice).state
 step_within config s moment i choice h =
     on_cond (λ (t : Taken ServerState). IsWithin config t.state) s.up (server_ends s (server_goes s moment i) choice choice.ending) (no_step s)
     (λ _. ends_within config s (server_goes s moment i) choice choice.ending h (goes_fine s (Within config) (Within config) (acts_within config s.pushed) moment i (h.set, h.disk, tt, h.under_way))) (λ _. h)

@@ -8,7 +8,7 @@ use Rattle.messages.specs.declared.message.Message.{Message}
 use Rattle.messages.specs.declared.message.Body.{Body}
 use Rattle.messages.specs.declared.message.Body.TheVariants as body
 use Rattle.messages.specs.declared.message.Location.{Location}
-use Rattle.messages.specs.declared.event.Input.{Input}
+use Rattle.messages.specs.declared.event.NodeInput.{NodeInput}
 use Rattle.protocol.specs.Tables.{element_at}
 use Rattle.protocol.specs.Choice.{Choice, Ending, Goes, Lost, Stops}
 use Rattle.protocol.specs.Client.{ClientState, ClientDoing}
@@ -54,7 +54,7 @@ master_talks =
     same_location number n l other told current = subst (λ (x : Location). AreCurrent x) (same_some l other (ap told_location told)) current
 
 -- a server
-server_talks : (s : ServerState) (i : Input) → Talks s i (λ r b. TellsNone b) (λ v. Unit {0}) (λ x. Unit {0})
+server_talks : (s : ServerState) (i : NodeInput) → Talks s i (λ r b. TellsNone b) (λ v. Unit {0}) (λ x. Unit {0})
 server_talks s i =
     record {
       quiet = λ receiver b is number l told. absurd (let both : false ≡ true = sym (ap is_quiet told) ∙ is in cc);
@@ -69,7 +69,7 @@ all_kept : (es : List (DataId × List ℕ)) → AllOf (λ x. Unit {0}) es
 all_kept [] = tt
 all_kept (x ∷ es) = (tt, all_kept es)
 
-server_located : (s : ServerState) (moment : ℕ) (i : Input) (choice : Choice) → AllOf IsLocated (server_step s moment i choice).out.sent
+server_located : (s : ServerState) (moment : ℕ) (i : NodeInput) (choice : Choice) → AllOf IsLocated (server_step s moment i choice).out.sent
 server_located s moment i choice =
     none_located (server_step s moment i choice).out.sent (step_said (λ r b. TellsNone b) (λ v. Unit {0}) (λ x. Unit {0}) s moment i choice (server_talks (server_at s moment) i) (all_kept s.pushed.entries)).0
 

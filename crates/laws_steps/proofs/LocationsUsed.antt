@@ -12,8 +12,8 @@ use Rattle.messages.specs.declared.message.Message.{Message}
 use Rattle.messages.specs.declared.message.Location.{Location}
 use Rattle.messages.specs.declared.event.Event.{Event}
 use Rattle.messages.specs.declared.event.Event.TheVariants as event
-use Rattle.messages.specs.declared.event.Input.{Input}
-use Rattle.messages.specs.declared.event.Input.TheVariants as input
+use Rattle.messages.specs.declared.event.NodeInput.{NodeInput}
+use Rattle.messages.specs.declared.event.NodeInput.TheVariants as input
 use Rattle.client_state.specs.declared.call.CurrentCall.{CurrentCall}
 use Rattle.client_state.specs.declared.call.Stage.TheVariants.{AskedWhere}
 use Rattle.protocol.specs.Tables.{element_at, with_at, first_numbers}
@@ -52,7 +52,7 @@ record ComesNow (w : WorldState) (e : Event) (client moment : ℕ) (b : Body) : 
   body_is : told.body ≡ b
   moment_is : now.0 ≡ moment
 
-comes_in : (w : WorldState) (e : Event) (client moment : ℕ) (i : Input) → IsGiven w e (the_client client) moment i → IsCameIn (ComesNow w e client moment) i
+comes_in : (w : WorldState) (e : Event) (client moment : ℕ) (i : NodeInput) → IsGiven w e (the_client client) moment i → IsCameIn (ComesNow w e client moment) i
 comes_in w (event.Deliver number now) client moment (input.Deliver m) is = record { number = number; now = now; told = m; event_is = refl; message_is = is.0; receiver_is = is.1; body_is = refl; moment_is = is.2 }
 comes_in w (event.Call c asked now) client moment (input.Deliver m) is = absurd is
 comes_in w (event.Tick to now) client moment (input.Deliver m) is = absurd is
@@ -133,7 +133,7 @@ module _ (config : Config) (w : WorldState) (T : ℕ → ℕ → Location → �
           clock_is = ap (λ (n : ℕ). (client_at s n).now) came.moment_is;
         })
 
-    step_leaves : (moment : ℕ) (i : Input) (choice : Choice) → IsGiven w e (the_client (suc index)) moment i → Leaves (client_step s moment i choice).state
+    step_leaves : (moment : ℕ) (i : NodeInput) (choice : Choice) → IsGiven w e (the_client (suc index)) moment i → Leaves (client_step s moment i choice).state
     step_leaves moment i choice is =
         let Came : Body → Type 0 = ComesNow w e (suc index) moment in
         stepped (λ t ms. Leaves t) s moment i choice

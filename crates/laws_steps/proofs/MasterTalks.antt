@@ -21,8 +21,8 @@ use Rattle.messages.specs.declared.message.Wanted.TheVariants as wanted
 use Rattle.messages.specs.declared.message.NameReply.TheVariants.{Answered}
 use Rattle.messages.specs.declared.message.ReplicaLine.{ReplicaLine}
 use Rattle.messages.specs.declared.message.LeaseLine.{LeaseLine}
-use Rattle.messages.specs.declared.event.Input.{Input}
-use Rattle.messages.specs.declared.event.Input.TheVariants as input
+use Rattle.messages.specs.declared.event.NodeInput.{NodeInput}
+use Rattle.messages.specs.declared.event.NodeInput.TheVariants as input
 use Rattle.log_records.specs.declared.record.Record.{Record}
 use Rattle.log_records.specs.declared.record.Record.TheVariants as log
 use Rattle.relaxed_file.specs.NameStep.{outcome_by, needs_room}
@@ -427,11 +427,11 @@ module _ (W : Message → Type 0) (k : MasterTalks W) where
   takes_said d m (body.Image handle version serial bytes) h = h
   takes_said d m (body.CopyLocal order handle version copy copy_version) h = h
 
-  does_said : (d : MasterDoing) (i : Input) → Fine d → Fine (master_does d i)
+  does_said : (d : MasterDoing) (i : NodeInput) → Fine d → Fine (master_does d i)
   does_said d (input.Deliver m) h = takes_said d m m.body h
   does_said d input.Tick h = ticks_said d h
 
-  goes_said : (m : MasterState) (moment : ℕ) (i : Input) (refusals : List Bool) → Fine (master_goes m moment i refusals)
+  goes_said : (m : MasterState) (moment : ℕ) (i : NodeInput) (refusals : List Bool) → Fine (master_goes m moment i refusals)
   goes_said m moment i refusals =
       let d : MasterDoing = master_does (master_begins (master_at m moment) refusals) i in
       ready d d.master.snapshots (does_said (master_begins (master_at m moment) refusals) i (tt, tt))
@@ -444,13 +444,13 @@ module _ (W : Message → Type 0) (k : MasterTalks W) where
   ends_said m d choice Lost h = (tt, tt)
   ends_said m d choice (Stops made) h = (tt, tt)
 
-  both_said : (m : MasterState) (moment : ℕ) (i : Input) (choice : Choice) → Ends (master_step m moment i choice)
+  both_said : (m : MasterState) (moment : ℕ) (i : NodeInput) (choice : Choice) → Ends (master_step m moment i choice)
   both_said m moment i choice =
       let d : MasterDoing = master_goes m moment i choice.refused in
       on_cond Ends m.up (master_bounded m d choice) (no_step m)
       (λ _. on_cond Ends (may_end d choice.ending) (master_ends m d choice choice.ending) (no_step m) (λ _. ends_said m d choice choice.ending (goes_said m moment i choice.refused)) (λ _. (tt, tt))) (λ _. (tt, tt))
 
-  pub master_said : (m : MasterState) (moment : ℕ) (i : Input) (choice : Choice) → AllOf W (master_step m moment i choice).out.sent
+  pub master_said : (m : MasterState) (moment : ℕ) (i : NodeInput) (choice : Choice) → AllOf W (master_step m moment i choice).out.sent
   master_said m moment i choice = let both = both_said m moment i choice in both.0
 
   opens_said : (m started : MasterState) (d : MasterDoing) (choice : Choice) (e : Ending) → AllOf W (opens_as m started d choice e).out.sent
@@ -464,7 +464,7 @@ module _ (W : Message → Type 0) (k : MasterTalks W) where
       opens_said m started (opening started) choice choice.ending
 
 -- what a step of the master shows
-pub master_shown : (m : MasterState) (moment : ℕ) (i : Input) (choice : Choice) → AllOf IsCopying (master_step m moment i choice).seen
+pub master_shown : (m : MasterState) (moment : ℕ) (i : NodeInput) (choice : Choice) → AllOf IsCopying (master_step m moment i choice).seen
 master_shown m moment i choice = let both = both_said (λ x. Unit {0}) (record { plain = λ receiver b is. tt; locates = λ receiver number l current. tt }) m moment i choice in both.1
 
 opens_shown : (m started : MasterState) (d : MasterDoing) (choice : Choice) (e : Ending) → (opens_as m started d choice e).seen ≡ []

@@ -6,8 +6,8 @@ use Rattle.std.specs.FinMap as table
 use Rattle.gfs_types.specs.declared.ids.Moment.{Moment}
 use Rattle.gfs_types.specs.declared.answer.Answer.TheVariants as answer
 use Rattle.gfs_types.specs.declared.refusal.Refusal.TheVariants.{Unknown}
-use Rattle.messages.specs.declared.event.Input.{Input}
-use Rattle.messages.specs.declared.event.Input.TheVariants as input
+use Rattle.messages.specs.declared.event.NodeInput.{NodeInput}
+use Rattle.messages.specs.declared.event.NodeInput.TheVariants as input
 use Rattle.messages.specs.declared.message.Body.{Body}
 use Rattle.messages.specs.declared.message.Body.TheVariants as body
 use Rattle.messages.specs.declared.message.Message.{Message}
@@ -64,7 +64,7 @@ module _ (s : ClientState) (moment : ℕ) where
       on_cond Asks (nat_lt (max s.now moment) (c.deadline.0 + s.config.skew_ms)) begun _ (λ _. nothing)
       (λ _. on_cond Asks (is_last_attempt c) (answers begun (answer.Refused Unknown)) (attempts_names begun (ended c)) (λ _. quiet (answers begun (answer.Refused Unknown)) refl refl refl) (λ _. asks_names begun (ended c) refl refl))
 
-  at_input : (i : Input) (c : CurrentCall) → c.stage ≡ AskedNames → Asks (client_does begun i (Some c))
+  at_input : (i : NodeInput) (c : CurrentCall) → c.stage ≡ AskedNames → Asks (client_does begun i (Some c))
   at_input (input.Deliver m) c stage_is =
       let same : record c { stage = AskedNames } ≡ c = ap (λ (t : Stage). record c { stage = t }) (sym stage_is) in
       subst (λ (t : Stage). Asks (takes_at begun c m t)) (sym stage_is) (subst (λ (e : CurrentCall). Asks (client_takes begun e m.body)) same (takes c m.body))

@@ -20,8 +20,8 @@ use Rattle.messages.specs.declared.message.Wanted.TheVariants as wanted
 use Rattle.messages.specs.declared.message.NameReply.TheVariants.{Answered}
 use Rattle.messages.specs.declared.message.ReplicaLine.{ReplicaLine}
 use Rattle.messages.specs.declared.message.LeaseLine.{LeaseLine}
-use Rattle.messages.specs.declared.event.Input.{Input}
-use Rattle.messages.specs.declared.event.Input.TheVariants as input
+use Rattle.messages.specs.declared.event.NodeInput.{NodeInput}
+use Rattle.messages.specs.declared.event.NodeInput.TheVariants as input
 use Rattle.log_records.specs.declared.record.Record.{Record}
 use Rattle.log_records.specs.declared.record.Record.TheVariants as log
 use Rattle.relaxed_file.specs.NameStep.{outcome_by, needs_room}
@@ -421,11 +421,11 @@ module _ (start : ℕ) where
   takes_said d m (body.Image handle version serial bytes) h = h
   takes_said d m (body.CopyLocal order handle version copy copy_version) h = h
 
-  does_said : (d : MasterDoing) (i : Input) → Fine d → Fine (master_does d i)
+  does_said : (d : MasterDoing) (i : NodeInput) → Fine d → Fine (master_does d i)
   does_said d (input.Deliver m) h = takes_said d m m.body h
   does_said d input.Tick h = ticks_said d h
 
-  goes_said : (m : MasterState) (moment : ℕ) (i : Input) (refusals : List Bool) → start ≤ m.logged.next_handle → Fine (master_goes m moment i refusals)
+  goes_said : (m : MasterState) (moment : ℕ) (i : NodeInput) (refusals : List Bool) → start ≤ m.logged.next_handle → Fine (master_goes m moment i refusals)
   goes_said m moment i refusals low =
       let d : MasterDoing = master_does (master_begins (master_at m moment) refusals) i in
       ready d d.master.snapshots (does_said (master_begins (master_at m moment) refusals) i (tt, tt, low))
@@ -438,18 +438,18 @@ module _ (start : ℕ) where
   ends_said m d choice Lost h = (tt, tt)
   ends_said m d choice (Stops made) h = (tt, tt)
 
-  both_said : (m : MasterState) (moment : ℕ) (i : Input) (choice : Choice) → start ≤ m.logged.next_handle → Ends (master_step m moment i choice)
+  both_said : (m : MasterState) (moment : ℕ) (i : NodeInput) (choice : Choice) → start ≤ m.logged.next_handle → Ends (master_step m moment i choice)
   both_said m moment i choice low =
       let d : MasterDoing = master_goes m moment i choice.refused in
       on_cond Ends m.up (master_bounded m d choice) (no_step m)
       (λ _. on_cond Ends (may_end d choice.ending) (master_ends m d choice choice.ending) (no_step m) (λ _. ends_said m d choice choice.ending (goes_said m moment i choice.refused low)) (λ _. (tt, tt))) (λ _. (tt, tt))
 
 -- the master tells nobody that a chunk is full
-pub step_tells : (m : MasterState) (moment : ℕ) (i : Input) (choice : Choice) → AllOf (λ x. IsNotFull x.body) (master_step m moment i choice).out.sent
+pub step_tells : (m : MasterState) (moment : ℕ) (i : NodeInput) (choice : Choice) → AllOf (λ x. IsNotFull x.body) (master_step m moment i choice).out.sent
 step_tells m moment i choice = (both_said m.logged.next_handle m moment i choice (omega arith)).0
 
 -- the copies that it begins are under handles that were not used before
-pub step_copies : (m : MasterState) (moment : ℕ) (i : Input) (choice : Choice) → AllOf (IsCopyFrom m.logged.next_handle) (master_step m moment i choice).seen
+pub step_copies : (m : MasterState) (moment : ℕ) (i : NodeInput) (choice : Choice) → AllOf (IsCopyFrom m.logged.next_handle) (master_step m moment i choice).seen
 step_copies m moment i choice = (both_said m.logged.next_handle m moment i choice (omega arith)).1
 
 opens_tells : (m started : MasterState) (d : MasterDoing) (choice : Choice) (e : Ending) → AllOf (λ x. IsNotFull x.body) (opens_as m started d choice e).out.sent

@@ -5,7 +5,7 @@ use Rattle.gfs_types.specs.declared.config.Config.{Config}
 use Rattle.gfs_types.specs.declared.ids.DataId.{DataId}
 use Rattle.gfs_types.specs.declared.mutation.Mutation.{Mutation}
 use Rattle.gfs_types.specs.declared.mutation.Mutation.TheVariants as mutation
-use Rattle.messages.specs.declared.event.Input.{Input}
+use Rattle.messages.specs.declared.event.NodeInput.{NodeInput}
 use Rattle.data_push.specs.Buffers.{data_of}
 use Rattle.replica_store.specs.declared.row.Row.{Row}
 use Rattle.replica_store.specs.Replicas.{Replica, ServerDisk, replica_of, row_of, row_at}
@@ -88,7 +88,7 @@ module _ (s : ServerState) where
   ends_shown d choice Lost h = tt
   ends_shown d choice (Stops made) h = all_filtered IsShown is_numbering d.seen h
 
-  step_shown : (moment : ℕ) (i : Input) (choice : Choice) → AllOf IsShown (server_step s moment i choice).seen
+  step_shown : (moment : ℕ) (i : NodeInput) (choice : Choice) → AllOf IsShown (server_step s moment i choice).seen
   step_shown moment i choice =
       on_cond (λ (t : Taken ServerState). AllOf IsShown t.seen) s.up (server_ends s (server_goes s moment i) choice choice.ending) (no_step s)
       (λ _. ends_shown (server_goes s moment i) choice choice.ending (goes_fine s Before After acts_shown moment i (refl, refl, refl, tt))) (λ _. tt)

@@ -7,7 +7,7 @@ use Rattle.gfs_types.specs.declared.config.Config.{Config}
 use Rattle.gfs_types.specs.declared.call.Call.{Call}
 use Rattle.gfs_types.specs.declared.answer.Answer.TheVariants as answer
 use Rattle.gfs_types.specs.declared.refusal.Refusal.TheVariants.{NoMemory}
-use Rattle.messages.specs.declared.event.Input.{Input}
+use Rattle.messages.specs.declared.event.NodeInput.{NodeInput}
 use Rattle.messages.specs.declared.message.Body.{Body}
 use Rattle.messages.specs.declared.message.Body.TheVariants as body
 use Rattle.messages.specs.declared.message.Message.{Message}
@@ -113,7 +113,7 @@ module _ (sent : List Message) (k index : ℕ) (clients : List ClientState) (s :
   left_ends moment d step next Lost = left_stopped
   left_ends moment d step next (Stops made) = left_stopped
 
-  left_steps : (moment : ℕ) (i : Input) (choice : Choice) → Left (client_step s moment i choice).state (client_step s moment i choice).out.sent
+  left_steps : (moment : ℕ) (i : NodeInput) (choice : Choice) → Left (client_step s moment i choice).state (client_step s moment i choice).out.sent
   left_steps moment i choice =
       on_cond (λ (t : Taken ClientState). Left t.state t.out.sent) (may_step s) (client_ends s (client_goes s moment i) choice.ending) (no_step s)
       (λ _. left_ends moment (client_goes s moment i) (goes_numbered s moment i numbered.named) (goes_next s moment i mine.staged) choice.ending) (λ _. left_same)

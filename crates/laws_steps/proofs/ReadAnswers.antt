@@ -13,8 +13,8 @@ use Rattle.messages.specs.declared.message.Message.{Message}
 use Rattle.messages.specs.declared.message.Holder.{Holder}
 use Rattle.messages.specs.declared.event.Event.{Event}
 use Rattle.messages.specs.declared.event.Event.TheVariants as event
-use Rattle.messages.specs.declared.event.Input.{Input}
-use Rattle.messages.specs.declared.event.Input.TheVariants as input
+use Rattle.messages.specs.declared.event.NodeInput.{NodeInput}
+use Rattle.messages.specs.declared.event.NodeInput.TheVariants as input
 use Rattle.client_state.specs.declared.call.CurrentCall.{CurrentCall}
 use Rattle.client_state.specs.declared.call.ToldChunk.{ToldChunk}
 use Rattle.client_state.specs.declared.call.Stage.{Stage}
@@ -119,7 +119,7 @@ client_silent s d None step is = tt
 client_silent s d (Some m) step is = (clients_none s d.client m.body (step.says m is).1, tt)
 
 -- a server's step
-module _ (w : WorldState) (e : Event) (index moment : ℕ) (s : ServerState) (i : Input) (at : element_at w.servers index ≡ Some s) (given : IsGiven w e (the_server (suc index)) moment i) (up : IsTrue s.up) where
+module _ (w : WorldState) (e : Event) (index moment : ℕ) (s : ServerState) (i : NodeInput) (at : element_at w.servers index ≡ Some s) (given : IsGiven w e (the_server (suc index)) moment i) (up : IsTrue s.up) where
   came : (f : Event) (m : Message) → IsGiven w f (the_server (suc index)) moment (input.Deliver m) → IsSent w.sent m × (m.receiver ≡ the_server (suc index))
   came (event.Deliver number now) m is = ((number - 1, element_numbered w.sent number m is.0), is.1)
   came (event.Call c asked now) m is = absurd is
@@ -130,7 +130,7 @@ module _ (w : WorldState) (e : Event) (index moment : ℕ) (s : ServerState) (i 
 
   answered : (m : Message) (b : Body) (row : Row) → i ≡ input.Deliver m → IsReadBy s.disk row m.body b → IsAnswered w m.sender b
   answered m b row is so =
-      let there = came e m (subst (λ (j : Input). IsGiven w e (the_server (suc index)) moment j) is given) in
+      let there = came e m (subst (λ (j : NodeInput). IsGiven w e (the_server (suc index)) moment j) is given) in
       record { index = index; server = s; server_is = at; up = up; request = m; sent_is = there.0; to = there.1; from = refl; row = row; so = so }
 
   talks : Talks (server_at s moment) i (IsAnsweredIfAny w) (λ v. Unit {0}) (λ x. Unit {0})

@@ -11,8 +11,8 @@ use Rattle.gfs_types.specs.declared.answer.Answer.{Answer}
 use Rattle.messages.specs.declared.message.Message.{Message}
 use Rattle.messages.specs.declared.event.Event.{Event}
 use Rattle.messages.specs.declared.event.Event.TheVariants as event
-use Rattle.messages.specs.declared.event.Input.{Input}
-use Rattle.messages.specs.declared.event.Input.TheVariants as input
+use Rattle.messages.specs.declared.event.NodeInput.{NodeInput}
+use Rattle.messages.specs.declared.event.NodeInput.TheVariants as input
 use Rattle.protocol.specs.Tables.{moment_limit, element_at, with_at}
 use Rattle.protocol.specs.Sending.{the_server}
 use Rattle.protocol.specs.Choice.{Choice}
@@ -38,9 +38,9 @@ pub record IsKeptOn (Q : Scene → Type 0) : Type 0 where
   pub passes : (x : Scene) (moment : ℕ) → Q x → Q (passed x moment)
   -- clients say nothing of leases
   pub says : (x : Scene) (k : ℕ) (ms : List Message) → AreQuiet ms → Q x → Q (more_sent x k ms)
-  pub masters : (x : Scene) (k moment : ℕ) (i : Input) (choice : Choice) → IsNow x moment → IsSentTo x.sent node.Master i → IsTrue x.master.up → Q x → Q (after_master_step x k (master_step x.master moment i choice))
+  pub masters : (x : Scene) (k moment : ℕ) (i : NodeInput) (choice : Choice) → IsNow x moment → IsSentTo x.sent node.Master i → IsTrue x.master.up → Q x → Q (after_master_step x k (master_step x.master moment i choice))
   pub opens : (x : Scene) (k moment : ℕ) (choice : Choice) → IsNow x moment → Q x → Q (after_master_step x k (master_restart x.master moment choice))
-  pub serves : (x : Scene) (k index moment : ℕ) (s : ServerState) (i : Input) (choice : Choice) → IsNow x moment → element_at x.servers index ≡ Some s → IsSentTo x.sent (the_server (suc index)) i → IsTrue s.up → Q x
+  pub serves : (x : Scene) (k index moment : ℕ) (s : ServerState) (i : NodeInput) (choice : Choice) → IsNow x moment → element_at x.servers index ≡ Some s → IsSentTo x.sent (the_server (suc index)) i → IsTrue s.up → Q x
       → Q (after_server_step x k index (server_step s moment i choice))
   pub restarts : (x : Scene) (k index moment : ℕ) (s : ServerState) (choice : Choice) → IsNow x moment → element_at x.servers index ≡ Some s → Q x → Q (after_server_step x k index (server_restart s moment choice))
   pub rots : (x : Scene) (index handle : ℕ) (s : ServerState) (r : Replica) → element_at x.servers index ≡ Some s → IsTrue s.up → Q x → Q (record x { servers = with_at x.servers index (rotten_server s handle r) })
@@ -60,12 +60,12 @@ module _ (Q : Scene → Type 0) (k : IsKeptOn Q) where
       answered w (observed_moment w.config.skew_ms w.observer moment) (suc index) t.out.sent (with_at w.clients index t.state) t.out.answer
       (k.says (passed (scene_of w) moment) (suc (length w.sent)) t.out.sent quiet (k.passes (scene_of w) moment h))
 
-  master_moves_here : (w : WorldState) (moment : ℕ) (i : Input) (choice : Choice) → IsSentTo w.sent node.Master i → Q (scene_of w) → Here (master_moves w moment i choice)
+  master_moves_here : (w : WorldState) (moment : ℕ) (i : NodeInput) (choice : Choice) → IsSentTo w.sent node.Master i → Q (scene_of w) → Here (master_moves w moment i choice)
   master_moves_here w moment i choice is h =
       on_cond Here w.master.up (after_master w moment (master_step w.master moment i choice)) (nothing_happens w)
       (λ up. k.masters (passed (scene_of w) moment) (suc (length w.sent)) moment i choice (now_passed (scene_of w) moment) is up (k.passes (scene_of w) moment h)) (λ _. h)
 
-  server_moves_here : (w : WorldState) (n moment : ℕ) (i : Input) (choice : Choice) (o : Option ServerState) → numbered_from_1 w.servers n ≡ o → IsSentTo w.sent (the_server n) i → Q (scene_of w)
+  server_moves_here : (w : WorldState) (n moment : ℕ) (i : NodeInput) (choice : Choice) (o : Option ServerState) → numbered_from_1 w.servers n ≡ o → IsSentTo w.sent (the_server n) i → Q (scene_of w)
       → Here (server_moves w (n - 1) moment i choice o)
   server_moves_here w n moment i choice None at is h = h
   server_moves_here w zero moment i choice (Some s) at is h = none_some s at
@@ -75,12 +75,12 @@ module _ (Q : Scene → Type 0) (k : IsKeptOn Q) where
       (k.serves (passed (scene_of w) moment) (suc (length w.sent)) n moment s i choice (now_passed (scene_of w) moment) at is up (k.passes (scene_of w) moment h)))
       (λ _. h)
 
-  client_moves_here : (w : WorldState) (index moment : ℕ) (i : Input) (choice : Choice) (o : Option ClientState) → Q (scene_of w) → Here (client_moves w index moment i choice o)
+  client_moves_here : (w : WorldState) (index moment : ℕ) (i : NodeInput) (choice : Choice) (o : Option ClientState) → Q (scene_of w) → Here (client_moves w index moment i choice o)
   client_moves_here w index moment i choice None h = h
   client_moves_here w index moment i choice (Some c) h =
       on_cond Here c.up (after_client w index moment (client_step c moment i choice)) (nothing_happens w) (λ _. after_client_here w index moment (client_step c moment i choice) (client_quiet c moment i choice) h) (λ _. h)
 
-  moves_here : (w : WorldState) (n : Node) (moment : ℕ) (i : Input) (choice : Choice) → IsSentTo w.sent n i → Q (scene_of w) → Here (moves w n moment i choice)
+  moves_here : (w : WorldState) (n : Node) (moment : ℕ) (i : NodeInput) (choice : Choice) → IsSentTo w.sent n i → Q (scene_of w) → Here (moves w n moment i choice)
   moves_here w node.Master moment i choice is h = master_moves_here w moment i choice is h
   moves_here w (node.Server s) moment i choice is h = server_moves_here w s.0 moment i choice (numbered_from_1 w.servers s.0) refl is h
   moves_here w (node.Client c) moment i choice is h = client_moves_here w (c.0 - 1) moment i choice (numbered_from_1 w.clients c.0) h

@@ -3,8 +3,8 @@ use Rattle.std.proofs.Common.{◌≡◌, ℕ, suc, Bool, true, false, List, [], 
 use Rattle.std.specs.Prelude.{◌&&◌, count_by}
 use Rattle.messages.specs.declared.message.Body.{Body}
 use Rattle.messages.specs.declared.message.Message.{Message}
-use Rattle.messages.specs.declared.event.Input.{Input}
-use Rattle.messages.specs.declared.event.Input.TheVariants as input
+use Rattle.messages.specs.declared.event.NodeInput.{NodeInput}
+use Rattle.messages.specs.declared.event.NodeInput.TheVariants as input
 use Rattle.protocol.specs.Choice.{Choice, Ending, Goes, Lost, Stops}
 use Rattle.protocol.specs.Seen.{Taken, no_step}
 use Rattle.protocol.specs.World.{stamped}
@@ -39,7 +39,7 @@ server_keeps =
       revokes = λ c order handle version leases came new from none h. one_more c.sent _ (λ client. refl) h;
     }
 
-all_came : (i : Input) → IsCameIn (λ b. Unit {0}) i
+all_came : (i : NodeInput) → IsCameIn (λ b. Unit {0}) i
 all_came (input.Deliver m) = tt
 all_came input.Tick = tt
 
@@ -48,7 +48,7 @@ ends_server s d choice Goes h = all_in_order (λ m. (client : ℕ) → is_from_c
 ends_server s d choice Lost h = tt
 ends_server s d choice (Stops made) h = tt
 
-pub server_sends : (s : ServerState) (moment : ℕ) (i : Input) (choice : Choice) → AreNotClients (server_step s moment i choice).out.sent
+pub server_sends : (s : ServerState) (moment : ℕ) (i : NodeInput) (choice : Choice) → AreNotClients (server_step s moment i choice).out.sent
 server_sends s moment i choice =
     on_cond (λ (t : Taken ServerState). AreNotClients t.out.sent) s.up (server_ends s (server_goes s moment i) choice choice.ending) (no_step s)
     (λ _. ends_server s (server_goes s moment i) choice choice.ending (server_goes_holds (λ b. Unit {0}) (λ c. AreNotClients c.sent) server_keeps s moment i (all_came i) tt)) (λ _. tt)
@@ -81,7 +81,7 @@ ends_master m d choice Goes h = all_in_order (λ x. (client : ℕ) → is_from_c
 ends_master m d choice Lost h = tt
 ends_master m d choice (Stops made) h = tt
 
-pub master_sends : (m : MasterState) (moment : ℕ) (i : Input) (choice : Choice) → AreNotClients (master_step m moment i choice).out.sent
+pub master_sends : (m : MasterState) (moment : ℕ) (i : NodeInput) (choice : Choice) → AreNotClients (master_step m moment i choice).out.sent
 master_sends m moment i choice =
     let d : MasterDoing = master_goes m moment i choice.refused in
     on_cond (λ (t : Taken MasterState). AreNotClients t.out.sent) m.up (master_bounded m d choice) (no_step m)

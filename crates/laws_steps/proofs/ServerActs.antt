@@ -13,8 +13,8 @@ use Rattle.gfs_types.specs.declared.refusal.Refusal.{Refusal}
 use Rattle.gfs_types.specs.declared.mutation.Mutation.{Mutation}
 use Rattle.gfs_types.specs.declared.mutation.Mutation.TheVariants as mutation
 use Rattle.gfs_types.specs.Mutations.{start_of, end_of}
-use Rattle.messages.specs.declared.event.Input.{Input}
-use Rattle.messages.specs.declared.event.Input.TheVariants as input
+use Rattle.messages.specs.declared.event.NodeInput.{NodeInput}
+use Rattle.messages.specs.declared.event.NodeInput.TheVariants as input
 use Rattle.messages.specs.declared.message.Body.{Body}
 use Rattle.messages.specs.declared.message.Body.TheVariants as body
 use Rattle.messages.specs.declared.message.Message.{Message}
@@ -391,10 +391,10 @@ module _ (kept : PushBuffer) (B P : Acting → Type 0) (k : KeepsActs kept B P) 
       let was = mapped_cases asks_no_more (counting_leases s) handle p at in
       (was.0, kept_where_cases _ s.leases handle was.0 was.1, ap (λ (q : SerialOrder). q.held.version) (sym was.2), ap (λ (q : SerialOrder). q.serial) (sym was.2))
 
-  does_fine : (d : ServerDoing) (i : Input) → d.server.pushed ≡ kept → Ready d → Fine (server_does d i)
+  does_fine : (d : ServerDoing) (i : NodeInput) → d.server.pushed ≡ kept → Ready d → Fine (server_does d i)
   does_fine d (input.Deliver m) same h = takes_fine d m m.body same h
   does_fine d input.Tick same h = k.holds (acting d) (map_values asks_no_more (counting_leases d.server)) (ticked_from d.server) (go d h)
 
 -- the step of a server, with the data that it keeps as the step begins
-pub goes_fine : (s : ServerState) (B P : Acting → Type 0) → KeepsActs s.pushed B P → (moment : ℕ) (i : Input) → B (acting (server_begins s)) → P (acting (server_goes s moment i))
+pub goes_fine : (s : ServerState) (B P : Acting → Type 0) → KeepsActs s.pushed B P → (moment : ℕ) (i : NodeInput) → B (acting (server_begins s)) → P (acting (server_goes s moment i))
 goes_fine s B P k moment i h = does_fine s.pushed B P k (server_begins (server_at s moment)) i refl h

@@ -26,8 +26,8 @@ use Rattle.messages.specs.declared.message.Target.{Target}
 use Rattle.messages.specs.declared.message.Target.TheVariants as target
 use Rattle.messages.specs.declared.message.Change.{Change}
 use Rattle.messages.specs.declared.message.Change.TheVariants as change
-use Rattle.messages.specs.declared.event.Input.{Input}
-use Rattle.messages.specs.declared.event.Input.TheVariants as input
+use Rattle.messages.specs.declared.event.NodeInput.{NodeInput}
+use Rattle.messages.specs.declared.event.NodeInput.TheVariants as input
 use Rattle.record_append.specs.declared.placing.Placing.{Placing}
 use Rattle.record_append.specs.declared.placing.Placing.TheVariants.{At, Pad, Full, TooLong}
 use Rattle.record_append.specs.Placing.{placing}
@@ -80,7 +80,7 @@ IsPlacedOf target.Append bytes (mutation.Pad offset) = Unit {0}
 IsPlacedOf other bytes m = ⊥
 
 -- Of a server s that takes an input: W of what it says to a node, V of what it shows, B of data that it keeps.
-pub record Talks (s : ServerState) (i : Input) (W : Node → Body → Type 0) (V : Seen → Type 0) (B : DataId × List ℕ → Type 0) : Type 0 where
+pub record Talks (s : ServerState) (i : NodeInput) (W : Node → Body → Type 0) (V : Seen → Type 0) (B : DataId × List ℕ → Type 0) : Type 0 where
   pub quiet : (receiver : Node) (b : Body) → is_quiet b ≡ true → W receiver b
   pub reads : (m : Message) (number : ℕ) (handle : Handle) (version : VersionId) (offset count : ℕ) (r : Row) (bytes : List ℕ) → i ≡ input.Deliver m → m.body ≡ body.Read number handle version offset count
       → row_at s.disk handle.0 ≡ Some r → r.version.0 ≡ version.0 → read_at s.disk handle.0 offset count ≡ Some bytes → W m.sender (body.Bytes number bytes)
@@ -93,7 +93,7 @@ pub record Talks (s : ServerState) (i : Input) (W : Node → Body → Type 0) (V
       → primary_of s handle.0 version.0 ≡ Some p → attempted p id.client id.seq ≡ IsNew → data_of s.pushed id ≡ Some bytes → IsPlacedOf t bytes placed
       → V (Numbered (handle_of handle.0) (version_of p.held.version) (serial_of (p.serial + 1)) id placed)
 
-module _ (s : ServerState) (i : Input) (W : Node → Body → Type 0) (V : Seen → Type 0) (B : DataId × List ℕ → Type 0) (k : Talks s i W V B) where
+module _ (s : ServerState) (i : NodeInput) (W : Node → Body → Type 0) (V : Seen → Type 0) (B : DataId × List ℕ → Type 0) (k : Talks s i W V B) where
   abbrev Said : Message → Type 0
   Said m = W m.receiver m.body
 
@@ -396,7 +396,7 @@ module _ (s : ServerState) (i : Input) (W : Node → Body → Type 0) (V : Seen 
   ticks_said : (d : ServerDoing) → Fine d → Fine (server_ticks d)
   ticks_said d h = calm d Master (body.Report _ _) refl h
 
-  does_said : (j : Input) → i ≡ j → Fine (server_begins s) → Fine (server_does (server_begins s) j)
+  does_said : (j : NodeInput) → i ≡ j → Fine (server_begins s) → Fine (server_does (server_begins s) j)
   does_said (input.Deliver m) came h = takes_said m m.body came refl h
   does_said input.Tick came h = ticks_said (server_begins s) h
 
@@ -410,7 +410,7 @@ ends_said W V B s d choice Goes h = (all_in_order (λ m. W m.receiver m.body) ch
 ends_said W V B s d choice Lost h = (tt, tt, tt)
 ends_said W V B s d choice (Stops made) h = (tt, all_filtered V is_numbering d.seen h.1, tt)
 
-pub step_said : (W : Node → Body → Type 0) (V : Seen → Type 0) (B : DataId × List ℕ → Type 0) (s : ServerState) (moment : ℕ) (i : Input) (choice : Choice) → Talks (server_at s moment) i W V B → AllOf B s.pushed.entries
+pub step_said : (W : Node → Body → Type 0) (V : Seen → Type 0) (B : DataId × List ℕ → Type 0) (s : ServerState) (moment : ℕ) (i : NodeInput) (choice : Choice) → Talks (server_at s moment) i W V B → AllOf B s.pushed.entries
     → IsTalk W V B (server_step s moment i choice)
 step_said W V B s moment i choice k kept =
     on_cond (IsTalk W V B) s.up (server_ends s (server_goes s moment i) choice choice.ending) (no_step s)

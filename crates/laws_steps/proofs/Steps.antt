@@ -5,8 +5,8 @@ use Rattle.std.proofs.Math.Nat.{le-max_left}
 use Rattle.gfs_types.specs.declared.config.Config.{Config}
 use Rattle.gfs_types.specs.declared.ids.Moment.{Moment}
 use Rattle.gfs_types.specs.declared.call.Call.{Call}
-use Rattle.messages.specs.declared.event.Input.{Input}
-use Rattle.messages.specs.declared.event.Input.TheVariants as input
+use Rattle.messages.specs.declared.event.NodeInput.{NodeInput}
+use Rattle.messages.specs.declared.event.NodeInput.TheVariants as input
 use Rattle.messages.specs.declared.message.Body.{Body}
 use Rattle.messages.specs.declared.message.Body.TheVariants as body
 use Rattle.messages.specs.declared.message.Message.{Message}
@@ -177,7 +177,7 @@ module _ (s : ClientState) where
         filed = λ c file index last is. ((refl, refl, omega arith), refl, refl);
       }
 
-all_came : (i : Input) → IsCameIn (λ b. Unit {0}) i
+all_came : (i : NodeInput) → IsCameIn (λ b. Unit {0}) i
 all_came (input.Deliver m) = tt
 all_came input.Tick = tt
 
@@ -198,7 +198,7 @@ later_staged s moment c (HasAnswer reply) h = h
 abbrev pub AreStaged : ClientState → Type 0
 AreStaged s = (c : CurrentCall) → s.current ≡ Some c → IsStaged s c c.stage
 
-pub goes_next : (s : ClientState) (moment : ℕ) (i : Input) → AreStaged s → IsNext (client_at s moment) (client_goes s moment i)
+pub goes_next : (s : ClientState) (moment : ℕ) (i : NodeInput) → AreStaged s → IsNext (client_at s moment) (client_goes s moment i)
 goes_next s moment i staged =
     let at : ClientState = client_at s moment in
     let later : AreStaged at = λ c is. later_staged s moment c c.stage (staged c is) in

@@ -4,8 +4,8 @@ use Rattle.std.specs.Prelude.{◌&&◌}
 use Rattle.std.specs.Ordering.{nat_cmp}
 use Rattle.std.specs.FinMap as table
 use Rattle.gfs_types.specs.declared.config.Config.{Config}
-use Rattle.messages.specs.declared.event.Input.{Input}
-use Rattle.messages.specs.declared.event.Input.TheVariants as input
+use Rattle.messages.specs.declared.event.NodeInput.{NodeInput}
+use Rattle.messages.specs.declared.event.NodeInput.TheVariants as input
 use Rattle.messages.specs.declared.message.Message.{Message}
 use Rattle.messages.specs.declared.message.Body.{Body}
 use Rattle.messages.specs.declared.message.Body.TheVariants as body
@@ -58,7 +58,7 @@ pub any_word : (b : Body) → IsWordSaid NoneEnded b
 any_word (body.Revoked handle version) = tt
 any_word other = tt
 
-pub any_input : (i : Input) → IsInputSaid NoneEnded i
+pub any_input : (i : NodeInput) → IsInputSaid NoneEnded i
 any_input (input.Deliver m) = any_word m.body
 any_input input.Tick = tt
 
@@ -88,7 +88,7 @@ opened_waits m none tried =
     forgotten_waits (opening m).master
     (logs_alone (λ e. HasForgotten e.master) d (log.Epoch (suc m.logged.epoch)) now (record { tried = tried; waits = waits }) (record { tried = left; waits = waits }) (record { tried = left; waits = waits }))
 
-step_waits : (m : MasterState) (moment : ℕ) (i : Input) (choice : Choice) → IsLogged IsFoundRows IsRowedLog rows_kept m → WaitsHere m → WaitsHere (master_step m moment i choice).state
+step_waits : (m : MasterState) (moment : ℕ) (i : NodeInput) (choice : Choice) → IsLogged IsFoundRows IsRowedLog rows_kept m → WaitsHere m → WaitsHere (master_step m moment i choice).state
 step_waits m moment i choice logged h =
     let d : MasterDoing = master_goes m moment i choice.refused in
     let good : Taken MasterState → Type 0 = λ t. WaitsHere t.state in

@@ -2,7 +2,7 @@
 use Rattle.std.specs.Prelude.{◌≡◌, ℕ, max, Option, Some, None, IsTrue, IsFalse}
 use Rattle.gfs_types.specs.declared.call.Call.{Call}
 use Rattle.gfs_types.specs.declared.answer.Answer.{Answer}
-use Rattle.messages.specs.declared.event.Input.{Input}
+use Rattle.messages.specs.declared.event.NodeInput.{NodeInput}
 use Rattle.messages.specs.declared.message.Body.{Body}
 use Rattle.messages.specs.declared.message.Body.TheVariants as body
 use Rattle.messages.specs.declared.message.Message.{Message}
@@ -41,7 +41,7 @@ abbrev pub FileCallsBegin : Type 0
 FileCallsBegin = (s : ClientState) (moment : ℕ) (c : Call) → IsFalse (is_name_call c) → IsFileStep s moment (client_call_goes s moment c)
 
 abbrev pub FileCallsGoOn : Type 0
-FileCallsGoOn = (s : ClientState) (moment : ℕ) (i : Input) (c : CurrentCall) → s.current ≡ Some c → IsOfFile c.stage → IsFileStep s moment (client_goes s moment i)
+FileCallsGoOn = (s : ClientState) (moment : ℕ) (i : NodeInput) (c : CurrentCall) → s.current ≡ Some c → IsOfFile c.stage → IsFileStep s moment (client_goes s moment i)
 
 -- the client's call of this number is open, waits for the master, and is this one
 abbrev pub IsOpenCall : ClientState → ℕ → Call → Type 0
@@ -62,4 +62,4 @@ abbrev pub NameCallsAskFirst : Type 0
 NameCallsAskFirst = (s : ClientState) (moment : ℕ) (c : Call) → IsTrue (is_name_call c) → IsNameStep s moment (client_call_goes s moment c)
 
 abbrev pub NameCallsAskAgain : Type 0
-NameCallsAskAgain = (s : ClientState) (moment : ℕ) (i : Input) (c : CurrentCall) → s.current ≡ Some c → c.stage ≡ AskedNames → IsNameStep s moment (client_goes s moment i)
+NameCallsAskAgain = (s : ClientState) (moment : ℕ) (i : NodeInput) (c : CurrentCall) → s.current ≡ Some c → c.stage ≡ AskedNames → IsNameStep s moment (client_goes s moment i)

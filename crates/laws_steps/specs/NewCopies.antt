@@ -8,7 +8,7 @@ use Rattle.gfs_types.specs.declared.ids.Moment.{Moment}
 use Rattle.gfs_types.specs.declared.ids.OrderNo.{OrderNo}
 use Rattle.messages.specs.declared.message.Body.TheVariants as body
 use Rattle.messages.specs.declared.message.Message.{Message}
-use Rattle.messages.specs.declared.event.Input.{Input}
+use Rattle.messages.specs.declared.event.NodeInput.{NodeInput}
 use Rattle.protocol.specs.Tables.{element_at}
 use Rattle.protocol.specs.Choice.{Choice}
 use Rattle.protocol.specs.declared.seen.Seen.TheVariants.{CopyStarted}
@@ -25,4 +25,4 @@ pub record HasNoLease (w : WorldState) (handle : Handle) : Type 0 where
 abbrev pub NewCopiesHaveNoLease : Type 0
 NewCopiesHaveNoLease =
     (config : Config) (servers clients : ℕ) (w : WorldState) → IsReached config servers clients w
-    → (moment : ℕ) (i : Input) (choice : Choice) (place : ℕ) (handle copy : Handle) → element_at (master_step w.master moment i choice).seen place ≡ Some (CopyStarted handle copy) → HasNoLease w copy
+    → (moment : ℕ) (i : NodeInput) (choice : Choice) (place : ℕ) (handle copy : Handle) → element_at (master_step w.master moment i choice).seen place ≡ Some (CopyStarted handle copy) → HasNoLease w copy

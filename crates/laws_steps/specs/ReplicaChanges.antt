@@ -1,7 +1,7 @@
 -- Laws on how a server's step changes its replicas, that public functions of this crate state.
 use Rattle.std.specs.Prelude.{◌≡◌, ◌⊎◌, ◌≤◌, ◌<◌, ℕ, List, [], ◌∷◌, length, Some, IsTrue}
 use Rattle.gfs_types.specs.declared.config.Config.{Config}
-use Rattle.messages.specs.declared.event.Input.{Input}
+use Rattle.messages.specs.declared.event.NodeInput.{NodeInput}
 use Rattle.replica_store.specs.Replicas.{Replica, replica_of}
 use Rattle.protocol.specs.Tables.{element_at}
 use Rattle.protocol.specs.Choice.{Choice}
@@ -27,7 +27,7 @@ IsChangedBy seen handle r now =
 -- So is each replica changed that a server has before a step and after it, also where the step stops (sections 3.1 and 5.2).
 abbrev pub ReplicasChangeInSerialOrder : Type 0
 ReplicasChangeInSerialOrder =
-    (s : ServerState) (moment : ℕ) (i : Input) (choice : Choice) (handle : ℕ) (r now : Replica)
+    (s : ServerState) (moment : ℕ) (i : NodeInput) (choice : Choice) (handle : ℕ) (r now : Replica)
     → replica_of s.disk handle ≡ Some r → replica_of (server_step s moment i choice).state.disk handle ≡ Some now
     → IsChangedBy (server_step s moment i choice).seen handle r now
 
@@ -35,6 +35,6 @@ ReplicasChangeInSerialOrder =
 abbrev pub ReplicasAreFoundInSerialOrder : Type 0
 ReplicasAreFoundInSerialOrder =
     (config : Config) (servers clients : ℕ) (w : WorldState) → IsReached config servers clients w → (index : ℕ) (s : ServerState) → element_at w.servers index ≡ Some s → IsTrue s.up
-    → (moment : ℕ) (i : Input) (choice found : Choice) (handle : ℕ) (r now : Replica)
+    → (moment : ℕ) (i : NodeInput) (choice found : Choice) (handle : ℕ) (r now : Replica)
     → replica_of s.disk handle ≡ Some r → replica_of (found_disk (server_step s moment i choice).state found) handle ≡ Some now
     → IsChangedBy (server_step s moment i choice).seen handle r now

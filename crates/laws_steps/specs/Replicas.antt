@@ -8,7 +8,7 @@ use Rattle.gfs_types.specs.declared.ids.Version.{Version}
 use Rattle.gfs_types.specs.declared.ids.Serial.{Serial}
 use Rattle.gfs_types.specs.declared.mutation.Mutation.{Mutation}
 use Rattle.gfs_types.specs.declared.mutation.Mutation.TheVariants.{Write, Append, Pad}
-use Rattle.messages.specs.declared.event.Input.{Input}
+use Rattle.messages.specs.declared.event.NodeInput.{NodeInput}
 use Rattle.data_push.specs.Buffers.{data_of}
 use Rattle.replica_store.specs.Replicas.{Replica, ServerDisk, replica_of, written_replica}
 use Rattle.primary_order.specs.declared.order.SerialOrder.{SerialOrder}
@@ -62,7 +62,7 @@ pub record IsPlacedByReplica (size : ℕ) (s : ServerState) (handle version seri
 abbrev pub MutationsArePlacedByReplicas : Type 0
 MutationsArePlacedByReplicas =
     (config : Config) (servers clients : ℕ) (w : WorldState) → IsReached config servers clients w → (index : ℕ) (s : ServerState) → element_at w.servers index ≡ Some s
-    → (moment : ℕ) (i : Input) (choice : Choice) (place : ℕ) (handle : Handle) (version : Version) (serial : Serial) (id : DataId) (m : Mutation)
+    → (moment : ℕ) (i : NodeInput) (choice : Choice) (place : ℕ) (handle : Handle) (version : Version) (serial : Serial) (id : DataId) (m : Mutation)
     → element_at (server_step s moment i choice).seen place ≡ Some (Numbered handle version serial id m)
     → IsPlacedByReplica config.chunk s handle.0 version.0 serial.0 id m
 
@@ -79,6 +79,6 @@ IsApplied size before after handle serial m = (r : Replica) × (replica_of befor
 -- A server that numbers a mutation applies it in the same step, or holds no lease of the chunk after it (section 3.1).
 abbrev pub PrimariesApplyWhatTheyNumber : Type 0
 PrimariesApplyWhatTheyNumber =
-    (s : ServerState) (moment : ℕ) (i : Input) (choice : Choice) (place : ℕ) (handle : Handle) (version : Version) (serial : Serial) (id : DataId) (m : Mutation)
+    (s : ServerState) (moment : ℕ) (i : NodeInput) (choice : Choice) (place : ℕ) (handle : Handle) (version : Version) (serial : Serial) (id : DataId) (m : Mutation)
     → element_at (server_step s moment i choice).seen place ≡ Some (Numbered handle version serial id m)
     → (table.get (server_step s moment i choice).state.leases handle.0 ≡ None) ⊎ IsApplied s.config.chunk s.disk (server_step s moment i choice).state.disk handle.0 serial.0 m

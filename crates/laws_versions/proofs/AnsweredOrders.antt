@@ -6,8 +6,8 @@ use Rattle.gfs_types.specs.declared.config.Config.{Config}
 use Rattle.gfs_types.specs.declared.ids.Handle.{Handle}
 use Rattle.gfs_types.specs.declared.ids.Version.{Version}
 use Rattle.gfs_types.specs.declared.ids.OrderNo.{OrderNo}
-use Rattle.messages.specs.declared.event.Input.{Input}
-use Rattle.messages.specs.declared.event.Input.TheVariants as input
+use Rattle.messages.specs.declared.event.NodeInput.{NodeInput}
+use Rattle.messages.specs.declared.event.NodeInput.TheVariants as input
 use Rattle.messages.specs.declared.message.Message.{Message}
 use Rattle.messages.specs.declared.message.Body.{Body}
 use Rattle.messages.specs.declared.message.Body.TheVariants as body
@@ -208,27 +208,27 @@ step_taken s moment m choice order handle version of new x =
     by_ending (Stops made) said = none_some x said.1
 
 -- the message that a step takes is a new order that gives this version
-record IsNewOrder (s : ServerState) (i : Input) (handle version : ℕ) : Type 0 where
+record IsNewOrder (s : ServerState) (i : NodeInput) (handle version : ℕ) : Type 0 where
   message : Message
   order : OrderNo
   taken : i ≡ input.Deliver message
   of : IsOrderOf message.body order handle version
   new : is_new_order s.disk order.epoch order.count ≡ true
 
-abbrev AnswersOrder : ServerState → Input → Body → Type 0
+abbrev AnswersOrder : ServerState → NodeInput → Body → Type 0
 AnswersOrder s i b = (handle : Handle) (version : Version) → b ≡ body.Recorded handle version → IsNewOrder s i handle.0 version.0
 
-plain_answers : (s : ServerState) (i : Input) (b : Body) → is_plain b ≡ true → AnswersOrder s i b
+plain_answers : (s : ServerState) (i : NodeInput) (b : Body) → is_plain b ≡ true → AnswersOrder s i b
 plain_answers s i b plain handle version is = true_false (sym plain ∙ ap is_plain is)
 
-reported_answers : (s t : ServerState) (i : Input) → AnswersOrder s i (reported t)
+reported_answers : (s t : ServerState) (i : NodeInput) → AnswersOrder s i (reported t)
 reported_answers s t i handle version is = absurd (let both : reported t ≡ body.Recorded handle version = is in cc)
 
 abbrev numbers_of : Body → ℕ × ℕ
 numbers_of (body.Recorded handle version) = (handle.0, version.0)
 numbers_of other = (0, 0)
 
-recorded_answers : (s : ServerState) (i : Input) (m : Message) → i ≡ input.Deliver m → (order : OrderNo) (handle version : ℕ) → IsOrderOf m.body order handle version → is_new_order s.disk order.epoch order.count ≡ true
+recorded_answers : (s : ServerState) (i : NodeInput) (m : Message) → i ≡ input.Deliver m → (order : OrderNo) (handle version : ℕ) → IsOrderOf m.body order handle version → is_new_order s.disk order.epoch order.count ≡ true
     → AnswersOrder s i (body.Recorded (handle_of handle) (version_of version))
 recorded_answers s i m came order handle version of new q v is =
     let same : (handle, version) ≡ (q.0, v.0) = ap numbers_of is in
@@ -292,7 +292,7 @@ recorded_orders_are_refused config servers clients w r place m at handle version
 
     stale : IsStaleAt t.disk g.order
     stale =
-        subst (λ (i : Input). IsSent (server_step n.server n.moment i n.choice).out.sent n.word → IsStaleAt (server_step n.server n.moment i n.choice).state.disk g.order) (sym g.taken)
+        subst (λ (i : NodeInput). IsSent (server_step n.server n.moment i n.choice).out.sent n.word → IsStaleAt (server_step n.server n.moment i n.choice).state.disk g.order) (sym g.taken)
         (step_taken n.server n.moment g.message n.choice g.order handle.0 version.0 g.of g.new n.word) n.said
 
     t_there : element_at h.next.servers n.index ≡ Some t

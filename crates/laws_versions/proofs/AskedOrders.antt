@@ -21,8 +21,8 @@ use Rattle.messages.specs.declared.message.Holder.{Holder}
 use Rattle.messages.specs.declared.message.Wanted.{Wanted}
 use Rattle.messages.specs.declared.message.Wanted.TheVariants as wanted
 use Rattle.messages.specs.declared.message.NameReply.TheVariants.{Answered}
-use Rattle.messages.specs.declared.event.Input.{Input}
-use Rattle.messages.specs.declared.event.Input.TheVariants as input
+use Rattle.messages.specs.declared.event.NodeInput.{NodeInput}
+use Rattle.messages.specs.declared.event.NodeInput.TheVariants as input
 use Rattle.log_records.specs.declared.record.Record.{Record}
 use Rattle.log_records.specs.declared.record.Record.TheVariants as log
 use Rattle.relaxed_file.specs.NameStep.{needs_room}
@@ -448,8 +448,8 @@ pub ready_later : (m : MasterState) (moment : ℕ) → ((handle : ℕ) (c : Copy
 ready_later m moment ready handle c at row is = let low = ready handle c at row is in let later = le-max_left m.now moment in omega (arith, low, later)
 
 -- the step on an Ask
-pub step_asked : (m : MasterState) (moment : ℕ) (i : Input) (choice : Choice) (ready : (handle : ℕ) (c : Copy) → table.get m.logged.copies handle ≡ Some c → HasEnded m.now (rows_of m.logged) handle) → IsAsk i
+pub step_asked : (m : MasterState) (moment : ℕ) (i : NodeInput) (choice : Choice) (ready : (handle : ℕ) (c : Copy) → table.get m.logged.copies handle ≡ Some c → HasEnded m.now (rows_of m.logged) handle) → IsAsk i
     → IsAskedStep m.logged (max m.now moment) (ready_later m moment ready) (master_step m moment i choice)
 step_asked m moment i choice ready ask =
-    subst (λ (j : Input). IsAskedStep m.logged (max m.now moment) (ready_later m moment ready) (master_step m moment j choice)) (sym ask.taken)
+    subst (λ (j : NodeInput). IsAskedStep m.logged (max m.now moment) (ready_later m moment ready) (master_step m moment j choice)) (sym ask.taken)
     (asked_step m.logged (max m.now moment) (ready_later m moment ready) m moment ask.message choice refl refl ask.number ask.file ask.what ask.deadline ask.lost ask.is)

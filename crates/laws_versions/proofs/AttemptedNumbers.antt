@@ -7,7 +7,7 @@ use Rattle.std.proofs.Math.Nat.{le-max_left, le-max_right}
 use Rattle.gfs_types.specs.declared.config.Config.{Config}
 use Rattle.gfs_types.specs.declared.ids.Node.{Node}
 use Rattle.gfs_types.specs.declared.refusal.Refusal.TheVariants.{TooLong}
-use Rattle.messages.specs.declared.event.Input.{Input}
+use Rattle.messages.specs.declared.event.NodeInput.{NodeInput}
 use Rattle.messages.specs.declared.message.Body.{Body}
 use Rattle.messages.specs.declared.message.Body.TheVariants as body
 use Rattle.messages.specs.declared.message.Wanted.{Wanted}
@@ -378,7 +378,7 @@ ask_last d client number file w deadline lost h =
 -- a step
 
 module _ (m : MasterState) (h : AreLast m.logged m.attempts) where
-  goes_last : (moment : ℕ) (i : Input) (refused : List Bool) → IsLast (master_goes m moment i refused)
+  goes_last : (moment : ℕ) (i : NodeInput) (refused : List Bool) → IsLast (master_goes m moment i refused)
   goes_last moment i refused =
       elim (asked_or_not i) [
         | inl none ↦ ready IsLast names_last done done.master.snapshots (does_kept IsLast names_last reports_last first i none h)
@@ -393,7 +393,7 @@ module _ (m : MasterState) (h : AreLast m.logged m.attempts) where
 
       asked : IsAsk i → IsLast (master_goes m moment i refused)
       asked ask =
-          subst (λ (j : Input). IsLast (master_goes m moment j refused)) (sym ask.taken)
+          subst (λ (j : NodeInput). IsLast (master_goes m moment j refused)) (sym ask.taken)
           (ready IsLast names_last (master_takes first ask.message (ask.message).body) (master_takes first ask.message (ask.message).body).master.snapshots
           (subst (λ (b : Body). IsLast (master_takes first ask.message b)) (sym ask.is) (ask_last first (ask.message).sender ask.number (ask.file).0 ask.what (ask.deadline).0 ask.lost h)))
 
@@ -442,7 +442,7 @@ module _ (config : Config) (servers clients : ℕ) (w : WorldState) (r : IsReach
       let u : IsUpToLog IsFoundRows IsRowedLog rows_kept w.master = (logged_here IsFoundRows IsRowedLog rows_kept config servers clients w r).1.up up in
       record { used = row_below w.master.logged (state_of w.master.disk) u.same u.tied; tried_used = (h up).0; last = (h up).1 }
 
-  steps_last : (moment : ℕ) (i : Input) (choice : Choice) → AreLastHere (master_step w.master moment i choice).state
+  steps_last : (moment : ℕ) (i : NodeInput) (choice : Choice) → AreLastHere (master_step w.master moment i choice).state
   steps_last moment i choice =
       let d : MasterDoing = master_goes w.master moment i choice.refused in
       on_cond (λ (t : Taken MasterState). AreLastHere t.state) w.master.up (master_bounded w.master d choice) (no_step w.master)

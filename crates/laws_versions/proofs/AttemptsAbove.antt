@@ -1,7 +1,7 @@
 -- In a step of the master no attempt of a chunk is below a version that an order of the step gives.
 use Rattle.std.proofs.Common.{◌≡◌, ℕ, suc, ◌≤◌, true, false, List, [], ◌∷◌, ◌++◌, Some, None, refl, sym, ap, subst, ◌∙◌, inl, inr, arith}
 use Rattle.std.specs.FinMap as table
-use Rattle.messages.specs.declared.event.Input.{Input}
+use Rattle.messages.specs.declared.event.NodeInput.{NodeInput}
 use Rattle.messages.specs.declared.message.Message.{Message}
 use Rattle.messages.specs.declared.message.Body.{Body}
 use Rattle.messages.specs.declared.message.Body.TheVariants as body
@@ -143,7 +143,7 @@ module _ (handle : ℕ) where
       }
 
   -- after a step that gave this version, no attempt is below it
-  pub step_above : (m : MasterState) (moment : ℕ) (i : Input) (choice : Choice) → IsLogged IsFoundRows IsRowedLog rows_kept m → WaitsHere m → ((a : VersionAttempt) → table.get m.attempts handle ≡ Some a → IsPassed handle a.version m.logged)
+  pub step_above : (m : MasterState) (moment : ℕ) (i : NodeInput) (choice : Choice) → IsLogged IsFoundRows IsRowedLog rows_kept m → WaitsHere m → ((a : VersionAttempt) → table.get m.attempts handle ≡ Some a → IsPassed handle a.version m.logged)
       → (x : Message) → IsSent (master_step m moment i choice).out.sent x → (n : ℕ) → version_given x.body ≡ Some (handle, n) → (a : VersionAttempt) → table.get (master_step m moment i choice).state.attempts handle ≡ Some a → n ≤ a.version
   step_above m moment i choice logged waits tried x said n given =
       on_cond good m.up (master_bounded m d choice) (no_step m)

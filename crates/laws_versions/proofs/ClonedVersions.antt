@@ -6,8 +6,8 @@ use Rattle.std.proofs.lemmas.Bool.{true≢false}
 use Rattle.std.proofs.Math.Nat.{le-max_left, le-max_right, max-le}
 use Rattle.gfs_types.specs.declared.config.Config.{Config}
 use Rattle.messages.specs.declared.event.Event.{Event}
-use Rattle.messages.specs.declared.event.Input.{Input}
-use Rattle.messages.specs.declared.event.Input.TheVariants as input
+use Rattle.messages.specs.declared.event.NodeInput.{NodeInput}
+use Rattle.messages.specs.declared.event.NodeInput.TheVariants as input
 use Rattle.messages.specs.declared.message.Body.{Body}
 use Rattle.messages.specs.declared.message.Body.TheVariants as body
 use Rattle.messages.specs.declared.message.Message.{Message}
@@ -214,7 +214,7 @@ module _ (w : WorldState) (moment : ℕ) where
   ends_known d choice Lost h = silent_known (master_ends w.master d choice Lost) refl
   ends_known d choice (Stops made) h = silent_known (master_ends w.master d choice (Stops made)) refl
 
-  step_known : (i : Input) (choice : Choice) → AreHeld w.sent w.master.holders → IsTrue w.master.up → IsOfTimes (scene_of w) → BringsKnown (master_step w.master moment i choice)
+  step_known : (i : NodeInput) (choice : Choice) → AreHeld w.sent w.master.holders → IsTrue w.master.up → IsOfTimes (scene_of w) → BringsKnown (master_step w.master moment i choice)
   step_known i choice held up times =
       let d : MasterDoing = master_goes w.master moment i choice.refused in
       on_cond BringsKnown w.master.up (master_bounded w.master d choice) (no_step w.master)
@@ -222,7 +222,7 @@ module _ (w : WorldState) (moment : ℕ) where
       (λ _. silent_known (no_step w.master) refl))
       (λ _. silent_known (no_step w.master) refl)
     where
-      by_input : (j : Input) (refused : List Bool) → BringsKnown (master_ends w.master (master_goes w.master moment j refused) choice Goes)
+      by_input : (j : NodeInput) (refused : List Bool) → BringsKnown (master_ends w.master (master_goes w.master moment j refused) choice Goes)
       by_input (input.Deliver m) refused = goes_delivery (master_goes w.master moment (input.Deliver m) refused) choice (delivery_says w.master moment m refused)
       by_input input.Tick refused = goes_tick (master_goes w.master moment input.Tick refused) choice (tick_says w.master moment refused) up held times
 

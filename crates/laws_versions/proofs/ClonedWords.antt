@@ -12,8 +12,8 @@ use Rattle.gfs_types.specs.declared.refusal.Refusal.{Refusal}
 use Rattle.gfs_types.specs.declared.mutation.Mutation.{Mutation}
 use Rattle.gfs_types.specs.declared.mutation.Mutation.TheVariants as mutation
 use Rattle.gfs_types.specs.Mutations.{start_of, end_of}
-use Rattle.messages.specs.declared.event.Input.{Input}
-use Rattle.messages.specs.declared.event.Input.TheVariants as input
+use Rattle.messages.specs.declared.event.NodeInput.{NodeInput}
+use Rattle.messages.specs.declared.event.NodeInput.TheVariants as input
 use Rattle.messages.specs.declared.message.Body.{Body}
 use Rattle.messages.specs.declared.message.Body.TheVariants as body
 use Rattle.messages.specs.declared.message.Message.{Message}
@@ -320,7 +320,7 @@ module _ (server : ℕ) (clones : Table ℕ) (W : Body → Type 0) (plain : (b :
   ticks_says : (d : ServerDoing) → Says d → Says (server_ticks d)
   ticks_says d h = calm d node.Master (body.Report (map replica_line (table.entries d.server.disk.replicas)) (map lease_line (table.entries (counting_leases d.server)))) refl h
 
-  does_says : (d : ServerDoing) (i : Input) → d.server.clones ≡ clones → Says d → Says (server_does d i)
+  does_says : (d : ServerDoing) (i : NodeInput) → d.server.clones ≡ clones → Says d → Says (server_does d i)
   does_says d (input.Deliver m) same h = takes_says d m m.body same h
   does_says d input.Tick same h = ticks_says d h
 
@@ -330,7 +330,7 @@ module _ (server : ℕ) (clones : Table ℕ) (W : Body → Type 0) (plain : (b :
   ends_says s d choice (Stops made) h = tt
 
   -- what a server says in a step: a Cloned of a clone for which it waits, and words that need no cause here
-  pub step_words : (s : ServerState) (moment : ℕ) (i : Input) (choice : Choice) → s.id ≡ server → s.clones ≡ clones → AllOf Said (server_step s moment i choice).out.sent
+  pub step_words : (s : ServerState) (moment : ℕ) (i : NodeInput) (choice : Choice) → s.id ≡ server → s.clones ≡ clones → AllOf Said (server_step s moment i choice).out.sent
   step_words s moment i choice id same =
       on_cond (λ (t : Taken ServerState). AllOf Said t.out.sent) s.up (server_ends s (server_goes s moment i) choice choice.ending) (no_step s)
       (λ _. ends_says s (server_goes s moment i) choice choice.ending (does_says (server_begins (server_at s moment)) i same (id, tt))) (λ _. tt)

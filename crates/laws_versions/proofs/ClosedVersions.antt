@@ -6,7 +6,7 @@ use Rattle.std.specs.FinMap as table
 use Rattle.std.proofs.lemmas.Bool.{eqb-true, and_parts}
 use Rattle.gfs_types.specs.declared.config.Config.{Config}
 use Rattle.messages.specs.declared.event.Event.{Event}
-use Rattle.messages.specs.declared.event.Input.{Input}
+use Rattle.messages.specs.declared.event.NodeInput.{NodeInput}
 use Rattle.messages.specs.declared.message.Body.{Body}
 use Rattle.messages.specs.declared.message.Body.TheVariants as body
 use Rattle.messages.specs.declared.message.Message.{Message}
@@ -217,7 +217,7 @@ module _ (handle version : ℕ) where
   ends_shut count sent k m d choice (Stops made) h n g =
       down_shut count sent k m (log_changed_by_all m.disk (take made d.changes)) (take 1 (drop made d.changes)) h (found_stopped (IsLogPassed handle version) m.disk d.changes made g.stops)
 
-  step_shut : (count : ℕ) (sent : List Message) (k : ℕ) (m : MasterState) (moment : ℕ) (i : Input) (choice : Choice) → IsLogged IsFoundRows IsRowedLog rows_kept m → WaitsHere m → AreShut count sent m
+  step_shut : (count : ℕ) (sent : List Message) (k : ℕ) (m : MasterState) (moment : ℕ) (i : NodeInput) (choice : Choice) → IsLogged IsFoundRows IsRowedLog rows_kept m → WaitsHere m → AreShut count sent m
       → AreShut count (sent ++ stamped k (master_step m moment i choice).out.sent) (master_step m moment i choice).state
   step_shut count sent k m moment i choice logged waits h =
       let d : MasterDoing = master_goes m moment i choice.refused in

@@ -9,8 +9,8 @@ use Rattle.gfs_types.specs.declared.ids.FileId.{FileId}
 use Rattle.gfs_types.specs.declared.ids.Moment.{Moment}
 use Rattle.gfs_types.specs.declared.ids.Node.{Node}
 use Rattle.messages.specs.declared.event.Event.{Event}
-use Rattle.messages.specs.declared.event.Input.{Input}
-use Rattle.messages.specs.declared.event.Input.TheVariants as input
+use Rattle.messages.specs.declared.event.NodeInput.{NodeInput}
+use Rattle.messages.specs.declared.event.NodeInput.TheVariants as input
 use Rattle.messages.specs.declared.message.Body.{Body}
 use Rattle.messages.specs.declared.message.Body.TheVariants as body
 use Rattle.messages.specs.declared.message.Message.{Message}
@@ -54,7 +54,7 @@ use Rattle.laws_versions.proofs.FreeSources.{IsUntried, AreFree, IsFine, fine_na
 use Rattle.laws_versions.proofs.AskedSteps.{IsSaid, plain_said, IsNoGrant, names_grant_nothing, Post, ask_post, begun_here, post_free, post_fine}
 
 -- a client asks for a location
-pub record IsAsk (i : Input) : Type 0 where
+pub record IsAsk (i : NodeInput) : Type 0 where
   pub message : Message
   pub number : ℕ
   pub file : FileId
@@ -64,7 +64,7 @@ pub record IsAsk (i : Input) : Type 0 where
   pub taken : i ≡ input.Deliver message
   pub is : message.body ≡ body.Ask number file what deadline lost
 
-pub asked_or_not : (i : Input) → IsUnasked i ⊎ IsAsk i
+pub asked_or_not : (i : NodeInput) → IsUnasked i ⊎ IsAsk i
 asked_or_not input.Tick = inl tt
 asked_or_not (input.Deliver m) = by_body m.body refl
   where
@@ -110,7 +110,7 @@ module _ (config : Config) (servers clients : ℕ) (w : WorldState) (r : IsReach
   begun_free : AreFree m.logged m.attempts (max m.now moment)
   begun_free = free_later m.logged m.attempts m.now (max m.now moment) (le-max_left m.now moment) free
 
-  pub unasked_step : (i : Input) (refused : List Bool) → IsUnasked i → IsUnaskedStep (master_goes w.master moment i refused)
+  pub unasked_step : (i : NodeInput) (refused : List Bool) → IsUnasked i → IsUnaskedStep (master_goes w.master moment i refused)
   unasked_step i refused none =
       let names = fine_names IsSilent IsNoStart (λ receiver b plain. plain) names_start_nothing (λ items. tt) in
       let reports = fine_reports IsSilent IsNoStart (λ receiver b plain. plain) names_start_nothing (λ items. tt) (λ handle version primary members. tt) in
@@ -141,8 +141,8 @@ module _ (config : Config) (servers clients : ℕ) (w : WorldState) (r : IsReach
   shared_untried : (q : ℕ) (row : ChunkRow) → chunk_of m.logged.table q ≡ Some row → 2 ≤ row.references → IsUntried m.attempts q
   shared_untried q row at owners a is = none_some a (sym (shared_chunks_have_no_lease config servers clients w r clocks up q row at owners).0 ∙ is)
 
-  pub asked_step : (i : Input) (refused : List Bool) (ask : IsAsk i) → IsAskedStep w.master.logged (ask.message).sender ask.number (ask.file).0 (master_goes w.master moment i refused)
-  asked_step i refused ask = subst (λ (j : Input). IsAskedStep m.logged x.sender ask.number (ask.file).0 (master_goes m moment j refused)) (sym ask.taken) goes
+  pub asked_step : (i : NodeInput) (refused : List Bool) (ask : IsAsk i) → IsAskedStep w.master.logged (ask.message).sender ask.number (ask.file).0 (master_goes w.master moment i refused)
+  asked_step i refused ask = subst (λ (j : NodeInput). IsAskedStep m.logged x.sender ask.number (ask.file).0 (master_goes m moment j refused)) (sym ask.taken) goes
     where
       x : Message
       x = ask.message
@@ -173,7 +173,7 @@ module _ (config : Config) (servers clients : ℕ) (w : WorldState) (r : IsReach
       goes : IsAskedStep m.logged x.sender ask.number (ask.file).0 (master_goes m moment (input.Deliver x) refused)
       goes = ready (IsAskedStep m.logged x.sender ask.number (ask.file).0) (fine_names (IsSaid m.logged x.sender ask.number (ask.file).0) IsNoGrant (plain_said m.logged x.sender ask.number (ask.file).0) names_grant_nothing (λ items. tt)) done done.master.snapshots one
 
-  goes_free : (i : Input) (refused : List Bool) → (let d : MasterDoing = master_goes w.master moment i refused in AreFree d.master.logged d.master.attempts d.master.now)
+  goes_free : (i : NodeInput) (refused : List Bool) → (let d : MasterDoing = master_goes w.master moment i refused in AreFree d.master.logged d.master.attempts d.master.now)
   goes_free i refused = elim (asked_or_not i) [ inl none ↦ (unasked_step i refused none).free | inr ask ↦ (asked_step i refused ask).free ]
 
 -- worlds
@@ -199,7 +199,7 @@ opens_here old started d choice Lost none = down_free (opens_as old started d ch
 opens_here old started d choice (Stops made) none = down_free (opens_as old started d choice (Stops made)).state refl
 
 module _ (config : Config) (servers clients : ℕ) (w : WorldState) (r : IsReached config servers clients w) (clocks : IsTrue w.observer.are_clocks_kept) (h : IsFreeHere w.master) where
-  steps_free : (moment : ℕ) (i : Input) (choice : Choice) → IsTrue w.master.up → IsFreeHere (master_step w.master moment i choice).state
+  steps_free : (moment : ℕ) (i : NodeInput) (choice : Choice) → IsTrue w.master.up → IsFreeHere (master_step w.master moment i choice).state
   steps_free moment i choice up =
       let d : MasterDoing = master_goes w.master moment i choice.refused in
       on_cond (λ (t : Taken MasterState). IsFreeHere t.state) w.master.up (master_bounded w.master d choice) (no_step w.master)

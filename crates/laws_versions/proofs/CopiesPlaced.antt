@@ -8,8 +8,8 @@ use Rattle.gfs_types.specs.declared.ids.FileId.{FileId}
 use Rattle.gfs_types.specs.declared.ids.Handle.{Handle}
 use Rattle.gfs_types.specs.declared.ids.Node.{Node}
 use Rattle.gfs_types.specs.declared.refusal.Refusal.TheVariants.{TooLong}
-use Rattle.messages.specs.declared.event.Input.{Input}
-use Rattle.messages.specs.declared.event.Input.TheVariants as input
+use Rattle.messages.specs.declared.event.NodeInput.{NodeInput}
+use Rattle.messages.specs.declared.event.NodeInput.TheVariants as input
 use Rattle.messages.specs.declared.message.Body.{Body}
 use Rattle.messages.specs.declared.message.Body.TheVariants as body
 use Rattle.messages.specs.declared.message.Message.{Message}
@@ -282,7 +282,7 @@ module _ (m : MasterState) (moment : ℕ) (refused : List Bool) (below : Below m
       ]
   took_fine x other = inl (ready [] (master_takes First x other) (took [] First x other tt refl))
 
-  goes_fine : (i : Input) → Fine (master_goes m moment i refused)
+  goes_fine : (i : NodeInput) → Fine (master_goes m moment i refused)
   goes_fine (input.Deliver x) = took_fine x x.body
   goes_fine input.Tick = inl (ready [] (master_ticks First) (ticked [] First refl))
 
@@ -294,7 +294,7 @@ ends_begun m d choice Goes h = h
 ends_begun m d choice Lost h = inl refl
 ends_begun m d choice (Stops made) h = inl refl
 
-step_begun : (m : MasterState) (moment : ℕ) (i : Input) (choice : Choice) → (IsTrue m.up → Below m.logged) → ShowsBegun (master_step m moment i choice)
+step_begun : (m : MasterState) (moment : ℕ) (i : NodeInput) (choice : Choice) → (IsTrue m.up → Below m.logged) → ShowsBegun (master_step m moment i choice)
 step_begun m moment i choice below =
     let d : MasterDoing = master_goes m moment i choice.refused in
     on_cond ShowsBegun m.up (master_bounded m d choice) (no_step m)
@@ -325,7 +325,7 @@ IsCopyPlaced config servers clients source copy v =
     × (((index : ℕ) → Filed config servers clients copy index v)
     ⊎ ((file : ℕ) × (index : ℕ) × (element_at (chunks_at v.master.logged.table.files file) index ≡ Some source) × Filed config servers clients copy index v))
 
-module _ (config : Config) (servers clients : ℕ) (w v : WorldState) (r : IsReached config servers clients w) (later : IsReached config servers clients v) (moment : ℕ) (i : Input) (choice : Choice) (now : v.master ≡ (master_step w.master moment i choice).state) where
+module _ (config : Config) (servers clients : ℕ) (w v : WorldState) (r : IsReached config servers clients w) (later : IsReached config servers clients v) (moment : ℕ) (i : NodeInput) (choice : Choice) (now : v.master ≡ (master_step w.master moment i choice).state) where
   by_begun : Begun (master_step w.master moment i choice).seen v.master.logged v.master.up → (place : ℕ) (handle copy : Handle) → element_at (master_step w.master moment i choice).seen place ≡ Some (CopyStarted handle copy)
       → IsCopyPlaced config servers clients handle.0 copy.0 v
   by_begun b place handle copy at =
@@ -362,7 +362,7 @@ module _ (config : Config) (servers clients : ℕ) (w v : WorldState) (r : IsRea
       ]
 
 -- a copy begins under a handle that was not used
-pub copies_are_new : (config : Config) (servers clients : ℕ) (w : WorldState) → IsReached config servers clients w → (moment : ℕ) (i : Input) (choice : Choice) (place : ℕ) (handle copy : Handle)
+pub copies_are_new : (config : Config) (servers clients : ℕ) (w : WorldState) → IsReached config servers clients w → (moment : ℕ) (i : NodeInput) (choice : Choice) (place : ℕ) (handle copy : Handle)
     → element_at (master_step w.master moment i choice).seen place ≡ Some (CopyStarted handle copy) → IsTrue w.master.up × (w.master.logged.next_handle ≤ copy.0)
 copies_are_new config servers clients w r moment i choice place handle copy at =
     elim (step_shows w.master moment i choice base.base.logged base.waits) [

@@ -5,8 +5,8 @@ use Rattle.std.specs.FinMap as table
 use Rattle.std.proofs.lemmas.Bool.{ltb-true}
 use Rattle.gfs_types.specs.declared.config.Config.{Config}
 use Rattle.messages.specs.declared.event.Event.{Event}
-use Rattle.messages.specs.declared.event.Input.{Input}
-use Rattle.messages.specs.declared.event.Input.TheVariants as input
+use Rattle.messages.specs.declared.event.NodeInput.{NodeInput}
+use Rattle.messages.specs.declared.event.NodeInput.TheVariants as input
 use Rattle.messages.specs.declared.message.Body.{Body}
 use Rattle.messages.specs.declared.message.Body.TheVariants as body
 use Rattle.messages.specs.declared.message.Message.{Message}
@@ -90,7 +90,7 @@ all_as : (S T : Body → Type 0) → ((b : Body) → S b → T b) → (ms : List
 all_as S T f [] h = tt
 all_as S T f (m ∷ ms) h = ((h.0.0, f m.body h.0.1), all_as S T f ms h.1)
 
-goes_sourced : (m : MasterState) (moment : ℕ) (i : Input) (refused : List Bool) → AllOf (IsMastersMessage (IsSourced (master_at m moment))) (master_goes m moment i refused).sent
+goes_sourced : (m : MasterState) (moment : ℕ) (i : NodeInput) (refused : List Bool) → AllOf (IsMastersMessage (IsSourced (master_at m moment))) (master_goes m moment i refused).sent
 goes_sourced m moment (input.Deliver x) refused =
     let s : MasterState = master_at m moment in
     let d : MasterDoing = master_takes (master_begins s refused) x x.body in
@@ -143,7 +143,7 @@ module _ (w : WorldState) (moment : ℕ) where
         | inr new ↦ none_sent new.0 (subst (λ (ms : List Message). IsSent ms new.0) none (new.1))
       ]
 
-  ends_known : (i : Input) (choice : Choice) (e : Ending) → IsTrue w.master.up → BringsKnown (master_ends w.master (master_goes w.master moment i choice.refused) choice e)
+  ends_known : (i : NodeInput) (choice : Choice) (e : Ending) → IsTrue w.master.up → BringsKnown (master_ends w.master (master_goes w.master moment i choice.refused) choice e)
   ends_known i choice Goes up handle version g =
       let d : MasterDoing = master_goes w.master moment i choice.refused in
       let S : Body → Type 0 = IsSourced (master_at w.master moment) in
@@ -156,7 +156,7 @@ module _ (w : WorldState) (moment : ℕ) where
   ends_known i choice Lost up handle version g = silent_known (master_ends w.master (master_goes w.master moment i choice.refused) choice Lost) refl handle version g
   ends_known i choice (Stops made) up handle version g = silent_known (master_ends w.master (master_goes w.master moment i choice.refused) choice (Stops made)) refl handle version g
 
-  step_known : (i : Input) (choice : Choice) → IsTrue w.master.up → BringsKnown (master_step w.master moment i choice)
+  step_known : (i : NodeInput) (choice : Choice) → IsTrue w.master.up → BringsKnown (master_step w.master moment i choice)
   step_known i choice up =
       let d : MasterDoing = master_goes w.master moment i choice.refused in
       on_cond BringsKnown w.master.up (master_bounded w.master d choice) (no_step w.master)

@@ -3,8 +3,8 @@ use Rattle.std.proofs.Common.{◌≡◌, ℕ, suc, ◌<◌, false, List, [], ◌
 use Rattle.std.proofs.lemmas.Bool.{ltb-true}
 use Rattle.gfs_types.specs.declared.ids.Node.{Node}
 use Rattle.gfs_types.specs.declared.ids.Node.TheVariants as node
-use Rattle.messages.specs.declared.event.Input.{Input}
-use Rattle.messages.specs.declared.event.Input.TheVariants as input
+use Rattle.messages.specs.declared.event.NodeInput.{NodeInput}
+use Rattle.messages.specs.declared.event.NodeInput.TheVariants as input
 use Rattle.messages.specs.declared.message.Body.{Body}
 use Rattle.messages.specs.declared.message.Body.TheVariants as body
 use Rattle.messages.specs.declared.message.Message.{Message}
@@ -31,7 +31,7 @@ all_placed : {X : Type 0} (P : X → Type 0) (xs : List X) → ((place : ℕ) (x
 all_placed P [] f = tt
 all_placed P (x ∷ xs) f = (f 0 x refl, all_placed P xs (λ place y is. f (suc place) y is))
 
-module _ (l : Logged) (i : Input) where
+module _ (l : Logged) (i : NodeInput) where
   -- a Drop is of a useless replica of its receiver
   abbrev IsDue : Message → Type 0
   IsDue x = (handle version : ℕ) → version_dropped x.body ≡ Some (handle, version) → IsUselessReplica l i x.receiver handle version
@@ -67,7 +67,7 @@ module _ (l : Logged) (i : Input) where
   body_due report (body.Report replicas leases) taken is = lines_due report replicas leases taken is
   body_due report other taken is = tt
 
-  input_due : (j : Input) → i ≡ j → AreInputDropsSaid IsDue others_due l j
+  input_due : (j : NodeInput) → i ≡ j → AreInputDropsSaid IsDue others_due l j
   input_due (input.Deliver report) is = body_due report report.body is refl
   input_due input.Tick is = tt
 

@@ -18,8 +18,8 @@ use Rattle.messages.specs.declared.message.Wanted.TheVariants as wanted
 use Rattle.messages.specs.declared.message.NameReply.TheVariants.{Answered}
 use Rattle.messages.specs.declared.message.ReplicaLine.{ReplicaLine}
 use Rattle.messages.specs.declared.message.LeaseLine.{LeaseLine}
-use Rattle.messages.specs.declared.event.Input.{Input}
-use Rattle.messages.specs.declared.event.Input.TheVariants as input
+use Rattle.messages.specs.declared.event.NodeInput.{NodeInput}
+use Rattle.messages.specs.declared.event.NodeInput.TheVariants as input
 use Rattle.log_records.specs.declared.record.Record.{Record}
 use Rattle.log_records.specs.declared.record.Record.TheVariants as log
 use Rattle.relaxed_file.specs.NameStep.{outcome_by, needs_room}
@@ -362,7 +362,7 @@ module _ (W : Message → Type 0) (plain : (receiver : Node) (b : Body) → is_d
   AreBodyDropsSaid l server (body.Report replicas leases) = AreDropsSaid l server replicas
   AreBodyDropsSaid l server other = Unit {0}
 
-  abbrev pub AreInputDropsSaid : Logged → Input → Type 0
+  abbrev pub AreInputDropsSaid : Logged → NodeInput → Type 0
   AreInputDropsSaid l (input.Deliver m) = AreBodyDropsSaid l (server_number m.sender) m.body
   AreInputDropsSaid l input.Tick = Unit {0}
 
@@ -402,11 +402,11 @@ module _ (W : Message → Type 0) (plain : (receiver : Node) (b : Body) → is_d
   takes_said d m (body.Image handle version serial bytes) useless h = h
   takes_said d m (body.CopyLocal order handle version copy copy_version) useless h = h
 
-  does_said : (d : MasterDoing) (i : Input) → AreInputDropsSaid d.master.logged i → Fine d → Fine (master_does d i)
+  does_said : (d : MasterDoing) (i : NodeInput) → AreInputDropsSaid d.master.logged i → Fine d → Fine (master_does d i)
   does_said d (input.Deliver m) useless h = takes_said d m m.body useless h
   does_said d input.Tick useless h = ticks_said d h
 
-  goes_said : (m : MasterState) (moment : ℕ) (i : Input) (refusals : List Bool) → AreInputDropsSaid m.logged i → Fine (master_goes m moment i refusals)
+  goes_said : (m : MasterState) (moment : ℕ) (i : NodeInput) (refusals : List Bool) → AreInputDropsSaid m.logged i → Fine (master_goes m moment i refusals)
   goes_said m moment i refusals useless =
       let d : MasterDoing = master_does (master_begins (master_at m moment) refusals) i in
       ready d d.master.snapshots (does_said (master_begins (master_at m moment) refusals) i useless tt)
@@ -416,7 +416,7 @@ module _ (W : Message → Type 0) (plain : (receiver : Node) (b : Body) → is_d
   ends_said m d choice Lost h = tt
   ends_said m d choice (Stops made) h = tt
 
-  pub step_drops : (m : MasterState) (moment : ℕ) (i : Input) (choice : Choice) → AreInputDropsSaid m.logged i → AllOf W (master_step m moment i choice).out.sent
+  pub step_drops : (m : MasterState) (moment : ℕ) (i : NodeInput) (choice : Choice) → AreInputDropsSaid m.logged i → AllOf W (master_step m moment i choice).out.sent
   step_drops m moment i choice useless =
       let d : MasterDoing = master_goes m moment i choice.refused in
       on_cond (λ (t : Taken MasterState). AllOf W t.out.sent) m.up (master_bounded m d choice) (no_step m)

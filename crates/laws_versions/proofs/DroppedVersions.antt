@@ -6,8 +6,8 @@ use Rattle.gfs_types.specs.declared.ids.Node.{Node}
 use Rattle.gfs_types.specs.declared.ids.Node.TheVariants as node
 use Rattle.messages.specs.declared.event.Event.{Event}
 use Rattle.messages.specs.declared.event.Event.TheVariants as event
-use Rattle.messages.specs.declared.event.Input.{Input}
-use Rattle.messages.specs.declared.event.Input.TheVariants as input
+use Rattle.messages.specs.declared.event.NodeInput.{NodeInput}
+use Rattle.messages.specs.declared.event.NodeInput.TheVariants as input
 use Rattle.messages.specs.declared.message.Body.{Body}
 use Rattle.messages.specs.declared.message.Body.TheVariants as body
 use Rattle.messages.specs.declared.message.Message.{Message}
@@ -62,11 +62,11 @@ line_ordered sent server lines handle version h is =
     (subst (λ (v : ℕ). WasOrdered sent server line.handle.0 v) is.4 (all_at (λ (l : ReplicaLine). WasOrdered sent server l.handle.0 l.version.0) lines is.0 line h is.2))
 
 -- what the master takes was said truly
-abbrev IsTrueInput : List Message → Input → Type 0
+abbrev IsTrueInput : List Message → NodeInput → Type 0
 IsTrueInput sent (input.Deliver m) = IsTrueMessage sent m
 IsTrueInput sent input.Tick = Unit {0}
 
-input_true : (w : WorldState) (e : Event) (moment : ℕ) (i : Input) → IsGiven w e node.Master moment i → AreWordsTrue w.sent → IsTrueInput w.sent i
+input_true : (w : WorldState) (e : Event) (moment : ℕ) (i : NodeInput) → IsGiven w e node.Master moment i → AreWordsTrue w.sent → IsTrueInput w.sent i
 input_true w (event.Deliver number now) moment (input.Deliver m) is words = words m (number - 1, element_numbered w.sent number m is.0)
 input_true w e moment input.Tick is words = tt
 input_true w (event.Tick to now) moment (input.Deliver m) is words = absurd is
@@ -75,10 +75,10 @@ input_true w (event.Restart to now) moment (input.Deliver m) is words = absurd i
 input_true w (event.Rot to handle place byte) moment (input.Deliver m) is words = absurd is
 input_true w (event.Fuse to count torn) moment (input.Deliver m) is words = absurd is
 
-useless_ordered : (sent : List Message) (l : Logged) (i : Input) (server : Node) (handle version : ℕ) → IsTrueInput sent i → IsUselessReplica l i server handle version → IsUseless sent l handle version
+useless_ordered : (sent : List Message) (l : Logged) (i : NodeInput) (server : Node) (handle version : ℕ) → IsTrueInput sent i → IsUselessReplica l i server handle version → IsUseless sent l handle version
 useless_ordered sent l i server handle version true_ u =
     let m : Message = u.report in
-    let said : IsTrueMessage sent m = subst (λ (j : Input). IsTrueInput sent j) u.taken true_ in
+    let said : IsTrueMessage sent m = subst (λ (j : NodeInput). IsTrueInput sent j) u.taken true_ in
     let lines : AreLinesOrdered sent (server_number m.sender) u.replicas = report_true sent m.sender u.replicas u.leases (subst (λ (b : Body). IsTrueFrom sent m.sender b) u.is_report said) in
     record { server = server_number m.sender; ordered = line_ordered sent (server_number m.sender) u.replicas handle version lines u.reported; useless = u.useless }
 
@@ -120,7 +120,7 @@ quiet_known sent k ms handle version quiet g =
 abbrev AreDropsKnown : WorldState → List Message → Type 0
 AreDropsKnown w sent = (handle version : ℕ) → IsDropSent sent handle version → IsDropSent w.sent handle version ⊎ (IsTrue w.master.up × IsUseless w.sent w.master.logged handle version)
 
-step_known : (w : WorldState) (moment : ℕ) (i : Input) (choice : Choice) → IsTrueInput w.sent i → IsTrue w.master.up → AreDropsKnown w (w.sent ++ stamped (suc (length w.sent)) (master_step w.master moment i choice).out.sent)
+step_known : (w : WorldState) (moment : ℕ) (i : NodeInput) (choice : Choice) → IsTrueInput w.sent i → IsTrue w.master.up → AreDropsKnown w (w.sent ++ stamped (suc (length w.sent)) (master_step w.master moment i choice).out.sent)
 step_known w moment i choice said up handle version g =
     elim (new_message w.sent (suc (length w.sent)) (master_step w.master moment i choice).out.sent handle version g) [
       | inl old ↦ inl old

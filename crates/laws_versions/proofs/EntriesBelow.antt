@@ -4,8 +4,8 @@ use Rattle.std.specs.Prelude.{max, unwrap_or, IsTrue}
 use Rattle.std.specs.Ordering.{nat_cmp}
 use Rattle.std.specs.FinMap as table
 use Rattle.gfs_types.specs.declared.config.Config.{Config}
-use Rattle.messages.specs.declared.event.Input.{Input}
-use Rattle.messages.specs.declared.event.Input.TheVariants as input
+use Rattle.messages.specs.declared.event.NodeInput.{NodeInput}
+use Rattle.messages.specs.declared.event.NodeInput.TheVariants as input
 use Rattle.messages.specs.declared.message.Message.{Message}
 use Rattle.relaxed_file.specs.Run.{Visible}
 use Rattle.protocol.specs.Tables.{Table, element_at}
@@ -116,14 +116,14 @@ module _ (config : Config) (servers clients : ℕ) (w : WorldState) (r : IsReach
   base = sent_reached IsOfWaits waits_kept config servers clients w r
 
   -- an order of a step that gives a version
-  caused : (moment : ℕ) (i : Input) (choice : Choice) (n : ℕ) (m : Message) → element_at (master_step w.master moment i choice).out.sent n ≡ Some m → (handle version : ℕ) → version_given m.body ≡ Some (handle, version)
+  caused : (moment : ℕ) (i : NodeInput) (choice : Choice) (n : ℕ) (m : Message) → element_at (master_step w.master moment i choice).out.sent n ≡ Some m → (handle version : ℕ) → version_given m.body ≡ Some (handle, version)
       → IsAsk i × IsNext w.master.logged handle version
   caused moment i choice n m there handle version given =
       all_at (IsGivenNext w.master.logged i) (master_step w.master moment i choice).out.sent n m
       (step_caused w.master moment i choice (IsGivenNext w.master.logged i) (granted_is_at_most_issued config servers clients w r) (next_causes w.master.logged w.master.attempts i)) there handle version given
 
   -- what a step of the master gives of a chunk that has an entry is above the entry's round
-  entry_above : IsTrue w.master.up → (moment : ℕ) (i : Input) (choice : Choice) (handle place : ℕ) (p : Placed) → element_at (placed_in w.observer.orders handle) place ≡ Some p → AllOf (GivesAbove handle p.entry.round) (master_step w.master moment i choice).out.sent
+  entry_above : IsTrue w.master.up → (moment : ℕ) (i : NodeInput) (choice : Choice) (handle place : ℕ) (p : Placed) → element_at (placed_in w.observer.orders handle) place ≡ Some p → AllOf (GivesAbove handle p.entry.round) (master_step w.master moment i choice).out.sent
   entry_above up moment i choice handle place p at =
       all_placed (GivesAbove handle p.entry.round) (master_step w.master moment i choice).out.sent
       (λ n m there version given.
@@ -134,7 +134,7 @@ module _ (config : Config) (servers clients : ℕ) (w : WorldState) (r : IsReach
       ])
 
   -- the first version of a copy is above the rounds of its source
-  first_above : IsTrue w.master.up → (moment : ℕ) (i : Input) (choice : Choice) (shows : ShowsCopy w.master (master_step w.master moment i choice)) (place : ℕ) (p : Placed) → element_at (placed_in w.observer.orders shows.source) place ≡ Some p
+  first_above : IsTrue w.master.up → (moment : ℕ) (i : NodeInput) (choice : Choice) (shows : ShowsCopy w.master (master_step w.master moment i choice)) (place : ℕ) (p : Placed) → element_at (placed_in w.observer.orders shows.source) place ≡ Some p
       → AllOf (GivesAbove shows.copy p.entry.round) (master_step w.master moment i choice).out.sent
   first_above up moment i choice shows place p at =
       all_placed (GivesAbove shows.copy p.entry.round) (master_step w.master moment i choice).out.sent
@@ -160,7 +160,7 @@ module _ (config : Config) (servers clients : ℕ) (w : WorldState) (r : IsReach
     stays : (ms : List Message) → ((handle place : ℕ) (p : Placed) → element_at (placed_in w.observer.orders handle) place ≡ Some p → AllOf (GivesAbove handle p.entry.round) ms) → AreAll (IsOfRound (w.sent ++ stamped (suc (length w.sent)) ms)) w.observer.orders
     stays ms all = placed_on (IsOfRound w.sent) (IsOfRound (w.sent ++ stamped (suc (length w.sent)) ms)) (λ handle place p at was. round_later (suc (length w.sent)) w.sent ms handle (unsettled p) (all handle place p at) was) h
 
-    master_rounds : (trace : List Visible) (moment : ℕ) (i : Input) (choice : Choice) → IsTrue w.master.up
+    master_rounds : (trace : List Visible) (moment : ℕ) (i : NodeInput) (choice : Choice) → IsTrue w.master.up
         → AreAll (IsOfRound (w.sent ++ stamped (suc (length w.sent)) (master_step w.master moment i choice).out.sent)) (orders_after_all trace w.observer.orders (master_step w.master moment i choice).seen)
     master_rounds trace moment i choice up =
         elim (step_shows w.master moment i choice base.base.logged base.waits) [
@@ -182,7 +182,7 @@ module _ (config : Config) (servers clients : ℕ) (w : WorldState) (r : IsReach
         stay : AreAll T w.observer.orders
         stay = stays ms (λ handle place p at. entry_above up moment i choice handle place p at)
 
-    server_rounds : (trace : List Visible) (index moment : ℕ) (s : ServerState) (i : Input) (choice : Choice) → element_at w.servers index ≡ Some s → ((m : Message) → i ≡ input.Deliver m → IsAmong w.sent m)
+    server_rounds : (trace : List Visible) (index moment : ℕ) (s : ServerState) (i : NodeInput) (choice : Choice) → element_at w.servers index ≡ Some s → ((m : Message) → i ≡ input.Deliver m → IsAmong w.sent m)
         → AreAll (IsOfRound (w.sent ++ stamped (suc (length w.sent)) (server_step s moment i choice).out.sent)) (orders_after_all trace w.observer.orders (server_step s moment i choice).seen)
     server_rounds trace index moment s i choice there came =
         all_keep trace V T

@@ -7,8 +7,8 @@ use Rattle.gfs_types.specs.declared.ids.Node.{Node}
 use Rattle.gfs_types.specs.declared.ids.Node.TheVariants as node
 use Rattle.messages.specs.declared.event.Event.{Event}
 use Rattle.messages.specs.declared.event.Event.TheVariants as event
-use Rattle.messages.specs.declared.event.Input.{Input}
-use Rattle.messages.specs.declared.event.Input.TheVariants as input
+use Rattle.messages.specs.declared.event.NodeInput.{NodeInput}
+use Rattle.messages.specs.declared.event.NodeInput.TheVariants as input
 use Rattle.messages.specs.declared.message.Message.{Message}
 use Rattle.messages.specs.declared.message.Body.{Body}
 use Rattle.messages.specs.declared.message.Body.TheVariants as body
@@ -66,10 +66,10 @@ pub none_before : {A : Type 0} (sent : List Message) (place : ℕ) (m : Message)
 none_before sent place m from at = absurd (let below = place_below sent place m at in omega (arith, below, from))
 
 -- what the master takes was sent
-pub came_in : (w : WorldState) (e : Event) (to : Node) (moment : ℕ) (i : Input) → IsGiven w e to moment i → (m : Message) → i ≡ input.Deliver m → IsSent w.sent m
+pub came_in : (w : WorldState) (e : Event) (to : Node) (moment : ℕ) (i : NodeInput) → IsGiven w e to moment i → (m : Message) → i ≡ input.Deliver m → IsSent w.sent m
 came_in w (event.Deliver number now) to moment (input.Deliver x) is m same = subst (λ (y : Message). IsSent w.sent y) (same_message x m same) (number - 1, element_numbered w.sent number x is.0)
   where
-    message_in : Input → Option Message
+    message_in : NodeInput → Option Message
     message_in (input.Deliver y) = Some y
     message_in input.Tick = None
 
@@ -101,7 +101,7 @@ no_extend : (b : Body) → is_caused b ≡ false → version_extended b ≡ None
 no_extend (body.Extend handle version end_moment) none = true_false none
 no_extend other none = refl
 
-master_due : (sent : List Message) (l : Logged) (tried : Attempts) (i : Input) → ((m : Message) → i ≡ input.Deliver m → IsSent sent m) → Causes l tried i (IsDue sent)
+master_due : (sent : List Message) (l : Logged) (tried : Attempts) (i : NodeInput) → ((m : Message) → i ≡ input.Deliver m → IsSent sent m) → Causes l tried i (IsDue sent)
 master_due sent l tried i came =
     record {
       plain = λ receiver b none handle version is. none_some (handle, version) (sym (no_extend b none) ∙ is);

@@ -5,8 +5,8 @@ use Rattle.std.specs.FinMap as table
 use Rattle.std.proofs.lemmas.Bool.{leb-true, leb-false}
 use Rattle.gfs_types.specs.declared.config.Config.{Config}
 use Rattle.messages.specs.declared.event.Event.{Event}
-use Rattle.messages.specs.declared.event.Input.{Input}
-use Rattle.messages.specs.declared.event.Input.TheVariants as input
+use Rattle.messages.specs.declared.event.NodeInput.{NodeInput}
+use Rattle.messages.specs.declared.event.NodeInput.TheVariants as input
 use Rattle.messages.specs.declared.message.Message.{Message}
 use Rattle.messages.specs.declared.message.Body.{Body}
 use Rattle.messages.specs.declared.message.Body.TheVariants as body
@@ -51,7 +51,7 @@ use Rattle.laws_versions.specs.FirstVersions.{version_made, FirstVersionsSkipNoG
 use Rattle.laws_versions.proofs.AttemptsAbove.{step_above}
 
 -- the order answers an Ask, for a chunk that was there with nothing granted, or for a new one
-abbrev IsMade : Logged → Attempts → Input → Message → Type 0
+abbrev IsMade : Logged → Attempts → NodeInput → Message → Type 0
 IsMade l tried i x = (handle version : ℕ) → version_made x.body ≡ Some (handle, version) → IsAsk i × (IsRaised l tried handle version 0 ⊎ (l.next_handle ≤ handle))
 
 none_made : (b : Body) → is_caused b ≡ false → version_made b ≡ None
@@ -59,7 +59,7 @@ none_made (body.Create order handle version) none = true_false none
 none_made (body.CopyLocal order handle version copy copy_version) none = true_false none
 none_made other none = refl
 
-master_makes : (l : Logged) (tried : Attempts) (i : Input) → Causes l tried i (IsMade l tried i)
+master_makes : (l : Logged) (tried : Attempts) (i : NodeInput) → Causes l tried i (IsMade l tried i)
 master_makes l tried i =
     record {
       plain = λ receiver b none handle version is. none_some (handle, version) (sym (none_made b none) ∙ is);
@@ -76,11 +76,11 @@ master_makes l tried i =
 
 -- a step on an Ask grants nothing
 
-abbrev message_in : Input → Option Message
+abbrev message_in : NodeInput → Option Message
 message_in (input.Deliver m) = Some m
 message_in input.Tick = None
 
-not_both : {A : Type 0} (i : Input) → IsAsk i → IsTold i → A
+not_both : {A : Type 0} (i : NodeInput) → IsAsk i → IsTold i → A
 not_both i ask told =
     let one : ask.message ≡ told.message = same_some ask.message told.message (ap message_in (sym ask.taken ∙ told.taken)) in
     true_false (sym told.is ∙ sym (ap (λ (m : Message). is_told m.body) one) ∙ ap is_told ask.is)
@@ -92,7 +92,7 @@ plain_grant : (handle granted : ℕ) (b : Body) → is_caused b ≡ false → is
 plain_grant handle granted (body.Grant order q v end_moment members) none = true_false none
 plain_grant handle granted other none = refl
 
-asked_grants : (handle granted : ℕ) (l : Logged) (tried : Attempts) (i : Input) → IsAsk i → Causes l tried i (IsNoGrant handle granted)
+asked_grants : (handle granted : ℕ) (l : Logged) (tried : Attempts) (i : NodeInput) → IsAsk i → Causes l tried i (IsNoGrant handle granted)
 asked_grants handle granted l tried i ask =
     record {
       plain = λ receiver b none. plain_grant handle granted b none;
@@ -121,7 +121,7 @@ none_new sent ms k place m quiet from at handle version is =
 
 -- the step in which an order makes a replica of a new chunk
 
-module _ (config : Config) (servers clients : ℕ) (u : WorldState) (r : IsReached config servers clients u) (up : IsTrue u.master.up) (moment : ℕ) (i : Input) (choice : Choice)
+module _ (config : Config) (servers clients : ℕ) (u : WorldState) (r : IsReached config servers clients u) (up : IsTrue u.master.up) (moment : ℕ) (i : NodeInput) (choice : Choice)
     (later : IsReached config servers clients (after_master u moment (master_step u.master moment i choice)).world) (ask : IsAsk i) (handle version : ℕ) (new : u.master.logged.next_handle ≤ handle) where
   abbrev v : WorldState
   v = (after_master u moment (master_step u.master moment i choice)).world

@@ -4,8 +4,8 @@ use Rattle.std.specs.Prelude.{unwrap_or}
 use Rattle.std.specs.FinMap as table
 use Rattle.gfs_types.specs.declared.config.Config.{Config}
 use Rattle.gfs_types.specs.declared.ids.OrderNo.{OrderNo}
-use Rattle.messages.specs.declared.event.Input.{Input}
-use Rattle.messages.specs.declared.event.Input.TheVariants as input
+use Rattle.messages.specs.declared.event.NodeInput.{NodeInput}
+use Rattle.messages.specs.declared.event.NodeInput.TheVariants as input
 use Rattle.messages.specs.declared.message.Body.{Body}
 use Rattle.messages.specs.declared.message.Body.TheVariants as body
 use Rattle.messages.specs.declared.message.Message.{Message}
@@ -49,7 +49,7 @@ chosen_by C (body.Clone order q v source) handle version word is =
     subst (λ (n : ℕ). C n version) (ap (λ (p : ℕ × ℕ). p.0) same) (subst (λ (n : ℕ). C q.0 n) (ap (λ (p : ℕ × ℕ). p.1) same) word)
 chosen_by C other handle version word is = none_some (handle, version) is
 
-goes_held : (m : MasterState) (moment : ℕ) (i : Input) (choice : Choice) → ClonesHeld m (master_ends m (master_goes m moment i choice.refused) choice Goes)
+goes_held : (m : MasterState) (moment : ℕ) (i : NodeInput) (choice : Choice) → ClonesHeld m (master_ends m (master_goes m moment i choice.refused) choice Goes)
 goes_held m moment (input.Deliver y) choice x said handle version is =
     let d : MasterDoing = master_goes m moment (input.Deliver y) choice.refused in
     let words : AllOf (IsMastersMessage IsNoClone) (master_ends m d choice Goes).out.sent = all_in_order (IsMastersMessage IsNoClone) choice.order d.sent (delivery_says m moment y choice.refused) in
@@ -62,7 +62,7 @@ goes_held m moment input.Tick choice x said handle version is =
     let chosen : C handle version = chosen_by C x.body handle version (all_at (IsMastersMessage (IsTickWord C)) (master_ends m d choice Goes).out.sent said.0 x words said.1).1 is in
     (chosen.server, ap (λ (holders : Table (Table ℕ)). table.get (unwrap_or (table.get holders chosen.server) table.empty) handle) (sym tick.holders) ∙ chosen.held)
 
-step_held : (m : MasterState) (moment : ℕ) (i : Input) (choice : Choice) → ClonesHeld m (master_step m moment i choice)
+step_held : (m : MasterState) (moment : ℕ) (i : NodeInput) (choice : Choice) → ClonesHeld m (master_step m moment i choice)
 step_held m moment i choice =
     let d : MasterDoing = master_goes m moment i choice.refused in
     on_cond (ClonesHeld m) m.up (master_bounded m d choice) (no_step m)

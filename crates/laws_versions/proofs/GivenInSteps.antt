@@ -17,8 +17,8 @@ use Rattle.messages.specs.declared.message.Holder.{Holder}
 use Rattle.messages.specs.declared.message.Wanted.{Wanted}
 use Rattle.messages.specs.declared.message.Wanted.TheVariants as wanted
 use Rattle.messages.specs.declared.message.NameReply.TheVariants.{Answered}
-use Rattle.messages.specs.declared.event.Input.{Input}
-use Rattle.messages.specs.declared.event.Input.TheVariants as input
+use Rattle.messages.specs.declared.event.NodeInput.{NodeInput}
+use Rattle.messages.specs.declared.event.NodeInput.TheVariants as input
 use Rattle.log_records.specs.declared.record.Record.{Record}
 use Rattle.log_records.specs.declared.record.Record.TheVariants as log
 use Rattle.relaxed_file.specs.NameStep.{needs_room}
@@ -315,7 +315,7 @@ module _ (taker chunk issued : ℕ) where
 
 -- a version is given on an Ask alone
 
-abbrev IsAsked : Input → Message → Type 0
+abbrev IsAsked : NodeInput → Message → Type 0
 IsAsked i x = (version_given x.body ≡ None) ⊎ IsAsk i
 
 uncaused_none : (b : Body) → is_caused b ≡ false → version_given b ≡ None
@@ -324,7 +324,7 @@ uncaused_none (body.SetVersion order handle version base) none = true_false none
 uncaused_none (body.CopyLocal order handle version copy copy_version) none = true_false none
 uncaused_none other none = refl
 
-asked_causes : (l : Logged) (tried : Attempts) (i : Input) → Causes l tried i (IsAsked i)
+asked_causes : (l : Logged) (tried : Attempts) (i : NodeInput) → Causes l tried i (IsAsked i)
 asked_causes l tried i =
     record {
       plain = λ receiver b none. inl (uncaused_none b none);
@@ -340,21 +340,21 @@ is_ask (body.Ask number file w deadline lost) = true
 is_ask other = false
 
 -- no Ask, so nothing is given
-unasked : (i : Input) → (IsAsk i → ⊥) → (ms : List Message) → AllOf (IsAsked i) ms → AllOf (λ (m : Message). version_given m.body ≡ None) ms
+unasked : (i : NodeInput) → (IsAsk i → ⊥) → (ms : List Message) → AllOf (IsAsked i) ms → AllOf (λ (m : Message). version_given m.body ≡ None) ms
 unasked i none [] all = tt
 unasked i none (m ∷ ms) all = (elim (all.0) [ inl nothing ↦ nothing | inr ask ↦ absurd (none ask) ], unasked i none ms all.1)
 
-abbrev message_in : Input → Option Message
+abbrev message_in : NodeInput → Option Message
 message_in (input.Deliver m) = Some m
 message_in input.Tick = None
 
 -- In a step the master gives a server a version once at most.
-pub step_once : (taker chunk issued : ℕ) (m : MasterState) (moment : ℕ) (i : Input) (choice : Choice) → ((handle : ℕ) (row : ChunkRow) → chunk_of m.logged.table handle ≡ Some row → row.granted ≤ row.issued)
+pub step_once : (taker chunk issued : ℕ) (m : MasterState) (moment : ℕ) (i : NodeInput) (choice : Choice) → ((handle : ℕ) (row : ChunkRow) → chunk_of m.logged.table handle ≡ Some row → row.granted ≤ row.issued)
     → count_by (gives taker chunk issued) (master_step m moment i choice).out.sent ≤ 1
 unfolding is_ask
 step_once taker chunk issued m moment i choice known = by_input i refl
   where
-    quiet : (j : Input) → (IsAsk j → ⊥) → count_by (gives taker chunk issued) (master_step m moment j choice).out.sent ≤ 1
+    quiet : (j : NodeInput) → (IsAsk j → ⊥) → count_by (gives taker chunk issued) (master_step m moment j choice).out.sent ≤ 1
     quiet j none =
         let ms : List Message = (master_step m moment j choice).out.sent in
         let no = none_counted taker chunk issued ms (unasked j none ms (step_caused m moment j choice (IsAsked j) known (asked_causes m.logged m.attempts j))) in
@@ -369,6 +369,6 @@ step_once taker chunk issued m moment i choice known = by_input i refl
     by_body x (body.Ask number file w deadline lost) is = asked_once taker chunk issued m moment x choice number file w deadline lost is
     by_body x other is = quiet (input.Deliver x) (not_asked x other is refl)
 
-    by_input : (j : Input) → i ≡ j → count_by (gives taker chunk issued) (master_step m moment j choice).out.sent ≤ 1
+    by_input : (j : NodeInput) → i ≡ j → count_by (gives taker chunk issued) (master_step m moment j choice).out.sent ≤ 1
     by_input (input.Deliver x) is = by_body x x.body refl
     by_input input.Tick is = quiet input.Tick (λ ask. none_some ask.message (ap message_in ask.taken))

@@ -4,8 +4,8 @@ use Rattle.std.specs.Prelude.{◌==◌, count_by}
 use Rattle.std.proofs.lemmas.Bool.{eqb-true, and_from, and_parts, cases_lt}
 use Rattle.gfs_types.specs.declared.config.Config.{Config}
 use Rattle.gfs_types.specs.declared.ids.OrderNo.{OrderNo}
-use Rattle.messages.specs.declared.event.Input.{Input}
-use Rattle.messages.specs.declared.event.Input.TheVariants as input
+use Rattle.messages.specs.declared.event.NodeInput.{NodeInput}
+use Rattle.messages.specs.declared.event.NodeInput.TheVariants as input
 use Rattle.messages.specs.declared.message.Message.{Message}
 use Rattle.messages.specs.declared.message.Body.{Body}
 use Rattle.messages.specs.declared.message.Body.TheVariants as body
@@ -43,7 +43,7 @@ use Rattle.laws_versions.proofs.OrderSteps.{IsOrderedNow, WasOrderedIn, was_orde
 abbrev pub IsNext : Logged → ℕ → ℕ → Type 0
 IsNext l handle version = ((row : ChunkRow) × (chunk_of l.table handle ≡ Some row) × (suc row.issued ≡ version)) ⊎ (l.next_handle ≤ handle)
 
-abbrev pub IsGivenNext : Logged → Input → Message → Type 0
+abbrev pub IsGivenNext : Logged → NodeInput → Message → Type 0
 IsGivenNext l i x = (handle version : ℕ) → version_given x.body ≡ Some (handle, version) → IsAsk i × IsNext l handle version
 
 raised_next : (l : Logged) (tried : Attempts) (handle version base : ℕ) → IsRaised l tried handle version base → IsNext l handle version
@@ -56,7 +56,7 @@ uncaused_none (body.SetVersion order handle version base) none = true_false none
 uncaused_none (body.CopyLocal order handle version copy copy_version) none = true_false none
 uncaused_none other none = refl
 
-pub next_causes : (l : Logged) (tried : Attempts) (i : Input) → Causes l tried i (IsGivenNext l i)
+pub next_causes : (l : Logged) (tried : Attempts) (i : NodeInput) → Causes l tried i (IsGivenNext l i)
 next_causes l tried i =
     record {
       plain = λ receiver b none handle version is. none_some (handle, version) (sym (uncaused_none b none) ∙ is);
@@ -100,10 +100,10 @@ delivered_none m moment x choice =
     by_ending Lost = tt
     by_ending (Stops made) = tt
 
-not_both : (m : MasterState) (moment : ℕ) (i : Input) (choice : Choice) (x : Message) (handle version : ℕ) → IsAsk i → IsSent (master_step m moment i choice).out.sent x → version_cloned x.body ≡ Some (handle, version) → ⊥
+not_both : (m : MasterState) (moment : ℕ) (i : NodeInput) (choice : Choice) (x : Message) (handle version : ℕ) → IsAsk i → IsSent (master_step m moment i choice).out.sent x → version_cloned x.body ≡ Some (handle, version) → ⊥
 not_both m moment i choice x handle version ask said is =
     no_clone x.body handle version
-    (all_at (IsMastersMessage IsNoClone) (master_step m moment i choice).out.sent said.0 x (subst (λ (j : Input). AreNoClones (master_step m moment j choice)) (sym ask.taken) (delivered_none m moment ask.message choice)) said.1).1
+    (all_at (IsMastersMessage IsNoClone) (master_step m moment i choice).out.sent said.0 x (subst (λ (j : NodeInput). AreNoClones (master_step m moment j choice)) (sym ask.taken) (delivered_none m moment ask.message choice)) said.1).1
     is
 
 -- counts

@@ -8,7 +8,7 @@ use Rattle.gfs_types.specs.declared.config.Config.{Config}
 use Rattle.gfs_types.specs.declared.ids.OrderNo.{OrderNo}
 use Rattle.gfs_types.specs.declared.ids.Moment.{Moment}
 use Rattle.gfs_types.specs.declared.ids.Node.TheVariants as node
-use Rattle.messages.specs.declared.event.Input.{Input}
+use Rattle.messages.specs.declared.event.NodeInput.{NodeInput}
 use Rattle.messages.specs.declared.message.Body.{Body}
 use Rattle.messages.specs.declared.message.Body.TheVariants as body
 use Rattle.messages.specs.declared.message.Message.{Message}
@@ -534,7 +534,7 @@ module _ (handle version : ℕ) where
       down_giving sent k m (log_changed_by_all m.disk (take made d.changes)) (take 1 (drop made d.changes)) h.granted
       (λ x s word. found_stopped (IsLogPassed handle version) m.disk d.changes made (g.stops x s word))
 
-  step_giving : (sent : List Message) (k : ℕ) (m : MasterState) (moment : ℕ) (i : Input) (choice : Choice) → IsLogged IsFoundRows IsRowedLog rows_kept m → WaitsHere m → AreGiving sent m
+  step_giving : (sent : List Message) (k : ℕ) (m : MasterState) (moment : ℕ) (i : NodeInput) (choice : Choice) → IsLogged IsFoundRows IsRowedLog rows_kept m → WaitsHere m → AreGiving sent m
       → AreGiving (sent ++ stamped k (master_step m moment i choice).out.sent) (master_step m moment i choice).state
   step_giving sent k m moment i choice logged waits h =
       let d : MasterDoing = master_goes m moment i choice.refused in

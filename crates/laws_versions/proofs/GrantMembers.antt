@@ -11,7 +11,7 @@ use Rattle.gfs_types.specs.declared.ids.Moment.{Moment}
 use Rattle.messages.specs.declared.message.Body.{Body}
 use Rattle.messages.specs.declared.message.Body.TheVariants as body
 use Rattle.messages.specs.declared.message.Message.{Message}
-use Rattle.messages.specs.declared.event.Input.{Input}
+use Rattle.messages.specs.declared.event.NodeInput.{NodeInput}
 use Rattle.log_records.specs.declared.record.Record.{Record}
 use Rattle.log_records.specs.declared.record.Record.TheVariants as log
 use Rattle.relaxed_file.proofs.NamesTree.{Tree}
@@ -383,7 +383,7 @@ begins_agreeing sent start c quiet none state disk first =
       stops = subst (λ (xs : List LogChange). AllStops (λ d. Agrees sent (state_of d)) start xs) (sym none) first;
     }
 
-step_agreed : (sent : List Message) (k : ℕ) (m : MasterState) (moment : ℕ) (i : Input) (choice : Choice) → IsLogged IsFoundRows IsRowedLog rows_kept m → AreAgreed sent m
+step_agreed : (sent : List Message) (k : ℕ) (m : MasterState) (moment : ℕ) (i : NodeInput) (choice : Choice) → IsLogged IsFoundRows IsRowedLog rows_kept m → AreAgreed sent m
     → AreAgreed (sent ++ stamped k (master_step m moment i choice).out.sent) (master_step m moment i choice).state
 step_agreed sent k m moment i choice logged h =
     let d : MasterDoing = master_goes m moment i choice.refused in

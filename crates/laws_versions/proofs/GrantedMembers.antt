@@ -4,7 +4,7 @@ use Rattle.gfs_types.specs.declared.ids.Handle.{Handle}
 use Rattle.gfs_types.specs.declared.ids.Moment.{Moment}
 use Rattle.gfs_types.specs.declared.ids.OrderNo.{OrderNo}
 use Rattle.gfs_types.specs.declared.ids.Version.{Version}
-use Rattle.messages.specs.declared.event.Input.{Input}
+use Rattle.messages.specs.declared.event.NodeInput.{NodeInput}
 use Rattle.messages.specs.declared.message.Body.{Body}
 use Rattle.messages.specs.declared.message.Body.TheVariants as body
 use Rattle.messages.specs.declared.message.Message.{Message}
@@ -27,7 +27,7 @@ abbrev members_of : Body → List ℕ
 members_of (body.Grant order handle version end_moment members) = members
 members_of other = []
 
-master_members : (l : Logged) (tried : Attempts) (i : Input) → Causes l tried i IsToMember
+master_members : (l : Logged) (tried : Attempts) (i : NodeInput) → Causes l tried i IsToMember
 master_members l tried i =
     record {
       plain = λ receiver b none order handle version end_moment members is. true_false (sym (ap is_caused is) ∙ none);

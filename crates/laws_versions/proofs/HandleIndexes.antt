@@ -7,7 +7,7 @@ use Rattle.std.specs.FinMap as table
 use Rattle.std.proofs.Math.Nat.{le-max_left, le-max_right, max-le}
 use Rattle.gfs_types.specs.declared.config.Config.{Config}
 use Rattle.gfs_types.specs.Paths.{Path}
-use Rattle.messages.specs.declared.event.Input.{Input}
+use Rattle.messages.specs.declared.event.NodeInput.{NodeInput}
 use Rattle.log_records.specs.declared.record.Record.{Record}
 use Rattle.log_records.specs.declared.record.Record.TheVariants as log
 use Rattle.relaxed_file.specs.Names.{Node, Dir, File, copied_entries, id_after}
@@ -373,7 +373,7 @@ module _ (S L : Logged → Type 0) (keeps : KeepsFiles S L) where
   ends_filed m d choice Lost h n kept stops = down_filed m m.disk [] (found_same IsLog m.disk (h.found []))
   ends_filed m d choice (Stops made) h n kept stops = down_filed m (log_changed_by_all m.disk (take made d.changes)) (take 1 (drop made d.changes)) (found_stopped IsLog m.disk d.changes made stops)
 
-  step_filed : (m : MasterState) (moment : ℕ) (i : Input) (choice : Choice) → IsLogged IsFoundRows IsRowedLog rows_kept m → WaitsHere m → IsTrue m.up → AreFiled m → AreFiled (master_step m moment i choice).state
+  step_filed : (m : MasterState) (moment : ℕ) (i : NodeInput) (choice : Choice) → IsLogged IsFoundRows IsRowedLog rows_kept m → WaitsHere m → IsTrue m.up → AreFiled m → AreFiled (master_step m moment i choice).state
   step_filed m moment i choice logged waits up h =
       let d : MasterDoing = master_goes m moment i choice.refused in
       let good : Taken MasterState → Type 0 = λ t. AreFiled t.state in

@@ -17,8 +17,8 @@ use Rattle.gfs_types.specs.declared.mutation.Mutation.TheVariants as mutation
 use Rattle.gfs_types.specs.Mutations.{start_of, end_of}
 use Rattle.messages.specs.declared.event.Event.{Event}
 use Rattle.messages.specs.declared.event.Event.TheVariants as event
-use Rattle.messages.specs.declared.event.Input.{Input}
-use Rattle.messages.specs.declared.event.Input.TheVariants as input
+use Rattle.messages.specs.declared.event.NodeInput.{NodeInput}
+use Rattle.messages.specs.declared.event.NodeInput.TheVariants as input
 use Rattle.messages.specs.declared.message.Body.{Body}
 use Rattle.messages.specs.declared.message.Body.TheVariants as body
 use Rattle.messages.specs.declared.message.Message.{Message}
@@ -395,11 +395,11 @@ module _ (sent : List Message) (server : ℕ) where
   takes_holds d m other place at to is h = h
 
   -- what is delivered to the server was sent to it
-  abbrev pub IsSentHere : Input → Type 0
+  abbrev pub IsSentHere : NodeInput → Type 0
   IsSentHere (input.Deliver m) = (place : ℕ) × (element_at sent place ≡ Some m) × (m.receiver ≡ the_server server)
   IsSentHere input.Tick = Unit {0}
 
-  does_holds : (d : ServerDoing) (i : Input) → IsSentHere i → Holds d → Holds (server_does d i)
+  does_holds : (d : ServerDoing) (i : NodeInput) → IsSentHere i → Holds d → Holds (server_does d i)
   does_holds d (input.Deliver m) is h = takes_holds d m m.body is.0 is.1 is.2 refl h
   does_holds d input.Tick is h = again d (server_ticks d) refl refl refl refl h
 
@@ -416,7 +416,7 @@ module _ (sent : List Message) (server : ℕ) where
         under_way = all_taken HasOrderedVersion 1 (drop made d.changes) (all_dropped HasOrderedVersion made d.changes g.changes);
       }
 
-  step_true : (s : ServerState) (moment : ℕ) (i : Input) (choice : Choice) → IsSentHere i → IsFaithful s → IsFaithful (server_step s moment i choice).state
+  step_true : (s : ServerState) (moment : ℕ) (i : NodeInput) (choice : Choice) → IsSentHere i → IsFaithful s → IsFaithful (server_step s moment i choice).state
   step_true s moment i choice is h =
       on_cond (λ (t : Taken ServerState). IsFaithful t.state) s.up (server_ends s (server_goes s moment i) choice choice.ending) (no_step s)
       (λ _. ends_true s (server_goes s moment i) choice choice.ending h
@@ -466,7 +466,7 @@ one_true sent servers index t new h other u is =
       | inr there ↦ h other u there
     ]
 
-pub given_here : (w : WorldState) (e : Event) (index moment : ℕ) (i : Input) → IsGiven w e (the_server (suc index)) moment i → IsSentHere w.sent (suc index) i
+pub given_here : (w : WorldState) (e : Event) (index moment : ℕ) (i : NodeInput) → IsGiven w e (the_server (suc index)) moment i → IsSentHere w.sent (suc index) i
 given_here w (event.Deliver number now) index moment (input.Deliver m) is = (number - 1, element_numbered w.sent number m is.0, is.1)
 given_here w (event.Tick to now) index moment input.Tick is = tt
 given_here w (event.Deliver number now) index moment input.Tick is = tt

@@ -7,7 +7,7 @@ use Rattle.std.proofs.lemmas.Bool.{and_parts, cases_lt}
 use Rattle.std.proofs.Math.Nat.{max-le}
 use Rattle.gfs_types.specs.declared.config.Config.{Config}
 use Rattle.gfs_types.specs.declared.ids.Node.TheVariants as node
-use Rattle.messages.specs.declared.event.Input.{Input}
+use Rattle.messages.specs.declared.event.NodeInput.{NodeInput}
 use Rattle.log_records.specs.declared.record.Record.TheVariants as log
 use Rattle.chunk_table.specs.ChunkTable.{ChunkRow}
 use Rattle.primary_order.specs.declared.order.SerialOrder.{SerialOrder}
@@ -103,7 +103,7 @@ module _ (x : Scene) (base : IsOfTimes x) where
       down_issued (IsOverIn x) (IsOverIn (after_master_step x k (master_ends x.master d choice (Stops made)))) x.master (log_changed_by_all x.master.disk (take made d.changes)) (take 1 (drop made d.changes)) (none_sent x base k)
       (found_stopped (IsLogDone (IsOverIn x)) x.master.disk d.changes made g.stops)
 
-  step_issued : (k moment : ℕ) (i : Input) (choice : Choice) → IsNow x moment → IsSentTo x.sent node.Master i → IsTrue x.are_clocks_kept → IsOfWaits x.sent x.master → AreIssuedOver (IsOverIn x) x.master
+  step_issued : (k moment : ℕ) (i : NodeInput) (choice : Choice) → IsNow x moment → IsSentTo x.sent node.Master i → IsTrue x.are_clocks_kept → IsOfWaits x.sent x.master → AreIssuedOver (IsOverIn x) x.master
       → (let y : Scene = after_master_step x k (master_step x.master moment i choice) in IsOfTimes y → AreIssuedOver (IsOverIn y) y.master)
   step_issued k moment i choice now is clocks waits h =
       let m : MasterState = x.master in

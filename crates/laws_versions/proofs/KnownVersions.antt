@@ -8,8 +8,8 @@ use Rattle.std.proofs.lemmas.Bool.{true≢false}
 use Rattle.gfs_types.specs.declared.config.Config.{Config}
 use Rattle.gfs_types.specs.declared.ids.Node.{Node}
 use Rattle.gfs_types.specs.declared.ids.Node.TheVariants as node
-use Rattle.messages.specs.declared.event.Input.{Input}
-use Rattle.messages.specs.declared.event.Input.TheVariants as input
+use Rattle.messages.specs.declared.event.NodeInput.{NodeInput}
+use Rattle.messages.specs.declared.event.NodeInput.TheVariants as input
 use Rattle.messages.specs.declared.message.Body.{Body}
 use Rattle.messages.specs.declared.message.Body.TheVariants as body
 use Rattle.messages.specs.declared.message.Message.{Message}
@@ -117,14 +117,14 @@ module _ (sent : List Message) where
   clone_good d None h = h
   clone_good d (Some c) h = orders_words (AreHeld sent) AnyWord d c.target (λ order. body.Clone order (handle_of c.handle) (version_of c.version) (server_id c.source)) (λ order. tt) h
 
-  does_good : (d : MasterDoing) (i : Input) → IsInputSent sent i → Good d → Good (master_does d i)
+  does_good : (d : MasterDoing) (i : NodeInput) → IsInputSent sent i → Good d → Good (master_does d i)
   does_good d (input.Deliver m) is h = takes_good d m m.body refl is h
   does_good d input.Tick is h =
       let b : MasterDoing = gives_up_lost_copies (gives_up_attempts d) in
       let c : MasterDoing = expires_old b in
       clone_good c (best_clone c.master (table.entries c.master.logged.table.chunks)) (expires_words (AreHeld sent) AnyWord b (expired_files b.master) h)
 
-  goes_good : (m : MasterState) (moment : ℕ) (i : Input) (refused : List Bool) → IsInputSent sent i → AreHeld sent m.holders → Good (master_goes m moment i refused)
+  goes_good : (m : MasterState) (moment : ℕ) (i : NodeInput) (refused : List Bool) → IsInputSent sent i → AreHeld sent m.holders → Good (master_goes m moment i refused)
   goes_good m moment i refused is h =
       let d : MasterDoing = master_does (master_begins (master_at m moment) refused) i in
       ready_words (AreHeld sent) AnyWord (λ number reply. tt) d d.master.snapshots (does_good (master_begins (master_at m moment) refused) i is (h, tt))
@@ -138,7 +138,7 @@ module _ (sent : List Message) where
   ends_good m d choice Lost h = λ up. absurd (true≢false (sym up))
   ends_good m d choice (Stops made) h = λ up. absurd (true≢false (sym up))
 
-  step_good : (m : MasterState) (moment : ℕ) (i : Input) (choice : Choice) → IsInputSent sent i → (IsTrue m.up → AreHeld sent m.holders) → IsGoodStep (master_step m moment i choice)
+  step_good : (m : MasterState) (moment : ℕ) (i : NodeInput) (choice : Choice) → IsInputSent sent i → (IsTrue m.up → AreHeld sent m.holders) → IsGoodStep (master_step m moment i choice)
   step_good m moment i choice is h =
       let d : MasterDoing = master_goes m moment i choice.refused in
       on_cond IsGoodStep m.up (master_bounded m d choice) (no_step m)

@@ -5,8 +5,8 @@ use Rattle.std.specs.FinMap as table
 use Rattle.std.proofs.lemmas.Bool.{and_from, cases_lt}
 use Rattle.std.proofs.Math.Nat.{le-max_left, le-max_right, max-le}
 use Rattle.gfs_types.specs.declared.config.Config.{Config}
-use Rattle.messages.specs.declared.event.Input.{Input}
-use Rattle.messages.specs.declared.event.Input.TheVariants as input
+use Rattle.messages.specs.declared.event.NodeInput.{NodeInput}
+use Rattle.messages.specs.declared.event.NodeInput.TheVariants as input
 use Rattle.messages.specs.declared.message.Message.{Message}
 use Rattle.messages.specs.declared.message.Body.{Body}
 use Rattle.messages.specs.declared.message.Body.TheVariants as body
@@ -66,11 +66,11 @@ none_granted_over config servers clients w r handle number none =
 
 -- a step on an Ask tells no end of a lease
 
-abbrev message_in : Input → Option Message
+abbrev message_in : NodeInput → Option Message
 message_in (input.Deliver m) = Some m
 message_in input.Tick = None
 
-same_message : (i : Input) (x y : Message) → i ≡ input.Deliver x → i ≡ input.Deliver y → x ≡ y
+same_message : (i : NodeInput) (x y : Message) → i ≡ input.Deliver x → i ≡ input.Deliver y → x ≡ y
 same_message i x y one two = same_some x y (ap message_in (sym one ∙ two))
 
 abbrev TellsNone : ℕ → ℕ → ℕ → Message → Type 0
@@ -81,7 +81,7 @@ plain_end handle number until (body.Grant order q v end_moment members) none = t
 plain_end handle number until (body.Extend q v end_moment) none = true_false none
 plain_end handle number until other none = refl
 
-asked_ends : (handle number until : ℕ) (l : Logged) (tried : Attempts) (i : Input) → IsAsk i → Causes l tried i (TellsNone handle number until)
+asked_ends : (handle number until : ℕ) (l : Logged) (tried : Attempts) (i : NodeInput) → IsAsk i → Causes l tried i (TellsNone handle number until)
 asked_ends handle number until l tried i ask =
     record {
       plain = λ receiver b none. plain_end handle number until b none;
@@ -98,7 +98,7 @@ asked_ends handle number until l tried i ask =
 
 -- as the order is sent
 
-module _ (config : Config) (servers clients : ℕ) (u : WorldState) (r : IsReached config servers clients u) (up : IsTrue u.master.up) (moment : ℕ) (i : Input) (choice : Choice)
+module _ (config : Config) (servers clients : ℕ) (u : WorldState) (r : IsReached config servers clients u) (up : IsTrue u.master.up) (moment : ℕ) (i : NodeInput) (choice : Choice)
     (later : IsReached config servers clients (after_master u moment (master_step u.master moment i choice)).world) (ask : IsAsk i) (handle version : ℕ) where
   abbrev v : WorldState
   v = (after_master u moment (master_step u.master moment i choice)).world

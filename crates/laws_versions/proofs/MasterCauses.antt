@@ -24,8 +24,8 @@ use Rattle.messages.specs.declared.message.Wanted.TheVariants as wanted
 use Rattle.messages.specs.declared.message.NameReply.TheVariants.{Answered}
 use Rattle.messages.specs.declared.message.ReplicaLine.{ReplicaLine}
 use Rattle.messages.specs.declared.message.LeaseLine.{LeaseLine}
-use Rattle.messages.specs.declared.event.Input.{Input}
-use Rattle.messages.specs.declared.event.Input.TheVariants as input
+use Rattle.messages.specs.declared.event.NodeInput.{NodeInput}
+use Rattle.messages.specs.declared.event.NodeInput.TheVariants as input
 use Rattle.log_records.specs.declared.record.Record.{Record}
 use Rattle.log_records.specs.declared.record.Record.TheVariants as log
 use Rattle.relaxed_file.specs.NameStep.{outcome_by, needs_room}
@@ -62,7 +62,7 @@ is_caused (body.Extend handle version end_moment) = true
 is_caused other = false
 
 -- a client asks for a location
-pub record IsAsk (i : Input) : Type 0 where
+pub record IsAsk (i : NodeInput) : Type 0 where
   pub message : Message
   pub number : ℕ
   pub file : FileId
@@ -78,13 +78,13 @@ is_told (body.Recorded handle version) = true
 is_told (body.Report replicas leases) = true
 is_told other = false
 
-pub record IsTold (i : Input) : Type 0 where
+pub record IsTold (i : NodeInput) : Type 0 where
   pub message : Message
   pub taken : i ≡ input.Deliver message
   pub is : is_told message.body ≡ true
 
 -- a line of the leases in a Report that is taken from this node
-pub record IsLineTaken (i : Input) (server : ℕ) (line : LeaseLine) : Type 0 where
+pub record IsLineTaken (i : NodeInput) (server : ℕ) (line : LeaseLine) : Type 0 where
   pub report : Message
   pub replicas : List ReplicaLine
   pub leases : List LeaseLine
@@ -103,7 +103,7 @@ IsRaised l tried handle version base =
     ((row : ChunkRow) × (chunk_of l.table handle ≡ Some row) × (row.granted ≤ base) × (suc row.issued ≡ version) × (table.get tried handle ≡ None)) ⊎ ((l.next_handle ≤ handle) × (version ≡ 1))
 
 -- W of what the master says in a step on this input, from what was logged and attempted as it began
-pub record Causes (l : Logged) (tried : Attempts) (i : Input) (W : Message → Type 0) : Type 0 where
+pub record Causes (l : Logged) (tried : Attempts) (i : NodeInput) (W : Message → Type 0) : Type 0 where
   pub plain : (receiver : Node) (b : Body) → is_caused b ≡ false → W (message node.Master receiver b)
   pub extends : (server : ℕ) (line : LeaseLine) (until : ℕ) → IsLineTaken i server line → W (message node.Master (the_server server) (body.Extend line.handle line.version (moment_of until)))
   pub grants : (server : ℕ) (order : OrderNo) (handle version until : ℕ) (members : List ℕ) → IsTold i → has_number members server ≡ true → W (message node.Master (the_server server) (body.Grant order (handle_of handle) (version_of version) (moment_of until) members))
@@ -172,7 +172,7 @@ holders_pass m handle test (s ∷ rest) = first (version_held m handle s) (holde
         on_cond (λ (o : Option HeldAt). AllOf (λ (x : HeldAt). test x.version ≡ true) (cons_option o others)) (test version) (Some (record { server = s; version = version })) None
         (λ passes. (passes, all)) (λ _. all)
 
-module _ (l : Logged) (tried : Attempts) (i : Input) (issued : (handle : ℕ) (row : ChunkRow) → chunk_of l.table handle ≡ Some row → row.granted ≤ row.issued) (W : Message → Type 0) (k : Causes l tried i W) where
+module _ (l : Logged) (tried : Attempts) (i : NodeInput) (issued : (handle : ℕ) (row : ChunkRow) → chunk_of l.table handle ≡ Some row → row.granted ≤ row.issued) (W : Message → Type 0) (k : Causes l tried i W) where
   abbrev pub Fine : MasterDoing → Type 0
   Fine d = AllOf W d.sent
 
@@ -599,7 +599,7 @@ module _ (l : Logged) (tried : Attempts) (i : Input) (issued : (handle : ℕ) (r
   takes_said d m (body.Image handle version serial bytes) kept came is h = h
   takes_said d m (body.CopyLocal order handle version copy copy_version) kept came is h = h
 
-  does_said : (d : MasterDoing) (j : Input) → AreKept l tried d.master.logged d.master.attempts → i ≡ j → Fine d → Fine (master_does d j)
+  does_said : (d : MasterDoing) (j : NodeInput) → AreKept l tried d.master.logged d.master.attempts → i ≡ j → Fine d → Fine (master_does d j)
   does_said d (input.Deliver m) kept came h = takes_said d m m.body kept came refl h
   does_said d input.Tick kept came h = ticks_said d h
 
@@ -609,7 +609,7 @@ ends_said W m d choice Lost h = tt
 ends_said W m d choice (Stops made) h = tt
 
 -- what the master says in a step
-pub step_caused : (m : MasterState) (moment : ℕ) (i : Input) (choice : Choice) (W : Message → Type 0) → ((handle : ℕ) (row : ChunkRow) → chunk_of m.logged.table handle ≡ Some row → row.granted ≤ row.issued) → Causes m.logged m.attempts i W
+pub step_caused : (m : MasterState) (moment : ℕ) (i : NodeInput) (choice : Choice) (W : Message → Type 0) → ((handle : ℕ) (row : ChunkRow) → chunk_of m.logged.table handle ≡ Some row → row.granted ≤ row.issued) → Causes m.logged m.attempts i W
     → AllOf W (master_step m moment i choice).out.sent
 step_caused m moment i choice W issued k =
     let d : MasterDoing = master_goes m moment i choice.refused in

@@ -5,7 +5,7 @@ use Rattle.std.proofs.lemmas.Bool.{cases_lt}
 use Rattle.gfs_types.specs.declared.config.Config.{Config}
 use Rattle.gfs_types.specs.declared.ids.OrderNo.{OrderNo}
 use Rattle.messages.specs.declared.event.Event.{Event}
-use Rattle.messages.specs.declared.event.Input.{Input}
+use Rattle.messages.specs.declared.event.NodeInput.{NodeInput}
 use Rattle.messages.specs.declared.message.Message.{Message}
 use Rattle.protocol.specs.Tables.{element_at}
 use Rattle.protocol.specs.Sending.{order_number}
@@ -36,7 +36,7 @@ use Rattle.laws_versions.specs.GivenOnce.{IsEarlier}
 pub record IsOrderedNow (u v : WorldState) (m : Message) : Type 0 where
   pub up : IsTrue u.master.up
   pub moment : ℕ
-  pub taken : Input
+  pub taken : NodeInput
   pub choice : Choice
   pub world_is : v ≡ (after_master u moment (master_step u.master moment taken choice)).world
   pub word : Message
@@ -129,7 +129,7 @@ IsAboveCount m x = (order : OrderNo) → order_number x.body ≡ Some order → 
 abbrev AreAboveCount : MasterState → Taken MasterState → Type 0
 AreAboveCount m t = (x : Message) → IsSent t.out.sent x → IsAboveCount m x
 
-step_above_count : (sent : List Message) (m : MasterState) (moment : ℕ) (i : Input) (choice : Choice) → AreNumbered sent m → AreAboveCount m (master_step m moment i choice)
+step_above_count : (sent : List Message) (m : MasterState) (moment : ℕ) (i : NodeInput) (choice : Choice) → AreNumbered sent m → AreAboveCount m (master_step m moment i choice)
 step_above_count sent m moment i choice h =
     on_cond (AreAboveCount m) m.up (master_bounded m d choice) (no_step m)
     (λ up. on_cond (AreAboveCount m) (may_end d choice.ending) (master_ends m d choice choice.ending) (no_step m) (λ _. by_ending up choice.ending) (λ _. none))
@@ -151,7 +151,7 @@ step_above_count sent m moment i choice h =
     by_ending up (Stops made) x said order is = none_some x said.1
 
 -- an order that was sent before a step has an earlier number than one of the step
-pub step_later : (config : Config) (servers clients : ℕ) (u : WorldState) → IsReached config servers clients u → IsTrue u.master.up → (moment : ℕ) (i : Input) (choice : Choice) (old new : Message) → IsSent u.sent old → IsSent (master_step u.master moment i choice).out.sent new
+pub step_later : (config : Config) (servers clients : ℕ) (u : WorldState) → IsReached config servers clients u → IsTrue u.master.up → (moment : ℕ) (i : NodeInput) (choice : Choice) (old new : Message) → IsSent u.sent old → IsSent (master_step u.master moment i choice).out.sent new
     → (first later : OrderNo) → order_number old.body ≡ Some first → order_number new.body ≡ Some later → IsEarlier first later
 step_later config servers clients u r up moment i choice old new before said first later first_is later_is =
     elim (cases_lt first.epoch u.master.logged.epoch) [

@@ -5,7 +5,7 @@ use Rattle.std.specs.FinMap as table
 use Rattle.std.proofs.Math.Nat.{le-max_left}
 use Rattle.gfs_types.specs.declared.config.Config.{Config}
 use Rattle.gfs_types.specs.Paths.{Path}
-use Rattle.messages.specs.declared.event.Input.{Input}
+use Rattle.messages.specs.declared.event.NodeInput.{NodeInput}
 use Rattle.log_records.specs.declared.record.Record.{Record}
 use Rattle.log_records.specs.declared.record.Record.TheVariants as log
 use Rattle.relaxed_file.specs.Names.{Node, Dir, File, copied_entries, id_after}
@@ -266,7 +266,7 @@ module _ (file index handle : ℕ) where
   ends_places m d choice (Stops made) h n kept stops = down_places m (log_changed_by_all m.disk (take made d.changes)) (take 1 (drop made d.changes)) (found_stopped IsLogKept m.disk d.changes made stops)
 
   -- a step that grants nothing, or begins no copy and issues nothing
-  pub step_places : (m : MasterState) (moment : ℕ) (i : Input) (choice : Choice) → IsLogged IsFoundRows IsRowedLog rows_kept m → WaitsHere m → IsTrue m.up
+  pub step_places : (m : MasterState) (moment : ℕ) (i : NodeInput) (choice : Choice) → IsLogged IsFoundRows IsRowedLog rows_kept m → WaitsHere m → IsTrue m.up
       → AllOf IsNoGrant (master_goes m moment i choice.refused).changes ⊎ AllOf IsNoStart (master_goes m moment i choice.refused).changes → ArePlacesKept m → ArePlacesKept (master_step m moment i choice).state ⊎ IsSourceOf m.logged handle
   step_places m moment i choice logged waits up kind h =
       let d : MasterDoing = master_goes m moment i choice.refused in

@@ -3,7 +3,7 @@ use Rattle.std.proofs.Common.{◌≡◌, ◌⊎◌, ℕ, zero, suc, true, false,
 use Rattle.std.specs.Prelude.{◌&&◌, unwrap_or, IsTrue}
 use Rattle.std.specs.FinMap as table
 use Rattle.gfs_types.specs.declared.config.Config.{Config}
-use Rattle.messages.specs.declared.event.Input.{Input}
+use Rattle.messages.specs.declared.event.NodeInput.{NodeInput}
 use Rattle.log_records.specs.declared.record.Record.{Record}
 use Rattle.log_records.specs.declared.record.Record.TheVariants as log
 use Rattle.chunk_table.specs.ChunkTable.{handles_of, grant}
@@ -198,7 +198,7 @@ module _ (file index : ℕ) (R : ℕ → Type 0) where
   ends_places m d choice (Stops made) h n kept stops = down_places m (log_changed_by_all m.disk (take made d.changes)) (take 1 (drop made d.changes)) (found_stopped IsLogTaken m.disk d.changes made stops)
 
   -- a step that grants nothing, or begins no copy
-  pub step_taken : (m : MasterState) (moment : ℕ) (i : Input) (choice : Choice) → IsLogged IsFoundRows IsRowedLog rows_kept m → WaitsHere m → IsTrue m.up
+  pub step_taken : (m : MasterState) (moment : ℕ) (i : NodeInput) (choice : Choice) → IsLogged IsFoundRows IsRowedLog rows_kept m → WaitsHere m → IsTrue m.up
       → AllOf IsNoGrant (master_goes m moment i choice.refused).changes ⊎ AllOf IsNoStart (master_goes m moment i choice.refused).changes → AreCopiesOf m.logged → ArePlacesTaken m → ArePlacesTaken (master_step m moment i choice).state
   step_taken m moment i choice logged waits up kind fits h =
       let d : MasterDoing = master_goes m moment i choice.refused in

@@ -7,7 +7,7 @@ use Rattle.gfs_types.specs.declared.config.Config.{Config}
 use Rattle.gfs_types.specs.declared.ids.Moment.{Moment}
 use Rattle.gfs_types.specs.declared.ids.OrderNo.{OrderNo}
 use Rattle.messages.specs.declared.event.Event.{Event}
-use Rattle.messages.specs.declared.event.Input.{Input}
+use Rattle.messages.specs.declared.event.NodeInput.{NodeInput}
 use Rattle.messages.specs.declared.message.Message.{Message}
 use Rattle.messages.specs.declared.message.Body.{Body}
 use Rattle.messages.specs.declared.message.Body.TheVariants as body
@@ -70,7 +70,7 @@ AreRaised l tried x = (handle version base : ℕ) → IsRaise x.body handle vers
 no_raise : {A : Type 0} (b : Body) (handle version base : ℕ) → is_caused b ≡ false → IsRaise b handle version base → A
 no_raise b handle version base none h = true_false (sym (ap is_caused h.is) ∙ none)
 
-master_raises : (l : Logged) (tried : Attempts) (i : Input) → Causes l tried i (AreRaised l tried)
+master_raises : (l : Logged) (tried : Attempts) (i : NodeInput) → Causes l tried i (AreRaised l tried)
 master_raises l tried i =
     record {
       plain = λ receiver b none handle version base h. no_raise b handle version base none h;

@@ -7,8 +7,8 @@ use Rattle.std.specs.FinMap as table
 use Rattle.gfs_types.specs.declared.config.Config.{Config}
 use Rattle.gfs_types.specs.declared.ids.Node.{Node}
 use Rattle.gfs_types.specs.declared.ids.Node.TheVariants as node
-use Rattle.messages.specs.declared.event.Input.{Input}
-use Rattle.messages.specs.declared.event.Input.TheVariants as input
+use Rattle.messages.specs.declared.event.NodeInput.{NodeInput}
+use Rattle.messages.specs.declared.event.NodeInput.TheVariants as input
 use Rattle.messages.specs.declared.message.Message.{Message}
 use Rattle.messages.specs.declared.message.Body.{Body}
 use Rattle.messages.specs.declared.message.Body.TheVariants as body
@@ -73,7 +73,7 @@ body_told sent m (body.Report replicas leases) is there =
     lines_told (Told sent) (server_number m.sender) replicas replicas (λ h v told. word_told sent m h v there (ap (tells_version h v) is ∙ told)) (λ h v told. told)
 body_told sent m other is there = tt
 
-input_told : (sent : List Message) (i : Input) → IsInputSent sent i → IsInputTold (Told sent) NoneEnded i
+input_told : (sent : List Message) (i : NodeInput) → IsInputSent sent i → IsInputTold (Told sent) NoneEnded i
 input_told sent (input.Deliver m) there = body_told sent m m.body refl there
 input_told sent input.Tick there = tt
 
@@ -101,7 +101,7 @@ AreRecorded sent m = AreTold (Told sent) m.attempts
 more_recorded : (sent ms : List Message) (m : MasterState) → AreRecorded sent m → AreRecorded (sent ++ ms) m
 more_recorded sent ms m h = more_told (Told sent) (Told (sent ++ ms)) (told_later sent ms) m.attempts h
 
-step_recorded : (sent : List Message) (k : ℕ) (m : MasterState) (moment : ℕ) (i : Input) (choice : Choice) → IsInputSent sent i → AreRecorded sent m → AreRecorded (sent ++ stamped k (master_step m moment i choice).out.sent) (master_step m moment i choice).state
+step_recorded : (sent : List Message) (k : ℕ) (m : MasterState) (moment : ℕ) (i : NodeInput) (choice : Choice) → IsInputSent sent i → AreRecorded sent m → AreRecorded (sent ++ stamped k (master_step m moment i choice).out.sent) (master_step m moment i choice).state
 step_recorded sent k m moment i choice is h =
     let d : MasterDoing = master_goes m moment i choice.refused in
     let good : Taken MasterState → Type 0 = λ t. AreRecorded (sent ++ stamped k t.out.sent) t.state in

@@ -5,7 +5,7 @@ use Rattle.std.specs.FinMap as table
 use Rattle.std.proofs.lemmas.Bool.{and_parts, eqb-true, ltb-true, ltb-false}
 use Rattle.gfs_types.specs.declared.config.Config.{Config}
 use Rattle.messages.specs.declared.event.Event.{Event}
-use Rattle.messages.specs.declared.event.Input.{Input}
+use Rattle.messages.specs.declared.event.NodeInput.{NodeInput}
 use Rattle.messages.specs.declared.message.Body.{Body}
 use Rattle.messages.specs.declared.message.Body.TheVariants as body
 use Rattle.messages.specs.declared.message.Message.{Message}
@@ -111,7 +111,7 @@ module _ (config : Config) (servers clients : ℕ) (w : WorldState) (r : IsReach
     source_over : IsTrue w.master.up → IsSourceOf w.master.logged handle → AreLeasesOver w handle
     source_over up source version = subst (λ (n : ℕ). IsLeaseOver w n version) source.3 ((copied_chunks_have_no_lease config servers clients w r clocks up source.0 source.1 source.2).1 version)
 
-    kind : (moment : ℕ) (i : Input) (choice : Choice) → IsTrue w.master.up → AllOf IsNoGrant (master_goes w.master moment i choice.refused).changes ⊎ AllOf IsNoStart (master_goes w.master moment i choice.refused).changes
+    kind : (moment : ℕ) (i : NodeInput) (choice : Choice) → IsTrue w.master.up → AllOf IsNoGrant (master_goes w.master moment i choice.refused).changes ⊎ AllOf IsNoStart (master_goes w.master moment i choice.refused).changes
     kind moment i choice up =
         elim (asked_or_not i) [
           | inl none ↦ inr (unasked_step config servers clients w r clocks up (free_reached config servers clients w r clocks up) moment i choice.refused none).changes

@@ -4,8 +4,8 @@ use Rattle.std.specs.Option.{option_to_list}
 use Rattle.gfs_types.specs.declared.config.Config.{Config}
 use Rattle.messages.specs.declared.event.Event.{Event}
 use Rattle.messages.specs.declared.event.Event.TheVariants as event
-use Rattle.messages.specs.declared.event.Input.{Input}
-use Rattle.messages.specs.declared.event.Input.TheVariants as input
+use Rattle.messages.specs.declared.event.NodeInput.{NodeInput}
+use Rattle.messages.specs.declared.event.NodeInput.TheVariants as input
 use Rattle.messages.specs.declared.message.Message.{Message}
 use Rattle.messages.specs.declared.message.Body.{Body}
 use Rattle.messages.specs.declared.message.Body.TheVariants as body
@@ -37,7 +37,7 @@ pub record IsSaidNow (u v : WorldState) (m : Message) : Type 0 where
   pub index : ℕ
   pub moment : ℕ
   pub server : ServerState
-  pub taken : Input
+  pub taken : NodeInput
   pub choice : Choice
   pub at : element_at u.servers index ≡ Some server
   pub came : (x : Message) → taken ≡ input.Deliver x → (place : ℕ) × (element_at u.sent place ≡ Some x) × (x.receiver ≡ the_server (suc index))
@@ -90,12 +90,12 @@ restart_plain s moment choice Goes = tt
 restart_plain s moment choice Lost = tt
 restart_plain s moment choice (Stops made) = tt
 
-came_in : (w : WorldState) (e : Event) (index moment : ℕ) (i : Input) → IsGiven w e (the_server (suc index)) moment i → (m : Message) → i ≡ input.Deliver m
+came_in : (w : WorldState) (e : Event) (index moment : ℕ) (i : NodeInput) → IsGiven w e (the_server (suc index)) moment i → (m : Message) → i ≡ input.Deliver m
     → (place : ℕ) × (element_at w.sent place ≡ Some m) × (m.receiver ≡ the_server (suc index))
 came_in w (event.Deliver number now) index moment (input.Deliver x) is m same =
     subst (λ (y : Message). (place : ℕ) × (element_at w.sent place ≡ Some y) × (y.receiver ≡ the_server (suc index))) (same_message x m same) (number - 1, element_numbered w.sent number x is.0, is.1)
   where
-    message_in : Input → Option Message
+    message_in : NodeInput → Option Message
     message_in (input.Deliver y) = Some y
     message_in input.Tick = None
 

@@ -6,7 +6,7 @@ use Rattle.std.specs.List.{list_any}
 use Rattle.std.specs.FinMap as table
 use Rattle.std.proofs.lemmas.Bool.{and_from, or_left, or_right}
 use Rattle.gfs_types.specs.declared.config.Config.{Config}
-use Rattle.messages.specs.declared.event.Input.{Input}
+use Rattle.messages.specs.declared.event.NodeInput.{NodeInput}
 use Rattle.messages.specs.declared.message.Message.{Message}
 use Rattle.messages.specs.declared.message.Body.{Body}
 use Rattle.messages.specs.declared.message.Body.TheVariants as body
@@ -124,7 +124,7 @@ plain_says : (sent : List Message) (server : ℕ) (s : ServerState) (b : Body) �
 plain_says sent server s b plain handle version is = true_false (sym plain ∙ ap is_plain is)
 
 module _ (config : Config) (servers clients : ℕ) (w : WorldState) (r : IsReached config servers clients w) where
-  step_new : (index moment : ℕ) (s : ServerState) (i : Input) (choice : Choice) → element_at w.servers index ≡ Some s
+  step_new : (index moment : ℕ) (s : ServerState) (i : NodeInput) (choice : Choice) → element_at w.servers index ≡ Some s
       → AllOf (IsNewTaken w.sent (with_at w.servers index (server_step s moment i choice).state)) (server_step s moment i choice).out.sent
   step_new index moment s i choice at = all_new (server_step s moment i choice).out.sent words
     where

@@ -13,8 +13,8 @@ use Rattle.gfs_types.specs.declared.refusal.Refusal.{Refusal}
 use Rattle.gfs_types.specs.declared.mutation.Mutation.{Mutation}
 use Rattle.gfs_types.specs.declared.mutation.Mutation.TheVariants as mutation
 use Rattle.gfs_types.specs.Mutations.{start_of, end_of}
-use Rattle.messages.specs.declared.event.Input.{Input}
-use Rattle.messages.specs.declared.event.Input.TheVariants as input
+use Rattle.messages.specs.declared.event.NodeInput.{NodeInput}
+use Rattle.messages.specs.declared.event.NodeInput.TheVariants as input
 use Rattle.messages.specs.declared.message.Body.{Body}
 use Rattle.messages.specs.declared.message.Body.TheVariants as body
 use Rattle.messages.specs.declared.message.Message.{Message}
@@ -330,7 +330,7 @@ module _ (server now : ℕ) (W : Body → Type 0) (plain : (b : Body) → is_pla
   ticks_says : (d : ServerDoing) → W (reported d.server) → Says d → Says (server_ticks d)
   ticks_says d is h = says_true d node.Master (reported d.server) is h
 
-  does_says : (d : ServerDoing) (i : Input) → (i ≡ input.Tick → W (reported d.server)) → ((m : Message) → i ≡ input.Deliver m → MayRecord d m.body) → Says d → Says (server_does d i)
+  does_says : (d : ServerDoing) (i : NodeInput) → (i ≡ input.Tick → W (reported d.server)) → ((m : Message) → i ≡ input.Deliver m → MayRecord d m.body) → Says d → Says (server_does d i)
   does_says d (input.Deliver m) reports may h = takes_says d m m.body (may m refl) h
   does_says d input.Tick reports may h = ticks_says d (reports refl) h
 
@@ -340,7 +340,7 @@ module _ (server now : ℕ) (W : Body → Type 0) (plain : (b : Body) → is_pla
   ends_says s d choice (Stops made) h = tt
 
   -- what a server says in a step: a Report of what it has, a Recorded of what a new order gives it, and words that need no cause here
-  pub step_words : (s : ServerState) (moment : ℕ) (i : Input) (choice : Choice) → s.id ≡ server → (server_at s moment).now ≡ now → (i ≡ input.Tick → W (reported (server_at s moment)))
+  pub step_words : (s : ServerState) (moment : ℕ) (i : NodeInput) (choice : Choice) → s.id ≡ server → (server_at s moment).now ≡ now → (i ≡ input.Tick → W (reported (server_at s moment)))
       → ((m : Message) → i ≡ input.Deliver m → (order : OrderNo) (handle version : ℕ) → IsOrderOf m.body order handle version → is_new_order s.disk order.epoch order.count ≡ true → W (body.Recorded (handle_of handle) (version_of version)))
       → AllOf Said (server_step s moment i choice).out.sent
   step_words s moment i choice id clock reports may =
@@ -348,7 +348,7 @@ module _ (server now : ℕ) (W : Body → Type 0) (plain : (b : Body) → is_pla
       (λ _. ends_says s (server_goes s moment i) choice choice.ending (does_says (server_begins (server_at s moment)) i reports may ((id, clock), tt))) (λ _. tt)
 
 -- after a step a server is at the greatest moment that it was given since its start
-pub step_now : (s : ServerState) (moment : ℕ) (i : Input) (choice : Choice) → (server_step s moment i choice).state.now ≤ max s.now moment
+pub step_now : (s : ServerState) (moment : ℕ) (i : NodeInput) (choice : Choice) → (server_step s moment i choice).state.now ≤ max s.now moment
 step_now s moment i choice =
     on_cond (λ (t : Taken ServerState). t.state.now ≤ max s.now moment) s.up (server_ends s (server_goes s moment i) choice choice.ending) (no_step s) (λ _. by_ending choice.ending) (λ _. le-max_left s.now moment)
   where

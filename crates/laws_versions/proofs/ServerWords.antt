@@ -13,8 +13,8 @@ use Rattle.gfs_types.specs.declared.refusal.Refusal.{Refusal}
 use Rattle.gfs_types.specs.declared.mutation.Mutation.{Mutation}
 use Rattle.gfs_types.specs.declared.mutation.Mutation.TheVariants as mutation
 use Rattle.gfs_types.specs.Mutations.{start_of, end_of}
-use Rattle.messages.specs.declared.event.Input.{Input}
-use Rattle.messages.specs.declared.event.Input.TheVariants as input
+use Rattle.messages.specs.declared.event.NodeInput.{NodeInput}
+use Rattle.messages.specs.declared.event.NodeInput.TheVariants as input
 use Rattle.messages.specs.declared.message.Body.{Body}
 use Rattle.messages.specs.declared.message.Body.TheVariants as body
 use Rattle.messages.specs.declared.message.Message.{Message}
@@ -328,7 +328,7 @@ module _ (sent : List Message) (server : ℕ) where
         let leases : List LeaseLine = map lease_line (table.entries (counting_leases d.server)) in
         says_true d node.Master (body.Report lines leases) (lines_true (table.entries d.server.disk.replicas) (all_entries (λ handle r. WasOrdered sent server handle r.version) d.server.disk.replicas disk)) h
 
-    does_says : (d : ServerDoing) (i : Input) → IsSentHere sent server i → AreOrdered sent server d.server.disk → AreCloned sent server d.server.clones → Says d → Says (server_does d i)
+    does_says : (d : ServerDoing) (i : NodeInput) → IsSentHere sent server i → AreOrdered sent server d.server.disk → AreCloned sent server d.server.clones → Says d → Says (server_does d i)
     does_says d (input.Deliver m) is disk clones h = takes_says d m m.body is.0 is.1 is.2 refl clones h
     does_says d input.Tick is disk clones h = ticks_says d disk h
 
@@ -337,7 +337,7 @@ module _ (sent : List Message) (server : ℕ) where
     ends_says s d choice Lost id h = (id, tt)
     ends_says s d choice (Stops made) id h = (id, tt)
 
-    pub step_says : (s : ServerState) (moment : ℕ) (i : Input) (choice : Choice) → IsSentHere sent server i → IsFaithful sent server s → s.id ≡ server
+    pub step_says : (s : ServerState) (moment : ℕ) (i : NodeInput) (choice : Choice) → IsSentHere sent server i → IsFaithful sent server s → s.id ≡ server
         → ((server_step s moment i choice).state.id ≡ server) × AllOf (IsTrueMessage sent) (server_step s moment i choice).out.sent
     step_says s moment i choice is h id =
         on_cond (λ (t : Taken ServerState). (t.state.id ≡ server) × AllOf (IsTrueMessage sent) t.out.sent) s.up (server_ends s (server_goes s moment i) choice choice.ending) (no_step s)

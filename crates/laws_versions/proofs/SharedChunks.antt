@@ -7,8 +7,8 @@ use Rattle.std.proofs.lemmas.Bool.{and_parts}
 use Rattle.std.proofs.Math.Nat.{max-le}
 use Rattle.gfs_types.specs.declared.config.Config.{Config}
 use Rattle.gfs_types.specs.declared.ids.Node.TheVariants as node
-use Rattle.messages.specs.declared.event.Input.{Input}
-use Rattle.messages.specs.declared.event.Input.TheVariants as input
+use Rattle.messages.specs.declared.event.NodeInput.{NodeInput}
+use Rattle.messages.specs.declared.event.NodeInput.TheVariants as input
 use Rattle.messages.specs.declared.message.Body.{Body}
 use Rattle.messages.specs.declared.message.Body.TheVariants as body
 use Rattle.messages.specs.declared.message.Message.{Message}
@@ -128,7 +128,7 @@ word_said : (sent : List Message) (m : Message) (b : Body) → m.body ≡ b → 
 word_said sent m (body.Revoked handle version) same is = (m, is, same)
 word_said sent m other same is = tt
 
-pub input_said : (sent : List Message) (i : Input) → IsSentTo sent node.Master i → IsInputSaid (WasSaidOver sent) i
+pub input_said : (sent : List Message) (i : NodeInput) → IsSentTo sent node.Master i → IsInputSaid (WasSaidOver sent) i
 input_said sent (input.Deliver m) is = word_said sent m m.body refl (is.0, is.1)
 input_said sent input.Tick is = tt
 
@@ -197,7 +197,7 @@ module _ (x : Scene) (base : IsOfTimes x) where
       down_shares (IsOverIn x) (IsOverIn (after_master_step x k (master_ends x.master d choice (Stops made)))) x.master (log_changed_by_all x.master.disk (take made d.changes)) (take 1 (drop made d.changes)) (none_sent k)
       (found_stopped (IsLogDone (IsOverIn x)) x.master.disk d.changes made g.stops)
 
-  step_shares : (k moment : ℕ) (i : Input) (choice : Choice) → IsNow x moment → IsSentTo x.sent node.Master i → IsTrue x.are_clocks_kept → IsOfWaits x.sent x.master → AreShares (IsOverIn x) x.master
+  step_shares : (k moment : ℕ) (i : NodeInput) (choice : Choice) → IsNow x moment → IsSentTo x.sent node.Master i → IsTrue x.are_clocks_kept → IsOfWaits x.sent x.master → AreShares (IsOverIn x) x.master
       → (let y : Scene = after_master_step x k (master_step x.master moment i choice) in IsOfTimes y → AreShares (IsOverIn y) y.master)
   step_shares k moment i choice now is clocks waits h =
       let m : MasterState = x.master in

@@ -14,8 +14,8 @@ use Rattle.gfs_types.specs.declared.refusal.Refusal.{Refusal}
 use Rattle.gfs_types.specs.declared.mutation.Mutation.{Mutation}
 use Rattle.gfs_types.specs.declared.mutation.Mutation.TheVariants as mutation
 use Rattle.gfs_types.specs.Mutations.{start_of, end_of}
-use Rattle.messages.specs.declared.event.Input.{Input}
-use Rattle.messages.specs.declared.event.Input.TheVariants as input
+use Rattle.messages.specs.declared.event.NodeInput.{NodeInput}
+use Rattle.messages.specs.declared.event.NodeInput.TheVariants as input
 use Rattle.messages.specs.declared.message.Body.{Body}
 use Rattle.messages.specs.declared.message.Body.TheVariants as body
 use Rattle.messages.specs.declared.message.Message.{Message}
@@ -472,7 +472,7 @@ module _ (sent : List Message) (server : ℕ) where
       takes_holds d (body.Image handle version serial bytes) is first h = image_holds d handle.0 version.0 serial.0 bytes h
       takes_holds d other is first h = h
 
-    does_holds : (d : ServerDoing) (i : Input) → IsSentHere sent server i → d.changes ≡ [] → Holds d → Holds (server_does d i)
+    does_holds : (d : ServerDoing) (i : NodeInput) → IsSentHere sent server i → d.changes ≡ [] → Holds d → Holds (server_does d i)
     does_holds d (input.Deliver m) is first h = takes_holds m is.0 is.1 is.2 d m.body refl first h
     does_holds d input.Tick is first h = again d (server_ticks d) refl refl refl refl h
 
@@ -498,7 +498,7 @@ module _ (sent : List Message) (server : ℕ) where
       stopped (server_ends s d choice (Stops made)).state (all_ordered s.disk (take made d.changes) (all_taken s.disk d.changes made g.changes) h.disk) refl (next_sound s.disk d.changes made g.changes) (one_next d.changes made)
       (λ up. absurd (true≢false (sym up)))
 
-  step_true : (s : ServerState) (moment : ℕ) (i : Input) (choice : Choice) → IsSentHere sent server i → IsFaithful s → IsFaithful (server_step s moment i choice).state
+  step_true : (s : ServerState) (moment : ℕ) (i : NodeInput) (choice : Choice) → IsSentHere sent server i → IsFaithful s → IsFaithful (server_step s moment i choice).state
   step_true s moment i choice is h =
       on_cond (λ (t : Taken ServerState). IsFaithful t.state) s.up (server_ends s (server_goes s moment i) choice choice.ending) (no_step s)
       (λ up. ends_true s (server_goes s moment i) choice choice.ending h

@@ -9,7 +9,7 @@ use Rattle.gfs_types.specs.declared.ids.Node.{Node}
 use Rattle.gfs_types.specs.declared.ids.Node.TheVariants as node
 use Rattle.gfs_types.specs.declared.ids.DataId.{DataId}
 use Rattle.messages.specs.declared.event.Event.{Event}
-use Rattle.messages.specs.declared.event.Input.{Input}
+use Rattle.messages.specs.declared.event.NodeInput.{NodeInput}
 use Rattle.messages.specs.declared.message.Message.{Message}
 use Rattle.messages.specs.declared.message.Body.{Body}
 use Rattle.messages.specs.declared.message.Body.TheVariants as body
@@ -48,7 +48,7 @@ use Rattle.laws_versions.specs.ReplacedChunks.{IsToldAt}
 abbrev pub TellsNone : Body → Type 0
 TellsNone b = is_location b ≡ false
 
-server_talks : (s : ServerState) (i : Input) → Talks s i (λ r b. TellsNone b) (λ v. Unit {0}) (λ x. Unit {0})
+server_talks : (s : ServerState) (i : NodeInput) → Talks s i (λ r b. TellsNone b) (λ v. Unit {0}) (λ x. Unit {0})
 server_talks s i =
     record {
       quiet = λ receiver b is. quiet_tells b is;
@@ -67,7 +67,7 @@ all_kept : (es : List (DataId × List ℕ)) → AllOf (λ x. Unit {0}) es
 all_kept [] = tt
 all_kept (x ∷ es) = (tt, all_kept es)
 
-pub server_tells : (s : ServerState) (moment : ℕ) (i : Input) (choice : Choice) → AllOf (λ m. TellsNone m.body) (server_step s moment i choice).out.sent
+pub server_tells : (s : ServerState) (moment : ℕ) (i : NodeInput) (choice : Choice) → AllOf (λ m. TellsNone m.body) (server_step s moment i choice).out.sent
 server_tells s moment i choice = (step_said (λ r b. TellsNone b) (λ v. Unit {0}) (λ x. Unit {0}) s moment i choice (server_talks (server_at s moment) i) (all_kept s.pushed.entries)).0
 
 pub restart_tells : (s : ServerState) (moment : ℕ) (choice : Choice) (e : Ending) → AllOf (λ m. TellsNone m.body) (server_restarts s moment choice e).out.sent
@@ -110,7 +110,7 @@ ends_sent W m d choice Goes h = all_in_order W choice.order d.sent h
 ends_sent W m d choice Lost h = tt
 ends_sent W m d choice (Stops made) h = tt
 
-step_sent : (W : Message → Type 0) (m : MasterState) (moment : ℕ) (i : Input) (choice : Choice) → AllOf W (master_goes m moment i choice.refused).sent → AllOf W (master_step m moment i choice).out.sent
+step_sent : (W : Message → Type 0) (m : MasterState) (moment : ℕ) (i : NodeInput) (choice : Choice) → AllOf W (master_goes m moment i choice.refused).sent → AllOf W (master_step m moment i choice).out.sent
 step_sent W m moment i choice h =
     let d : MasterDoing = master_goes m moment i choice.refused in
     on_cond (λ (t : Taken MasterState). AllOf W t.out.sent) m.up (master_bounded m d choice) (no_step m)
@@ -137,7 +137,7 @@ each_answered config servers clients u r clocks =
     numbered : AreNumbered u.sent u.clients
     numbered = numbered_reached config servers clients u r
 
-    by_input : (e : Event) (moment : ℕ) (i : Input) (choice : Choice) → IsGiven u e node.Master moment i → IsTrue u.master.up → (place : ℕ) (m : Message) → length u.sent ≤ place
+    by_input : (e : Event) (moment : ℕ) (i : NodeInput) (choice : Choice) → IsGiven u e node.Master moment i → IsTrue u.master.up → (place : ℕ) (m : Message) → length u.sent ≤ place
         → element_at (u.sent ++ stamped (suc (length u.sent)) (master_step u.master moment i choice).out.sent) place ≡ Some m → (number : ℕ) (l : Location) → m.body ≡ body.Told number (Some l) → 1 ≤ l.round.0
         → IsUnasked i ⊎ IsAsk i → IsAnswer u m number l
     by_input e moment i choice given up place m from at number l is granted (inl none) =

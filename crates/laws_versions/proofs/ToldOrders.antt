@@ -10,8 +10,8 @@ use Rattle.gfs_types.specs.declared.ids.Node.TheVariants as node
 use Rattle.gfs_types.specs.declared.ids.OrderNo.{OrderNo}
 use Rattle.gfs_types.specs.declared.ids.Handle.{Handle}
 use Rattle.gfs_types.specs.declared.ids.Version.{Version}
-use Rattle.messages.specs.declared.event.Input.{Input}
-use Rattle.messages.specs.declared.event.Input.TheVariants as input
+use Rattle.messages.specs.declared.event.NodeInput.{NodeInput}
+use Rattle.messages.specs.declared.event.NodeInput.TheVariants as input
 use Rattle.messages.specs.declared.message.Message.{Message}
 use Rattle.messages.specs.declared.message.Body.{Body}
 use Rattle.messages.specs.declared.message.Body.TheVariants as body
@@ -107,18 +107,18 @@ lines_of (body.Report replicas leases) = replicas
 lines_of other = []
 
 -- of a Report, which a tick brings: each line is of an order that was taken
-abbrev TellsTaken : List Message → ℕ → ServerDisk → Input → Body → Type 0
+abbrev TellsTaken : List Message → ℕ → ServerDisk → NodeInput → Body → Type 0
 TellsTaken sent server d i b =
     (replicas : List ReplicaLine) (leases : List LeaseLine) → b ≡ body.Report replicas leases
     → (i ≡ input.Tick) × ((handle version : ℕ) → list_any (λ line. (line.handle.0 == handle) && (line.version.0 == version)) replicas ≡ true → IsOrdered sent server d handle version)
 
-plain_tells : (sent : List Message) (server : ℕ) (d : ServerDisk) (i : Input) (b : Body) → is_plain b ≡ true → TellsTaken sent server d i b
+plain_tells : (sent : List Message) (server : ℕ) (d : ServerDisk) (i : NodeInput) (b : Body) → is_plain b ≡ true → TellsTaken sent server d i b
 plain_tells sent server d i b plain replicas leases is = true_false (sym plain ∙ ap is_plain is)
 
-recorded_tells : (sent : List Message) (server : ℕ) (d : ServerDisk) (i : Input) (handle version : ℕ) → TellsTaken sent server d i (body.Recorded (handle_of handle) (version_of version))
+recorded_tells : (sent : List Message) (server : ℕ) (d : ServerDisk) (i : NodeInput) (handle version : ℕ) → TellsTaken sent server d i (body.Recorded (handle_of handle) (version_of version))
 recorded_tells sent server d i q v replicas leases is = absurd (let both : body.Recorded (handle_of q) (version_of v) ≡ body.Report replicas leases = is in cc)
 
-report_tells : (config : Config) (servers clients : ℕ) (w : WorldState) → IsReached config servers clients w → (index : ℕ) (s : ServerState) → element_at w.servers index ≡ Some s → (moment : ℕ) (i : Input) → i ≡ input.Tick
+report_tells : (config : Config) (servers clients : ℕ) (w : WorldState) → IsReached config servers clients w → (index : ℕ) (s : ServerState) → element_at w.servers index ≡ Some s → (moment : ℕ) (i : NodeInput) → i ≡ input.Tick
     → TellsTaken w.sent (suc index) s.disk i (reported (server_at s moment))
 report_tells config servers clients w r index s at moment i tick replicas leases is = (
   tick,
@@ -144,7 +144,7 @@ reported_taken config servers clients w r place m at replicas leases is handle v
     grown_ordered h.before.sent w.sent (suc index) s.disk handle version h.grown
     (ordered_later h.before.sent (suc index) t.disk s.disk handle version later
     (ordered_later h.before.sent (suc index) n.server.disk t.disk handle version
-    (subst (λ (i : Input). Later n.server.disk (server_step n.server n.moment i n.choice).state.disk) (sym told.0) (tick_later n.server n.moment n.choice))
+    (subst (λ (i : NodeInput). Later n.server.disk (server_step n.server n.moment i n.choice).state.disk) (sym told.0) (tick_later n.server n.moment n.choice))
     (subst (λ (k : ℕ). IsOrdered h.before.sent (suc k) n.server.disk handle version) same (told.1 handle version any))))
   where
     h : WasSaid config servers clients w place m

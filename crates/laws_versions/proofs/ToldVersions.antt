@@ -11,8 +11,8 @@ use Rattle.gfs_types.specs.declared.ids.Node.{Node}
 use Rattle.gfs_types.specs.declared.ids.Node.TheVariants as node
 use Rattle.messages.specs.declared.event.Event.{Event}
 use Rattle.messages.specs.declared.event.Event.TheVariants as event
-use Rattle.messages.specs.declared.event.Input.{Input}
-use Rattle.messages.specs.declared.event.Input.TheVariants as input
+use Rattle.messages.specs.declared.event.NodeInput.{NodeInput}
+use Rattle.messages.specs.declared.event.NodeInput.TheVariants as input
 use Rattle.messages.specs.declared.message.Body.{Body}
 use Rattle.messages.specs.declared.message.Body.TheVariants as body
 use Rattle.messages.specs.declared.message.Message.{Message}
@@ -141,18 +141,18 @@ module _ (sent : List Message) where
   clone_good d (Some c) h = orders_words (AreHeld sent) IsOthersWord d c.target (λ order. body.Clone order (handle_of c.handle) (version_of c.version) (server_id c.source)) (λ order. tt) h
 
   -- what is delivered was sent
-  abbrev IsTrueInput : Input → Type 0
+  abbrev IsTrueInput : NodeInput → Type 0
   IsTrueInput (input.Deliver m) = IsTrueMessage sent m
   IsTrueInput input.Tick = Unit {0}
 
-  does_good : (d : MasterDoing) (i : Input) → IsTrueInput i → Good d → Good (master_does d i)
+  does_good : (d : MasterDoing) (i : NodeInput) → IsTrueInput i → Good d → Good (master_does d i)
   does_good d (input.Deliver m) is h = takes_good d m m.body is h
   does_good d input.Tick is h =
       let b : MasterDoing = gives_up_lost_copies (gives_up_attempts d) in
       let c : MasterDoing = expires_old b in
       clone_good c (best_clone c.master (table.entries c.master.logged.table.chunks)) (expires_words (AreHeld sent) IsOthersWord b (expired_files b.master) h)
 
-  goes_good : (m : MasterState) (moment : ℕ) (i : Input) (refused : List Bool) → IsTrueInput i → AreHeld sent m.holders → Good (master_goes m moment i refused)
+  goes_good : (m : MasterState) (moment : ℕ) (i : NodeInput) (refused : List Bool) → IsTrueInput i → AreHeld sent m.holders → Good (master_goes m moment i refused)
   goes_good m moment i refused is h =
       let d : MasterDoing = master_does (master_begins (master_at m moment) refused) i in
       ready_words (AreHeld sent) IsOthersWord (λ number reply. tt) d d.master.snapshots (does_good (master_begins (master_at m moment) refused) i is (h, tt))
@@ -170,7 +170,7 @@ module _ (sent : List Message) where
   ends_good m d choice Lost h = (λ up. absurd (true≢false (sym up)), tt)
   ends_good m d choice (Stops made) h = (λ up. absurd (true≢false (sym up)), tt)
 
-  step_good : (m : MasterState) (moment : ℕ) (i : Input) (choice : Choice) → IsTrueInput i → (IsTrue m.up → AreHeld sent m.holders) → IsGoodStep (master_step m moment i choice)
+  step_good : (m : MasterState) (moment : ℕ) (i : NodeInput) (choice : Choice) → IsTrueInput i → (IsTrue m.up → AreHeld sent m.holders) → IsGoodStep (master_step m moment i choice)
   step_good m moment i choice is h =
       let d : MasterDoing = master_goes m moment i choice.refused in
       on_cond IsGoodStep m.up (master_bounded m d choice) (no_step m)
@@ -211,7 +211,7 @@ pub record AreTold (w : WorldState) : Type 0 where
   pub held : IsTrue w.master.up → AreHeld w.sent w.master.holders
   pub ids : (index : ℕ) (s : ServerState) → element_at w.servers index ≡ Some s → s.id ≡ suc index
 
-input_true : (w : WorldState) (e : Event) (moment : ℕ) (i : Input) → IsGiven w e node.Master moment i → AreWordsTrue w.sent → IsTrueInput w.sent i
+input_true : (w : WorldState) (e : Event) (moment : ℕ) (i : NodeInput) → IsGiven w e node.Master moment i → AreWordsTrue w.sent → IsTrueInput w.sent i
 input_true w (event.Deliver number now) moment (input.Deliver m) is words = words m (number - 1, element_numbered w.sent number m is.0)
 input_true w e moment input.Tick is words = tt
 input_true w (event.Tick to now) moment (input.Deliver m) is words = absurd is

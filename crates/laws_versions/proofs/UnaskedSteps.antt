@@ -15,8 +15,8 @@ use Rattle.messages.specs.declared.message.Message.{Message}
 use Rattle.messages.specs.declared.message.NameReply.TheVariants.{Answered}
 use Rattle.messages.specs.declared.message.ReplicaLine.{ReplicaLine}
 use Rattle.messages.specs.declared.message.LeaseLine.{LeaseLine}
-use Rattle.messages.specs.declared.event.Input.{Input}
-use Rattle.messages.specs.declared.event.Input.TheVariants as input
+use Rattle.messages.specs.declared.event.NodeInput.{NodeInput}
+use Rattle.messages.specs.declared.event.NodeInput.TheVariants as input
 use Rattle.log_records.specs.declared.record.Record.{Record}
 use Rattle.log_records.specs.declared.record.Record.TheVariants as log
 use Rattle.relaxed_file.specs.NameStep.{outcome_by, needs_room}
@@ -174,7 +174,7 @@ abbrev pub IsNoAsk : Body → Type 0
 IsNoAsk (body.Ask number file w deadline lost) = ⊥
 IsNoAsk other = Unit {0}
 
-abbrev pub IsUnasked : Input → Type 0
+abbrev pub IsUnasked : NodeInput → Type 0
 IsUnasked (input.Deliver m) = IsNoAsk m.body
 IsUnasked input.Tick = Unit {0}
 
@@ -317,7 +317,7 @@ module _ (Of : Record → Type 0) (calls : (r : Record) → IsOfCalls r → Of r
   pub taken_kept : (d : MasterDoing) (m : Message) → IsNoAsk m.body → P d → P (finishes (master_does d (input.Deliver m)))
   taken_kept d m none h = let e : MasterDoing = master_does d (input.Deliver m) in ready_kept Of calls P k e e.master.snapshots (takes_kept d m m.body none h)
 
-pub does_kept : (P : MasterDoing → Type 0) → KeepsNames P → KeepsReports P → (d : MasterDoing) (i : Input) → IsUnasked i → P d → P (master_does d i)
+pub does_kept : (P : MasterDoing → Type 0) → KeepsNames P → KeepsReports P → (d : MasterDoing) (i : NodeInput) → IsUnasked i → P d → P (master_does d i)
 does_kept P k more d (input.Deliver m) none h = takes_kept IsOfNames calls_are_of_names P k more d m m.body none h
 does_kept P k more d input.Tick none h = ticks_kept IsOfNames calls_are_of_names P k more (λ file. tt) d h
 

@@ -7,7 +7,7 @@ use Rattle.gfs_types.specs.declared.ids.Version.{Version}
 use Rattle.gfs_types.specs.declared.ids.Moment.{Moment}
 use Rattle.gfs_types.specs.declared.ids.OrderNo.{OrderNo}
 use Rattle.messages.specs.declared.event.Event.{Event}
-use Rattle.messages.specs.declared.event.Input.{Input}
+use Rattle.messages.specs.declared.event.NodeInput.{NodeInput}
 use Rattle.messages.specs.declared.message.Message.{Message}
 use Rattle.messages.specs.declared.message.Body.TheVariants as body
 use Rattle.protocol.specs.Tables.{element_at}
@@ -32,7 +32,7 @@ pub record IsGrantUsed (w : WorldState) (index handle version : ℕ) : Type 0 wh
 abbrev pub NumberedVersionsHaveUsedGrants : Type 0
 NumberedVersionsHaveUsedGrants =
     (config : Config) (servers clients : ℕ) (w : WorldState) → IsReached config servers clients w
-    → (index moment : ℕ) (s : ServerState) (i : Input) (choice : Choice) (handle : Handle) (version : Version) (id : DataId) → Numbers w index moment s i choice handle version id
+    → (index moment : ℕ) (s : ServerState) (i : NodeInput) (choice : Choice) (handle : Handle) (version : Version) (id : DataId) → Numbers w index moment s i choice handle version id
     → (steps : List (Event × Choice)) → IsGrantUsed (after_events w steps) index handle.0 version.0
 
 -- The Grant of each entry's version is used up, of this chunk or of one of which it is a copy (section 3.1).

@@ -4,7 +4,7 @@ use Rattle.gfs_types.specs.declared.config.Config.{Config}
 use Rattle.gfs_types.specs.declared.ids.DataId.{DataId}
 use Rattle.gfs_types.specs.declared.ids.Handle.{Handle}
 use Rattle.gfs_types.specs.declared.ids.Version.{Version}
-use Rattle.messages.specs.declared.event.Input.{Input}
+use Rattle.messages.specs.declared.event.NodeInput.{NodeInput}
 use Rattle.messages.specs.declared.message.Message.{Message}
 use Rattle.messages.specs.declared.message.Body.{Body}
 use Rattle.messages.specs.declared.message.Body.TheVariants as body
@@ -33,4 +33,4 @@ abbrev pub FirstVersionsSkipNoEntry : Type 0
 FirstVersionsSkipNoEntry =
     (config : Config) (servers clients : ℕ) (w : WorldState) → IsReached config servers clients w
     → (place : ℕ) (m : Message) → element_at w.sent place ≡ Some m → (handle : Handle) (version : ℕ) → version_made m.body ≡ Some (handle.0, version)
-    → (index moment : ℕ) (s : ServerState) (i : Input) (choice : Choice) (numbered : Version) (id : DataId) → Numbers w index moment s i choice handle numbered id → (numbered.0 ≤ 0) ⊎ (version ≤ numbered.0)
+    → (index moment : ℕ) (s : ServerState) (i : NodeInput) (choice : Choice) (numbered : Version) (id : DataId) → Numbers w index moment s i choice handle numbered id → (numbered.0 ≤ 0) ⊎ (version ≤ numbered.0)

@@ -3,8 +3,8 @@ use Rattle.std.specs.Prelude.{◌≡◌, ℕ, ◌<◌, List, Option, Some, None,
 use Rattle.gfs_types.specs.declared.config.Config.{Config}
 use Rattle.gfs_types.specs.declared.ids.Node.{Node}
 use Rattle.messages.specs.declared.event.Event.{Event}
-use Rattle.messages.specs.declared.event.Input.{Input}
-use Rattle.messages.specs.declared.event.Input.TheVariants as input
+use Rattle.messages.specs.declared.event.NodeInput.{NodeInput}
+use Rattle.messages.specs.declared.event.NodeInput.TheVariants as input
 use Rattle.messages.specs.declared.message.Message.{Message}
 use Rattle.messages.specs.declared.message.Body.{Body}
 use Rattle.messages.specs.declared.message.Body.TheVariants as body
@@ -26,7 +26,7 @@ version_dropped (body.Drop order handle version) = Some (handle.0, version.0)
 version_dropped other = None
 
 -- A server reports this version of the chunk in the message that is taken, and it is useless: the chunk is not logged, or has a newer version granted.
-pub record IsUselessReplica (l : Logged) (i : Input) (server : Node) (handle version : ℕ) : Type 0 where
+pub record IsUselessReplica (l : Logged) (i : NodeInput) (server : Node) (handle version : ℕ) : Type 0 where
   pub report : Message
   pub replicas : List ReplicaLine
   pub leases : List LeaseLine
@@ -39,7 +39,7 @@ pub record IsUselessReplica (l : Logged) (i : Input) (server : Node) (handle ver
 -- Each Drop that a step of the master sends is of such a replica of its receiver (section 4.5).
 abbrev pub DropsAreOfUselessReplicas : Type 0
 DropsAreOfUselessReplicas =
-    (m : MasterState) (moment : ℕ) (i : Input) (choice : Choice) (place : ℕ) (drop : Message) → element_at (master_step m moment i choice).out.sent place ≡ Some drop
+    (m : MasterState) (moment : ℕ) (i : NodeInput) (choice : Choice) (place : ℕ) (drop : Message) → element_at (master_step m moment i choice).out.sent place ≡ Some drop
     → (handle version : ℕ) → version_dropped drop.body ≡ Some (handle, version) → IsUselessReplica m.logged i drop.receiver handle version
 
 -- The handle was used, and its chunk, if it is there, has a newer version granted.

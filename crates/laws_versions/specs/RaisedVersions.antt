@@ -5,7 +5,7 @@ use Rattle.gfs_types.specs.declared.ids.DataId.{DataId}
 use Rattle.gfs_types.specs.declared.ids.Handle.{Handle}
 use Rattle.gfs_types.specs.declared.ids.Version.{Version}
 use Rattle.gfs_types.specs.declared.ids.OrderNo.{OrderNo}
-use Rattle.messages.specs.declared.event.Input.{Input}
+use Rattle.messages.specs.declared.event.NodeInput.{NodeInput}
 use Rattle.messages.specs.declared.message.Message.{Message}
 use Rattle.messages.specs.declared.message.Body.TheVariants as body
 use Rattle.protocol.specs.Tables.{element_at}
@@ -27,4 +27,4 @@ abbrev pub RaisesSkipNoEntry : Type 0
 RaisesSkipNoEntry =
     (config : Config) (servers clients : ℕ) (w : WorldState) → IsReached config servers clients w
     → (place : ℕ) (m : Message) → element_at w.sent place ≡ Some m → (order : OrderNo) (handle : Handle) (version base : Version) → m.body ≡ body.SetVersion order handle version base
-    → (index moment : ℕ) (s : ServerState) (i : Input) (choice : Choice) (numbered : Version) (id : DataId) → Numbers w index moment s i choice handle numbered id → (numbered.0 ≤ base.0) ⊎ (version.0 ≤ numbered.0)
+    → (index moment : ℕ) (s : ServerState) (i : NodeInput) (choice : Choice) (numbered : Version) (id : DataId) → Numbers w index moment s i choice handle numbered id → (numbered.0 ≤ base.0) ⊎ (version.0 ≤ numbered.0)

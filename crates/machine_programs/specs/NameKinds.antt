@@ -5,10 +5,10 @@ use Rattle.std.specs.Cmp.Lexicographic.{slice_cmp}
 use Rattle.std.specs.FinMap.Entries.{by_order}
 use Rattle.gfs_types.specs.Paths.{Path}
 use Rattle.relaxed_file.specs.Names.{Node, Dir, File}
-use Rattle.machine_programs.specs.declared.name_kind.NameKind.{NameKind}
-use Rattle.machine_programs.specs.declared.name_kind.NameKind.TheVariants as kind
+use Rattle.machine_programs.specs.declared.name_kind.PlainNameKind.{PlainNameKind}
+use Rattle.machine_programs.specs.declared.name_kind.PlainNameKind.TheVariants as kind
 
-abbrev pub node_of : NameKind → Node
+abbrev pub node_of : PlainNameKind → Node
 node_of kind.Dir = Dir
 node_of (kind.File id) = File id.0
 

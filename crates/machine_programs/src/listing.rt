@@ -5,7 +5,7 @@ ghost use Rattle.gfs_types.specs.Paths.{is_child};
 ghost use Rattle.relaxed_file.specs.Names.{listed};
 
 use crate::name::Name;
-use crate::name_kind::NameKind;
+use crate::name_kind::PlainNameKind;
 use gfs_types::lists::{NameList, Text};
 use gfs_types::no_memory::NoMemory;
 use path_trie::parts::{is_child, last_part};
@@ -33,8 +33,8 @@ fn listed(alloc: Global, name: &Name) -> Result<Text, NoMemory>
 {
     let mut text = String::from_str(alloc, last_part(name.path()))?;
     match name.kind() {
-        NameKind::Dir => text.push('/')?,
-        NameKind::File(_) => {}
+        PlainNameKind::Dir => text.push('/')?,
+        PlainNameKind::File(_) => {}
     }
     Ok(Text::new(text))
 }

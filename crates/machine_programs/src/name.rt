@@ -3,7 +3,7 @@
 ghost use Rattle.std.specs.Prelude.{◌≡◌};
 ghost use Rattle.machine_programs.specs.NameKinds.{node_of};
 
-use crate::name_kind::NameKind;
+use crate::name_kind::PlainNameKind;
 use gfs_types::lists::Text;
 use std::marker::Model;
 
@@ -11,7 +11,7 @@ use std::marker::Model;
 #[derive(Debug, Drop)]
 pub struct Name {
     path: Text,
-    kind: NameKind,
+    kind: PlainNameKind,
 }
 
 impl Model for Name {
@@ -25,7 +25,7 @@ impl Model for Name {
 }
 
 impl Name {
-    pub fn new(path: Text, kind: NameKind) -> Name
+    pub fn new(path: Text, kind: PlainNameKind) -> Name
         ensures { result ≡ (path, node_of kind) }
     {
         Name { path, kind }
@@ -37,7 +37,7 @@ impl Name {
         self.path.as_str()
     }
 
-    pub fn kind(&self) -> NameKind
+    pub fn kind(&self) -> PlainNameKind
         ensures { node_of result ≡ self.now.1 }
     {
         self.kind

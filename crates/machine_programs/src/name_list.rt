@@ -10,7 +10,7 @@ ghost use Rattle.relaxed_file.specs.Names.{node_at};
 ghost use Rattle.machine_programs.specs.NameKinds.{node_of, place_of};
 
 use crate::name::Name;
-use crate::name_kind::NameKind;
+use crate::name_kind::PlainNameKind;
 use gfs_types::lists::Text;
 use gfs_types::no_memory::NoMemory;
 use std::alloc::Global;
@@ -18,7 +18,7 @@ use std::cmp::Ordering;
 use std::marker::Model;
 
 /// What stands at the path, by looking at one name after another.
-fn found(names: &[Name], path: &str) -> Option<NameKind>
+fn found(names: &[Name], path: &str) -> Option<PlainNameKind>
     ensures { option_map node_of result ≡ find (slice_cmp nat_cmp) path.now names.now }
 {
     for name in names {
@@ -61,11 +61,11 @@ fn put(names: &mut Vec<Name>, name: Name) -> Result<(), NoMemory>
 
 /// The names in the order of their paths, seen as the finite map of these.
 #[derive(Drop)]
-pub struct NameList {
+pub struct PlainNames {
     names: Vec<Name>,
 }
 
-impl Model for NameList {
+impl Model for PlainNames {
     ghost use Rattle.std.specs.Prelude.{◌≡◌, true};
     ghost use Rattle.std.specs.Ordering.{nat_cmp};
     ghost use Rattle.std.specs.Cmp.Lexicographic.{slice_cmp};
@@ -83,25 +83,25 @@ impl Model for NameList {
     ghost invariant = { λ n. is_sorted (slice_cmp nat_cmp) n.names.items ≡ true };
 }
 
-impl NameList {
+impl PlainNames {
     /// No names.
-    pub(crate) fn empty(alloc: Global) -> NameList
+    pub(crate) fn empty(alloc: Global) -> PlainNames
         ensures { result ≡ map.empty }
     {
-        NameList {
+        PlainNames {
             names: Vec::new(alloc),
         }
     }
 
     /// What stands at a path.
-    pub fn kind_at(&self, path: &str) -> Option<NameKind>
+    pub fn kind_at(&self, path: &str) -> Option<PlainNameKind>
         ensures { option_map node_of result ≡ node_at self.now path.now }
     {
         found(&self.names, path)
     }
 
     /// Puts a name in its place, instead of any of that path.
-    pub fn insert(&mut self, path: Text, kind: NameKind) -> Result<(), NoMemory>
+    pub fn insert(&mut self, path: Text, kind: PlainNameKind) -> Result<(), NoMemory>
         ensures { OnOk result (self.new ≡ map.insert self.old path (node_of kind)) }
     {
         put(&mut self.names, Name::new(path, kind))

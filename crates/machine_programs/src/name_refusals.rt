@@ -7,8 +7,8 @@ ghost use Rattle.relaxed_file.specs.Names.{is_taken, is_dir, has_children, copie
 ghost use Rattle.relaxed_file.specs.NameStep.{is_in_trash, is_reserved, refusal_of};
 
 use crate::copies::{copies_of, is_some_too_long};
-use crate::name_kind::NameKind;
-use crate::name_list::NameList;
+use crate::name_kind::PlainNameKind;
+use crate::name_list::PlainNames;
 use gfs_types::no_memory::NoMemory;
 use gfs_types::path::accepts_path;
 use gfs_types::refusal::Refusal;
@@ -29,7 +29,7 @@ fn is_reserved(path: &str) -> bool
     path == "/" || is_in_trash(path)
 }
 
-impl NameList {
+impl PlainNames {
     fn is_taken(&self, path: &str) -> bool
         ensures { result ≡ is_taken self.now path.now }
     {
@@ -44,8 +44,8 @@ impl NameList {
     {
         match self.kind_at(path) {
             None => false,
-            Some(NameKind::Dir) => true,
-            Some(NameKind::File(_)) => false,
+            Some(PlainNameKind::Dir) => true,
+            Some(PlainNameKind::File(_)) => false,
         }
     }
 

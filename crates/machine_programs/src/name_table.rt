@@ -12,8 +12,8 @@ ghost use Rattle.machine_programs.specs.NameTables.{first_table, with_copy, outc
 use crate::copies::copies_of;
 use crate::listing::listing_of;
 use crate::name::Name;
-use crate::name_kind::NameKind;
-use crate::name_list::NameList;
+use crate::name_kind::PlainNameKind;
+use crate::name_list::PlainNames;
 use crate::outcome::NameOutcome;
 use gfs_types::answer::Answer;
 use gfs_types::call::Call;
@@ -27,7 +27,7 @@ use std::marker::Model;
 /// The names of a cell, and how many files were made so far. Files are numbered from 1.
 #[derive(Drop)]
 pub struct NameTable {
-    names: NameList,
+    names: PlainNames,
     file_count: u64,
     alloc: Global,
 }
@@ -49,9 +49,9 @@ impl NameTable {
     pub fn new(alloc: Global) -> Result<NameTable, NoMemory>
         ensures { IfOk result (λ t. t ≡ first_table) }
     {
-        let mut names = NameList::empty(alloc);
-        names.insert(Text::from_str("/.gone", alloc)?, NameKind::Dir)?;
-        names.insert(Text::from_str("/", alloc)?, NameKind::Dir)?;
+        let mut names = PlainNames::empty(alloc);
+        names.insert(Text::from_str("/.gone", alloc)?, PlainNameKind::Dir)?;
+        names.insert(Text::from_str("/", alloc)?, PlainNameKind::Dir)?;
         Ok(NameTable {
             names,
             file_count: 0,
@@ -63,7 +63,7 @@ impl NameTable {
     fn mkdir(&mut self, path: Text, moment: u64) -> Result<(), NoMemory>
         ensures { OnOk result (Performs self.old (call.Mkdir path) moment self.new) }
     {
-        self.names.insert(path, NameKind::Dir)
+        self.names.insert(path, PlainNameKind::Dir)
     }
 
     /// A directory goes.
@@ -78,7 +78,7 @@ impl NameTable {
         ensures { OnOk result (Performs self.old (call.Create path) moment self.new) }
     {
         let id = self.file_count.checked_add(1).ok_or(NoMemory)?;
-        self.names.insert(path, NameKind::File(FileId(id)))?;
+        self.names.insert(path, PlainNameKind::File(FileId(id)))?;
         self.file_count = id;
         Ok(())
     }
@@ -99,12 +99,14 @@ impl NameTable {
     fn delete(&mut self, path: &str, moment: u64) -> Result<(), NoMemory>
         ensures { OnOk result (Performs self.old (call.Delete path.now) moment self.new) }
     {
-        let Some(NameKind::File(id)) = self.names.kind_at(path) else {
+        let Some(PlainNameKind::File(id)) = self.names.kind_at(path) else {
             return Ok(());
         };
         self.names.remove(path);
-        self.names
-            .insert(hidden_name(self.alloc, moment, id)?, NameKind::File(id))
+        self.names.insert(
+            hidden_name(self.alloc, moment, id)?,
+            PlainNameKind::File(id),
+        )
     }
 
     /// The copies of a snapshot, in the order of their paths.
@@ -124,10 +126,10 @@ impl NameTable {
     {
         let path = Text::from_str(copy.path(), self.alloc)?;
         match copy.kind() {
-            NameKind::Dir => self.names.insert(path, NameKind::Dir),
-            NameKind::File(_) => {
+            PlainNameKind::Dir => self.names.insert(path, PlainNameKind::Dir),
+            PlainNameKind::File(_) => {
                 let id = self.file_count.checked_add(1).ok_or(NoMemory)?;
-                self.names.insert(path, NameKind::File(FileId(id)))?;
+                self.names.insert(path, PlainNameKind::File(FileId(id)))?;
                 self.file_count = id;
                 Ok(())
             }
@@ -177,8 +179,8 @@ impl NameTable {
     {
         match self.names.kind_at(path) {
             None => NameOutcome::Replies(Answer::Refused(Refusal::NotFound)),
-            Some(NameKind::Dir) => NameOutcome::Replies(Answer::Refused(Refusal::NotFile)),
-            Some(NameKind::File(id)) => NameOutcome::Opens(id),
+            Some(PlainNameKind::Dir) => NameOutcome::Replies(Answer::Refused(Refusal::NotFile)),
+            Some(PlainNameKind::File(id)) => NameOutcome::Opens(id),
         }
     }
 

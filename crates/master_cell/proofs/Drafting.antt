@@ -1,6 +1,6 @@
 -- A planned step, and the lists that are copied for it.
 use Rattle.std.proofs.Common.{◌≡◌, ℕ, List, [], sym, ap, ◌∙◌, subst}
-use Rattle.messages.specs.declared.event.Input.{Input}
+use Rattle.messages.specs.declared.event.NodeInput.{NodeInput}
 use Rattle.chunk_table.specs.Owners.{IsSound}
 use Rattle.protocol.specs.Logged.{Logged, LogDisk, LogChange}
 use Rattle.protocol.specs.Tables.{Table}
@@ -13,7 +13,7 @@ use Rattle.master_cell.proofs.Showing.{shown_after}
 use Rattle.master_cell.specs.Ends.{Goes}
 use Rattle.master_cell.specs.Drafts.{Drafts}
 
-module _ (disk : LogDisk) (old p new : PlanState) (moment : ℕ) (i : Input) (changes : List LogChange) (goes : Goes disk old moment i p) (changes_are : changes ≡ p.changes) (rest : new ≡ record p { changes = [] }) where
+module _ (disk : LogDisk) (old p new : PlanState) (moment : ℕ) (i : NodeInput) (changes : List LogChange) (goes : Goes disk old moment i p) (changes_are : changes ≡ p.changes) (rest : new ≡ record p { changes = [] }) where
   pub drafted : Drafts disk old moment i changes new
   drafted = record { planned = p; goes = goes; changes_are = changes_are; rest = rest }
 

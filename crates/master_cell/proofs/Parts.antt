@@ -2,7 +2,7 @@
 use Rattle.std.proofs.Common.{◌≡◌, ℕ, Bool, false, List, [], ◌∷◌, ◌++◌, refl, sym, ap, ◌∙◌}
 use Rattle.messages.specs.declared.message.Body.{Body}
 use Rattle.messages.specs.declared.message.Message.{Message}
-use Rattle.messages.specs.declared.event.Input.{Input}
+use Rattle.messages.specs.declared.event.NodeInput.{NodeInput}
 use Rattle.protocol.specs.Logged.{LogDisk}
 use Rattle.protocol.specs.Master.{MasterDoing}
 use Rattle.protocol.specs.MasterStep.{master_takes, master_ticks, master_does, finishes}
@@ -28,7 +28,7 @@ module _ (disk : LogDisk) (old new : PlanState) where
   ticks is = steady master_ticks (λ r. (ticks_keep r (doing disk old)).same) is
 
 -- the step from its beginning on
-pub goes : (disk : LogDisk) (old between new : PlanState) (moment : ℕ) (i : Input)
+pub goes : (disk : LogDisk) (old between new : PlanState) (moment : ℕ) (i : NodeInput)
     → IsPlanned (λ d. master_does d i) disk (begun old moment) between → IsPlanned finishes disk between new → Goes disk old moment i new
 goes disk old between new moment i first second =
     record {

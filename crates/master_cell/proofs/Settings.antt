@@ -7,8 +7,8 @@ use Rattle.gfs_types.specs.declared.refusal.Refusal.{Refusal}
 use Rattle.messages.specs.declared.message.Body.{Body}
 use Rattle.messages.specs.declared.message.Body.TheVariants as body
 use Rattle.messages.specs.declared.message.Message.{Message}
-use Rattle.messages.specs.declared.event.Input.{Input}
-use Rattle.messages.specs.declared.event.Input.TheVariants as input
+use Rattle.messages.specs.declared.event.NodeInput.{NodeInput}
+use Rattle.messages.specs.declared.event.NodeInput.TheVariants as input
 use Rattle.log_records.specs.declared.record.Record.{Record}
 use Rattle.log_records.specs.declared.record.Record.TheVariants as log
 use Rattle.gfs_types.specs.declared.refusal.Refusal.TheVariants.{NamesFull}
@@ -105,11 +105,11 @@ takes_stay d m (body.Cloned handle version) = (record { same = refl })
 takes_stay d m (body.Report replicas leases) = record { same = (report_keep [] d (server_number m.sender) replicas leases).settings }
 takes_stay d m other = (record { same = refl })
 
-does_stay : (d : MasterDoing) (i : Input) → Stays (settings_of d) (master_does d i)
+does_stay : (d : MasterDoing) (i : NodeInput) → Stays (settings_of d) (master_does d i)
 does_stay d (input.Deliver m) = takes_stay d m m.body
 does_stay d input.Tick = record { same = (ticks_keep [] d).settings }
 
-pub settings_stay : (m : MasterState) (moment : ℕ) (i : Input) (refused : List Bool) → settings_of (master_goes m moment i refused) ≡ (m.config, m.server_count)
+pub settings_stay : (m : MasterState) (moment : ℕ) (i : NodeInput) (refused : List Bool) → settings_of (master_goes m moment i refused) ≡ (m.config, m.server_count)
 settings_stay m moment i refused =
     let begun : MasterDoing = master_begins (master_at m moment) refused in
     (first_then (master_does begun i) (does_stay begun i) (takes_ready_stay (master_does begun i) (master_does begun i).master.snapshots)).same

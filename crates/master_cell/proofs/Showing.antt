@@ -4,7 +4,7 @@ use Rattle.std.specs.Prelude.{◌==◌, ◌||◌, nat_lt}
 use Rattle.std.specs.List.{list_any}
 use Rattle.std.specs.FinMap as table
 use Rattle.std.proofs.lemmas.Bool.{eqb-false, ltb-true, ltb-false}
-use Rattle.messages.specs.declared.event.Input.{Input}
+use Rattle.messages.specs.declared.event.NodeInput.{NodeInput}
 use Rattle.chunk_table.specs.ChunkTable.{file_of}
 use Rattle.chunk_table.specs.Owners.{IsSound, IsSoundFile}
 use Rattle.protocol.specs.Logged.{Logged}
@@ -48,7 +48,7 @@ none_given l q sound past = by_value (file_of l.table q) (sound.files q)
     by_value None s = refl
     by_value (Some handles) s = absurd (omega (arith, s.given, past))
 
-module _ (m : MasterState) (moment : ℕ) (i : Input) (used : List Bool) (first : ℕ) (copies : Table ℕ) (noted : AreFilesOf m.logged first copies) where
+module _ (m : MasterState) (moment : ℕ) (i : NodeInput) (used : List Bool) (first : ℕ) (copies : Table ℕ) (noted : AreFilesOf m.logged first copies) where
   after : MasterDoing
   after = master_goes m moment i used
 
@@ -76,7 +76,7 @@ module _ (m : MasterState) (moment : ℕ) (i : Input) (used : List Bool) (first 
       (λ q h. others sound q h ∙ ap (λ (t : Table (List ℕ)). table.get t q) (sym same))
 
 -- the same of what the step came to
-pub shown_after : (m : MasterState) (moment : ℕ) (i : Input) (used : List Bool) (d : MasterDoing) → master_goes m moment i used ≡ d → (first : ℕ) (copies : Table ℕ) → AreFilesOf m.logged first copies
+pub shown_after : (m : MasterState) (moment : ℕ) (i : NodeInput) (used : List Bool) (d : MasterDoing) → master_goes m moment i used ≡ d → (first : ℕ) (copies : Table ℕ) → AreFilesOf m.logged first copies
     → IsSound (table_of d.master.logged) → (shown : Table (List ℕ)) → shown ≡ m.logged.table.files
     → with_lists shown (copies_of d.master.logged.table (files_after first copies d.master.logged.next_file d.changes)) ≡ d.master.logged.table.files
 shown_after m moment i used d is first copies noted sound shown same =

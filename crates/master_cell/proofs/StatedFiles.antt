@@ -32,8 +32,8 @@ use Rattle.protocol.specs.MasterStep.{gives_up_attempts, gives_up_lost_copies, l
 use Rattle.gfs_types.specs.declared.call.Call.{Call}
 use Rattle.gfs_types.specs.declared.call.Call.TheVariants as call
 use Rattle.gfs_types.specs.declared.refusal.Refusal.{Refusal}
-use Rattle.messages.specs.declared.event.Input.{Input}
-use Rattle.messages.specs.declared.event.Input.TheVariants as input
+use Rattle.messages.specs.declared.event.NodeInput.{NodeInput}
+use Rattle.messages.specs.declared.event.NodeInput.TheVariants as input
 use Rattle.gfs_types.specs.declared.refusal.Refusal.TheVariants.{NamesFull}
 use Rattle.relaxed_file.specs.NameStep.{needs_room}
 use Rattle.std.specs.Prelude.{◌==◌, nat_lt, nat_le}
@@ -336,11 +336,11 @@ module _ (before : Logged) (copied : Table ℕ) (q : ℕ) (older : q < before.ne
   takes_stay d m (body.Report replicas leases) = report_keep d (server_number m.sender) replicas leases
   takes_stay d m other = (record { back = λ h. h; goes = λ h a. a })
 
-  does_stay : (d : MasterDoing) (i : Input) → Leaves (seen_of d) (master_does d i)
+  does_stay : (d : MasterDoing) (i : NodeInput) → Leaves (seen_of d) (master_does d i)
   does_stay d (input.Deliver m) = takes_stay d m m.body
   does_stay d input.Tick = ticks_keep d
 
-  does_all : (m : MasterState) (moment : ℕ) (i : Input) (refused : List Bool) → Leaves ([], m.logged) (master_goes m moment i refused)
+  does_all : (m : MasterState) (moment : ℕ) (i : NodeInput) (refused : List Bool) → Leaves ([], m.logged) (master_goes m moment i refused)
   does_all m moment i refused =
       let begun : MasterDoing = master_begins (master_at m moment) refused in
       first_then (master_does begun i) (does_stay begun i) (takes_ready_stay (master_does begun i) (master_does begun i).master.snapshots)
@@ -361,7 +361,7 @@ spares copied q (c ∷ rest) h =
     (both.0, spares copied q rest both.1)
 
 -- A step leaves the list of a file that was there before, where none of its changes is of that file. The files of the copies under way are known by their handles.
-pub files_stay : (m : MasterState) (moment : ℕ) (i : Input) (refused : List Bool) (copied : Table ℕ) (q : ℕ) → ((handle : ℕ) → table.get copied handle ≡ option_map (λ (c : Copy). c.file) (table.get m.logged.copies handle))
+pub files_stay : (m : MasterState) (moment : ℕ) (i : NodeInput) (refused : List Bool) (copied : Table ℕ) (q : ℕ) → ((handle : ℕ) → table.get copied handle ≡ option_map (λ (c : Copy). c.file) (table.get m.logged.copies handle))
     → q < m.logged.next_file → has_number (files_changed copied (master_goes m moment i refused).changes) q ≡ false → table.get (master_goes m moment i refused).master.logged.table.files q ≡ table.get m.logged.table.files q
 files_stay m moment i refused copied q known older h =
     ((does_all m.logged copied q older m moment i refused).goes (spares copied q (master_goes m moment i refused).changes h)

@@ -2,7 +2,7 @@
 use Rattle.std.proofs.Common.{◌≡◌, ℕ, Bool, true, false, List, [], refl, sym, ap, ◌∙◌, subst, inl, inr}
 use Rattle.std.specs.Prelude.{if◌then◌else◌, ◌⊎◌}
 use Rattle.gfs_types.specs.declared.config.Config.{Config}
-use Rattle.messages.specs.declared.event.Input.{Input}
+use Rattle.messages.specs.declared.event.NodeInput.{NodeInput}
 use Rattle.messages.specs.declared.event.StepOut.{StepOut}
 use Rattle.protocol.specs.Choice.{Choice, Ending, Goes as Ends, Lost, Stops, made_changes, change_under_way}
 use Rattle.protocol.specs.declared.seen.Seen.{Seen}
@@ -36,7 +36,7 @@ gives t u out seen new same o s l =
     }
 
 -- a master that is down takes no step
-pub stays : (disk : LogDisk) (under_way : List LogChange) (config : Config) (count : ℕ) (p : PlanState) (moment : ℕ) (i : Input)
+pub stays : (disk : LogDisk) (under_way : List LogChange) (config : Config) (count : ℕ) (p : PlanState) (moment : ℕ) (i : NodeInput)
     → MasterSteps (standing false disk under_way config count p) moment i no_output [] (standing false disk under_way config count p)
 stays disk under_way config count p moment i =
     record { choice = with_ending Ends []; gives = record { out_is = refl; seen_is = refl; left_as = record { but_under_way = refl; under_way = inl refl } } }
@@ -58,7 +58,7 @@ left_down config old_config count old_count p q disk new_disk under_way new_unde
     by_cases (inl e) = inl e
     by_cases (inr e) = inr (refl, e)
 
-module _ (disk : LogDisk) (under_way : List LogChange) (config : Config) (count : ℕ) (p0 : PlanState) (moment : ℕ) (i : Input) (rest : IsResting under_way config count p0) where
+module _ (disk : LogDisk) (under_way : List LogChange) (config : Config) (count : ℕ) (p0 : PlanState) (moment : ℕ) (i : NodeInput) (rest : IsResting under_way config count p0) where
   old : MasterState
   old = standing true disk [] config count p0
 
@@ -147,7 +147,7 @@ module _ (disk : LogDisk) (under_way : List LogChange) (config : Config) (count 
         (subst (λ (x : StepOut). MasterSteps (standing true disk under_way config count p0) moment i x p1.seen (standing true new_disk new_under_way config count (resting p1))) (sym out_at)
         (went all)))
 
-module _ (disk : LogDisk) (under_way : List LogChange) (config : Config) (count : ℕ) (p0 : PlanState) (moment : ℕ) (i : Input) (rest : IsResting under_way config count p0) (cs : List LogChange) (p2 : PlanState) (d : Drafts disk p0 moment i cs p2)
+module _ (disk : LogDisk) (under_way : List LogChange) (config : Config) (count : ℕ) (p0 : PlanState) (moment : ℕ) (i : NodeInput) (rest : IsResting under_way config count p0) (cs : List LogChange) (p2 : PlanState) (d : Drafts disk p0 moment i cs p2)
     (new_disk : LogDisk) (new_under_way : List LogChange) where
   pub drafted_cut_off : (q : PlanState) → IsStopped disk cs new_disk new_under_way → MasterSteps (standing true disk under_way config count p0) moment i down_output [] (standing false new_disk new_under_way config count q)
   drafted_cut_off q stop = cut_off_as disk under_way config count p0 moment i rest d.planned d.goes new_disk new_under_way q cs d.changes_are stop
@@ -161,7 +161,7 @@ module _ (disk : LogDisk) (under_way : List LogChange) (config : Config) (count 
       went_as disk under_way config count p0 moment i rest d.planned d.goes new_disk new_under_way p2 r cs out seen d.changes_are d.rest r_is out_is seen_is made
 
 -- a master that is down, as it was made, takes no step
-pub stays_down : (m : MasterState) (moment : ℕ) (i : Input) (out : StepOut) (seen : List Seen) → m.up ≡ false → out ≡ no_output → seen ≡ [] → MasterSteps m moment i out seen m
+pub stays_down : (m : MasterState) (moment : ℕ) (i : NodeInput) (out : StepOut) (seen : List Seen) → m.up ≡ false → out ≡ no_output → seen ≡ [] → MasterSteps m moment i out seen m
 stays_down m moment i out seen down o s =
     let same : master_step m moment i (with_ending Ends []) ≡ no_step m = ap (λ b. if b then master_bounded m (master_goes m moment i []) (with_ending Ends []) else no_step m) down in
     record {

@@ -1,6 +1,6 @@
 -- How a step ends, from what was planned.
 use Rattle.std.specs.Prelude.{◌≡◌, ℕ, Bool, true, false, List, [], None}
-use Rattle.messages.specs.declared.event.Input.{Input}
+use Rattle.messages.specs.declared.event.NodeInput.{NodeInput}
 use Rattle.messages.specs.declared.event.StepOut.{StepOut}
 use Rattle.protocol.specs.Logged.{LogDisk, LogChange, log_changed_by_all}
 use Rattle.protocol.specs.MasterStep.{master_goes, is_within_limits}
@@ -8,7 +8,7 @@ use Rattle.master_plan.specs.Plans.{PlanState, master_of, known, doing, resting}
 use Rattle.master_cell.specs.Commits.{IsStopped}
 
 -- a step on an input comes to this plan, for some answers to growths of the names
-pub record Goes (disk : LogDisk) (old : PlanState) (moment : ℕ) (i : Input) (new : PlanState) : Type 0 where
+pub record Goes (disk : LogDisk) (old : PlanState) (moment : ℕ) (i : NodeInput) (new : PlanState) : Type 0 where
   pub used : List Bool
   pub leads : master_goes (master_of disk (resting old)) moment i used ≡ doing disk new
 

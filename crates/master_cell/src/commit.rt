@@ -8,12 +8,12 @@ ghost use Rattle.master_plan.specs.Changes.{change_of, changes_of};
 ghost use Rattle.master_cell.specs.Commits.{IsStopped};
 
 use log_records::record::Record;
-use master_plan::change::Change;
-use operation_log::fault::LogFault;
+use master_plan::change::LogChange;
+use operation_log::fault::OperationLogFault;
 use operation_log::log::OperationLog;
 
 /// Makes changes of the log in order. Where one fails, those before it are made, and it may be under way.
-pub fn commit<L: OperationLog>(log: &mut L, changes: &[Change]) -> Result<(), LogFault>
+pub fn commit<L: OperationLog>(log: &mut L, changes: &[LogChange]) -> Result<(), OperationLogFault>
     requires decided { L.under_way log.old ≡ [] }
     ensures ok { OnOk result (L.disk log.new ≡ log_changed_by_all (L.disk log.old) (changes_of changes.now)) }
     ensures done { OnOk result (L.under_way log.new ≡ []) }
@@ -27,7 +27,7 @@ pub fn commit<L: OperationLog>(log: &mut L, changes: &[Change]) -> Result<(), Lo
     Ok(())
 }
 
-fn make<L: OperationLog>(log: &mut L, change: &Change) -> Result<(), LogFault>
+fn make<L: OperationLog>(log: &mut L, change: &LogChange) -> Result<(), OperationLogFault>
     requires decided { L.under_way log.old ≡ [] }
     ensures ok { OnOk result (L.disk log.new ≡ log_changed (L.disk log.old) (change_of change.now)) }
     ensures done { OnOk result (L.under_way log.new ≡ []) }
@@ -35,12 +35,12 @@ fn make<L: OperationLog>(log: &mut L, change: &Change) -> Result<(), LogFault>
     ensures begun { OnErr result (MayBeUnderWay (change_of change.now) (L.under_way log.new)) }
 {
     match change {
-        Change::Append(entry) => log.append(entry),
-        Change::Checkpoint(items) => write_checkpoint(log, items.as_slice()),
+        LogChange::Append(entry) => log.append(entry),
+        LogChange::Checkpoint(items) => write_checkpoint(log, items.as_slice()),
     }
 }
 
-fn write_checkpoint<L: OperationLog>(log: &mut L, items: &[Record]) -> Result<(), LogFault>
+fn write_checkpoint<L: OperationLog>(log: &mut L, items: &[Record]) -> Result<(), OperationLogFault>
     requires decided { L.under_way log.old ≡ [] }
     ensures ok { OnOk result (L.disk log.new ≡ log_changed (L.disk log.old) (WriteCheckpoint items.now)) }
     ensures done { OnOk result (L.under_way log.new ≡ []) }
@@ -52,7 +52,7 @@ fn write_checkpoint<L: OperationLog>(log: &mut L, items: &[Record]) -> Result<()
 }
 
 // The items of a checkpoint, the log as it was. A checkpoint without any item is no lawful one.
-fn add_items<L: OperationLog>(log: &mut L, items: &[Record]) -> Result<(), LogFault>
+fn add_items<L: OperationLog>(log: &mut L, items: &[Record]) -> Result<(), OperationLogFault>
     requires decided { L.under_way log.old ≡ [] }
     ensures ok { OnOk result (L.writing log.new ≡ items.now) }
     ensures fits { OnOk result (checkpoint_fits (L.log_bytes log.new) items.now ≡ true) }
@@ -61,7 +61,7 @@ fn add_items<L: OperationLog>(log: &mut L, items: &[Record]) -> Result<(), LogFa
 {
     log.begin_checkpoint()?;
     if items.is_empty() {
-        return Err(LogFault::Damaged);
+        return Err(OperationLogFault::Damaged);
     }
     for item in items {
         log.add_item(item)?;

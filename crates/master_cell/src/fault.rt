@@ -5,7 +5,7 @@ ghost use Rattle.master_cell.specs.declared.fault.MasterFault.TheVariants.{NoMem
 ghost use Rattle.master_cell.specs.Faults.{fault_text};
 
 use gfs_types::no_memory::NoMemory;
-use operation_log::fault::LogFault;
+use operation_log::fault::OperationLogFault;
 use std::alloc::AllocError;
 use std::error::Error;
 use std::fmt;
@@ -16,7 +16,7 @@ pub enum MasterFault {
     /// Memory was refused.
     NoMemory,
     /// Its log didn't take the first epoch.
-    Log(LogFault),
+    Log(OperationLogFault),
 }
 
 impl fmt::Display for MasterFault {

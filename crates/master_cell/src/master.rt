@@ -27,10 +27,10 @@ use master_state::state::State;
 use messages::event::StepOut;
 use messages::message::Message;
 use operation_log::log::OperationLog;
+use operation_log::stoppable::StoppableLog;
 use std::alloc::{Allocator, Global};
 use std::marker::Model;
 use step_outcome::{Outcome, down_output, no_output};
-use stored_log::stoppable::StoppableLog;
 
 /// The master over a log. While it is up, nothing is under way on the log's disk. Its names lie in `A`.
 pub struct Master<L: OperationLog, A: Allocator> {

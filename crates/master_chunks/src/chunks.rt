@@ -11,7 +11,7 @@ ghost use Rattle.master_plan.specs.Plans.{doing};
 ghost use Rattle.master_chunks.specs.Askers.{asker_of};
 
 use crate::asker::Asker;
-use crate::row::{Row, chunk_of};
+use crate::row::{ChunkState, chunk_of};
 use crate::telling::{tells_holders, tells_none};
 use gfs_types::ids::{FileId, Handle};
 use gfs_types::refusal::Refusal;
@@ -66,7 +66,7 @@ fn looks_at_row<A: Allocator + Clone>(
     plan: &mut Plan<A>,
     asker: Asker,
     handle: Handle,
-    row: Option<Row>,
+    row: Option<ChunkState>,
 ) -> Result<(), PlanFault>
     ensures { OnOk result ((disk : LogDisk) → looks_at_row (doing disk plan.old) (asker_of asker) handle.0 row ≡ doing disk plan.new) }
 {

@@ -11,7 +11,7 @@ ghost use Rattle.master_chunks.specs.Copying.{new_target};
 use crate::asker::Asker;
 use crate::held::current_holders;
 use crate::placing::placement;
-use crate::row::Row;
+use crate::row::ChunkState;
 use crate::targets::{TargetList, VersionTarget, holder_targets, new_attempt};
 use crate::telling::{tells_location, tells_to_wait};
 use gfs_types::ids::{Handle, Node, OrderNo, ServerId, Version};
@@ -84,7 +84,7 @@ fn sends_copies<A: Allocator + Clone>(
 fn copy_targets<A: Allocator + Clone>(
     plan: &Plan<A>,
     handle: Handle,
-    row: &Row,
+    row: &ChunkState,
 ) -> Result<TargetList, PlanFault>
     ensures { IfOk result (λ targets. targets ≡ copy_targets (known plan.now) handle.0 row.now) }
 {
@@ -131,7 +131,7 @@ fn copies_to<L: OperationLog, A: Allocator + Clone>(
     plan: &mut Plan<A>,
     asker: Asker,
     handle: Handle,
-    row: &Row,
+    row: &ChunkState,
     targets: &[VersionTarget],
 ) -> Result<(), PlanFault>
     ensures { OnOk result (copies_to (doing (L.disk log.now) plan.old) (asker_of asker) handle.0 row.now targets.now ≡ doing (L.disk log.now) plan.new) }
@@ -161,7 +161,7 @@ pub fn begins_copy<L: OperationLog, A: Allocator + Clone>(
     plan: &mut Plan<A>,
     asker: Asker,
     handle: Handle,
-    row: &Row,
+    row: &ChunkState,
 ) -> Result<(), PlanFault>
     ensures { OnOk result (begins_copy (doing (L.disk log.now) plan.old) (asker_of asker) handle.0 row.now ≡ doing (L.disk log.now) plan.new) }
 {

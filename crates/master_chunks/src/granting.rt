@@ -11,7 +11,7 @@ use log_records::record::Record;
 use master_plan::fault::PlanFault;
 use master_plan::logging::logs;
 use master_plan::plan::Plan;
-use master_plan::waiting::Attempt;
+use master_plan::waiting::VersionAttempt;
 use messages::message::Body;
 use operation_log::log::OperationLog;
 use std::alloc::Allocator;
@@ -23,7 +23,7 @@ pub fn grants_to<L: OperationLog, A: Allocator + Clone>(
     log: &L,
     plan: &mut Plan<A>,
     handle: Handle,
-    attempt: &Attempt,
+    attempt: &VersionAttempt,
     members: ServerList,
 ) -> Result<(), PlanFault>
     ensures { OnOk result (grants_to (doing (L.disk log.now) plan.old) handle.0 attempt.now members ≡ doing (L.disk log.now) plan.new) }
@@ -41,7 +41,7 @@ fn grants<L: OperationLog, A: Allocator + Clone>(
     log: &L,
     plan: &mut Plan<A>,
     handle: Handle,
-    attempt: &Attempt,
+    attempt: &VersionAttempt,
     primary: ServerId,
     members: ServerList,
 ) -> Result<(), PlanFault>

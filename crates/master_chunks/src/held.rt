@@ -7,7 +7,7 @@ ghost use Rattle.protocol.specs.MasterVersions.{holder_line};
 ghost use Rattle.master_plan.specs.Plans.{known};
 ghost use Rattle.master_chunks.specs.Tests.{passes};
 
-use crate::row::Row;
+use crate::row::ChunkState;
 use gfs_types::ids::{Handle, ServerId, Version};
 use gfs_types::lists::Sequence;
 use master_plan::fault::PlanFault;
@@ -106,7 +106,7 @@ fn push_some(holders: &mut HeldList, more: Option<HeldAt>) -> Result<(), PlanFau
 pub fn current_holders<A: Allocator + Clone>(
     plan: &Plan<A>,
     handle: Handle,
-    row: &Row,
+    row: &ChunkState,
 ) -> Result<HeldList, PlanFault>
     ensures { IfOk result (λ holders. holders ≡ current_holders (known plan.now) handle.0 row.now) }
 {
@@ -117,7 +117,7 @@ pub fn current_holders<A: Allocator + Clone>(
 pub fn present_current_holders<A: Allocator + Clone>(
     plan: &Plan<A>,
     handle: Handle,
-    row: &Row,
+    row: &ChunkState,
 ) -> Result<HeldList, PlanFault>
     ensures { IfOk result (λ holders. holders ≡ present_current_holders (known plan.now) handle.0 row.now) }
 {

@@ -9,7 +9,7 @@ ghost use Rattle.master_chunks.specs.Askers.{asker_of};
 
 use crate::asker::Asker;
 use crate::held::{HeldAt, HeldList, VersionTest, holders_where, present_current_holders};
-use crate::row::Row;
+use crate::row::ChunkState;
 use crate::targets::{TargetList, VersionTarget, holder_targets, new_attempt, placed_targets};
 use crate::telling::{tells_location, tells_to_wait};
 use gfs_types::ids::{Handle, Node, OrderNo, Version};
@@ -92,9 +92,9 @@ pub fn issues_to<L: OperationLog, A: Allocator + Clone>(
     plan: &mut Plan<A>,
     asker: Asker,
     own: Handle,
-    own_row: &Row,
+    own_row: &ChunkState,
     handle: Handle,
-    row: &Row,
+    row: &ChunkState,
     targets: &[VersionTarget],
 ) -> Result<(), PlanFault>
     ensures { OnOk result (issues_to (doing (L.disk log.now) plan.old) (asker_of asker) own.0 own_row.now handle.0 row.now targets.now ≡ doing (L.disk log.now) plan.new) }
@@ -114,7 +114,7 @@ pub fn issues_to<L: OperationLog, A: Allocator + Clone>(
 fn recorded_holders<A: Allocator + Clone>(
     plan: &Plan<A>,
     handle: Handle,
-    row: &Row,
+    row: &ChunkState,
 ) -> Result<HeldList, PlanFault>
     ensures { IfOk result (λ holders. holders ≡ recorded_holders (known plan.now) handle.0 row.now) }
 {
@@ -129,7 +129,7 @@ fn recorded_holders<A: Allocator + Clone>(
 fn targets_by<A: Allocator + Clone>(
     plan: &Plan<A>,
     handle: Handle,
-    row: &Row,
+    row: &ChunkState,
     holders: &[HeldAt],
 ) -> Result<TargetList, PlanFault>
     ensures { IfOk result (λ targets. targets ≡ targets_by (known plan.now) handle.0 row.now holders.now) }
@@ -150,7 +150,7 @@ pub fn issues_own<L: OperationLog, A: Allocator + Clone>(
     plan: &mut Plan<A>,
     asker: Asker,
     handle: Handle,
-    row: &Row,
+    row: &ChunkState,
     is_attempted: bool,
 ) -> Result<(), PlanFault>
     ensures { OnOk result (issues_own (doing (L.disk log.now) plan.old) (asker_of asker) handle.0 row.now is_attempted ≡ doing (L.disk log.now) plan.new) }

@@ -11,7 +11,7 @@ use gfs_types::ids::{Handle, ServerId, Version};
 use gfs_types::lists::ServerList;
 use master_plan::fault::PlanFault;
 use master_plan::plan::Plan;
-use master_plan::waiting::Attempt;
+use master_plan::waiting::VersionAttempt;
 use operation_log::log::OperationLog;
 use std::alloc::{Allocator, Global};
 
@@ -40,12 +40,16 @@ pub fn learns<L: OperationLog, A: Allocator + Clone>(
 }
 
 // The attempt with one more server that recorded it.
-fn recorded_by(attempt: &Attempt, server: ServerId, alloc: Global) -> Result<Attempt, PlanFault>
+fn recorded_by(
+    attempt: &VersionAttempt,
+    server: ServerId,
+    alloc: Global,
+) -> Result<VersionAttempt, PlanFault>
     ensures { IfOk result (λ a. a ≡ record attempt.now { recorded = with_number attempt.now.recorded server.0 }) }
 {
     let mut recorded = attempt.recorded().copy(alloc)?.into_vec();
     put_number(&mut recorded, server.0)?;
-    Ok(Attempt::new(
+    Ok(VersionAttempt::new(
         attempt.version(),
         attempt.servers().copy(alloc)?,
         ServerList::new(recorded),
@@ -54,10 +58,10 @@ fn recorded_by(attempt: &Attempt, server: ServerId, alloc: Global) -> Result<Att
 }
 
 // An equal attempt.
-fn copied(attempt: &Attempt, alloc: Global) -> Result<Attempt, PlanFault>
+fn copied(attempt: &VersionAttempt, alloc: Global) -> Result<VersionAttempt, PlanFault>
     ensures { IfOk result (λ a. a ≡ attempt.now) }
 {
-    Ok(Attempt::new(
+    Ok(VersionAttempt::new(
         attempt.version(),
         attempt.servers().copy(alloc)?,
         attempt.recorded().copy(alloc)?,
@@ -70,7 +74,7 @@ fn with_recorded<L: OperationLog, A: Allocator + Clone>(
     log: &L,
     plan: &mut Plan<A>,
     handle: Handle,
-    attempt: &Attempt,
+    attempt: &VersionAttempt,
 ) -> Result<(), PlanFault>
     ensures { OnOk result (with_recorded (doing (L.disk log.now) plan.old) handle.0 attempt.now ≡ doing (L.disk log.now) plan.new) }
 {
@@ -85,7 +89,7 @@ fn with_recorded<L: OperationLog, A: Allocator + Clone>(
 }
 
 // A number is granted only when all of the set have recorded it, in time.
-fn is_complete<A: Allocator + Clone>(plan: &Plan<A>, attempt: &Attempt) -> bool
+fn is_complete<A: Allocator + Clone>(plan: &Plan<A>, attempt: &VersionAttempt) -> bool
     ensures { result ≡ is_complete (known plan.now) attempt.now }
 {
     same_numbers(attempt.servers().as_slice(), attempt.recorded().as_slice())

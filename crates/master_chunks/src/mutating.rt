@@ -10,7 +10,7 @@ ghost use Rattle.master_chunks.specs.Askers.{asker_of};
 
 use crate::asker::Asker;
 use crate::chunks::{chunk_count, handle_at, refuses};
-use crate::row::{Row, chunk_of};
+use crate::row::{ChunkState, chunk_of};
 use crate::telling::tells_holders;
 use crate::wanting::wants_primary;
 use gfs_types::ids::Handle;
@@ -44,7 +44,7 @@ fn mutates_row<L: OperationLog, A: Allocator + Clone>(
     asker: Asker,
     lost: bool,
     handle: Handle,
-    row: Option<Row>,
+    row: Option<ChunkState>,
 ) -> Result<(), PlanFault>
     ensures { OnOk result (mutates_row (doing (L.disk log.now) plan.old) (asker_of asker) lost handle.0 row ≡ doing (L.disk log.now) plan.new) }
 {

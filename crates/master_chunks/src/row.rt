@@ -18,7 +18,7 @@ use std::marker::Model;
 
 /// What the master keeps of a chunk, as it stood when it was looked up.
 #[derive(Drop)]
-pub struct Row {
+pub struct ChunkState {
     granted: u64,
     issued: u64,
     references: u64,
@@ -27,7 +27,7 @@ pub struct Row {
     lease_end: u64,
 }
 
-impl Model for Row {
+impl Model for ChunkState {
     ghost use Rattle.chunk_table.specs.ChunkTable.{ChunkRow};
 
     ghost Value = { ChunkRow };
@@ -39,7 +39,7 @@ impl Model for Row {
 pub fn chunk_of<A: Allocator + Clone>(
     plan: &Plan<A>,
     handle: Handle,
-) -> Result<Option<Row>, PlanFault>
+) -> Result<Option<ChunkState>, PlanFault>
     ensures { IfOk result (λ row. row ≡ chunk_of plan.now.logged.table handle.0) }
 {
     match plan.state().table().chunk(handle) {
@@ -48,10 +48,10 @@ pub fn chunk_of<A: Allocator + Clone>(
     }
 }
 
-fn row_of(chunk: &Chunk, alloc: Global) -> Result<Row, NoMemory>
+fn row_of(chunk: &Chunk, alloc: Global) -> Result<ChunkState, NoMemory>
     ensures { IfOk result (λ row. row ≡ chunk.now) }
 {
-    Ok(Row {
+    Ok(ChunkState {
         granted: chunk.granted().0,
         issued: chunk.issued().0,
         references: chunk.references(),
@@ -61,7 +61,7 @@ fn row_of(chunk: &Chunk, alloc: Global) -> Result<Row, NoMemory>
     })
 }
 
-impl Row {
+impl ChunkState {
     /// The version of the last lease, 0 where there was none.
     pub fn granted(&self) -> Version
         ensures { result.0 ≡ self.now.granted }
@@ -102,7 +102,10 @@ impl Row {
 }
 
 /// The primary with its members, where there is one.
-pub fn group_of<A: Allocator + Clone>(plan: &Plan<A>, row: &Row) -> Result<Option<Group>, PlanFault>
+pub fn group_of<A: Allocator + Clone>(
+    plan: &Plan<A>,
+    row: &ChunkState,
+) -> Result<Option<Group>, PlanFault>
     ensures { IfOk result (λ group. group ≡ group_of (known plan.now) row.now) }
 {
     if !has_lease(plan, row) {
@@ -114,7 +117,7 @@ pub fn group_of<A: Allocator + Clone>(plan: &Plan<A>, row: &Row) -> Result<Optio
     }))
 }
 
-fn has_lease<A: Allocator + Clone>(plan: &Plan<A>, row: &Row) -> bool
+fn has_lease<A: Allocator + Clone>(plan: &Plan<A>, row: &ChunkState) -> bool
     ensures { result ≡ has_lease (known plan.now) row.now }
 {
     row.granted > 0 && !(row.lease_end <= plan.now().0)

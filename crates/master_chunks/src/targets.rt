@@ -12,7 +12,7 @@ use gfs_types::lists::{Sequence, ServerList};
 use gfs_types::no_memory::NoMemory;
 use master_plan::fault::PlanFault;
 use master_plan::plan::Plan;
-use master_plan::waiting::Attempt;
+use master_plan::waiting::VersionAttempt;
 use std::alloc::{Allocator, Global};
 use std::marker::Model;
 
@@ -115,11 +115,11 @@ pub fn new_attempt<A: Allocator + Clone>(
     plan: &Plan<A>,
     version: Version,
     targets: &[VersionTarget],
-) -> Result<Attempt, PlanFault>
+) -> Result<VersionAttempt, PlanFault>
     ensures { IfOk result (λ attempt. attempt ≡ new_attempt (known plan.now) version.0 targets.now) }
 {
     let alloc = plan.alloc();
-    Ok(Attempt::new(
+    Ok(VersionAttempt::new(
         version,
         target_servers(targets, alloc)?,
         ServerList::empty(alloc),

@@ -8,7 +8,7 @@ ghost use Rattle.master_chunks.specs.Askers.{asker_of};
 
 use crate::asker::Asker;
 use crate::held::{current_holders, holder_lines};
-use crate::row::{Row, group_of};
+use crate::row::{ChunkState, group_of};
 use gfs_types::ids::Handle;
 use master_plan::fault::PlanFault;
 use master_plan::plan::Plan;
@@ -21,7 +21,7 @@ pub fn tells_location<A: Allocator + Clone>(
     plan: &mut Plan<A>,
     asker: Asker,
     handle: Handle,
-    row: &Row,
+    row: &ChunkState,
     holders: HolderList,
 ) -> Result<(), PlanFault>
     ensures { OnOk result ((disk : LogDisk) → tells_location (doing disk plan.old) (asker_of asker) handle.0 row.now holders ≡ doing disk plan.new) }
@@ -45,7 +45,7 @@ pub fn tells_holders<A: Allocator + Clone>(
     plan: &mut Plan<A>,
     asker: Asker,
     handle: Handle,
-    row: &Row,
+    row: &ChunkState,
 ) -> Result<(), PlanFault>
     ensures { OnOk result ((disk : LogDisk) → tells_holders (doing disk plan.old) (asker_of asker) handle.0 row.now ≡ doing disk plan.new) }
 {

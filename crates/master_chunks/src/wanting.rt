@@ -9,7 +9,7 @@ use crate::asker::Asker;
 use crate::copying::begins_copy;
 use crate::held::{HeldAt, VersionTest, holders_where};
 use crate::issuing::{is_attempted, issues_own, issues_to};
-use crate::row::{Row, chunk_of};
+use crate::row::{ChunkState, chunk_of};
 use crate::targets::holder_targets;
 use crate::telling::tells_to_wait;
 use gfs_types::ids::Handle;
@@ -24,7 +24,7 @@ fn wants_own<L: OperationLog, A: Allocator + Clone>(
     plan: &mut Plan<A>,
     asker: Asker,
     handle: Handle,
-    row: &Row,
+    row: &ChunkState,
 ) -> Result<(), PlanFault>
     ensures { OnOk result (wants_own (doing (L.disk log.now) plan.old) (asker_of asker) handle.0 row.now ≡ doing (L.disk log.now) plan.new) }
 {
@@ -43,7 +43,7 @@ fn wants_own_of<L: OperationLog, A: Allocator + Clone>(
     plan: &mut Plan<A>,
     asker: Asker,
     handle: Handle,
-    row: Option<Row>,
+    row: Option<ChunkState>,
 ) -> Result<(), PlanFault>
     ensures { OnOk result (wants_own_of (doing (L.disk log.now) plan.old) (asker_of asker) handle.0 row ≡ doing (L.disk log.now) plan.new) }
 {
@@ -60,9 +60,9 @@ fn issues_copy<L: OperationLog, A: Allocator + Clone>(
     plan: &mut Plan<A>,
     asker: Asker,
     handle: Handle,
-    row: &Row,
+    row: &ChunkState,
     copy: Handle,
-    copy_row: &Row,
+    copy_row: &ChunkState,
     holders: &[HeldAt],
 ) -> Result<(), PlanFault>
     ensures { OnOk result (issues_copy (doing (L.disk log.now) plan.old) (asker_of asker) handle.0 row.now copy.0 copy_row.now holders.now ≡ doing (L.disk log.now) plan.new) }
@@ -90,9 +90,9 @@ fn wants_copy<L: OperationLog, A: Allocator + Clone>(
     plan: &mut Plan<A>,
     asker: Asker,
     handle: Handle,
-    row: &Row,
+    row: &ChunkState,
     copy: Handle,
-    copy_row: Option<Row>,
+    copy_row: Option<ChunkState>,
 ) -> Result<(), PlanFault>
     ensures { OnOk result (wants_copy (doing (L.disk log.now) plan.old) (asker_of asker) handle.0 row.now copy.0 copy_row ≡ doing (L.disk log.now) plan.new) }
 {
@@ -120,7 +120,7 @@ fn wants_by<L: OperationLog, A: Allocator + Clone>(
     plan: &mut Plan<A>,
     asker: Asker,
     handle: Handle,
-    row: &Row,
+    row: &ChunkState,
     copy: Option<Handle>,
 ) -> Result<(), PlanFault>
     ensures { OnOk result (wants_by (doing (L.disk log.now) plan.old) (asker_of asker) handle.0 row.now (option_map (λ h. h.0) copy) ≡ doing (L.disk log.now) plan.new) }
@@ -138,7 +138,7 @@ pub fn wants_primary<L: OperationLog, A: Allocator + Clone>(
     plan: &mut Plan<A>,
     asker: Asker,
     handle: Handle,
-    row: &Row,
+    row: &ChunkState,
 ) -> Result<(), PlanFault>
     ensures { OnOk result (wants_primary (doing (L.disk log.now) plan.old) (asker_of asker) handle.0 row.now ≡ doing (L.disk log.now) plan.new) }
 {

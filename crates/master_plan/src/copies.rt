@@ -9,7 +9,7 @@ ghost use Rattle.master_plan.specs.Plans.{without_copies, without_attempts, with
 
 use crate::fault::PlanFault;
 use crate::plan::Plan;
-use crate::waiting::Attempt;
+use crate::waiting::VersionAttempt;
 use gfs_types::ids::{Handle, Moment};
 use ordered_map::OrderedMap;
 use std::alloc::Allocator;
@@ -45,7 +45,7 @@ impl<A: Allocator + Clone> Plan<A> {
     }
 }
 
-fn remove_all(attempts: &mut OrderedMap<Attempt>, handles: &[u64])
+fn remove_all(attempts: &mut OrderedMap<VersionAttempt>, handles: &[u64])
     ensures { attempts.new ≡ removed_all attempts.old handles.now }
 {
     for handle in handles {

@@ -7,9 +7,9 @@ ghost use Rattle.protocol.specs.Tables.{moment_limit};
 ghost use Rattle.protocol.specs.Master.{has_lease};
 ghost use Rattle.master_plan.specs.Plans.{known, told};
 
-use crate::change::ChangeList;
+use crate::change::LogChangeList;
 use crate::fault::PlanFault;
-use crate::waiting::{Attempt, Pending};
+use crate::waiting::{Pending, VersionAttempt};
 use chunk_table::chunk::Chunk;
 use gfs_types::config::Config;
 use gfs_types::ids::{Handle, Moment, Node, Version};
@@ -32,7 +32,7 @@ pub struct Plan<A: Allocator> {
     pub(crate) clock: u64,
     pub(crate) state: State<A>,
     pub(crate) order_count: u64,
-    pub(crate) attempts: OrderedMap<Attempt>,
+    pub(crate) attempts: OrderedMap<VersionAttempt>,
     pub(crate) snapshots: Vec<Pending>,
     pub(crate) holders: NumberMap<OrderedMap<u64>>,
     pub(crate) reported: NumberMap<u64>,
@@ -44,7 +44,7 @@ pub struct Plan<A: Allocator> {
     pub(crate) concerned_chunks: OrderedMap<()>,
     pub(crate) doubted: Doubted,
     pub(crate) sent: MessageList,
-    pub(crate) changes: ChangeList,
+    pub(crate) changes: LogChangeList,
     pub(crate) seen: SeenList,
 }
 
@@ -160,14 +160,14 @@ impl<A: Allocator + Clone> Plan<A> {
     }
 
     /// The version number of a chunk that is under way.
-    pub fn attempt(&self, handle: Handle) -> Option<&Attempt>
+    pub fn attempt(&self, handle: Handle) -> Option<&VersionAttempt>
         ensures { option_copied result ≡ map.get self.now.attempts handle.0 }
     {
         self.attempts.get(handle.0)
     }
 
     /// A version number of a chunk is under way from now on.
-    pub fn put_attempt(&mut self, handle: Handle, attempt: Attempt) -> Result<(), PlanFault>
+    pub fn put_attempt(&mut self, handle: Handle, attempt: VersionAttempt) -> Result<(), PlanFault>
         ensures { OnOk result (self.new ≡ record self.old { attempts = map.insert self.old.attempts handle.0 attempt }) }
     {
         self.attempts.insert(handle.0, attempt)?;

@@ -6,7 +6,7 @@ ghost use Rattle.master_plan.specs.Reports.{with_holder, with_report, table_of_l
 
 use crate::fault::PlanFault;
 use crate::plan::Plan;
-use crate::waiting::Attempt;
+use crate::waiting::VersionAttempt;
 use gfs_types::ids::{Handle, ServerId, Version};
 use messages::message::ReplicaLine;
 use ordered_map::OrderedMap;
@@ -83,7 +83,7 @@ impl<A: Allocator + Clone> Plan<A> {
     }
 
     /// The version numbers that are under way, by the handles of their chunks.
-    pub fn attempts(&self) -> &OrderedMap<Attempt>
+    pub fn attempts(&self) -> &OrderedMap<VersionAttempt>
         ensures { result.now ≡ self.now.attempts }
     {
         &self.attempts

@@ -9,14 +9,14 @@ use std::marker::Model;
 
 /// A version number that was issued and is neither granted nor given up.
 #[derive(Drop)]
-pub struct Attempt {
+pub struct VersionAttempt {
     version: u64,
     servers: ServerList,
     recorded: ServerList,
     begun: u64,
 }
 
-impl Model for Attempt {
+impl Model for VersionAttempt {
     ghost use Rattle.protocol.specs.Master.{VersionAttempt};
     ghost use Rattle.master_plan.specs.Coding.{coded_attempt};
 
@@ -27,16 +27,16 @@ impl Model for Attempt {
     ghost view = { λ a. record { version = a.version; servers = a.servers; recorded = a.recorded; begun = a.begun } };
 }
 
-impl Attempt {
+impl VersionAttempt {
     pub fn new(
         version: Version,
         servers: ServerList,
         recorded: ServerList,
         begun: Moment,
-    ) -> Attempt
+    ) -> VersionAttempt
         ensures { result ≡ record { version = version.0; servers = servers; recorded = recorded; begun = begun.0 } }
     {
-        Attempt {
+        VersionAttempt {
             version: version.0,
             servers,
             recorded,

@@ -3,7 +3,7 @@
 ghost use Rattle.std.specs.Prelude.{◌≡◌, ◌↔◌, [], true, false, OnOk, IfErr, IsErrOf, IsTrue};
 ghost use Rattle.protocol.specs.Logged.{AppendRecord, after_record, log_changed};
 ghost use Rattle.protocol.specs.LogSizes.{record_fits};
-ghost use Rattle.operation_log.specs.declared.fault.LogFault.TheVariants.{Full};
+ghost use Rattle.operation_log.specs.declared.fault.OperationLogFault.TheVariants.{Full};
 ghost use Rattle.master_state.specs.Follows.{follows};
 ghost use Rattle.master_replay.specs.Changes.{LeavesLog, LeavesState};
 ghost use Rattle.master_replay.specs.declared.fault.ChangeFault.TheVariants.{Log};

@@ -4,7 +4,7 @@ ghost use Rattle.std.specs.Prelude.{◌≡◌, Some};
 ghost use Rattle.master_replay.specs.Faults.{fault_text};
 
 use master_state::fault::ReplayFault;
-use operation_log::fault::LogFault;
+use operation_log::fault::OperationLogFault;
 use std::error::Error;
 use std::fmt;
 
@@ -12,7 +12,7 @@ use std::fmt;
 #[derive(Clone, Copy, Debug, PartialEq, Eq)]
 pub enum ChangeFault {
     /// The log didn't take its record, and the state is as it was.
-    Log(LogFault),
+    Log(OperationLogFault),
     /// Its record is in the log, and the state could not follow: it is of no further use.
     Replay(ReplayFault),
 }

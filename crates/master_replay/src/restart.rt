@@ -10,7 +10,7 @@ use crate::replay::replay;
 use gfs_types::no_memory::NoMemory;
 use master_state::fault::ReplayFault;
 use master_state::state::State;
-use operation_log::fault::LogFault;
+use operation_log::fault::OperationLogFault;
 use operation_log::log::OperationLog;
 use std::alloc::{Allocator, Global};
 use std::error::Error;
@@ -20,7 +20,7 @@ use std::fmt;
 #[derive(Clone, Copy, Debug, PartialEq, Eq)]
 pub enum RestartFault {
     /// The log could not be read.
-    Log(LogFault),
+    Log(OperationLogFault),
     /// Memory was refused, or no master wrote such a log.
     Replay(ReplayFault),
 }
@@ -38,10 +38,10 @@ impl fmt::Display for RestartFault {
 
 impl Error for RestartFault {}
 
-impl From<LogFault> for RestartFault {
+impl From<OperationLogFault> for RestartFault {
     ghost from_gives = { λ fault e. e ≡ Log fault };
 
-    fn from(fault: LogFault) -> RestartFault {
+    fn from(fault: OperationLogFault) -> RestartFault {
         RestartFault::Log(fault)
     }
 }

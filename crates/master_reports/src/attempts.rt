@@ -9,7 +9,7 @@ ghost use Rattle.master_reports.specs.Late.{late_attempts};
 use gfs_types::no_memory::NoMemory;
 use master_plan::fault::PlanFault;
 use master_plan::plan::Plan;
-use master_plan::waiting::Attempt;
+use master_plan::waiting::VersionAttempt;
 use std::alloc::Allocator;
 
 /// A version number that is under way too long is given up.
@@ -34,7 +34,7 @@ fn late_attempts<A: Allocator + Clone>(plan: &Plan<A>) -> Result<Vec<u64>, NoMem
     Ok(late)
 }
 
-fn is_in_time<A: Allocator + Clone>(plan: &Plan<A>, attempt: &Attempt) -> bool
+fn is_in_time<A: Allocator + Clone>(plan: &Plan<A>, attempt: &VersionAttempt) -> bool
     ensures { result ≡ nat_lt (plan.now.now - attempt.now.begun) plan.now.config.attempt_ms }
 {
     plan.now().0.saturating_sub(attempt.begun().0) < plan.config().attempt_ms

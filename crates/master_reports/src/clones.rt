@@ -39,7 +39,7 @@ fn looks<A: Allocator + Clone>(plan: &mut Plan<A>)
 fn found_lacking<A: Allocator + Clone>(plan: &Plan<A>) -> Result<Doubted, AllocError>
     ensures { IfOk result (AreWholeBut (known plan.now)) }
 {
-    let known = Known { plan };
+    let known = PlanHolders { plan };
     let table = plan.state().table();
     let goal = plan.config().goal;
     match plan.doubted() {
@@ -51,7 +51,7 @@ fn found_lacking<A: Allocator + Clone>(plan: &Plan<A>) -> Result<Doubted, AllocE
 fn next_clone<A: Allocator + Clone>(plan: &Plan<A>) -> Option<CloneOrder>
     ensures { result ≡ best_clone (known plan.now) (finite.entries plan.now.logged.table.chunks) }
 {
-    let known = Known { plan };
+    let known = PlanHolders { plan };
     let table = plan.state().table();
     let goal = plan.config().goal;
     match plan.doubted() {
@@ -83,11 +83,11 @@ fn orders_clone<A: Allocator + Clone>(
 
 // What the choice of a clone asks of the master.
 #[derive(Drop)]
-struct Known<'a, A: Allocator> {
+struct PlanHolders<'a, A: Allocator> {
     plan: &'a Plan<A>,
 }
 
-impl<'a, A: Allocator + Clone> Holders for Known<'a, A> {
+impl<'a, A: Allocator + Clone> Holders for PlanHolders<'a, A> {
     ghost state = { λ k. known k.plan.now };
 
     fn server_count(&self) -> u16 {

@@ -12,7 +12,7 @@ use gfs_types::ids::{Serial, Version};
 use gfs_types::no_memory::NoMemory;
 use ordered_map::OrderedMap;
 use replica_store::row::Row;
-use server_store::fault::StoreFault;
+use server_store::fault::ReplicaStoreFault;
 use sha2::{Digest, Sha256};
 use std::alloc::Global;
 use std::marker::Model;
@@ -118,7 +118,7 @@ impl MemoryReplica {
         block: u64,
         offset: u64,
         count: u64,
-    ) -> Result<bool, StoreFault>
+    ) -> Result<bool, ReplicaStoreFault>
         requires { 1 ≤ block }
         ensures { IfOk result (λ b. b ≡ is_readable block self.now offset count) }
     {
@@ -141,7 +141,7 @@ impl MemoryReplica {
         block: u64,
         first: u64,
         end: u64,
-    ) -> Result<bool, StoreFault>
+    ) -> Result<bool, ReplicaStoreFault>
         requires size { 1 ≤ block }
         requires some { 1 ≤ end }
         ensures { IfOk result (λ b. b ≡ blocks_match block self.now first end) }
@@ -165,7 +165,7 @@ impl MemoryReplica {
         block: u64,
         offset: u64,
         end: u64,
-    ) -> Result<bool, StoreFault>
+    ) -> Result<bool, ReplicaStoreFault>
         requires { 1 ≤ block }
         ensures { IfOk result (λ b. b ≡ is_writable block self.now offset end) }
     {
@@ -178,7 +178,12 @@ impl MemoryReplica {
         )
     }
 
-    fn block_matches(&self, alloc: Global, block: u64, number: u64) -> Result<bool, StoreFault>
+    fn block_matches(
+        &self,
+        alloc: Global,
+        block: u64,
+        number: u64,
+    ) -> Result<bool, ReplicaStoreFault>
         requires { 1 ≤ block }
         ensures { IfOk result (λ b. b ≡ block_matches block self.now number) }
     {
@@ -186,7 +191,7 @@ impl MemoryReplica {
         if !has_changed(others.as_slice(), block, number) {
             return Ok(true);
         }
-        let start = number.checked_mul(block).ok_or(StoreFault::NoRoom)?;
+        let start = number.checked_mul(block).ok_or(ReplicaStoreFault::NoRoom)?;
         let matches = digests_match(
             alloc,
             self.bytes.as_slice(),
@@ -205,7 +210,7 @@ impl MemoryReplica {
         number: u64,
         first: u64,
         last: u64,
-    ) -> Result<bool, StoreFault>
+    ) -> Result<bool, ReplicaStoreFault>
         requires { 1 ≤ block }
         ensures { IfOk result (λ b. b ≡ (nat_le first number && nat_le number last && not (block_matches block self.now number))) }
     {
@@ -217,12 +222,12 @@ impl MemoryReplica {
     }
 
     /// A byte becomes another, past its digest. NoRoom: the place is past each that a replica in memory can have. At an error nothing changed.
-    pub(crate) fn rot(&mut self, place: u64, byte: u8) -> Result<(), StoreFault>
+    pub(crate) fn rot(&mut self, place: u64, byte: u8) -> Result<(), ReplicaStoreFault>
         ensures ok { OnOk result (self.new ≡ rotten_replica self.old place byte) }
         ensures err { OnErr result (self.new ≡ self.old) }
     {
         if place > LAST_PLACE {
-            return Err(StoreFault::NoRoom);
+            return Err(ReplicaStoreFault::NoRoom);
         }
         if self.stored_byte(place) == byte {
             self.changed.remove(place);
@@ -249,13 +254,13 @@ impl MemoryReplica {
         serial: Serial,
         offset: u64,
         content: &[u8],
-    ) -> Result<(), StoreFault>
+    ) -> Result<(), ReplicaStoreFault>
         ensures ok { OnOk result (self.new ≡ written_replica self.old serial.0 offset content.now) }
         ensures err { OnErr result (self.new ≡ self.old) }
     {
         let end = offset
             .checked_add(content.len() as u64)
-            .ok_or(StoreFault::NoRoom)?;
+            .ok_or(ReplicaStoreFault::NoRoom)?;
         let others = listed(alloc, &self.changed)?;
         let changed = kept_outside(alloc, others.as_slice(), offset, end)?;
         write_over(&mut self.bytes, offset, content)?;
@@ -271,11 +276,11 @@ impl MemoryReplica {
         serial: Serial,
         offset: u64,
         count: u64,
-    ) -> Result<(), StoreFault>
+    ) -> Result<(), ReplicaStoreFault>
         ensures ok { OnOk result (self.new ≡ written_replica self.old serial.0 offset (replicate count 0)) }
         ensures err { OnErr result (self.new ≡ self.old) }
     {
-        let end = offset.checked_add(count).ok_or(StoreFault::NoRoom)?;
+        let end = offset.checked_add(count).ok_or(ReplicaStoreFault::NoRoom)?;
         let others = listed(alloc, &self.changed)?;
         let changed = kept_outside(alloc, others.as_slice(), offset, end)?;
         zero_over(&mut self.bytes, offset, end)?;
@@ -300,10 +305,10 @@ fn digests_match(
     others: &[(u64, u8)],
     start: u64,
     count: u64,
-) -> Result<bool, StoreFault>
+) -> Result<bool, ReplicaStoreFault>
     ensures { IfOk result (λ b. b ≡ bytes_eq (sha256 (take count (drop start (with_others others.now (grown stored.now (start + count)))))) (sha256 (take count (drop start (grown stored.now (start + count)))))) }
 {
-    let end = start.checked_add(count).ok_or(StoreFault::NoRoom)?;
+    let end = start.checked_add(count).ok_or(ReplicaStoreFault::NoRoom)?;
     let mut bytes = Vec::from_slice(alloc, stored)?;
     grow(&mut bytes, end)?;
     let stored = Sha256::digest(block_of(bytes.as_slice(), start, count));

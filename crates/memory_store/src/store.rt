@@ -16,7 +16,7 @@ use messages::message_lists::ReplicaList;
 use ordered_map::OrderedMap;
 use replica_store::change::StoreChange;
 use replica_store::row::Row;
-use server_store::fault::StoreFault;
+use server_store::fault::ReplicaStoreFault;
 use server_store::store::ReplicaStore;
 use std::alloc::Global;
 use std::marker::Model;
@@ -79,7 +79,7 @@ impl MemoryStore {
     }
 
     // At an error nothing changed.
-    fn make(&mut self, change: &StoreChange) -> Result<(), StoreFault>
+    fn make(&mut self, change: &StoreChange) -> Result<(), ReplicaStoreFault>
         ensures ok { OnOk result (self.new.0 ≡ disk_changed self.old.0 change.now) }
         ensures err { OnErr result (self.new.0 ≡ self.old.0) }
         ensures under_way { self.new.1 ≡ self.old.1 }
@@ -168,14 +168,19 @@ impl ReplicaStore for MemoryStore {
         lines_of(alloc, &self.replicas)
     }
 
-    fn is_writable(&mut self, handle: Handle, offset: u64, end: u64) -> Result<bool, StoreFault> {
+    fn is_writable(
+        &mut self,
+        handle: Handle,
+        offset: u64,
+        end: u64,
+    ) -> Result<bool, ReplicaStoreFault> {
         match self.replica(handle) {
             None => Ok(true),
             Some(replica) => Ok(replica.is_writable(self.alloc, self.block, offset, end)?),
         }
     }
 
-    fn is_copyable(&mut self, handle: Handle) -> Result<bool, StoreFault> {
+    fn is_copyable(&mut self, handle: Handle) -> Result<bool, ReplicaStoreFault> {
         match self.replica(handle) {
             None => Ok(false),
             Some(replica) => {
@@ -191,7 +196,7 @@ impl ReplicaStore for MemoryStore {
         handle: Handle,
         offset: u64,
         count: u64,
-    ) -> Result<Option<Bytes>, StoreFault> {
+    ) -> Result<Option<Bytes>, ReplicaStoreFault> {
         let Some(replica) = self.replica(handle) else {
             return Ok(None);
         };
@@ -201,7 +206,7 @@ impl ReplicaStore for MemoryStore {
         Ok(Some(replica.read(alloc, offset, count)?))
     }
 
-    fn commit(&mut self, change: StoreChange) -> Result<(), StoreFault> {
+    fn commit(&mut self, change: StoreChange) -> Result<(), ReplicaStoreFault> {
         if let Err(fault) = self.make(&change) {
             self.under_way = Some(change);
             return Err(fault);
@@ -209,12 +214,12 @@ impl ReplicaStore for MemoryStore {
         Ok(())
     }
 
-    fn reopen(&mut self) -> Result<(), StoreFault> {
+    fn reopen(&mut self) -> Result<(), ReplicaStoreFault> {
         self.under_way = None;
         Ok(())
     }
 
-    fn rot(&mut self, handle: Handle, place: u64, byte: u8) -> Result<(), StoreFault> {
+    fn rot(&mut self, handle: Handle, place: u64, byte: u8) -> Result<(), ReplicaStoreFault> {
         rot(&mut self.replicas, handle.0, place, byte)
     }
 }

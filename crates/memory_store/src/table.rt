@@ -9,7 +9,7 @@ use crate::replica::MemoryReplica;
 use gfs_types::ids::{Serial, Version};
 use gfs_types::no_memory::NoMemory;
 use ordered_map::OrderedMap;
-use server_store::fault::StoreFault;
+use server_store::fault::ReplicaStoreFault;
 use std::alloc::Global;
 
 pub(crate) type ReplicaTable = OrderedMap<MemoryReplica>;
@@ -22,7 +22,7 @@ pub(crate) fn write(
     serial: Serial,
     offset: u64,
     content: &[u8],
-) -> Result<(), StoreFault>
+) -> Result<(), ReplicaStoreFault>
     ensures ok { OnOk result (replicas.new ≡ becomes (λ r. written_replica r serial.0 offset content.now) replicas.old handle (map.get replicas.old handle)) }
     ensures err { OnErr result (replicas.new ≡ replicas.old) }
 {
@@ -40,7 +40,7 @@ pub(crate) fn zero(
     serial: Serial,
     offset: u64,
     count: u64,
-) -> Result<(), StoreFault>
+) -> Result<(), ReplicaStoreFault>
     ensures ok { OnOk result (replicas.new ≡ becomes (λ r. written_replica r serial.0 offset (replicate count 0)) replicas.old handle (map.get replicas.old handle)) }
     ensures err { OnErr result (replicas.new ≡ replicas.old) }
 {
@@ -56,7 +56,7 @@ pub(crate) fn rot(
     handle: u64,
     place: u64,
     byte: u8,
-) -> Result<(), StoreFault>
+) -> Result<(), ReplicaStoreFault>
     ensures ok { OnOk result (replicas.new ≡ becomes (λ r. rotten_replica r place byte) replicas.old handle (map.get replicas.old handle)) }
     ensures err { OnErr result (replicas.new ≡ replicas.old) }
 {

@@ -2,7 +2,7 @@
 
 ghost use Rattle.std.specs.Prelude.{◌≡◌, Some};
 ghost use Rattle.operation_log.specs.Faults.{fault_text};
-ghost use Rattle.operation_log.specs.declared.fault.LogFault.TheVariants.{NoMemory as OutOfMemory};
+ghost use Rattle.operation_log.specs.declared.fault.OperationLogFault.TheVariants.{NoMemory as OutOfMemory};
 
 use gfs_types::no_memory::NoMemory;
 use std::alloc::{AllocError, AllocFailed};
@@ -11,7 +11,7 @@ use std::fmt;
 
 /// Why a call of a log failed.
 #[derive(Clone, Copy, Debug, PartialEq, Eq)]
-pub enum LogFault {
+pub enum OperationLogFault {
     /// There is no room for the record or the item. Nothing has changed.
     Full,
     /// The log's format has no bytes for it: a text is no path, or a list or an index is too long. Nothing has changed.
@@ -24,42 +24,42 @@ pub enum LogFault {
     Damaged,
 }
 
-impl fmt::Display for LogFault {
+impl fmt::Display for OperationLogFault {
     ghost output = { λ fault. Some (fault_text fault) };
 
     fn fmt<W: fmt::Write>(&self, f: &mut fmt::Formatter<W>) -> fmt::Result {
         match self {
-            LogFault::Full => write!(f, "log is full"),
-            LogFault::Unwritable => write!(f, "no log record"),
-            LogFault::NoMemory => write!(f, "no memory"),
-            LogFault::Device => write!(f, "disk failed"),
-            LogFault::Damaged => write!(f, "log is damaged"),
+            OperationLogFault::Full => write!(f, "log is full"),
+            OperationLogFault::Unwritable => write!(f, "no log record"),
+            OperationLogFault::NoMemory => write!(f, "no memory"),
+            OperationLogFault::Device => write!(f, "disk failed"),
+            OperationLogFault::Damaged => write!(f, "log is damaged"),
         }
     }
 }
 
-impl Error for LogFault {}
+impl Error for OperationLogFault {}
 
-impl From<NoMemory> for LogFault {
+impl From<NoMemory> for OperationLogFault {
     ghost from_gives = { λ _ e. e ≡ OutOfMemory };
 
-    fn from(_: NoMemory) -> LogFault {
-        LogFault::NoMemory
+    fn from(_: NoMemory) -> OperationLogFault {
+        OperationLogFault::NoMemory
     }
 }
 
-impl From<AllocError> for LogFault {
+impl From<AllocError> for OperationLogFault {
     ghost from_gives = { λ _ e. e ≡ OutOfMemory };
 
-    fn from(_: AllocError) -> LogFault {
-        LogFault::NoMemory
+    fn from(_: AllocError) -> OperationLogFault {
+        OperationLogFault::NoMemory
     }
 }
 
-impl<T: Drop> From<AllocFailed<T>> for LogFault {
+impl<T: Drop> From<AllocFailed<T>> for OperationLogFault {
     ghost from_gives = { λ _ e. e ≡ OutOfMemory };
 
-    fn from(_: AllocFailed<T>) -> LogFault {
-        LogFault::NoMemory
+    fn from(_: AllocFailed<T>) -> OperationLogFault {
+        OperationLogFault::NoMemory
     }
 }

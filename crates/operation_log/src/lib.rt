@@ -5,3 +5,4 @@ pub mod fault;
 pub mod log;
 pub mod memory;
 pub mod sizes;
+pub mod stoppable;

@@ -5,10 +5,10 @@ ghost use Rattle.log_records.specs.declared.record.Record.{Record};
 ghost use Rattle.log_codec.specs.Payloads.{IsWritable};
 ghost use Rattle.protocol.specs.Logged.{LogDisk, LogChange, AppendRecord, WriteCheckpoint, log_changed};
 ghost use Rattle.protocol.specs.LogSizes.{used_size, record_fits, checkpoint_fits};
-ghost use Rattle.operation_log.specs.declared.fault.LogFault.TheVariants.{Full, Unwritable};
+ghost use Rattle.operation_log.specs.declared.fault.OperationLogFault.TheVariants.{Full, Unwritable};
 ghost use Rattle.operation_log.specs.Logs.{MayBeUnderWay, IsDecided};
 
-use crate::fault::LogFault;
+use crate::fault::OperationLogFault;
 use log_records::record::Record;
 
 /// The master's operation log: the items of the last checkpoint, and the records after it.
@@ -39,7 +39,7 @@ pub trait OperationLog {
 
     /// Adds a record, so that each later stop leaves it. Nothing has changed at Full, which comes exactly where it doesn't fit, and at
     /// Unwritable, which comes exactly where it would fit and the format has no bytes for it. After another error it may be under way.
-    fn append(&mut self, entry: &Record) -> Result<(), LogFault>
+    fn append(&mut self, entry: &Record) -> Result<(), OperationLogFault>
         requires decided { under_way self.old ≡ [] }
         ensures ok { OnOk result (disk self.new ≡ log_changed (disk self.old) (AppendRecord entry.now)) }
         ensures done { OnOk result (under_way self.new ≡ []) }
@@ -52,7 +52,7 @@ pub trait OperationLog {
         ensures size { log_bytes self.new ≡ log_bytes self.old };
 
     /// Begins to write a checkpoint; what was written of another one is forgotten. The log stays as it is.
-    fn begin_checkpoint(&mut self) -> Result<(), LogFault>
+    fn begin_checkpoint(&mut self) -> Result<(), OperationLogFault>
         requires decided { under_way self.old ≡ [] }
         ensures ok { OnOk result (writing self.new ≡ []) }
         ensures disk { disk self.new ≡ disk self.old }
@@ -61,7 +61,7 @@ pub trait OperationLog {
 
     /// Adds an item to the checkpoint that is being written. The log stays as it is. Full comes exactly where the items don't fit
     /// with this one; Unwritable exactly where they do and the format has no bytes for it.
-    fn add_item(&mut self, item: &Record) -> Result<(), LogFault>
+    fn add_item(&mut self, item: &Record) -> Result<(), OperationLogFault>
         requires decided { under_way self.old ≡ [] }
         ensures ok { OnOk result (writing self.new ≡ writing self.old ++ item.now ∷ []) }
         ensures disk { disk self.new ≡ disk self.old }
@@ -71,7 +71,7 @@ pub trait OperationLog {
         ensures size { log_bytes self.new ≡ log_bytes self.old };
 
     /// Ends the checkpoint: its items take the place of the log's items and records. After an error it may be under way.
-    fn end_checkpoint(&mut self) -> Result<(), LogFault>
+    fn end_checkpoint(&mut self) -> Result<(), OperationLogFault>
         requires decided { under_way self.old ≡ [] }
         requires fits { checkpoint_fits (log_bytes self.old) (writing self.old) ≡ true }
         ensures ok { OnOk result (disk self.new ≡ log_changed (disk self.old) (WriteCheckpoint (writing self.old))) }
@@ -81,7 +81,7 @@ pub trait OperationLog {
         ensures size { log_bytes self.new ≡ log_bytes self.old };
 
     /// Decides which of the changes under way were made, as a restart does, and finds the log. After an error nothing is decided.
-    fn reopen(&mut self) -> Result<(), LogFault>
+    fn reopen(&mut self) -> Result<(), OperationLogFault>
         ensures ok { OnOk result (IsDecided (disk self.old) (under_way self.old) (disk self.new)) }
         ensures done { OnOk result (under_way self.new ≡ []) }
         ensures err { OnErr result (disk self.new ≡ disk self.old) }
@@ -94,7 +94,7 @@ pub trait OperationLog {
         ensures { result ≡ length ((disk self.now).items ++ (disk self.now).records) };
 
     /// The item or record at a place, the items first; None behind the last one. Reading them in order goes over the log once.
-    fn entry(&mut self, place: u64) -> Result<Option<Record>, LogFault>
+    fn entry(&mut self, place: u64) -> Result<Option<Record>, OperationLogFault>
         requires decided { under_way self.old ≡ [] }
         ensures value { IfOk result (λ e. e ≡ slice_get ((disk self.old).items ++ (disk self.old).records) place) }
         ensures disk { disk self.new ≡ disk self.old }

@@ -5,7 +5,7 @@ ghost use Rattle.std.specs.Option.{option_copied};
 ghost use Rattle.protocol.specs.LogSizes.{checkpoint_size, checkpoint_fits};
 ghost use Rattle.operation_log.specs.Memory.{new_memory_log};
 
-use crate::fault::LogFault;
+use crate::fault::OperationLogFault;
 use crate::log::OperationLog;
 use crate::sizes::used_with;
 use log_codec::is_writable;
@@ -99,12 +99,12 @@ impl OperationLog for MemoryLog {
         used_with(self.log_bytes, self.used, AROUND_RECORD, entry).is_some()
     }
 
-    fn append(&mut self, entry: &Record) -> Result<(), LogFault> {
+    fn append(&mut self, entry: &Record) -> Result<(), OperationLogFault> {
         let Some(used) = used_with(self.log_bytes, self.used, AROUND_RECORD, entry) else {
-            return Err(LogFault::Full);
+            return Err(OperationLogFault::Full);
         };
         if !is_writable(entry) {
-            return Err(LogFault::Unwritable);
+            return Err(OperationLogFault::Unwritable);
         }
         let record = entry.copy(self.alloc)?;
         self.records.push(record)?;
@@ -112,18 +112,18 @@ impl OperationLog for MemoryLog {
         Ok(())
     }
 
-    fn begin_checkpoint(&mut self) -> Result<(), LogFault> {
+    fn begin_checkpoint(&mut self) -> Result<(), OperationLogFault> {
         self.writing.clear();
         self.written = HEAD;
         Ok(())
     }
 
-    fn add_item(&mut self, item: &Record) -> Result<(), LogFault> {
+    fn add_item(&mut self, item: &Record) -> Result<(), OperationLogFault> {
         let Some(written) = self.written_with(item) else {
-            return Err(LogFault::Full);
+            return Err(OperationLogFault::Full);
         };
         if !is_writable(item) {
-            return Err(LogFault::Unwritable);
+            return Err(OperationLogFault::Unwritable);
         }
         let record = item.copy(self.alloc)?;
         self.writing.push(record)?;
@@ -131,7 +131,7 @@ impl OperationLog for MemoryLog {
         Ok(())
     }
 
-    fn end_checkpoint(&mut self) -> Result<(), LogFault> {
+    fn end_checkpoint(&mut self) -> Result<(), OperationLogFault> {
         self.items = mem::replace(&mut self.writing, Vec::new(self.alloc));
         self.records.clear();
         self.used = self.written;
@@ -139,7 +139,7 @@ impl OperationLog for MemoryLog {
         Ok(())
     }
 
-    fn reopen(&mut self) -> Result<(), LogFault> {
+    fn reopen(&mut self) -> Result<(), OperationLogFault> {
         Ok(())
     }
 
@@ -148,7 +148,7 @@ impl OperationLog for MemoryLog {
         self.items.len() as u64 + self.records.len() as u64
     }
 
-    fn entry(&mut self, place: u64) -> Result<Option<Record>, LogFault> {
+    fn entry(&mut self, place: u64) -> Result<Option<Record>, OperationLogFault> {
         match at(&self.items, &self.records, place) {
             Some(record) => Ok(Some(record.copy(self.alloc)?)),
             None => Ok(None),

@@ -1,4 +1,3 @@
-pub mod Pushed
 pub mod Gates
 pub mod Parsing
 pub mod Areas

@@ -7,7 +7,7 @@ use Rattle.oplog.specs.Disks.{area_of, front_of, head, is_below, later_if_below,
 use Rattle.oplog.specs.declared.fault.LogFault.{LogFault}
 use Rattle.oplog.proofs.Current.{open_front}
 use Rattle.oplog.specs.Opening.{area_found, IsFound, WalksThrough}
-use Rattle.oplog.specs.declared.found.Found.{Found}
+use Rattle.oplog.specs.declared.found.FoundArea.{FoundArea}
 
 -- the first one has the greater number, or the second one has
 abbrev pub IsNewest : Option ℕ → Option ℕ → ℕ → Type 0
@@ -75,7 +75,7 @@ module _ (size : ℕ) (d : List ℕ) (large : 4096 ≤ size) (sized : length d �
   only_area which w area says is = subst (λ (k : ℕ). AreaSays area (area_of size k d)) (same_some w which (sym (current_is w area says) ∙ is)) says.says
 
 -- what was read of the newest area was found
-pub found_says : (d : List ℕ) (which : ℕ) (found : Found) → 4096 ≤ length d → newest (open_number (front_of (length d) 0 d)) (open_number (front_of (length d) 1 d)) ≡ Some which → take 16 d ≡ head ++ 1 ∷ [] → found.which ≡ which
+pub found_says : (d : List ℕ) (which : ℕ) (found : FoundArea) → 4096 ≤ length d → newest (open_number (front_of (length d) 0 d)) (open_number (front_of (length d) 1 d)) ≡ Some which → take 16 d ≡ head ++ 1 ∷ [] → found.which ≡ which
     → AreaSays (area_found found) (area_of (length d) which d) → found.end ≡ end_of (area_found found) → WalksThrough (found.items ++ found.records) found.walk → IsFound found d
 found_says d which found large is headed at says ends through = record {
   says = subst (λ (k : ℕ). DiskSays (length d) k (area_found found) d) (sym at) (newest_says (length d) d large refl which (area_found found) is headed says);
@@ -84,7 +84,7 @@ found_says d which found large is headed at says ends through = record {
 }
 
 -- where something was read
-pub found_if : (d : List ℕ) (which : ℕ) (r : Result Found LogFault) → 4096 ≤ length d → newest (open_number (front_of (length d) 0 d)) (open_number (front_of (length d) 1 d)) ≡ Some which → take 16 d ≡ head ++ 1 ∷ []
+pub found_if : (d : List ℕ) (which : ℕ) (r : Result FoundArea LogFault) → 4096 ≤ length d → newest (open_number (front_of (length d) 0 d)) (open_number (front_of (length d) 1 d)) ≡ Some which → take 16 d ≡ head ++ 1 ∷ []
     → IfOk r (λ x. x.which ≡ which) → IfOk r (λ x. AreaSays (area_found x) (area_of (length d) which d)) → IfOk r (λ x. x.end ≡ end_of (area_found x)) → IfOk r (λ x. WalksThrough (x.items ++ x.records) x.walk) → IfOk r (λ x. IsFound x d)
 found_if d which (Ok x) large is headed at says ends through = found_says d which x large is headed at says ends through
 found_if d which (Err e) large is headed at says ends through = tt

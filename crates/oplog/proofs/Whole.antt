@@ -19,7 +19,7 @@ use Rattle.oplog.specs.Writing.{area_with}
 use Rattle.oplog.specs.NewLogs.{IsLogOf}
 use Rattle.oplog.specs.declared.walk.Walk.{Walk}
 use Rattle.oplog.specs.Opening.{area_found, IsFound, IsOpening, WalksThrough}
-use Rattle.oplog.specs.declared.found.Found.{Found}
+use Rattle.oplog.specs.declared.found.FoundArea.{FoundArea}
 
 no_entries : length (entries []) ≡ 0
 unfolding entries
@@ -54,22 +54,22 @@ pub headed : (b : Bool) → b ≡ true → b ≡ false → ⊥
 headed b opened shut = let both : true ≡ false = sym opened ∙ shut in absurd cc
 
 -- what was found is the disk's log
-pub found_log : (found : Found) (d : List ℕ) → IsFound found d → IsLogOf found.items found.records d
+pub found_log : (found : FoundArea) (d : List ℕ) → IsFound found d → IsLogOf found.items found.records d
 found_log found d is = inr (has_log (length d) found.which (area_found found) d is.says)
 
-pub found_logs : (r : Result Found LogFault) (d : List ℕ) → IfOk r (λ x. IsFound x d) → IfOk r (λ x. IsLogOf x.items x.records d)
+pub found_logs : (r : Result FoundArea LogFault) (d : List ℕ) → IfOk r (λ x. IsFound x d) → IfOk r (λ x. IsLogOf x.items x.records d)
 found_logs (Ok x) d is = found_log x d is
 found_logs (Err e) d is = tt
 
 abbrev pub state_of : ℕ → List Record → List Record → AreaState
 state_of number items records = record { number = number; items = items; records = records }
 
-nothing_found : (found : Found) → found.number ≡ 1 → found.items ≡ [] → found.records ≡ [] → area_found found ≡ area_with 1 []
+nothing_found : (found : FoundArea) → found.number ≡ 1 → found.items ≡ [] → found.records ≡ [] → area_found found ≡ area_with 1 []
 nothing_found found number items records =
     ap (λ (k : ℕ). state_of k found.items found.records) number ∙ ap (λ (l : List Record). state_of 1 l found.records) items ∙ ap (λ (l : List Record). state_of 1 [] l) records
 
 -- a log that was formatted was found
-pub formatted_found : (found : Found) (n : ℕ) (d : List ℕ) → found.which ≡ 0 → found.number ≡ 1 → found.items ≡ [] → found.records ≡ [] → found.end ≡ 13 → found.walk ≡ None → DiskSays n 0 (area_with 1 []) d → IsFound found d
+pub formatted_found : (found : FoundArea) (n : ℕ) (d : List ℕ) → found.which ≡ 0 → found.number ≡ 1 → found.items ≡ [] → found.records ≡ [] → found.end ≡ 13 → found.walk ≡ None → DiskSays n 0 (area_with 1 []) d → IsFound found d
 formatted_found found n d at number items records ends no_walk says =
     let empty = nothing_found found number items records in
     let of_size : DiskSays (length d) 0 (area_with 1 []) d = subst (λ (k : ℕ). DiskSays k 0 (area_with 1 []) d) (sym says.sized) says in
@@ -106,7 +106,7 @@ module _ {D : Type 0} (seen : D → List ℕ) (may_leave : D → List ℕ → Ty
   still_only mid new durable reads c left = durable c (reads.crash c left) ∙ sym reads.seen_same
 
   -- a log is open, with what was found on its disk
-  pub found_open : (disk : D) (found : Found) (size start room : ℕ) → 4096 ≤ length (seen disk) → length (seen disk) ≤ 1073741824 → IsFound found (seen disk) → Only (seen disk) (may_leave disk) → size ≡ length (seen disk) → start ≡ area_at size found.which → room ≡ area_size size
+  pub found_open : (disk : D) (found : FoundArea) (size start room : ℕ) → 4096 ≤ length (seen disk) → length (seen disk) ≤ 1073741824 → IsFound found (seen disk) → Only (seen disk) (may_leave disk) → size ≡ length (seen disk) → start ≡ area_at size found.which → room ≡ area_size size
       → IsOpen seen may_leave (record { disk = disk; size = size; which = found.which; start = start; room = room; number = found.number; end = found.end }) (area_found found)
   found_open disk found size start room large small is durable sized at has_room = record {
     says = subst (λ (k : ℕ). DiskSays k found.which (area_found found) (seen disk)) (sym sized) is.says;

@@ -1,4 +1,3 @@
-pub mod Counted
 pub mod Entries
 pub mod Order
 pub mod Areas

@@ -6,7 +6,7 @@ use Rattle.oplog.specs.declared.walk.Walk.{Walk}
 use Rattle.oplog.specs.Disks.{is_formatted, DiskSays}
 use Rattle.log_records.specs.declared.record.Record.{Record}
 use Rattle.oplog.specs.NewLogs.{IsLogOf}
-use Rattle.oplog.specs.declared.found.Found.{Found}
+use Rattle.oplog.specs.declared.found.FoundArea.{FoundArea}
 
 -- A stop within an opening leaves what one before it might have left; or an empty log, where none stood there.
 abbrev pub IsOpening : List ℕ → (List ℕ → Type 0) → List ℕ → Type 0
@@ -17,11 +17,11 @@ abbrev pub WalksThrough : List Record → Option Walk → Type 0
 WalksThrough all None = Unit {0}
 WalksThrough all (Some walk) = IsWalk all walk
 
-abbrev pub area_found : Found → AreaState
+abbrev pub area_found : FoundArea → AreaState
 area_found found = record { number = found.number; items = found.items; records = found.records }
 
 -- What was found is what the disk says.
-pub record IsFound (found : Found) (disk : List ℕ) : Type 0 where
+pub record IsFound (found : FoundArea) (disk : List ℕ) : Type 0 where
   pub says : DiskSays (length disk) found.which (area_found found) disk
   pub end : found.end ≡ end_of (area_found found)
   pub walk : WalksThrough (found.items ++ found.records) found.walk

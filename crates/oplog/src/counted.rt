@@ -2,7 +2,7 @@
 
 ghost use Rattle.std.specs.Prelude.{◌≡◌, ◌==◌, ◌<◌, ◌^◌, ◌++◌, ◌∷◌, [], length};
 
-use http_server::Log;
+use ghost_list::GhostList;
 use log_records::record::Record;
 use std::marker::Model;
 
@@ -11,19 +11,18 @@ use std::marker::Model;
 #[derive(Drop)]
 pub struct CountedRecords {
     count: usize,
-    records: Log<Record, ()>,
+    records: GhostList<Record>,
 }
 
 impl Model for CountedRecords {
     ghost use Rattle.std.specs.Prelude.{◌≡◌, List, length};
     ghost use Rattle.log_records.specs.declared.record.Record.{Record};
-    ghost use Rattle.oplog.specs.Counted.{firsts};
 
     ghost Value = { List Record };
 
-    ghost view = { λ c. firsts c.records.items };
+    ghost view = { λ c. c.records.items };
 
-    ghost invariant = { λ c. c.count ≡ length (firsts c.records.items) };
+    ghost invariant = { λ c. c.count ≡ length c.records.items };
 }
 
 impl CountedRecords {
@@ -33,7 +32,7 @@ impl CountedRecords {
     {
         CountedRecords {
             count: 0,
-            records: Log::new(),
+            records: GhostList::new(),
         }
     }
 
@@ -54,7 +53,7 @@ impl CountedRecords {
         ensures { self.new ≡ self.old ++ entry.now ∷ [] }
     {
         self.count += 1;
-        self.records = self.records.and(entry, &());
+        self.records = self.records.and(entry);
     }
 
     /// How many records there are.

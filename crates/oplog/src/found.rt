@@ -4,7 +4,7 @@ use crate::{CountedRecords, Walk};
 
 /// Which area is current, what it says, and a walk through its entries, where it has any.
 #[derive(Drop)]
-pub struct Found {
+pub struct FoundArea {
     pub which: usize,
     pub number: u64,
     pub end: usize,

@@ -28,7 +28,7 @@ pub use counted::CountedRecords;
 pub use disk_reading::{newest, open_number, read_range};
 pub use entry_writing::put_entry;
 pub use fault::LogFault;
-pub use found::Found;
+pub use found::FoundArea;
 pub use layout::{area_at, area_size};
 pub use log::Log;
 pub use new_log::format;

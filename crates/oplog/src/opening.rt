@@ -10,7 +10,7 @@ ghost use Rattle.oplog.specs.declared.fault.LogFault.TheVariants as faults;
 ghost use Rattle.oplog.specs.NewLogs.{IsLogOf};
 ghost use Rattle.oplog.specs.Opening.{IsFound, IsOpening, WalksThrough};
 
-use crate::found::Found;
+use crate::found::FoundArea;
 use crate::reading::{read_head, read_log};
 use crate::{CountedRecords, Log, LogFault, Walk, area_at, area_size, format};
 use disk::Disk;
@@ -43,7 +43,7 @@ fn is_head(bytes: &[u8]) -> bool
 }
 
 // What a disk with an open head says; `front` is its first 16 bytes.
-fn read_headed<D: Disk>(disk: &mut D, alloc: Global, front: &[u8]) -> Result<Found, LogFault>
+fn read_headed<D: Disk>(disk: &mut D, alloc: Global, front: &[u8]) -> Result<FoundArea, LogFault>
     requires large { 4096 ≤ length (D.seen disk.old) }
     requires front { front.now ≡ take 16 (D.seen disk.old) }
     requires headed { is_formatted (D.seen disk.old) ≡ true }
@@ -61,7 +61,7 @@ fn read_headed<D: Disk>(disk: &mut D, alloc: Global, front: &[u8]) -> Result<Fou
 }
 
 // Formats a disk with a closed head.
-fn format_new<D: Disk>(disk: &mut D, alloc: Global) -> Result<Found, LogFault>
+fn format_new<D: Disk>(disk: &mut D, alloc: Global) -> Result<FoundArea, LogFault>
     requires large { 4096 ≤ length (D.seen disk.old) }
     requires new { is_formatted (D.seen disk.old) ≡ false }
     requires durable { Only (D.seen disk.old) (D.may_leave disk.old) }
@@ -75,7 +75,7 @@ fn format_new<D: Disk>(disk: &mut D, alloc: Global) -> Result<Found, LogFault>
     ensures cause { MayFail (D.failed disk.old) (D.failed disk.new) result }
 {
     format(disk, alloc)?;
-    Ok(Found {
+    Ok(FoundArea {
         which: 0,
         number: 1,
         end: 13,
@@ -86,7 +86,7 @@ fn format_new<D: Disk>(disk: &mut D, alloc: Global) -> Result<Found, LogFault>
 }
 
 /// What stands on the disk. An empty log is formatted where none does.
-pub fn open_disk<D: Disk>(disk: &mut D, alloc: Global) -> Result<Found, LogFault>
+pub fn open_disk<D: Disk>(disk: &mut D, alloc: Global) -> Result<FoundArea, LogFault>
     requires { 4096 ≤ length (D.seen disk.old) }
     ensures found { IfOk result (λ x. IsFound x (D.seen disk.new)) }
     ensures size { OnOk result (length (D.seen disk.new) ≡ length (D.seen disk.old)) }
@@ -106,7 +106,7 @@ pub fn open_disk<D: Disk>(disk: &mut D, alloc: Global) -> Result<Found, LogFault
 }
 
 // An open log, where this was found on its disk.
-fn make_opened<D: Disk>(disk: D, found: Found) -> Opened<D>
+fn make_opened<D: Disk>(disk: D, found: FoundArea) -> Opened<D>
     requires large { 4096 ≤ length (D.seen disk) }
     requires small { length (D.seen disk) ≤ 1073741824 }
     requires found { IsFound found (D.seen disk) }

@@ -12,7 +12,7 @@ ghost use Rattle.oplog.specs.declared.fault.LogFault.TheVariants as faults;
 ghost use Rattle.oplog.specs.NewLogs.{IsLogOf};
 ghost use Rattle.oplog.specs.Opening.{area_found, IsFound, WalksThrough};
 
-use crate::found::Found;
+use crate::found::FoundArea;
 use crate::{Log, LogFault, Walk, area_at, area_size, newest, open_number, read_area, read_range};
 use disk::{Disk, DiskFault};
 use log_codec::DecodeFault;
@@ -66,7 +66,7 @@ fn find_current<D: Disk>(disk: &mut D, alloc: Global) -> Result<Option<usize>, D
 }
 
 // What an area with these bytes says.
-fn found_in(which: usize, bytes: Vec<u8>, alloc: Global) -> Result<Found, DecodeFault>
+fn found_in(which: usize, bytes: Vec<u8>, alloc: Global) -> Result<FoundArea, DecodeFault>
     ensures which { IfOk result (λ x. x.which ≡ which) }
     ensures says { IfOk result (λ x. AreaSays (area_found x) bytes.items) }
     ensures end { IfOk result (λ x. x.end ≡ end_of (area_found x)) }
@@ -77,7 +77,7 @@ fn found_in(which: usize, bytes: Vec<u8>, alloc: Global) -> Result<Found, Decode
     let walk = Walk::begin(bytes)?;
     let (number, end) = (area.number(), area.end());
     let (items, records) = area.into_parts();
-    Ok(Found {
+    Ok(FoundArea {
         which,
         number,
         end,
@@ -88,7 +88,7 @@ fn found_in(which: usize, bytes: Vec<u8>, alloc: Global) -> Result<Found, Decode
 }
 
 // What an area says.
-fn read_current<D: Disk>(disk: &mut D, alloc: Global, which: usize) -> Result<Found, LogFault>
+fn read_current<D: Disk>(disk: &mut D, alloc: Global, which: usize) -> Result<FoundArea, LogFault>
     requires large { 4096 ≤ length (D.seen disk.old) }
     requires which { which < 2 }
     ensures which { IfOk result (λ x. x.which ≡ which) }
@@ -110,7 +110,7 @@ fn read_current<D: Disk>(disk: &mut D, alloc: Global, which: usize) -> Result<Fo
 }
 
 /// What a disk with an open head says.
-pub fn read_log<D: Disk>(disk: &mut D, alloc: Global) -> Result<Found, LogFault>
+pub fn read_log<D: Disk>(disk: &mut D, alloc: Global) -> Result<FoundArea, LogFault>
     requires large { 4096 ≤ length (D.seen disk.old) }
     requires headed { take 16 (D.seen disk.old) ≡ head ++ 1 ∷ [] }
     ensures found { IfOk result (λ x. IsFound x (D.seen disk.old)) }

@@ -6,7 +6,7 @@ use Rattle.std.specs.List.{list_any}
 use Rattle.gfs_types.specs.Paths.{root}
 use Rattle.path_trie.specs.Entries.{AllFrom, under, own, is_nothing}
 use Rattle.path_trie.specs.Nodes.{IsWhole}
-use Rattle.path_trie.specs.declared.node.Node.{Node}
+use Rattle.path_trie.specs.declared.node.TrieNode.{TrieNode}
 use Rattle.path_trie.specs.Behind.{rest_of, with_rest, behind, is_longer, has_more}
 
 same_either : (x y : ℕ) → (x == y) ≡ (y == x)
@@ -105,7 +105,7 @@ module _ {X : Type 0} where
   slash_here f (c ∷ rest) names es is h some = sym (ap (λ l. not (is_nothing l)) (behind_both f root names ∙ ap (behind root) is) ∙ slash_under c rest es some)
 
   -- what is said of a place, where there is one
-  pub alive_there : {Y : Type 0} (o : Option (Y × Bor (Node X (List (List ℕ × X))))) (names : List (List ℕ × X))
+  pub alive_there : {Y : Type 0} (o : Option (Y × Bor (TrieNode X (List (List ℕ × X))))) (names : List (List ℕ × X))
       → MatchOption o (names ≡ []) (λ p. IsWhole p.1.now) → MatchOption o (names ≡ []) (λ p. 1 ≤ length (own p.1.now.value ++ p.1.now.below))
   alive_there None names h = h
   alive_there (Some p) names h = h.alive

@@ -5,7 +5,7 @@ use Rattle.path_trie.specs.Fronts.{first_byte}
 use Rattle.path_trie.specs.Turns.{IsCut}
 use Rattle.path_trie.specs.Entries.{BeginsFrom, AllFrom, under, level, IsPlaced, IsNode, find_path, put_path}
 use Rattle.path_trie.specs.Nodes.{says, IsWhole, IsLoose, IsBranch}
-use Rattle.path_trie.specs.declared.node.Node.{Node}
+use Rattle.path_trie.specs.declared.node.TrieNode.{TrieNode}
 use Rattle.path_trie.proofs.Levels.{all_level, all_put, put_at, put_below, put_next, put_front, level_cut, find_at, find_below, find_next, find_above}
 use Rattle.path_trie.proofs.Joins.{begins_append, first_append, with_next, with_value, level_next}
 
@@ -59,33 +59,33 @@ later_apart l p h lt rest e = numbers_apart (first_byte l) (first_byte p) lt (sy
 
 module _ {X : Type 0} where
   -- a node with its label cut, and one with another value
-  abbrev pub front : ℕ → Node X (List (List ℕ × X)) → Node X (List (List ℕ × X))
+  abbrev pub front : ℕ → TrieNode X (List (List ℕ × X)) → TrieNode X (List (List ℕ × X))
   front k n = record { label = take k n.label; value = None; below = []; next = n.next }
 
-  abbrev pub set_value : Option X → Node X (List (List ℕ × X)) → Node X (List (List ℕ × X))
+  abbrev pub set_value : Option X → TrieNode X (List (List ℕ × X)) → TrieNode X (List (List ℕ × X))
   set_value v n = record { label = n.label; value = v; below = n.below; next = n.next }
 
   -- a branch before other names
-  pub ahead : (n : Node X (List (List ℕ × X))) (q : List ℕ) (x : X) (es : List (List ℕ × X)) → IsBranch n q x → AllFrom (suc (first_byte q)) es → level n.label n.value n.below es ≡ put_path q x es
+  pub ahead : (n : TrieNode X (List (List ℕ × X))) (q : List ℕ) (x : X) (es : List (List ℕ × X)) → IsBranch n q x → AllFrom (suc (first_byte q)) es → level n.label n.value n.below es ≡ put_path q x es
   ahead n q x es b a =
       level_next n.label n.value n.below n.next es b.alone ∙ ap (λ xs. xs ++ es) b.only ∙ sym (put_front q x es b.filled a)
 
-  pub ahead_node : (n : Node X (List (List ℕ × X))) (q : List ℕ) (x : X) (es : List (List ℕ × X)) → IsBranch n q x → AllFrom (suc (first_byte q)) es → IsNode n.label n.value n.below es
+  pub ahead_node : (n : TrieNode X (List (List ℕ × X))) (q : List ℕ) (x : X) (es : List (List ℕ × X)) → IsBranch n q x → AllFrom (suc (first_byte q)) es → IsNode n.label n.value n.below es
   ahead_node n q x es b a = with_next n.label n.value n.below n.next es b.whole (subst (λ c. AllFrom (suc c) es) (sym b.begins) a)
 
   -- two siblings, by the first bytes of their labels
-  pub first_node : (m n : Node X (List (List ℕ × X))) → IsWhole m → IsLoose n → first_byte m.label < first_byte n.label → IsNode m.label m.value m.below (says n)
+  pub first_node : (m n : TrieNode X (List (List ℕ × X))) → IsWhole m → IsLoose n → first_byte m.label < first_byte n.label → IsNode m.label m.value m.below (says n)
   first_node m n g h p = with_next m.label m.value m.below m.next (says n) g (all_level (suc (first_byte m.label)) n.label n.value n.below n.next h p)
 
-  pub later_placed : (m n : Node X (List (List ℕ × X))) → IsLoose m → IsWhole n → first_byte m.label < first_byte n.label → IsPlaced m.label m.below (says n)
+  pub later_placed : (m n : TrieNode X (List (List ℕ × X))) → IsLoose m → IsWhole n → first_byte m.label < first_byte n.label → IsPlaced m.label m.below (says n)
   later_placed m n g h p = record { labelled = g.labelled; below_filled = g.below_filled; rising = all_level (suc (first_byte m.label)) n.label n.value n.below n.next h.placed p }
 
-  pub leaf_first : (tail leaf : Node X (List (List ℕ × X))) (q : List ℕ) (x : X) → IsLoose tail → IsBranch leaf q x → first_byte leaf.label < first_byte tail.label → level leaf.label leaf.value leaf.below (says tail) ≡ put_path q x (says tail)
+  pub leaf_first : (tail leaf : TrieNode X (List (List ℕ × X))) (q : List ℕ) (x : X) → IsLoose tail → IsBranch leaf q x → first_byte leaf.label < first_byte tail.label → level leaf.label leaf.value leaf.below (says tail) ≡ put_path q x (says tail)
   leaf_first tail leaf q x h b p =
       ahead leaf q x (says tail) b
       (all_level (suc (first_byte q)) tail.label tail.value tail.below tail.next h (subst (λ c. c < first_byte tail.label) b.begins p))
 
-  pub leaf_later : (tail leaf : Node X (List (List ℕ × X))) (q : List ℕ) (x : X) → IsLoose tail → tail.next ≡ [] → IsBranch leaf q x → first_byte tail.label < first_byte leaf.label → level tail.label tail.value tail.below (says leaf) ≡ put_path q x (says tail)
+  pub leaf_later : (tail leaf : TrieNode X (List (List ℕ × X))) (q : List ℕ) (x : X) → IsLoose tail → tail.next ≡ [] → IsBranch leaf q x → first_byte tail.label < first_byte leaf.label → level tail.label tail.value tail.below (says leaf) ≡ put_path q x (says tail)
   leaf_later tail leaf q x h alone b p =
       ap (λ xs. level tail.label tail.value tail.below xs) (b.only ∙ ap (put_path q x) (sym alone))
       ∙ sym (put_next tail.label q x tail.value tail.below tail.next h (begins_above (first_byte tail.label) q (subst (λ c. first_byte tail.label < c) b.begins p)))

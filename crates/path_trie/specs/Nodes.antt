@@ -2,25 +2,25 @@
 use Rattle.std.specs.Prelude.{◌≡◌, ℕ, List, [], ◌∷◌}
 use Rattle.path_trie.specs.Fronts.{first_byte}
 use Rattle.path_trie.specs.Entries.{BeginsFrom, level, IsPlaced, IsNode}
-use Rattle.path_trie.specs.declared.node.Node.{Node}
+use Rattle.path_trie.specs.declared.node.TrieNode.{TrieNode}
 use Rattle.path_trie.specs.declared.tree.Link.{Link}
 use Rattle.path_trie.specs.declared.tree.Link.TheVariants.{End, More}
 
 module _ {X : Type 0} where
   -- what a node and its later siblings stand for
-  abbrev pub says : Node X (List (List ℕ × X)) → List (List ℕ × X)
+  abbrev pub says : TrieNode X (List (List ℕ × X)) → List (List ℕ × X)
   says n = level n.label n.value n.below n.next
 
   -- it is a node of a tree in order
-  abbrev pub IsWhole : Node X (List (List ℕ × X)) → Type 0
+  abbrev pub IsWhole : TrieNode X (List (List ℕ × X)) → Type 0
   IsWhole n = IsNode n.label n.value n.below n.next
 
   -- its parts are in their places
-  abbrev pub IsLoose : Node X (List (List ℕ × X)) → Type 0
+  abbrev pub IsLoose : TrieNode X (List (List ℕ × X)) → Type 0
   IsLoose n = IsPlaced n.label n.below n.next
 
   -- it says one path alone
-  pub record IsBranch (n : Node X (List (List ℕ × X))) (path : List ℕ) (value : X) : Type 0 where
+  pub record IsBranch (n : TrieNode X (List (List ℕ × X))) (path : List ℕ) (value : X) : Type 0 where
     pub whole : IsWhole n
     pub only : says n ≡ (path, value) ∷ []
     pub alone : n.next ≡ []

@@ -8,7 +8,7 @@ ghost use Rattle.path_trie.specs.Nodes.{says, IsWhole, IsLoose, IsBranch};
 
 use crate::front::first_byte;
 use crate::label::{LABEL_LEN, Label};
-use crate::node::Node;
+use crate::node::TrieNode;
 use crate::tidy::tidied;
 use crate::tree::{Boxed, Link, Tree};
 use gfs_types::no_memory::NoMemory;
@@ -20,7 +20,7 @@ fn bare<V: Drop, A: Allocator + Clone>(alloc: &A, label: &[u8]) -> Result<Boxed<
     requires { length label.now ≤ 24 }
     ensures { IfOk result (λ n. n.value ≡ record { label = label.now; value = None; below = []; next = [] }) }
 {
-    let node = Node {
+    let node = TrieNode {
         label: Label::of(label),
         value: None,
         below: Tree::new(),

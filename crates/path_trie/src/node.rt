@@ -7,14 +7,14 @@ use std::mem;
 
 /// A label, what stands at its end, what goes on there, and the later siblings.
 #[derive(Drop)]
-pub struct Node<V, T> {
+pub struct TrieNode<V, T> {
     pub label: Label,
     pub value: Option<V>,
     pub below: T,
     pub next: T,
 }
 
-impl<V: Drop, T: Drop> Node<V, T> {
+impl<V: Drop, T: Drop> TrieNode<V, T> {
     /// Puts a value at its end.
     pub fn set_value(&mut self, value: Option<V>)
         ensures { self.new ≡ record { label = self.old.label; value = value; below = self.old.below; next = self.old.next } }

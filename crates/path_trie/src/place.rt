@@ -6,7 +6,7 @@ ghost use Rattle.path_trie.specs.Nodes.{IsWhole};
 ghost use Rattle.path_trie.specs.Behind.{behind};
 
 use crate::front::rest_behind;
-use crate::node::Node;
+use crate::node::TrieNode;
 use crate::tree::Tree;
 use std::alloc::Allocator;
 
@@ -14,7 +14,7 @@ use std::alloc::Allocator;
 pub fn place<'a, V: Drop, A: Allocator + Clone>(
     tree: &'a Tree<V, A>,
     front: &[u8],
-) -> Option<(&'a [u8], &'a Node<V, Tree<V, A>>)>
+) -> Option<(&'a [u8], &'a TrieNode<V, Tree<V, A>>)>
     requires { BeginsFrom 0 front.now }
     ensures names { MatchOption result (behind front.now tree.now ≡ []) (λ p. behind front.now tree.now ≡ under p.0.now (own p.1.now.value ++ p.1.now.below)) }
     ensures whole { MatchOption result (behind front.now tree.now ≡ []) (λ p. IsWhole p.1.now) }

@@ -5,17 +5,17 @@ ghost use Rattle.path_trie.specs.Entries.{level, is_nothing};
 ghost use Rattle.path_trie.specs.Nodes.{says, IsWhole, IsLoose};
 
 use crate::label::LABEL_LEN;
-use crate::node::Node;
+use crate::node::TrieNode;
 use crate::tree::{Boxed, Link, Tree};
 use std::alloc::Allocator;
 use std::mem;
 
 // Takes what a node says at its end and below it from the only node there, with its label.
-fn absorb<V: Drop, T: Drop>(node: &mut Node<V, T>, child: Node<V, T>)
+fn absorb<V: Drop, T: Drop>(node: &mut TrieNode<V, T>, child: TrieNode<V, T>)
     requires { length node.old.label + length child.label ≤ 24 }
     ensures { node.new ≡ record { label = node.old.label ++ child.label; value = child.value; below = child.below; next = node.old.next } }
 {
-    let Node {
+    let TrieNode {
         label,
         value,
         below,
@@ -28,8 +28,8 @@ fn absorb<V: Drop, T: Drop>(node: &mut Node<V, T>, child: Node<V, T>)
 
 // Whether a node below is alone, and its label has room beside this one.
 fn has_room<V: Drop, A: Allocator + Clone>(
-    node: &Node<V, Tree<V, A>>,
-    child: &Node<V, Tree<V, A>>,
+    node: &TrieNode<V, Tree<V, A>>,
+    child: &TrieNode<V, Tree<V, A>>,
 ) -> bool
     ensures { result ≡ (is_nothing child.now.next && nat_le (length node.now.label + length child.now.label) 24) }
 {
@@ -61,7 +61,7 @@ pub fn tidied<V: Drop, A: Allocator + Clone>(mut node: Boxed<V, A>) -> Tree<V, A
     }
     match mem::replace(&mut node.below, Tree::new()).open() {
         Link::End => {
-            let Node { next, .. } = Box::into_inner(node);
+            let TrieNode { next, .. } = Box::into_inner(node);
             next
         }
         Link::More(child) => joined(node, child),

@@ -5,7 +5,7 @@ ghost use Rattle.path_trie.specs.Entries.{find_path, is_nothing, bytes_in};
 ghost use Rattle.path_trie.specs.Nodes.{says, IsWhole, entries_of, IsInOrder};
 
 use crate::front::rest_behind;
-use crate::node::Node;
+use crate::node::TrieNode;
 use std::alloc::Allocator;
 use std::marker::Model;
 
@@ -20,7 +20,7 @@ pub struct Tree<V, A: Allocator> {
 #[derive(Drop)]
 pub enum Link<V, A: Allocator> {
     End,
-    More(Box<Node<V, Tree<V, A>>, A>),
+    More(Box<TrieNode<V, Tree<V, A>>, A>),
 }
 
 impl<V, A: Allocator> Model for Tree<V, A> {
@@ -53,7 +53,7 @@ impl<V: Drop, A: Allocator> Drop for Tree<V, A> {
             match top {
                 Link::End => return,
                 Link::More(node) => {
-                    let Node { next, .. } = Box::into_inner(node);
+                    let TrieNode { next, .. } = Box::into_inner(node);
                     top = next.open();
                 }
             }
@@ -62,7 +62,7 @@ impl<V: Drop, A: Allocator> Drop for Tree<V, A> {
 }
 
 /// A node on the heap.
-pub type Boxed<V, A> = Box<Node<V, Tree<V, A>>, A>;
+pub type Boxed<V, A> = Box<TrieNode<V, Tree<V, A>>, A>;
 
 impl<V: Drop, A: Allocator> Tree<V, A> {
     /// The first node.
@@ -99,7 +99,7 @@ impl<V: Drop, A: Allocator + Clone> Tree<V, A> {
     }
 
     /// The first node, to be read.
-    pub fn top(&self) -> Option<&Node<V, Tree<V, A>>>
+    pub fn top(&self) -> Option<&TrieNode<V, Tree<V, A>>>
         ensures { MatchOption result (self.now ≡ []) (λ n. (self.now ≡ says n.now) × IsWhole n.now) }
     {
         match &self.top {

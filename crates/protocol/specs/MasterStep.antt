@@ -7,8 +7,8 @@ use Rattle.gfs_types.specs.declared.config.Config.{Config}
 use Rattle.messages.specs.declared.message.Body.{Body}
 use Rattle.messages.specs.declared.message.Body.TheVariants as body
 use Rattle.messages.specs.declared.message.Message.{Message}
-use Rattle.messages.specs.declared.event.Input.{Input}
-use Rattle.messages.specs.declared.event.Input.TheVariants as input
+use Rattle.messages.specs.declared.event.NodeInput.{NodeInput}
+use Rattle.messages.specs.declared.event.NodeInput.TheVariants as input
 use Rattle.log_records.specs.declared.record.Record.TheVariants as log
 use Rattle.gfs_types.specs.Paths.{Path, trash, is_child}
 use Rattle.relaxed_file.specs.Names.{Node, Dir, File}
@@ -99,7 +99,7 @@ master_takes d m (body.Cloned handle version) = takes_cloned d (server_number m.
 master_takes d m (body.Report replicas leases) = takes_report d (server_number m.sender) replicas leases
 master_takes d m other = d
 
-abbrev pub master_does : MasterDoing → Input → MasterDoing
+abbrev pub master_does : MasterDoing → NodeInput → MasterDoing
 master_does d (input.Deliver m) = master_takes d m m.body
 master_does d input.Tick = master_ticks d
 
@@ -112,7 +112,7 @@ abbrev pub finishes : MasterDoing → MasterDoing
 finishes d = takes_ready d d.master.snapshots
 
 -- the step of a master that is up, where nothing hinders it
-abbrev pub master_goes : MasterState → ℕ → Input → List Bool → MasterDoing
+abbrev pub master_goes : MasterState → ℕ → NodeInput → List Bool → MasterDoing
 master_goes m moment i refused = finishes (master_does (master_begins (master_at m moment) refused) i)
 
 -- No counter is past its limit, and no place in a file either: a chunk's index is below the next handle.
@@ -141,7 +141,7 @@ abbrev pub master_bounded : MasterState → MasterDoing → Choice → Taken Mas
 master_bounded m d choice = if may_end d choice.ending then master_ends m d choice choice.ending else no_step m
 
 -- one that is down takes nothing
-abbrev pub master_step : MasterState → ℕ → Input → Choice → Taken MasterState
+abbrev pub master_step : MasterState → ℕ → NodeInput → Choice → Taken MasterState
 master_step m moment i choice = if m.up then master_bounded m (master_goes m moment i choice.refused) choice else no_step m
 
 -- what a restart finds on the disk

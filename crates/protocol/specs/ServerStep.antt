@@ -7,8 +7,8 @@ use Rattle.messages.specs.declared.message.Body.TheVariants as body
 use Rattle.messages.specs.declared.message.Message.{Message}
 use Rattle.messages.specs.declared.message.ReplicaLine.{ReplicaLine}
 use Rattle.messages.specs.declared.message.LeaseLine.{LeaseLine}
-use Rattle.messages.specs.declared.event.Input.{Input}
-use Rattle.messages.specs.declared.event.Input.TheVariants as input
+use Rattle.messages.specs.declared.event.NodeInput.{NodeInput}
+use Rattle.messages.specs.declared.event.NodeInput.TheVariants as input
 use Rattle.protocol.specs.Tables.{Table, kept_where, map_values}
 use Rattle.protocol.specs.Choice.{Choice, Ending, Goes, Lost, Stops, in_order, decided_changes, made_changes, change_under_way}
 use Rattle.protocol.specs.Sending.{handle_of, version_of, server_number}
@@ -62,7 +62,7 @@ server_takes d m (body.CopyAsk handle version) = takes_copy_ask d m.sender handl
 server_takes d m (body.Image handle version serial bytes) = takes_image d handle.0 version.0 serial.0 bytes
 server_takes d m other = d
 
-abbrev pub server_does : ServerDoing → Input → ServerDoing
+abbrev pub server_does : ServerDoing → NodeInput → ServerDoing
 server_does d (input.Deliver m) = server_takes d m m.body
 server_does d input.Tick = server_ticks d
 
@@ -71,7 +71,7 @@ abbrev pub server_at : ServerState → ℕ → ServerState
 server_at s moment = record s { now = max s.now moment }
 
 -- the step of a server that is up, where nothing hinders it
-abbrev pub server_goes : ServerState → ℕ → Input → ServerDoing
+abbrev pub server_goes : ServerState → ℕ → NodeInput → ServerDoing
 server_goes s moment i = server_does (server_begins (server_at s moment)) i
 
 abbrev pub server_ends : ServerState → ServerDoing → Choice → Ending → Taken ServerState
@@ -85,7 +85,7 @@ server_ends s d choice (Stops made) =
     }
 
 -- one that is down takes nothing
-abbrev pub server_step : ServerState → ℕ → Input → Choice → Taken ServerState
+abbrev pub server_step : ServerState → ℕ → NodeInput → Choice → Taken ServerState
 server_step s moment i choice = if s.up then server_ends s (server_goes s moment i) choice choice.ending else no_step s
 
 -- what a restart finds on the disk

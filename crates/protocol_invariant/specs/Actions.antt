@@ -16,8 +16,8 @@ use Rattle.messages.specs.declared.message.NameReply.TheVariants.{Opened, Answer
 use Rattle.messages.specs.declared.message.Location.{Location}
 use Rattle.messages.specs.declared.event.Event.{Event}
 use Rattle.messages.specs.declared.event.Event.TheVariants as event
-use Rattle.messages.specs.declared.event.Input.{Input}
-use Rattle.messages.specs.declared.event.Input.TheVariants as input
+use Rattle.messages.specs.declared.event.NodeInput.{NodeInput}
+use Rattle.messages.specs.declared.event.NodeInput.TheVariants as input
 use Rattle.log_records.specs.declared.record.Record.{Record}
 use Rattle.log_records.specs.declared.record.Record.TheVariants as log
 use Rattle.chunk_table.specs.ChunkTable.{ChunkRow, ChunkTable, chunk_of}
@@ -265,7 +265,7 @@ at_client_end m client (Some c) (Some x) Goes = at_client_body m client c c.stag
 at_client_end m client c x ending = []
 
 -- the input of an event
-abbrev pub input_of : Option Message → Input
+abbrev pub input_of : Option Message → NodeInput
 input_of None = input.Tick
 input_of (Some x) = input.Deliver x
 

@@ -9,8 +9,8 @@ use Rattle.gfs_types.specs.declared.ids.ClientId.{ClientId}
 use Rattle.gfs_types.specs.declared.call.Call.{Call}
 use Rattle.messages.specs.declared.event.Event.{Event}
 use Rattle.messages.specs.declared.event.Event.TheVariants as event
-use Rattle.messages.specs.declared.event.Input.{Input}
-use Rattle.messages.specs.declared.event.Input.TheVariants as input
+use Rattle.messages.specs.declared.event.NodeInput.{NodeInput}
+use Rattle.messages.specs.declared.event.NodeInput.TheVariants as input
 use Rattle.messages.specs.declared.event.StepOut.{StepOut}
 use Rattle.protocol.specs.Tables.{moment_limit}
 use Rattle.protocol.specs.Choice.{Choice}
@@ -23,7 +23,7 @@ use Rattle.protocol.specs.Client.{ClientState}
 use Rattle.protocol.specs.ClientStep.{may_call, client_call, client_step}
 use Rattle.protocol.specs.Observer.{Observer, observed_moment, observed_call, observed_answer}
 use Rattle.protocol.specs.World.{WorldState, Happened, nothing_happens, numbered_from_1, stamped, after_master, after_server, after_client, server_moves, client_moves, moves, delivered, server_restarts_at, restarts, call_moves, at_moment, happens}
-use Rattle.protocol_journal.specs.Journal.{Taking, Calls, Takes, Restarts, NodeState, MasterIs, ServerIs, ClientIs, node_in, node_step, may_take, is_node, IsForNode, asked, answered}
+use Rattle.protocol_journal.specs.Journal.{StepCause, Calls, Takes, Restarts, NodeState, MasterIs, ServerIs, ClientIs, node_in, node_step, may_take, is_node, IsForNode, asked, answered}
 use Rattle.protocol_journal.proofs.Nodes.{none_some, true_false, false_true, number_is, numbered_here, numbered_else}
 use Rattle.protocol_journal.proofs.Views.{View, view}
 
@@ -79,7 +79,7 @@ cond_is : {X : Type 0} (b : Bool) (x y : X) → b ≡ true → cond b x y ≡ x
 cond_is b x y h = ap (λ (c : Bool). cond c x y) h
 
 -- the event of a message or a tick
-input_event : (w : WorldState) (n : Node) (moment : ℕ) (i : Input) (choice : Choice) → nat_le moment moment_limit ≡ true → IsForNode w.sent n (Takes i)
+input_event : (w : WorldState) (n : Node) (moment : ℕ) (i : NodeInput) (choice : Choice) → nat_le moment moment_limit ≡ true → IsForNode w.sent n (Takes i)
     → (e : Event) × (happens w e choice ≡ moves w n moment i choice)
 input_event w n moment (input.Deliver m) choice limit is = (
   event.Deliver is.0 (record { 0 = moment }),
@@ -90,12 +90,12 @@ input_event w n moment (input.Deliver m) choice limit is = (
 input_event w n moment input.Tick choice limit is = (event.Tick n (record { 0 = moment }), cond_is (nat_le moment moment_limit) _ (nothing_happens w) limit)
 
 -- an entry is an event which leads so
-abbrev pub IsEvent : WorldState → Node → ℕ → Taking → Choice → NodeState → Type 0
-IsEvent w n moment taking choice s =
-    (e : Event) × Did w (happens w e choice) n moment (asked w.config.skew_ms w.observer moment n taking) (node_step s moment taking choice).out (node_step s moment taking choice).state
+abbrev pub IsEvent : WorldState → Node → ℕ → StepCause → Choice → NodeState → Type 0
+IsEvent w n moment cause choice s =
+    (e : Event) × Did w (happens w e choice) n moment (asked w.config.skew_ms w.observer moment n cause) (node_step s moment cause choice).out (node_step s moment cause choice).state
 
-master_event : (w : WorldState) (moment : ℕ) (taking : Taking) (choice : Choice) → nat_le moment moment_limit ≡ true → IsForNode w.sent node.Master taking
-    → may_take (MasterIs w.master) taking ≡ true → IsEvent w node.Master moment taking choice (MasterIs w.master)
+master_event : (w : WorldState) (moment : ℕ) (cause : StepCause) (choice : Choice) → nat_le moment moment_limit ≡ true → IsForNode w.sent node.Master cause
+    → may_take (MasterIs w.master) cause ≡ true → IsEvent w node.Master moment cause choice (MasterIs w.master)
 master_event w moment (Calls call) choice limit is may = false_true may
 master_event w moment (Takes i) choice limit is may =
     let given = input_event w node.Master moment i choice limit is in
@@ -111,8 +111,8 @@ master_event w moment Restarts choice limit is may =
           (sym (cond_is (nat_le moment moment_limit) (after_master w moment t) (nothing_happens w) limit)) (master_did w moment t),
     )
 
-server_event : (w : WorldState) (n moment : ℕ) (s : ServerState) (taking : Taking) (choice : Choice) → numbered_from_1 w.servers n ≡ Some s → nat_le moment moment_limit ≡ true
-    → IsForNode w.sent (node.Server (record { 0 = n })) taking → may_take (ServerIs s) taking ≡ true → IsEvent w (node.Server (record { 0 = n })) moment taking choice (ServerIs s)
+server_event : (w : WorldState) (n moment : ℕ) (s : ServerState) (cause : StepCause) (choice : Choice) → numbered_from_1 w.servers n ≡ Some s → nat_le moment moment_limit ≡ true
+    → IsForNode w.sent (node.Server (record { 0 = n })) cause → may_take (ServerIs s) cause ≡ true → IsEvent w (node.Server (record { 0 = n })) moment cause choice (ServerIs s)
 server_event w n moment s (Calls call) choice at limit is may = false_true may
 server_event w n moment s (Takes i) choice at limit is may =
     let here : Node = node.Server (record { 0 = n }) in
@@ -130,8 +130,8 @@ server_event w n moment s Restarts choice at limit is may =
           (sym (cond_is (nat_le moment moment_limit) _ (nothing_happens w) limit ∙ ap (server_restarts_at w (n - 1) moment choice) at)) (server_did w n moment s t at),
     )
 
-client_event : (w : WorldState) (n moment : ℕ) (s : ClientState) (taking : Taking) (choice : Choice) → numbered_from_1 w.clients n ≡ Some s → nat_le moment moment_limit ≡ true
-    → IsForNode w.sent (node.Client (record { 0 = n })) taking → may_take (ClientIs s) taking ≡ true → IsEvent w (node.Client (record { 0 = n })) moment taking choice (ClientIs s)
+client_event : (w : WorldState) (n moment : ℕ) (s : ClientState) (cause : StepCause) (choice : Choice) → numbered_from_1 w.clients n ≡ Some s → nat_le moment moment_limit ≡ true
+    → IsForNode w.sent (node.Client (record { 0 = n })) cause → may_take (ClientIs s) cause ≡ true → IsEvent w (node.Client (record { 0 = n })) moment cause choice (ClientIs s)
 client_event w n moment s (Calls call) choice at limit is may =
     let here : Node = node.Client (record { 0 = n }) in
     let t : Taken ClientState = client_call s moment call choice in
@@ -156,25 +156,25 @@ client_event w n moment s Restarts choice at limit is may = false_true may
 same_some : {X : Type 0} (x y : X) → Some x ≡ Some y → x ≡ y
 same_some x y h = cc
 
-pub entry_event : (w : WorldState) (n : Node) (moment : ℕ) (taking : Taking) (s : NodeState) (choice : Choice) → node_in w n ≡ Some s → nat_le moment moment_limit ≡ true
-    → IsForNode w.sent n taking → may_take s taking ≡ true → IsEvent w n moment taking choice s
-entry_event w node.Master moment taking s choice at limit is may =
+pub entry_event : (w : WorldState) (n : Node) (moment : ℕ) (cause : StepCause) (s : NodeState) (choice : Choice) → node_in w n ≡ Some s → nat_le moment moment_limit ≡ true
+    → IsForNode w.sent n cause → may_take s cause ≡ true → IsEvent w n moment cause choice s
+entry_event w node.Master moment cause s choice at limit is may =
     let same : MasterIs w.master ≡ s = same_some (MasterIs w.master) s at in
-    subst (λ (x : NodeState). IsEvent w node.Master moment taking choice x) same
-    (master_event w moment taking choice limit is (subst (λ (x : NodeState). may_take x taking ≡ true) (sym same) may))
-entry_event w (node.Server id) moment taking s choice at limit is may = found (numbered_from_1 w.servers id.0) refl at
+    subst (λ (x : NodeState). IsEvent w node.Master moment cause choice x) same
+    (master_event w moment cause choice limit is (subst (λ (x : NodeState). may_take x cause ≡ true) (sym same) may))
+entry_event w (node.Server id) moment cause s choice at limit is may = found (numbered_from_1 w.servers id.0) refl at
   where
-    found : (o : Option ServerState) → numbered_from_1 w.servers id.0 ≡ o → option_map ServerIs o ≡ Some s → IsEvent w (node.Server id) moment taking choice s
+    found : (o : Option ServerState) → numbered_from_1 w.servers id.0 ≡ o → option_map ServerIs o ≡ Some s → IsEvent w (node.Server id) moment cause choice s
     found None there h = none_some s h
     found (Some x) there h =
         let same : ServerIs x ≡ s = same_some (ServerIs x) s h in
-        subst (λ (y : NodeState). IsEvent w (node.Server id) moment taking choice y) same
-        (server_event w id.0 moment x taking choice there limit is (subst (λ (y : NodeState). may_take y taking ≡ true) (sym same) may))
-entry_event w (node.Client id) moment taking s choice at limit is may = found (numbered_from_1 w.clients id.0) refl at
+        subst (λ (y : NodeState). IsEvent w (node.Server id) moment cause choice y) same
+        (server_event w id.0 moment x cause choice there limit is (subst (λ (y : NodeState). may_take y cause ≡ true) (sym same) may))
+entry_event w (node.Client id) moment cause s choice at limit is may = found (numbered_from_1 w.clients id.0) refl at
   where
-    found : (o : Option ClientState) → numbered_from_1 w.clients id.0 ≡ o → option_map ClientIs o ≡ Some s → IsEvent w (node.Client id) moment taking choice s
+    found : (o : Option ClientState) → numbered_from_1 w.clients id.0 ≡ o → option_map ClientIs o ≡ Some s → IsEvent w (node.Client id) moment cause choice s
     found None there h = none_some s h
     found (Some x) there h =
         let same : ClientIs x ≡ s = same_some (ClientIs x) s h in
-        subst (λ (y : NodeState). IsEvent w (node.Client id) moment taking choice y) same
-        (client_event w id.0 moment x taking choice there limit is (subst (λ (y : NodeState). may_take y taking ≡ true) (sym same) may))
+        subst (λ (y : NodeState). IsEvent w (node.Client id) moment cause choice y) same
+        (client_event w id.0 moment x cause choice there limit is (subst (λ (y : NodeState). may_take y cause ≡ true) (sym same) may))

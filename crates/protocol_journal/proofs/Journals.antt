@@ -10,7 +10,7 @@ use Rattle.messages.specs.declared.message.Message.{Message}
 use Rattle.protocol.specs.Choice.{Choice}
 use Rattle.protocol.specs.Observer.{Observer}
 use Rattle.protocol.specs.World.{WorldState, Happened, new_world, happens, after_events}
-use Rattle.protocol_journal.specs.Journal.{Taking, Calls, Takes, Restarts, Entry, NodeState, node_in, node_step, may_take, is_node, own, RunsTo, LeadsTo, with_messages, sent_after, MayFollow, EachMayFollow, IsLawful, asked, entry_observed, observed_after, with_end}
+use Rattle.protocol_journal.specs.Journal.{StepCause, Calls, Takes, Restarts, Entry, NodeState, node_in, node_step, may_take, is_node, own, RunsTo, LeadsTo, with_messages, sent_after, MayFollow, EachMayFollow, IsLawful, asked, entry_observed, observed_after, with_end}
 use Rattle.protocol_journal.specs.Laws.{Shows, JournalsAreRuns, JournalsGrow}
 use Rattle.protocol_journal.proofs.Nodes.{none_some, false_true, node_is, node_itself}
 use Rattle.protocol_journal.proofs.Views.{View, view, same_after}
@@ -35,15 +35,15 @@ own_first n e rest is = ap (λ (b : Bool). cond b (e ∷ own n rest) (own n rest
 own_later : (n : Node) (e : Entry) (rest : List Entry) → is_node e.node n ≡ false → own n (e ∷ rest) ≡ own n rest
 own_later n e rest is = ap (λ (b : Bool). cond b (e ∷ own n rest) (own n rest)) is
 
-disks_of : (skew : ℕ) (o : Observer) (moment : ℕ) (n : Node) (taking : Taking) → (asked skew o moment n taking).are_disks_kept ≡ o.are_disks_kept
-disks_of skew o moment node.Master taking = refl
-disks_of skew o moment (node.Server s) taking = refl
+disks_of : (skew : ℕ) (o : Observer) (moment : ℕ) (n : Node) (cause : StepCause) → (asked skew o moment n cause).are_disks_kept ≡ o.are_disks_kept
+disks_of skew o moment node.Master cause = refl
+disks_of skew o moment (node.Server s) cause = refl
 disks_of skew o moment (node.Client c) (Calls call) = refl
 disks_of skew o moment (node.Client c) (Takes i) = refl
 disks_of skew o moment (node.Client c) Restarts = refl
 
-asked_disks : (skew : ℕ) (o : Observer) (e : Entry) → (asked skew o e.moment e.node e.taking).are_disks_kept ≡ o.are_disks_kept
-asked_disks skew o e = disks_of skew o e.moment e.node e.taking
+asked_disks : (skew : ℕ) (o : Observer) (e : Entry) → (asked skew o e.moment e.node e.cause).are_disks_kept ≡ o.are_disks_kept
+asked_disks skew o e = disks_of skew o e.moment e.node e.cause
 
 -- where each node stands after an entry, its further entries lead on
 led_on : (w : WorldState) (h : Happened) (e : Entry) (rest : List Entry) (ends : Node → Option NodeState) (o : Observer) (state t : NodeState) → Did w h e.node e.moment o e.out state
@@ -63,14 +63,14 @@ GoesOn rest ends = (next : WorldState) → EachMayFollow next.sent rest → ((n 
 module _ (w : WorldState) (e : Entry) (rest : List Entry) (ends : Node → Option NodeState) (later : GoesOn rest ends) (follow : EachMayFollow w.sent (e ∷ rest))
     (leads : (n : Node) → LeadsTo (node_in w n) (own n (e ∷ rest)) (ends n)) where
   abbrev before : Observer
-  before = asked w.config.skew_ms w.observer e.moment e.node e.taking
+  before = asked w.config.skew_ms w.observer e.moment e.node e.cause
 
-  goes : (s t : NodeState) → node_in w e.node ≡ Some s → ends e.node ≡ Some t → (choice : Choice) → may_take s e.taking ≡ true → (node_step s e.moment e.taking choice).out ≡ e.out
-      → RunsTo (node_step s e.moment e.taking choice).state (own e.node rest) t → After w (e ∷ rest) ends
+  goes : (s t : NodeState) → node_in w e.node ≡ Some s → ends e.node ≡ Some t → (choice : Choice) → may_take s e.cause ≡ true → (node_step s e.moment e.cause choice).out ≡ e.out
+      → RunsTo (node_step s e.moment e.cause choice).state (own e.node rest) t → After w (e ∷ rest) ends
   goes s t at end choice may out others =
-      let event = entry_event w e.node e.moment e.taking s choice at follow.0.0 follow.0.1 may in
+      let event = entry_event w e.node e.moment e.cause s choice at follow.0.0 follow.0.1 may in
       let h : Happened = happens w event.0 choice in
-      let state : NodeState = (node_step s e.moment e.taking choice).state in
+      let state : NodeState = (node_step s e.moment e.cause choice).state in
       let did : Did w h e.node e.moment before e.out state = subst (λ (o : StepOut). Did w h e.node e.moment before o state) out event.1 in
       let after = later h.world (subst (λ (ms : List Message). EachMayFollow ms rest) (sym did.sent) follow.1)
       (λ n. led_on w h e rest ends before state t did end others n (leads n) (is_node e.node n) refl) in
@@ -130,17 +130,17 @@ own_append n (x ∷ xs) ys = by_test (is_node x.node n) (own_append n xs ys)
     by_test true h = ap (λ (l : List Entry). x ∷ l) h
     by_test false h = h
 
-runs_on : (xs : List Entry) (s t : NodeState) (e : Entry) (choice : Choice) → RunsTo s xs t → may_take t e.taking ≡ true → (node_step t e.moment e.taking choice).out ≡ e.out
-    → RunsTo s (xs ++ e ∷ []) (node_step t e.moment e.taking choice).state
+runs_on : (xs : List Entry) (s t : NodeState) (e : Entry) (choice : Choice) → RunsTo s xs t → may_take t e.cause ≡ true → (node_step t e.moment e.cause choice).out ≡ e.out
+    → RunsTo s (xs ++ e ∷ []) (node_step t e.moment e.cause choice).state
 runs_on [] s t e choice h may out =
-    subst (λ (x : NodeState). RunsTo x (e ∷ []) (node_step t e.moment e.taking choice).state) (sym h) (choice, may, out, refl)
-runs_on (x ∷ xs) s t e choice h may out = (h.0, h.1, h.2, runs_on xs (node_step s x.moment x.taking h.0).state t e choice h.3 may out)
+    subst (λ (x : NodeState). RunsTo x (e ∷ []) (node_step t e.moment e.cause choice).state) (sym h) (choice, may, out, refl)
+runs_on (x ∷ xs) s t e choice h may out = (h.0, h.1, h.2, runs_on xs (node_step s x.moment x.cause h.0).state t e choice h.3 may out)
 
-leads_on : (o : Option NodeState) (xs : List Entry) (t : NodeState) (e : Entry) (choice : Choice) → LeadsTo o xs (Some t) → may_take t e.taking ≡ true
-    → (node_step t e.moment e.taking choice).out ≡ e.out → LeadsTo o (xs ++ e ∷ []) (Some (node_step t e.moment e.taking choice).state)
+leads_on : (o : Option NodeState) (xs : List Entry) (t : NodeState) (e : Entry) (choice : Choice) → LeadsTo o xs (Some t) → may_take t e.cause ≡ true
+    → (node_step t e.moment e.cause choice).out ≡ e.out → LeadsTo o (xs ++ e ∷ []) (Some (node_step t e.moment e.cause choice).state)
 leads_on None xs t e choice h may out = none_some t (sym h.1)
 leads_on (Some s) xs t e choice h may out =
-    ((node_step t e.moment e.taking choice).state, refl, runs_on xs s t e choice (subst (λ (x : NodeState). RunsTo s xs x) (let same : Some t ≡ Some h.0 = h.1 in cc) h.2) may out)
+    ((node_step t e.moment e.cause choice).state, refl, runs_on xs s t e choice (subst (λ (x : NodeState). RunsTo s xs x) (let same : Some t ≡ Some h.0 = h.1 in cc) h.2) may out)
 
 pub journals_grow : JournalsGrow
 journals_grow config servers clients entries ends lawful e s choice at follows may out =
@@ -150,7 +150,7 @@ journals_grow config servers clients entries ends lawful e s choice at follows m
     start n = node_in (new_world config servers clients) n
 
     state : NodeState
-    state = (node_step s e.moment e.taking choice).state
+    state = (node_step s e.moment e.cause choice).state
 
     end_is : (n : Node) (b : Bool) → is_node e.node n ≡ b → with_end ends e.node state n ≡ cond b (Some state) (ends n)
     end_is n b is = ap (λ (t : Bool). cond t (Some state) (ends n)) is

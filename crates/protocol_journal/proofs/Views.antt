@@ -6,7 +6,7 @@ use Rattle.gfs_types.specs.declared.ids.Node.TheVariants as node
 use Rattle.gfs_types.specs.declared.answer.Answer.{Answer}
 use Rattle.relaxed_file.specs.Run.{Visible, Called, Answered, Passed}
 use Rattle.protocol.specs.Observer.{Observer, observed_moment}
-use Rattle.protocol_journal.specs.Journal.{Taking, Calls, Takes, Restarts, Entry, asked, answered, entry_observed, observed_after}
+use Rattle.protocol_journal.specs.Journal.{StepCause, Calls, Takes, Restarts, Entry, asked, answered, entry_observed, observed_after}
 
 pub record View : Type 0 where
   pub trace : List Visible
@@ -30,9 +30,9 @@ shown_on v x = record v { trace = v.trace ++ x ∷ [] }
 same_moment : (skew : ℕ) (o p : Observer) (moment : ℕ) → view o ≡ view p → view (observed_moment skew o moment) ≡ view (observed_moment skew p moment)
 same_moment skew o p moment h = ap (λ (v : View). moment_on skew v moment) h
 
-same_asked : (skew : ℕ) (o p : Observer) (moment : ℕ) (n : Node) (taking : Taking) → view o ≡ view p → view (asked skew o moment n taking) ≡ view (asked skew p moment n taking)
-same_asked skew o p moment node.Master taking h = h
-same_asked skew o p moment (node.Server s) taking h = h
+same_asked : (skew : ℕ) (o p : Observer) (moment : ℕ) (n : Node) (cause : StepCause) → view o ≡ view p → view (asked skew o moment n cause) ≡ view (asked skew p moment n cause)
+same_asked skew o p moment node.Master cause h = h
+same_asked skew o p moment (node.Server s) cause h = h
 same_asked skew o p moment (node.Client c) (Calls call) h = ap (λ (v : View). shown_on (moment_on skew v moment) (Called c.0 call)) h
 same_asked skew o p moment (node.Client c) (Takes i) h = h
 same_asked skew o p moment (node.Client c) Restarts h = h
@@ -46,8 +46,8 @@ same_answered o p (node.Client c) (Some reply) h = ap (λ (v : View). shown_on v
 pub same_after : (skew : ℕ) (o p : Observer) (entries : List Entry) → view o ≡ view p → view (observed_after skew o entries) ≡ view (observed_after skew p entries)
 same_after skew o p [] h = h
 same_after skew o p (e ∷ rest) h =
-    let before : Observer = asked skew o e.moment e.node e.taking in
-    let other : Observer = asked skew p e.moment e.node e.taking in
+    let before : Observer = asked skew o e.moment e.node e.cause in
+    let other : Observer = asked skew p e.moment e.node e.cause in
     same_after skew (entry_observed skew o e) (entry_observed skew p e) rest
     (same_answered (observed_moment skew before e.moment) (observed_moment skew other e.moment) e.node e.out.answer
-    (same_moment skew before other e.moment (same_asked skew o p e.moment e.node e.taking h)))
+    (same_moment skew before other e.moment (same_asked skew o p e.moment e.node e.cause h)))

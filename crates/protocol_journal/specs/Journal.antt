@@ -7,8 +7,8 @@ use Rattle.gfs_types.specs.declared.ids.Node.TheVariants as node
 use Rattle.gfs_types.specs.declared.call.Call.{Call}
 use Rattle.gfs_types.specs.declared.answer.Answer.{Answer}
 use Rattle.messages.specs.declared.message.Message.{Message}
-use Rattle.messages.specs.declared.event.Input.{Input}
-use Rattle.messages.specs.declared.event.Input.TheVariants as input
+use Rattle.messages.specs.declared.event.NodeInput.{NodeInput}
+use Rattle.messages.specs.declared.event.NodeInput.TheVariants as input
 use Rattle.messages.specs.declared.event.StepOut.{StepOut}
 use Rattle.protocol.specs.Tables.{moment_limit}
 use Rattle.protocol.specs.Choice.{Choice}
@@ -23,16 +23,16 @@ use Rattle.protocol.specs.Observer.{Observer, new_observer, observed_moment, obs
 use Rattle.protocol.specs.World.{WorldState, new_world, numbered_from_1, stamped}
 
 -- what a node takes a step on
-pub data Taking : Type 0 where
-  Calls : (call : Call) → Taking
-  Takes : (given : Input) → Taking
-  Restarts : Taking
+pub data StepCause : Type 0 where
+  Calls : (call : Call) → StepCause
+  Takes : (given : NodeInput) → StepCause
+  Restarts : StepCause
 
 -- a step of a node, and what it gave
 pub record Entry : Type 0 where
   pub node : Node
   pub moment : ℕ
-  pub taking : Taking
+  pub cause : StepCause
   pub out : StepOut
 
 -- a node's state
@@ -51,24 +51,24 @@ abbrev pub taken_by : {S : Type 0} → (S → NodeState) → Taken S → Taken N
 taken_by kind t = record { state = kind t.state; out = t.out; seen = t.seen }
 
 -- The step of a node: the protocol's step of that kind of node.
-abbrev pub node_step : NodeState → ℕ → Taking → Choice → Taken NodeState
+abbrev pub node_step : NodeState → ℕ → StepCause → Choice → Taken NodeState
 node_step (MasterIs m) moment (Takes i) choice = taken_by MasterIs (master_step m moment i choice)
 node_step (MasterIs m) moment Restarts choice = taken_by MasterIs (master_restart m moment choice)
 node_step (ServerIs s) moment (Takes i) choice = taken_by ServerIs (server_step s moment i choice)
 node_step (ServerIs s) moment Restarts choice = taken_by ServerIs (server_restart s moment choice)
 node_step (ClientIs c) moment (Calls call) choice = taken_by ClientIs (client_call c moment call choice)
 node_step (ClientIs c) moment (Takes i) choice = taken_by ClientIs (client_step c moment i choice)
-node_step other moment taking choice = no_step other
+node_step other moment cause choice = no_step other
 
 -- Whether there is a step at all. A node that is down takes no message and no tick; a client calls where it may, and is never restarted.
-abbrev pub may_take : NodeState → Taking → Bool
+abbrev pub may_take : NodeState → StepCause → Bool
 may_take (MasterIs m) (Takes i) = m.up
 may_take (MasterIs m) Restarts = true
 may_take (ServerIs s) (Takes i) = s.up
 may_take (ServerIs s) Restarts = true
 may_take (ClientIs c) (Calls call) = may_call c
 may_take (ClientIs c) (Takes i) = c.up
-may_take other taking = false
+may_take other cause = false
 
 abbrev pub is_node : Node → Node → Bool
 is_node node.Master node.Master = true
@@ -85,7 +85,7 @@ own n (e ∷ rest) = if is_node e.node n then e ∷ own n rest else own n rest
 abbrev pub RunsTo : NodeState → List Entry → NodeState → Type 0
 RunsTo s [] t = s ≡ t
 RunsTo s (e ∷ rest) t =
-    (choice : Choice) × IsTrue (may_take s e.taking) × ((node_step s e.moment e.taking choice).out ≡ e.out) × RunsTo (node_step s e.moment e.taking choice).state rest t
+    (choice : Choice) × IsTrue (may_take s e.cause) × ((node_step s e.moment e.cause choice).out ≡ e.out) × RunsTo (node_step s e.moment e.cause choice).state rest t
 
 -- a node that is not there has no entries
 abbrev pub LeadsTo : Option NodeState → List Entry → Option NodeState → Type 0
@@ -102,13 +102,13 @@ sent_after sent [] = sent
 sent_after sent (e ∷ rest) = sent_after (with_messages sent e) rest
 
 -- a message that a node takes is one of those that were sent, and its own
-abbrev pub IsForNode : List Message → Node → Taking → Type 0
+abbrev pub IsForNode : List Message → Node → StepCause → Type 0
 IsForNode sent n (Takes (input.Deliver m)) = (number : ℕ) × (numbered_from_1 sent number ≡ Some m) × (m.receiver ≡ n)
 IsForNode sent n other = Unit {0}
 
 -- an entry may follow where this was sent
 abbrev pub MayFollow : List Message → Entry → Type 0
-MayFollow sent e = IsTrue (nat_le e.moment moment_limit) × IsForNode sent e.node e.taking
+MayFollow sent e = IsTrue (nat_le e.moment moment_limit) × IsForNode sent e.node e.cause
 
 abbrev pub EachMayFollow : List Message → List Entry → Type 0
 EachMayFollow sent [] = Unit {0}
@@ -120,7 +120,7 @@ pub record IsLawful (config : Config) (servers clients : ℕ) (entries : List En
   pub nodes : (n : Node) → LeadsTo (node_in (new_world config servers clients) n) (own n entries) (ends n)
 
 -- What an observer sees of an entry: its call, its moment, its answer.
-abbrev pub asked : ℕ → Observer → ℕ → Node → Taking → Observer
+abbrev pub asked : ℕ → Observer → ℕ → Node → StepCause → Observer
 asked skew o moment (node.Client c) (Calls call) = observed_call (observed_moment skew o moment) c.0 call
 asked skew o moment n other = o
 
@@ -129,7 +129,7 @@ answered o (node.Client c) reply = observed_answer o c.0 reply
 answered o other reply = o
 
 abbrev pub entry_observed : ℕ → Observer → Entry → Observer
-entry_observed skew o e = answered (observed_moment skew (asked skew o e.moment e.node e.taking) e.moment) e.node e.out.answer
+entry_observed skew o e = answered (observed_moment skew (asked skew o e.moment e.node e.cause) e.moment) e.node e.out.answer
 
 abbrev pub observed_after : ℕ → Observer → List Entry → Observer
 observed_after skew o [] = o

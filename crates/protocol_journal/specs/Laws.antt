@@ -25,5 +25,5 @@ abbrev pub JournalsGrow : Type 0
 JournalsGrow =
     (config : Config) (servers clients : ℕ) (entries : List Entry) (ends : Node → Option NodeState) → IsLawful config servers clients entries ends
     → (e : Entry) (s : NodeState) (choice : Choice) → ends e.node ≡ Some s → MayFollow (sent_after [] entries) e
-    → IsTrue (may_take s e.taking) → (node_step s e.moment e.taking choice).out ≡ e.out
-    → IsLawful config servers clients (entries ++ e ∷ []) (with_end ends e.node (node_step s e.moment e.taking choice).state)
+    → IsTrue (may_take s e.cause) → (node_step s e.moment e.cause choice).out ≡ e.out
+    → IsLawful config servers clients (entries ++ e ∷ []) (with_end ends e.node (node_step s e.moment e.cause choice).state)

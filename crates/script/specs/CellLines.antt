@@ -13,8 +13,8 @@ use Rattle.script.specs.Kinds.{kind_named}
 use Rattle.script.specs.CellNodes.{server_of, node_of}
 use Rattle.script.specs.declared.cell_lines.ClientCall.{ClientCall}
 use Rattle.script.specs.declared.cell_lines.Matter.{Matter}
-use Rattle.script.specs.declared.cell_lines.Line.{Line}
-use Rattle.script.specs.declared.cell_lines.Line.TheVariants as lines
+use Rattle.script.specs.declared.cell_lines.CellLine.{CellLine}
+use Rattle.script.specs.declared.cell_lines.CellLine.TheVariants as lines
 
 abbrev pub close_call : ℕ → Call
 close_call fd = calls.Close (record { 0 = fd })
@@ -53,7 +53,7 @@ started_call_of [] = None
 started_call_of (client ∷ words) = client_call_of client words
 
 -- no further word
-abbrev pub alone : List (List ℕ) → Line → Option Line
+abbrev pub alone : List (List ℕ) → CellLine → Option CellLine
 alone [] line = Some line
 alone _ line = None
 
@@ -83,18 +83,18 @@ torn_of word =
     else option_map torn.Byte (byte_of word)
 
 -- a node, how many calls of its disk pass, and what a restart finds
-abbrev pub fuse_of : List (List ℕ) → Option Line
+abbrev pub fuse_of : List (List ℕ) → Option CellLine
 fuse_of (node ∷ calls ∷ left ∷ []) = option_and_then (λ n. option_and_then (λ k. option_map (lines.Fuse n k) (torn_of left)) (number_of calls)) (node_of node)
 fuse_of _ = None
 
 -- a chunkserver, a chunk, a place in it and its new byte
-abbrev pub rot_of : List (List ℕ) → Option Line
+abbrev pub rot_of : List (List ℕ) → Option CellLine
 rot_of (server ∷ path ∷ index ∷ place ∷ value ∷ []) =
     option_and_then (λ s. option_and_then (λ c. option_and_then (λ p. option_map (lines.Rot s c p) (byte_of value)) (number_of place)) (chunk_of (path ∷ index ∷ []))) (server_of server)
 rot_of _ = None
 
 -- a line on a chunk, or a call
-abbrev pub chunk_line : List ℕ → List (List ℕ) → Option Line
+abbrev pub chunk_line : List ℕ → List (List ℕ) → Option CellLine
 chunk_line first rest =
     if bytes_eq first (codes "rot") then rot_of rest
     else if bytes_eq first (codes "regions") then option_map lines.Regions (chunk_of rest)
@@ -102,7 +102,7 @@ chunk_line first rest =
     else option_map lines.Call (client_call_of first rest)
 
 -- a line on one node, or one on a chunk, or a call
-abbrev pub node_line : List ℕ → List (List ℕ) → Option Line
+abbrev pub node_line : List ℕ → List (List ℕ) → Option CellLine
 node_line first rest =
     if bytes_eq first (codes "cut") then option_map lines.Cut (node_in rest)
     else if bytes_eq first (codes "join") then option_map lines.Join (node_in rest)
@@ -110,7 +110,7 @@ node_line first rest =
     else if bytes_eq first (codes "fuse") then fuse_of rest
     else chunk_line first rest
 
-abbrev pub line_for : List (List ℕ) → Option Line
+abbrev pub line_for : List (List ℕ) → Option CellLine
 line_for [] = None
 line_for (first ∷ rest) =
     if bytes_eq first (codes "start") then option_map lines.Start (started_call_of rest)
@@ -121,5 +121,5 @@ line_for (first ∷ rest) =
     else if bytes_eq first (codes "twice") then option_map lines.Twice (matter_of rest)
     else node_line first rest
 
-abbrev pub line_of : List ℕ → Option Line
+abbrev pub line_of : List ℕ → Option CellLine
 line_of line = if nat_lt 8192 (length line) then None else if is_skipped line then Some lines.Nothing else line_for (words_of line)

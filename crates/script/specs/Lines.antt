@@ -8,8 +8,8 @@ use Rattle.gfs_types.specs.declared.call.Call.TheVariants as calls
 use Rattle.script.specs.declared.words.Data.{Data}
 use Rattle.script.specs.declared.words.Data.TheVariants.{Bytes, TooLong}
 use Rattle.script.specs.declared.lines.FileChunk.{FileChunk}
-use Rattle.script.specs.declared.lines.Line.{Line}
-use Rattle.script.specs.declared.lines.Line.TheVariants as lines
+use Rattle.script.specs.declared.lines.CallLine.{CallLine}
+use Rattle.script.specs.declared.lines.CallLine.TheVariants as lines
 use Rattle.script.specs.Numbers.{number_of}
 use Rattle.script.specs.Nodes.{client_of}
 use Rattle.script.specs.Words.{path_of, full_path_of, data_of}
@@ -66,7 +66,7 @@ call_of (name ∷ fd ∷ last ∷ []) = append_call_of name fd last
 call_of (name ∷ fd ∷ offset ∷ last ∷ []) = range_call_of name fd offset last
 call_of _ = None
 
-abbrev pub client_line : List ℕ → List (List ℕ) → Option Line
+abbrev pub client_line : List ℕ → List (List ℕ) → Option CallLine
 client_line client call = option_and_then (λ c. option_map (lines.Call c) (call_of call)) (client_of client)
 
 -- a chunk, by the full path of its file and its index
@@ -75,7 +75,7 @@ chunk_of (path ∷ index ∷ []) = option_and_then (λ p. option_map (λ i. reco
 chunk_of _ = None
 
 -- a look at a chunk's regions or replicas, or a client's call
-abbrev pub line_for : List (List ℕ) → Option Line
+abbrev pub line_for : List (List ℕ) → Option CallLine
 line_for [] = None
 line_for (first ∷ rest) =
     if bytes_eq first (codes "regions") then option_map lines.Regions (chunk_of rest)
@@ -91,5 +91,5 @@ abbrev pub is_skipped : List ℕ → Bool
 is_skipped [] = true
 is_skipped (c ∷ cs) = c == byte "#"
 
-abbrev pub line_of : List ℕ → Option Line
+abbrev pub line_of : List ℕ → Option CallLine
 line_of line = if nat_lt 8192 (length line) then None else if is_skipped line then Some lines.Nothing else line_for (words_of line)

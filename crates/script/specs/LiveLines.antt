@@ -2,15 +2,15 @@
 use Rattle.std.specs.Prelude.{ℕ, ◌+◌, Bool, true, false, ◌==◌, nat_lt, nat_le, if◌then◌else◌, List, length, take, drop, Option, Some, None, option_map, option_and_then, codes}
 use Rattle.std.specs.List.{position}
 use Rattle.std.specs.Str.{byte, bytes_eq}
-use Rattle.script.specs.declared.cell_lines.Line.{Line}
-use Rattle.script.specs.declared.cell_lines.Line.TheVariants as lines
+use Rattle.script.specs.declared.cell_lines.CellLine.{CellLine}
+use Rattle.script.specs.declared.cell_lines.CellLine.TheVariants as lines
 use Rattle.script.specs.CellLines.{line_of}
 use Rattle.script.specs.Numbers.{number_of}
 use Rattle.script.specs.declared.live_lines.LiveLine.{LiveLine}
 use Rattle.script.specs.declared.live_lines.LiveLine.TheVariants.{Nothing, Barrier, Calls}
 
 -- a call, so many times in a row
-abbrev pub calls_of : ℕ → Line → Option LiveLine
+abbrev pub calls_of : ℕ → CellLine → Option LiveLine
 calls_of times (lines.Call asked) = Some (Calls times asked)
 calls_of times other = None
 
@@ -18,7 +18,7 @@ abbrev pub calls_in : ℕ → List ℕ → Option LiveLine
 calls_in times text = option_and_then (calls_of times) (line_of text)
 
 -- a line that a simulator's script may have too: a call, a comment or an empty line
-abbrev pub plain_of : Line → Option LiveLine
+abbrev pub plain_of : CellLine → Option LiveLine
 plain_of lines.Nothing = Some Nothing
 plain_of other = calls_of 1 other
 

@@ -32,7 +32,7 @@ pub struct ClientCall {
 
 /// What a line asks for.
 #[derive(Drop)]
-pub enum Line {
+pub enum CellLine {
     /// An empty line or a comment.
     Nothing,
     /// A call, up to its answer.
@@ -134,7 +134,7 @@ fn started_call(alloc: Global, words: &[&[u8]]) -> Result<ClientCall, LineFault>
 }
 
 /// A line with no further word.
-fn alone(words: &[&[u8]], line: Line) -> Result<Line, LineFault>
+fn alone(words: &[&[u8]], line: CellLine) -> Result<CellLine, LineFault>
     ensures { Reads result (alone (map (λ w. w.now) words.now) «line») }
 {
     if words.is_empty() {
@@ -197,7 +197,7 @@ fn torn(word: &[u8]) -> Option<Torn>
     }
 }
 
-fn fuse(words: &[&[u8]]) -> Result<Line, LineFault>
+fn fuse(words: &[&[u8]]) -> Result<CellLine, LineFault>
     ensures { Reads result (fuse_of (map (λ w. w.now) words.now)) }
 {
     match words {
@@ -205,13 +205,13 @@ fn fuse(words: &[&[u8]]) -> Result<Line, LineFault>
             let node = node(name).ok_or(LineFault::Bad)?;
             let calls = number(calls).ok_or(LineFault::Bad)?;
             let torn = torn(left).ok_or(LineFault::Bad)?;
-            Ok(Line::Fuse { node, calls, torn })
+            Ok(CellLine::Fuse { node, calls, torn })
         }
         _ => Err(LineFault::Bad),
     }
 }
 
-fn rot(alloc: Global, words: &[&[u8]]) -> Result<Line, LineFault>
+fn rot(alloc: Global, words: &[&[u8]]) -> Result<CellLine, LineFault>
     ensures { Reads result (rot_of (map (λ w. w.now) words.now)) }
 {
     match words {
@@ -220,7 +220,7 @@ fn rot(alloc: Global, words: &[&[u8]]) -> Result<Line, LineFault>
             let chunk = file_chunk(alloc, &[path, index])?;
             let place = number(place).ok_or(LineFault::Bad)?;
             let byte = byte(value).ok_or(LineFault::Bad)?;
-            Ok(Line::Rot {
+            Ok(CellLine::Rot {
                 server,
                 chunk,
                 place,
@@ -231,39 +231,39 @@ fn rot(alloc: Global, words: &[&[u8]]) -> Result<Line, LineFault>
     }
 }
 
-fn line_for(alloc: Global, words: &[&[u8]]) -> Result<Line, LineFault>
+fn line_for(alloc: Global, words: &[&[u8]]) -> Result<CellLine, LineFault>
     ensures { Reads result (line_for (map (λ w. w.now) words.now)) }
 {
     let Some((first, rest)) = words.split_first() else {
         return Err(LineFault::Bad);
     };
     if *first == b"start".as_slice() {
-        Ok(Line::Start(started_call(alloc, rest)?))
+        Ok(CellLine::Start(started_call(alloc, rest)?))
     } else if *first == b"finish".as_slice() {
-        alone(rest, Line::Finish)
+        alone(rest, CellLine::Finish)
     } else if *first == b"wait".as_slice() {
-        Ok(Line::Wait(moments(rest)?))
+        Ok(CellLine::Wait(moments(rest)?))
     } else if *first == b"hold".as_slice() {
-        Ok(Line::Hold(read_matter(rest)?))
+        Ok(CellLine::Hold(read_matter(rest)?))
     } else if *first == b"free".as_slice() {
-        alone(rest, Line::Free)
+        alone(rest, CellLine::Free)
     } else if *first == b"twice".as_slice() {
-        Ok(Line::Twice(read_matter(rest)?))
+        Ok(CellLine::Twice(read_matter(rest)?))
     } else {
         node_line(alloc, first, rest)
     }
 }
 
 /// A line on one node, or one on a chunk, or a call.
-fn node_line(alloc: Global, first: &[u8], rest: &[&[u8]]) -> Result<Line, LineFault>
+fn node_line(alloc: Global, first: &[u8], rest: &[&[u8]]) -> Result<CellLine, LineFault>
     ensures { Reads result (node_line first.now (map (λ w. w.now) rest.now)) }
 {
     if first == b"cut".as_slice() {
-        Ok(Line::Cut(one_node(rest)?))
+        Ok(CellLine::Cut(one_node(rest)?))
     } else if first == b"join".as_slice() {
-        Ok(Line::Join(one_node(rest)?))
+        Ok(CellLine::Join(one_node(rest)?))
     } else if first == b"restart".as_slice() {
-        Ok(Line::Restart(one_node(rest)?))
+        Ok(CellLine::Restart(one_node(rest)?))
     } else if first == b"fuse".as_slice() {
         fuse(rest)
     } else {
@@ -272,17 +272,17 @@ fn node_line(alloc: Global, first: &[u8], rest: &[&[u8]]) -> Result<Line, LineFa
 }
 
 /// A line on a chunk, or a call.
-fn chunk_line(alloc: Global, first: &[u8], rest: &[&[u8]]) -> Result<Line, LineFault>
+fn chunk_line(alloc: Global, first: &[u8], rest: &[&[u8]]) -> Result<CellLine, LineFault>
     ensures { Reads result (chunk_line first.now (map (λ w. w.now) rest.now)) }
 {
     if first == b"rot".as_slice() {
         rot(alloc, rest)
     } else if first == b"regions".as_slice() {
-        Ok(Line::Regions(file_chunk(alloc, rest)?))
+        Ok(CellLine::Regions(file_chunk(alloc, rest)?))
     } else if first == b"replicas".as_slice() {
-        Ok(Line::Replicas(file_chunk(alloc, rest)?))
+        Ok(CellLine::Replicas(file_chunk(alloc, rest)?))
     } else {
-        Ok(Line::Call(client_call(alloc, first, rest)?))
+        Ok(CellLine::Call(client_call(alloc, first, rest)?))
     }
 }
 
@@ -290,14 +290,14 @@ fn chunk_line(alloc: Global, first: &[u8], rest: &[&[u8]]) -> Result<Line, LineF
 ///
 /// - `Bad`: the line isn't in the language, or has more than [`MAX_LINE`] bytes.
 /// - `NoMemory`: memory for the words, the path or the data was refused.
-pub fn parse(alloc: Global, line: &[u8]) -> Result<Line, LineFault>
+pub fn parse(alloc: Global, line: &[u8]) -> Result<CellLine, LineFault>
     ensures { Reads result (line_of line.now) }
 {
     if line.len() > MAX_LINE {
         return Err(LineFault::Bad);
     }
     if line.is_empty() || line[0] == b'#' {
-        return Ok(Line::Nothing);
+        return Ok(CellLine::Nothing);
     }
     let words = split_words(alloc, line)?;
     line_for(alloc, words.as_slice())

@@ -26,7 +26,7 @@ pub struct FileChunk {
 
 /// What a line asks for.
 #[derive(Drop)]
-pub enum Line {
+pub enum CallLine {
     /// An empty line or a comment.
     Nothing,
     Call { client: ClientId, call: Call },
@@ -131,12 +131,12 @@ fn call(alloc: Global, words: &[&[u8]]) -> Result<Call, LineFault>
 }
 
 /// A client's call.
-fn client_line(alloc: Global, name: &[u8], words: &[&[u8]]) -> Result<Line, LineFault>
+fn client_line(alloc: Global, name: &[u8], words: &[&[u8]]) -> Result<CallLine, LineFault>
     ensures { Reads result (client_line name.now (map (λ w. w.now) words.now)) }
 {
     let client = client(name).ok_or(LineFault::Bad)?;
     let call = call(alloc, words)?;
-    Ok(Line::Call { client, call })
+    Ok(CallLine::Call { client, call })
 }
 
 /// A path and an index.
@@ -153,16 +153,16 @@ pub fn file_chunk(alloc: Global, words: &[&[u8]]) -> Result<FileChunk, LineFault
     }
 }
 
-fn line_for(alloc: Global, words: &[&[u8]]) -> Result<Line, LineFault>
+fn line_for(alloc: Global, words: &[&[u8]]) -> Result<CallLine, LineFault>
     ensures { Reads result (line_for (map (λ w. w.now) words.now)) }
 {
     let Some((first, rest)) = words.split_first() else {
         return Err(LineFault::Bad);
     };
     if *first == b"regions".as_slice() {
-        Ok(Line::Regions(file_chunk(alloc, rest)?))
+        Ok(CallLine::Regions(file_chunk(alloc, rest)?))
     } else if *first == b"replicas".as_slice() {
-        Ok(Line::Replicas(file_chunk(alloc, rest)?))
+        Ok(CallLine::Replicas(file_chunk(alloc, rest)?))
     } else {
         client_line(alloc, first, rest)
     }
@@ -179,14 +179,14 @@ pub fn split_words(alloc: Global, line: &[u8]) -> Result<Vec<&[u8]>, AllocError>
 ///
 /// - `Bad`: the line isn't in the language, or has more than [`MAX_LINE`] bytes.
 /// - `NoMemory`: memory for the words, the path or the data was refused.
-pub fn parse(alloc: Global, line: &[u8]) -> Result<Line, LineFault>
+pub fn parse(alloc: Global, line: &[u8]) -> Result<CallLine, LineFault>
     ensures { Reads result (line_of line.now) }
 {
     if line.len() > MAX_LINE {
         return Err(LineFault::Bad);
     }
     if line.is_empty() || line[0] == b'#' {
-        return Ok(Line::Nothing);
+        return Ok(CallLine::Nothing);
     }
     let words = split_words(alloc, line)?;
     line_for(alloc, words.as_slice())

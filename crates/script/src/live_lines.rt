@@ -6,7 +6,7 @@ ghost use Rattle.std.specs.Str.{byte};
 ghost use Rattle.script.specs.Words.{Reads};
 ghost use Rattle.script.specs.LiveLines.{calls_in, plain_line, repeat_in, live_line_of, is_for, is_barrier};
 
-use crate::cell_lines::{ClientCall, Line, parse as parse_line};
+use crate::cell_lines::{CellLine, ClientCall, parse as parse_line};
 use crate::fault::LineFault;
 use crate::lines::MAX_LINE;
 use crate::numbers::number;
@@ -63,7 +63,7 @@ fn calls(alloc: Global, times: u64, text: &[u8]) -> Result<LiveLine, LineFault>
     ensures { Reads result (calls_in times text.now) }
 {
     match parse_line(alloc, text)? {
-        Line::Call(asked) => Ok(LiveLine::Calls { times, asked }),
+        CellLine::Call(asked) => Ok(LiveLine::Calls { times, asked }),
         _ => Err(LineFault::Bad),
     }
 }
@@ -73,8 +73,8 @@ fn plain(alloc: Global, text: &[u8]) -> Result<LiveLine, LineFault>
     ensures { Reads result (plain_line text.now) }
 {
     match parse_line(alloc, text)? {
-        Line::Nothing => Ok(LiveLine::Nothing),
-        Line::Call(asked) => Ok(LiveLine::Calls { times: 1, asked }),
+        CellLine::Nothing => Ok(LiveLine::Nothing),
+        CellLine::Call(asked) => Ok(LiveLine::Calls { times: 1, asked }),
         _ => Err(LineFault::Bad),
     }
 }

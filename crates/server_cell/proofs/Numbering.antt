@@ -12,7 +12,7 @@ use Rattle.primary_order.specs.PrimaryOrder.{place_of}
 use Rattle.primary_order.specs.SerialOrder.{numbered}
 use Rattle.protocol.specs.Server.{ServerState, ServerDoing}
 use Rattle.protocol.specs.ServerWrites.{change_of, stored_as, primary_applies}
-use Rattle.server_handlers.specs.declared.effects.Effects.{Effects}
+use Rattle.server_handlers.specs.declared.effects.ServerEffects.{ServerEffects}
 use Rattle.server_handlers.specs.Doing.{doing, held_at, numbers, applies}
 
 pub on_ok : {T E P Q : Type 0} (r : Result T E) → (P → Q) → OnOk r P → OnOk r Q
@@ -20,7 +20,7 @@ on_ok (Ok x) f h = f h
 on_ok (Err e) f h = h
 
 -- the lease of a mutation that was numbered
-held_after : (s : ServerState) (e : Effects) (handle : ℕ) (p : SerialOrder) (id : DataId) (m : Mutation) (mid : ServerDoing)
+held_after : (s : ServerState) (e : ServerEffects) (handle : ℕ) (p : SerialOrder) (id : DataId) (m : Mutation) (mid : ServerDoing)
     → numbers (doing s e) handle p id m ≡ mid → held_at mid.server handle ≡ Some (numbered p id.client id.seq (place_of m))
 held_after s e handle p id m mid goes =
     let new : SerialOrder = numbered p id.client id.seq (place_of m) in
@@ -28,7 +28,7 @@ held_after s e handle p id m mid goes =
     ap (λ t. get t handle) (sym leases)
     ∙ (get-insert nat_cmp_total s.leases handle new handle ∙ ap (λ b. cond b (Some new) (get s.leases handle)) ((eq_by_cmp_equiv nat_cmp_total).refl handle))
 
-pub applied : (s : ServerState) (e : Effects) (handle : ℕ) (p : SerialOrder) (id : DataId) (m : Mutation) (mid after : ServerDoing)
+pub applied : (s : ServerState) (e : ServerEffects) (handle : ℕ) (p : SerialOrder) (id : DataId) (m : Mutation) (mid after : ServerDoing)
     → numbers (doing s e) handle p id m ≡ mid
     → ((q : SerialOrder) → held_at mid.server handle ≡ Some q → applies mid handle q (p.serial + 1) id (change_of m) (stored_as s.config.chunk handle (p.serial + 1) m) ≡ after)
     → primary_applies (numbers (doing s e) handle p id m) handle p id m ≡ after
@@ -37,7 +37,7 @@ applied s e handle p id m mid after goes f =
     ∙ f (numbered p id.client id.seq (place_of m)) (held_after s e handle p id m mid goes)
 
 -- the same, in the words of the code
-pub applied_as : (s : ServerState) (e : Effects) (handle : ℕ) (p : SerialOrder) (id : DataId) (m : Mutation) (mid after : ServerDoing) (primary : SerialOrder) (serial chunk : ℕ) (c : Change) (stored : StoreChange)
+pub applied_as : (s : ServerState) (e : ServerEffects) (handle : ℕ) (p : SerialOrder) (id : DataId) (m : Mutation) (mid after : ServerDoing) (primary : SerialOrder) (serial chunk : ℕ) (c : Change) (stored : StoreChange)
     → numbers (doing s e) handle p id m ≡ mid → primary ≡ p → serial ≡ primary.serial → chunk ≡ s.config.chunk → c ≡ change_of m → stored ≡ stored_as chunk handle (serial + 1) m
     → ((q : SerialOrder) → held_at mid.server handle ≡ Some q → applies mid handle q (serial + 1) id c stored ≡ after)
     → primary_applies (numbers (doing s e) handle p id m) handle p id m ≡ after

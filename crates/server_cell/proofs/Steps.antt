@@ -1,7 +1,7 @@
 -- What a server's code does is a step of the definitions.
 use Rattle.std.proofs.Common.{◌≡◌, ℕ, Bool, true, false, List, [], ◌∷◌, map, take, drop, refl, sym, ap, ◌∙◌, subst, inl, inr}
 use Rattle.std.specs.Prelude.{if◌then◌else◌, ◌⊎◌, filter, None}
-use Rattle.messages.specs.declared.event.Input.{Input}
+use Rattle.messages.specs.declared.event.NodeInput.{NodeInput}
 use Rattle.messages.specs.declared.event.StepOut.{StepOut}
 use Rattle.replica_store.specs.declared.change.StoreChange.{StoreChange}
 use Rattle.replica_store.specs.Replicas.{ServerDisk, disk_changed_by_all}
@@ -23,7 +23,7 @@ same_ends s t d choice Lost h = ap (λ (f : Frame). record { state = down_server
 same_ends s t d choice (Stops made) h =
     ap (λ (f : Frame). record { state = down_server f.config f.id (disk_changed_by_all f.disk (take made d.changes)) (take 1 (drop made d.changes)); out = down_output; seen = filter is_numbering d.seen }) h
 
-pub stays : (s : ServerState) (moment : ℕ) (i : Input) → s.up ≡ false → ServerSteps s moment i no_output [] s
+pub stays : (s : ServerState) (moment : ℕ) (i : NodeInput) → s.up ≡ false → ServerSteps s moment i no_output [] s
 stays s moment i down =
     let same : server_step s moment i (with_ending Goes) ≡ no_step s = ap (λ b. if b then server_ends s (server_goes s moment i) (with_ending Goes) Goes else no_step s) down in
     record {
@@ -32,7 +32,7 @@ stays s moment i down =
       seen_is = ap (λ (t : Taken ServerState). t.seen) same;
     }
 
-pub steps_from : (s t : ServerState) (moment : ℕ) (i : Input) (d : ServerDoing) (out : StepOut) (seen : List Seen) (new : ServerState)
+pub steps_from : (s t : ServerState) (moment : ℕ) (i : NodeInput) (d : ServerDoing) (out : StepOut) (seen : List Seen) (new : ServerState)
     → s.up ≡ true → frame t ≡ frame s → server_goes s moment i ≡ d → Ends t d out seen new → ServerSteps s moment i out seen new
 steps_from s t moment i d out seen new up same goes e =
     let is : server_step s moment i e.choice ≡ server_ends t d e.choice e.choice.ending =
@@ -91,7 +91,7 @@ restarts s moment found (inr h) =
 
 -- the same with what the code holds in hand
 
-pub as_given : {s new next : ServerState} {moment : ℕ} {i : Input} {out given : StepOut} {seen shown : List Seen} → ServerSteps s moment i out seen new
+pub as_given : {s new next : ServerState} {moment : ℕ} {i : NodeInput} {out given : StepOut} {seen shown : List Seen} → ServerSteps s moment i out seen new
     → given ≡ out → shown ≡ seen → next ≡ new → ServerSteps s moment i given shown next
 as_given e o se n =
     record { choice = e.choice; gives = record { out_is = e.gives.out_is ∙ sym o; state_is = e.gives.state_is ∙ sym n }; seen_is = e.seen_is ∙ sym se }
@@ -103,7 +103,7 @@ stopped_so s d after out seen new o se n config id m =
     let e = stopped s d after config id m in
     record { choice = e.choice; gives = record { out_is = e.gives.out_is ∙ sym o; state_is = e.gives.state_is ∙ sym n }; seen_is = e.seen_is ∙ sym se }
 
-pub gave_up : (s t : ServerState) (moment : ℕ) (i : Input) → s.up ≡ true → frame t ≡ frame s → (s.up ≡ true → s.under_way ≡ [])
+pub gave_up : (s t : ServerState) (moment : ℕ) (i : NodeInput) → s.up ≡ true → frame t ≡ frame s → (s.up ≡ true → s.under_way ≡ [])
     → ServerSteps s moment i down_output [] (stopped_server t t.disk t.under_way)
 gave_up s t moment i up same idle =
     steps_from s t moment i (server_goes s moment i) down_output [] (stopped_server t t.disk t.under_way) up same refl

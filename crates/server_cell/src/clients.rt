@@ -8,17 +8,17 @@ ghost use Rattle.server_cell.specs.Kinds.{is_of_clients};
 
 use crate::server_writes::takes_mutate;
 use messages::message::{Body, Message};
-use server_handlers::effects::Effects;
+use server_handlers::effects::ServerEffects;
 use server_handlers::reads::Asking;
 use server_handlers::server::Server;
-use server_store::fault::StoreFault;
+use server_store::fault::ReplicaStoreFault;
 use server_store::store::ReplicaStore;
 
 pub(crate) fn takes_of_clients<S: ReplicaStore>(
     server: &mut Server<S>,
-    effects: &mut Effects,
+    effects: &mut ServerEffects,
     message: &Message,
-) -> Result<(), StoreFault>
+) -> Result<(), ReplicaStoreFault>
     requires nothing { server.old.under_way ≡ [] }
     requires kind { is_of_clients message.now.body ≡ true }
     ensures goes { OnOk result (server_takes (doing server.old effects.old) message.now message.now.body ≡ doing server.new effects.new) }

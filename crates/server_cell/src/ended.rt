@@ -6,18 +6,18 @@ ghost use Rattle.server_handlers.specs.Doing.{doing};
 
 use crate::numberings::numberings;
 use messages::event::StepOut;
-use server_handlers::effects::Effects;
+use server_handlers::effects::ServerEffects;
 use server_handlers::server::Server;
 use server_store::store::ReplicaStore;
 use step_outcome::Outcome;
 
 // The changes of the disk are made, and then the messages are sent. Where a change fails, the server stops.
-pub(crate) fn ends<S: ReplicaStore>(server: &mut Server<S>, effects: Effects) -> Outcome
+pub(crate) fn ends<S: ReplicaStore>(server: &mut Server<S>, effects: ServerEffects) -> Outcome
     requires { server.old.under_way ≡ [] }
     ensures { Ends server.old (doing server.old effects) result.out result.seen server.new }
 {
     let alloc = server.alloc();
-    let Effects {
+    let ServerEffects {
         sent,
         changes,
         seen,

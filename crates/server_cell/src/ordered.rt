@@ -7,19 +7,19 @@ ghost use Rattle.server_handlers.specs.Doing.{doing};
 
 use gfs_types::ids::{Handle, Moment, OrderNo, ServerId, Version};
 use gfs_types::lists::ServerList;
-use server_handlers::effects::Effects;
+use server_handlers::effects::ServerEffects;
 use server_handlers::server::Server;
-use server_store::fault::StoreFault;
+use server_store::fault::ReplicaStoreFault;
 use server_store::store::ReplicaStore;
 
 // Create.
 pub(crate) fn orders_create<S: ReplicaStore>(
     server: &mut Server<S>,
-    effects: &mut Effects,
+    effects: &mut ServerEffects,
     order: OrderNo,
     handle: Handle,
     version: Version,
-) -> Result<(), StoreFault>
+) -> Result<(), ReplicaStoreFault>
     ensures goes { OnOk result (on_order (doing server.old effects.old) order (λ o. takes_create o handle.0 version.0) ≡ doing server.new effects.new) }
     ensures frame { frame server.new ≡ frame server.old }
 {
@@ -32,12 +32,12 @@ pub(crate) fn orders_create<S: ReplicaStore>(
 // SetVersion.
 pub(crate) fn orders_set_version<S: ReplicaStore>(
     server: &mut Server<S>,
-    effects: &mut Effects,
+    effects: &mut ServerEffects,
     order: OrderNo,
     handle: Handle,
     version: Version,
     base: Version,
-) -> Result<(), StoreFault>
+) -> Result<(), ReplicaStoreFault>
     ensures goes { OnOk result (on_order (doing server.old effects.old) order (λ o. takes_set_version o handle.0 version.0 base.0) ≡ doing server.new effects.new) }
     ensures frame { frame server.new ≡ frame server.old }
 {
@@ -50,13 +50,13 @@ pub(crate) fn orders_set_version<S: ReplicaStore>(
 // Grant.
 pub(crate) fn orders_grant<S: ReplicaStore>(
     server: &mut Server<S>,
-    effects: &mut Effects,
+    effects: &mut ServerEffects,
     order: OrderNo,
     handle: Handle,
     version: Version,
     end: Moment,
     members: &ServerList,
-) -> Result<(), StoreFault>
+) -> Result<(), ReplicaStoreFault>
     ensures goes { OnOk result (on_order (doing server.old effects.old) order (λ o. takes_grant o handle.0 version.0 end.0 members.now) ≡ doing server.new effects.new) }
     ensures frame { frame server.new ≡ frame server.old }
 {
@@ -69,11 +69,11 @@ pub(crate) fn orders_grant<S: ReplicaStore>(
 // Revoke.
 pub(crate) fn orders_revoke<S: ReplicaStore>(
     server: &mut Server<S>,
-    effects: &mut Effects,
+    effects: &mut ServerEffects,
     order: OrderNo,
     handle: Handle,
     version: Version,
-) -> Result<(), StoreFault>
+) -> Result<(), ReplicaStoreFault>
     ensures goes { OnOk result (on_order (doing server.old effects.old) order (λ o. takes_revoke o handle.0 version.0) ≡ doing server.new effects.new) }
     ensures frame { frame server.new ≡ frame server.old }
 {
@@ -86,11 +86,11 @@ pub(crate) fn orders_revoke<S: ReplicaStore>(
 // Drop.
 pub(crate) fn orders_drop<S: ReplicaStore>(
     server: &mut Server<S>,
-    effects: &mut Effects,
+    effects: &mut ServerEffects,
     order: OrderNo,
     handle: Handle,
     version: Version,
-) -> Result<(), StoreFault>
+) -> Result<(), ReplicaStoreFault>
     ensures goes { OnOk result (on_order (doing server.old effects.old) order (λ o. takes_drop o handle.0 version.0) ≡ doing server.new effects.new) }
     ensures frame { frame server.new ≡ frame server.old }
 {
@@ -103,12 +103,12 @@ pub(crate) fn orders_drop<S: ReplicaStore>(
 // Clone.
 pub(crate) fn orders_clone<S: ReplicaStore>(
     server: &mut Server<S>,
-    effects: &mut Effects,
+    effects: &mut ServerEffects,
     order: OrderNo,
     handle: Handle,
     version: Version,
     source: ServerId,
-) -> Result<(), StoreFault>
+) -> Result<(), ReplicaStoreFault>
     ensures goes { OnOk result (on_order (doing server.old effects.old) order (λ o. takes_clone o handle.0 version.0 source.0) ≡ doing server.new effects.new) }
     ensures frame { frame server.new ≡ frame server.old }
 {
@@ -121,13 +121,13 @@ pub(crate) fn orders_clone<S: ReplicaStore>(
 // CopyLocal.
 pub(crate) fn orders_copy_local<S: ReplicaStore>(
     server: &mut Server<S>,
-    effects: &mut Effects,
+    effects: &mut ServerEffects,
     order: OrderNo,
     handle: Handle,
     version: Version,
     copy: Handle,
     copy_version: Version,
-) -> Result<(), StoreFault>
+) -> Result<(), ReplicaStoreFault>
     requires { server.old.under_way ≡ [] }
     ensures goes { OnOk result (on_order (doing server.old effects.old) order (λ o. takes_copy_local o handle.0 version.0 copy.0 copy_version.0) ≡ doing server.new effects.new) }
     ensures frame { frame server.new ≡ frame server.old }

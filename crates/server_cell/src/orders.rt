@@ -11,16 +11,16 @@ use crate::ordered::{
     orders_set_version,
 };
 use messages::message::{Body, Message};
-use server_handlers::effects::Effects;
+use server_handlers::effects::ServerEffects;
 use server_handlers::server::Server;
-use server_store::fault::StoreFault;
+use server_store::fault::ReplicaStoreFault;
 use server_store::store::ReplicaStore;
 
 pub(crate) fn takes_of_master<S: ReplicaStore>(
     server: &mut Server<S>,
-    effects: &mut Effects,
+    effects: &mut ServerEffects,
     message: &Message,
-) -> Result<(), StoreFault>
+) -> Result<(), ReplicaStoreFault>
     requires nothing { server.old.under_way ≡ [] }
     requires clients { is_of_clients message.now.body ≡ false }
     requires servers { is_of_servers message.now.body ≡ false }

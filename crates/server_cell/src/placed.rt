@@ -14,21 +14,21 @@ use gfs_types::mutation::Mutation;
 use gfs_types::refusal::Refusal;
 use messages::message::Change;
 use replica_store::change::StoreChange;
-use server_handlers::effects::Effects;
+use server_handlers::effects::ServerEffects;
 use server_handlers::mutate::Forwarded;
 use server_handlers::mutations::others;
 use server_handlers::server::Server;
-use server_store::fault::StoreFault;
+use server_store::fault::ReplicaStoreFault;
 use server_store::store::ReplicaStore;
 
 // A mutation takes the next serial; then it is applied, then forwarded. A counter at its limit lets nothing happen.
 pub(crate) fn places<S: ReplicaStore>(
     server: &mut Server<S>,
-    effects: &mut Effects,
+    effects: &mut ServerEffects,
     id: DataId,
     handle: Handle,
     mutation: Mutation,
-) -> Result<(), StoreFault>
+) -> Result<(), ReplicaStoreFault>
     requires nothing { server.old.under_way ≡ [] }
     requires ends { end_of server.old.config.chunk mutation < 2 ^ 64 }
     ensures goes { OnOk result (OnHeld server.old handle.0 (λ p. places (doing server.old effects.old) handle.0 p id mutation ≡ doing server.new effects.new)) }
@@ -52,11 +52,11 @@ pub(crate) fn places<S: ReplicaStore>(
 // The primary gives a mutation its serial, and applies it.
 fn applies_numbered<S: ReplicaStore>(
     server: &mut Server<S>,
-    effects: &mut Effects,
+    effects: &mut ServerEffects,
     id: DataId,
     handle: Handle,
     mutation: Mutation,
-) -> Result<(), StoreFault>
+) -> Result<(), ReplicaStoreFault>
     requires { (p : OrderValue) → held_at server.old handle.0 ≡ Some p → p.serial < counter_limit }
     ensures goes { OnOk result (OnHeld server.old handle.0 (λ p. primary_applies (numbers (doing server.old effects.old) handle.0 p id mutation) handle.0 p id mutation ≡ doing server.new effects.new)) }
     ensures frame { frame server.new ≡ frame server.old }
@@ -74,13 +74,13 @@ fn applies_numbered<S: ReplicaStore>(
 // The change is made, the other members are told, and this server acknowledges.
 fn applies<S: ReplicaStore>(
     server: &mut Server<S>,
-    effects: &mut Effects,
+    effects: &mut ServerEffects,
     id: DataId,
     handle: Handle,
     serial: Serial,
     change: Change,
     stored: StoreChange,
-) -> Result<(), StoreFault>
+) -> Result<(), ReplicaStoreFault>
     ensures goes { OnOk result (OnHeld server.old handle.0 (λ p. applies (doing server.old effects.old) handle.0 p serial.0 id change stored ≡ doing server.new effects.new)) }
     ensures frame { frame server.new ≡ frame server.old }
 {

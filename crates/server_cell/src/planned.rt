@@ -14,9 +14,9 @@ use crate::orders::takes_of_master;
 use crate::servers::takes_of_servers;
 use gfs_types::ids::Moment;
 use messages::message::{Body, Message};
-use server_handlers::effects::Effects;
+use server_handlers::effects::ServerEffects;
 use server_handlers::server::Server;
-use server_store::fault::StoreFault;
+use server_store::fault::ReplicaStoreFault;
 use server_store::store::ReplicaStore;
 
 fn is_of_clients(body: &Body) -> bool
@@ -43,9 +43,9 @@ fn is_of_servers(body: &Body) -> bool
 
 fn plan_message<S: ReplicaStore>(
     server: &mut Server<S>,
-    effects: &mut Effects,
+    effects: &mut ServerEffects,
     message: &Message,
-) -> Result<(), StoreFault>
+) -> Result<(), ReplicaStoreFault>
     requires { server.old.under_way ≡ [] }
     ensures goes { OnOk result (server_takes (doing server.old effects.old) message.now message.now.body ≡ doing server.new effects.new) }
     ensures frame { frame server.new ≡ frame server.old }
@@ -64,14 +64,14 @@ pub(crate) fn plan_step<S: ReplicaStore>(
     server: &mut Server<S>,
     now: Moment,
     message: Option<&Message>,
-) -> Result<Effects, StoreFault>
+) -> Result<ServerEffects, ReplicaStoreFault>
     requires moment { now.0 ≤ moment_limit }
     requires nothing { server.old.under_way ≡ [] }
     ensures goes { IfOk result (λ e. server_goes server.old now.0 (input_of (option_copied message.entry)) ≡ doing server.new e) }
     ensures frame { frame server.new ≡ frame server.old }
 {
     server.move_clock(now);
-    let mut effects = Effects::none(server.alloc());
+    let mut effects = ServerEffects::none(server.alloc());
     match message {
         None => server.ticks(&mut effects)?,
         Some(message) => plan_message(server, &mut effects, message)?,

@@ -20,7 +20,7 @@ use messages::event::StepOut;
 use messages::message::Message;
 use replica_store::row::Row;
 use server_handlers::server::Server;
-use server_store::fault::StoreFault;
+use server_store::fault::ReplicaStoreFault;
 use server_store::stoppable_store::StoppableStore;
 use server_store::store::ReplicaStore;
 use std::alloc::Global;
@@ -94,7 +94,7 @@ impl<S: ReplicaStore> Chunkserver<S> {
 
     /// A byte of a replica becomes another on the disk, past its digest; nothing happens where there is no such replica. At an error
     /// nothing has changed.
-    pub fn rot(&mut self, handle: Handle, place: u64, byte: u8) -> Result<(), StoreFault>
+    pub fn rot(&mut self, handle: Handle, place: u64, byte: u8) -> Result<(), ReplicaStoreFault>
         requires { self.old.up ≡ true }
         ensures ok { OnOk result (self.new ≡ record self.old { disk = disk_rotten self.old.disk handle.0 place byte }) }
         ensures err { OnErr result (self.new ≡ self.old) }

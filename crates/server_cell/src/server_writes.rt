@@ -19,21 +19,21 @@ use primary_order::answer::Attempted;
 use primary_order::kept::Standing;
 use record_append::place;
 use record_append::placing::Placing;
-use server_handlers::effects::Effects;
+use server_handlers::effects::ServerEffects;
 use server_handlers::server::Server;
-use server_store::fault::StoreFault;
+use server_store::fault::ReplicaStoreFault;
 use server_store::store::ReplicaStore;
 
 /// A Mutate.
 pub fn takes_mutate<S: ReplicaStore>(
     server: &mut Server<S>,
-    effects: &mut Effects,
+    effects: &mut ServerEffects,
     id: DataId,
     handle: Handle,
     version: Version,
     target: Target,
     deadline: Moment,
-) -> Result<(), StoreFault>
+) -> Result<(), ReplicaStoreFault>
     requires { server.old.under_way ≡ [] }
     ensures goes { OnOk result (takes_mutate (doing server.old effects.old) id handle.0 version.0 target deadline.0 ≡ doing server.new effects.new) }
     ensures frame { frame server.new ≡ frame server.old }
@@ -59,11 +59,11 @@ pub fn takes_mutate<S: ReplicaStore>(
 
 fn mutates_new<S: ReplicaStore>(
     server: &mut Server<S>,
-    effects: &mut Effects,
+    effects: &mut ServerEffects,
     id: DataId,
     handle: Handle,
     target: Target,
-) -> Result<(), StoreFault>
+) -> Result<(), ReplicaStoreFault>
     requires { server.old.under_way ≡ [] }
     ensures goes { OnOk result (OnHeld server.old handle.0 (λ p. mutates_as (doing server.old effects.old) handle.0 p id target IsNew ≡ doing server.new effects.new)) }
     ensures frame { frame server.new ≡ frame server.old }
@@ -84,12 +84,12 @@ fn mutates_new<S: ReplicaStore>(
 // What doesn't lie within the chunk changes nothing and is not answered.
 fn writes<S: ReplicaStore>(
     server: &mut Server<S>,
-    effects: &mut Effects,
+    effects: &mut ServerEffects,
     id: DataId,
     handle: Handle,
     offset: u64,
     bytes: Bytes,
-) -> Result<(), StoreFault>
+) -> Result<(), ReplicaStoreFault>
     requires { server.old.under_way ≡ [] }
     ensures goes { OnOk result (OnHeld server.old handle.0 (λ p. (if nat_lt server.old.config.chunk (offset + length bytes) then doing server.old effects.old else places (doing server.old effects.old) handle.0 p id (mutation.Write offset bytes)) ≡ doing server.new effects.new)) }
     ensures frame { frame server.new ≡ frame server.old }
@@ -105,12 +105,12 @@ fn writes<S: ReplicaStore>(
 // A record, behind so many bytes of the chunk.
 fn appends<S: ReplicaStore>(
     server: &mut Server<S>,
-    effects: &mut Effects,
+    effects: &mut ServerEffects,
     id: DataId,
     handle: Handle,
     count: u64,
     bytes: Bytes,
-) -> Result<(), StoreFault>
+) -> Result<(), ReplicaStoreFault>
     requires { server.old.under_way ≡ [] }
     ensures goes { OnOk result (OnHeld server.old handle.0 (λ p. appends_as (doing server.old effects.old) handle.0 p id bytes (placing count (length bytes) server.old.config.chunk) ≡ doing server.new effects.new)) }
     ensures frame { frame server.new ≡ frame server.old }

@@ -7,18 +7,18 @@ ghost use Rattle.server_handlers.specs.Doing.{doing};
 ghost use Rattle.server_cell.specs.Kinds.{is_of_servers};
 
 use messages::message::{Body, Message};
-use server_handlers::effects::Effects;
-use server_handlers::forward::Asked;
+use server_handlers::effects::ServerEffects;
+use server_handlers::forward::MemberRequest;
 use server_handlers::mutations::server_number;
 use server_handlers::server::Server;
-use server_store::fault::StoreFault;
+use server_store::fault::ReplicaStoreFault;
 use server_store::store::ReplicaStore;
 
 pub(crate) fn takes_of_servers<S: ReplicaStore>(
     server: &mut Server<S>,
-    effects: &mut Effects,
+    effects: &mut ServerEffects,
     message: &Message,
-) -> Result<(), StoreFault>
+) -> Result<(), ReplicaStoreFault>
     requires nothing { server.old.under_way ≡ [] }
     requires kind { is_of_servers message.now.body ≡ true }
     ensures goes { OnOk result (server_takes (doing server.old effects.old) message.now message.now.body ≡ doing server.new effects.new) }
@@ -33,7 +33,7 @@ pub(crate) fn takes_of_servers<S: ReplicaStore>(
             data,
             change,
         } => {
-            let asked = Asked {
+            let asked = MemberRequest {
                 primary: sender,
                 handle: *handle,
                 version: *version,

@@ -13,9 +13,9 @@ use Rattle.protocol.specs.Tables.{without}
 use Rattle.protocol.specs.Sending.{handle_of, version_of, serial_of}
 use Rattle.protocol.specs.Server.{ServerState, ServerDoing, shows, stores, takes_data, with_primary}
 use Rattle.protocol.specs.ServerWrites.{acknowledges, forwards}
-use Rattle.server_handlers.specs.declared.effects.Effects.{Effects}
+use Rattle.server_handlers.specs.declared.effects.ServerEffects.{ServerEffects}
 
-abbrev pub doing : ServerState → Effects → ServerDoing
+abbrev pub doing : ServerState → ServerEffects → ServerDoing
 doing s e = record { server = s; sent = e.sent; changes = e.changes; seen = e.seen }
 
 abbrev pub held_at : ServerState → ℕ → Option SerialOrder

@@ -7,18 +7,18 @@ ghost use Rattle.protocol.specs.Server.{frame, takes_data};
 ghost use Rattle.protocol.specs.ServerWrites.{takes_forward, applies_change, applies_data, applies_pad, member_stores, nacks};
 ghost use Rattle.server_handlers.specs.Doing.{doing};
 
-use crate::effects::Effects;
+use crate::effects::ServerEffects;
 use crate::server::Server;
 use gfs_types::ids::{DataId, Handle, Node, Serial, Version};
 use gfs_types::refusal::Refusal;
 use messages::message::{Body, Change};
 use replica_store::change::StoreChange;
-use server_store::fault::StoreFault;
+use server_store::fault::ReplicaStoreFault;
 use server_store::store::ReplicaStore;
 
 /// What a primary asks of a member.
 #[derive(Clone, Copy)]
-pub struct Asked {
+pub struct MemberRequest {
     pub primary: Node,
     pub handle: Handle,
     pub version: Version,
@@ -30,10 +30,10 @@ impl<S: ReplicaStore> Server<S> {
     /// A Forward.
     pub fn takes_forward(
         &mut self,
-        effects: &mut Effects,
-        asked: Asked,
+        effects: &mut ServerEffects,
+        asked: MemberRequest,
         change: Change,
-    ) -> Result<(), StoreFault>
+    ) -> Result<(), ReplicaStoreFault>
         requires { self.old.under_way ≡ [] }
         ensures goes { OnOk result (takes_forward (doing self.old effects.old) asked.primary asked.handle.0 asked.version.0 asked.serial.0 asked.id change ≡ doing self.new effects.new) }
         ensures frame { frame self.new ≡ frame self.old }
@@ -50,10 +50,15 @@ impl<S: ReplicaStore> Server<S> {
         self.applies_change(effects, asked, change)
     }
 
-    fn nacks(&self, effects: &mut Effects, asked: Asked, refusal: Refusal) -> Result<(), StoreFault>
+    fn nacks(
+        &self,
+        effects: &mut ServerEffects,
+        asked: MemberRequest,
+        refusal: Refusal,
+    ) -> Result<(), ReplicaStoreFault>
         ensures { OnOk result (nacks (doing self.now effects.old) asked.primary asked.handle.0 asked.version.0 asked.serial.0 refusal ≡ doing self.now effects.new) }
     {
-        let Asked {
+        let MemberRequest {
             primary,
             handle,
             version,
@@ -71,10 +76,10 @@ impl<S: ReplicaStore> Server<S> {
 
     fn applies_change(
         &mut self,
-        effects: &mut Effects,
-        asked: Asked,
+        effects: &mut ServerEffects,
+        asked: MemberRequest,
         change: Change,
-    ) -> Result<(), StoreFault>
+    ) -> Result<(), ReplicaStoreFault>
         requires { self.old.under_way ≡ [] }
         ensures goes { OnOk result (applies_change (doing self.old effects.old) asked.primary asked.handle.0 asked.version.0 asked.serial.0 asked.id change ≡ doing self.new effects.new) }
         ensures frame { frame self.new ≡ frame self.old }
@@ -89,10 +94,10 @@ impl<S: ReplicaStore> Server<S> {
 
     fn applies_data(
         &mut self,
-        effects: &mut Effects,
-        asked: Asked,
+        effects: &mut ServerEffects,
+        asked: MemberRequest,
         offset: u64,
-    ) -> Result<(), StoreFault>
+    ) -> Result<(), ReplicaStoreFault>
         requires { self.old.under_way ≡ [] }
         ensures goes { OnOk result (applies_data (doing self.old effects.old) asked.primary asked.handle.0 asked.version.0 asked.serial.0 asked.id offset (data_of self.old.pushed asked.id) ≡ doing self.new effects.new) }
         ensures frame { frame self.new ≡ frame self.old }
@@ -116,10 +121,10 @@ impl<S: ReplicaStore> Server<S> {
 
     fn applies_pad(
         &mut self,
-        effects: &mut Effects,
-        asked: Asked,
+        effects: &mut ServerEffects,
+        asked: MemberRequest,
         offset: u64,
-    ) -> Result<(), StoreFault>
+    ) -> Result<(), ReplicaStoreFault>
         requires { self.old.under_way ≡ [] }
         ensures goes { OnOk result (applies_pad (doing self.old effects.old) asked.primary asked.handle.0 asked.version.0 asked.serial.0 asked.id offset (self.old.config.chunk - offset) ≡ doing self.new effects.new) }
         ensures frame { frame self.new ≡ frame self.old }
@@ -140,12 +145,12 @@ impl<S: ReplicaStore> Server<S> {
     // A member applies a mutation that lies within the chunk.
     fn member_stores(
         &mut self,
-        effects: &mut Effects,
-        asked: Asked,
+        effects: &mut ServerEffects,
+        asked: MemberRequest,
         change: StoreChange,
         offset: u64,
         end: u64,
-    ) -> Result<(), StoreFault>
+    ) -> Result<(), ReplicaStoreFault>
         requires { self.old.under_way ≡ [] }
         ensures goes { OnOk result (member_stores (is_writable_at self.old.disk asked.handle.0 offset end) (takes_data (doing self.old effects.old) asked.id) asked.primary asked.handle.0 asked.version.0 asked.serial.0 change ≡ doing self.new effects.new) }
         ensures frame { frame self.new ≡ frame self.old }
@@ -157,7 +162,7 @@ impl<S: ReplicaStore> Server<S> {
             return self.nacks(effects, asked, Refusal::Corrupt);
         }
         effects.change(change)?;
-        let Asked {
+        let MemberRequest {
             primary,
             handle,
             version,

@@ -14,7 +14,7 @@ use gfs_types::config::Config;
 use gfs_types::ids::{Handle, Moment, ServerId};
 use ordered_map::number_map::NumberMap;
 use replica_store::change::ChangeList;
-use server_store::fault::StoreFault;
+use server_store::fault::ReplicaStoreFault;
 use server_store::store::{ReplicaStore, commit_all};
 use std::alloc::Global;
 
@@ -70,7 +70,7 @@ impl<S: ReplicaStore> Server<S> {
     }
 
     /// The changes of its disk are made in their order. At an error some were made, from the first on, and the next one is under way.
-    pub fn commit(&mut self, changes: ChangeList) -> Result<(), StoreFault>
+    pub fn commit(&mut self, changes: ChangeList) -> Result<(), ReplicaStoreFault>
         requires { self.old.under_way ≡ [] }
         ensures ok { OnOk result (self.new ≡ record self.old { disk = disk_changed_by_all self.old.disk changes }) }
         ensures err { OnErr result (MadePart self.old.disk changes self.new.disk self.new.under_way) }
@@ -81,7 +81,7 @@ impl<S: ReplicaStore> Server<S> {
     }
 
     /// The disk is opened again, and what was under way is found made or not. An error leaves all as it was.
-    pub fn reopen(&mut self) -> Result<(), StoreFault>
+    pub fn reopen(&mut self) -> Result<(), ReplicaStoreFault>
         ensures found { OnOk result (IsFound self.old.disk self.old.under_way self.new.disk) }
         ensures nothing { OnOk result (self.new.under_way ≡ []) }
         ensures err { OnErr result (self.new ≡ self.old) }
@@ -93,7 +93,7 @@ impl<S: ReplicaStore> Server<S> {
 
     /// A byte of a replica becomes another on the disk, past its digest; nothing happens where there is no such replica. NoRoom: no
     /// replica of this store can have a byte at that place. At an error nothing has changed.
-    pub fn rot(&mut self, handle: Handle, place: u64, byte: u8) -> Result<(), StoreFault>
+    pub fn rot(&mut self, handle: Handle, place: u64, byte: u8) -> Result<(), ReplicaStoreFault>
         requires { self.old.under_way ≡ [] }
         ensures ok { OnOk result (self.new ≡ record self.old { disk = disk_rotten self.old.disk handle.0 place byte }) }
         ensures err { OnErr result (self.new ≡ self.old) }

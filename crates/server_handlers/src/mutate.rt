@@ -7,7 +7,7 @@ ghost use Rattle.protocol.specs.Server.{frame};
 ghost use Rattle.protocol.specs.ServerWrites.{denies, forwards, acknowledges, takes_acked, takes_nacked};
 ghost use Rattle.server_handlers.specs.Doing.{doing, OnHeld, held_at, numbers};
 
-use crate::effects::Effects;
+use crate::effects::ServerEffects;
 use crate::held_leases::{acknowledge, deny, number, refuse};
 use crate::mutations::place_of;
 use crate::server::Server;
@@ -18,7 +18,7 @@ use gfs_types::refusal::Refusal;
 use messages::message::{Body, Change};
 use primary_order::answer::Settled;
 use protocol::seen::Seen;
-use server_store::fault::StoreFault;
+use server_store::fault::ReplicaStoreFault;
 use server_store::store::ReplicaStore;
 
 /// What goes to each other member.
@@ -35,11 +35,11 @@ impl<S: ReplicaStore> Server<S> {
     /// A new attempt is refused, which is kept; its data are used up.
     pub fn denies(
         &mut self,
-        effects: &mut Effects,
+        effects: &mut ServerEffects,
         id: DataId,
         handle: Handle,
         refusal: Refusal,
-    ) -> Result<(), StoreFault>
+    ) -> Result<(), ReplicaStoreFault>
         ensures goes { OnOk result (OnHeld self.old handle.0 (λ p. denies (doing self.old effects.old) handle.0 p id refusal ≡ doing self.new effects.new)) }
         ensures frame { frame self.new ≡ frame self.old }
     {
@@ -51,11 +51,11 @@ impl<S: ReplicaStore> Server<S> {
     /// The primary gives a mutation its serial, and its data are used up.
     pub fn numbers(
         &mut self,
-        effects: &mut Effects,
+        effects: &mut ServerEffects,
         id: DataId,
         handle: Handle,
         mutation: Mutation,
-    ) -> Result<(), StoreFault>
+    ) -> Result<(), ReplicaStoreFault>
         requires { (p : OrderValue) → held_at self.old handle.0 ≡ Some p → p.serial < counter_limit }
         ensures goes { OnOk result (OnHeld self.old handle.0 (λ p. numbers (doing self.old effects.old) handle.0 p id mutation ≡ doing self.new effects.new)) }
         ensures frame { frame self.new ≡ frame self.old }
@@ -85,10 +85,10 @@ impl<S: ReplicaStore> Server<S> {
     /// A mutation goes to each of these.
     pub fn forwards(
         &self,
-        effects: &mut Effects,
+        effects: &mut ServerEffects,
         members: &ServerList,
         forwarded: Forwarded,
-    ) -> Result<(), StoreFault>
+    ) -> Result<(), ReplicaStoreFault>
         ensures { OnOk result (forwards (doing self.now effects.old) members.now forwarded.handle.0 forwarded.version.0 forwarded.serial.0 forwarded.id forwarded.change ≡ doing self.now effects.new) }
     {
         let Forwarded {
@@ -114,11 +114,11 @@ impl<S: ReplicaStore> Server<S> {
     /// A member acknowledged: where it was the last one, the mutation is settled and its client is answered.
     pub fn acknowledges(
         &mut self,
-        effects: &mut Effects,
+        effects: &mut ServerEffects,
         handle: Handle,
         server: ServerId,
         serial: Serial,
-    ) -> Result<(), StoreFault>
+    ) -> Result<(), ReplicaStoreFault>
         ensures goes { OnOk result (OnHeld self.old handle.0 (λ p. acknowledges (doing self.old effects.old) handle.0 p server.0 serial.0 ≡ doing self.new effects.new)) }
         ensures frame { frame self.new ≡ frame self.old }
     {
@@ -141,12 +141,12 @@ impl<S: ReplicaStore> Server<S> {
     /// An Acked; it counts only while the lease does.
     pub fn takes_acked(
         &mut self,
-        effects: &mut Effects,
+        effects: &mut ServerEffects,
         server: ServerId,
         handle: Handle,
         version: Version,
         serial: Serial,
-    ) -> Result<(), StoreFault>
+    ) -> Result<(), ReplicaStoreFault>
         ensures goes { OnOk result (takes_acked (doing self.old effects.old) server.0 handle.0 version.0 serial.0 ≡ doing self.new effects.new) }
         ensures frame { frame self.new ≡ frame self.old }
     {
@@ -159,12 +159,12 @@ impl<S: ReplicaStore> Server<S> {
     /// A Nacked: the member's refusal is handed to the client.
     pub fn takes_nacked(
         &mut self,
-        effects: &mut Effects,
+        effects: &mut ServerEffects,
         handle: Handle,
         version: Version,
         serial: Serial,
         refusal: Refusal,
-    ) -> Result<(), StoreFault>
+    ) -> Result<(), ReplicaStoreFault>
         ensures goes { OnOk result (takes_nacked (doing self.old effects.old) handle.0 version.0 serial.0 refusal ≡ doing self.new effects.new) }
         ensures frame { frame self.new ≡ frame self.old }
     {

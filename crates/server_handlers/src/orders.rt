@@ -8,7 +8,7 @@ ghost use Rattle.protocol.specs.Server.{frame, server_begins, stores, without_le
 ghost use Rattle.protocol.specs.ServerOrders.{on_order, records, can_take, takes_create, takes_set_version, takes_grant, takes_extend, takes_revoke, takes_drop, takes_clone, takes_image, takes_copy_local};
 ghost use Rattle.server_handlers.specs.Doing.{doing, is_held_at};
 
-use crate::effects::Effects;
+use crate::effects::ServerEffects;
 use crate::held_leases::extend;
 use crate::server::Server;
 use bytes::Bytes;
@@ -18,12 +18,16 @@ use leases::lease::Lease;
 use messages::message::Body;
 use primary_order::order::SerialOrder;
 use replica_store::change::StoreChange;
-use server_store::fault::StoreFault;
+use server_store::fault::ReplicaStoreFault;
 use server_store::store::ReplicaStore;
 
 impl<S: ReplicaStore> Server<S> {
     /// Whether an order is taken: only where its number is greater than the last one's; that number is on the disk first.
-    pub fn begins_order(&self, effects: &mut Effects, order: OrderNo) -> Result<bool, StoreFault>
+    pub fn begins_order(
+        &self,
+        effects: &mut ServerEffects,
+        order: OrderNo,
+    ) -> Result<bool, ReplicaStoreFault>
         ensures new { IfOk result (λ b. b ≡ is_new_order self.now.disk order.epoch order.count) }
         ensures goes { IfOk result (λ b. doing self.now effects.new ≡ (if b then stores (doing self.now effects.old) (SetOrder order) else doing self.now effects.old)) }
     {
@@ -38,10 +42,10 @@ impl<S: ReplicaStore> Server<S> {
 
     fn records(
         &self,
-        effects: &mut Effects,
+        effects: &mut ServerEffects,
         handle: Handle,
         version: Version,
-    ) -> Result<(), StoreFault>
+    ) -> Result<(), ReplicaStoreFault>
         ensures { OnOk result (records (doing self.now effects.old) handle.0 version.0 ≡ doing self.now effects.new) }
     {
         self.send(effects, Node::Master, Body::Recorded { handle, version })
@@ -57,10 +61,10 @@ impl<S: ReplicaStore> Server<S> {
     /// Create: an empty replica.
     pub fn takes_create(
         &self,
-        effects: &mut Effects,
+        effects: &mut ServerEffects,
         handle: Handle,
         version: Version,
-    ) -> Result<(), StoreFault>
+    ) -> Result<(), ReplicaStoreFault>
         ensures { OnOk result (takes_create (doing self.now effects.old) handle.0 version.0 ≡ doing self.now effects.new) }
     {
         if !self.can_take(handle) {
@@ -78,11 +82,11 @@ impl<S: ReplicaStore> Server<S> {
     /// SetVersion: a replica of exactly the base gets the version; a lease that it had under the base is over.
     pub fn takes_set_version(
         &mut self,
-        effects: &mut Effects,
+        effects: &mut ServerEffects,
         handle: Handle,
         version: Version,
         base: Version,
-    ) -> Result<(), StoreFault>
+    ) -> Result<(), ReplicaStoreFault>
         ensures goes { OnOk result (takes_set_version (doing self.old effects.old) handle.0 version.0 base.0 ≡ doing self.new effects.new) }
         ensures frame { frame self.new ≡ frame self.old }
     {
@@ -100,12 +104,12 @@ impl<S: ReplicaStore> Server<S> {
     /// Grant: the lease begins, with serials from 1.
     pub fn takes_grant(
         &mut self,
-        effects: &mut Effects,
+        effects: &mut ServerEffects,
         handle: Handle,
         version: Version,
         end: Moment,
         members: &ServerList,
-    ) -> Result<(), StoreFault>
+    ) -> Result<(), ReplicaStoreFault>
         ensures goes { OnOk result (takes_grant (doing self.old effects.old) handle.0 version.0 end.0 members.now ≡ doing self.new effects.new) }
         ensures frame { frame self.new ≡ frame self.old }
     {
@@ -122,7 +126,13 @@ impl<S: ReplicaStore> Server<S> {
     }
 
     /// Extend, which has no number.
-    pub fn takes_extend(&mut self, effects: &Effects, handle: Handle, version: Version, end: Moment)
+    pub fn takes_extend(
+        &mut self,
+        effects: &ServerEffects,
+        handle: Handle,
+        version: Version,
+        end: Moment,
+    )
         ensures goes { takes_extend (doing self.old effects.now) handle.0 version.0 end.0 ≡ doing self.new effects.now }
         ensures frame { frame self.new ≡ frame self.old }
     {
@@ -143,10 +153,10 @@ impl<S: ReplicaStore> Server<S> {
     /// Revoke: a server without that lease answers the same.
     pub fn takes_revoke(
         &mut self,
-        effects: &mut Effects,
+        effects: &mut ServerEffects,
         handle: Handle,
         version: Version,
-    ) -> Result<(), StoreFault>
+    ) -> Result<(), ReplicaStoreFault>
         ensures goes { OnOk result (takes_revoke (doing self.old effects.old) handle.0 version.0 ≡ doing self.new effects.new) }
         ensures frame { frame self.new ≡ frame self.old }
     {
@@ -168,10 +178,10 @@ impl<S: ReplicaStore> Server<S> {
     /// Drop: nothing newer than the version goes.
     pub fn takes_drop(
         &mut self,
-        effects: &mut Effects,
+        effects: &mut ServerEffects,
         handle: Handle,
         version: Version,
-    ) -> Result<(), StoreFault>
+    ) -> Result<(), ReplicaStoreFault>
         ensures goes { OnOk result (takes_drop (doing self.old effects.old) handle.0 version.0 ≡ doing self.new effects.new) }
         ensures frame { frame self.new ≡ frame self.old }
     {
@@ -188,11 +198,11 @@ impl<S: ReplicaStore> Server<S> {
     /// Clone: the source is asked for its bytes.
     pub fn takes_clone(
         &mut self,
-        effects: &mut Effects,
+        effects: &mut ServerEffects,
         handle: Handle,
         version: Version,
         source: ServerId,
-    ) -> Result<(), StoreFault>
+    ) -> Result<(), ReplicaStoreFault>
         ensures goes { OnOk result (takes_clone (doing self.old effects.old) handle.0 version.0 source.0 ≡ doing self.new effects.new) }
         ensures frame { frame self.new ≡ frame self.old }
     {
@@ -207,12 +217,12 @@ impl<S: ReplicaStore> Server<S> {
     /// Image: it is installed only while its Clone order is the pending one, and at that exact version.
     pub fn takes_image(
         &mut self,
-        effects: &mut Effects,
+        effects: &mut ServerEffects,
         handle: Handle,
         version: Version,
         serial: Serial,
         bytes: &Bytes,
-    ) -> Result<(), StoreFault>
+    ) -> Result<(), ReplicaStoreFault>
         ensures goes { OnOk result (takes_image (doing self.old effects.old) handle.0 version.0 serial.0 bytes.now ≡ doing self.new effects.new) }
         ensures frame { frame self.new ≡ frame self.old }
     {
@@ -237,12 +247,12 @@ impl<S: ReplicaStore> Server<S> {
     /// CopyLocal: a replica of a shared chunk is copied on the same disk, under a new handle.
     pub fn takes_copy_local(
         &mut self,
-        effects: &mut Effects,
+        effects: &mut ServerEffects,
         handle: Handle,
         version: Version,
         copy: Handle,
         copy_version: Version,
-    ) -> Result<(), StoreFault>
+    ) -> Result<(), ReplicaStoreFault>
         requires { self.old.under_way ≡ [] }
         ensures goes { OnOk result (takes_copy_local (doing self.old effects.old) handle.0 version.0 copy.0 copy_version.0 ≡ doing self.new effects.new) }
         ensures frame { frame self.new ≡ frame self.old }

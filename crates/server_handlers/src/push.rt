@@ -7,7 +7,7 @@ ghost use Rattle.protocol.specs.Server.{frame};
 ghost use Rattle.protocol.specs.ServerWrites.{takes_push, passes_on};
 ghost use Rattle.server_handlers.specs.Doing.{doing};
 
-use crate::effects::Effects;
+use crate::effects::ServerEffects;
 use crate::server::Server;
 use bytes::Bytes;
 use data_push::next_hop;
@@ -15,7 +15,7 @@ use gfs_types::ids::{DataId, Node, ServerId};
 use gfs_types::lists::ServerList;
 use gfs_types::no_memory::NoMemory;
 use messages::message::Body;
-use server_store::fault::StoreFault;
+use server_store::fault::ReplicaStoreFault;
 use server_store::store::ReplicaStore;
 use std::alloc::Global;
 
@@ -23,11 +23,11 @@ impl<S: ReplicaStore> Server<S> {
     /// A Push: the data are kept and go to the next server; the last one answers.
     pub fn takes_push(
         &mut self,
-        effects: &mut Effects,
+        effects: &mut ServerEffects,
         id: DataId,
         bytes: &Bytes,
         rest: &ServerList,
-    ) -> Result<(), StoreFault>
+    ) -> Result<(), ReplicaStoreFault>
         ensures goes { OnOk result (takes_push (doing self.old effects.old) id bytes.now rest.now ≡ doing self.new effects.new) }
         ensures frame { frame self.new ≡ frame self.old }
     {
@@ -38,11 +38,11 @@ impl<S: ReplicaStore> Server<S> {
 
     fn passes_on(
         &self,
-        effects: &mut Effects,
+        effects: &mut ServerEffects,
         id: DataId,
         bytes: &Bytes,
         rest: &ServerList,
-    ) -> Result<(), StoreFault>
+    ) -> Result<(), ReplicaStoreFault>
         ensures { OnOk result (passes_on (doing self.now effects.old) id bytes.now rest.now (next_hop rest.now self.now.id) ≡ doing self.now effects.new) }
     {
         match hop_after(self.alloc, rest, self.id)? {

@@ -5,12 +5,12 @@ ghost use Rattle.protocol.specs.Server.{frame};
 ghost use Rattle.protocol.specs.ServerReads.{takes_read, takes_len, takes_copy_ask};
 ghost use Rattle.server_handlers.specs.Doing.{doing};
 
-use crate::effects::Effects;
+use crate::effects::ServerEffects;
 use crate::server::Server;
 use gfs_types::ids::{Handle, Node, Version};
 use gfs_types::refusal::Refusal;
 use messages::message::Body;
-use server_store::fault::StoreFault;
+use server_store::fault::ReplicaStoreFault;
 use server_store::store::ReplicaStore;
 
 /// What is read of a replica, and for whom.
@@ -26,11 +26,11 @@ impl<S: ReplicaStore> Server<S> {
     /// A Read.
     pub fn takes_read(
         &mut self,
-        effects: &mut Effects,
+        effects: &mut ServerEffects,
         asking: Asking,
         offset: u64,
         count: u64,
-    ) -> Result<(), StoreFault>
+    ) -> Result<(), ReplicaStoreFault>
         requires { self.old.under_way ≡ [] }
         ensures goes { OnOk result (takes_read (doing self.old effects.old) asking.client asking.number asking.handle.0 asking.version.0 offset count ≡ doing self.new effects.new) }
         ensures frame { frame self.new ≡ frame self.old }
@@ -55,7 +55,11 @@ impl<S: ReplicaStore> Server<S> {
     }
 
     /// A Len.
-    pub fn takes_len(&self, effects: &mut Effects, asking: Asking) -> Result<(), StoreFault>
+    pub fn takes_len(
+        &self,
+        effects: &mut ServerEffects,
+        asking: Asking,
+    ) -> Result<(), ReplicaStoreFault>
         ensures { OnOk result (takes_len (doing self.now effects.old) asking.client asking.number asking.handle.0 asking.version.0 ≡ doing self.now effects.new) }
     {
         let Asking {
@@ -77,11 +81,11 @@ impl<S: ReplicaStore> Server<S> {
     /// A CopyAsk: another server is to have a replica (section 4.3).
     pub fn takes_copy_ask(
         &mut self,
-        effects: &mut Effects,
+        effects: &mut ServerEffects,
         target: Node,
         handle: Handle,
         version: Version,
-    ) -> Result<(), StoreFault>
+    ) -> Result<(), ReplicaStoreFault>
         requires { self.old.under_way ≡ [] }
         ensures goes { OnOk result (takes_copy_ask (doing self.old effects.old) target handle.0 version.0 ≡ doing self.new effects.new) }
         ensures frame { frame self.new ≡ frame self.old }

@@ -12,7 +12,7 @@ ghost use Rattle.protocol.specs.ServerStep.{server_at};
 ghost use Rattle.protocol.specs.ServerWrites.{refuses_attempt, answers_settled};
 ghost use Rattle.server_handlers.specs.Doing.{doing};
 
-use crate::effects::Effects;
+use crate::effects::ServerEffects;
 use crate::held_leases::LeaseTable;
 use crate::pushed::Pushed;
 use bytes::Bytes;
@@ -24,7 +24,7 @@ use ordered_map::number_map::NumberMap;
 use primary_order::order::SerialOrder;
 use replica_store::change::StoreChange;
 use replica_store::row::Row;
-use server_store::fault::StoreFault;
+use server_store::fault::ReplicaStoreFault;
 use server_store::store::ReplicaStore;
 use std::alloc::Global;
 use std::marker::Model;
@@ -126,7 +126,12 @@ impl<S: ReplicaStore> Server<S> {
     }
 
     /// Whether a range of a replica can be written over.
-    pub fn is_writable(&mut self, handle: Handle, offset: u64, end: u64) -> Result<bool, StoreFault>
+    pub fn is_writable(
+        &mut self,
+        handle: Handle,
+        offset: u64,
+        end: u64,
+    ) -> Result<bool, ReplicaStoreFault>
         requires { self.old.under_way ≡ [] }
         ensures value { IfOk result (λ b. b ≡ is_writable_at self.old.disk handle.0 offset end) }
         ensures same { self.new ≡ self.old }
@@ -143,7 +148,12 @@ impl<S: ReplicaStore> Server<S> {
     }
 
     /// A message is sent.
-    pub fn send(&self, effects: &mut Effects, receiver: Node, body: Body) -> Result<(), StoreFault>
+    pub fn send(
+        &self,
+        effects: &mut ServerEffects,
+        receiver: Node,
+        body: Body,
+    ) -> Result<(), ReplicaStoreFault>
         ensures { OnOk result (sends (doing self.now effects.old) receiver body ≡ doing self.now effects.new) }
     {
         effects.send(Message {
@@ -157,11 +167,11 @@ impl<S: ReplicaStore> Server<S> {
     /// A refusal is sent.
     pub fn refuses(
         &self,
-        effects: &mut Effects,
+        effects: &mut ServerEffects,
         receiver: Node,
         number: u64,
         refusal: Refusal,
-    ) -> Result<(), StoreFault>
+    ) -> Result<(), ReplicaStoreFault>
         ensures { OnOk result (refuses (doing self.now effects.old) receiver number refusal ≡ doing self.now effects.new) }
     {
         self.send(effects, receiver, Body::Refused { number, refusal })
@@ -170,10 +180,10 @@ impl<S: ReplicaStore> Server<S> {
     /// The client of an attempt is refused.
     pub fn refuses_attempt(
         &self,
-        effects: &mut Effects,
+        effects: &mut ServerEffects,
         id: DataId,
         refusal: Refusal,
-    ) -> Result<(), StoreFault>
+    ) -> Result<(), ReplicaStoreFault>
         ensures { OnOk result (refuses_attempt (doing self.now effects.old) id refusal ≡ doing self.now effects.new) }
     {
         self.refuses(effects, Node::Client(id.client), id.seq, refusal)
@@ -182,10 +192,10 @@ impl<S: ReplicaStore> Server<S> {
     /// The client of a settled attempt is answered: its place, or that the chunk is full now.
     pub fn answers_settled(
         &self,
-        effects: &mut Effects,
+        effects: &mut ServerEffects,
         id: DataId,
         place: Option<u64>,
-    ) -> Result<(), StoreFault>
+    ) -> Result<(), ReplicaStoreFault>
         ensures { OnOk result (answers_settled (doing self.now effects.old) id place ≡ doing self.now effects.new) }
     {
         match place {
@@ -198,7 +208,11 @@ impl<S: ReplicaStore> Server<S> {
     }
 
     /// A replica that doesn't match its checksums is dropped, and with it the lease.
-    pub fn drops_corrupt(&mut self, effects: &mut Effects, handle: Handle) -> Result<(), StoreFault>
+    pub fn drops_corrupt(
+        &mut self,
+        effects: &mut ServerEffects,
+        handle: Handle,
+    ) -> Result<(), ReplicaStoreFault>
         ensures goes { OnOk result (drops_corrupt (doing self.old effects.old) handle.0 ≡ doing self.new effects.new) }
         ensures frame { frame self.new ≡ frame self.old }
     {

@@ -5,17 +5,17 @@ ghost use Rattle.protocol.specs.Server.{frame};
 ghost use Rattle.protocol.specs.ServerStep.{server_ticks};
 ghost use Rattle.server_handlers.specs.Doing.{doing};
 
-use crate::effects::Effects;
+use crate::effects::ServerEffects;
 use crate::held_leases::report;
 use crate::server::Server;
 use gfs_types::ids::{Moment, Node};
 use messages::message::Body;
-use server_store::fault::StoreFault;
+use server_store::fault::ReplicaStoreFault;
 use server_store::store::ReplicaStore;
 
 impl<S: ReplicaStore> Server<S> {
     /// A tick: leases that no longer count are forgotten, and the replicas and leases are reported to the master.
-    pub fn ticks(&mut self, effects: &mut Effects) -> Result<(), StoreFault>
+    pub fn ticks(&mut self, effects: &mut ServerEffects) -> Result<(), ReplicaStoreFault>
         ensures goes { OnOk result (server_ticks (doing self.old effects.old) ≡ doing self.new effects.new) }
         ensures frame { frame self.new ≡ frame self.old }
     {

@@ -1,9 +1,9 @@
 -- What a store's faults are printed as.
 use Rattle.std.specs.Prelude.{ℕ, List, codes}
-use Rattle.server_store.specs.declared.fault.StoreFault.{StoreFault}
-use Rattle.server_store.specs.declared.fault.StoreFault.TheVariants.{NoMemory, DiskFailed, NoRoom}
+use Rattle.server_store.specs.declared.fault.ReplicaStoreFault.{ReplicaStoreFault}
+use Rattle.server_store.specs.declared.fault.ReplicaStoreFault.TheVariants.{NoMemory, DiskFailed, NoRoom}
 
-abbrev pub store_fault_text : StoreFault → List ℕ
+abbrev pub store_fault_text : ReplicaStoreFault → List ℕ
 store_fault_text NoMemory = codes "no memory"
 store_fault_text DiskFailed = codes "the disk failed"
 store_fault_text NoRoom = codes "no room"

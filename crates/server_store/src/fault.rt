@@ -10,7 +10,7 @@ use std::fmt;
 
 /// Why a store didn't do what it was asked for.
 #[derive(Clone, Copy, Debug, PartialEq, Eq)]
-pub enum StoreFault {
+pub enum ReplicaStoreFault {
     /// An allocator refused what the call needs.
     NoMemory,
     /// A call of the disk failed.
@@ -19,28 +19,28 @@ pub enum StoreFault {
     NoRoom,
 }
 
-impl fmt::Display for StoreFault {
+impl fmt::Display for ReplicaStoreFault {
     ghost output = { λ fault. Some (store_fault_text fault) };
 
     fn fmt<W: fmt::Write>(&self, f: &mut fmt::Formatter<W>) -> fmt::Result {
         match self {
-            StoreFault::NoMemory => write!(f, "no memory"),
-            StoreFault::DiskFailed => write!(f, "the disk failed"),
-            StoreFault::NoRoom => write!(f, "no room"),
+            ReplicaStoreFault::NoMemory => write!(f, "no memory"),
+            ReplicaStoreFault::DiskFailed => write!(f, "the disk failed"),
+            ReplicaStoreFault::NoRoom => write!(f, "no room"),
         }
     }
 }
 
-impl Error for StoreFault {}
+impl Error for ReplicaStoreFault {}
 
-impl From<NoMemory> for StoreFault {
-    fn from(_fault: NoMemory) -> StoreFault {
-        StoreFault::NoMemory
+impl From<NoMemory> for ReplicaStoreFault {
+    fn from(_fault: NoMemory) -> ReplicaStoreFault {
+        ReplicaStoreFault::NoMemory
     }
 }
 
-impl From<AllocError> for StoreFault {
-    fn from(_fault: AllocError) -> StoreFault {
-        StoreFault::NoMemory
+impl From<AllocError> for ReplicaStoreFault {
+    fn from(_fault: AllocError) -> ReplicaStoreFault {
+        ReplicaStoreFault::NoMemory
     }
 }

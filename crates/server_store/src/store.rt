@@ -5,7 +5,7 @@ ghost use Rattle.std.specs.FinMap as map;
 ghost use Rattle.replica_store.specs.Replicas.{ServerDisk, disk_changed, disk_changed_by_all, row_at, read_at, is_copyable_at, is_writable_at, is_disk_full};
 ghost use Rattle.server_store.specs.Stores.{IsFound, MadePart, disk_rotten, replica_lines};
 
-use crate::fault::StoreFault;
+use crate::fault::ReplicaStoreFault;
 use bytes::Bytes;
 use gfs_types::ids::{Handle, OrderNo};
 use gfs_types::no_memory::NoMemory;
@@ -49,14 +49,19 @@ pub trait ReplicaStore {
 
     /// Whether the range from `offset` to before `end` can be written over: its first and last block match their digests, where part of
     /// them is written over. True where there is no such replica.
-    fn is_writable(&mut self, handle: Handle, offset: u64, end: u64) -> Result<bool, StoreFault>
+    fn is_writable(
+        &mut self,
+        handle: Handle,
+        offset: u64,
+        end: u64,
+    ) -> Result<bool, ReplicaStoreFault>
         requires { under_way self.old ≡ [] }
         ensures disk { disk self.new ≡ disk self.old }
         ensures nothing { under_way self.new ≡ [] }
         ensures value { IfOk result (λ b. b ≡ is_writable_at (disk self.old) handle.0 offset end) };
 
     /// Whether every block of the replica matches its digest. False where there is no such replica.
-    fn is_copyable(&mut self, handle: Handle) -> Result<bool, StoreFault>
+    fn is_copyable(&mut self, handle: Handle) -> Result<bool, ReplicaStoreFault>
         requires { under_way self.old ≡ [] }
         ensures disk { disk self.new ≡ disk self.old }
         ensures nothing { under_way self.new ≡ [] }
@@ -70,7 +75,7 @@ pub trait ReplicaStore {
         handle: Handle,
         offset: u64,
         count: u64,
-    ) -> Result<Option<Bytes>, StoreFault>
+    ) -> Result<Option<Bytes>, ReplicaStoreFault>
         requires { under_way self.old ≡ [] }
         ensures disk { disk self.new ≡ disk self.old }
         ensures nothing { under_way self.new ≡ [] }
@@ -78,7 +83,7 @@ pub trait ReplicaStore {
 
     /// Makes a change, which a stop leaves made or not. After an error it is under way, and the store keeps it: the store is to be opened
     /// again, which finds it made or not.
-    fn commit(&mut self, change: StoreChange) -> Result<(), StoreFault>
+    fn commit(&mut self, change: StoreChange) -> Result<(), ReplicaStoreFault>
         requires { under_way self.old ≡ [] }
         ensures disk { OnOk result (disk self.new ≡ disk_changed (disk self.old) change) }
         ensures nothing { OnOk result (under_way self.new ≡ []) }
@@ -86,7 +91,7 @@ pub trait ReplicaStore {
         ensures open { OnErr result (under_way self.new ≡ change ∷ []) };
 
     /// Opens the store again, as a restart does, and finds what was under way made or not. An error leaves all as it was.
-    fn reopen(&mut self) -> Result<(), StoreFault>
+    fn reopen(&mut self) -> Result<(), ReplicaStoreFault>
         ensures disk { OnOk result (IsFound (disk self.old) (under_way self.old) (disk self.new)) }
         ensures nothing { OnOk result (under_way self.new ≡ []) }
         ensures err { OnErr result (disk self.new ≡ disk self.old) }
@@ -94,7 +99,7 @@ pub trait ReplicaStore {
 
     /// A byte of a replica becomes another on the disk, past its digest, as a failing disk might do; nothing happens where there is no
     /// such replica. An error leaves all as it was; NoRoom: no replica of this store can have a byte at that place.
-    fn rot(&mut self, handle: Handle, place: u64, byte: u8) -> Result<(), StoreFault>
+    fn rot(&mut self, handle: Handle, place: u64, byte: u8) -> Result<(), ReplicaStoreFault>
         requires { under_way self.old ≡ [] }
         ensures disk { OnOk result (disk self.new ≡ disk_rotten (disk self.old) handle.0 place byte) }
         ensures nothing { under_way self.new ≡ [] }
@@ -102,7 +107,10 @@ pub trait ReplicaStore {
 }
 
 /// Makes changes in their order. At an error some were made, from the first on, and the next one is under way.
-pub fn commit_all<S: ReplicaStore>(store: &mut S, changes: ChangeList) -> Result<(), StoreFault>
+pub fn commit_all<S: ReplicaStore>(
+    store: &mut S,
+    changes: ChangeList,
+) -> Result<(), ReplicaStoreFault>
     requires { S.under_way store.old ≡ [] }
     ensures disk { OnOk result (S.disk store.new ≡ disk_changed_by_all (S.disk store.old) changes) }
     ensures nothing { OnOk result (S.under_way store.new ≡ []) }

@@ -8,8 +8,8 @@ use Rattle.gfs_types.specs.declared.ids.Node.{Node}
 use Rattle.gfs_types.specs.declared.ids.Node.TheVariants as node
 use Rattle.messages.specs.declared.event.Event.{Event}
 use Rattle.messages.specs.declared.event.Event.TheVariants as event
-use Rattle.messages.specs.declared.event.Input.{Input}
-use Rattle.messages.specs.declared.event.Input.TheVariants as input
+use Rattle.messages.specs.declared.event.NodeInput.{NodeInput}
+use Rattle.messages.specs.declared.event.NodeInput.TheVariants as input
 use Rattle.messages.specs.declared.message.Message.{Message}
 use Rattle.replica_store.specs.Replicas.{Replica, replica_of}
 use Rattle.protocol.specs.Tables.{moment_limit}
@@ -62,17 +62,17 @@ module _ (w : WorldState) (from to : ℕ) (le : from ≤ to) (k : AreClocksKept 
   by_client : (index : ℕ) (t : Taken ClientState) → After (after_client w index to t)
   by_client index t = answered (observed_moment w.config.skew_ms w.observer to) (suc index) t.out.answer to seen
 
-  server_moved : (index : ℕ) (i : Input) (choice : Choice) (o : Option ServerState) → After (server_moves w index to i choice o)
+  server_moved : (index : ℕ) (i : NodeInput) (choice : Choice) (o : Option ServerState) → After (server_moves w index to i choice o)
   server_moved index i choice None = nothing
   server_moved index i choice (Some s) =
       cond_both s.up (after_server w index to (server_step s to i choice)) (nothing_happens w) After (λ _. by_server index (server_step s to i choice)) (λ _. nothing)
 
-  client_moved : (index : ℕ) (i : Input) (choice : Choice) (o : Option ClientState) → After (client_moves w index to i choice o)
+  client_moved : (index : ℕ) (i : NodeInput) (choice : Choice) (o : Option ClientState) → After (client_moves w index to i choice o)
   client_moved index i choice None = nothing
   client_moved index i choice (Some s) =
       cond_both s.up (after_client w index to (client_step s to i choice)) (nothing_happens w) After (λ _. by_client index (client_step s to i choice)) (λ _. nothing)
 
-  moved : (n : Node) (i : Input) (choice : Choice) → After (moves w n to i choice)
+  moved : (n : Node) (i : NodeInput) (choice : Choice) → After (moves w n to i choice)
   moved node.Master i choice =
       cond_both w.master.up (after_master w to (master_step w.master to i choice)) (nothing_happens w) After (λ _. by_master (master_step w.master to i choice)) (λ _. nothing)
   moved (node.Server s) i choice = server_moved (s.0 - 1) i choice (numbered_from_1 w.servers s.0)

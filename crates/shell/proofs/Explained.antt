@@ -17,7 +17,7 @@ use Rattle.cell_world.specs.Held.{HeldCell, IsHeldAs}
 use Rattle.cell_core.specs.Traced.{AddsToTrace}
 use Rattle.cell_core.proofs.Traced.{events_add_to_the_trace}
 use Rattle.cell_core.proofs.Explained.{explained, reached_on}
-use Rattle.script.specs.declared.cell_lines.Line.{Line}
+use Rattle.script.specs.declared.cell_lines.CellLine.{CellLine}
 use Rattle.cell_simulator.specs.Cells.{Meaning}
 use Rattle.cell_simulator.specs.Steps.{Step, Simulated, Lead, Rise, line_of_step, lines_of, moment_of, node_of}
 use Rattle.cell_simulator.specs.Scripts.{ComeTo, RunsOn, StopsWith}
@@ -129,7 +129,7 @@ module _ {C : Type 0} (m : Meaning C) (held : C → HeldCell) (so : IsOfHeld m h
         stands,
       )
 
-  lines_on : (old : Simulated C) (lines : List Line) (new : Simulated C) (printed : List ℕ) (w : WorldState) → StandsAt o (held old.cell) old.clock w → (come : ComeTo m old lines new printed)
+  lines_on : (old : Simulated C) (lines : List CellLine) (new : Simulated C) (printed : List ℕ) (w : WorldState) → StandsAt o (held old.cell) old.clock w → (come : ComeTo m old lines new printed)
       → (v : WorldState) × AreRunsOfMachine m held w old lines new printed come v × StandsAt o (held new.cell) new.clock v
   lines_on old [] new printed w at come = (w, refl, subst (λ (s : Simulated C). StandsAt o (held s.cell) s.clock w) (sym come.0) at)
   lines_on old (l ∷ rest) new printed w at come =
@@ -138,7 +138,7 @@ module _ {C : Type 0} (m : Meaning C) (held : C → HeldCell) (so : IsOfHeld m h
       (last.0, (first.0, first.1, last.1), last.2)
 
   -- lines on a new cell
-  pub all_explained : (first : C) → IsNew o (held first) → (last : Simulated C) (before after : Option (List ℕ)) (lines : List Line) (r : RunsOn m (at_0 first) last before after lines)
+  pub all_explained : (first : C) → IsNew o (held first) → (last : Simulated C) (before after : Option (List ℕ)) (lines : List CellLine) (r : RunsOn m (at_0 first) last before after lines)
       → (v : WorldState) × AreExplained held (world_of o) r v × StandsAt o (held last.cell) last.clock v
   all_explained first new last before after lines r = lines_on (at_0 first) lines last r.printed (world_of o) (stands_new o (held first) new) r.come
 
@@ -148,7 +148,7 @@ module _ {C : Type 0} (m : Meaning C) (held : C → HeldCell) (so : IsOfHeld m h
       (last.0, last.1)
 
   pub explained_until : (first : C) → IsNew o (held first) → (script before after : Option (List ℕ)) (f : ScriptFault) (stops : StopsWith m (at_0 first) script before after f) → AreExplainedUntil m held (world_of o) (at_0 first) script before after f stops
-  explained_until first new script before after (fault.Line number) stops =
+  explained_until first new script before after (fault.CellLine number) stops =
       let ran = all_explained first new _ _ _ _ stops.runs in
       (ran.0, ran.1)
   explained_until first new script before after (fault.NoEnd number) stops =

@@ -12,7 +12,7 @@ use Rattle.protocol.specs.Explained.{Explains}
 use Rattle.cell_world.specs.Events.{MayBeRefused}
 use Rattle.cell_world.specs.Held.{HeldCell, IsHeldAs}
 use Rattle.cell_core.specs.Traced.{AddsToTrace}
-use Rattle.script.specs.declared.cell_lines.Line.{Line}
+use Rattle.script.specs.declared.cell_lines.CellLine.{CellLine}
 use Rattle.cell_simulator.specs.Cells.{Meaning}
 use Rattle.cell_simulator.specs.Steps.{Step, Simulated, lines_of, with_feed}
 use Rattle.cell_simulator.specs.Lines.{IsEndless}
@@ -52,22 +52,22 @@ pub record IsRunOfMachine (w : WorldState) (steps : List Step) (cell : HeldCell)
   pub explained : IsTrue v.observer.are_disks_kept → (m : Machine) × Explains v m
 
 -- So do the steps of lines that came to what they print, one line after another, up to the last world.
-abbrev pub AreRunsOfMachine : {C : Type 0} (m : Meaning C) (held : C → HeldCell) (w : WorldState) (old : Simulated C) (lines : List Line) (new : Simulated C) (printed : List ℕ) → ComeTo m old lines new printed → WorldState → Type 0
+abbrev pub AreRunsOfMachine : {C : Type 0} (m : Meaning C) (held : C → HeldCell) (w : WorldState) (old : Simulated C) (lines : List CellLine) (new : Simulated C) (printed : List ℕ) → ComeTo m old lines new printed → WorldState → Type 0
 AreRunsOfMachine m held w old [] new printed come v = v ≡ w
 AreRunsOfMachine m held w old (l ∷ rest) new printed come v =
     (u : WorldState) × IsRunOfMachine w come.3.steps (held come.0.cell) u × AreRunsOfMachine m held u come.0 rest new come.2 come.4 v
 
 -- the lines that ran, from one world to the other
-abbrev pub AreExplained : {C : Type 0} {m : Meaning C} {old new : Simulated C} {before after : Option (List ℕ)} {lines : List Line} → (C → HeldCell) → WorldState → RunsOn m old new before after lines → WorldState → Type 0
+abbrev pub AreExplained : {C : Type 0} {m : Meaning C} {old new : Simulated C} {before after : Option (List ℕ)} {lines : List CellLine} → (C → HeldCell) → WorldState → RunsOn m old new before after lines → WorldState → Type 0
 AreExplained {m} {old} {new} {lines} held w r v = AreRunsOfMachine m held w old lines new r.printed r.come v
 
 -- a line that went on without an end, from this world on
 abbrev pub IsEndlessExplained : {C : Type 0} (m : Meaning C) (held : C → HeldCell) (w : WorldState) (old : Simulated C) (before after : Option (List ℕ)) → Type 0
-IsEndlessExplained {C} m held w old before after = (l : Line) (new : Simulated C) (endless : IsEndless m old l new before after) → (v : WorldState) × IsRunOfMachine w endless.goes.steps (held new.cell) v
+IsEndlessExplained {C} m held w old before after = (l : CellLine) (new : Simulated C) (endless : IsEndless m old l new before after) → (v : WorldState) × IsRunOfMachine w endless.goes.steps (held new.cell) v
 
 -- The lines that ran before a script stopped, where something is known of them, and the one that had no end.
 abbrev pub AreExplainedUntil : {C : Type 0} (m : Meaning C) (held : C → HeldCell) (w : WorldState) (first : Simulated C) (script before after : Option (List ℕ)) (f : ScriptFault) → StopsWith m first script before after f → Type 0
-AreExplainedUntil m held w first script before after (fault.Line number) stops = (v : WorldState) × AreExplained held w stops.runs v
+AreExplainedUntil m held w first script before after (fault.CellLine number) stops = (v : WorldState) × AreExplained held w stops.runs v
 AreExplainedUntil m held w first script before after (fault.NoEnd number) stops = (v : WorldState) × AreExplained held w stops.runs v × IsEndlessExplained m held v stops.world stops.middle after
 AreExplainedUntil m held w first script before after fault.Read stops = (v : WorldState) × AreExplained held w stops.1.runs v
 AreExplainedUntil m held w first script before after other stops = ⊤

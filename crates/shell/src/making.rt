@@ -13,17 +13,17 @@ use crate::world::SimulatedWorld;
 use cell_core::cell_master::SeatedMaster;
 use cell_core::world::World;
 use cell_world::master::CellMaster;
+use disk::NodeDisk;
 use disk_store::disk_store::DiskStore;
 use gfs_types::config::Config;
 use master_cell::fault::MasterFault;
-use operation_log::fault::LogFault;
+use operation_log::fault::OperationLogFault;
 use script::options::Options;
 use script::script_fault::ScriptFault;
-use server_store::fault::StoreFault;
+use server_store::fault::ReplicaStoreFault;
 use std::alloc::{Allocator, Global};
 use store_disk::Layout;
 use stored_log::disk_log::DiskLog;
-use stored_log::node_disk::NodeDisk;
 
 /// A master's log on a disk.
 pub type ScriptLog = DiskLog<NodeDisk>;
@@ -75,7 +75,7 @@ fn new_log(alloc: Global, log_bytes: u64) -> Result<ScriptLog, ScriptFault>
     };
     match DiskLog::new(disk, alloc) {
         Ok(log) => Ok(log),
-        Err((_, LogFault::NoMemory)) => Err(ScriptFault::NoMemory),
+        Err((_, OperationLogFault::NoMemory)) => Err(ScriptFault::NoMemory),
         Err(_) => Err(ScriptFault::Start),
     }
 }
@@ -112,7 +112,7 @@ fn new_store(alloc: Global, layout: Layout) -> Result<ScriptStore, ScriptFault>
     };
     match DiskStore::new(alloc, disk, layout) {
         Ok(store) => Ok(store),
-        Err(StoreFault::NoMemory) => Err(ScriptFault::NoMemory),
+        Err(ReplicaStoreFault::NoMemory) => Err(ScriptFault::NoMemory),
         Err(_) => Err(ScriptFault::Start),
     }
 }

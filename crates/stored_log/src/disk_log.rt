@@ -12,22 +12,22 @@ ghost use Rattle.oplog.specs.Opening.{area_found, IsFound, WalksThrough};
 ghost use Rattle.protocol.specs.Logged.{new_log};
 ghost use Rattle.protocol.specs.LogSizes.{checkpoint_fits, checkpoint_size, payload_size, used_size};
 ghost use Rattle.operation_log.specs.Logs.{IsDecided};
-ghost use Rattle.operation_log.specs.declared.fault.LogFault.TheVariants as faults;
+ghost use Rattle.operation_log.specs.declared.fault.OperationLogFault.TheVariants as faults;
 ghost use Rattle.stored_log.specs.Kept.{closed, IsAmong, IsDiskSize, IsReopened, Takes};
 
 use crate::entries::{entry_at, fault_of};
-use crate::standing::Standing;
-use crate::stoppable::{StoppableDisk, StoppableLog};
-use disk::DiskFault;
+use crate::standing::DiskLogState;
+use disk::{DiskFault, StoppableDisk};
 use gfs_types::torn::Torn;
 use log_codec::{is_item, is_writable};
 use log_records::record::Record;
-use operation_log::fault::LogFault;
+use operation_log::fault::OperationLogFault;
 use operation_log::log::OperationLog;
 use operation_log::sizes::used_with;
+use operation_log::stoppable::StoppableLog;
 use oplog::{
-    CountedRecords, Found, Log, Opened, Walk, area_at, area_size, checkpoint, is_checkpoint, open,
-    open_disk,
+    CountedRecords, FoundArea, Log, Opened, Walk, area_at, area_size, checkpoint, is_checkpoint,
+    open, open_disk,
 };
 use std::alloc::Global;
 use std::marker::Model;
@@ -57,7 +57,7 @@ pub struct DiskLog<D: StoppableDisk> {
     used: u64,
     // the bytes of the other area that the checkpoint that is being written takes
     written: u64,
-    standing: Standing,
+    standing: DiskLogState,
 }
 
 impl<D: StoppableDisk> Model for DiskLog<D> {
@@ -81,25 +81,29 @@ impl<D: StoppableDisk> Model for DiskLog<D> {
         × WalksThrough (l.items ++ l.records) l.walk };
 }
 
-fn fault_of_disk(fault: DiskFault) -> LogFault {
+fn fault_of_disk(fault: DiskFault) -> OperationLogFault {
     match fault {
-        DiskFault::Device => LogFault::Device,
-        DiskFault::NoMemory => LogFault::NoMemory,
+        DiskFault::Device => OperationLogFault::Device,
+        DiskFault::NoMemory => OperationLogFault::NoMemory,
     }
 }
 
 // An open log has to be read anew; what is under way stays so.
-fn closed(standing: Standing) -> Standing
+fn closed(standing: DiskLogState) -> DiskLogState
     ensures { result ≡ closed standing }
 {
     match standing {
-        Standing::Open => Standing::Unread,
+        DiskLogState::Open => DiskLogState::Unread,
         other => other,
     }
 }
 
 // What stands on the disk once it has begun again. It is the log of one of the disks that a stop might have left.
-fn find<D: StoppableDisk>(disk: &mut D, alloc: Global, log_bytes: u64) -> Result<Found, LogFault>
+fn find<D: StoppableDisk>(
+    disk: &mut D,
+    alloc: Global,
+    log_bytes: u64,
+) -> Result<FoundArea, OperationLogFault>
     requires { IsDiskSize log_bytes }
     ensures among { IfOk result (λ x. IsAmong (D.may_leave disk.old) log_bytes x.items x.records) }
     ensures found { IfOk result (λ x. IsFound x (D.seen disk.new)) }
@@ -111,7 +115,7 @@ fn find<D: StoppableDisk>(disk: &mut D, alloc: Global, log_bytes: u64) -> Result
         return Err(fault_of_disk(fault));
     }
     if disk.size() as u64 != log_bytes {
-        return Err(LogFault::Damaged);
+        return Err(OperationLogFault::Damaged);
     }
     match open_disk(disk, alloc) {
         Ok(found) => Ok(found),
@@ -120,7 +124,7 @@ fn find<D: StoppableDisk>(disk: &mut D, alloc: Global, log_bytes: u64) -> Result
 }
 
 // The log is open with what was found on its disk.
-fn place<D: StoppableDisk>(log: &mut Log<D>, found: &Found)
+fn place<D: StoppableDisk>(log: &mut Log<D>, found: &FoundArea)
     requires size { IsDiskSize (length (D.seen log.old.disk)) }
     requires found { IsFound found.now (D.seen log.old.disk) }
     requires durable { Only (D.seen log.old.disk) (D.may_leave log.old.disk) }
@@ -145,7 +149,7 @@ fn if_more(walk: Walk, has_more: bool) -> Option<Walk>
 
 impl<D: StoppableDisk> DiskLog<D> {
     /// Opens the log that stands on a disk; a disk whose head is closed holds an empty one. An error hands the disk back.
-    pub fn open(disk: D, alloc: Global) -> Result<DiskLog<D>, (D, LogFault)>
+    pub fn open(disk: D, alloc: Global) -> Result<DiskLog<D>, (D, OperationLogFault)>
         requires { IsDiskSize (length (D.seen disk)) }
         ensures opened { IfOk result (λ l. IsLogOf l.disk.items l.disk.records (D.seen disk)) }
         ensures decided { IfOk result (λ l. l.under_way ≡ []) }
@@ -184,12 +188,12 @@ impl<D: StoppableDisk> DiskLog<D> {
             writing: Vec::new(alloc),
             used,
             written: HEAD,
-            standing: Standing::Open,
+            standing: DiskLogState::Open,
         }
     }
 
     /// A new log on a disk that holds none, or an empty one. An error hands the disk back.
-    pub fn new(disk: D, alloc: Global) -> Result<DiskLog<D>, (D, LogFault)>
+    pub fn new(disk: D, alloc: Global) -> Result<DiskLog<D>, (D, OperationLogFault)>
         requires { IsDiskSize (length (D.seen disk)) }
         ensures new { IfOk result (λ l. l.disk ≡ new_log) }
         ensures decided { IfOk result (λ l. l.under_way ≡ []) }
@@ -197,7 +201,7 @@ impl<D: StoppableDisk> DiskLog<D> {
     {
         let opened = DiskLog::open(disk, alloc)?;
         if !opened.items.is_empty() || !opened.records.is_empty() {
-            return Err((opened.into_disk(), LogFault::Damaged));
+            return Err((opened.into_disk(), OperationLogFault::Damaged));
         }
         Ok(opened)
     }
@@ -235,18 +239,18 @@ impl<D: StoppableDisk> OperationLog for DiskLog<D> {
     }
 
     // An item is no record: behind an open gate it would leave no log.
-    fn append(&mut self, entry: &Record) -> Result<(), LogFault> {
+    fn append(&mut self, entry: &Record) -> Result<(), OperationLogFault> {
         let Some(used) = used_with(self.log_bytes, self.used, AROUND_RECORD, entry) else {
-            return Err(LogFault::Full);
+            return Err(OperationLogFault::Full);
         };
         if !is_writable(entry) {
-            return Err(LogFault::Unwritable);
+            return Err(OperationLogFault::Unwritable);
         }
         if is_item(entry) {
-            return Err(LogFault::Damaged);
+            return Err(OperationLogFault::Damaged);
         }
-        let Standing::Open = self.standing else {
-            return Err(LogFault::Device);
+        let DiskLogState::Open = self.standing else {
+            return Err(OperationLogFault::Device);
         };
         let record = entry.copy(self.alloc)?;
         self.walk = None;
@@ -259,27 +263,27 @@ impl<D: StoppableDisk> OperationLog for DiskLog<D> {
             }
             Err(oplog::LogFault::NoMemory) => {
                 drop(record);
-                Err(LogFault::NoMemory)
+                Err(OperationLogFault::NoMemory)
             }
             Err(_) => {
-                self.standing = Standing::Appending(record);
-                Err(LogFault::Device)
+                self.standing = DiskLogState::Appending(record);
+                Err(OperationLogFault::Device)
             }
         }
     }
 
-    fn begin_checkpoint(&mut self) -> Result<(), LogFault> {
+    fn begin_checkpoint(&mut self) -> Result<(), OperationLogFault> {
         self.writing.clear();
         self.written = HEAD;
         Ok(())
     }
 
-    fn add_item(&mut self, item: &Record) -> Result<(), LogFault> {
+    fn add_item(&mut self, item: &Record) -> Result<(), OperationLogFault> {
         let Some(written) = self.written_with(item) else {
-            return Err(LogFault::Full);
+            return Err(OperationLogFault::Full);
         };
         if !is_writable(item) {
-            return Err(LogFault::Unwritable);
+            return Err(OperationLogFault::Unwritable);
         }
         let record = item.copy(self.alloc)?;
         self.writing.push(record)?;
@@ -288,12 +292,12 @@ impl<D: StoppableDisk> OperationLog for DiskLog<D> {
     }
 
     // Items that aren't a checkpoint in its order would leave no log.
-    fn end_checkpoint(&mut self) -> Result<(), LogFault> {
+    fn end_checkpoint(&mut self) -> Result<(), OperationLogFault> {
         if !is_checkpoint(&self.writing) {
-            return Err(LogFault::Damaged);
+            return Err(OperationLogFault::Damaged);
         }
-        let Standing::Open = self.standing else {
-            return Err(LogFault::Device);
+        let DiskLogState::Open = self.standing else {
+            return Err(OperationLogFault::Device);
         };
         let writing = mem::replace(&mut self.writing, Vec::new(self.alloc));
         let written = mem::replace(&mut self.written, HEAD);
@@ -307,18 +311,18 @@ impl<D: StoppableDisk> OperationLog for DiskLog<D> {
                 self.used = written;
                 Ok(())
             }
-            Err(oplog::LogFault::NoMemory) => Err(LogFault::NoMemory),
-            Err(oplog::LogFault::Full) => Err(LogFault::Full),
+            Err(oplog::LogFault::NoMemory) => Err(OperationLogFault::NoMemory),
+            Err(oplog::LogFault::Full) => Err(OperationLogFault::Full),
             Err(_) => {
-                self.standing = Standing::Checkpointing(items);
-                Err(LogFault::Device)
+                self.standing = DiskLogState::Checkpointing(items);
+                Err(OperationLogFault::Device)
             }
         }
     }
 
     // The disk begins again and is read. It says what it said before the change that was under way, or after it.
-    fn reopen(&mut self) -> Result<(), LogFault> {
-        self.standing = closed(mem::replace(&mut self.standing, Standing::Unread));
+    fn reopen(&mut self) -> Result<(), OperationLogFault> {
+        self.standing = closed(mem::replace(&mut self.standing, DiskLogState::Unread));
         self.walk = None;
         let found = find(&mut self.log.disk, self.alloc, self.log_bytes)?;
         place(&mut self.log, &found);
@@ -326,7 +330,7 @@ impl<D: StoppableDisk> OperationLog for DiskLog<D> {
         self.items = found.items;
         self.records = found.records;
         self.walk = found.walk;
-        self.standing = Standing::Open;
+        self.standing = DiskLogState::Open;
         Ok(())
     }
 
@@ -335,13 +339,13 @@ impl<D: StoppableDisk> OperationLog for DiskLog<D> {
         self.items.len() as u64 + self.records.len() as u64
     }
 
-    fn entry(&mut self, place: u64) -> Result<Option<Record>, LogFault> {
+    fn entry(&mut self, place: u64) -> Result<Option<Record>, OperationLogFault> {
         let count = self.items.len() as u64 + self.records.len() as u64;
         if place >= count {
             return Ok(None);
         }
-        let Standing::Open = self.standing else {
-            return Err(LogFault::Device);
+        let DiskLogState::Open = self.standing else {
+            return Err(OperationLogFault::Device);
         };
         let walk = self.walk.take();
         let (entry, walk) = entry_at(&mut self.log, self.alloc, walk, place)?;

@@ -10,22 +10,22 @@ ghost use Rattle.oplog.specs.Opening.{WalksThrough};
 use disk::Disk;
 use log_codec::DecodeFault;
 use log_records::record::Record;
-use operation_log::fault::LogFault;
+use operation_log::fault::OperationLogFault;
 use oplog::{Log, Walk, read_again};
 use std::alloc::Global;
 
-pub(crate) fn fault_of(fault: oplog::LogFault) -> LogFault {
+pub(crate) fn fault_of(fault: oplog::LogFault) -> OperationLogFault {
     match fault {
-        oplog::LogFault::Full | oplog::LogFault::Damaged => LogFault::Damaged,
-        oplog::LogFault::Device => LogFault::Device,
-        oplog::LogFault::NoMemory => LogFault::NoMemory,
+        oplog::LogFault::Full | oplog::LogFault::Damaged => OperationLogFault::Damaged,
+        oplog::LogFault::Device => OperationLogFault::Device,
+        oplog::LogFault::NoMemory => OperationLogFault::NoMemory,
     }
 }
 
-fn fault_read(fault: DecodeFault) -> LogFault {
+fn fault_read(fault: DecodeFault) -> OperationLogFault {
     match fault {
-        DecodeFault::Damaged => LogFault::Damaged,
-        DecodeFault::NoMemory => LogFault::NoMemory,
+        DecodeFault::Damaged => OperationLogFault::Damaged,
+        DecodeFault::NoMemory => OperationLogFault::NoMemory,
     }
 }
 
@@ -35,7 +35,7 @@ fn walk_before<D: Disk>(
     alloc: Global,
     walk: Option<Walk>,
     place: u64,
-) -> Result<Walk, LogFault>
+) -> Result<Walk, OperationLogFault>
     requires { (area : AreaState) × IsOpen D.seen D.may_leave log.old area }
     ensures walk { (area : AreaState) → IsOpen D.seen D.may_leave log.old area → WalksThrough (area.items ++ area.records) walk → IfOk result (λ w. IsWalk (area.items ++ area.records) w) }
     ensures place { IfOk result (λ w. w.place ≤ place) }
@@ -69,7 +69,7 @@ pub(crate) fn entry_at<D: Disk>(
     alloc: Global,
     walk: Option<Walk>,
     place: u64,
-) -> Result<(Option<Record>, Walk), LogFault>
+) -> Result<(Option<Record>, Walk), OperationLogFault>
     requires { (area : AreaState) × IsOpen D.seen D.may_leave log.old area × WalksThrough (area.items ++ area.records) walk × (place < length (area.items ++ area.records)) }
     ensures entry { (area : AreaState) → IsOpen D.seen D.may_leave log.old area → WalksThrough (area.items ++ area.records) walk → IfOk result (λ x. (x.0 ≡ slice_get (area.items ++ area.records) place) × IsWalk (area.items ++ area.records) x.1) }
     ensures open { (area : AreaState) → IsOpen D.seen D.may_leave log.old area → IsOpen D.seen D.may_leave log.new area }

@@ -118,21 +118,21 @@ fn received_data_are_kept_and_passed_on(rt: HostRuntime) -> Result<(), Fail> {
 
 /// A call of the data under an id of a client's number and its own: they are put, there are none to take, or they are taken.
 #[derive(Clone, Copy)]
-enum Call {
+enum BufferCall {
     Puts(u64, u64, &'static str),
     Lacks(u64, u64),
     Takes(u64, u64, &'static str),
 }
 
-fn does(buffer: &mut Buffer, call: Call) -> bool {
+fn does(buffer: &mut Buffer, call: BufferCall) -> bool {
     match call {
-        Call::Puts(client, seq, text) => puts(buffer, id(client, seq), text) == Some(true),
-        Call::Lacks(client, seq) => lacks(buffer, id(client, seq)),
-        Call::Takes(client, seq, text) => is(buffer, id(client, seq), text),
+        BufferCall::Puts(client, seq, text) => puts(buffer, id(client, seq), text) == Some(true),
+        BufferCall::Lacks(client, seq) => lacks(buffer, id(client, seq)),
+        BufferCall::Takes(client, seq, text) => is(buffer, id(client, seq), text),
     }
 }
 
-fn does_all(buffer: &mut Buffer, calls: &[Call]) -> bool {
+fn does_all(buffer: &mut Buffer, calls: &[BufferCall]) -> bool {
     for call in calls {
         if !does(buffer, *call) {
             return false;
@@ -142,7 +142,7 @@ fn does_all(buffer: &mut Buffer, calls: &[Call]) -> bool {
 }
 
 // Whether a new buffer for so many data does what it has to.
-fn is_kept(alloc: Global, limit: u32, calls: &[Call]) -> Result<bool, AllocError> {
+fn is_kept(alloc: Global, limit: u32, calls: &[BufferCall]) -> Result<bool, AllocError> {
     let mut buffer = Buffer::new(alloc, limit)?;
     let are_made = does_all(&mut buffer, calls);
     drop(buffer);
@@ -150,41 +150,41 @@ fn is_kept(alloc: Global, limit: u32, calls: &[Call]) -> Result<bool, AllocError
 }
 
 /// For how many data a buffer is, and calls of it.
-const CALLS: [(u32, &[Call]); 3] = [
+const CALLS: [(u32, &[BufferCall]); 3] = [
     // a full buffer drops its oldest
     (
         2,
         &[
-            Call::Puts(1, 1, "one"),
-            Call::Puts(1, 2, "two"),
-            Call::Puts(2, 1, "three"),
-            Call::Lacks(1, 1),
-            Call::Takes(1, 2, "two"),
-            Call::Takes(2, 1, "three"),
-            Call::Lacks(2, 1),
+            BufferCall::Puts(1, 1, "one"),
+            BufferCall::Puts(1, 2, "two"),
+            BufferCall::Puts(2, 1, "three"),
+            BufferCall::Lacks(1, 1),
+            BufferCall::Takes(1, 2, "two"),
+            BufferCall::Takes(2, 1, "three"),
+            BufferCall::Lacks(2, 1),
         ],
     ),
     // data put again are the newest
     (
         2,
         &[
-            Call::Puts(1, 1, "old"),
-            Call::Puts(1, 2, "two"),
-            Call::Puts(1, 1, "new"),
-            Call::Puts(1, 3, "three"),
-            Call::Lacks(1, 2),
-            Call::Takes(1, 3, "three"),
-            Call::Takes(1, 1, "new"),
+            BufferCall::Puts(1, 1, "old"),
+            BufferCall::Puts(1, 2, "two"),
+            BufferCall::Puts(1, 1, "new"),
+            BufferCall::Puts(1, 3, "three"),
+            BufferCall::Lacks(1, 2),
+            BufferCall::Takes(1, 3, "three"),
+            BufferCall::Takes(1, 1, "new"),
         ],
     ),
     // a limit of none is one
     (
         0,
         &[
-            Call::Puts(1, 1, "one"),
-            Call::Puts(1, 2, "two"),
-            Call::Lacks(1, 1),
-            Call::Takes(1, 2, "two"),
+            BufferCall::Puts(1, 1, "one"),
+            BufferCall::Puts(1, 2, "two"),
+            BufferCall::Lacks(1, 1),
+            BufferCall::Takes(1, 2, "two"),
         ],
     ),
 ];

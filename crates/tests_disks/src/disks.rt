@@ -50,7 +50,7 @@ fn four<D: Disk>(disk: &mut D) -> Result<[u8; 4], DiskFault> {
 
 /// A call of a disk, and that it passes or fails as the device.
 #[derive(Clone, Copy)]
-enum Call<'a> {
+enum DiskCall<'a> {
     Writes(usize, &'a [u8]),
     FailsToWrite(usize, &'a [u8]),
     Stores(usize, &'a [u8]),
@@ -73,31 +73,31 @@ fn stores<D: Disk>(disk: &mut D, at: usize, bytes: &[u8]) -> bool {
 }
 
 // Makes the call. Whether it comes to what it has to.
-fn does<D: Disk>(disk: &mut D, call: Call) -> bool {
+fn does<D: Disk>(disk: &mut D, call: DiskCall) -> bool {
     match call {
-        Call::Writes(at, bytes) => matches!(put(disk, at, bytes), Some(Ok(()))),
-        Call::FailsToWrite(at, bytes) => {
+        DiskCall::Writes(at, bytes) => matches!(put(disk, at, bytes), Some(Ok(()))),
+        DiskCall::FailsToWrite(at, bytes) => {
             matches!(put(disk, at, bytes), Some(Err(DiskFault::Device)))
         }
-        Call::Stores(at, bytes) => stores(disk, at, bytes),
-        Call::Syncs => disk.sync().is_ok(),
-        Call::FailsToSync => matches!(disk.sync(), Err(DiskFault::Device)),
-        Call::Shows(wanted) => four(disk) == Ok(wanted),
-        Call::FailsToShow => matches!(four(disk), Err(DiskFault::Device)),
-        Call::Forgets => {
+        DiskCall::Stores(at, bytes) => stores(disk, at, bytes),
+        DiskCall::Syncs => disk.sync().is_ok(),
+        DiskCall::FailsToSync => matches!(disk.sync(), Err(DiskFault::Device)),
+        DiskCall::Shows(wanted) => four(disk) == Ok(wanted),
+        DiskCall::FailsToShow => matches!(four(disk), Err(DiskFault::Device)),
+        DiskCall::Forgets => {
             disk.forget_past();
             true
         }
-        Call::Arms(calls) => {
+        DiskCall::Arms(calls) => {
             disk.arm(calls);
             true
         }
-        Call::HasFailed(times) => disk.failures() == times,
+        DiskCall::HasFailed(times) => disk.failures() == times,
     }
 }
 
 // Makes them in turn, until one doesn't come to what it has to.
-fn does_all<D: Disk>(disk: &mut D, calls: &[Call]) -> bool {
+fn does_all<D: Disk>(disk: &mut D, calls: &[DiskCall]) -> bool {
     for call in calls {
         if !does(disk, *call) {
             return false;
@@ -127,14 +127,14 @@ fn settled(torn: Torn, old: u8, new: u8) -> u8 {
 // of a scope is proved anew at each place.
 fn is_left_by_fuse(
     alloc: Global,
-    calls: &[Call],
+    calls: &[DiskCall],
     torn: Torn,
     wanted: [u8; 4],
 ) -> Result<bool, Fail> {
     let mut disk = FuseDisk::new(one_to_four(alloc)?);
     let are_made = does_all(&mut disk, calls);
     let mut left = disk.stop(torn);
-    let is_left = does(&mut left, Call::Shows(wanted));
+    let is_left = does(&mut left, DiskCall::Shows(wanted));
     drop(left);
     Ok(are_made && is_left)
 }
@@ -149,7 +149,7 @@ fn a_stop_settles_every_single_range(rt: HostRuntime) -> Result<(), Fail> {
                 for i in at..end {
                     want[i] = settled(torn, want[i], new[i]);
                 }
-                let calls = [Call::Writes(at, &new[at..end])];
+                let calls = [DiskCall::Writes(at, &new[at..end])];
                 let is_left = is_left_by_fuse(rt.alloc(), &calls, torn, want)?;
                 assert!(rt; is_left, "{at} to {end}");
             }
@@ -159,43 +159,48 @@ fn a_stop_settles_every_single_range(rt: HostRuntime) -> Result<(), Fail> {
 }
 
 /// Calls of the disk of four bytes, and what a stop leaves of each byte: this one, or this or a second one, as the stop settles it.
-const LEFT: [(&[Call], [(u8, Option<u8>); 4]); 5] = [
+const LEFT: [(&[DiskCall], [(u8, Option<u8>); 4]); 5] = [
     // what was synced stays
     (
         &[
-            Call::Writes(0, &[5, 6]),
-            Call::Syncs,
-            Call::Writes(1, &[9, 9]),
-            Call::Writes(2, &[8]),
-            Call::Shows([5, 9, 8, 4]),
+            DiskCall::Writes(0, &[5, 6]),
+            DiskCall::Syncs,
+            DiskCall::Writes(1, &[9, 9]),
+            DiskCall::Writes(2, &[8]),
+            DiskCall::Shows([5, 9, 8, 4]),
         ],
         [(5, None), (6, Some(9)), (3, Some(8)), (4, None)],
     ),
     // and what a caller stored
     (
-        &[Call::Stores(1, &[9, 9])],
+        &[DiskCall::Stores(1, &[9, 9])],
         [(1, None), (9, None), (9, None), (4, None)],
     ),
     // a write that fails is unsynced
     (
-        &[Call::Arms(0), Call::FailsToWrite(1, &[9, 9])],
+        &[DiskCall::Arms(0), DiskCall::FailsToWrite(1, &[9, 9])],
         [(1, None), (2, Some(9)), (3, Some(9)), (4, None)],
     ),
     // once the past is forgotten, what is unsynced may still be torn, and what was synced stays
     (
         &[
-            Call::Writes(0, &[5]),
-            Call::Syncs,
-            Call::Writes(1, &[6]),
-            Call::Forgets,
-            Call::Shows([5, 6, 3, 4]),
-            Call::Writes(2, &[7]),
+            DiskCall::Writes(0, &[5]),
+            DiskCall::Syncs,
+            DiskCall::Writes(1, &[6]),
+            DiskCall::Forgets,
+            DiskCall::Shows([5, 6, 3, 4]),
+            DiskCall::Writes(2, &[7]),
         ],
         [(5, None), (2, Some(6)), (3, Some(7)), (4, None)],
     ),
     // to forget is no call that a fuse counts
     (
-        &[Call::Arms(1), Call::Forgets, Call::Syncs, Call::FailsToSync],
+        &[
+            DiskCall::Arms(1),
+            DiskCall::Forgets,
+            DiskCall::Syncs,
+            DiskCall::FailsToSync,
+        ],
         [(1, None), (2, None), (3, None), (4, None)],
     ),
 ];
@@ -227,11 +232,11 @@ fn a_stop_leaves_what_it_may(rt: HostRuntime) -> Result<(), Fail> {
 // Whether what a stop leaves is synced: a second stop leaves it.
 fn is_left_twice(alloc: Global) -> Result<bool, Fail> {
     let mut disk = FuseDisk::new(one_to_four(alloc)?);
-    let is_written = does(&mut disk, Call::Writes(0, &[5]));
+    let is_written = does(&mut disk, DiskCall::Writes(0, &[5]));
     let mut again = FuseDisk::new(disk.stop(Torn::New));
-    let is_written_again = does(&mut again, Call::Writes(3, &[6]));
+    let is_written_again = does(&mut again, DiskCall::Writes(3, &[6]));
     let mut left = again.stop(Torn::Old);
-    let is_left = does(&mut left, Call::Shows([5, 2, 3, 4]));
+    let is_left = does(&mut left, DiskCall::Shows([5, 2, 3, 4]));
     drop(left);
     Ok(is_written && is_written_again && is_left)
 }
@@ -242,18 +247,18 @@ fn a_stopped_disk_is_synced(rt: HostRuntime) -> Result<(), Fail> {
     Ok(())
 }
 
-const PASSING: [Call; 4] = [
-    Call::Writes(0, &[5]),
-    Call::Syncs,
-    Call::Shows([5, 2, 3, 4]),
-    Call::Syncs,
+const PASSING: [DiskCall; 4] = [
+    DiskCall::Writes(0, &[5]),
+    DiskCall::Syncs,
+    DiskCall::Shows([5, 2, 3, 4]),
+    DiskCall::Syncs,
 ];
 
-const FAILING: [Call; 4] = [
-    Call::FailsToWrite(0, &[5]),
-    Call::FailsToSync,
-    Call::FailsToShow,
-    Call::FailsToSync,
+const FAILING: [DiskCall; 4] = [
+    DiskCall::FailsToWrite(0, &[5]),
+    DiskCall::FailsToSync,
+    DiskCall::FailsToShow,
+    DiskCall::FailsToSync,
 ];
 
 // Whether of four calls just these fail.
@@ -270,14 +275,14 @@ fn fails_at<D: Disk>(disk: &mut D, fails: [bool; 4]) -> bool {
 // Whether a fuse passes so many calls, and all later ones fail.
 fn passes_so_many(alloc: Global, calls: u64) -> Result<bool, Fail> {
     let mut disk = FuseDisk::new(one_to_four(alloc)?);
-    let is_armed = does_all(&mut disk, &[Call::Syncs, Call::Arms(calls)]);
+    let is_armed = does_all(&mut disk, &[DiskCall::Syncs, DiskCall::Arms(calls)]);
     let fails = fails_at(&mut disk, [calls < 1, calls < 2, calls < 3, calls < 4]);
     let later = [
-        Call::HasFailed(4u64.saturating_sub(calls)),
-        Call::FailsToWrite(1, &[6]),
-        Call::FailsToSync,
-        Call::FailsToShow,
-        Call::HasFailed(7u64.saturating_sub(calls)),
+        DiskCall::HasFailed(4u64.saturating_sub(calls)),
+        DiskCall::FailsToWrite(1, &[6]),
+        DiskCall::FailsToSync,
+        DiskCall::FailsToShow,
+        DiskCall::HasFailed(7u64.saturating_sub(calls)),
     ];
     let fails_later = does_all(&mut disk, &later);
     let size = disk.size();
@@ -289,13 +294,16 @@ fn passes_so_many(alloc: Global, calls: u64) -> Result<bool, Fail> {
 // failure. To forget is no call that it counts.
 fn fails_once(alloc: Global, calls: u64) -> Result<bool, Fail> {
     let mut disk = FaultDisk::new(one_to_four(alloc)?, calls);
-    let before = [Call::Arms(0), Call::HasFailed(0), Call::Forgets];
+    let before = [DiskCall::Arms(0), DiskCall::HasFailed(0), DiskCall::Forgets];
     let is_armed = does_all(&mut disk, &before);
     let fails = fails_at(&mut disk, [calls == 0, calls == 1, calls == 2, calls == 3]);
-    let shown = [Call::HasFailed(1), Call::Shows([5, 2, 3, 4])];
+    let shown = [DiskCall::HasFailed(1), DiskCall::Shows([5, 2, 3, 4])];
     let is_shown = does_all(&mut disk, &shown);
     let mut below = disk.into_disk();
-    let is_below = does_all(&mut below, &[Call::Shows([5, 2, 3, 4]), Call::HasFailed(0)]);
+    let is_below = does_all(
+        &mut below,
+        &[DiskCall::Shows([5, 2, 3, 4]), DiskCall::HasFailed(0)],
+    );
     drop(below);
     Ok(is_armed && fails && is_shown && is_below)
 }
@@ -389,7 +397,7 @@ fn plain_takes(heap: &LocalHeap) -> Result<Option<u8>, AllocError> {
     let mut disk = MemDisk::new(heap, 40)?;
     let is_free = heap.used() == 0;
     let taken = writes_shown(heap, &mut disk);
-    let is_synced = does(&mut disk, Call::Syncs);
+    let is_synced = does(&mut disk, DiskCall::Syncs);
     let want = after_writes(taken, None);
     let is_left = leaves_five(FuseDisk::new(disk), Torn::Byte(9), want);
     let is_well = is_free && is_synced && is_left;
@@ -410,11 +418,11 @@ fn fuse_takes(heap: &LocalHeap) -> Result<Option<u8>, AllocError> {
 // Whether so many syncs pass, and the next one fails.
 fn sync_fails_after<D: Disk>(disk: &mut D, count: u8) -> bool {
     for _call in 0..count {
-        if !does(disk, Call::Syncs) {
+        if !does(disk, DiskCall::Syncs) {
             return false;
         }
     }
-    does(disk, Call::FailsToSync)
+    does(disk, DiskCall::FailsToSync)
 }
 
 // The same with a disk that is to fail later: a refused write, done twice, counts as calls that passed.
@@ -451,7 +459,7 @@ fn refused_memory_changes_no_byte(rt: HostRuntime) -> Result<(), Fail> {
 // Whether a new disk in the heap takes a write.
 fn takes_a_write(heap: &LocalHeap) -> Result<bool, AllocError> {
     let mut disk = MemDisk::new(heap, 40)?;
-    let is_taken = does(&mut disk, Call::Writes(0, &[7]));
+    let is_taken = does(&mut disk, DiskCall::Writes(0, &[7]));
     drop(disk);
     Ok(is_taken)
 }
@@ -460,7 +468,7 @@ fn takes_a_write(heap: &LocalHeap) -> Result<bool, AllocError> {
 fn fuse_leaves(heap: &LocalHeap, wanted: [u8; 5]) -> Result<bool, AllocError> {
     let mut disk = FuseDisk::new(MemDisk::new(heap, 40)?);
     disk.arm(0);
-    let has_failed = does(&mut disk, Call::FailsToWrite(0, &[7]));
+    let has_failed = does(&mut disk, DiskCall::FailsToWrite(0, &[7]));
     let is_left = leaves_five(disk, Torn::New, wanted);
     Ok(has_failed && is_left)
 }
@@ -468,7 +476,7 @@ fn fuse_leaves(heap: &LocalHeap, wanted: [u8; 5]) -> Result<bool, AllocError> {
 // Whether a write to a new disk that fails once does, and the disk below then has these bytes.
 fn fault_leaves(heap: &LocalHeap, wanted: [u8; 5]) -> Result<bool, AllocError> {
     let mut disk = FaultDisk::new(MemDisk::new(heap, 40)?, 0);
-    let has_failed = does(&mut disk, Call::FailsToWrite(0, &[7]));
+    let has_failed = does(&mut disk, DiskCall::FailsToWrite(0, &[7]));
     let is_left = leaves_five_below(disk, wanted);
     Ok(has_failed && is_left)
 }
@@ -493,7 +501,14 @@ fn a_failed_write_without_memory_is_lost(rt: HostRuntime) -> Result<(), Fail> {
 fn writes_in_rounds<D: Disk>(disk: &mut D, rounds: u64) -> bool {
     for round in 0..rounds {
         let bytes = [(round % 200) as u8, 9];
-        if !does_all(disk, &[Call::Forgets, Call::Writes(1, &bytes), Call::Syncs]) {
+        if !does_all(
+            disk,
+            &[
+                DiskCall::Forgets,
+                DiskCall::Writes(1, &bytes),
+                DiskCall::Syncs,
+            ],
+        ) {
             return false;
         }
     }
@@ -536,7 +551,7 @@ fn a_large_disk_takes_the_pages_that_are_written(rt: HostRuntime) -> Result<(), 
     assert!(rt; disk.size() == 100 * PAGE);
     assert!(rt; shows_ten(&mut disk, 99 * PAGE, [0; 10]));
     assert!(rt; heap.used() == 0);
-    assert!(rt; does(&mut disk, Call::Writes(99 * PAGE + 4_090, &[7, 8])));
+    assert!(rt; does(&mut disk, DiskCall::Writes(99 * PAGE + 4_090, &[7, 8])));
     let used = heap.used();
     assert!(rt; used < 3 * PAGE, "{used}");
     let want = [0, 0, 0, 0, 7, 8, 0, 0, 0, 0];
@@ -578,9 +593,9 @@ fn first_unsettled<D: Disk>(disk: &mut D, torn: Torn) -> Option<usize> {
 fn first_left_unsettled(alloc: Global, torn: Torn) -> Result<Option<usize>, AllocError> {
     let mut disk = FuseDisk::new(MemDisk::new(alloc, 3 * PAGE - 100)?);
     let calls = [
-        Call::Writes(4_000, &[3; 7_000]),
-        Call::Syncs,
-        Call::Writes(4_090, &[5; 5_000]),
+        DiskCall::Writes(4_000, &[3; 7_000]),
+        DiskCall::Syncs,
+        DiskCall::Writes(4_090, &[5; 5_000]),
     ];
     let are_made = does_all(&mut disk, &calls);
     let mut left = disk.stop(torn);

@@ -26,7 +26,7 @@ const OPENING_CALLS: u64 = 10;
 
 // What a run came to: whether the last call succeeded, and the first four bytes.
 #[derive(Clone, Copy, Debug, PartialEq, Eq)]
-struct Found {
+struct RunResult {
     done: bool,
     bytes: [u8; 4],
 }
@@ -74,7 +74,7 @@ fn stopped_twice(
     torn: Torn,
     more: u64,
     torn_again: Torn,
-) -> Result<Found, Fail> {
+) -> Result<RunResult, Fail> {
     let mut first = FuseDisk::new(MemDisk::new(alloc, 68)?);
     first.arm(calls);
     let done = change(alloc, &mut first).is_ok();
@@ -83,7 +83,7 @@ fn stopped_twice(
     let _stopped = reopened(alloc, &mut second);
     let mut third = second.stop(torn_again);
     let bytes = reopened(alloc, &mut third)?;
-    Ok(Found { done, bytes })
+    Ok(RunResult { done, bytes })
 }
 
 // What every way to stop comes to.

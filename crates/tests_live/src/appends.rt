@@ -2,7 +2,7 @@ use crate::cells::{hasty, small};
 use crate::producers::{count_kept, produce_all, producers_of};
 use cell_run::cell::Cell;
 use cell_seats::gate::OpenGate;
-use cell_seats::post::Policy;
+use cell_seats::mailboxes::Policy;
 use gfs_types::config::Config;
 use std::alloc::Global;
 use std::sync::Wait;

@@ -2,11 +2,11 @@
 
 use crate::cells::{small, wait_for};
 use crate::producers::{Found, append, create, look, open};
-use cell_journal::entry::Taking;
+use cell_journal::journal_entry::StepCause;
 use cell_run::cell::{Cell, ClientSeat};
 use cell_seats::gate::Gate;
 use gfs_types::ids::{Node, ServerId};
-use messages::event::Input;
+use messages::event::NodeInput;
 use messages::message::Body;
 use std::alloc::{AllocError, Global};
 use std::sync::atomic::{AtomicU64, Ordering};
@@ -36,16 +36,16 @@ impl<R: Clock + Copy + Drop> Clone for ReadGate<R> {
     }
 }
 
-fn is_read(taking: &Taking) -> bool {
-    match taking {
-        Taking::Takes(Input::Deliver(message)) => matches!(message.body, Body::Read { .. }),
+fn is_read(cause: &StepCause) -> bool {
+    match cause {
+        StepCause::Takes(NodeInput::Deliver(message)) => matches!(message.body, Body::Read { .. }),
         _ => false,
     }
 }
 
 impl<R: Clock + Copy + Drop> Gate for ReadGate<R> {
-    fn before(&self, node: Node, taking: &Taking) {
-        if node != Node::Server(ServerId(1)) || !is_read(taking) {
+    fn before(&self, node: Node, cause: &StepCause) {
+        if node != Node::Server(ServerId(1)) || !is_read(cause) {
             return;
         }
         self.held.fetch_add(1, Ordering::SeqCst);

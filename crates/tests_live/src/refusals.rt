@@ -3,7 +3,7 @@
 use crate::cells::small;
 use cell_run::cell::{Cell, ClientSeat};
 use cell_seats::gate::OpenGate;
-use cell_seats::post::Policy;
+use cell_seats::mailboxes::Policy;
 use gfs_types::config::Config;
 use gfs_types::lists::Text;
 use gfs_types::refusal::Refusal;

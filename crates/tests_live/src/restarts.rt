@@ -2,7 +2,7 @@
 
 use crate::cells::{hasty, small, wait_for};
 use crate::producers::{Producer, count_kept, produce_all, producers_of};
-use cell_journal::entry::Taking;
+use cell_journal::journal_entry::StepCause;
 use cell_run::cell::Cell;
 use cell_seats::gate::Gate;
 use cell_seats::journal::Journal;
@@ -43,16 +43,16 @@ impl Clone for RestartGate {
 }
 
 impl Gate for RestartGate {
-    fn before(&self, _node: Node, taking: &Taking) {
-        if is_restart(taking) {
+    fn before(&self, _node: Node, cause: &StepCause) {
+        if is_restart(cause) {
             self.restarts.fetch_add(1, Ordering::SeqCst);
         }
     }
 }
 
-fn is_restart(taking: &Taking) -> bool {
-    match taking {
-        Taking::Restarts => true,
+fn is_restart(cause: &StepCause) -> bool {
+    match cause {
+        StepCause::Restarts => true,
         _ => false,
     }
 }
@@ -107,7 +107,7 @@ fn restarts_of(journal: &Journal, node: Node) -> u64 {
     let mut count: u64 = 0;
     for place in 0..journal.len() {
         if let Some(entry) = journal.event(place) {
-            if entry.node() == node && is_restart(entry.taking()) {
+            if entry.node() == node && is_restart(entry.cause()) {
                 count = count.wrapping_add(1);
             }
         }

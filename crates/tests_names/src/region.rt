@@ -204,7 +204,7 @@ fn copy_drawn<A: Allocator + Clone>(
 
 // How often a name was refused, a copy was made, and one was refused.
 #[derive(Clone, Copy)]
-struct Counts {
+struct RegionCounts {
     refused: u64,
     copied: u64,
     refused_copies: u64,
@@ -216,7 +216,7 @@ fn call_drawn<A: Allocator + Clone>(
     seed: &mut u64,
     trie: &mut Trie<u64, A>,
     plain: &mut BTreeMap<String, u64>,
-    counts: &mut Counts,
+    counts: &mut RegionCounts,
     value: u64,
 ) -> Result<bool, Fail> {
     let parts = draw(seed, 4).saturating_add(1);
@@ -237,7 +237,7 @@ fn call_drawn<A: Allocator + Clone>(
     }
 }
 
-fn count_copy(counts: &mut Counts, copied: Option<Copied>) {
+fn count_copy(counts: &mut RegionCounts, copied: Option<Copied>) {
     match copied {
         Some(Copied::Yes) => counts.copied = counts.copied.saturating_add(1),
         Some(Copied::Refused) => counts.refused_copies = counts.refused_copies.saturating_add(1),
@@ -249,7 +249,7 @@ fn count_copy(counts: &mut Counts, copied: Option<Copied>) {
 fn first_unlike<A: Allocator + Clone>(
     alloc: Global,
     trie: &mut Trie<u64, A>,
-    counts: &mut Counts,
+    counts: &mut RegionCounts,
     calls: u64,
 ) -> Result<Option<u64>, Fail> {
     let mut seed = 7;
@@ -268,7 +268,7 @@ fn random_calls(rt: HostRuntime) -> Result<(), Fail> {
     let alloc = rt.alloc();
     let heap = LocalHeap::new(alloc, 16_384)?;
     let mut trie = Trie::new(&heap)?;
-    let mut counts = Counts {
+    let mut counts = RegionCounts {
         refused: 0,
         copied: 0,
         refused_copies: 0,

@@ -6,7 +6,7 @@ use bytes::Bytes;
 use gfs_types::ids::{Handle, OrderNo, Serial, Version};
 use replica_store::change::StoreChange;
 use replica_store::row::Row;
-use server_store::fault::StoreFault;
+use server_store::fault::ReplicaStoreFault;
 use server_store::store::ReplicaStore;
 use std::alloc::{AllocError, Global};
 use store_disk::Layout;
@@ -25,7 +25,7 @@ fn filled(alloc: Global, count: usize, byte: u8) -> Result<Bytes, AllocError> {
 }
 
 // The change of a number.
-pub(crate) fn change_of(alloc: Global, number: u64) -> Result<StoreChange, StoreFault> {
+pub(crate) fn change_of(alloc: Global, number: u64) -> Result<StoreChange, ReplicaStoreFault> {
     let change = match number {
         0 => StoreChange::SetOrder(OrderNo { epoch: 1, count: 1 }),
         1 => StoreChange::Put {
@@ -85,7 +85,7 @@ pub(crate) fn commit_first<S: ReplicaStore>(
     alloc: Global,
     store: &mut S,
     count: u64,
-) -> Result<(), StoreFault>
+) -> Result<(), ReplicaStoreFault>
     requires { S.under_way store.old ≡ [] }
     ensures { OnOk result (S.under_way store.new ≡ []) }
 {
@@ -106,7 +106,10 @@ pub(crate) struct Shown {
     bytes: [Option<u64>; 3],
 }
 
-pub(crate) fn seen<S: ReplicaStore>(alloc: Global, store: &mut S) -> Result<Shown, StoreFault>
+pub(crate) fn seen<S: ReplicaStore>(
+    alloc: Global,
+    store: &mut S,
+) -> Result<Shown, ReplicaStoreFault>
     requires { S.under_way store.old ≡ [] }
     ensures { S.under_way store.new ≡ [] }
 {
@@ -129,7 +132,7 @@ pub(crate) fn seen<S: ReplicaStore>(alloc: Global, store: &mut S) -> Result<Show
     })
 }
 
-fn listed<S: ReplicaStore>(alloc: Global, store: &S) -> Result<u64, StoreFault> {
+fn listed<S: ReplicaStore>(alloc: Global, store: &S) -> Result<u64, ReplicaStoreFault> {
     let lines = store.list(alloc)?;
     let mut sum: u64 = 17;
     for line in lines.as_slice() {
@@ -142,7 +145,7 @@ fn bytes_of<S: ReplicaStore>(
     alloc: Global,
     store: &mut S,
     handle: u64,
-) -> Result<Option<u64>, StoreFault>
+) -> Result<Option<u64>, ReplicaStoreFault>
     requires { S.under_way store.old ≡ [] }
     ensures { S.under_way store.new ≡ [] }
 {

@@ -7,7 +7,7 @@ use crate::same::new_store;
 use gfs_types::ids::Handle;
 use gfs_types::torn::Torn;
 use memory_store::MemoryStore;
-use server_store::fault::StoreFault;
+use server_store::fault::ReplicaStoreFault;
 use server_store::stoppable_store::StoppableStore;
 use server_store::store::ReplicaStore;
 use std::alloc::Global;
@@ -47,7 +47,7 @@ fn seen_after<S: ReplicaStore>(
     alloc: Global,
     store: &mut S,
     count: u64,
-) -> Result<Shown, StoreFault>
+) -> Result<Shown, ReplicaStoreFault>
     requires { S.under_way store.old ≡ [] }
 {
     commit_first(alloc, store, count)?;
@@ -55,7 +55,7 @@ fn seen_after<S: ReplicaStore>(
 }
 
 // What a store in memory shows after so many changes.
-fn after(alloc: Global, count: u64) -> Result<Shown, StoreFault> {
+fn after(alloc: Global, count: u64) -> Result<Shown, ReplicaStoreFault> {
     let mut model = MemoryStore::new(alloc, 16);
     let shown = seen_after(alloc, &mut model, count);
     drop(model);
@@ -63,7 +63,7 @@ fn after(alloc: Global, count: u64) -> Result<Shown, StoreFault> {
 }
 
 // The store is opened twice, and its disk stops in the first opening. Whether that succeeded.
-fn open_twice<S: StoppableStore>(store: &mut S, stop: Stop) -> Result<bool, StoreFault>
+fn open_twice<S: StoppableStore>(store: &mut S, stop: Stop) -> Result<bool, ReplicaStoreFault>
     ensures { OnOk result (S.under_way store.new ≡ []) }
 {
     store.stop_after_restart(stop.more, stop.torn);
@@ -78,7 +78,7 @@ fn stop_within<S: StoppableStore>(
     store: &mut S,
     number: u64,
     stop: Stop,
-) -> Result<Stopped, StoreFault>
+) -> Result<Stopped, ReplicaStoreFault>
     requires { S.under_way store.old ≡ [] }
 {
     commit_first(alloc, store, number)?;
@@ -94,7 +94,7 @@ fn stop_within<S: StoppableStore>(
     })
 }
 
-fn stop_new_store(alloc: Global, number: u64, stop: Stop) -> Result<Stopped, StoreFault> {
+fn stop_new_store(alloc: Global, number: u64, stop: Stop) -> Result<Stopped, ReplicaStoreFault> {
     let mut store = new_store(alloc)?;
     let stopped = stop_within(alloc, &mut store, number, stop);
     drop(store);
@@ -125,7 +125,7 @@ fn are_decided_at(
     tally: &mut Tally,
     number: u64,
     calls: u64,
-) -> Result<bool, StoreFault> {
+) -> Result<bool, ReplicaStoreFault> {
     for more in 0..OPENING_CALLS {
         for torn in WAYS {
             let stop = Stop { calls, more, torn };
@@ -138,7 +138,7 @@ fn are_decided_at(
 }
 
 // The same for each call of the change; and whether neither it nor the opening has more calls than were tried.
-fn are_decided(alloc: Global, tally: &mut Tally, number: u64) -> Result<bool, StoreFault> {
+fn are_decided(alloc: Global, tally: &mut Tally, number: u64) -> Result<bool, ReplicaStoreFault> {
     for calls in 0..CALLS {
         if !are_decided_at(alloc, tally, number, calls)? {
             return Ok(false);
@@ -175,7 +175,7 @@ fn stop_within_rot<S: StoppableStore>(
     alloc: Global,
     store: &mut S,
     stop: Stop,
-) -> Result<bool, StoreFault>
+) -> Result<bool, ReplicaStoreFault>
     requires { S.under_way store.old ≡ [] }
 {
     commit_first(alloc, store, 4)?;
@@ -188,14 +188,14 @@ fn stop_within_rot<S: StoppableStore>(
     Ok(if is_ok { is_rotten } else { found == before })
 }
 
-fn is_rotten_or_not(alloc: Global, stop: Stop) -> Result<bool, StoreFault> {
+fn is_rotten_or_not(alloc: Global, stop: Stop) -> Result<bool, ReplicaStoreFault> {
     let mut store = new_store(alloc)?;
     let is_decided = stop_within_rot(alloc, &mut store, stop);
     drop(store);
     is_decided
 }
 
-fn are_rotten_or_not(alloc: Global, calls: u64) -> Result<bool, StoreFault> {
+fn are_rotten_or_not(alloc: Global, calls: u64) -> Result<bool, ReplicaStoreFault> {
     for more in 0..OPENING_CALLS {
         for torn in WAYS {
             if !is_rotten_or_not(alloc, Stop { calls, more, torn })? {

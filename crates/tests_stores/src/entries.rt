@@ -6,7 +6,7 @@ use crate::refused::checkpoint;
 use crate::restarts::new_log;
 use gfs_types::ids::{FileId, Handle};
 use log_records::record::Record;
-use operation_log::fault::LogFault;
+use operation_log::fault::OperationLogFault;
 use operation_log::log::OperationLog;
 use std::alloc::Global;
 use std::test::Fail;
@@ -32,7 +32,7 @@ fn epoch_at<L: OperationLog>(log: &mut L, place: u64) -> Option<u64>
     epoch
 }
 
-fn append<L: OperationLog>(log: &mut L, epoch: u64) -> Result<(), LogFault>
+fn append<L: OperationLog>(log: &mut L, epoch: u64) -> Result<(), OperationLogFault>
     requires { L.under_way log.old ≡ [] }
     ensures { OnOk result (L.under_way log.new ≡ []) }
 {
@@ -43,7 +43,7 @@ fn append<L: OperationLog>(log: &mut L, epoch: u64) -> Result<(), LogFault>
 }
 
 // A checkpoint of one item, and a record.
-fn fill<L: OperationLog>(log: &mut L) -> Result<(), LogFault>
+fn fill<L: OperationLog>(log: &mut L) -> Result<(), OperationLogFault>
     requires { L.under_way log.old ≡ [] }
     ensures { OnOk result (L.under_way log.new ≡ []) }
 {
@@ -60,7 +60,7 @@ fn fill<L: OperationLog>(log: &mut L) -> Result<(), LogFault>
 }
 
 // What is read after an opening, in order, backwards and behind the end; and behind one record more, and before it.
-fn read<L: OperationLog>(log: &mut L) -> Result<[Option<u64>; 6], LogFault>
+fn read<L: OperationLog>(log: &mut L) -> Result<[Option<u64>; 6], OperationLogFault>
     requires { L.under_way log.old ≡ [] }
 {
     let first = epoch_at(log, 0);
@@ -73,7 +73,7 @@ fn read<L: OperationLog>(log: &mut L) -> Result<[Option<u64>; 6], LogFault>
     Ok([first, second, again, none, third, before])
 }
 
-fn filled_and_read<L: OperationLog>(log: &mut L) -> Result<[Option<u64>; 6], LogFault>
+fn filled_and_read<L: OperationLog>(log: &mut L) -> Result<[Option<u64>; 6], OperationLogFault>
     requires { L.under_way log.old ≡ [] }
 {
     fill(log)?;

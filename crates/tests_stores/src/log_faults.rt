@@ -2,7 +2,7 @@
 
 use crate::log_calls::SIZE;
 use crate::log_stops::{CALLS, OPENING_CALLS, found_on, is_after, stopped};
-use crate::plan::{Plan, STEPS, find, run};
+use crate::plan::{STEPS, StopPlan, find, run};
 use disk::{Disk, FaultDisk, MemDisk};
 use gfs_types::torn::Torn;
 use oplog::LogFault;
@@ -10,7 +10,11 @@ use std::alloc::{AllocError, Global};
 use std::test::Fail;
 
 // How many changes are made on a disk that fails at one call. None where that isn't answered Device, or another call is, or the changes aren't found again.
-fn made_with_fault(alloc: Global, plan: &Plan, calls: u64) -> Result<Option<usize>, AllocError> {
+fn made_with_fault(
+    alloc: Global,
+    plan: &StopPlan,
+    calls: u64,
+) -> Result<Option<usize>, AllocError> {
     let disk = FaultDisk::new(MemDisk::new(alloc, SIZE)?, calls);
     let (disk, made) = run(disk, alloc, plan);
     let has_failed = disk.failures() == 1;
@@ -26,7 +30,7 @@ fn made_with_fault(alloc: Global, plan: &Plan, calls: u64) -> Result<Option<usiz
 #[test]
 fn a_failed_call_answers_device(rt: HostRuntime) -> Result<(), Fail> {
     let alloc = rt.alloc();
-    let plan = Plan::new(alloc)?;
+    let plan = StopPlan::new(alloc)?;
     let mut last = None;
     for calls in 0..CALLS {
         last = made_with_fault(alloc, &plan, calls).unwrap_or(None);
@@ -38,7 +42,7 @@ fn a_failed_call_answers_device(rt: HostRuntime) -> Result<(), Fail> {
 }
 
 // What is found on a disk whose opening fails at one call and is done again; None where a failure isn't answered Device, or Device without one.
-fn found_after_fault(disk: MemDisk, alloc: Global, plan: &Plan, more: u64) -> Option<usize> {
+fn found_after_fault(disk: MemDisk, alloc: Global, plan: &StopPlan, more: u64) -> Option<usize> {
     let (disk, first) = find(FaultDisk::new(disk, more), alloc, plan);
     let has_failed = disk.failures() == 1;
     let found = found_on(disk.into_disk(), alloc, plan);
@@ -49,7 +53,12 @@ fn found_after_fault(disk: MemDisk, alloc: Global, plan: &Plan, more: u64) -> Op
     }
 }
 
-fn is_found_again(alloc: Global, plan: &Plan, calls: u64, more: u64) -> Result<bool, AllocError> {
+fn is_found_again(
+    alloc: Global,
+    plan: &StopPlan,
+    calls: u64,
+    more: u64,
+) -> Result<bool, AllocError> {
     let (disk, made) = stopped(alloc, plan, calls)?;
     let found = found_after_fault(disk.stop(Torn::Byte(1)), alloc, plan, more);
     Ok(is_after(made, found))
@@ -58,7 +67,7 @@ fn is_found_again(alloc: Global, plan: &Plan, calls: u64, more: u64) -> Result<b
 #[test]
 fn a_failed_opening_is_done_again(rt: HostRuntime) -> Result<(), Fail> {
     let alloc = rt.alloc();
-    let plan = Plan::new(alloc)?;
+    let plan = StopPlan::new(alloc)?;
     for calls in 0..CALLS {
         for more in 0..OPENING_CALLS {
             let is_found = is_found_again(alloc, &plan, calls, more).unwrap_or(false);

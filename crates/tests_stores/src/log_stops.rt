@@ -1,7 +1,7 @@
 //! A log whose disk stops at each of its calls.
 
 use crate::log_calls::{SIZE, WAYS};
-use crate::plan::{Made, Plan, STEPS, find, run};
+use crate::plan::{Made, STEPS, StopPlan, find, run};
 use disk::{Disk, FuseDisk, MemDisk};
 use gfs_types::torn::Torn;
 use std::alloc::{AllocError, Global};
@@ -16,7 +16,7 @@ pub(crate) const OPENING_CALLS: u64 = 15;
 /// All changes on a new disk that stops after so many calls.
 pub(crate) fn stopped(
     alloc: Global,
-    plan: &Plan,
+    plan: &StopPlan,
     calls: u64,
 ) -> Result<(FuseDisk, Made), AllocError> {
     let mut disk = FuseDisk::new(MemDisk::new(alloc, SIZE)?);
@@ -34,14 +34,20 @@ pub(crate) fn is_after(made: Made, found: Option<usize>) -> bool {
 }
 
 /// After how many changes the log on a disk has what it has.
-pub(crate) fn found_on(disk: MemDisk, alloc: Global, plan: &Plan) -> Option<usize> {
+pub(crate) fn found_on(disk: MemDisk, alloc: Global, plan: &StopPlan) -> Option<usize> {
     let (disk, found) = find(disk, alloc, plan);
     drop(disk);
     found.ok()
 }
 
 // What is found once the changes and then an opening stopped.
-fn found_after(disk: MemDisk, alloc: Global, plan: &Plan, more: u64, torn: Torn) -> Option<usize> {
+fn found_after(
+    disk: MemDisk,
+    alloc: Global,
+    plan: &StopPlan,
+    more: u64,
+    torn: Torn,
+) -> Option<usize> {
     let mut second = FuseDisk::new(disk);
     second.arm(more);
     let (second, _stopped) = find(second, alloc, plan);
@@ -49,7 +55,7 @@ fn found_after(disk: MemDisk, alloc: Global, plan: &Plan, more: u64, torn: Torn)
 }
 
 // The same for each opening and each tear; how many changes were made.
-fn stopped_at(alloc: Global, plan: &Plan, calls: u64) -> Result<Option<usize>, AllocError> {
+fn stopped_at(alloc: Global, plan: &StopPlan, calls: u64) -> Result<Option<usize>, AllocError> {
     let mut last = None;
     for more in 0..OPENING_CALLS {
         for torn in WAYS {
@@ -66,7 +72,7 @@ fn stopped_at(alloc: Global, plan: &Plan, calls: u64) -> Result<Option<usize>, A
 #[test]
 fn each_change_is_made_or_not(rt: HostRuntime) -> Result<(), Fail> {
     let alloc = rt.alloc();
-    let plan = Plan::new(alloc)?;
+    let plan = StopPlan::new(alloc)?;
     let mut last = None;
     for calls in 0..CALLS {
         last = stopped_at(alloc, &plan, calls).unwrap_or(None);

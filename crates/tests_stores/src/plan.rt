@@ -24,7 +24,7 @@ pub(crate) const STEPS: usize = 5;
 
 /// What the changes write: a Create, a checkpoint of one item, an Epoch, a checkpoint of two items, and the Create again.
 #[derive(Drop)]
-pub(crate) struct Plan {
+pub(crate) struct StopPlan {
     create: Vec<Record>,
     epoch: Vec<Record>,
     one: Vec<Record>,
@@ -58,11 +58,11 @@ fn only(alloc: Global, record: Record) -> Result<Vec<Record>, NoMemory> {
     Ok(all)
 }
 
-impl Plan {
-    pub(crate) fn new(alloc: Global) -> Result<Plan, NoMemory> {
+impl StopPlan {
+    pub(crate) fn new(alloc: Global) -> Result<StopPlan, NoMemory> {
         let mut two = only(alloc, counters(2))?;
         two.push(root(alloc)?)?;
-        Ok(Plan {
+        Ok(StopPlan {
             create: only(alloc, create(alloc)?)?,
             epoch: only(alloc, Record::Epoch { epoch: 1 })?,
             one: only(alloc, counters(1))?,
@@ -144,7 +144,7 @@ fn write_items<D: Disk>(log: &mut Log<D>, alloc: Global, items: &[Record]) -> Re
 fn change<D: Disk>(
     log: &mut Log<D>,
     alloc: Global,
-    plan: &Plan,
+    plan: &StopPlan,
     number: usize,
 ) -> Result<(), LogFault>
     requires { (area : AreaState) × IsOpen D.seen D.may_leave log.old area }
@@ -165,7 +165,7 @@ fn failed_at(count: usize, fault: LogFault) -> Made {
     }
 }
 
-fn change_all<D: Disk>(log: &mut Log<D>, alloc: Global, plan: &Plan) -> Made
+fn change_all<D: Disk>(log: &mut Log<D>, alloc: Global, plan: &StopPlan) -> Made
     requires { (area : AreaState) × IsOpen D.seen D.may_leave log.old area }
 {
     for number in 0..STEPS {
@@ -187,7 +187,7 @@ fn log_of<D: Disk>(opened: Opened<D>) -> Log<D>
 }
 
 /// Opens the log, and makes all changes.
-pub(crate) fn run<D: Disk + Drop>(disk: D, alloc: Global, plan: &Plan) -> (D, Made) {
+pub(crate) fn run<D: Disk + Drop>(disk: D, alloc: Global, plan: &StopPlan) -> (D, Made) {
     if disk.size() != SIZE {
         return (disk, failed_at(0, LogFault::Damaged));
     }
@@ -218,7 +218,7 @@ fn next_entries(walk: &mut Walk, alloc: Global, count: usize) -> Result<Vec<Reco
 
 // After how many changes a log has so many items and records, which the walk goes through.
 fn place_of_entries(
-    plan: &Plan,
+    plan: &StopPlan,
     entries: Option<Walk>,
     alloc: Global,
     items: usize,
@@ -239,7 +239,7 @@ fn place_of_entries(
 fn place_of_opened<D: Disk>(
     opened: Opened<D>,
     alloc: Global,
-    plan: &Plan,
+    plan: &StopPlan,
 ) -> (Log<D>, Result<usize, LogFault>)
     requires { (all : List Record) × WalksThrough all opened.walk }
 {
@@ -256,7 +256,7 @@ fn place_of_opened<D: Disk>(
 pub(crate) fn find<D: Disk + Drop>(
     disk: D,
     alloc: Global,
-    plan: &Plan,
+    plan: &StopPlan,
 ) -> (D, Result<usize, LogFault>) {
     if disk.size() != SIZE {
         return (disk, Err(LogFault::Damaged));

@@ -4,21 +4,21 @@ ghost use Rattle.std.specs.Prelude.{◌≡◌, [], IfSome, OnOk};
 
 use crate::log_calls::create;
 use crate::restarts::new_log;
+use disk::NodeDisk;
 use gfs_types::ids::{FileId, Handle};
 use gfs_types::no_memory::NoMemory;
 use log_records::record::Record;
-use operation_log::fault::LogFault;
+use operation_log::fault::OperationLogFault;
 use operation_log::log::OperationLog;
 use std::alloc::Global;
 use std::test::Fail;
 use stored_log::disk_log::DiskLog;
-use stored_log::node_disk::NodeDisk;
 
 // How often a record is appended.
 const APPENDS: u64 = 3;
 
 // The log is opened again, if need be once more.
-fn open_again<L: OperationLog>(log: &mut L) -> Result<(), LogFault>
+fn open_again<L: OperationLog>(log: &mut L) -> Result<(), OperationLogFault>
     ensures { OnOk result (L.under_way log.new ≡ []) }
 {
     if log.reopen().is_ok() {
@@ -28,7 +28,7 @@ fn open_again<L: OperationLog>(log: &mut L) -> Result<(), LogFault>
 }
 
 // An append. Where memory is refused the log is opened again, which has the record or not, and then it is appended.
-fn grow<L: OperationLog>(log: &mut L, record: &Record) -> Result<(), LogFault>
+fn grow<L: OperationLog>(log: &mut L, record: &Record) -> Result<(), OperationLogFault>
     requires { L.under_way log.old ≡ [] }
     ensures { OnOk result (L.under_way log.new ≡ []) }
 {
@@ -44,7 +44,10 @@ fn grow<L: OperationLog>(log: &mut L, record: &Record) -> Result<(), LogFault>
     }
 }
 
-pub(crate) fn checkpoint<L: OperationLog>(log: &mut L, item: &Record) -> Result<(), LogFault>
+pub(crate) fn checkpoint<L: OperationLog>(
+    log: &mut L,
+    item: &Record,
+) -> Result<(), OperationLogFault>
     requires { L.under_way log.old ≡ [] }
     ensures { OnOk result (L.under_way log.new ≡ []) }
 {
@@ -54,7 +57,7 @@ pub(crate) fn checkpoint<L: OperationLog>(log: &mut L, item: &Record) -> Result<
 }
 
 // A checkpoint of one item. Where memory is refused the log is opened again, and it is written once more.
-fn shrink<L: OperationLog>(log: &mut L, item: &Record) -> Result<(), LogFault>
+fn shrink<L: OperationLog>(log: &mut L, item: &Record) -> Result<(), OperationLogFault>
     requires { L.under_way log.old ≡ [] }
     ensures { OnOk result (L.under_way log.new ≡ []) }
 {
@@ -66,7 +69,11 @@ fn shrink<L: OperationLog>(log: &mut L, item: &Record) -> Result<(), LogFault>
 }
 
 // Appends, a checkpoint, an append and an opening: how many entries there are before the checkpoint, after it, and at the end.
-fn go_on<L: OperationLog>(log: &mut L, record: &Record, item: &Record) -> Result<[u64; 3], LogFault>
+fn go_on<L: OperationLog>(
+    log: &mut L,
+    record: &Record,
+    item: &Record,
+) -> Result<[u64; 3], OperationLogFault>
     requires { L.under_way log.old ≡ [] }
 {
     for number in 0..APPENDS {

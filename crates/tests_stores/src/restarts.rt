@@ -3,14 +3,13 @@
 ghost use Rattle.std.specs.Prelude.{◌≡◌, [], IfOk, IfSome};
 
 use crate::log_calls::{SIZE, WAYS, create};
-use disk::Disk;
+use disk::{Disk, NodeDisk};
 use gfs_types::torn::Torn;
 use log_records::record::Record;
+use operation_log::stoppable::StoppableLog;
 use std::alloc::Global;
 use std::test::Fail;
 use stored_log::disk_log::DiskLog;
-use stored_log::node_disk::NodeDisk;
-use stored_log::stoppable::StoppableLog;
 
 // An append takes 4 calls of the disk, and an opening 5.
 const CALLS: u64 = 6;

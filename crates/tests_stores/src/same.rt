@@ -3,16 +3,16 @@
 ghost use Rattle.std.specs.Prelude.{◌≡◌, [], IfOk, OnOk};
 
 use crate::changes::{CHANGES, change_of, commit_first, layout, seen};
+use disk::NodeDisk;
 use disk_store::disk_store::DiskStore;
 use gfs_types::ids::Handle;
 use memory_store::MemoryStore;
-use server_store::fault::StoreFault;
+use server_store::fault::ReplicaStoreFault;
 use server_store::store::ReplicaStore;
 use std::alloc::Global;
 use std::test::Fail;
-use stored_log::node_disk::NodeDisk;
 
-pub(crate) fn new_store(alloc: Global) -> Result<DiskStore<NodeDisk>, StoreFault>
+pub(crate) fn new_store(alloc: Global) -> Result<DiskStore<NodeDisk>, ReplicaStoreFault>
     ensures { IfOk result (λ s. s.1 ≡ []) }
 {
     let layout = layout();
@@ -25,7 +25,7 @@ fn are_same<S: ReplicaStore, T: ReplicaStore>(
     alloc: Global,
     store: &mut S,
     model: &mut T,
-) -> Result<bool, StoreFault>
+) -> Result<bool, ReplicaStoreFault>
     requires store { S.under_way store.old ≡ [] }
     requires model { T.under_way model.old ≡ [] }
     ensures store { S.under_way store.new ≡ [] }
@@ -40,7 +40,7 @@ fn go_on_alike<S: ReplicaStore, T: ReplicaStore>(
     store: &mut S,
     model: &mut T,
     number: u64,
-) -> Result<bool, StoreFault>
+) -> Result<bool, ReplicaStoreFault>
     requires store { S.under_way store.old ≡ [] }
     requires model { T.under_way model.old ≡ [] }
     ensures store { OnOk result (S.under_way store.new ≡ []) }
@@ -59,7 +59,7 @@ fn are_always_alike<S: ReplicaStore, T: ReplicaStore>(
     alloc: Global,
     store: &mut S,
     model: &mut T,
-) -> Result<bool, StoreFault>
+) -> Result<bool, ReplicaStoreFault>
     requires store { S.under_way store.old ≡ [] }
     requires model { T.under_way model.old ≡ [] }
 {
@@ -73,7 +73,7 @@ fn are_always_alike<S: ReplicaStore, T: ReplicaStore>(
 
 // Whether a store shows what one in memory does. What owns a store has one way out, and calls `drop` there: a drop at the end of a scope is proved anew at each
 // place.
-fn is_as_in_memory<S: ReplicaStore>(alloc: Global, store: &mut S) -> Result<bool, StoreFault>
+fn is_as_in_memory<S: ReplicaStore>(alloc: Global, store: &mut S) -> Result<bool, ReplicaStoreFault>
     requires { S.under_way store.old ≡ [] }
 {
     let mut model = MemoryStore::new(alloc, 16);
@@ -82,7 +82,7 @@ fn is_as_in_memory<S: ReplicaStore>(alloc: Global, store: &mut S) -> Result<bool
     are_alike
 }
 
-fn new_is_as_in_memory(alloc: Global) -> Result<bool, StoreFault> {
+fn new_is_as_in_memory(alloc: Global) -> Result<bool, ReplicaStoreFault> {
     let mut store = new_store(alloc)?;
     let is_as_in_memory = is_as_in_memory(alloc, &mut store);
     drop(store);
@@ -101,7 +101,7 @@ fn rot_alike<S: ReplicaStore, T: ReplicaStore>(
     alloc: Global,
     store: &mut S,
     model: &mut T,
-) -> Result<bool, StoreFault>
+) -> Result<bool, ReplicaStoreFault>
     requires store { S.under_way store.old ≡ [] }
     requires model { T.under_way model.old ≡ [] }
     ensures store { OnOk result (S.under_way store.new ≡ []) }
@@ -115,7 +115,7 @@ fn rot_alike<S: ReplicaStore, T: ReplicaStore>(
 }
 
 // Whether the block of that byte is neither read nor copied nor written over in part, and another block is.
-fn is_shut<S: ReplicaStore>(alloc: Global, store: &mut S) -> Result<bool, StoreFault>
+fn is_shut<S: ReplicaStore>(alloc: Global, store: &mut S) -> Result<bool, ReplicaStoreFault>
     requires { S.under_way store.old ≡ [] }
     ensures { S.under_way store.new ≡ [] }
 {
@@ -134,7 +134,7 @@ fn refuses_rot<S: ReplicaStore>(store: &mut S) -> bool
     let back = store.rot(Handle(7), 3, 65);
     let same = store.rot(Handle(7), 20, 66);
     let past = store.rot(Handle(7), 64, 1);
-    let no_room = Err(StoreFault::NoRoom);
+    let no_room = Err(ReplicaStoreFault::NoRoom);
     back == no_room && same == no_room && past == no_room
 }
 
@@ -145,7 +145,7 @@ fn refuses_past<S: ReplicaStore>(store: &mut S) -> bool
 {
     let past = store.is_writable(Handle(7), 60, 65);
     let empty = store.is_writable(Handle(7), 70, 70);
-    past == Err(StoreFault::NoRoom) && empty == Ok(true)
+    past == Err(ReplicaStoreFault::NoRoom) && empty == Ok(true)
 }
 
 // Whether it is so once a byte of both is rotten, and both show the same once the first one is opened again.
@@ -153,7 +153,7 @@ fn is_rotten_alike<S: ReplicaStore, T: ReplicaStore>(
     alloc: Global,
     store: &mut S,
     model: &mut T,
-) -> Result<bool, StoreFault>
+) -> Result<bool, ReplicaStoreFault>
     requires store { S.under_way store.old ≡ [] }
     requires model { T.under_way model.old ≡ [] }
 {
@@ -164,7 +164,10 @@ fn is_rotten_alike<S: ReplicaStore, T: ReplicaStore>(
     Ok(is_alike && is_shut && refuses && are_same(alloc, store, model)?)
 }
 
-fn is_rotten_as_in_memory<S: ReplicaStore>(alloc: Global, store: &mut S) -> Result<bool, StoreFault>
+fn is_rotten_as_in_memory<S: ReplicaStore>(
+    alloc: Global,
+    store: &mut S,
+) -> Result<bool, ReplicaStoreFault>
     requires { S.under_way store.old ≡ [] }
 {
     let mut model = MemoryStore::new(alloc, 16);
@@ -173,7 +176,7 @@ fn is_rotten_as_in_memory<S: ReplicaStore>(alloc: Global, store: &mut S) -> Resu
     is_alike
 }
 
-fn new_is_rotten_as_in_memory(alloc: Global) -> Result<bool, StoreFault> {
+fn new_is_rotten_as_in_memory(alloc: Global) -> Result<bool, ReplicaStoreFault> {
     let mut store = new_store(alloc)?;
     let is_as_in_memory = is_rotten_as_in_memory(alloc, &mut store);
     drop(store);

@@ -90,38 +90,38 @@ fn words(alloc: Global, line: &str) -> Result<Vec<String>, AllocError> {
 /// What a command line asks for: a script's file, the size of the names' region and the settings that aren't the defaults; the same of a cell with threads, that
 /// has no region; a text with these words in it; or nothing.
 #[derive(Clone, Copy)]
-enum Asked<'a> {
+enum Command<'a> {
     Sim(&'a str, Option<u64>, &'a [(&'a str, u64)]),
     Live(&'a str, &'a [(&'a str, u64)]),
     Shows(&'a str),
     Nothing,
 }
 
-fn is_sim(file: &str, names_heap: Option<u64>, options: &Options, wanted: &Asked) -> bool {
+fn is_sim(file: &str, names_heap: Option<u64>, options: &Options, wanted: &Command) -> bool {
     match wanted {
-        Asked::Sim(name, heap, changes) => {
+        Command::Sim(name, heap, changes) => {
             file == *name && names_heap == *heap && numbers(options) == changed(changes)
         }
         _ => false,
     }
 }
 
-fn is_live(file: &str, options: &Options, wanted: &Asked) -> bool {
+fn is_live(file: &str, options: &Options, wanted: &Command) -> bool {
     match wanted {
-        Asked::Live(name, changes) => file == *name && numbers(options) == changed(changes),
+        Command::Live(name, changes) => file == *name && numbers(options) == changed(changes),
         _ => false,
     }
 }
 
-fn shows(text: &str, wanted: &Asked) -> bool {
+fn shows(text: &str, wanted: &Command) -> bool {
     match wanted {
-        Asked::Shows(part) => text.contains(part),
+        Command::Shows(part) => text.contains(part),
         _ => false,
     }
 }
 
 /// Whether the request is the one that is wanted.
-fn is_request(request: &Request, wanted: &Asked) -> bool {
+fn is_request(request: &Request, wanted: &Command) -> bool {
     match request {
         Request::Sim {
             file,
@@ -134,7 +134,7 @@ fn is_request(request: &Request, wanted: &Asked) -> bool {
 }
 
 /// Whether a command line asks for what is wanted.
-fn asks_for(alloc: Global, line: &str, wanted: &Asked) -> Result<bool, AllocError> {
+fn asks_for(alloc: Global, line: &str, wanted: &Command) -> Result<bool, AllocError> {
     let words = words(alloc, line)?;
     Ok(match parse(alloc, words.as_slice()) {
         Ok(request) => {
@@ -142,7 +142,7 @@ fn asks_for(alloc: Global, line: &str, wanted: &Asked) -> Result<bool, AllocErro
             drop(request);
             is_request
         }
-        Err(CommandFault::Bad) => matches!(wanted, Asked::Nothing),
+        Err(CommandFault::Bad) => matches!(wanted, Command::Nothing),
         Err(_) => false,
     })
 }
@@ -150,7 +150,7 @@ fn asks_for(alloc: Global, line: &str, wanted: &Asked) -> Result<bool, AllocErro
 /// The first of these command lines that asks for something else.
 fn first_other<'a>(
     alloc: Global,
-    lines: &[(&'a str, Asked<'a>)],
+    lines: &[(&'a str, Command<'a>)],
 ) -> Result<Option<&'a str>, AllocError> {
     for (line, wanted) in lines {
         if !asks_for(alloc, line, wanted)? {
@@ -173,55 +173,55 @@ fn sets_each_option(rt: HostRuntime) -> Result<(), Fail> {
         } else {
             one.as_slice()
         };
-        let is_set = asks_for(alloc, line.as_str(), &Asked::Sim("a.gfs", None, changes))?;
+        let is_set = asks_for(alloc, line.as_str(), &Command::Sim("a.gfs", None, changes))?;
         assert!(rt; is_set, "{line}");
     }
     Ok(())
 }
 
 /// Command lines that ask for a region, for threads, or for settings together.
-const LINES: [(&str, Asked); 12] = [
+const LINES: [(&str, Command); 12] = [
     (
         "gfscell sim a.gfs --names-heap 16384 --servers 5",
-        Asked::Sim("a.gfs", Some(16_384), &[("servers", 5)]),
+        Command::Sim("a.gfs", Some(16_384), &[("servers", 5)]),
     ),
     (
         "gfscell live a.live --servers 5",
-        Asked::Live("a.live", &[("servers", 5)]),
+        Command::Live("a.live", &[("servers", 5)]),
     ),
-    ("gfscell sim a.gfs", Asked::Sim("a.gfs", None, &[])),
+    ("gfscell sim a.gfs", Command::Sim("a.gfs", None, &[])),
     // the greatest power of two that divides the chunk and is at most 65,536
     (
         "gfscell sim a.gfs --chunk 64",
-        Asked::Sim("a.gfs", None, &[("chunk", 64), ("block", 64)]),
+        Command::Sim("a.gfs", None, &[("chunk", 64), ("block", 64)]),
     ),
     (
         "gfscell sim a.gfs --chunk 48",
-        Asked::Sim("a.gfs", None, &[("chunk", 48), ("block", 16)]),
+        Command::Sim("a.gfs", None, &[("chunk", 48), ("block", 16)]),
     ),
     (
         "gfscell sim a.gfs --chunk 131072",
-        Asked::Sim("a.gfs", None, &[("chunk", 131_072)]),
+        Command::Sim("a.gfs", None, &[("chunk", 131_072)]),
     ),
     (
         "gfscell sim a.gfs --chunk 64 --block 16",
-        Asked::Sim("a.gfs", None, &[("chunk", 64), ("block", 16)]),
+        Command::Sim("a.gfs", None, &[("chunk", 64), ("block", 16)]),
     ),
     // other forms
     (
         "gfscell sim --servers=007 a.gfs",
-        Asked::Sim("a.gfs", None, &[("servers", 7)]),
+        Command::Sim("a.gfs", None, &[("servers", 7)]),
     ),
     (
         "gfscell sim a.gfs --servers 18446744073709551615",
-        Asked::Sim("a.gfs", None, &[("servers", u64::MAX)]),
+        Command::Sim("a.gfs", None, &[("servers", u64::MAX)]),
     ),
     (
         "gfscell sim a.gfs --goal 4294967298",
-        Asked::Sim("a.gfs", None, &[("goal", 4_294_967_295)]),
+        Command::Sim("a.gfs", None, &[("goal", 4_294_967_295)]),
     ),
-    ("gfscell sim -", Asked::Sim("-", None, &[])),
-    ("gfscell sim -- -f", Asked::Sim("-f", None, &[])),
+    ("gfscell sim -", Command::Sim("-", None, &[])),
+    ("gfscell sim -- -f", Command::Sim("-f", None, &[])),
 ];
 
 #[test]
@@ -232,36 +232,39 @@ fn sets_options_together(rt: HostRuntime) -> Result<(), Fail> {
     Ok(())
 }
 
-const REFUSED: [(&str, Asked); 26] = [
-    ("gfscell", Asked::Nothing),
-    ("gfscell help", Asked::Nothing),
-    ("gfscell live", Asked::Nothing),
-    ("gfscell live a.live b.live", Asked::Nothing),
-    ("gfscell sim", Asked::Nothing),
-    ("gfscell a.gfs", Asked::Nothing),
-    ("gfscell sim a.gfs b.gfs", Asked::Nothing),
-    ("gfscell sim a.gfs --fast", Asked::Nothing),
-    ("gfscell live a.live --names-heap 16384", Asked::Nothing),
-    ("gfscell sim a.gfs --names-heap 16k", Asked::Nothing),
-    ("gfscell sim a.gfs --serv 3", Asked::Nothing),
-    ("gfscell sim a.gfs -s 3", Asked::Nothing),
-    ("gfscell sim a.gfs --servers", Asked::Nothing),
-    ("gfscell sim a.gfs --servers ", Asked::Nothing),
-    ("gfscell sim a.gfs --servers= ", Asked::Nothing),
-    ("gfscell sim a.gfs --servers 3 --servers 3", Asked::Nothing),
-    ("gfscell sim a.gfs --servers -1", Asked::Nothing),
-    ("gfscell sim a.gfs --servers +1", Asked::Nothing),
-    ("gfscell sim a.gfs --servers 1.0", Asked::Nothing),
-    ("gfscell sim a.gfs --servers 0x1", Asked::Nothing),
-    ("gfscell sim a.gfs --servers 1k", Asked::Nothing),
+const REFUSED: [(&str, Command); 26] = [
+    ("gfscell", Command::Nothing),
+    ("gfscell help", Command::Nothing),
+    ("gfscell live", Command::Nothing),
+    ("gfscell live a.live b.live", Command::Nothing),
+    ("gfscell sim", Command::Nothing),
+    ("gfscell a.gfs", Command::Nothing),
+    ("gfscell sim a.gfs b.gfs", Command::Nothing),
+    ("gfscell sim a.gfs --fast", Command::Nothing),
+    ("gfscell live a.live --names-heap 16384", Command::Nothing),
+    ("gfscell sim a.gfs --names-heap 16k", Command::Nothing),
+    ("gfscell sim a.gfs --serv 3", Command::Nothing),
+    ("gfscell sim a.gfs -s 3", Command::Nothing),
+    ("gfscell sim a.gfs --servers", Command::Nothing),
+    ("gfscell sim a.gfs --servers ", Command::Nothing),
+    ("gfscell sim a.gfs --servers= ", Command::Nothing),
+    (
+        "gfscell sim a.gfs --servers 3 --servers 3",
+        Command::Nothing,
+    ),
+    ("gfscell sim a.gfs --servers -1", Command::Nothing),
+    ("gfscell sim a.gfs --servers +1", Command::Nothing),
+    ("gfscell sim a.gfs --servers 1.0", Command::Nothing),
+    ("gfscell sim a.gfs --servers 0x1", Command::Nothing),
+    ("gfscell sim a.gfs --servers 1k", Command::Nothing),
     (
         "gfscell sim a.gfs --servers 18446744073709551616",
-        Asked::Nothing,
+        Command::Nothing,
     ),
-    ("gfscell sim a.gfs --chunk x", Asked::Nothing),
-    ("gfscell sim a.gfs --block x", Asked::Nothing),
-    ("gfscell sim a.gfs --journal x", Asked::Nothing),
-    ("gfscell sim --version", Asked::Nothing),
+    ("gfscell sim a.gfs --chunk x", Command::Nothing),
+    ("gfscell sim a.gfs --block x", Command::Nothing),
+    ("gfscell sim a.gfs --journal x", Command::Nothing),
+    ("gfscell sim --version", Command::Nothing),
 ];
 
 #[test]
@@ -271,13 +274,13 @@ fn refuses_other_words(rt: HostRuntime) -> Result<(), Fail> {
     Ok(())
 }
 
-const SHOWN: [(&str, Asked); 6] = [
-    ("gfscell --help", Asked::Shows("sim")),
-    ("gfscell -h", Asked::Shows("live")),
-    ("gfscell sim --help", Asked::Shows("--lease-ms")),
-    ("gfscell sim a.gfs --help", Asked::Shows("--journal")),
-    ("gfscell --version", Asked::Shows("gfscell 0.1.0")),
-    ("gfscell -V", Asked::Shows("gfscell 0.1.0")),
+const SHOWN: [(&str, Command); 6] = [
+    ("gfscell --help", Command::Shows("sim")),
+    ("gfscell -h", Command::Shows("live")),
+    ("gfscell sim --help", Command::Shows("--lease-ms")),
+    ("gfscell sim a.gfs --help", Command::Shows("--journal")),
+    ("gfscell --version", Command::Shows("gfscell 0.1.0")),
+    ("gfscell -V", Command::Shows("gfscell 0.1.0")),
 ];
 
 #[test]

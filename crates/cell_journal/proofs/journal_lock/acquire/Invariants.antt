@@ -1,6 +1,6 @@
 use Rattle.std.proofs.Common.{◌≡◌}
 use Rattle.cell_journal.proofs.journal_lock.acquire.Given as goal
 
--- the place is as it was
+-- the writer is as it was
 abbrev pub invariant-loop : goal.invariant-loop
-invariant-loop g l = (l.place.table_id ≡ l.fn.place.table_id) × (l.place.id ≡ l.fn.place.id) × (l.place.me ≡ l.fn.place.me)
+invariant-loop g l = (l.writer.table_id ≡ l.fn.writer.table_id) × (l.writer.id ≡ l.fn.writer.id) × (l.writer.me ≡ l.fn.writer.me)

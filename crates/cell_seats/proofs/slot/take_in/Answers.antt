@@ -1,8 +1,8 @@
 use Rattle.std.proofs.Common.{ℕ, [], subst}
 use Rattle.std.specs.Prelude.{Option}
 use Rattle.protocol_journal.specs.Journal.{sent_after}
-use Rattle.cell_journal.specs.Entries.{taking_of}
-use Rattle.cell_journal.specs.Places.{IsRead}
+use Rattle.cell_journal.specs.Entries.{cause_of}
+use Rattle.cell_journal.specs.Writers.{IsRead}
 use Rattle.cell_seats.proofs.Moving.{led_still, acts_all, err_all, for_node}
 use Rattle.cell_seats.proofs.slot.take_in.Goals as goal
 
@@ -14,7 +14,7 @@ steps-requires-clause-led g c = led_still c.args.node.now g.N.Stepper.stands _ _
 
 pub returns-clause-ok : goal.returns-clause-ok
 returns-clause-ok g c =
-    acts_all c.steps.result _ _ _ _ _ c.args.input _ c.in_ok-message.message _ c.in_ok-message.ensures.node c.in_ok-message.ensures.later c.taking_on-taking.ensures c.number_of.ensures
+    acts_all c.steps.result _ _ _ _ _ c.args.input _ c.in_ok-message.message _ c.in_ok-message.ensures.node c.in_ok-message.ensures.later c.cause_on-cause.ensures c.number_of.ensures
     c.in_ok-message.ensures.ok.1 c.steps.ensures.ok
 
 pub returns-clause-err : goal.returns-clause-err
@@ -23,5 +23,5 @@ returns-clause-err g c = err_all c.steps.result _ _ _ c.in_ok-message.ensures.la
 pub steps-requires-clause-reads : goal.steps-requires-clause-reads
 steps-requires-clause-reads g c =
     let d = c.begin.new.self in
-    for_node c.args.input c.in_ok-message.message (taking_of c.taking_on-taking.result) (sent_after [] d.place.me.0.seen) d.node c.taking_on-taking.ensures
-    (subst (λ (k : Option ℕ). IsRead (sent_after [] d.place.me.0.seen) d.node k c.in_ok-message.message) c.number_of.ensures c.in_ok-message.ensures.ok.1)
+    for_node c.args.input c.in_ok-message.message (cause_of c.cause_on-cause.result) (sent_after [] d.writer.me.0.seen) d.node c.cause_on-cause.ensures
+    (subst (λ (k : Option ℕ). IsRead (sent_after [] d.writer.me.0.seen) d.node k c.in_ok-message.message) c.number_of.ensures c.in_ok-message.ensures.ok.1)

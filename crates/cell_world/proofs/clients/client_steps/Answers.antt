@@ -1,5 +1,5 @@
 use Rattle.std.proofs.Common.{List, [], ◌++◌, Option, refl, sym, subst, ap, ◌∙◌}
-use Rattle.messages.specs.declared.event.Input.{Input}
+use Rattle.messages.specs.declared.event.NodeInput.{NodeInput}
 use Rattle.messages.specs.declared.message.Message.{Message}
 use Rattle.server_cell.specs.Inputs.{input_of}
 use Rattle.protocol.specs.Client.{ClientState}
@@ -11,7 +11,7 @@ use Rattle.cell_world.proofs.clients.client_steps.Goals as goal
 pub returns-then-is_err : goal.returns-then-is_err
 returns-then-is_err c =
     let s : ClientState = c.index_mut.result.now in
-    let i : Input = input_of (message_named c.args.kept.now.network.messages c.args.given) in
+    let i : NodeInput = input_of (message_named c.args.kept.now.network.messages c.args.given) in
     record {
       old = s;
       new = c.give_up.new.client;

@@ -1,11 +1,11 @@
 use Rattle.std.proofs.Common.{inl, inr, sym, ap, ◌∙◌, refl, subst, Err}
-use Rattle.server_store.specs.declared.fault.StoreFault.{StoreFault}
+use Rattle.server_store.specs.declared.fault.ReplicaStoreFault.{ReplicaStoreFault}
 use Rattle.store_changes.specs.declared.fault.StoreFault.{StoreFault as ChangeFault}
 use Rattle.disk_store.specs.declared.known.Known.{Known}
 use Rattle.disk_store.specs.Faults.{of_change}
 use Rattle.disk_store.specs.Standing.{IsKept, changes_of}
-use Rattle.disk_store.specs.declared.standing.Standing.{Standing}
-use Rattle.disk_store.specs.declared.standing.Standing.TheVariants.{Changing}
+use Rattle.disk_store.specs.declared.standing.DiskStoreState.{DiskStoreState}
+use Rattle.disk_store.specs.declared.standing.DiskStoreState.TheVariants.{Changing}
 use Rattle.disk_store.proofs.Causes.{only_room, unfit_or}
 use Rattle.disk_store.proofs.Commits.{failed_after, made_after, open_all_noticed, open_as, unbegun_after, unknown_after}
 use Rattle.disk_store.proofs.Keeping.{refused_is, refused_kept}
@@ -19,10 +19,10 @@ returns-in-Err-clause-err g c d kept =
     let disk = g.D.Disk in
     let s = c.args.store.now in
     let n = c.args.known.now in
-    subst (λ (x : Standing). IsKept disk.seen disk.may_leave s n.order n.rows d x) (sym c.refused.ensures) (refused_kept disk.seen disk.may_leave s n.order n.rows d c.args.standing c.args.change c.requires.nothing kept)
+    subst (λ (x : DiskStoreState). IsKept disk.seen disk.may_leave s n.order n.rows d x) (sym c.refused.ensures) (refused_kept disk.seen disk.may_leave s n.order n.rows d c.args.standing c.args.change c.requires.nothing kept)
 
 pub returns-in-Err-clause-no_room : goal.returns-in-Err-clause-no_room
-returns-in-Err-clause-no_room g c d kept e = let unfit = c.in-Err.ensures.no_room (ap (λ (x : StoreFault). Err x) e) in inl (inl unfit.1)
+returns-in-Err-clause-no_room g c d kept e = let unfit = c.in-Err.ensures.no_room (ap (λ (x : ReplicaStoreFault). Err x) e) in inl (inl unfit.1)
 
 pub make-requires-clause-is_open : goal.make-requires-clause-is_open
 make-requires-clause-is_open g c =
@@ -36,8 +36,8 @@ make-requires-clause-told g c = c.in-Ok.ensures.told
 
 pub returns-in-Err-make-clause-open : goal.returns-in-Err-make-clause-open
 returns-in-Err-make-clause-open g c = elim (unfit_or c.in-Err-make.fault c.args.change) [
-  | inl is ↦ ap (λ (p : StoreFault × Standing). changes_of p.1) (c.failed.ensures.unfit is.0 is.1)
-  | inr other ↦ ap (λ (p : StoreFault × Standing). changes_of p.1) (c.failed.ensures.begun other)
+  | inl is ↦ ap (λ (p : ReplicaStoreFault × DiskStoreState). changes_of p.1) (c.failed.ensures.unfit is.0 is.1)
+  | inr other ↦ ap (λ (p : ReplicaStoreFault × DiskStoreState). changes_of p.1) (c.failed.ensures.begun other)
 ]
 
 pub returns-in-Err-make-clause-err : goal.returns-in-Err-make-clause-err
@@ -47,9 +47,9 @@ returns-in-Err-make-clause-err g c d kept =
     let n = c.args.known.now in
     let opened = open_as disk.seen disk.may_leave s n.order n.rows d c.args.standing kept c.in-Ok.ensures.open in
     elim (unfit_or c.in-Err-make.fault c.args.change) [
-      | inl is ↦ subst (λ (p : StoreFault × Standing). IsKept disk.seen disk.may_leave c.make.new.store n.order n.rows d p.1) (sym (c.failed.ensures.unfit is.0 is.1))
+      | inl is ↦ subst (λ (p : ReplicaStoreFault × DiskStoreState). IsKept disk.seen disk.may_leave c.make.new.store n.order n.rows d p.1) (sym (c.failed.ensures.unfit is.0 is.1))
           (unbegun_after disk.seen disk.may_leave s n.order n.rows d c.args.standing kept c.in-Ok.ensures.open c.args.change c.make.new.store c.make.ensures.layout (c.in-Err-make.ensures.unfit d opened (ap (λ (x : ChangeFault). Err x) is.0) is.1).1)
-      | inr other ↦ subst (λ (p : StoreFault × Standing). IsKept disk.seen disk.may_leave c.make.new.store n.order n.rows d p.1) (sym (c.failed.ensures.begun other))
+      | inr other ↦ subst (λ (p : ReplicaStoreFault × DiskStoreState). IsKept disk.seen disk.may_leave c.make.new.store n.order n.rows d p.1) (sym (c.failed.ensures.begun other))
           (failed_after disk.seen disk.may_leave s n.order n.rows d c.args.standing kept c.in-Ok.ensures.open c.args.change c.make.new.store c.make.ensures.layout c.in-Ok.ensures.told disk.moment disk.left_since g.met.D.Disk.counts_now c.make.ensures.any_moment (c.make.ensures.untouched d opened))
     ]
 
@@ -61,7 +61,7 @@ returns-in-Err-make-clause-no_room g c d kept e =
     elim (unfit_or c.in-Err-make.fault c.args.change) [
       | inl is ↦ inl (inr (c.in-Err-make.ensures.unfit d opened (ap (λ (x : ChangeFault). Err x) is.0) is.1).0)
       | inr other ↦
-          let room = only_room c.in-Err-make.fault (of_change c.in-Err-make.fault) refl (sym (ap (λ (p : StoreFault × Standing). p.0) (c.failed.ensures.begun other)) ∙ e) in
+          let room = only_room c.in-Err-make.fault (of_change c.in-Err-make.fault) refl (sym (ap (λ (p : ReplicaStoreFault × DiskStoreState). p.0) (c.failed.ensures.begun other)) ∙ e) in
           inr (c.in-Err-make.ensures.no_room d opened (ap (λ (x : ChangeFault). Err x) room))
     ]
 

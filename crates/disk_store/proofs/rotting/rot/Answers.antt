@@ -4,7 +4,7 @@ use Rattle.disk_store.proofs.Looked.{its_slot}
 use Rattle.disk_store.proofs.Rots.{low_in, none_cant, none_kept, rot_failed, rot_made}
 use Rattle.disk_store.proofs.Saying.{on_err}
 use Rattle.disk_store.proofs.rotting.rot.Goals as goal
-use Rattle.disk_store.specs.declared.standing.Standing.TheVariants.{Open}
+use Rattle.disk_store.specs.declared.standing.DiskStoreState.TheVariants.{Open}
 
 pub returns-in_default-clause-ok : goal.returns-in_default-clause-ok
 returns-in_default-clause-ok g c order rows d kept = none_kept g.D.Disk.seen g.D.Disk.may_leave c.args.store.now order rows d kept c.args.handle.0 c.args.place c.args.byte (sym c.get.ensures ∙ c.in_default.is)

@@ -4,7 +4,7 @@ use Rattle.cell_seats.proofs.seat.Seat.call.Goals as goal
 pub returns-in-Ok-clause-ok : goal.returns-in-Ok-clause-ok
 returns-in-Ok-clause-ok g c =
     let s = c.self.inside in
-    let w = c.ask-asked.new.slot in
+    let w = c.ask-answered.new.slot in
     let h = c.in-Ok.field-0 in
-    answered_here c.args.self.now s.lost s.slot.node w.node s.slot.place w.place s.view h.beginning s.count h.count c.args.call h.answer c.self.view_is c.in_default.is c.ask-asked.ensures.node
-    c.self.invariant c.ask-asked.ensures.further c.in-Ok.ensures.seen c.in-Ok.ensures.shows
+    answered_here c.args.self.now s.lost s.slot.node w.node s.slot.view w.view s.view h.beginning s.count h.count c.args.call h.answer c.self.view_is c.in_default.is c.ask-answered.ensures.node
+    c.self.invariant c.ask-answered.ensures.further c.in-Ok.ensures.seen c.in-Ok.ensures.shows

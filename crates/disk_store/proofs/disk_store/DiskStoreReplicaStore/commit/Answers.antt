@@ -2,7 +2,7 @@ use Rattle.std.proofs.Common.{List, refl, ap, ◌∙◌}
 use Rattle.replica_store.specs.Replicas.{ServerDisk, disk_changed}
 use Rattle.replica_store.specs.declared.change.StoreChange.{StoreChange}
 use Rattle.disk_store.specs.Standing.{changes_of}
-use Rattle.disk_store.specs.declared.standing.Standing.TheVariants.{Open}
+use Rattle.disk_store.specs.declared.standing.DiskStoreState.TheVariants.{Open}
 use Rattle.disk_store.proofs.Keeping.{as_said}
 use Rattle.disk_store.proofs.disk_store.DiskStoreReplicaStore.commit.Goals as goal
 

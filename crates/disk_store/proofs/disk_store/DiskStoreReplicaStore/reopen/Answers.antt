@@ -3,7 +3,7 @@ use Rattle.replica_store.specs.Replicas.{ServerDisk}
 use Rattle.replica_store.specs.declared.change.StoreChange.{StoreChange}
 use Rattle.server_store.specs.Stores.{IsFound}
 use Rattle.disk_store.specs.Standing.{changes_of, closed, found_made, with_made}
-use Rattle.disk_store.specs.declared.standing.Standing.TheVariants.{Open}
+use Rattle.disk_store.specs.declared.standing.DiskStoreState.TheVariants.{Open}
 use Rattle.disk_store.proofs.Keeping.{as_said, closed_is, closed_kept, closed_not_open, found_said, found_under_way}
 use Rattle.disk_store.proofs.disk_store.DiskStoreReplicaStore.reopen.Goals as goal
 

@@ -2,7 +2,7 @@ use Rattle.std.proofs.Common.{List, refl, sym, ap, ◌∙◌}
 use Rattle.replica_store.specs.Replicas.{ServerDisk}
 use Rattle.replica_store.specs.declared.change.StoreChange.{StoreChange}
 use Rattle.server_store.specs.Stores.{disk_rotten}
-use Rattle.disk_store.specs.declared.standing.Standing.TheVariants.{Open}
+use Rattle.disk_store.specs.declared.standing.DiskStoreState.TheVariants.{Open}
 use Rattle.disk_store.proofs.Keeping.{as_said}
 use Rattle.disk_store.proofs.disk_store.DiskStoreReplicaStore.rot.Goals as goal
 

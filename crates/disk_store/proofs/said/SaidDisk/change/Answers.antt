@@ -7,4 +7,4 @@ use Rattle.disk_store.proofs.said.SaidDisk.change.Goals as goal
 pub returns : goal.returns
 returns c =
     let new = new_server_disk c.self.inside.block in
-    ap (said_after new) c.and-self-inside.ensures ∙ said_pushed new c.self.inside.changes.items (c.args.change.now, _) ∙ ap (λ d. said_changed d c.args.change.now) c.self.view_is
+    ap (said_after new) c.and-self-inside.ensures ∙ said_pushed new c.self.inside.changes.items c.args.change.now ∙ ap (λ d. said_changed d c.args.change.now) c.self.view_is

@@ -1,7 +1,5 @@
 use Rattle.std.proofs.Common.{◌∷◌, ◌++◌, [], List, length, length-append, ap, ◌∙◌, arith}
 use Rattle.log_records.specs.declared.record.Record.{Record}
-use Rattle.oplog.specs.Counted.{firsts}
-use Rattle.oplog.proofs.Pushed.{firsts_pushed}
 use Rattle.oplog.proofs.counted.CountedRecords.push.Goals as goal
 
 pub overflow_add-self : goal.overflow_add-self
@@ -9,14 +7,14 @@ overflow_add-self c = omega (arith, c.requires, c.self.invariant, ap length c.se
 
 pub invariant_of-self : goal.invariant_of-self
 invariant_of-self c =
-    let was = firsts c.self.inside.records.items in
+    let was = c.self.inside.records.items in
     omega (
       arith,
       c.self.invariant,
-      ap length (ap firsts c.and-self-inside.ensures ∙ firsts_pushed c.self.inside.records.items (c.args.entry.now, _)),
+      ap length c.and-self-inside.ensures,
       length-append was (c.args.entry.now ∷ []),
     )
 
 pub returns : goal.returns
 returns c =
-    ap firsts c.and-self-inside.ensures ∙ firsts_pushed c.self.inside.records.items (c.args.entry.now, _) ∙ ap (λ (l : List Record). l ++ c.args.entry.now ∷ []) c.self.view_is
+    c.and-self-inside.ensures ∙ ap (λ (l : List Record). l ++ c.args.entry.now ∷ []) c.self.view_is

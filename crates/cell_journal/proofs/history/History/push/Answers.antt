@@ -1,0 +1,38 @@
+use Rattle.std.proofs.Common.{◌≡◌, ◌+◌, ◌-◌, ◌++◌, ◌∷◌, [], length, List, sym, subst, ap, ◌∙◌, arith}
+use Rattle.std.proofs.lemmas.List.{length-append}
+use Rattle.protocol_journal.specs.Journal.{Entry}
+use Rattle.cell_journal.specs.declared.clocks.Clocks.{Clocks}
+use Rattle.cell_journal.specs.declared.counted_entry.CountedEntry.{CountedEntry}
+use Rattle.cell_journal.specs.Clocks.{moved, clocks_after}
+use Rattle.cell_journal.specs.Identity.{filled}
+use Rattle.cell_journal.specs.CountedEntries.{entries_in, sent_in, AreCounted}
+use Rattle.cell_journal.proofs.Observed.{clocks_more}
+use Rattle.cell_journal.proofs.CountedEntries.{entries_push, sent_push, counted_push}
+use Rattle.cell_journal.proofs.history.History.push.Goals as goal
+
+pub invariant_of-self : goal.invariant_of-self
+invariant_of-self c =
+    let i = c.self.invariant in
+    let rows = c.self.inside.rows.items in
+    let row : CountedEntry = record { entry = c.args.entry; before = c.self.inside.count } in
+    let now = c.add.ensures.0 in
+    let more = c.len.ensures ∙ ap (λ o. length o.sent) c.out.ensures in
+    let longer = ap length now ∙ length-append rows (row ∷ []) in
+    let sent = ap (λ rs. length (sent_in rs)) now ∙ (ap length (sent_push rows row) ∙ length-append (sent_in rows) row.entry.out.sent) in (
+      ap (λ l. l.name) c.push.ensures ∙ i.0,
+      ap (λ l. l.items) c.push.ensures ∙ (ap (λ es. es ++ c.args.entry ∷ []) i.1 ∙ sym (ap entries_in now ∙ entries_push rows row)),
+      omega (arith, i.2, more, sent),
+      subst (AreCounted 0) (sym now) (counted_push 0 rows row i.3 (i.2 ∙ omega arith)),
+      omega (arith, i.4, longer, c.add.ensures.1),
+      omega (arith, i.5, longer, c.len.type_inv),
+      c.clocks_with-clocks.ensures
+          ∙ (ap (λ (k : Clocks). moved c.self.inside.cell.config.skew_ms k c.args.entry.moment) i.6
+          ∙ (sym (clocks_more c.self.inside.cell.config (entries_in rows) c.args.entry)
+          ∙ ap (λ (es : List Entry). clocks_after c.self.inside.cell.config es) (sym (ap entries_in now ∙ entries_push rows row)))),
+    )
+
+pub returns : goal.returns
+returns c =
+    let rows = c.self.inside.rows.items in
+    let row : CountedEntry = record { entry = c.args.entry; before = c.self.inside.count } in
+    rw (← c.self.view_is) (ap (λ es. filled c.self.inside.cell es (c.self.inside.reserved - 1)) (ap entries_in c.add.ensures.0 ∙ entries_push rows row))

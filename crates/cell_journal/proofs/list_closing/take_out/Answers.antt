@@ -1,6 +1,0 @@
-use Rattle.std.proofs.Common.{◌≡◌, Some}
-use Rattle.cell_journal.proofs.Lending.{lends}
-use Rattle.cell_journal.proofs.list_closing.take_out.Goals as goal
-
-pub exchange-requires : goal.exchange-requires
-exchange-requires c = let h = c.requires.has in (c.requires.book, (Some h.0, lends c.args.place.now.me.1 h.0 h.1))

@@ -1,0 +1,16 @@
+use Rattle.std.proofs.Common.{sym, ◌∙◌, ap}
+use Rattle.cell_journal.specs.declared.note.Note.TheVariants.{Fresh}
+use Rattle.cell_journal.proofs.Moving.{make_moves}
+use Rattle.cell_journal.proofs.list_steps.make.Goals as goal
+
+pub compare_exchange-requires : goal.compare_exchange-requires
+compare_exchange-requires g c =
+    let h = c.requires in
+    let offer = c.plain-offer.ensures in
+    let pen = c.no_pen-pen.ensures in (
+      ap (λ w. w.tracked) h,
+      sym (ap (λ w. w.book) h),
+      pen.0 ∙ sym (ap (λ w. w.book) h),
+      offer.0,
+      rw (ap (λ w. w.key) h, pen.1, offer.3) (make_moves c.args.seen.now.log (Fresh 0)),
+    )

@@ -1,6 +1,0 @@
-use Rattle.std.proofs.Common.{◌≡◌, arith}
-use Rattle.cell_journal.proofs.Rows.{entries_count}
-use Rattle.cell_journal.proofs.pages.Pages.len.Goals as goal
-
-pub returns : goal.returns
-returns c = rw (← c.self.view_is) (omega (arith, c.len.ensures, entries_count c.self.inside.rows.items))

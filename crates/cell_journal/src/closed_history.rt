@@ -1,0 +1,92 @@
+//! The journal of a cell that was closed.
+
+ghost use Rattle.std.specs.Prelude.{◌≡◌, length, slice_get};
+ghost use Rattle.std.specs.Option.{option_copied};
+ghost use mathlib.Core.List.{IsPrefix};
+ghost use Rattle.cell_journal.specs.Log.{listed};
+ghost use Rattle.cell_journal.specs.Clocks.{are_clocks_kept};
+
+use crate::clocks::Clocks;
+use crate::counted_entry::CountedEntry;
+use crate::identity::CellIdentity;
+use crate::journal_entry::JournalEntry;
+use crate::lookup::entry_at;
+use crate::{Beginning, WholeList};
+use std::marker::Model;
+
+/// All entries of a cell that was closed.
+pub struct ClosedHistory {
+    pub(crate) cell: CellIdentity,
+    pub(crate) rows: Vec<CountedEntry>,
+    pub(crate) clocks: Clocks,
+    pub(crate) whole: WholeList<JournalEntry>,
+}
+
+// Stands here, once, so that no function that lets one go, here or above, takes its fields apart.
+impl Drop for ClosedHistory {
+    fn drop(self) {
+        let Self {
+            cell: _cell,
+            rows: _rows,
+            clocks: _,
+            whole: _whole,
+        } = self;
+    }
+}
+
+impl Model for ClosedHistory {
+    ghost use Rattle.std.specs.Prelude.{◌≡◌};
+    ghost use Rattle.cell_journal.specs.Clocks.{clocks_after};
+    ghost use Rattle.cell_journal.specs.Identity.{Closed, closed};
+    ghost use Rattle.cell_journal.specs.CountedEntries.{entries_in};
+
+    ghost Value = { Closed };
+
+    ghost view = { λ p. closed p.cell (entries_in p.rows.items) };
+
+    ghost invariant = { λ p. (p.whole.name ≡ p.cell.name) × (p.whole.items ≡ entries_in p.rows.items) × (p.clocks ≡ clocks_after p.cell.config (entries_in p.rows.items)) };
+}
+
+impl ClosedHistory {
+    /// The cell of this journal.
+    pub fn cell(&self) -> CellIdentity
+        ensures { result ≡ self.now.cell }
+    {
+        self.cell.again()
+    }
+
+    /// How many entries there are.
+    pub fn len(&self) -> usize
+        ensures { result ≡ length self.now.entries }
+    {
+        self.rows.len()
+    }
+
+    /// Whether clocks were kept: no moment of a step is behind that of an earlier one by more than the clock bound.
+    pub fn are_clocks_kept(&self) -> bool
+        ensures { result ≡ are_clocks_kept self.now.cell self.now.entries }
+    {
+        self.clocks.kept
+    }
+
+    /// The entry at this place.
+    pub fn event(&self, place: usize) -> Option<&JournalEntry>
+        ensures { option_copied result ≡ slice_get self.now.entries place }
+    {
+        entry_at(&self.rows, place)
+    }
+
+    fn whole(&self) -> &WholeList<JournalEntry>
+        ensures { result.now ≡ listed self.now.cell.name self.now.entries }
+    {
+        &self.whole
+    }
+}
+
+/// Each beginning of a journal begins the closed journal.
+pub fn agree(beginning: &Beginning<JournalEntry>, journal: &ClosedHistory)
+    requires { beginning.now.name ≡ journal.now.cell.name }
+    ensures { IsPrefix beginning.now.items journal.now.entries }
+{
+    crate::agree(beginning, journal.whole());
+}

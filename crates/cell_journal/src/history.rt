@@ -1,0 +1,215 @@
+//! All entries of the journal, with room for more.
+
+ghost use Rattle.std.specs.Prelude.{◌≡◌, ◌+◌, ◌-◌, ◌<◌, ◌++◌, ◌∷◌, [], length, slice_get, vec_len, vec_capacity, OnOk, OnErr, IfOk, IfSome};
+ghost use Rattle.std.specs.Option.{option_copied};
+ghost use Rattle.protocol.specs.World.{numbered_from_1};
+ghost use Rattle.protocol_journal.specs.Journal.{sent_after};
+ghost use Rattle.cell_journal.specs.Clocks.{moved, are_clocks_kept};
+ghost use Rattle.cell_journal.specs.Log.{listed};
+ghost use Rattle.cell_journal.specs.Identity.{identity, filled, closed};
+
+use crate::clocks::Clocks;
+use crate::closed_history::ClosedHistory;
+use crate::counted_entry::CountedEntry;
+use crate::identity::CellIdentity;
+use crate::journal_entry::JournalEntry;
+use crate::lookup::{copy_numbered, entry_at, message_in};
+use crate::{Beginning, GrowingList};
+use gfs_types::config::Config;
+use gfs_types::no_memory::NoMemory;
+use messages::message::Message;
+use std::alloc::Global;
+use std::marker::Model;
+
+/// All entries so far, with room for those that are reserved.
+pub struct History {
+    cell: CellIdentity,
+    rows: Vec<CountedEntry>,
+    /// How many messages were sent.
+    count: u128,
+    reserved: u64,
+    clocks: Clocks,
+    list: GrowingList<JournalEntry>,
+}
+
+// Stands here, once, so that no function that lets one go, here or above, takes its fields apart.
+impl Drop for History {
+    fn drop(self) {
+        let Self {
+            cell: _cell,
+            rows: _rows,
+            count: _,
+            reserved: _,
+            clocks: _,
+            list: _list,
+        } = self;
+    }
+}
+
+impl Model for History {
+    ghost use Rattle.std.specs.Prelude.{◌≡◌, ◌≤◌, ◌-◌, ◌*◌, ◌^◌, length, vec_len, vec_capacity};
+    ghost use Rattle.cell_journal.specs.Clocks.{clocks_after};
+    ghost use Rattle.cell_journal.specs.Identity.{Filled, filled};
+    ghost use Rattle.cell_journal.specs.CountedEntries.{entries_in, sent_in, AreCounted};
+
+    ghost Value = { Filled };
+
+    ghost view = { λ p. filled p.cell (entries_in p.rows.items) p.reserved };
+
+    ghost invariant = { λ p. (p.list.name ≡ p.cell.name) × (p.list.items ≡ entries_in p.rows.items) × (p.count ≡ length (sent_in p.rows.items)) × AreCounted 0 p.rows.items × (p.reserved ≤ vec_capacity p.rows - vec_len p.rows) × (p.count ≤ 2 ^ 64 * vec_len p.rows) × (p.clocks ≡ clocks_after p.cell.config (entries_in p.rows.items)) };
+}
+
+impl History {
+    /// The journal of a new cell. Takes no memory.
+    pub fn new(alloc: Global, config: Config, servers: u64, clients: u64) -> Option<History>
+        ensures { IfSome result (λ p. p ≡ filled (identity p.cell.name config servers clients) [] 0) }
+    {
+        let list = GrowingList::new()?;
+        let cell = CellIdentity::new(list.beginning(), config, servers, clients);
+        Some(History {
+            cell,
+            rows: Vec::new(alloc),
+            count: 0,
+            reserved: 0,
+            clocks: Clocks {
+                greatest: 0,
+                kept: true,
+            },
+            list,
+        })
+    }
+
+    /// The cell of this journal.
+    pub fn cell(&self) -> CellIdentity
+        ensures { result ≡ self.now.cell }
+    {
+        self.cell.again()
+    }
+
+    /// How many entries there are.
+    pub fn len(&self) -> usize
+        ensures { result ≡ length self.now.entries }
+    {
+        self.rows.len()
+    }
+
+    /// The entry at this place.
+    pub fn event(&self, place: usize) -> Option<&JournalEntry>
+        ensures { option_copied result ≡ slice_get self.now.entries place }
+    {
+        entry_at(&self.rows, place)
+    }
+
+    /// A copy of the message of this number, from 1. None: nothing was sent under it.
+    #[tactic(auto, using(crate::proofs::Numbers::numbered))]
+    pub fn message(&self, number: u64) -> Result<Option<Message>, NoMemory>
+        ensures { IfOk result (λ m. m ≡ numbered_from_1 (sent_after [] self.now.entries) number) }
+    {
+        match message_in(&self.rows, self.count, number) {
+            Some(message) => Ok(Some(copy_numbered(message, number)?)),
+            None => Ok(None),
+        }
+    }
+
+    /// How many messages were sent.
+    #[tactic(auto, using(crate::proofs::Numbers::sent_count))]
+    pub fn message_count(&self) -> u128
+        ensures { result ≡ length (sent_after [] self.now.entries) }
+    {
+        self.count
+    }
+
+    /// Whether clocks were kept so far: no moment of a step is behind that of an earlier one by more than the clock bound.
+    pub fn are_clocks_kept(&self) -> bool
+        ensures { result ≡ are_clocks_kept self.now.cell self.now.entries }
+    {
+        self.clocks.kept
+    }
+
+    /// For how many entries more there is room.
+    pub fn reserved(&self) -> u64
+        ensures { result ≡ self.now.reserved }
+    {
+        self.reserved
+    }
+
+    /// Room for one entry more is made. There is none where the cell's settings allow no more entries, or an allocator refused it.
+    pub fn reserve(&mut self) -> Result<(), NoMemory>
+        ensures ok { OnOk result (self.new ≡ filled self.old.cell self.old.entries (self.old.reserved + 1)) }
+        ensures err { OnErr result (self.new ≡ self.old) }
+    {
+        let most = u64::from(self.cell.config().journal);
+        let taken = self.rows.len() as u64;
+        if taken >= most || self.reserved >= most - taken {
+            return Err(NoMemory);
+        }
+        self.rows.reserve(self.reserved as usize + 1)?;
+        self.reserved += 1;
+        Ok(())
+    }
+
+    /// Room that was made is given up.
+    pub fn give_up(&mut self)
+        requires { 0 < self.old.reserved }
+        ensures { self.new ≡ filled self.old.cell self.old.entries (self.old.reserved - 1) }
+    {
+        self.reserved -= 1;
+    }
+
+    /// One entry more, in room that was made. Takes no memory.
+    pub fn push(&mut self, entry: JournalEntry)
+        requires { 0 < self.old.reserved }
+        ensures { self.new ≡ filled self.old.cell (self.old.entries ++ entry ∷ []) (self.old.reserved - 1) }
+    {
+        let before = self.count;
+        self.count += entry.out().sent.len() as u128;
+        self.reserved -= 1;
+        let clocks = clocks_with(self.clocks, &self.cell, &entry);
+        self.clocks = clocks;
+        self.list.push(&entry);
+        add(&mut self.rows, CountedEntry { entry, before });
+    }
+
+    /// The entries so far, as a beginning of the list.
+    pub fn beginning(&self) -> Beginning<JournalEntry>
+        ensures { result ≡ listed self.now.cell.name self.now.entries }
+    {
+        self.list.beginning()
+    }
+
+    /// The whole journal, to which nothing is added any more. Takes no memory.
+    pub fn close(self) -> ClosedHistory
+        ensures { result ≡ closed self.cell self.entries }
+    {
+        let Self {
+            cell,
+            rows,
+            count: _,
+            reserved: _,
+            clocks,
+            list,
+        } = self;
+        ClosedHistory {
+            cell,
+            rows,
+            clocks,
+            whole: list.close(),
+        }
+    }
+}
+
+// The clocks with this entry more.
+fn clocks_with(clocks: Clocks, cell: &CellIdentity, entry: &JournalEntry) -> Clocks
+    ensures { result ≡ moved cell.now.config.skew_ms clocks entry.now.moment }
+{
+    let mut clocks = clocks;
+    clocks.move_to(entry.moment().0, cell.config().skew_ms);
+    clocks
+}
+
+fn add(rows: &mut Vec<CountedEntry>, row: CountedEntry)
+    requires { vec_len rows.old < vec_capacity rows.old }
+    ensures { (rows.new.items ≡ rows.old.items ++ row ∷ []) × (vec_capacity rows.new ≡ vec_capacity rows.old) }
+{
+    rows.push_reserved(row);
+}

@@ -1,0 +1,42 @@
+//! The journal of a new cell.
+
+ghost use Rattle.std.specs.Prelude.{◌≡◌, ◌∷◌, [], IfOk, Some};
+ghost use Rattle.cell_journal.specs.Identity.{Filled};
+ghost use Rattle.cell_journal.specs.Rules.{first_view};
+
+use crate::history::History;
+use crate::identity::CellIdentity;
+use crate::{JournalRule, JournalWriter, View};
+use atomic_table::Table;
+use gfs_types::no_memory::NoMemory;
+use std::alloc::Global;
+
+/// The table in which a cell's journal lies.
+pub type JournalTable = Table<Option<History>, View, CellIdentity, JournalRule, Global>;
+
+/// A table with the journal of a new cell, and the first writer at it, which writes for every node.
+pub fn open(alloc: Global, history: History) -> Result<(JournalTable, JournalWriter), NoMemory>
+    requires { history.entries ≡ [] }
+    ensures table { IfOk result (λ t. (t.0.shared.table_id.words ≡ 1) × (t.0.shared.table_id.slots ≡ 1)) }
+    ensures writer { IfOk result (λ t. (t.1.table_id ≡ t.0.shared.table_id) × (t.1.me ≡ (first_view history.cell, []))) }
+{
+    let cell = history.cell();
+    let mut slots = Vec::new(alloc);
+    slots.push(Some(history))?;
+    table_of(alloc, slots, &cell)
+}
+
+fn table_of(
+    alloc: Global,
+    slots: Vec<Option<History>>,
+    cell: &CellIdentity,
+) -> Result<(JournalTable, JournalWriter), NoMemory>
+    requires { (y : Filled) × (slots.items ≡ Some y ∷ []) × (y.cell ≡ cell.now) × (y.entries ≡ []) }
+    ensures table { IfOk result (λ t. (t.0.shared.table_id.words ≡ 1) × (t.0.shared.table_id.slots ≡ 1)) }
+    ensures writer { IfOk result (λ t. (t.1.table_id ≡ t.0.shared.table_id) × (t.1.me ≡ (first_view cell.now, []))) }
+{
+    match Table::new(alloc, &[0], slots, cell) {
+        Ok(made) => Ok(made),
+        Err(_) => Err(NoMemory),
+    }
+}

@@ -1,8 +1,0 @@
-use Rattle.cell_run.proofs.Standing.{client_led, new_node}
-use Rattle.cell_run.proofs.making.client_slot.Goals as goal
-
-pub new-requires-2 : goal.new-requires-2
-new-requires-2 c = record { led = client_led c.args.dealer.now.config c.args.dealer.now.servers c.args.id _ _ _ _ c.requires.next.1 c.requires.next.2 c.in_ok-desk.ensures.desk c.in_ok-client.ensures }
-
-pub returns-clause-slot : goal.returns-clause-slot
-returns-clause-slot c = new_node _ _ _ _ _ _ _ c.in_ok-desk.ensures.desk c.new-2.ensures

@@ -1,8 +1,0 @@
--- Why there is no client, as text.
-use Rattle.std.specs.Prelude.{ℕ, List, codes}
-use Rattle.cell_run.specs.declared.fault.SeatFault.{SeatFault}
-use Rattle.cell_run.specs.declared.fault.SeatFault.TheVariants.{Many, NoMemory}
-
-abbrev pub fault_text : SeatFault → List ℕ
-fault_text Many = codes "no more clients"
-fault_text NoMemory = codes "no memory"

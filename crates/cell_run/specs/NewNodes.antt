@@ -1,0 +1,41 @@
+-- The nodes of a new cell, each with its journal.
+use Rattle.std.specs.Prelude.{◌≡◌, ◌≤◌, ◌⊎◌, []}
+use Rattle.gfs_types.specs.Settings.{largest_chunk}
+use Rattle.gfs_types.specs.declared.config.Config.{Config}
+use Rattle.gfs_types.specs.declared.ids.ClientId.{ClientId}
+use Rattle.gfs_types.specs.declared.ids.Node.{Node}
+use Rattle.gfs_types.specs.declared.ids.Node.TheVariants.{Client}
+use Rattle.cell_run.specs.declared.start_fault.StartFault.{StartFault}
+use Rattle.cell_run.specs.declared.start_fault.StartFault.TheVariants.{NoMemory, Log}
+use Rattle.cell_journal.specs.declared.view.View.{View}
+use Rattle.cell_seats.specs.declared.node_registry.NodeRegistry.{NodeRegistry}
+
+-- the settings lie in the bounds that nodes ask for
+pub record IsFitting (config : Config) : Type 0 where
+  pub least : 64 ≤ config.chunk
+  pub most : config.chunk ≤ largest_chunk
+  pub block : 1 ≤ config.block
+  pub lease : config.lease_ms ≤ 3600000
+  pub skew : config.skew_ms ≤ 60000
+
+-- why a new cell has no master
+abbrev pub IsOfMaster : StartFault → Type 0
+IsOfMaster f = (f ≡ NoMemory) ⊎ (f ≡ Log)
+
+-- it registers nodes of the same cell, and saw no more of the journal
+pub record IsSame (old new : NodeRegistry) : Type 0 where
+  pub shared_is : new.shared ≡ old.shared
+  pub config_is : new.config ≡ old.config
+  pub servers_are : new.servers ≡ old.servers
+  pub of : new.writer.me.0.of ≡ old.writer.me.0.of
+  pub seen : new.writer.me.0.seen ≡ old.writer.me.0.seen
+
+-- the writer of a node that took no step yet, in the cell of a registry's writer
+pub record IsNewNode (node : Node) (v : View) (n : Node) (w : View) : Type 0 where
+  pub node_is : n ≡ node
+  pub of : w.of ≡ v.of
+  pub mine : w.mine ≡ []
+  pub seen : w.seen ≡ v.seen
+
+abbrev pub IsNewClient : ClientId → View → Node → View → Type 0
+IsNewClient id v n w = IsNewNode (Client id) v n w

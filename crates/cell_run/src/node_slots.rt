@@ -1,0 +1,118 @@
+//! The nodes of a running cell, each with its journal.
+
+ghost use Rattle.std.specs.Prelude.{◌≡◌, ◌≤◌, ◌<◌, ◌+◌, IfOk, IfErr, OnOk, OnErr, IsTrue, is_none};
+ghost use Rattle.gfs_types.specs.declared.ids.Node.TheVariants as node;
+ghost use Rattle.gfs_types.specs.Settings.{first_out_of_range};
+ghost use Rattle.protocol.specs.MasterStep.{new_master};
+ghost use Rattle.cell_run.specs.declared.start_fault.StartFault.TheVariants.{NoMemory as OutOfMemory};
+ghost use Rattle.cell_seats.specs.Registry.{IsRegistered};
+ghost use Rattle.cell_run.specs.NewNodes.{IsFitting, IsSame, IsNewNode, IsNewClient, IsOfMaster};
+
+use crate::running_client::RunningClient;
+use crate::running_master::RunningMaster;
+use crate::running_server::RunningServer;
+use crate::start_fault::StartFault;
+use cell_core::cell_master::SeatedMaster;
+use cell_seats::node_journal::NodeJournal;
+use cell_seats::node_registry::NodeRegistry;
+use cell_seats::slot::Slot;
+use cell_world::master::CellMaster;
+use gfs_types::config::Config;
+use gfs_types::ids::{ClientId, Node, ServerId};
+use gfs_types::no_memory::NoMemory;
+use master_cell::fault::MasterFault;
+use operation_log::memory::MemoryLog;
+use std::alloc::Global;
+
+/// What the master's lock guards.
+pub type MasterSlot = Slot<RunningMaster>;
+
+/// What a server's lock guards.
+pub type ServerSlot = Slot<RunningServer>;
+
+/// What a client keeps.
+pub type ClientSlot = Slot<RunningClient>;
+
+/// Whether the settings are in their ranges, and so in the bounds that nodes ask for.
+pub fn are_fitting(config: &Config) -> bool
+    ensures range { result ≡ is_none (first_out_of_range config.now) }
+    ensures fits { IsTrue result → IsFitting config.now }
+{
+    config.check().is_ok()
+}
+
+fn new_master(alloc: Global, config: Config, servers: u16) -> Result<RunningMaster, StartFault>
+    requires { IsFitting config }
+    ensures fault { IfErr result IsOfMaster }
+    ensures new { IfOk result (λ m. ⟦<SeatedMaster<MemoryLog, Global> as CellMaster>⟧.state m.node.master ≡ new_master config servers) }
+{
+    match RunningMaster::new(alloc, config, servers) {
+        Ok(master) => Ok(master),
+        Err(MasterFault::NoMemory) => Err(StartFault::NoMemory),
+        Err(MasterFault::Log(_)) => Err(StartFault::Log),
+    }
+}
+
+/// The master with its journal, which is the first node.
+pub fn master_slot(alloc: Global, registry: &mut NodeRegistry) -> Result<MasterSlot, StartFault>
+    requires fits { IsFitting registry.old.config }
+    requires first { registry.old.registered ≡ 0 }
+    ensures same { IsSame registry.old registry.new }
+    ensures ok { OnOk result (registry.new.registered ≡ 1) }
+    ensures err { OnErr result (registry.new.registered ≡ 0) }
+    ensures fault { IfErr result IsOfMaster }
+    ensures slot { IfOk result (λ s. IsNewNode node.Master registry.old.writer.me.0 s.node s.view) }
+{
+    let master = new_master(alloc, registry.config, registry.servers)?;
+    let journal = registry.next(Node::Master)?;
+    Ok(Slot::new(alloc, journal, master))
+}
+
+/// A server with its journal.
+pub fn server_slot(
+    alloc: Global,
+    registry: &mut NodeRegistry,
+    id: ServerId,
+) -> Result<ServerSlot, StartFault>
+    requires fits { IsFitting registry.old.config }
+    requires next { (registry.old.registered ≡ id.0) × (0 < id.0) × (id.0 ≤ registry.old.servers) }
+    ensures same { IsSame registry.old registry.new }
+    ensures ok { OnOk result (registry.new.registered ≡ id.0 + 1) }
+    ensures err { OnErr result (registry.new.registered ≡ id.0) }
+    ensures fault { IfErr result (λ f. f ≡ OutOfMemory) }
+    ensures slot { IfOk result (λ s. IsNewNode (node.Server id) registry.old.writer.me.0 s.node s.view) }
+{
+    let server = RunningServer::new(alloc, registry.config, id);
+    let journal = registry.next(Node::Server(id))?;
+    Ok(Slot::new(alloc, journal, server))
+}
+
+fn client_journal(registry: &mut NodeRegistry, id: ClientId) -> Result<NodeJournal, NoMemory>
+    requires next { (registry.old.registered ≡ registry.old.servers + id.0) × (0 < id.0) × (id.0 ≤ 64) }
+    ensures same { IsSame registry.old registry.new }
+    ensures ok { OnOk result (registry.new.registered ≡ registry.old.registered + 1) }
+    ensures err { OnErr result (registry.new.registered ≡ registry.old.registered) }
+    ensures journal { IfOk result (λ d. IsRegistered registry.old.config registry.old.servers (node.Client id) registry.old.writer.me.0 d.node d.writer.me.0) }
+{
+    let _servers = registry.servers;
+    registry.next(Node::Client(id))
+}
+
+/// A client with its journal.
+pub fn client_slot(
+    alloc: Global,
+    registry: &mut NodeRegistry,
+    id: ClientId,
+) -> Result<ClientSlot, StartFault>
+    requires least { 64 ≤ registry.old.config.chunk }
+    requires next { (registry.old.registered ≡ registry.old.servers + id.0) × (0 < id.0) × (id.0 ≤ 64) }
+    ensures same { IsSame registry.old registry.new }
+    ensures ok { OnOk result (registry.new.registered ≡ registry.old.registered + 1) }
+    ensures err { OnErr result (registry.new.registered ≡ registry.old.registered) }
+    ensures fault { IfErr result (λ f. f ≡ OutOfMemory) }
+    ensures slot { IfOk result (λ s. IsNewClient id registry.old.writer.me.0 s.node s.view) }
+{
+    let client = RunningClient::new(alloc, registry.config, id)?;
+    let journal = client_journal(registry, id)?;
+    Ok(Slot::new(alloc, journal, client))
+}

@@ -1,0 +1,59 @@
+//! Why a running cell, or a node of it, is not to be had.
+
+ghost use Rattle.std.specs.Prelude.{◌≡◌, Some};
+ghost use Rattle.cell_run.specs.StartFaults.{fault_text};
+ghost use Rattle.cell_run.specs.declared.start_fault.StartFault.TheVariants.{NoMemory as OutOfMemory};
+
+use gfs_types::no_memory::NoMemory;
+use std::alloc::AllocError;
+use std::error::Error;
+use std::fmt;
+
+/// Why a cell was not started.
+#[derive(Clone, Copy, Debug, PartialEq, Eq)]
+pub enum StartFault {
+    /// A setting is out of its range.
+    Config,
+    /// There are no servers.
+    Count,
+    NoMemory,
+    /// The log didn't take the master's first epoch.
+    Log,
+    /// A thread could not be started.
+    Thread,
+    /// There is no clock.
+    Clock,
+}
+
+impl fmt::Display for StartFault {
+    ghost output = { λ fault. Some (fault_text fault) };
+
+    fn fmt<W: fmt::Write>(&self, f: &mut fmt::Formatter<W>) -> fmt::Result {
+        match self {
+            StartFault::Config => write!(f, "a setting is out of its range"),
+            StartFault::Count => write!(f, "no servers"),
+            StartFault::NoMemory => write!(f, "no memory"),
+            StartFault::Log => write!(f, "the log took no record"),
+            StartFault::Thread => write!(f, "no thread"),
+            StartFault::Clock => write!(f, "no clock"),
+        }
+    }
+}
+
+impl Error for StartFault {}
+
+impl From<NoMemory> for StartFault {
+    ghost from_gives = { λ _ e. e ≡ OutOfMemory };
+
+    fn from(_: NoMemory) -> StartFault {
+        StartFault::NoMemory
+    }
+}
+
+impl From<AllocError> for StartFault {
+    ghost from_gives = { λ _ e. e ≡ OutOfMemory };
+
+    fn from(_: AllocError) -> StartFault {
+        StartFault::NoMemory
+    }
+}

@@ -1,5 +1,0 @@
-use Rattle.std.proofs.Common.{arith}
-use Rattle.cell_seats.proofs.asked.Asker.raise.Goals as goal
-
-pub raise-requires : goal.raise-requires
-raise-requires c = record { writer = c.requires.restarts; place = omega (arith, c.requires.places, c.if-place-lt-PLACES) }

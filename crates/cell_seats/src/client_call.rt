@@ -1,0 +1,106 @@
+//! A call of a client, until it is answered.
+
+ghost use Rattle.std.specs.Prelude.{◌≡◌, ◌++◌, ◌∷◌, [], IfOk};
+ghost use Rattle.cell_seats.specs.Seen.{visible_of, IsFurther, HasSeen, ShowsAnswer, IsAnsweredCall, Asked as CallAsked, Answered as CallAnswered};
+
+use crate::gate::OpenGate;
+use crate::mailbox_wait::{FIRST_WAIT, input_within};
+use crate::mailboxes::MailboxItem;
+use crate::slot::{Slot, StepResult};
+use crate::stepper::Stepper;
+use cell_journal::Beginning;
+use cell_journal::journal_entry::JournalEntry;
+use crossbeam_channel::Receiver;
+use gfs_types::answer::Answer;
+use gfs_types::call::Call;
+use gfs_types::refusal::Refusal;
+use std::sync::Wait;
+use std::time::Clock;
+
+/// An answer, and the journal as it was then, with its length.
+#[derive(Drop)]
+pub struct AnsweredCall {
+    pub answer: Answer,
+    pub beginning: Beginning<JournalEntry>,
+    pub count: usize,
+}
+
+/// Makes the call, and waits for its answer.
+#[tactic(auto, using(crate::proofs::Shown::asked_answered, crate::proofs::Shown::answered_later, crate::proofs::Shown::further_trans))]
+pub fn ask<R: Wait + Clock, N: Stepper + Drop>(
+    rt: &R,
+    slot: &mut Slot<N>,
+    inbox: &Receiver<MailboxItem>,
+    call: Call,
+) -> Result<AnsweredCall, Refusal>
+    ensures node { slot.new.node ≡ slot.old.node }
+    ensures further { IsFurther slot.old.view slot.new.view }
+    ensures shows { IfOk result (λ h. visible_of slot.new.view.mine ≡ visible_of slot.old.view.mine ++ CallAsked call ∷ CallAnswered h.answer ∷ []) }
+    ensures seen { IfOk result (λ h. HasSeen slot.new.node slot.new.view h.beginning h.count) }
+{
+    if let Some(answered) = begin(rt, slot, call)? {
+        return Ok(answered);
+    }
+    let mut wait = FIRST_WAIT;
+    for _ in rt.forever() {
+        if let Some(answered) = next_step(rt, slot, inbox, &mut wait)? {
+            return Ok(answered);
+        }
+    }
+    unreachable!()
+}
+
+// The call is made. It may be answered at once.
+fn begin<R: Wait + Clock, N: Stepper + Drop>(
+    rt: &R,
+    slot: &mut Slot<N>,
+    call: Call,
+) -> Result<Option<AnsweredCall>, Refusal>
+    ensures node { slot.new.node ≡ slot.old.node }
+    ensures further { IsFurther slot.old.view slot.new.view }
+    ensures ok { IfOk result (λ h. ShowsAnswer slot.new.node (visible_of slot.old.view.mine ++ CallAsked call ∷ []) slot.new.view h) }
+{
+    answered_call(slot.call(rt, call)?)
+}
+
+// The client's next step.
+fn next_step<R: Wait + Clock, N: Stepper + Drop>(
+    rt: &R,
+    slot: &mut Slot<N>,
+    inbox: &Receiver<MailboxItem>,
+    wait: &mut u64,
+) -> Result<Option<AnsweredCall>, Refusal>
+    ensures node { slot.new.node ≡ slot.old.node }
+    ensures further { IsFurther slot.old.view slot.new.view }
+    ensures ok { IfOk result (λ h. ShowsAnswer slot.new.node (visible_of slot.old.view.mine) slot.new.view h) }
+{
+    let Some(input) = input_within(rt, inbox, wait) else {
+        return Err(Refusal::Closed);
+    };
+    match slot.take(rt, input, &OpenGate) {
+        Ok(taken) => answered_call(taken),
+        // The message is lost.
+        Err(Refusal::NoMemory) => Ok(None),
+        Err(refusal) => Err(refusal),
+    }
+}
+
+// What a step gave its client.
+fn answered_call(taken: StepResult) -> Result<Option<AnsweredCall>, Refusal>
+    ensures { IfOk result (λ h. IsAnsweredCall taken.answer taken.beginning taken.count h) }
+{
+    let StepResult {
+        answer,
+        beginning,
+        count,
+    } = taken;
+    match answer {
+        Ok(Some(answer)) => Ok(Some(AnsweredCall {
+            answer,
+            beginning,
+            count,
+        })),
+        Ok(None) => Ok(None),
+        Err(refusal) => Err(refusal),
+    }
+}

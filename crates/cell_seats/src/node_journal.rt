@@ -1,0 +1,141 @@
+//! A node's own writer of the journal.
+
+ghost use Rattle.std.specs.Prelude.{◌≡◌, ◌+◌, ◌<◌, ◌≤◌, [], IfOk, IfSome, IfNone, OnErr};
+ghost use Rattle.std.specs.Arc.{arc_value};
+ghost use Rattle.protocol.specs.Tables.{moment_limit};
+ghost use Rattle.protocol_journal.specs.Journal.{sent_after};
+ghost use Rattle.cell_journal.specs.Clocks.{are_clocks_kept};
+ghost use Rattle.cell_journal.specs.Entries.{entry, cause_of};
+ghost use Rattle.cell_journal.specs.Rules.{IsStepOf};
+ghost use Rattle.cell_journal.specs.Writers.{IsAt, IsNodeWriter, IsLater, IsRead, GoesOn, IsSeen};
+
+use crate::shared_state::SharedState;
+use cell_journal::journal_entry::{JournalEntry, StepCause};
+use cell_journal::{ExtendedHistory, JournalWriter, begin, end, give_up};
+use gfs_types::ids::{Moment, Node};
+use gfs_types::refusal::Refusal;
+use messages::event::StepOut;
+use messages::message::Message;
+use std::alloc::Global;
+use std::sync::{Arc, Wait};
+use std::time::Clock;
+
+/// A node's journal: the writer of its steps, and what all nodes share.
+pub struct NodeJournal {
+    pub shared: Arc<SharedState>,
+    pub node: Node,
+    pub writer: JournalWriter,
+    pub ghost here: { IsAt (arc_value shared).table.shared.table_id writer.table_id },
+    pub ghost own: { IsNodeWriter node writer.me },
+}
+
+// Stands here, once, so that no crate above proves the drops of all that the nodes share.
+impl Drop for NodeJournal {
+    fn drop(self) {
+        let Self {
+            shared: _shared,
+            node: _,
+            writer: _writer,
+        } = self;
+    }
+}
+
+impl NodeJournal {
+    pub fn new(shared: Arc<SharedState>, node: Node, writer: JournalWriter) -> NodeJournal
+        requires here { IsAt (arc_value shared).table.shared.table_id writer.table_id }
+        requires own { IsNodeWriter node writer.me }
+        ensures { (result.node ≡ node) × (result.writer.me ≡ writer.me) }
+    {
+        NodeJournal {
+            shared,
+            node,
+            writer,
+        }
+    }
+
+    /// The moment now, if there is one.
+    pub fn now(&self, rt: &impl Clock) -> Option<Moment>
+        ensures { IfSome result (λ m. m.0 ≤ moment_limit) }
+    {
+        self.shared.now(rt)
+    }
+
+    /// Makes room for a step, which is taken on the message of a number, if there is one.
+    pub fn begin(&mut self, rt: &impl Wait, number: Option<u64>) -> Result<Option<Message>, Refusal>
+        ensures node { self.new.node ≡ self.old.node }
+        ensures later { IsLater self.old.writer.me.0 self.new.writer.me.0 }
+        ensures ok { IfOk result (λ m. (self.new.writer.me.0.rooms ≡ self.old.writer.me.0.rooms + 1) × IsRead (sent_after [] self.new.writer.me.0.seen) self.new.node number m) }
+    {
+        if self.shared.is_closing() {
+            return Err(Refusal::Closed);
+        }
+        begin(
+            rt,
+            &self.shared.table.shared,
+            &mut self.writer,
+            self.node,
+            number,
+        )
+    }
+
+    /// A step that was begun is not taken.
+    pub fn give_up(&mut self, rt: &impl Wait)
+        requires room { 0 < self.old.writer.me.0.rooms }
+        ensures node { self.new.node ≡ self.old.node }
+        ensures later { IsLater self.old.writer.me.0 self.new.writer.me.0 }
+    {
+        give_up(rt, &self.shared.table.shared, &mut self.writer, self.node);
+    }
+
+    /// Adds a step that was begun, and gives its messages to the network. Answers the journal as it is then; none where it was closed.
+    pub fn end(
+        &mut self,
+        rt: &impl Wait,
+        alloc: Global,
+        now: Moment,
+        cause: StepCause,
+        out: StepOut,
+    ) -> Option<ExtendedHistory>
+        requires room { 0 < self.old.writer.me.0.rooms }
+        requires step { IsStepOf self.old.writer.me.0 (entry self.old.node now.0 (cause_of cause) out) }
+        ensures node { self.new.node ≡ self.old.node }
+        ensures some { IfSome result (λ l. GoesOn self.old.writer.me.0 self.new.writer.me.0 (entry self.old.node now.0 (cause_of cause) out) × IsSeen self.new.writer.me.0 l.beginning l.count) }
+        ensures clocks { IfSome result (λ l. l.are_clocks_kept ≡ are_clocks_kept self.new.writer.me.0.of self.new.writer.me.0.seen) }
+        ensures none { IfNone result (self.new.writer.me ≡ self.old.writer.me) }
+    {
+        let receivers = receivers_of(alloc, &out);
+        let entry = JournalEntry::new(self.node, now, cause, out);
+        let extended = end(
+            rt,
+            &self.shared.table.shared,
+            &mut self.writer,
+            self.node,
+            entry,
+        )?;
+        deliver_all(rt, &self.shared, &receivers, extended.sent_before);
+        Some(extended)
+    }
+}
+
+// Gives the network the numbers of a step's messages, which follow those that were sent before.
+fn deliver_all(rt: &impl Wait, shared: &SharedState, receivers: &Vec<Node>, sent_before: u128) {
+    let policy = shared.controls.policy();
+    let mut number = sent_before;
+    for to in receivers.as_slice() {
+        number = number.saturating_add(1);
+        if let Ok(number) = u64::try_from(number) {
+            shared.senders.deliver(rt, policy, *to, number);
+        }
+    }
+}
+
+// To whom the messages of a step go. None of them comes where there is no memory for the list.
+fn receivers_of(alloc: Global, out: &StepOut) -> Vec<Node> {
+    let mut all = Vec::new(alloc);
+    for message in out.sent.as_slice() {
+        if all.push(message.receiver).is_err() {
+            break;
+        }
+    }
+    all
+}

@@ -1,0 +1,73 @@
+//! The nodes of a running cell are registered, each with its own writer of the journal: the master, then the servers, then the clients.
+
+ghost use Rattle.std.specs.Prelude.{◌≡◌, ◌<◌, ◌+◌, ◌^◌, IfOk, OnErr, OnOk};
+ghost use Rattle.std.specs.Arc.{arc_value};
+ghost use Rattle.cell_journal.specs.Roles.{node_at};
+ghost use Rattle.cell_journal.specs.Writers.{IsAt};
+ghost use Rattle.cell_seats.specs.Registry.{Registers, IsRegistered};
+
+use crate::journal::Journal;
+use crate::node_journal::NodeJournal;
+use crate::shared_state::SharedState;
+use cell_journal::journal_steps::next;
+use cell_journal::{JournalWriter, close};
+use gfs_types::config::Config;
+use gfs_types::ids::Node;
+use gfs_types::no_memory::NoMemory;
+use std::sync::{Arc, Wait};
+use std::time::Clock;
+
+/// What the nodes of a cell share, and the writer from which those of the nodes are made, so many of them so far.
+pub struct NodeRegistry {
+    pub shared: Arc<SharedState>,
+    pub config: Config,
+    pub servers: u16,
+    pub registered: u64,
+    pub writer: JournalWriter,
+    pub ghost here: { IsAt (arc_value shared).table.shared.table_id writer.table_id },
+    pub ghost registers: { Registers config servers registered writer.me },
+}
+
+// Stands here, once, so that no crate above proves the drops of all that the nodes share.
+impl Drop for NodeRegistry {
+    fn drop(self) {
+        let Self {
+            shared: _shared,
+            config: _,
+            servers: _,
+            registered: _,
+            writer: _writer,
+        } = self;
+    }
+}
+
+impl NodeRegistry {
+    /// The next node's journal.
+    pub fn next(&mut self, node: Node) -> Result<NodeJournal, NoMemory>
+        requires node { node_at self.old.servers self.old.registered ≡ node }
+        requires few { self.old.registered < 2 ^ 62 }
+        ensures same { (self.new.shared ≡ self.old.shared) × (self.new.config ≡ self.old.config) × (self.new.servers ≡ self.old.servers) × (self.new.writer.me.0.of ≡ self.old.writer.me.0.of) × (self.new.writer.me.0.seen ≡ self.old.writer.me.0.seen) }
+        ensures ok { OnOk result (self.new.registered ≡ self.old.registered + 1) }
+        ensures journal { IfOk result (λ d. IsRegistered self.old.config self.old.servers node self.old.writer.me.0 d.node d.writer.me.0) }
+        ensures err { OnErr result (self.new.registered ≡ self.old.registered) }
+    {
+        let theirs = Arc::try_clone(&self.shared)?;
+        let own = next(&self.shared.table.shared, &mut self.writer);
+        self.registered += 1;
+        Ok(NodeJournal::new(theirs, node, own))
+    }
+
+    /// Closes the journal. Nothing is added to it any more.
+    pub fn close<R: Wait + Clock>(self, rt: &R) -> Journal
+        ensures { result.cell ≡ self.writer.me.0.of }
+    {
+        let Self {
+            shared,
+            config: _,
+            servers: _,
+            registered: _,
+            mut writer,
+        } = self;
+        Journal::new(close(rt, &shared.table.shared, &mut writer))
+    }
+}

@@ -1,0 +1,59 @@
+//! What all nodes of a running cell share.
+
+ghost use Rattle.std.specs.Prelude.{◌≡◌, ◌≤◌, IfSome};
+ghost use Rattle.protocol.specs.Tables.{moment_limit};
+
+use crate::controls::Controls;
+use crate::mailboxes::MailboxSenders;
+use cell_journal::JournalTable;
+use gfs_types::ids::{MAX_MOMENT, Moment};
+use std::sync::atomic::{AtomicU64, Ordering};
+use std::time::{Clock, Duration};
+
+/// How many clients a cell may have.
+pub const MOST_CLIENTS: u64 = 64;
+
+/// The journal, the mailboxes, what is asked from outside, and the moment at which the cell began.
+pub struct SharedState {
+    pub table: JournalTable,
+    pub senders: MailboxSenders,
+    pub controls: Controls,
+    pub began: Duration,
+    /// Which clients are in a call, by their bits.
+    pub calling: AtomicU64,
+    /// 1 once the cell closes.
+    pub closing: AtomicU64,
+    pub ghost one: { (table.shared.table_id.words ≡ 1) × (table.shared.table_id.slots ≡ 1) },
+}
+
+// Stands here, once, so that no crate above proves the drops of all that the nodes share.
+impl Drop for SharedState {
+    fn drop(self) {
+        let Self {
+            table: _table,
+            senders: _senders,
+            controls: _controls,
+            began: _,
+            calling: _calling,
+            closing: _closing,
+        } = self;
+    }
+}
+
+impl SharedState {
+    /// The moment now, if there is one.
+    pub fn now(&self, rt: &impl Clock) -> Option<Moment>
+        ensures { IfSome result (λ m. m.0 ≤ moment_limit) }
+    {
+        let since = rt.monotonic().ok()?.checked_sub(self.began)?;
+        let now = u64::try_from(since.as_millis()).ok()?;
+        if now > MAX_MOMENT {
+            return None;
+        }
+        Some(Moment(now))
+    }
+
+    pub fn is_closing(&self) -> bool {
+        self.closing.load(Ordering::SeqCst) != 0
+    }
+}

@@ -1,0 +1,32 @@
+//! Logs whose disk a script can stop.
+
+ghost use Rattle.std.specs.Prelude.{◌≡◌};
+
+use crate::log::OperationLog;
+use crate::memory::MemoryLog;
+use gfs_types::torn::Torn;
+
+/// A log whose disk can be told to stop.
+pub trait StoppableLog: OperationLog {
+    /// Its disk lets so many calls pass and fails each later one until the log is opened again, which then finds what was under way as
+    /// `torn` says.
+    fn stop_after(&mut self, calls: u64, torn: Torn)
+        ensures disk { Self.disk self.new ≡ Self.disk self.old }
+        ensures under_way { Self.under_way self.new ≡ Self.under_way self.old }
+        ensures writing { Self.writing self.new ≡ Self.writing self.old }
+        ensures size { Self.log_bytes self.new ≡ Self.log_bytes self.old };
+
+    /// The same, from the moment on at which the log is opened again and its disk has begun again.
+    fn stop_after_restart(&mut self, calls: u64, torn: Torn)
+        ensures disk { Self.disk self.new ≡ Self.disk self.old }
+        ensures under_way { Self.under_way self.new ≡ Self.under_way self.old }
+        ensures writing { Self.writing self.new ≡ Self.writing self.old }
+        ensures size { Self.log_bytes self.new ≡ Self.log_bytes self.old };
+}
+
+/// A log in memory has no disk that could stop.
+impl StoppableLog for MemoryLog {
+    fn stop_after(&mut self, _calls: u64, _torn: Torn) {}
+
+    fn stop_after_restart(&mut self, _calls: u64, _torn: Torn) {}
+}
