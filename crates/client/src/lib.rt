@@ -1,4 +1,4 @@
-//! A client's steps: on a message, and on a tick, at which attempts that had no answer end and the next ones begin (sections 2.7.1, 2.7.2 and 3.1).
+//! The client whole: each of its steps, on a message or a tick, is one of the protocol's definitions (sections 2.7.1, 2.7.2 and 3.1).
 #![tactic(auto)]
 
 mod asked;

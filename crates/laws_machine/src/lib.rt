@@ -1,4 +1,4 @@
-//! Laws of the whole machine beside a cell: its steps, and from each world to the next.
+//! The relation between a cell's world and the whole machine, and laws of what keeps it from each world to the next.
 #![tactic(auto)]
 
 pub mod chunk_readings;

@@ -1,4 +1,5 @@
-//! The master whole, over any log of the trait (GFS paper, section 2.6).
+//! The master whole, over any log of the trait: each of its steps and restarts is one of the protocol's definitions (GFS paper, section
+//! 2.6).
 #![tactic(auto)]
 
 pub mod changed_files;

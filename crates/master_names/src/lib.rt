@@ -1,4 +1,4 @@
-//! Name calls at the master (GFS paper, section 4.1).
+//! Name calls at the master, and snapshots, which wait under their locks until leases have ended (GFS paper, sections 3.4 and 4.1).
 #![tactic(auto)]
 
 pub mod alone;

@@ -1,4 +1,5 @@
-//! The replay of the records that go over the names: a snapshot's, and that of an expired file (GFS paper, sections 3.4 and 4.4).
+//! What reads the master's state as a whole, the replay of any record and of a log, and a record that is logged before its change is made
+//! (GFS paper, sections 2.6.3, 3.4 and 4.4).
 #![tactic(auto)]
 
 pub mod change;

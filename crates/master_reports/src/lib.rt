@@ -1,4 +1,4 @@
-//! What servers tell the master: the replicas that they hold, and their leases (GFS paper, sections 2.6.2, 4.4 and 4.5).
+//! What servers tell the master of their replicas and leases, and what it does at a tick (GFS paper, sections 2.6.2 and 4.3 to 4.5).
 #![tactic(auto)]
 
 pub mod attempts;

@@ -1,4 +1,4 @@
-//! A finite map from numbers whose entries can be gone through in order. Contracts see it as the map alone.
+//! Finite maps from numbers, one of which can be gone through in order; contracts see each as the map alone.
 #![tactic(auto)]
 
 mod block;

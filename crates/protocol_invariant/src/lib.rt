@@ -1,2 +1,3 @@
-//! What holds between a world that `protocol` reaches and a state of the relaxed-file machine, as definitions in `specs/`.
+//! An invariant between a world of `protocol` and a state of the relaxed-file machine, as definitions in `specs/`: tools compute it, and
+//! laws use its words.
 #![tactic(auto)]

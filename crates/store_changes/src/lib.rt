@@ -1,4 +1,4 @@
-//! Changes of a chunkserver's disk, each made as a whole or not at all.
+//! Reads of a chunkserver's disk, whose blocks are checked, and changes of it, each made as a whole or not at all.
 #![tactic(auto)]
 
 mod blocks;

@@ -57,7 +57,7 @@ fn found(alloc: Global) -> (bool, bool) {
     )
 }
 
-// It passes too where one allocation is refused, whichever that is (`tools/refused`); the script then runs again.
+// It passes too where one allocation is refused, whichever that is (`tools/campaigns/refused`); the script then runs again.
 #[test]
 fn a_refused_allocation_is_told(rt: HostRuntime) {
     let (is_whole, is_explained) = found(rt.alloc());

@@ -107,7 +107,7 @@ fn is_taken(table: &mut LockTable, names: &[(Path, Mode)]) -> bool {
     first.is_none() && table.conflicts(names)
 }
 
-// It passes too where one allocation is refused, whichever that is (`tools/refused`): a refused call has taken nothing, and goes through when it is made again.
+// It passes too where one allocation is refused, whichever that is (`tools/campaigns/refused`): a refused call has taken nothing, and goes through when it is made again.
 #[test]
 fn a_refused_set_is_not_taken(rt: HostRuntime) -> Result<(), Fail> {
     let alloc = rt.alloc();

@@ -357,7 +357,7 @@ fn two_values(
     })
 }
 
-// It passes too where one allocation is refused, whichever that is (`tools/refused`): a refused listing goes through when it is made again.
+// It passes too where one allocation is refused, whichever that is (`tools/campaigns/refused`): a refused listing goes through when it is made again.
 #[test]
 fn a_refused_listing_is_made_again(rt: HostRuntime) -> Result<(), Fail> {
     let alloc = rt.alloc();

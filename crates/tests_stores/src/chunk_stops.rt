@@ -119,7 +119,7 @@ fn listed_again(disk: FuseDisk, alloc: Global) -> Option<Listing> {
     second.ok()
 }
 
-// `tools/refused` refuses each allocation in turn.
+// `tools/campaigns/refused` refuses each allocation in turn.
 #[test]
 fn a_refused_allocation_leaves_a_state(rt: HostRuntime) -> Result<(), Fail> {
     let alloc = rt.alloc();

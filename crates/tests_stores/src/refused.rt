@@ -117,7 +117,7 @@ fn create_again(alloc: Global) -> Result<Record, NoMemory> {
     }
 }
 
-// `tools/refused` refuses each allocation in turn.
+// `tools/campaigns/refused` refuses each allocation in turn.
 #[test]
 fn a_refused_allocation_leaves_the_log(rt: HostRuntime) -> Result<(), Fail> {
     let alloc = rt.alloc();
