@@ -89,19 +89,21 @@ def unproved_stands():
 # ---- building
 
 @contextlib.contextmanager
-def locked():
-    """One run builds, and others wait for it."""
+def locked(name, waits=True):
+    """One run at a time builds, or proves, and others wait for it. Whether this one may: one that doesn't wait is told that it may not."""
     os.makedirs(os.path.dirname(UNPROVED), exist_ok=True)
-    begun = time.monotonic()
-    with open(os.path.join(OUT, 'unproved', 'lock'), 'w', encoding='utf-8') as file:
-        while True:
+    begun, is_held = time.monotonic(), False
+    with open(os.path.join(OUT, 'unproved', name), 'w', encoding='utf-8') as file:
+        while not is_held:
             try:
                 fcntl.flock(file, fcntl.LOCK_EX | fcntl.LOCK_NB)
-                break
+                is_held = True
             except BlockingIOError:
+                if not waits:
+                    break
                 say(f'another run builds the program; this one waits for it, {duration(time.monotonic() - begun)} so far')
                 time.sleep(SECONDS_BETWEEN_LINES)
-        yield
+        yield is_held
 
 
 @contextlib.contextmanager
@@ -201,9 +203,10 @@ def program():
     if proved_stands():
         return PROVED, True
     if not unproved_stands():
-        with locked():
-            if is_kept():
-                return PROVED, True
+        with locked('building'):
+            with locked('proving', waits=False) as is_free:
+                if is_free and is_kept():
+                    return PROVED, True
             if not unproved_stands():
                 build_unproved()
     return UNPROVED, False
@@ -244,7 +247,7 @@ def prove():
         say('the program stands, proved from this text')
         return
     need_kit()
-    with locked():
+    with locked('proving'):
         begun = time.monotonic()
         if not is_kept():
             say('proving the crates that the program stands on, which takes an hour or more')

@@ -91,13 +91,19 @@ def run_own(way, words):
 
 
 def main(words):
-    signal.signal(signal.SIGTERM, lambda *_: sys.exit(128 + signal.SIGTERM))
+    for end in (signal.SIGTERM, signal.SIGHUP):
+        if signal.getsignal(end) == signal.SIG_DFL:
+            # what this run began ends with it
+            signal.signal(end, lambda number, _: sys.exit(128 + number))
     try:
         if words and words[0] in ('prove', 'show', 'example', 'soak'):
             return run_own(words[0], words[1:])
         return run_program(words)
     except building.CannotBuild as cause:
         say(str(cause))
+        return building.CANNOT_BUILD
+    except OSError as cause:
+        say(f'cannot build: {cause}')
         return building.CANNOT_BUILD
     except KeyboardInterrupt:
         # a script may go on in a thread of its own

@@ -145,7 +145,7 @@ def failing(shop, tests):
         before = shop.builds()
         ran.send_signal(end)
         tests.same('a build that is ended', (ran.communicate()[0], ran.returncode), ('', 128 + end))
-    tests.same('what ended builds leave', sorted(os.listdir(shop.at('crates', 'gfscell', 'out', 'unproved'))), ['built', 'gfscell', 'lock', 'log'])
+    tests.same('what ended builds leave', sorted(os.listdir(shop.at('crates', 'gfscell', 'out', 'unproved'))), ['building', 'built', 'gfscell', 'log', 'proving'])
     both = [shop.begun('sim', 'script.gfs') for _ in range(2)]
     said = [ran.communicate('typed\n') for ran in both]
     tests.same('two runs at once', ([out for out, _ in said], shop.builds()), ([UNPROVED[1]] * 2, before + 1))
@@ -157,17 +157,24 @@ def proved(shop, tests):
     status, out, errors = shop.run('prove')
     tests.same('a proof', (status, out), (0, ''))
     tests.has('a proof', errors, 'crates proved: 1 of 2', 'crates proved: 2 of 2', 'the program is proved and built')
-    before = shop.builds()
     tests.same('the proved program', shop.run('sim', 'script.gfs'), (*PROVED, []))
     tests.same('a second proof', shop.run('prove')[2], ['gfscell: the program stands, proved from this text'])
     shop.touch('crates/low/specs/Lib.antt')
     tests.same('a changed definition', shop.run('sim', 'script.gfs'), (*UNPROVED, NOTE))
+    other = shop.begun('prove')
+    while 'crates proved' not in other.stderr.readline():
+        pass
+    shop.touch('crates/low/src/lib.rt')
+    tests.same('a run beside a proof', shop.run('sim', 'script.gfs')[:2], UNPROVED)
+    other.communicate()
+    tests.same('a proof of a text that has changed meanwhile', shop.run('sim', 'script.gfs'), (*UNPROVED, NOTE))
     put(shop.at('fails'), '')
     tests.same('a proof that fails', shop.run('prove')[0], 70)
     tests.same('behind a proof that fails', shop.run('sim', 'script.gfs'), (*UNPROVED, NOTE))
     os.remove(shop.at('fails'))
     shop.touch('crates/low/src/lib.rt')
     put(shop.at('kept'), '')
+    before = shop.builds()
     tests.same('a program of another checkout', (shop.run('sim', 'script.gfs'), shop.builds()), ((*PROVED, []), before))
     tests.same('words beyond', shop.run('prove', 'all')[0], 2)
 
