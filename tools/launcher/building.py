@@ -53,7 +53,8 @@ def print_text(text):
 def duration(seconds):
     minutes, seconds = divmod(int(seconds), 60)
     hours, minutes = divmod(minutes, 60)
-    return ' '.join(part for part in (f'{hours} h' if hours else '', f'{minutes} min' if minutes and (hours or minutes) else '', f'{seconds} s' if not hours else '') if part)
+    parts = [(hours, f'{hours} h'), (minutes, f'{minutes} min'), (not hours, f'{seconds} s')]
+    return ' '.join(text for is_told, text in parts if is_told)
 
 
 # ---- what stands

@@ -27,8 +27,9 @@ class Soak:
 
     def ran(self, name, words, output):
         """What a campaign wrote, or None where it found something wrong."""
+        command = [sys.executable, '-B', os.path.join(CAMPAIGNS, name), *words]
         with open(output, 'w+', encoding='utf-8') as file:
-            status = subprocess.run([sys.executable, '-B', os.path.join(CAMPAIGNS, name), *words], stdin=subprocess.DEVNULL, stdout=file, stderr=file, check=False).returncode
+            status = subprocess.run(command, stdin=subprocess.DEVNULL, stdout=file, stderr=file, check=False).returncode
             file.seek(0)
             text = file.read()
         if status:

@@ -10,17 +10,20 @@ from building import TOP
 from causes import UNKNOWN, Causes
 from chart import svg_of
 from show import Show, Wanted, shown_text
-from test_words import expected_text
+from test_words import answer, expected_text
 from worked_rows import WORKED, parts_of, rows_of
 
 EXPECTED = os.path.join(TOP, 'tools', 'launcher', 'expected')
+LAUNCHER = os.path.join(TOP, 'gfscell')
 PLAIN = Wanted(False, False, False, None, [])
 BEFORE = b'c1 create /f\nc1 open /f\nc1 append 1 a\n'
+SHOWN = re.compile(r'^    \./gfscell show examples/(\w+)\.gfs([^\n]*)\n\nprints\n\n```text\n(.*?)```', re.S | re.M)
 CAUSES = {
     b'c1 fly /x': 'no call fly', b'c1 creat /x': 'no call creat; did you mean create?', b'c1 mkdir /a\r': 'it ends in a carriage return',
     b'c3 mkdir /a': 'c3: the cell has 2 clients (--clients)', b'cut s4': 's4: the cell has 3 servers (--servers)',
     b'hold forward s1': 'no kind of message forward; did you mean Forward?', b'c1  mkdir /a': 'two spaces between words', b'regions /g 0': '/g is no file',
-    b'regions /f 1': '/f has no chunk 1', b'c1 append 1 hello world': 'append takes FD DATA, 2 words, and here are 3', b'C1 mkdir /a': 'no line begins with C1; did you mean c1?',
+    b'regions /f 1': '/f has no chunk 1', b'c1 append 1 hello world': 'append takes FD DATA, 2 words, and here are 3',
+    b'C1 mkdir /a': 'no line begins with C1; did you mean c1?',
     b'c01 mkdir /a': 'c01: nodes count from 1, and a zero does not lead', b'fuse master 1 Old': 'T: Old is neither old, new, nor a number up to 255',
     b'rot c1 /f 0 0 1': 'c1: a server has to stand here', b'append 1 x': 'append is a call, and a client makes it: c1 append', b'c1': 'c1: a call is missing'}
 
@@ -29,7 +32,8 @@ def shown(script, given, program, wanted=PLAIN):
     """What `show` prints of a script, and its fault without the cause."""
     out = io.BytesIO()
     fault = shown_text(wanted, given, script, out, program) or ''
-    return out.getvalue().decode('utf-8', 'surrogateescape'), re.sub(r'^((?:line \d+: )?(?:bad line|cannot start)).*', r'\1\n', fault, flags=re.S)
+    printed = out.getvalue().decode('utf-8', 'surrogateescape')
+    return printed, re.sub(r'^((?:line \d+: )?(?:bad line|cannot start)).*', r'\1\n', fault, flags=re.S)
 
 
 def rows(program):
@@ -56,6 +60,32 @@ def examples(program):
             if shown(text, command_line.options_in(text), program) != (expected.read(), ''):
                 faults.append(f'{path}: show prints something else')
     return count, faults
+
+
+def side_by_side(_program):
+    """`example` lists them, prints one beside its answers, and knows no other."""
+    first = answer(LAUNCHER, ['example', 'pad'], '/')
+    names = [line.split()[0] for line in answer(LAUNCHER, ['example'], '/')[1].decode().splitlines()]
+    files = sorted(os.path.splitext(name)[0] for name in os.listdir(os.path.join(TOP, 'examples')) if not name.endswith('.out'))
+    faults = [] if names == files else [f'example lists {names}']
+    if first[0] or b'c1 append 1 e*13' + b' ' * 50 + b'c1 at 64\n' not in first[1] or b'prints what examples/pad.out has' not in first[1]:
+        faults.append(f'example pad: {first}')
+    if answer(LAUNCHER, ['example', 'none'], '/')[0] != 2:
+        faults.append('example none: no fault')
+    return 3, faults
+
+
+def as_a_user(_program):
+    """The words of `show` that only the whole command has."""
+    shows, faults = [['show', 'examples/first.gfs'], ['show', 'examples/pad.gfs', '--clients', '1'], ['show', 'none'], ['show', 'examples/pad.gfs', '--chunk', '63'],
+                     ['show', 'examples/pad.gfs', '--names-heap', '9'], ['show', '-i', '--clients=2'], ['show', '--help']], []
+    said = [(0, ''), (1, 'line 6: bad line: c2: the cell has 1 client (--clients)'), (1, 'cannot read: No such file or directory'),
+            (1, 'cannot start: --chunk: 64 to 67108864, a multiple of 16'), (2, 'bad command line: --names-heap: the definitions have no regions'), (0, ''), (0, '')]
+    for words, (status, fault) in zip(shows, said):
+        found = answer(LAUNCHER, words, TOP)
+        if (found[0], found[2].decode()) != (status, f'gfscell: {fault}\n' if fault else ''):
+            faults.append(f'{words}: {found}')
+    return len(shows), faults
 
 
 def bad_lines():
@@ -101,7 +131,7 @@ def pages(program):
     """What pages show of `show` is what it prints."""
     count, faults = 0, []
     for page in glob.glob(os.path.join(TOP, 'docs', '*.md')) + [os.path.join(TOP, 'README.md')]:
-        for name, flags, text in re.findall(r'^    \./gfscell show examples/(\w+)\.gfs([^\n]*)\n\nprints\n\n```text\n(.*?)```', command_line.text_of(page), re.S | re.M):
+        for name, flags, text in SHOWN.findall(command_line.text_of(page)):
             count += 1
             if drawn(name, program, flags.split()) != text:
                 faults.append(f'{page}: show examples/{name}.gfs{flags} prints something else')
@@ -115,8 +145,8 @@ EXPECTED_TEXTS = {
 
 
 def charts(program):
-    faults = [f'tools/launcher/expected/{name} has another text' for name, text in EXPECTED_TEXTS.items() if text(program).encode() != expected_text(name)]
-    return len(EXPECTED_TEXTS), faults
+    other = [name for name, text in EXPECTED_TEXTS.items() if text(program).encode() != expected_text(name)]
+    return len(EXPECTED_TEXTS), [f'tools/launcher/expected/{name} has another text' for name in other]
 
 
 def svg(program):
@@ -126,14 +156,15 @@ def svg(program):
         shows.line(line)
     notes = {row[5] for row in shows.rows if row[0] == 'message'}
     texts = xml.dom.minidom.parseString(svg_of(shows.lanes, shows.rows)).getElementsByTagName('text')
-    return 1, [] if len(texts) > len(shows.rows) and notes == {'', 'held', 'lost', 'again'} else [f'a chart as a picture: {len(texts)} texts of {len(shows.rows)} rows, {notes}']
+    is_whole = len(texts) > len(shows.rows) and notes == {'', 'held', 'lost', 'again'}
+    return 1, [] if is_whole else [f'a chart as a picture: {len(texts)} texts of {len(shows.rows)} rows, {notes}']
 
 
 def faults():
     """How many things were tested, and what is wrong."""
     from translate import Program
     program = Program()
-    parts = [part(program) for part in (rows, examples, causes, charts, svg, pages)]
+    parts = [part(program) for part in (rows, examples, side_by_side, as_a_user, causes, charts, svg, pages)]
     return sum(count for count, _ in parts), [fault for _, part in parts for fault in part]
 
 

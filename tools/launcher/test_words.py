@@ -10,14 +10,17 @@ from building import TOP
 TESTS = os.path.join(TOP, 'crates', 'tests_values', 'src', 'words.rt')
 BAD = (2, b'', b'gfscell: bad command line\n')
 # command lines beyond those of the tests
-MORE_BAD = ['--', '-- sim a', 'sim --', 'sim a --servers --help', 'sim a --servers 3 --servers 3 --help', 'sim a --help=x', '-x', 'sim a -x', 'sim a --=3', '-', 'live',
-            'sim a --servers -- 3', 'sim a --chunk 99999999999999999999999', 'sim a -- b', 'sim --names-heap 1 --names-heap 1 a', 'simm a', 'sim a --servers\t3', '--version=1',
-            '--help=']
+MORE_BAD = [
+    '--', '-- sim a', 'sim --', 'sim a --servers --help', 'sim a --servers 3 --servers 3 --help', 'sim a --help=x', '-x', 'sim a -x', 'sim a --=3', '-', 'live',
+    'sim a --servers -- 3', 'sim a --chunk 99999999999999999999999', 'sim a -- b', 'sim --names-heap 1 --names-heap 1 a', 'simm a',
+    'sim a --servers\t3', '--version=1', '--help=']
 MORE_SHOWN = {'sim --servers x --help': 'sim', 'sim a b --help': None, 'live -h': 'live', 'live a.live -hx': 'live', '-hV': '', 'sim --servers=9 -h': 'sim'}
 
 
 def settings(text):
-    return {name.replace('-', '_'): int(value.replace('_', '')) for name, value in re.findall(r'\("([a-z-]+)", ([\d_]+)\)', text.replace('u64::MAX', str((1 << 64) - 1)))}
+    """The settings that a test names, as ("lease-ms", 5_000)."""
+    found = re.findall(r'\("([a-z-]+)", ([\d_]+)\)', text.replace('u64::MAX', str((1 << 64) - 1)))
+    return {name.replace('-', '_'): int(value.replace('_', '')) for name, value in found}
 
 
 def expected_in(table):
@@ -38,7 +41,8 @@ def asked_by(line):
     given = dict(asked.given)
     heap = given.pop('names_heap', None)
     servers, clients, others = command_line.settings_of(given)
-    return (asked.way.capitalize(), asked.file, heap, {name: value for name, value in {'servers': servers, 'clients': clients, **others}.items() if name in given or name == 'block'})
+    found = {'servers': servers, 'clients': clients, **others}
+    return (asked.way.capitalize(), asked.file, heap, {name: value for name, value in found.items() if name in given or name == 'block'})
 
 
 def is_wanted(found, kind, text):
