@@ -1,6 +1,5 @@
 """Why a line of a script is bad, in words, which the program doesn't tell: the first cause in the order in which the line is read."""
-import difflib
-
+from command_line import near
 from script import ARGUMENTS, KINDS, LONGEST_LINE, BadLine, data, number, path_of
 
 # the words behind the first of each line that is no call
@@ -15,12 +14,6 @@ UNKNOWN = 'it is not in the language'
 
 def shown(word):
     return word.decode('utf-8', 'backslashreplace') if len(word) < 60 else word[:50].decode('utf-8', 'backslashreplace') + '..'
-
-
-def near(word, names):
-    """The name that is meant, where one is near."""
-    found = [name for name in names if name.lower() == word.lower()] or difflib.get_close_matches(word, names, 1, 0.7)
-    return f'; did you mean {found[0]}?' if found else ''
 
 
 def is_refused(read, word):

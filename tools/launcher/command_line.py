@@ -1,6 +1,7 @@
 """The words of a command line, as the program takes them (`crates/command_line`): what they ask for, and the help and the version that it prints.
 
 Names of options, and what the help says of them, are read in the program's own source. `command_line/Asking.asked` says what words ask for."""
+import difflib
 import os
 import re
 from collections import namedtuple
@@ -82,6 +83,12 @@ def number(text):
     return int(digits or '0')
 
 
+def near(word, names):
+    """The name that is meant, where one is near."""
+    found = [name for name in names if name.lower() == word.lower()] or difflib.get_close_matches(word, names, 1, 0.7)
+    return f'; did you mean {found[0]}?' if found else ''
+
+
 class Words:
     """The walk over a subcommand's words. A value waits until the next word, as one that is given twice is only found then."""
 
@@ -112,7 +119,7 @@ class Words:
                 raise Bad('--help takes no value')
             self.show_help()
         if name not in self.names:
-            raise Bad(f'no option --{name}')
+            raise Bad(f'no option --{name}{near("--" + name, ["--" + it for it in self.names])}')
         self.settle()
         self.pending = (name, value)
         if value is not None:

@@ -17,7 +17,8 @@ USAGE = """
                       runs a script by the definitions, with nothing built; -i takes lines from a terminal
   example [NAME]      runs an example, and compares what it prints
   prove               proves the program, and builds it
-  soak [--minutes M]  random scripts and lists of events"""
+  soak [--minutes M]  random scripts and lists of events
+  --explain           with sim and live: below a fault stands its cause"""
 
 
 def is_in_range(asked):
@@ -47,24 +48,38 @@ def tell_own(is_wanted):
         print(USAGE, file=sys.stderr)
 
 
+def told(fault, cause, is_explained, status=1):
+    """Says a fault as the program does, and its cause below where that is asked for; the exit status."""
+    say(fault)
+    if is_explained and cause:
+        say(f'  {cause}')
+    return status
+
+
 def run_program(words):
+    """Answers the words or becomes the program. `--explain` is the launcher's own."""
+    options = words[:words.index('--')] if '--' in words else words
+    is_explained = '--explain' in options
+    words = [word for word in options if word != '--explain'] + words[len(options):]
     try:
         asked = command_line.parse(words)
     except command_line.Shown as shown:
         status = print_text(str(shown))
         tell_own(str(shown) == command_line.program_help())
         return status
-    except command_line.Bad:
-        say('bad command line')
+    except command_line.Bad as cause:
+        status = told('bad command line', cause, is_explained, 2)
         tell_own(not words)
-        return 2
+        return status
     fault = fault_of(asked)
     if fault:
-        say(fault)
-        return 1
+        return told(fault, command_line.out_of_range(asked.given) if fault == 'cannot start' else asked.file, is_explained)
     program, is_proved = building.program()
     if not is_proved:
         say(building.NOT_PROVED)
+    if is_explained:
+        from explain import run_explained
+        return run_explained(program, words, asked)
     return become(program, words)
 
 

@@ -67,7 +67,7 @@ class Workshop:
         return os.path.join(self.top, *names)
 
     def begun(self, *words):
-        paths = {'PATH': self.at('bin') + ':' + os.environ['PATH'], 'GFSCELL_SECONDS': '0.2'}
+        paths = {'PATH': self.at('bin') + ':' + os.environ['PATH'], 'GFSCELL_SECONDS': '0.2', 'SPECS': os.path.join(TOP, 'crates')}
         return subprocess.Popen([self.at('gfscell'), *words], cwd=self.top, env={**os.environ, **paths}, stdin=subprocess.PIPE, stdout=subprocess.PIPE,
                                 stderr=subprocess.PIPE, text=True)
 
@@ -179,6 +179,23 @@ def proved(shop, tests):
     tests.same('words beyond', shop.run('prove', 'all')[0], 2)
 
 
+def explained(shop, tests):
+    """The causes that `--explain` tells, below what the program says."""
+    put(shop.at('program'), '#!/bin/sh\necho printed\necho "gfscell: line 2: bad line" >&2\nexit 1\n', 0o755)
+    put(shop.at('script.gfs'), 'c1 create /f\nc2 list /\n')
+    shop.touch('crates/low/src/lib.rt')
+    bad = ['gfscell: line 2: bad line']
+    tests.same('a bad line', shop.run('sim', 'script.gfs'), (1, 'printed\n', bad))
+    tests.same('its cause', shop.run('sim', '--explain', 'script.gfs'), (1, 'printed\n', bad + ['gfscell:   c2: the cell has 1 client (--clients)']))
+    tests.same('its cause on a terminal', shop.run('sim', '-', '--explain'), (1, 'printed\n', bad + ['gfscell:   no line begins with typed']))
+    tests.same('a live script', shop.run('live', 'script.gfs', '--explain'), (1, 'printed\n', bad))
+    words = ['gfscell: bad command line', 'gfscell:   no option --chunks; did you mean --chunk?']
+    tests.same('wrong words', shop.run('sim', 'script.gfs', '--chunks', '3', '--explain'), (2, '', words))
+    tests.same('a file of that name', shop.run('sim', '--', '--explain'), (1, '', ['gfscell: cannot read']))
+    settings = ['gfscell: cannot start', 'gfscell:   --chunk: 64 to 67108864, a multiple of 16']
+    tests.same('a setting', shop.run('sim', '-', '--chunk', '3', '--explain'), (1, '', settings))
+
+
 def by_link(shop, tests):
     os.symlink('gfscell', shop.at('link'))
     os.symlink(shop.at('link'), shop.at('bin', 'cell'))
@@ -191,6 +208,6 @@ def faults():
     tests = Tests()
     with tempfile.TemporaryDirectory() as folder:
         shop = Workshop(os.path.realpath(folder))
-        for part in (unproved, failing, proved, by_link):
+        for part in (unproved, failing, proved, explained, by_link):
             part(shop, tests)
     return tests.count, tests.faults
