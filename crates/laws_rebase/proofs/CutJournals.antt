@@ -12,7 +12,7 @@ use Rattle.protocol.specs.Observer.{Observer, observed_moment}
 use Rattle.protocol.specs.Seen.{Taken}
 use Rattle.protocol.specs.World.{new_world}
 use Rattle.protocol_journal.specs.Journal.{StepCause, Calls, Takes, Restarts, Entry, NodeState, MasterIs, ServerIs, ClientIs, node_in, taken_by, node_step, may_take, is_node, own, RunsTo, LeadsTo, with_messages, sent_after, IsForNode, EachMayFollow, IsLawful, asked, answered, entry_observed, observed_after, with_end}
-use Rattle.protocol_journal.proofs.Journals.{journals_grow}
+use Rattle.protocol_journal.proofs.Journals.{journals_grow, own_append}
 use Rattle.laws_rebase.specs.Rebased.{raised, all_raised, raised_number}
 use Rattle.laws_rebase.specs.Whole.{raised_cause, raised_entry, whole}
 use Rattle.laws_rebase.specs.Journals.{WholeJournalsGrow, JournalsWithBasesAreLawful, BasesChangeNothingSeen}
@@ -90,15 +90,6 @@ each_append sent [] ys h later = later
 each_append sent (x ∷ xs) ys h later = (h.0, each_append (with_messages sent x) xs ys h.1 later)
 
 -- nodes
-
-own_append : (n : Node) (xs ys : List Entry) → own n (xs ++ ys) ≡ own n xs ++ own n ys
-own_append n [] ys = refl
-own_append n (x ∷ xs) ys = by_test (is_node x.node n) (own_append n xs ys)
-  where
-    by_test : (b : Bool) → own n (xs ++ ys) ≡ own n xs ++ own n ys
-        → cond b (x ∷ own n (xs ++ ys)) (own n (xs ++ ys)) ≡ cond b (x ∷ own n xs) (own n xs) ++ own n ys
-    by_test true h = ap (λ (l : List Entry). x ∷ l) h
-    by_test false h = h
 
 own_raised : (k : ℕ) (n : Node) (es : List Entry) → own n (raised_all k es) ≡ raised_all k (own n es)
 own_raised k n [] = refl
