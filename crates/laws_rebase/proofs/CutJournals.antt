@@ -12,7 +12,7 @@ use Rattle.protocol.specs.Observer.{Observer, observed_moment}
 use Rattle.protocol.specs.Seen.{Taken}
 use Rattle.protocol.specs.World.{new_world}
 use Rattle.protocol_journal.specs.Journal.{StepCause, Calls, Takes, Restarts, Entry, NodeState, MasterIs, ServerIs, ClientIs, node_in, taken_by, node_step, may_take, is_node, own, RunsTo, LeadsTo, with_messages, sent_after, IsForNode, EachMayFollow, IsLawful, asked, answered, entry_observed, observed_after, with_end}
-use Rattle.protocol_journal.proofs.Journals.{journals_grow, own_append}
+use Rattle.protocol_journal.proofs.Journals.{journals_grow}
 use Rattle.laws_rebase.specs.Rebased.{raised, all_raised, raised_number}
 use Rattle.laws_rebase.specs.Whole.{raised_cause, raised_entry, whole}
 use Rattle.laws_rebase.specs.Journals.{WholeJournalsGrow, JournalsWithBasesAreLawful, BasesChangeNothingSeen}
@@ -90,6 +90,15 @@ each_append sent [] ys h later = later
 each_append sent (x ∷ xs) ys h later = (h.0, each_append (with_messages sent x) xs ys h.1 later)
 
 -- nodes
+
+-- of one entry more, by whether it is the node's
+with_first : (x : Entry) (l m r : List Entry) (b : Bool) → l ≡ m ++ r → cond b (x ∷ l) l ≡ cond b (x ∷ m) m ++ r
+with_first x l m r true h = ap (λ (rest : List Entry). x ∷ rest) h
+with_first x l m r false h = h
+
+own_append : (n : Node) (xs ys : List Entry) → own n (xs ++ ys) ≡ own n xs ++ own n ys
+own_append n [] ys = refl
+own_append n (x ∷ xs) ys = with_first x (own n (xs ++ ys)) (own n xs) (own n ys) (is_node x.node n) (own_append n xs ys)
 
 own_raised : (k : ℕ) (n : Node) (es : List Entry) → own n (raised_all k es) ≡ raised_all k (own n es)
 own_raised k n [] = refl

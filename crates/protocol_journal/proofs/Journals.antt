@@ -121,7 +121,7 @@ follows_on : (entries : List Entry) (sent : List Message) (e : Entry) → EachMa
 follows_on [] sent e h last = (last, tt)
 follows_on (x ∷ rest) sent e h last = (h.0, follows_on rest (with_messages sent x) e h.1 last)
 
-pub own_append : (n : Node) (xs ys : List Entry) → own n (xs ++ ys) ≡ own n xs ++ own n ys
+own_append : (n : Node) (xs ys : List Entry) → own n (xs ++ ys) ≡ own n xs ++ own n ys
 own_append n [] ys = refl
 own_append n (x ∷ xs) ys = by_test (is_node x.node n) (own_append n xs ys)
   where
