@@ -1,3 +1,4 @@
 pub mod Follows
 pub mod Opens
 pub mod ReopenedReads
+pub mod WorkedTrace

@@ -14,7 +14,7 @@ use Rattle.gfs_types.specs.Paths.{Path}
 use Rattle.relaxed_file.specs.Names.{Names, Node, Dir, File}
 use Rattle.relaxed_file.specs.Machine.{Machine, new_machine, Outcome, Replies, Opens}
 use Rattle.relaxed_file.specs.NameStep.{is_name_call, opened, outcome_by}
-use Rattle.relaxed_file.specs.Run.{Action, Invoke, Return, ReturnFd, Pass, Visible, Called, Answered, shown, visible, Allows, after, after_all, IsLawful, IsRunTo, LeadsTo, IsReached}
+use Rattle.relaxed_file.specs.Run.{Action, Invoke, Return, ReturnFd, Pass, Visible, Answered, shown, visible, Allows, after, after_all, IsLawful, IsRunTo, LeadsTo, IsReached}
 use Rattle.relaxed_file.specs.RunLaws.{ComesTo, by_names, by_lock, by_room}
 use Rattle.relaxed_file.proofs.Tables.{from_some}
 use Rattle.relaxed_file.proofs.Reached.{lawful_after, after_all-append, leads_on}
@@ -22,7 +22,7 @@ use Rattle.relaxed_file.proofs.Moments.{no_cons, who_of, said_of, called_not, pa
 use Rattle.relaxed_file.proofs.InCall.{IsNoFd}
 use Rattle.relaxed_file.proofs.GivenReads.{name_calls_answer_one_moment}
 use Rattle.promises.specs.Answered.{waiting_call, WasAnswered, IsOf}
-use Rattle.promises.proofs.Lists.{parts_of, in_first, in_front, in_back}
+use Rattle.promises.proofs.Lists.{parts_of, in_first, in_back}
 use Rattle.promises.proofs.WaitingCalls.{call_of, waiting_by_actions, waiting_since}
 use Rattle.promises.proofs.AnswerMoments.{AnsweredIn, at, past, reached_past, to_answer, to_answer_lawful, to_answer_ends, lawful_parts, descriptors_are_of_one_file}
 
@@ -96,7 +96,18 @@ opens_file m (Invoke who asked) client fd never is allowed = absurd (called_not 
 opens_file m (Pass moment) client fd never is allowed = absurd (passed_not moment client _ (from_some is))
 opens_file m other client fd never is allowed = absurd (none-some _ is)
 
--- an Open that is answered after another call, which was answered no descriptor
+-- where in a run the client's Open is answered, in a state to which another one led
+pub record OpenAnswer (config : Config) (actions : List Action) (from : Machine) (client fd file : ℕ) (rest : List Visible) : Type 0 where
+  pub front : List Action
+  pub back : List Action
+  pub is : actions ≡ front ++ ReturnFd client fd file ∷ back
+  pub lawful : IsLawful (new_machine config) front
+  pub way : LeadsTo from (after_all (new_machine config) front)
+  pub allowed : Allows (after_all (new_machine config) front) (ReturnFd client fd file)
+  pub lawful_back : IsLawful (after (after_all (new_machine config) front) (ReturnFd client fd file)) back
+  pub then : visible back ≡ rest
+
+-- an Open that is answered after another call was answered no descriptor
 module _ (config : Config) (trace : List Visible) (m : Machine) (run : IsRunTo config trace m) (client : ℕ) (asked : Call) (reply : Answer) (plain : IsNoFd reply)
     (one : WasAnswered trace client asked reply) (reader file : ℕ) (path : Path) (fd : Fd)
     (two : WasAnswered one.rest reader (call.Open path) (answer.Fd fd)) (two_of : IsOf run.0 reader fd file) where
@@ -106,74 +117,51 @@ module _ (config : Config) (trace : List Visible) (m : Machine) (run : IsRunTo c
   abbrev past_one : Machine
   past_one = past config trace m run client asked reply plain one
 
-  pub it : CutIn at_one.back two.before (Answered reader (answer.Fd fd)) two.rest
-  it = cut_in at_one.back two.before (Answered reader (answer.Fd fd)) two.rest (at_one.then ∙ two.is)
+  abbrev up_to_one : List Action
+  up_to_one = to_answer config trace m run client asked reply plain one
 
-  -- the state that answers it
-  abbrev pub answers : Machine
-  answers = after_all past_one it.0
+  cut : CutIn at_one.back two.before (Answered reader (answer.Fd fd)) two.rest
+  cut = cut_in at_one.back two.before (Answered reader (answer.Fd fd)) two.rest (at_one.then ∙ two.is)
 
-  parts : IsLawful past_one it.0 × IsLawful answers (it.1 ∷ it.2)
-  parts = lawful_parts past_one it.0 (it.1 ∷ it.2) (subst (IsLawful past_one) it.3 at_one.lawful_back)
+  -- the state that answers it, and what is done before
+  abbrev state : Machine
+  state = after_all past_one cut.0
 
-  pub to_answers : LeadsTo past_one answers
-  to_answers = (it.0, parts.0, refl)
-
-  pub reached_answers : IsReached config answers
-  reached_answers = leads_on (new_machine config) past_one answers (reached_past config trace m run client asked reply plain one) to_answers
-
-  waits : call_of (answers.clients reader).open_call ≡ Some (call.Open path)
-  waits = waiting_by_actions reader past_one it.0 parts.0 ∙ ap (waiting_call reader (call_of (past_one.clients reader).open_call)) it.4 ∙ waiting_since reader _ _ two.before two.waited
-
-  found : (f : ℕ) × (it.1 ≡ ReturnFd reader fd.0 f)
-  found = opens_file answers it.1 reader fd (no_plain_return config answers reader path fd reached_answers waits) it.5 (parts.1).0
-
-  -- what was done before
   abbrev done : List Action
-  done = to_answer config trace m run client asked reply plain one ++ it.0
+  done = up_to_one ++ cut.0
 
-  whole : run.0 ≡ done ++ it.1 ∷ it.2
-  whole = at_one.is ∙ ap (λ l. at_one.front ++ Return client reply ∷ l) it.3 ∙ sym (append_assoc at_one.front (Return client reply ∷ []) (it.0 ++ it.1 ∷ it.2))
-      ∙ sym (append_assoc (to_answer config trace m run client asked reply plain one) it.0 (it.1 ∷ it.2))
+  parts : IsLawful past_one cut.0 × IsLawful state (cut.1 ∷ cut.2)
+  parts = lawful_parts past_one cut.0 (cut.1 ∷ cut.2) (subst (IsLawful past_one) cut.3 at_one.lawful_back)
 
-  same : found.0 ≡ file
-  same = descriptors_are_of_one_file config trace m run reader fd found.0 file
-      (subst (λ l. Contains l (ReturnFd reader fd.0 found.0)) (sym whole) (in_back done (it.1 ∷ it.2) _ (subst (λ a. Contains (a ∷ it.2) (ReturnFd reader fd.0 found.0)) (sym found.1) (in_first _ it.2)))) two_of
+  done_ends : after_all (new_machine config) done ≡ state
+  done_ends = after_all-append (new_machine config) up_to_one cut.0 ∙ ap (λ k. after_all k cut.0) (to_answer_ends config trace m run client asked reply plain one)
 
-  opens : it.1 ≡ ReturnFd reader fd.0 file
-  opens = found.1 ∙ ap (λ f. ReturnFd reader fd.0 f) same
+  whole : run.0 ≡ done ++ cut.1 ∷ cut.2
+  whole = at_one.is ∙ ap (λ l. at_one.front ++ Return client reply ∷ l) cut.3 ∙ sym (append_assoc at_one.front (Return client reply ∷ []) (cut.0 ++ cut.1 ∷ cut.2))
+      ∙ sym (append_assoc up_to_one cut.0 (cut.1 ∷ cut.2))
 
-  pub allowed : Allows answers (ReturnFd reader fd.0 file)
-  allowed = subst (Allows answers) opens (parts.1).0
+  found : (f : ℕ) × (cut.1 ≡ ReturnFd reader fd.0 f)
+  found =
+      let here : IsReached config state = leads_on (new_machine config) past_one state (reached_past config trace m run client asked reply plain one) (cut.0, parts.0, refl) in
+      let waits : call_of (state.clients reader).open_call ≡ Some (call.Open path) =
+      waiting_by_actions reader past_one cut.0 parts.0 ∙ ap (waiting_call reader (call_of (past_one.clients reader).open_call)) cut.4 ∙ waiting_since reader _ _ two.before two.waited in
+      opens_file state cut.1 reader fd (no_plain_return config state reader path fd here waits) cut.5 (parts.1).0
 
-  abbrev pub open_now : Machine
-  open_now = after answers (ReturnFd reader fd.0 file)
+  opens : cut.1 ≡ ReturnFd reader fd.0 file
+  opens =
+      let there : Contains run.0 (ReturnFd reader fd.0 found.0) = subst (λ l. Contains l (ReturnFd reader fd.0 found.0)) (sym whole)
+      (in_back done (cut.1 ∷ cut.2) _ (subst (λ a. Contains (a ∷ cut.2) (ReturnFd reader fd.0 found.0)) (sym found.1) (in_first _ cut.2))) in
+      found.1 ∙ ap (λ f. ReturnFd reader fd.0 f) (descriptors_are_of_one_file config trace m run reader fd found.0 file there two_of)
 
-  abbrev pub left : List Action
-  left = it.2
-
-  pub left_lawful : IsLawful open_now left
-  left_lawful = subst (λ a. IsLawful (after answers a) left) opens (parts.1).1
-
-  pub left_seen : visible left ≡ two.rest
-  left_seen = it.6
-
-  -- what was done up to the answer
-  abbrev pub opening : List Action
-  opening = done ++ ReturnFd reader fd.0 file ∷ []
-
-  done_lawful : IsLawful (new_machine config) done
-  done_lawful = lawful_after (new_machine config) (to_answer config trace m run client asked reply plain one) it.0 (to_answer_lawful config trace m run client asked reply plain one)
-      (subst (λ k. IsLawful k it.0) (sym (to_answer_ends config trace m run client asked reply plain one)) parts.0)
-
-  done_ends : after_all (new_machine config) done ≡ answers
-  done_ends = after_all-append (new_machine config) (to_answer config trace m run client asked reply plain one) it.0 ∙ ap (λ k. after_all k it.0) (to_answer_ends config trace m run client asked reply plain one)
-
-  pub opening_lawful : IsLawful (new_machine config) opening
-  opening_lawful = lawful_after (new_machine config) done (ReturnFd reader fd.0 file ∷ []) done_lawful (subst (λ k. Allows k (ReturnFd reader fd.0 file)) (sym done_ends) allowed, tt)
-
-  pub opening_ends : after_all (new_machine config) opening ≡ open_now
-  opening_ends = after_all-append (new_machine config) done (ReturnFd reader fd.0 file ∷ []) ∙ ap (λ k. after k (ReturnFd reader fd.0 file)) done_ends
-
-  pub goes : run.0 ≡ opening ++ left
-  goes = whole ∙ ap (λ a. done ++ a ∷ left) opens ∙ sym (append_assoc done (ReturnFd reader fd.0 file ∷ []) left)
+  pub open_answer : OpenAnswer config run.0 past_one reader fd.0 file two.rest
+  open_answer = record {
+    front = done;
+    back = cut.2;
+    is = whole ∙ ap (λ a. done ++ a ∷ cut.2) opens;
+    lawful = lawful_after (new_machine config) up_to_one cut.0 (to_answer_lawful config trace m run client asked reply plain one)
+        (subst (λ k. IsLawful k cut.0) (sym (to_answer_ends config trace m run client asked reply plain one)) parts.0);
+    way = subst (LeadsTo past_one) (sym done_ends) (cut.0, parts.0, refl);
+    allowed = subst (λ k. Allows k (ReturnFd reader fd.0 file)) (sym done_ends) (subst (Allows state) opens (parts.1).0);
+    lawful_back = subst (λ k. IsLawful (after k (ReturnFd reader fd.0 file)) cut.2) (sym done_ends) (subst (λ a. IsLawful (after state a) cut.2) opens (parts.1).1);
+    then = cut.6;
+  }

@@ -18,7 +18,7 @@ use Rattle.relaxed_file.specs.Parts.{part_start, part_end, part_length}
 use Rattle.relaxed_file.specs.Machine.{Machine, new_machine, Asked, OpenCall, IsOpen, Piece, chunk_at, chunk_count}
 use Rattle.relaxed_file.specs.Reads.{IsLook, MayLookPast, read_slice}
 use Rattle.relaxed_file.specs.Answers.{IsDone, ArePieces}
-use Rattle.relaxed_file.specs.Run.{Action, Return, ReturnFd, Visible, Answered, after_all, IsLawful, IsRunTo, LeadsTo, IsReached}
+use Rattle.relaxed_file.specs.Run.{Action, Return, ReturnFd, Visible, Answered, after, after_all, IsLawful, IsRunTo, LeadsTo, IsReached}
 use Rattle.relaxed_file.proofs.Tables.{from_some, contained, all_more}
 use Rattle.relaxed_file.proofs.Reached.{lawful_after, after_all-append, leads_on, leads_by}
 use Rattle.relaxed_file.proofs.Grows.{Grows, grows_to, known_when_reached}
@@ -43,7 +43,7 @@ use Rattle.promises.proofs.KeptRanges.{IsKept, CutAt, cut_at, no_bytes, is_shown
 use Rattle.promises.proofs.LeftAlone.{appends_leave_records_alone}
 use Rattle.promises_readers.specs.Readers.{IsReadAfterOpen, ReopenedFilesShowRecords, AnswersReachRecords, ReadersMissNothing, ReadersMissNoAppend, WholeChunksMissNothing}
 use Rattle.promises_readers.proofs.Follows.{Follows, follows_to, follows_open, look_is_late, never_past}
-use Rattle.promises_readers.proofs.Opens as opens
+use Rattle.promises_readers.proofs.Opens.{OpenAnswer, open_answer}
 
 -- the rounds of an order are at most the chunk's
 most_round : (least most : ℕ) (order : List Entry) → IsWithin least most order → AllByRecursion (λ e. e.round ≤ most) order
@@ -121,30 +121,23 @@ module _ (config : Config) (trace : List Visible) (m : Machine) (run : IsRunTo c
   stands = record { index = it.index; offset = it.offset; is = it.is; room = it.room; before = cut.0; entry = it.entry; later = cut.1; order = cut.2; what = it.what; settled = it.settled }
 
   -- where the Open is answered
+  o : OpenAnswer config run.0 past_append reader (h.opened).0 file (h.open_file).rest
+  o = open_answer config trace m run h.client (call.Append h.fd bytes) (answer.At x) tt h.append reader file h.path h.opened h.open_file h.open_of
+
   abbrev before_open : Machine
-  before_open = opens.answers config trace m run h.client (call.Append h.fd bytes) (answer.At x) tt h.append reader file h.path h.opened h.open_file h.open_of
+  before_open = after_all (new_machine config) o.front
 
   abbrev now : Machine
-  now = opens.open_now config trace m run h.client (call.Append h.fd bytes) (answer.At x) tt h.append reader file h.path h.opened h.open_file h.open_of
-
-  abbrev left : List Action
-  left = opens.left config trace m run h.client (call.Append h.fd bytes) (answer.At x) tt h.append reader file h.path h.opened h.open_file h.open_of
-
-  abbrev opening : List Action
-  opening = opens.opening config trace m run h.client (call.Append h.fd bytes) (answer.At x) tt h.append reader file h.path h.opened h.open_file h.open_of
-
-  left_lawful : IsLawful now left
-  left_lawful = opens.left_lawful config trace m run h.client (call.Append h.fd bytes) (answer.At x) tt h.append reader file h.path h.opened h.open_file h.open_of
+  now = after before_open (ReturnFd reader (h.opened).0 file)
 
   to_open : LeadsTo at_append before_open
-  to_open = leads_on at_append past_append before_open (to_past config trace m run h.client (call.Append h.fd bytes) (answer.At x) tt h.append)
-      (opens.to_answers config trace m run h.client (call.Append h.fd bytes) (answer.At x) tt h.append reader file h.path h.opened h.open_file h.open_of)
+  to_open = leads_on at_append past_append before_open (to_past config trace m run h.client (call.Append h.fd bytes) (answer.At x) tt h.append) o.way
 
   by_open : LeadsTo before_open now
-  by_open = leads_by before_open (ReturnFd reader (h.opened).0 file) (opens.allowed config trace m run h.client (call.Append h.fd bytes) (answer.At x) tt h.append reader file h.path h.opened h.open_file h.open_of)
+  by_open = leads_by before_open (ReturnFd reader (h.opened).0 file) o.allowed
 
   reached_open : IsReached config before_open
-  reached_open = leads_on (new_machine config) at_append before_open reached_append to_open
+  reached_open = (o.front, o.lawful, refl)
 
   reached_now : IsReached config now
   reached_now = leads_on (new_machine config) before_open now reached_open by_open
@@ -159,17 +152,14 @@ module _ (config : Config) (trace : List Visible) (m : Machine) (run : IsRunTo c
       let later : (chunk_at at_append file it.index).round ≤ (chunk_at before_open file it.index).round = ((grown.files file).chunks it.index).round in
       let more : chunk_count at_append file ≤ chunk_count before_open file = (grown.files file).count in
       let has : it.index < chunk_count at_append file = it.has_chunk in
-      follows_open reader file it.index r before_open (h.opened).0 (known_when_reached config before_open reached_open)
-      (opens.allowed config trace m run h.client (call.Append h.fd bytes) (answer.At x) tt h.append reader file h.path h.opened h.open_file h.open_of)
-      (omega (arith, more, has)) (omega (arith, top, later))
+      follows_open reader file it.index r before_open (h.opened).0 (known_when_reached config before_open reached_open) o.allowed (omega (arith, more, has)) (omega (arith, top, later))
 
   entry_there : (k : Machine) → LeadsTo now k → slice_get (chunk_at k file it.index).order (it.there).0 ≡ Some it.entry
   entry_there k to = settled_entries_stay config at_append k reached_append (leads_on at_append before_open k to_open (leads_on before_open now k by_open to)) file it.index (it.there).0 it.entry (found_at _ it.entry it.there) it.settled
 
   -- the read, from there on
-  abbrev at_read : AnsweredIn now left reader (call.Read h.through offset count) (answer.Bytes found rounds) (h.read).before (h.read).rest
-  at_read = answered_in now left reader _ _ (h.read).before (h.read).rest left_lawful tt
-      (opens.left_seen config trace m run h.client (call.Append h.fd bytes) (answer.At x) tt h.append reader file h.path h.opened h.open_file h.open_of ∙ (h.read).is) (waiting_since reader _ _ (h.read).before (h.read).waited)
+  abbrev at_read : AnsweredIn now o.back reader (call.Read h.through offset count) (answer.Bytes found rounds) (h.read).before (h.read).rest
+  at_read = answered_in now o.back reader _ _ (h.read).before (h.read).rest o.lawful_back tt (o.then ∙ (h.read).is) (waiting_since reader _ _ (h.read).before (h.read).waited)
 
   abbrev then_read : Machine
   then_read = after_all now at_read.front
@@ -181,20 +171,17 @@ module _ (config : Config) (trace : List Visible) (m : Machine) (run : IsRunTo c
   gives = subst (λ c. IsDone then_read reader at_read.current c (answer.Bytes found rounds)) at_read.call_is at_read.may
 
   abbrev up_to_read : List Action
-  up_to_read = opening ++ at_read.front
+  up_to_read = o.front ++ ReturnFd reader (h.opened).0 file ∷ at_read.front
 
   read_lawful : IsLawful (new_machine config) up_to_read
-  read_lawful = lawful_after (new_machine config) opening at_read.front
-      (opens.opening_lawful config trace m run h.client (call.Append h.fd bytes) (answer.At x) tt h.append reader file h.path h.opened h.open_file h.open_of)
-      (subst (λ k. IsLawful k at_read.front) (sym (opens.opening_ends config trace m run h.client (call.Append h.fd bytes) (answer.At x) tt h.append reader file h.path h.opened h.open_file h.open_of)) at_read.lawful)
+  read_lawful = lawful_after (new_machine config) o.front (ReturnFd reader (h.opened).0 file ∷ at_read.front) o.lawful (o.allowed, at_read.lawful)
 
   read_ends : after_all (new_machine config) up_to_read ≡ then_read
-  read_ends = after_all-append (new_machine config) opening at_read.front
-      ∙ ap (λ k. after_all k at_read.front) (opens.opening_ends config trace m run h.client (call.Append h.fd bytes) (answer.At x) tt h.append reader file h.path h.opened h.open_file h.open_of)
+  read_ends = after_all-append (new_machine config) o.front (ReturnFd reader (h.opened).0 file ∷ at_read.front)
 
   read_whole : run.0 ≡ up_to_read ++ Return reader (answer.Bytes found rounds) ∷ at_read.back
-  read_whole = opens.goes config trace m run h.client (call.Append h.fd bytes) (answer.At x) tt h.append reader file h.path h.opened h.open_file h.open_of
-      ∙ ap (λ l. opening ++ l) at_read.is ∙ sym (append_assoc opening at_read.front (Return reader (answer.Bytes found rounds) ∷ at_read.back))
+  read_whole = o.is ∙ ap (λ l. o.front ++ ReturnFd reader (h.opened).0 file ∷ l) at_read.is
+      ∙ sym (append_assoc o.front (ReturnFd reader (h.opened).0 file ∷ at_read.front) (Return reader (answer.Bytes found rounds) ∷ at_read.back))
 
   same_read : gives.0 ≡ file
   same_read = descriptors_are_of_one_file config trace m run reader h.through gives.0 file
