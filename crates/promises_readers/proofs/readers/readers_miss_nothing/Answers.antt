@@ -1,4 +1,4 @@
-use Rattle.promises_readers.proofs.ReopenedReads.{answers_reach_records, readers_miss_nothing, readers_miss_no_append, whole_chunks_miss_nothing}
+use Rattle.promises_readers.proofs.RecordReads.{answers_reach_records, readers_miss_nothing, readers_miss_no_append, whole_chunks_miss_nothing}
 use Rattle.promises_readers.proofs.readers.readers_miss_nothing.Goals as goal
 
 pub returns-clause-reach : goal.returns-clause-reach

@@ -1,4 +1,4 @@
-use Rattle.promises_readers.proofs.ReopenedReads.{reopened_files_show_records}
+use Rattle.promises_readers.proofs.RecordReads.{reopened_files_show_records}
 use Rattle.promises_readers.proofs.readers.reopened_files_show_records.Goals as goal
 
 pub returns : goal.returns
